@@ -1,0 +1,9 @@
+pub mod Front
+pub mod Word
+pub mod Mark
+pub mod Kind
+pub mod H264Unit
+pub mod H264Frame
+pub mod Hint
+pub mod Text
+pub mod Extra

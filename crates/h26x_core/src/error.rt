@@ -1,0 +1,62 @@
+//! Why a packet or a payload is refused.
+
+use std::alloc::{AllocError, AllocFailed};
+use thiserror::Error;
+
+/// Why a call is refused. A refused call changes nothing.
+#[derive(Debug, Clone, Copy, PartialEq, Eq, Error)]
+pub enum PacketError {
+    /// The packet ends before what its type asks for.
+    #[error("packet is too short")]
+    ErrShortPacket,
+
+    /// H.264: a packet of this type is none that a depacketizer reads.
+    #[error("NAL unit type {0} is not handled")]
+    NaluTypeIsNotHandled(u8),
+
+    /// H.264: a STAP-A gives this length where only so many bytes are left.
+    #[error("STAP-A unit of {0} bytes, {1} left")]
+    StapASizeLargerThanBuffer(usize, usize),
+
+    /// H.265: the packet's forbidden bit is set.
+    #[error("corrupted H.265 packet")]
+    ErrH265CorruptedPacket,
+
+    /// H.265: an extension of a PACI packet has at most 31 bytes.
+    #[error("PACI extension is longer than 31 bytes")]
+    ErrH265PACIPHESTooLong,
+
+    /// H.266: the packet's forbidden bit is set, or an aggregate holds an aggregate or a fragment.
+    #[error("corrupted H.266 packet")]
+    ErrH266CorruptedPacket,
+
+    /// H.264: the unit's length doesn't fit the four bytes of an AVC length.
+    #[error("unit is too long for an AVC length")]
+    AvcUnitTooLong,
+
+    /// The allocator had no memory.
+    #[error("out of memory")]
+    OutOfMemory,
+}
+
+impl From<AllocError> for PacketError {
+    ghost use Rattle.std.specs.Prelude.{◌≡◌};
+    ghost use Rattle.h26x_core.specs.declared.error.PacketError.TheVariants.{OutOfMemory};
+
+    ghost from_gives = { λ _ e. e ≡ OutOfMemory };
+
+    fn from(_e: AllocError) -> PacketError {
+        PacketError::OutOfMemory
+    }
+}
+
+impl<T: Drop> From<AllocFailed<T>> for PacketError {
+    ghost use Rattle.std.specs.Prelude.{◌≡◌};
+    ghost use Rattle.h26x_core.specs.declared.error.PacketError.TheVariants.{OutOfMemory};
+
+    ghost from_gives = { λ _ e. e ≡ OutOfMemory };
+
+    fn from(_e: AllocFailed<T>) -> PacketError {
+        PacketError::OutOfMemory
+    }
+}

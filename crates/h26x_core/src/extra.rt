@@ -1,0 +1,32 @@
+//! What a depacketizer tells beside the bytes that it writes.
+
+/// What is told of H.264 units.
+#[derive(Debug, Clone, Copy, Default, PartialEq, Eq)]
+pub struct H264CodecExtra {
+    /// Whether a unit of a keyframe is among them.
+    pub is_keyframe: bool,
+}
+
+/// What is told of H.265 units.
+#[derive(Debug, Clone, Copy, Default, PartialEq, Eq)]
+pub struct H265CodecExtra {
+    /// Whether a unit of a keyframe is among them.
+    pub is_keyframe: bool,
+}
+
+/// What is told of H.266 units.
+#[derive(Debug, Clone, Copy, Default, PartialEq, Eq)]
+pub struct H266CodecExtra {
+    /// Whether a unit of a keyframe is among them.
+    pub is_keyframe: bool,
+}
+
+/// What a depacketizer tells of the units that it has written: the codec, and whether a keyframe
+/// is among them. `None` stands for no unit.
+#[derive(Debug, Clone, Copy, PartialEq, Eq)]
+pub enum CodecExtra {
+    None,
+    H264(H264CodecExtra),
+    H265(H265CodecExtra),
+    H266(H266CodecExtra),
+}

@@ -1,0 +1,20 @@
+//! What the H.264, H.265 and H.266 payload crates share: errors, what is told beside bytes,
+//! the constants of the payload formats, and the traits of packetizers and depacketizers.
+//!
+//! The definitions that contracts cite stand in `specs/`.
+#![tactic(auto)]
+
+mod constants;
+mod error;
+mod extra;
+mod traits;
+
+pub use constants::{
+    ANNEXB_NALUSTART_CODE, AUD_NALU_TYPE, FILLER_NALU_TYPE, FU_END_BITMASK, FU_START_BITMASK,
+    FUA_HEADER_SIZE, FUA_NALU_TYPE, FUB_NALU_TYPE, IDR_NALU_TYPE, NALU_REF_IDC_BITMASK,
+    NALU_TYPE_BITMASK, OUTPUT_STAP_AHEADER, PPS_NALU_TYPE, SPS_NALU_TYPE, STAPA_HEADER_SIZE,
+    STAPA_NALU_LENGTH_SIZE, STAPA_NALU_TYPE,
+};
+pub use error::PacketError;
+pub use extra::{CodecExtra, H264CodecExtra, H265CodecExtra, H266CodecExtra};
+pub use traits::{Depacketizer, Packetizer};

@@ -1,0 +1,70 @@
+//! Packetizers and depacketizers of any codec, and the laws that each keeps.
+
+ghost use Rattle.std.specs.Prelude.{◌≡◌, ℕ, List, true, false, OnOk, OnErr};
+ghost use Rattle.h26x_core.specs.Front.{IsFrontOf};
+
+use crate::error::PacketError;
+use crate::extra::CodecExtra;
+use std::fmt;
+
+/// Cuts payloads into RTP payloads under a size limit.
+///
+/// An implementation names its meaning, a list of byte lists: what its later answers depend on.
+pub trait Packetizer: fmt::Debug + Drop {
+    ghost meaning: { Self → List (List ℕ) };
+
+    /// The RTP payloads of the encoded payload `b`, each of at most `mtu` bytes.
+    ///
+    /// A refusal leaves the meaning.
+    fn packetize(&mut self, mtu: usize, b: &[u8]) -> Result<Vec<Vec<u8>>, PacketError>
+        ensures refused { OnErr result (meaning self.new ≡ meaning self.old) };
+
+    /// Whether the RTP packet with the payload `data` bears the marker bit: `last` says that it is
+    /// the last of its frame, `previous` is the payload before it.
+    fn is_marker(&mut self, data: &[u8], previous: Option<&[u8]>, last: bool) -> bool
+        ensures { meaning self.new ≡ meaning self.old };
+
+    /// Whether the marker bit marks the start of a talkspurt. It does so for no video codec.
+    fn marks_talkspurt(&self) -> bool
+        ensures { result ≡ false }
+    {
+        false
+    }
+
+    /// Whether a receiver may ask for a lost packet again.
+    fn nackable(&self) -> bool
+        ensures { result ≡ true }
+    {
+        true
+    }
+}
+
+/// Puts units together from RTP payloads.
+///
+/// An implementation names its meaning, a list of byte lists: what its later answers depend on.
+pub trait Depacketizer: fmt::Debug + Drop {
+    ghost meaning: { Self → List (List ℕ) };
+
+    /// How many bytes the units of packets of this many bytes may take when they are written.
+    fn out_size_hint(&self, packets_size: usize) -> Option<usize>;
+
+    /// Appends the units that `packet` completes to `out`, and tells of them in `codec_extra`.
+    ///
+    /// The bytes that stood in `out` stay. A refusal leaves `out`, the extra and the meaning.
+    fn depacketize(
+        &mut self,
+        packet: &[u8],
+        out: &mut Vec<u8>,
+        codec_extra: &mut CodecExtra,
+    ) -> Result<(), PacketError>
+        ensures accepted { OnOk result (IsFrontOf out.old.items out.new.items) }
+        ensures refused_out { OnErr result (out.new.items ≡ out.old.items) }
+        ensures refused_extra { OnErr result (codec_extra.new ≡ codec_extra.old) }
+        ensures refused_meaning { OnErr result (meaning self.new ≡ meaning self.old) };
+
+    /// Whether `packet` may be the first of a frame.
+    fn is_partition_head(&self, packet: &[u8]) -> bool;
+
+    /// Whether `packet` is the last of a frame, with the marker bit of its RTP packet given.
+    fn is_partition_tail(&self, marker: bool, packet: &[u8]) -> bool;
+}
