@@ -1,5 +1,5 @@
 -- Units as text.
-use Rattle.std.specs.Prelude.{ℕ, List, [], ◌∷◌}
+use Rattle.std.specs.Prelude.{ℕ, List, ◌∷◌}
 use Rattle.std.specs.List.{flat_map}
 
 -- units, each behind a start code of four bytes (Annex B of the video standards)

@@ -56,7 +56,7 @@ impl<T: Drop> From<AllocFailed<T>> for PacketError {
 
     ghost from_gives = { λ _ e. e ≡ OutOfMemory };
 
-    fn from(_e: AllocFailed<T>) -> PacketError {
-        PacketError::OutOfMemory
+    fn from(e: AllocFailed<T>) -> PacketError {
+        AllocError::from(e).into()
     }
 }

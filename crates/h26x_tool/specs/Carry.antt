@@ -1,5 +1,5 @@
 -- What becomes of a payload of one H.264 unit that is sent and received at once.
-use Rattle.std.specs.Prelude.{◌≡◌, ℕ, Bool, false, List, [], ◌∷◌, ◌++◌, ◌⊎◌, IsTrue, Err}
+use Rattle.std.specs.Prelude.{◌≡◌, ℕ, false, List, [], ◌∷◌, ◌++◌, ◌⊎◌, IsTrue}
 use Rattle.h26x_core.specs.declared.error.PacketError.{PacketError}
 use Rattle.h26x_core.specs.declared.error.PacketError.TheVariants.{NaluTypeIsNotHandled, OutOfMemory}
 use Rattle.h26x_core.specs.declared.extra.CodecExtra.{CodecExtra}

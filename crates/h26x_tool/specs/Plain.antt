@@ -1,9 +1,9 @@
 -- H.264 payloads of one unit: which are sent, and which packets are read.
-use Rattle.std.specs.Prelude.{◌≡◌, ℕ, ◌≤◌, nat_le, nat_lt, Bool, true, false, ◌&&◌, if◌then◌else◌, List, [], ◌∷◌, length, Option, Some, None, ◌⊎◌, IsTrue}
+use Rattle.std.specs.Prelude.{◌≡◌, ℕ, ◌≤◌, nat_le, Bool, ◌&&◌, if◌then◌else◌, List, [], ◌∷◌, length, Option, Some, None, ◌⊎◌}
 use Rattle.h26x_core.specs.declared.error.PacketError.{PacketError}
 use Rattle.h26x_core.specs.declared.error.PacketError.TheVariants.{ErrShortPacket, NaluTypeIsNotHandled}
 use Rattle.h26x_core.specs.Kind.{Other}
-use Rattle.h26x_core.specs.H264Unit.{kind, type_of, type_of_first}
+use Rattle.h26x_core.specs.H264Unit.{kind, type_of}
 use Rattle.h26x_core.specs.Mark.{HasNoMark}
 
 -- the meaning of a packetizer that keeps no VPS, SPS, PPS and no counter
