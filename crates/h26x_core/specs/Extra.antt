@@ -1,18 +1,13 @@
 -- What is told of the units that were written (the crate's rule).
-use Rattle.std.specs.Prelude.{ℕ, Bool, false, ◌||◌, List, [], ◌∷◌}
+use Rattle.std.specs.Prelude.{ℕ, nat_le, Bool, ◌||◌, if◌then◌else◌, List, length}
 use Rattle.std.specs.List.{list_any}
 use Rattle.h26x_core.specs.declared.extra.CodecExtra.{CodecExtra}
-use Rattle.h26x_core.specs.declared.extra.CodecExtra.TheVariants as extras
-use Rattle.h26x_core.specs.H264Unit.{is_key}
+use Rattle.h26x_core.specs.Format.{Format}
 
--- the H.264 variant with its flag true
-abbrev pub has_h264_key : CodecExtra → Bool
-has_h264_key (extras.H264 extra) = extra.is_keyframe
-has_h264_key extra = false
-
--- the extra after H.264 units: as it was if there is none, else the H.264 variant, whose flag is true
--- where a key unit is among them or the extra was that variant with the flag true
-abbrev pub h264_extra_after : CodecExtra → List (List ℕ) → CodecExtra
-h264_extra_after extra [] = extra
-h264_extra_after extra (unit ∷ units) =
-    extras.H264 (record { is_keyframe = list_any is_key (unit ∷ units) || has_h264_key extra })
+-- The extra after units. Those without a whole header don't count. If none counts it is as it was, else the codec's
+-- variant, whose flag is true where a key unit is among them or the extra was that variant with the flag true.
+abbrev pub extra_after : Format → CodecExtra → List (List ℕ) → CodecExtra
+extra_after f extra units =
+    if list_any (λ unit. nat_le f.header_len (length unit)) units
+    then f.extra (list_any f.is_key units || f.has_key extra)
+    else extra

@@ -1,4 +1,5 @@
--- What a NAL unit is to a packetizer.
+-- What a NAL unit is to a packetizer (the crate's rule).
+use Rattle.std.specs.Prelude.{Bool, true, false}
 
 -- Skipped units are not sent. Parameter sets wait for the next other unit. Every other unit is sent at once.
 pub data Kind : Type 0 where
@@ -7,3 +8,19 @@ pub data Kind : Type 0 where
   Sps : Kind
   Pps : Kind
   Other : Kind
+
+abbrev pub is_vps : Kind → Bool
+is_vps Vps = true
+is_vps kind = false
+
+abbrev pub is_sps : Kind → Bool
+is_sps Sps = true
+is_sps kind = false
+
+abbrev pub is_pps : Kind → Bool
+is_pps Pps = true
+is_pps kind = false
+
+abbrev pub is_other : Kind → Bool
+is_other Other = true
+is_other kind = false

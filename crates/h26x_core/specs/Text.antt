@@ -1,7 +1,20 @@
 -- Units as text.
-use Rattle.std.specs.Prelude.{ℕ, List, ◌∷◌}
+use Rattle.std.specs.Prelude.{ℕ, Bool, true, false, if◌then◌else◌, List, [], ◌∷◌, ◌++◌, length}
 use Rattle.std.specs.List.{flat_map}
+use Rattle.h26x_core.specs.Word.{long_word}
+
+abbrev pub is_not_empty : {A : Type 0} → List A → Bool
+is_not_empty [] = false
+is_not_empty (b ∷ bytes) = true
 
 -- units, each behind a start code of four bytes (Annex B of the video standards)
 abbrev pub annex_b : List (List ℕ) → List ℕ
 annex_b units = flat_map (λ unit. 0 ∷ 0 ∷ 0 ∷ 1 ∷ unit) units
+
+-- what stands before a unit that is written: a start code, or in AVC form its length (ISO/IEC 14496-15)
+abbrev pub lead : Bool → List ℕ → List ℕ
+lead avc unit = if avc then long_word (length unit) else 0 ∷ 0 ∷ 0 ∷ 1 ∷ []
+
+-- what is written for units, in AVC form or with start codes
+abbrev pub text : Bool → List (List ℕ) → List ℕ
+text avc units = flat_map (λ unit. lead avc unit ++ unit) units

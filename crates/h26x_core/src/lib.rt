@@ -7,6 +7,7 @@
 mod constants;
 mod error;
 mod extra;
+pub mod laws;
 mod traits;
 
 pub use constants::{

@@ -5,7 +5,8 @@ use Rattle.h26x_core.specs.declared.error.PacketError.TheVariants.{NaluTypeIsNot
 use Rattle.h26x_core.specs.declared.extra.CodecExtra.{CodecExtra}
 use Rattle.h26x_core.specs.H264Unit.{type_of_first}
 use Rattle.h26x_core.specs.Text.{annex_b}
-use Rattle.h26x_core.specs.Extra.{h264_extra_after}
+use Rattle.h26x_core.specs.Extra.{extra_after}
+use Rattle.h264_payload.specs.H264.{h264}
 use Rattle.h26x_tool.specs.Plain.{IsDue, is_single}
 
 -- It is written: a packet was due, and its type is one that is read.
@@ -13,7 +14,7 @@ pub record IsCarried (mtu : ℕ) (payload out new : List ℕ) (extra after : Cod
   pub due : IsDue mtu payload
   pub single : IsTrue (is_single (type_of_first payload))
   pub written : new ≡ out ++ annex_b (payload ∷ [])
-  pub told : after ≡ h264_extra_after extra (payload ∷ [])
+  pub told : after ≡ extra_after h264 extra (payload ∷ [])
 
 -- Nothing is sent: no packet was due, and everything is as before.
 pub record IsLeft (mtu : ℕ) (payload out new : List ℕ) (extra after : CodecExtra) : Type 0 where

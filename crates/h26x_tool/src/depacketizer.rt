@@ -3,7 +3,8 @@
 ghost use Rattle.std.specs.Prelude.{◌≡◌, ◌==◌, ◌||◌, ◌++◌, ◌∷◌, [], ◌⊎◌, Ok, Err, Some, OnOk, OnErr, MatchOption, true, false};
 ghost use Rattle.h26x_core.specs.Front.{IsFrontOf};
 ghost use Rattle.h26x_core.specs.Text.{annex_b};
-ghost use Rattle.h26x_core.specs.Extra.{h264_extra_after, has_h264_key};
+ghost use Rattle.h26x_core.specs.Extra.{extra_after};
+ghost use Rattle.h264_payload.specs.H264.{h264, has_key};
 ghost use Rattle.h26x_core.specs.H264Frame.{is_head};
 ghost use Rattle.h26x_core.specs.Hint.{size_hint};
 ghost use Rattle.h26x_tool.specs.Plain.{no_run, refusal_of};
@@ -27,7 +28,7 @@ impl H264Depacketizer {
 
 /// The extra after a unit of this type.
 fn told(extra: CodecExtra, nalu_type: u8) -> CodecExtra
-    ensures { result ≡ CodecExtra.H264 (record { is_keyframe = (nalu_type == 5) || has_h264_key extra }) }
+    ensures { result ≡ CodecExtra.H264 (record { is_keyframe = (nalu_type == 5) || has_key extra }) }
 {
     let was_keyframe = matches!(
         extra,
@@ -56,7 +57,7 @@ impl Depacketizer for H264Depacketizer {
     ) -> Result<(), PacketError>
         ensures outcome { MatchOption (refusal_of packet.now) ((result ≡ Ok tt) ⊎ (result ≡ Err PacketError.OutOfMemory)) (λ e. result ≡ Err e) }
         ensures written { OnOk result (out.new.items ≡ out.old.items ++ annex_b (packet.now ∷ [])) }
-        ensures told { OnOk result (codec_extra.new ≡ h264_extra_after codec_extra.old (packet.now ∷ [])) }
+        ensures told { OnOk result (codec_extra.new ≡ extra_after h264 codec_extra.old (packet.now ∷ [])) }
 
         ensures accepted { OnOk result (IsFrontOf out.old.items out.new.items) }
         ensures refused_out { OnErr result (out.new.items ≡ out.old.items) }

@@ -1,0 +1,5 @@
+pub mod HeaderLemmas
+pub mod SetLemmas
+pub mod ReadBackLemmas
+pub mod FactLemmas
+pub mod ReadingLemmas

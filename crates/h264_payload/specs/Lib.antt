@@ -1,0 +1,2 @@
+pub mod H264
+pub mod Reading

@@ -1,0 +1,115 @@
+//! Worked cases: packets of payloads, units of packets, refusals and detection, byte by byte. Each is the contract of a
+//! function without a result.
+
+ghost use Rattle.std.specs.Prelude.{◌≡◌, true, false, None, [], ◌∷◌, map};
+ghost use Rattle.h26x_core.specs.Reading.{Aggregate, Refused};
+ghost use Rattle.h26x_core.specs.Calls.{packets_of, packets_of_payload};
+ghost use Rattle.h26x_core.specs.Received.{received};
+ghost use Rattle.h26x_core.specs.Extra.{extra_after};
+ghost use Rattle.h264_payload.specs.H264.{h264};
+
+use h26x_core::{CodecExtra, PacketError};
+
+/// A unit behind a start code goes in five fragments; the first alone has the start, the last alone the end.
+pub fn a_unit_in_fragments()
+    ensures { packets_of_payload h264 5 (0x00 ∷ 0x00 ∷ 0x01 ∷
+        0x00 ∷ 0x01 ∷ 0x02 ∷ 0x03 ∷ 0x04 ∷ 0x05 ∷ 0x06 ∷ 0x07 ∷ 0x08 ∷ 0x09 ∷ 0x10 ∷ 0x11 ∷ 0x12 ∷ 0x13 ∷ 0x14 ∷ 0x15 ∷ [])
+        ≡
+        (0x1c ∷ 0x80 ∷ 0x01 ∷ 0x02 ∷ 0x03 ∷ []) ∷
+        (0x1c ∷ 0x00 ∷ 0x04 ∷ 0x05 ∷ 0x06 ∷ []) ∷
+        (0x1c ∷ 0x00 ∷ 0x07 ∷ 0x08 ∷ 0x09 ∷ []) ∷
+        (0x1c ∷ 0x00 ∷ 0x10 ∷ 0x11 ∷ 0x12 ∷ []) ∷
+        (0x1c ∷ 0x40 ∷ 0x13 ∷ 0x14 ∷ 0x15 ∷ []) ∷ [] }
+{}
+
+/// No fragment has room for data at limit 2; one byte each at 3; at 4 the unit fits.
+pub fn tiny_limits()
+    ensures at_2 { packets_of_payload h264 2 (0x65 ∷ 0x01 ∷ 0x02 ∷ 0x03 ∷ []) ≡ [] }
+    ensures at_3 { packets_of_payload h264 3 (0x65 ∷ 0x01 ∷ 0x02 ∷ 0x03 ∷ [])
+        ≡
+        (0x7c ∷ 0x85 ∷ 0x01 ∷ []) ∷
+        (0x7c ∷ 0x05 ∷ 0x02 ∷ []) ∷
+        (0x7c ∷ 0x45 ∷ 0x03 ∷ []) ∷ [] }
+    ensures at_4 { packets_of_payload h264 4 (0x65 ∷ 0x01 ∷ 0x02 ∷ 0x03 ∷ []) ≡ (0x65 ∷ 0x01 ∷ 0x02 ∷ 0x03 ∷ []) ∷ [] }
+{}
+
+/// An SPS and a PPS go in a STAP-A before the next unit, which goes alone; at limit 10 they do not fit, and only the unit is sent.
+pub fn sets_before_a_unit()
+    ensures at_1500 { packets_of h264 0 (
+        record { mtu = 1500; payload = 0x07 ∷ 0x00 ∷ 0x01 ∷ [] } ∷
+        record { mtu = 1500; payload = 0x08 ∷ 0x02 ∷ 0x03 ∷ [] } ∷
+        record { mtu = 1500; payload = 0x05 ∷ 0x04 ∷ 0x05 ∷ [] } ∷ [])
+        ≡ (0x78 ∷ 0x00 ∷ 0x03 ∷ 0x07 ∷ 0x00 ∷ 0x01 ∷ 0x00 ∷ 0x03 ∷ 0x08 ∷ 0x02 ∷ 0x03 ∷ []) ∷ (0x05 ∷ 0x04 ∷ 0x05 ∷ []) ∷ [] }
+    ensures at_10 { packets_of h264 0 (
+        record { mtu = 10; payload = 0x07 ∷ 0x00 ∷ 0x01 ∷ [] } ∷
+        record { mtu = 10; payload = 0x08 ∷ 0x02 ∷ 0x03 ∷ [] } ∷
+        record { mtu = 10; payload = 0x05 ∷ 0x04 ∷ 0x05 ∷ [] } ∷ [])
+        ≡ (0x05 ∷ 0x04 ∷ 0x05 ∷ []) ∷ [] }
+{}
+
+/// A second start begins the run anew; the unit has the header of the end.
+pub fn a_run_that_begins_twice()
+    ensures units { received (map h264.read (
+        (0x7c ∷ 0x85 ∷ 0x01 ∷ 0x02 ∷ 0x03 ∷ []) ∷
+        (0x7c ∷ 0x81 ∷ 0x11 ∷ 0x12 ∷ 0x13 ∷ []) ∷
+        (0x7c ∷ 0x41 ∷ 0x14 ∷ 0x15 ∷ 0x16 ∷ []) ∷ []))
+        ≡ (0x61 ∷ 0x11 ∷ 0x12 ∷ 0x13 ∷ 0x14 ∷ 0x15 ∷ 0x16 ∷ []) ∷ [] }
+    ensures key { extra_after h264 CodecExtra.None (received (map h264.read (
+        (0x7c ∷ 0x85 ∷ 0x01 ∷ 0x02 ∷ 0x03 ∷ []) ∷
+        (0x7c ∷ 0x81 ∷ 0x11 ∷ 0x12 ∷ 0x13 ∷ []) ∷
+        (0x7c ∷ 0x41 ∷ 0x14 ∷ 0x15 ∷ 0x16 ∷ []) ∷ [])))
+        ≡ h264.extra false }
+{}
+
+/// A fragment where no run is open adds nothing.
+pub fn a_fragment_before_the_start()
+    ensures units { received (map h264.read (
+        (0x7c ∷ 0x05 ∷ 0x01 ∷ []) ∷
+        (0x7c ∷ 0x85 ∷ 0x02 ∷ []) ∷
+        (0x7c ∷ 0x45 ∷ 0x03 ∷ []) ∷ []))
+        ≡ (0x65 ∷ 0x02 ∷ 0x03 ∷ []) ∷ [] }
+    ensures key { extra_after h264 CodecExtra.None (received (map h264.read (
+        (0x7c ∷ 0x05 ∷ 0x01 ∷ []) ∷
+        (0x7c ∷ 0x85 ∷ 0x02 ∷ []) ∷
+        (0x7c ∷ 0x45 ∷ 0x03 ∷ []) ∷ [])))
+        ≡ h264.extra true }
+{}
+
+/// An end closes its run; later fragments without a start bring nothing.
+pub fn a_run_closed_by_its_end()
+    ensures units { received (map h264.read (
+        (0x7c ∷ 0x85 ∷ 0x01 ∷ []) ∷
+        (0x7c ∷ 0x45 ∷ 0x02 ∷ []) ∷
+        (0x7c ∷ 0x45 ∷ 0x03 ∷ []) ∷
+        (0x7c ∷ 0x05 ∷ 0x04 ∷ []) ∷ []))
+        ≡ (0x65 ∷ 0x01 ∷ 0x02 ∷ []) ∷ [] }
+    ensures key { extra_after h264 CodecExtra.None (received (map h264.read (
+        (0x7c ∷ 0x85 ∷ 0x01 ∷ []) ∷
+        (0x7c ∷ 0x45 ∷ 0x02 ∷ []) ∷
+        (0x7c ∷ 0x45 ∷ 0x03 ∷ []) ∷
+        (0x7c ∷ 0x05 ∷ 0x04 ∷ []) ∷ [])))
+        ≡ h264.extra true }
+{}
+
+/// Packets that are refused: too short, with a length that passes the end, or of a type that is not handled.
+pub fn refused_packets()
+    ensures empty { h264.read [] ≡ Refused PacketError.ErrShortPacket }
+    ensures cut_stap { h264.read (0x78 ∷ 0x00 ∷ 0x02 ∷ 0x67 ∷ 0xaa ∷ 0x00 ∷ 0x05 ∷ 0x68 ∷ 0x1a ∷ []) ≡ Refused (PacketError.StapASizeLargerThanBuffer 5 2) }
+    ensures other_type { h264.read (0xff ∷ 0x00 ∷ 0x00 ∷ []) ≡ Refused (PacketError.NaluTypeIsNotHandled 31) }
+    ensures short_fragment { h264.read (0x7c ∷ []) ≡ Refused PacketError.ErrShortPacket }
+{}
+
+/// A length of 0 in a STAP-A holds no unit.
+pub fn lengths_of_zero()
+    ensures one_unit { h264.read (0x78 ∷ 0x00 ∷ 0x00 ∷ 0x00 ∷ 0x02 ∷ 0x65 ∷ 0xaa ∷ []) ≡ Aggregate ((0x65 ∷ 0xaa ∷ [], None) ∷ []) }
+    ensures detected { h264.detects (0x78 ∷ 0x00 ∷ 0x00 ∷ 0x00 ∷ 0x02 ∷ 0x65 ∷ 0xaa ∷ []) ≡ true }
+    ensures no_unit { h264.read (0x18 ∷ 0x00 ∷ 0x00 ∷ []) ≡ Aggregate [] }
+{}
+
+/// A key unit is detected in a STAP-A, and where it begins in fragments; not in a later fragment, nor without a second byte.
+pub fn detected_packets()
+    ensures in_a_stap { h264.detects (0x18 ∷ 0x00 ∷ 0x02 ∷ 0x67 ∷ 0xaa ∷ 0x00 ∷ 0x02 ∷ 0x65 ∷ 0xbb ∷ []) ≡ true }
+    ensures later_fragment { h264.detects (0x7c ∷ 0x05 ∷ 0x00 ∷ 0x00 ∷ []) ≡ false }
+    ensures first_fragment { h264.detects (0x7c ∷ 0x85 ∷ 0x00 ∷ 0x00 ∷ []) ≡ true }
+    ensures short_fragment { h264.detects (0x7c ∷ []) ≡ false }
+{}

@@ -1,0 +1,106 @@
+-- The bytes of H.266 headers.
+use Rattle.std.proofs.Common.{◌≡◌, ℕ, ◌+◌, ◌*◌, ◌<◌, Bool, true, false, cond, List, ◌∷◌, length, refl, ◌⊎◌, inl, inr, arith, get_or, zero-add}
+use Rattle.std.specs.Prelude.{◌&&◌, ◌||◌, ◌==◌, nat_lt, max}
+use Rattle.std.specs.List.{list_all, range_with_len}
+use Rattle.std.proofs.lemmas.Bool.{eqb-true}
+use Rattle.std.proofs.lemmas.Bool.Decides.{nat_tests}
+use Rattle.std.proofs.lemmas.List.Folds.{list_all_at}
+use Rattle.std.proofs.lemmas.List.FromFn.{length-range_with_len, get_or-range_with_len}
+use Rattle.h26x_core.specs.Word.{field, is_set}
+use Rattle.h26x_core.specs.H266Unit.{type_of}
+use Rattle.h266_payload.specs.H266.{with_type, flag, carries}
+
+-- a test that holds of all numbers below n holds of each
+test_below : (n : ℕ) (p : ℕ → Bool) → list_all p (range_with_len 0 n) ≡ true → (b : ℕ) → b < n → p b ≡ true
+test_below n p h b lt = elim (p b) as (λ t. p b ≡ t → t ≡ true) [
+  | true ↦ λ _. refl
+  | false ↦ λ e.
+      let long : b < length (range_with_len 0 n) = rw length-range_with_len lt in
+      let here : p (get_or (range_with_len 0 n) b 0) ≡ false = rw (get_or-range_with_len 0 n b 0 lt, zero-add b) e in
+      let no = list_all_at p (range_with_len 0 n) b 0 long here in cc
+] refl
+
+-- two tests that hold together hold each
+pub both_true : (a b : Bool) → (a && b) ≡ true → (a ≡ true) × (b ≡ true)
+both_true true b e = (refl, e)
+both_true false b e = absurd cc
+
+-- a choice gives one of its two
+pub pick : {A : Type 0} (b : Bool) (x y r : A) → cond b x y ≡ r → (x ≡ r) ⊎ (y ≡ r)
+pick true x y r e = inl e
+pick false x y r e = inr e
+
+-- whether two answers are the same
+same_bool : Bool → Bool → Bool
+same_bool true b = b
+same_bool false b = cond b false true
+
+-- answers that are the same are equal
+same_bool_is : (a b : Bool) → same_bool a b ≡ true → a ≡ b
+unfolding same_bool
+same_bool_is true true e = refl
+same_bool_is true false e = absurd cc
+same_bool_is false true e = absurd cc
+same_bool_is false false e = refl
+
+-- the byte of S, E and the type that a fragment has
+fragment_byte : Bool → Bool → ℕ → ℕ
+fragment_byte start end low = flag start 0x80 + flag end 0x40 + type_of low
+
+-- what is asked of a low byte, computed
+low_table : Bool → Bool → ℕ → Bool
+low_table start end low =
+    (type_of (with_type low 29) == 29)
+    && ((field (fragment_byte start end low) 4 0 == type_of low)
+    && ((with_type (with_type low 29) (type_of low) == low)
+    && (same_bool (is_set (fragment_byte start end low) 7) start && same_bool (is_set (fragment_byte start end low) 6) end)))
+
+-- each low byte passes
+low_table_holds : (start end : Bool) (low : ℕ) → low < 256 → low_table start end low ≡ true
+unfolding low_table fragment_byte same_bool
+low_table_holds true true low h = test_below 256 (low_table true true) refl low h
+low_table_holds true false low h = test_below 256 (low_table true false) refl low h
+low_table_holds false true low h = test_below 256 (low_table false true) refl low h
+low_table_holds false false low h = test_below 256 (low_table false false) refl low h
+
+-- what a fragment's header says of the unit with this low byte
+pub record FragmentBytes (start end : Bool) (low : ℕ) : Type 0 where
+  pub packet_type : type_of (with_type low 29) ≡ 29
+  pub unit_type : field (flag start 0x80 + flag end 0x40 + type_of low) 4 0 ≡ type_of low
+  pub low_back : with_type (with_type low 29) (type_of low) ≡ low
+  pub starts : is_set (flag start 0x80 + flag end 0x40 + type_of low) 7 ≡ start
+  pub ends : is_set (flag start 0x80 + flag end 0x40 + type_of low) 6 ≡ end
+
+-- the header of a fragment says it of each low byte
+pub fragment_bytes : (start end : Bool) (low : ℕ) → low < 256 → FragmentBytes start end low
+unfolding low_table fragment_byte
+fragment_bytes start end low h =
+    let t = both_true _ _ (low_table_holds start end low h) in
+    let u = both_true _ _ t.1 in
+    let v = both_true _ _ u.1 in
+    let w = both_true _ _ v.1 in
+    record { packet_type = eqb-true _ _ t.0; unit_type = eqb-true _ _ u.0; low_back = eqb-true _ _ v.0; starts = same_bool_is _ _ w.0; ends = same_bool_is _ _ w.1 }
+
+-- a high byte below 128 has F clear
+high_clear : (high : ℕ) → high < 128 → is_set high 7 ≡ false
+high_clear high h = grind (arith, nat_tests)
+
+-- the low byte of an aggregate's header has type 28, whatever its temporal id
+pub aggregate_type : (temporal : ℕ) → temporal < 8 → type_of (28 * 8 + max 1 temporal) ≡ 28
+aggregate_type temporal h = omega arith
+
+-- the header of a unit that packets carry
+pub record IsCarried (high low : ℕ) : Type 0 where
+  pub clear : is_set high 7 ≡ false
+  pub byte : low < 256
+  pub no_aggregate : (type_of low == 28) ≡ false
+  pub no_fragment : (type_of low == 29) ≡ false
+
+-- a unit that packets carry has such a header
+pub carried_header : (high low b : ℕ) (unit : List ℕ) → carries (high ∷ low ∷ b ∷ unit) ≡ true → IsCarried high low
+carried_header high low b unit h =
+    let s = both_true _ _ h in let t = both_true (nat_lt high 0x80) (nat_lt low 0x100) s.0 in
+    let small : nat_lt high 0x80 ≡ true = t.0 in
+    let byte : nat_lt low 0x100 ≡ true = t.1 in
+    let own : (nat_lt (type_of low) 28 || nat_lt 29 (type_of low)) ≡ true = s.1 in
+    record { clear = high_clear high (grind (arith, nat_tests)); byte = grind (arith, nat_tests); no_aggregate = grind (arith, nat_tests); no_fragment = grind (arith, nat_tests) }

@@ -1,0 +1,148 @@
+-- The payload format of H.266 (RFC 9328), with and without decoding order numbers.
+use Rattle.std.specs.Prelude.{◌≡◌, ℕ, zero, suc, ◌+◌, ◌*◌, ◌%◌, nat_le, nat_lt, min, max, Bool, true, false, ◌&&◌, ◌||◌, ◌==◌, if◌then◌else◌, List, [], ◌∷◌, ◌++◌, length, map, take, drop, take_while, Option, Some, None, Result, Ok, Err}
+use Rattle.std.specs.List.{flat_map, sum_by, list_any}
+use Rattle.h26x_core.specs.declared.extra.CodecExtra.{CodecExtra}
+use Rattle.h26x_core.specs.declared.extra.CodecExtra.TheVariants as extras
+use Rattle.h26x_core.specs.declared.error.PacketError.{PacketError}
+use Rattle.h26x_core.specs.declared.error.PacketError.TheVariants.{ErrShortPacket, ErrH266CorruptedPacket}
+use Rattle.h26x_cut.specs.declared.ZeroRule.TheVariants.{AtMostThree}
+use Rattle.h26x_cut.specs.Cutting.{units_of}
+use Rattle.h26x_core.specs.Word.{field, is_set, word}
+use Rattle.h26x_core.specs.H266Unit.{type_of, kind, is_key, is_key_type}
+use Rattle.h26x_core.specs.Reading.{Reading, Single, Aggregate, Fragment, Refused}
+use Rattle.h26x_core.specs.Format.{Format}
+use Rattle.h26x_core.specs.Pieces.{pieces_of, piece}
+
+-- the low byte of a header with another type: the temporal id kept
+abbrev pub with_type : ℕ → ℕ → ℕ
+with_type low type = type * 8 + field low 2 0
+
+-- sets fit an aggregate: its header and number, and each set behind its length
+abbrev pub sets_fit : Bool → ℕ → List (List ℕ) → Bool
+sets_fit numbered limit sets = nat_le (2 + (if numbered then 2 else 0) + sum_by (λ set. 2 + length set) sets) limit
+
+abbrev pub forbidden_of : List ℕ → Bool
+forbidden_of [] = false
+forbidden_of (high ∷ unit) = is_set high 7
+
+abbrev pub layer_of : List ℕ → ℕ
+layer_of [] = 0
+layer_of (high ∷ unit) = field high 5 0
+
+abbrev pub temporal_of : List ℕ → ℕ
+temporal_of (high ∷ low ∷ unit) = field low 2 0
+temporal_of unit = 0
+
+abbrev pub least : (List ℕ → ℕ) → List (List ℕ) → ℕ
+least value [] = 0
+least value (set ∷ []) = value set
+least value (set ∷ second ∷ sets) = min (value set) (least value (second ∷ sets))
+
+-- an aggregate: F where a set has it, Z 0, the lowest layer, type 28, the lowest temporal id but at least 1 (4.3.2)
+abbrev pub sets_packet : Bool → ℕ → List (List ℕ) → List ℕ → List ℕ
+sets_packet numbered n sets unit =
+    (((if list_any forbidden_of sets then 0x80 else 0) + least layer_of sets) ∷ (28 * 8 + max 1 (least temporal_of sets)) ∷ [])
+    ++ (if numbered then word (n % 65536) else []) ++ flat_map piece sets
+
+abbrev pub flag : Bool → ℕ → ℕ
+flag b bit = if b then bit else 0
+
+-- a fragment's header: the unit's with type 29, and a byte of S, E, P clear and the unit's type (4.3.3)
+abbrev pub fragment_header : List ℕ → Bool → Bool → List ℕ
+fragment_header (high ∷ low ∷ unit) start end = high ∷ with_type low 29 ∷ (flag start 0x80 + flag end 0x40 + type_of low) ∷ []
+fragment_header unit start end = []
+
+abbrev pub single_of : Bool → ℕ → ℕ → List ℕ → Reading
+single_of false high low body = Single (high ∷ low ∷ body) None
+single_of true high low (d ∷ e ∷ b ∷ body) = Single (high ∷ low ∷ b ∷ body) (Some (d * 256 + e))
+single_of true high low body = Refused ErrShortPacket
+
+-- an aggregate or a fragment, which no aggregate may hold
+abbrev pub is_forbidden : List ℕ → Bool
+is_forbidden (high ∷ low ∷ unit) = (type_of low == 28) || (type_of low == 29)
+is_forbidden unit = false
+
+abbrev pub with_unit : List ℕ → Result (List (List ℕ)) PacketError → Result (List (List ℕ)) PacketError
+with_unit unit (Ok units) = Ok (unit ∷ units)
+with_unit unit (Err error) = Err error
+
+-- units behind their lengths up to the end, or the first fault from the left
+abbrev pub units_within : ℕ → List ℕ → Result (List (List ℕ)) PacketError
+units_within most [] = Ok []
+units_within zero bytes = Err ErrShortPacket
+units_within (suc most) (high ∷ []) = Err ErrShortPacket
+units_within (suc most) (high ∷ low ∷ bytes) =
+    if nat_lt (high * 256 + low) 2 || nat_lt (length bytes) (high * 256 + low) then Err ErrShortPacket
+    else if is_forbidden (take (high * 256 + low) bytes) then Err ErrH266CorruptedPacket
+    else with_unit (take (high * 256 + low) bytes) (units_within most (drop (high * 256 + low) bytes))
+
+-- units without numbers, or each numbered one more than the one before
+abbrev pub numbered_on : Option ℕ → List (List ℕ) → List (List ℕ × Option ℕ)
+numbered_on None units = map (λ unit. (unit, None)) units
+numbered_on (Some n) [] = []
+numbered_on (Some n) (unit ∷ units) = (unit, Some n) ∷ numbered_on (Some ((n + 1) % 65536)) units
+
+abbrev pub two_or_more : Option ℕ → Result (List (List ℕ)) PacketError → Reading
+two_or_more number (Ok (first ∷ second ∷ units)) = Aggregate (numbered_on number (first ∷ second ∷ units))
+two_or_more number (Ok units) = Refused ErrShortPacket
+two_or_more number (Err error) = Refused error
+
+abbrev pub aggregate_of : Bool → List ℕ → Reading
+aggregate_of false bytes = two_or_more None (units_within (length bytes) bytes)
+aggregate_of true (d ∷ e ∷ bytes) = two_or_more (Some (d * 256 + e)) (units_within (length bytes) bytes)
+aggregate_of true bytes = Refused ErrShortPacket
+
+abbrev pub fragment_of : Bool → Bool → ℕ → ℕ → ℕ → List ℕ → Reading
+fragment_of true true high low fu (d ∷ e ∷ body) = Fragment true (is_set fu 6) (high ∷ with_type low (field fu 4 0) ∷ []) (Some (d * 256 + e)) body
+fragment_of true true high low fu body = Refused ErrShortPacket
+fragment_of numbered start high low fu body = Fragment start (is_set fu 6) (high ∷ with_type low (field fu 4 0) ∷ []) None body
+
+-- the same as the relation `IsReading` of the file beside this one, computed
+abbrev pub read : Bool → List ℕ → Reading
+read numbered (high ∷ low ∷ b ∷ body) =
+    if is_set high 7 then Refused ErrH266CorruptedPacket
+    else if type_of low == 28 then aggregate_of numbered (b ∷ body)
+    else if type_of low == 29 then fragment_of numbered (is_set b 7) high low b body
+    else single_of numbered high low (b ∷ body)
+read numbered packet = Refused ErrShortPacket
+
+-- a unit of three bytes or more with F clear and a type of its own; its header's bytes are bytes
+abbrev pub carries : List ℕ → Bool
+carries (high ∷ low ∷ b ∷ unit) = nat_lt high 0x80 && nat_lt low 0x100 && (nat_lt (type_of low) 28 || nat_lt 29 (type_of low))
+carries unit = false
+
+abbrev pub has_key : CodecExtra → Bool
+has_key (extras.H266 extra) = extra.is_keyframe
+has_key extra = false
+
+-- Whether a key unit is known to stand in a packet, or to begin in it; numbers are not accounted for (the crate's rule).
+abbrev pub detects_fragment : List ℕ → Bool
+detects_fragment [] = false
+detects_fragment (fu ∷ body) = is_set fu 7 && is_key_type (field fu 4 0)
+
+abbrev pub detects : List ℕ → Bool
+detects (high ∷ low ∷ rest) =
+    if type_of low == 28 then list_any is_key (take_while (λ unit. nat_le 2 (length unit)) (pieces_of rest).whole)
+    else if type_of low == 29 then detects_fragment rest
+    else is_key_type (type_of low)
+detects packet = false
+
+abbrev pub h266 : Bool → Format
+h266 numbered = record {
+  units = units_of AtMostThree;
+  kind = kind;
+  is_key = is_key;
+  limit = λ mtu. min mtu 1200;
+  least_mtu = 4;
+  header_len = 2;
+  numbered = numbered;
+  sets_fit = sets_fit numbered;
+  sets_go_alone = true;
+  sets_packet = sets_packet numbered;
+  fragment_header = fragment_header;
+  read = read numbered;
+  carries = carries;
+  extra = λ key. extras.H266 (record { is_keyframe = key });
+  has_key = has_key;
+  detects = detects;
+}

@@ -1,0 +1,2 @@
+pub mod H266
+pub mod Reading

@@ -1,0 +1,46 @@
+-- What sets the payload formats of H.264, H.265 and H.266 apart.
+use Rattle.std.specs.Prelude.{ℕ, ◌+◌, ◌%◌, Bool, true, false, if◌then◌else◌, List, [], ◌∷◌}
+use Rattle.h26x_core.specs.declared.extra.CodecExtra.{CodecExtra}
+use Rattle.h26x_core.specs.Word.{word}
+use Rattle.h26x_core.specs.Kind.{Kind}
+use Rattle.h26x_core.specs.Reading.{Reading}
+
+pub record Format : Type 0 where
+  -- the units of a payload
+  pub units : List ℕ → List (List ℕ)
+  -- what a unit is to a packetizer, and whether it is of a key type
+  pub kind : List ℕ → Kind
+  pub is_key : List ℕ → Bool
+  -- the limit of a call, by its mtu, and the mtu under which it has no effect
+  pub limit : ℕ → ℕ
+  pub least_mtu : ℕ
+  -- the bytes of a unit's header
+  pub header_len : ℕ
+  -- whether packets bear decoding order numbers
+  pub numbered : Bool
+  -- whether parameter sets fit one packet, and whether they go alone where they don't
+  pub sets_fit : ℕ → List (List ℕ) → Bool
+  pub sets_go_alone : Bool
+  -- the packet of parameter sets before a unit, the first of them with this number
+  pub sets_packet : ℕ → List (List ℕ) → List ℕ → List ℕ
+  -- what stands before a fragment's number and data: of this unit, the first or not, the last or not
+  pub fragment_header : List ℕ → Bool → Bool → List ℕ
+  pub read : List ℕ → Reading
+  -- whether packets can carry a unit so that it is read back
+  pub carries : List ℕ → Bool
+  -- what a depacketizer tells of key units, and whether it has told of one
+  pub extra : Bool → CodecExtra
+  pub has_key : CodecExtra → Bool
+  -- whether a packet is known to hold a key unit, or to begin one
+  pub detects : List ℕ → Bool
+
+-- how many bytes a number takes, and these bytes
+abbrev pub number_len : Format → ℕ
+number_len f = if f.numbered then 2 else 0
+
+abbrev pub number : Format → ℕ → List ℕ
+number f n = if f.numbered then word (n % 65536) else []
+
+-- what a fragment has before its number and data: a packet's header and a byte of its own
+abbrev pub fragment_header_len : Format → ℕ
+fragment_header_len f = f.header_len + 1

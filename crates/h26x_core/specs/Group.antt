@@ -1,0 +1,59 @@
+-- Groups: units up to one before which parameter sets are due (the crate's rule).
+use Rattle.std.specs.Prelude.{◌≡◌, ℕ, Bool, true, false, ◌&&◌, if◌then◌else◌, List, [], ◌∷◌, ◌++◌, IsTrue}
+use Rattle.std.specs.List.{list_any}
+use Rattle.h26x_core.specs.Kind.{Kind, is_vps, is_sps, is_pps, is_other}
+use Rattle.h26x_core.specs.Format.{Format}
+
+-- a unit, and the limit of the call that brought it
+pub record Entry : Type 0 where
+  pub unit : List ℕ
+  pub limit : ℕ
+
+-- an other unit with an SPS and a PPS before it
+abbrev pub completes : Format → List Entry → Entry → Bool
+completes f front entry =
+    is_other (f.kind entry.unit) && list_any (λ e. is_sps (f.kind e.unit)) front && list_any (λ e. is_pps (f.kind e.unit)) front
+
+-- a group: the shortest front of a list that ends in such a unit
+pub record Group : Type 0 where
+  pub front : List Entry
+  pub last : Entry
+
+-- no unit of the list has an SPS and a PPS before it in the list and is an other unit
+abbrev pub IsOpen : Format → List Entry → Type 0
+IsOpen f entries = (before after : List Entry) (entry : Entry) → entries ≡ before ++ entry ∷ after → completes f before entry ≡ false
+
+-- the list is these groups, one after the other, and then a rest that has none as a front
+abbrev pub AreGroups : Format → List Entry → List Group → List Entry → Type 0
+AreGroups f entries [] rest = (entries ≡ rest) × IsOpen f rest
+AreGroups f entries (g ∷ groups) rest =
+    (later : List Entry) × (entries ≡ g.front ++ g.last ∷ later) × IsOpen f g.front × IsTrue (completes f g.front g.last) × AreGroups f later groups rest
+
+-- the same, computed: what a front and the entries after it split into
+pub record Split : Type 0 where
+  pub groups : List Group
+  pub rest : List Entry
+
+abbrev pub with_group : Group → Split → Split
+with_group g s = record { groups = g ∷ s.groups; rest = s.rest }
+
+abbrev pub split_from : Format → List Entry → List Entry → Split
+split_from f front [] = record { groups = []; rest = front }
+split_from f front (e ∷ entries) =
+    if completes f front e
+    then with_group (record { front = front; last = e }) (split_from f [] entries)
+    else split_from f (front ++ e ∷ []) entries
+
+abbrev pub split : Format → List Entry → Split
+split f entries = split_from f [] entries
+
+-- the latest unit of a kind, if there is one
+abbrev pub latest : (Kind → Bool) → Format → List Entry → List (List ℕ)
+latest is_it f [] = []
+latest is_it f (e ∷ entries) =
+    if list_any (λ later. is_it (f.kind later.unit)) entries then latest is_it f entries
+    else (if is_it (f.kind e.unit) then e.unit ∷ [] else [])
+
+-- the sets that wait after these entries: the latest VPS, SPS and PPS, as far as each is there
+abbrev pub sets_of : Format → List Entry → List (List ℕ)
+sets_of f entries = latest is_vps f entries ++ latest is_sps f entries ++ latest is_pps f entries

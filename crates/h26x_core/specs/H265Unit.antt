@@ -1,0 +1,25 @@
+-- H.265 NAL units (RFC 7798, 1.1.4). A header has two bytes: F, type, layer and temporal id.
+use Rattle.std.specs.Prelude.{ℕ, nat_le, Bool, true, false, ◌&&◌, ◌==◌, if◌then◌else◌, List, [], ◌∷◌}
+use Rattle.h26x_core.specs.Word.{field}
+use Rattle.h26x_core.specs.Kind.{Kind, Skipped, Vps, Sps, Pps, Other}
+
+-- the type, in a header's high byte
+abbrev pub type_of : ℕ → ℕ
+type_of high = field high 6 1
+
+-- type 35 is an access unit delimiter, 32 a VPS, 33 an SPS, 34 a PPS
+abbrev pub kind_of_type : ℕ → Kind
+kind_of_type type = if type == 35 then Skipped else if type == 32 then Vps else if type == 33 then Sps else if type == 34 then Pps else Other
+
+-- a unit without a whole header is skipped
+abbrev pub kind : List ℕ → Kind
+kind (high ∷ low ∷ unit) = kind_of_type (type_of high)
+kind unit = Skipped
+
+-- a key type: a slice of an IRAP picture, 16 to 21
+abbrev pub is_key_type : ℕ → Bool
+is_key_type type = nat_le 16 type && nat_le type 21
+
+abbrev pub is_key : List ℕ → Bool
+is_key (high ∷ low ∷ unit) = is_key_type (type_of high)
+is_key unit = false

@@ -1,0 +1,33 @@
+-- What a packet is to a depacketizer (RFC 6184, 5.2; RFC 7798, 4.4; RFC 9328, 4.3).
+use Rattle.std.specs.Prelude.{ℕ, Bool, true, false, List, [], ◌∷◌, Option}
+use Rattle.h26x_core.specs.declared.error.PacketError.{PacketError}
+
+-- One unit; several; a part of one, with the header that its unit would have; an H.265 PACI with its fields
+-- word and extension; or a packet that is refused. A number is a decoding order number, where there is one.
+pub data Reading : Type 0 where
+  Single : (unit : List ℕ) (number : Option ℕ) → Reading
+  Aggregate : (units : List (List ℕ × Option ℕ)) → Reading
+  Fragment : (start end : Bool) (head : List ℕ) (number : Option ℕ) (body : List ℕ) → Reading
+  Paci : (head : List ℕ) (fields : ℕ) (extension body : List ℕ) → Reading
+  Refused : (error : PacketError) → Reading
+
+abbrev pub IsFragment : Reading → Type 0
+IsFragment (Fragment start end head number body) = Unit {0}
+IsFragment reading = ⊥
+
+abbrev pub is_start : Reading → Bool
+is_start (Fragment start end head number body) = start
+is_start reading = false
+
+abbrev pub is_end : Reading → Bool
+is_end (Fragment start end head number body) = end
+is_end reading = false
+
+abbrev pub head_of : Reading → List ℕ
+head_of (Fragment start end head number body) = head
+head_of reading = []
+
+-- the data of a fragment
+abbrev pub body_of : Reading → List ℕ
+body_of (Fragment start end head number body) = body
+body_of reading = []

@@ -1,0 +1,61 @@
+-- The units that packets bring, computed by the run that is open.
+use Rattle.std.specs.Prelude.{◌≡◌, ℕ, Bool, true, false, if◌then◌else◌, List, [], ◌∷◌, ◌++◌, map, reverse, Option, Some, None}
+use Rattle.std.specs.List.{flat_map, AllByRecursion}
+use Rattle.h26x_core.specs.Reading.{Reading, Single, Aggregate, Fragment, Paci, Refused, is_start, is_end, body_of}
+
+-- a run with one more fragment's data: a start begins anew, and where no run is open another fragment adds nothing
+abbrev pub continued : Bool → Option (List ℕ) → List ℕ → Option (List ℕ)
+continued true run body = Some body
+continued false None body = None
+continued false (Some run) body = Some (run ++ body)
+
+-- the run that is open after a reading
+abbrev pub run_after : Option (List ℕ) → Reading → Option (List ℕ)
+run_after run (Fragment start end head number body) = if end then None else continued start run body
+run_after run reading = run
+
+abbrev pub named_by : List ℕ → Option (List ℕ) → List (List ℕ)
+named_by head None = []
+named_by head (Some run) = (head ++ run) ∷ []
+
+-- the units that a reading brings where this run is open
+abbrev pub units_with : Option (List ℕ) → Reading → List (List ℕ)
+units_with run (Single unit number) = unit ∷ []
+units_with run (Aggregate units) = map (λ u. u.0) units
+units_with run (Fragment start end head number body) = if end then named_by head (continued start run body) else []
+units_with run (Paci head fields extension body) = (head ++ body) ∷ []
+units_with run (Refused error) = []
+
+-- what the run that is open carries so far; the latest reading stands first
+abbrev pub open_run : List Reading → Option (List ℕ)
+open_run [] = None
+open_run (reading ∷ earlier) = run_after (open_run earlier) reading
+
+-- the units that a reading brings after these
+abbrev pub units_of : Reading → List Reading → List (List ℕ)
+units_of reading earlier = units_with (open_run earlier) reading
+
+-- the units of readings, the latest of which stands first
+abbrev pub received_back : List Reading → List (List ℕ)
+received_back [] = []
+received_back (reading ∷ earlier) = received_back earlier ++ units_of reading earlier
+
+-- the units that readings bring after others, which stand with the latest first
+abbrev pub units_after : List Reading → List Reading → List (List ℕ)
+units_after earlier [] = []
+units_after earlier (reading ∷ readings) = units_of reading earlier ++ units_after (reading ∷ earlier) readings
+
+-- the units that readings bring, in order
+abbrev pub received : List Reading → List (List ℕ)
+received readings = units_after [] readings
+
+-- What a run that is open carries: the latest start, which is no end, and all since, none of which starts or ends.
+-- The latest reading stands first.
+pub record IsOpenRun (readings : List Reading) (run : List ℕ) : Type 0 where
+  pub since : List Reading
+  pub start : Reading
+  pub before : List Reading
+  pub whole : readings ≡ since ++ start ∷ before
+  pub starts : (is_start start ≡ true) × (is_end start ≡ false)
+  pub quiet : AllByRecursion (λ r. (is_start r ≡ false) × (is_end r ≡ false)) since
+  pub bytes : run ≡ body_of start ++ flat_map body_of (reverse since)

@@ -1,0 +1,29 @@
+-- A unit that is fragmented takes the fewest fragments that there could be.
+use Rattle.std.specs.Prelude.{◌≡◌, ℕ, ◌≤◌, Bool, true, false, List, [], ◌∷◌, length, drop, Option}
+use Rattle.std.specs.List.{AllByRecursion, flat_map}
+use Rattle.h26x_core.specs.Reading.{Reading, Fragment, IsFragment, body_of}
+use Rattle.h26x_core.specs.Format.{Format}
+use Rattle.h26x_core.specs.Plan.{fits, is_dropped}
+use Rattle.h26x_core.specs.Packets.{fragment_count}
+
+abbrev pub IsStart : Reading → Type 0
+IsStart (Fragment true end head number body) = Unit {0}
+IsStart reading = ⊥
+
+abbrev pub FirstStarts : Format → List (List ℕ) → Type 0
+FirstStarts f [] = ⊥
+FirstStarts f (packet ∷ packets) = IsStart (f.read packet)
+
+-- A rival: packets within the limit that carry these bytes as fragments do, the first with a start. It need not be
+-- a list that a depacketizer could put together.
+pub record IsRival (f : Format) (limit : ℕ) (bytes : List ℕ) (packets : List (List ℕ)) : Type 0 where
+  pub within : AllByRecursion (λ packet. length packet ≤ limit) packets
+  pub each : AllByRecursion (λ packet. IsFragment (f.read packet)) packets
+  pub first : FirstStarts f packets
+  pub joined : flat_map (λ packet. body_of (f.read packet)) packets ≡ bytes
+
+-- no rival of a unit that is fragmented has fewer packets than the packetizer
+abbrev pub TakesFewestFragments : Format → Type 0
+TakesFewestFragments f = (limit : ℕ) (unit : List ℕ) (packets : List (List ℕ)) →
+    fits f limit unit ≡ false → is_dropped f limit unit ≡ false → IsRival f limit (drop f.header_len unit) packets →
+    fragment_count f limit unit ≤ length packets

@@ -1,0 +1,2 @@
+pub mod CuttingLemmas
+pub mod MarkLemmas

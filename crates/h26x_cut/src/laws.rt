@@ -1,0 +1,31 @@
+//! Laws of the cutting grammar. Each is the contract of a function without a result.
+
+ghost use Rattle.std.specs.Prelude.{◌≡◌, ℕ, List};
+ghost use Rattle.std.specs.List.{AllByRecursion};
+ghost use Rattle.h26x_core.specs.Mark.{HasNoMark};
+ghost use Rattle.h26x_core.specs.Text.{annex_b};
+ghost use Rattle.h26x_cut.specs.Cutting.{HoldsStartCode, IsCutting, pieces_of, AreUnits, IsUnit, AreSeparable, units_of};
+
+use crate::ZeroRule;
+
+/// Bytes hold `00 00 01` exactly where a mark stands in them.
+pub fn a_start_code_ends_at_a_mark()
+    ensures no_mark { (bytes : List ℕ) → HasNoMark bytes → ¬ HoldsStartCode bytes }
+    ensures no_code { (bytes : List ℕ) → (¬ HoldsStartCode bytes) → HasNoMark bytes }
+{
+}
+
+/// A payload has one cutting under each rule, and so one list of units.
+pub fn one_cutting()
+    ensures is { (rule : ZeroRule) (payload : List ℕ) → IsCutting rule payload (pieces_of rule payload) }
+    ensures only { (rule : ZeroRule) (payload : List ℕ) (a b : List (List ℕ)) → IsCutting rule payload a → IsCutting rule payload b → a ≡ b }
+    ensures units { (rule : ZeroRule) (payload : List ℕ) → AreUnits rule payload (units_of rule payload) }
+    ensures only_units { (rule : ZeroRule) (payload : List ℕ) (units : List (List ℕ)) → AreUnits rule payload units → units ≡ units_of rule payload }
+{
+}
+
+/// The written text of units is cut into these units.
+pub fn text_is_cut_into_its_units()
+    ensures { (rule : ZeroRule) (units : List (List ℕ)) → AllByRecursion IsUnit units → AreSeparable rule units → AreUnits rule (annex_b units) units }
+{
+}
