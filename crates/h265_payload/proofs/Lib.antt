@@ -1,0 +1,7 @@
+pub mod HeaderLemmas
+pub mod ReadBackLemmas
+pub mod SetsLemmas
+pub mod FactLemmas
+pub mod FurtherLemmas
+pub mod ReadingLemmas
+pub mod RuleLemmas

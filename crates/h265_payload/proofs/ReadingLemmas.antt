@@ -1,0 +1,180 @@
+-- A packet has one reading.
+use Rattle.std.proofs.Common.{◌≡◌, ℕ, ◌+◌, ◌*◌, ◌≤◌, Bool, true, false, cond, List, [], ◌∷◌, ◌++◌, length, map, take, drop, Option, Some, None, refl, sym, ap, ◌∙◌, arith, length-append}
+use Rattle.std.specs.Prelude.{nat_le, ◌&&◌}
+use Rattle.std.proofs.lemmas.List.{take_at, drop_at, length-drop, length-map}
+use Rattle.std.proofs.lemmas.Bool.Decides.{nat_tests}
+use Rattle.h26x_core.specs.Word.{field, is_set}
+use Rattle.h26x_core.specs.H265Unit.{type_of}
+use Rattle.h26x_core.specs.Reading.{Reading, Single, Aggregate, Fragment, Paci, Refused}
+use Rattle.h26x_core.specs.declared.error.PacketError.TheVariants.{ErrShortPacket, ErrH265CorruptedPacket}
+use Rattle.h26x_core.specs.Pieces.{HasNoPiece, Pieces}
+use Rattle.h26x_core.proofs.PieceLemmas.{only_pieces}
+use Rattle.h265_payload.specs.H265.{read, with_type, unnumbered, two_or_more, aggregate_of, units_from, further_units, single_of, fragment_of, paci_of, paci_behind, paci_head}
+use Rattle.h265_payload.specs.Reading.{IsReading, IsWhole, IsUnitType, AreFurther, HasNoFurther, IsShort, IsCorrupted, IsUnit, IsNumberedUnit, IsShortUnit, IsAggregate, IsShortAggregate, IsNumberedAggregate, IsOneNumbered, IsNoneNumbered, IsWithoutNumber, IsFragment, IsNumberedStart, IsShortFragment, IsShortStart, IsPaci, IsShortPaci, IsPaciWithoutFields}
+use Rattle.h265_payload.proofs.HeaderLemmas.{unit_type}
+use Rattle.h265_payload.proofs.FurtherLemmas.{split_at, enough, only_further}
+
+-- a packet with F clear and type 48 is read as an aggregate
+read_aggregate : (numbered : Bool) (packet : List ℕ) (high low : ℕ) (rest : List ℕ) → IsWhole packet high low rest → type_of high ≡ 48 →
+    read numbered packet ≡ aggregate_of numbered rest
+read_aggregate numbered packet high low [] w t = let s = w.some in absurd (omega arith)
+read_aggregate numbered packet high low (b ∷ rest) w t = rw (w.whole, w.clear, t) refl
+
+-- one of type 49 as a fragment
+read_fragment : (numbered : Bool) (packet : List ℕ) (high low b : ℕ) (rest : List ℕ) → IsWhole packet high low (b ∷ rest) → type_of high ≡ 49 →
+    read numbered packet ≡ fragment_of numbered (is_set b 7) high low b rest
+read_fragment numbered packet high low b rest w t = rw (w.whole, w.clear, t) refl
+
+-- one of type 50 as a PACI
+read_paci : (numbered : Bool) (packet : List ℕ) (high low : ℕ) (rest : List ℕ) → IsWhole packet high low rest → type_of high ≡ 50 →
+    read numbered packet ≡ paci_of high low rest
+read_paci numbered packet high low [] w t = let s = w.some in absurd (omega arith)
+read_paci numbered packet high low (b ∷ rest) w t = rw (w.whole, w.clear, t) refl
+
+-- one of another type as a unit
+read_single : (numbered : Bool) (packet : List ℕ) (high low : ℕ) (rest : List ℕ) → IsWhole packet high low rest → IsUnitType (type_of high) →
+    read numbered packet ≡ single_of numbered high low rest
+read_single numbered packet high low [] w t = let s = w.some in absurd (omega arith)
+read_single numbered packet high low (b ∷ rest) w t = let u = unit_type (type_of high) t in rw (w.whole, w.clear, u.0, u.1, u.2) refl
+
+-- a packet without a byte behind its header is too short
+read_short : (numbered : Bool) (packet : List ℕ) → length packet ≤ 2 → read numbered packet ≡ Refused ErrShortPacket
+read_short numbered [] h = refl
+read_short numbered (high ∷ []) h = refl
+read_short numbered (high ∷ low ∷ []) h = refl
+read_short numbered (high ∷ low ∷ b ∷ rest) h = absurd (omega arith)
+
+-- a longer one with F set is corrupted
+read_corrupted : (numbered : Bool) (high low : ℕ) (rest : List ℕ) → 1 ≤ length rest → is_set high 7 ≡ true → read numbered (high ∷ low ∷ rest) ≡ Refused ErrH265CorruptedPacket
+read_corrupted numbered high low [] some f = absurd (omega arith)
+read_corrupted numbered high low (b ∷ rest) some f = rw f refl
+
+-- a unit alone with its number needs a byte behind the number
+short_single : (high low : ℕ) (rest : List ℕ) → length rest ≤ 2 → single_of true high low rest ≡ Refused ErrShortPacket
+short_single high low [] h = refl
+short_single high low (d ∷ []) h = refl
+short_single high low (d ∷ e ∷ []) h = refl
+short_single high low (d ∷ e ∷ b ∷ rest) h = absurd (omega arith)
+
+-- and is the packet without it
+numbered_single : (high low d e : ℕ) (body : List ℕ) → 1 ≤ length body → single_of true high low (d ∷ e ∷ body) ≡ Single (high ∷ low ∷ body) (Some (d * 256 + e))
+numbered_single high low d e [] some = absurd (omega arith)
+numbered_single high low d e (b ∷ body) some = refl
+
+-- two units or more are an aggregate, and fewer are too short
+two_read : (units : List (List ℕ × Option ℕ)) → 2 ≤ length units → two_or_more units ≡ Aggregate units
+two_read [] two = absurd (omega arith)
+two_read (first ∷ []) two = absurd (omega arith)
+two_read (first ∷ second ∷ units) two = refl
+
+one_read : (units : List (List ℕ × Option ℕ)) → length units ≤ 1 → two_or_more units ≡ Refused ErrShortPacket
+one_read [] one = refl
+one_read (first ∷ []) one = refl
+one_read (first ∷ second ∷ units) one = absurd (omega arith)
+
+-- the units of an aggregate with numbers are the first and those that are found behind it
+units_are : (n h l : ℕ) (first behind left : List ℕ) (further : List (List ℕ × Option ℕ)) → h * 256 + l ≡ length first → AreFurther n behind further left → HasNoFurther left →
+    units_from n (h ∷ l ∷ first ++ behind) ≡ (first, Some n) ∷ further
+units_are n h l first behind left further long are none =
+    let a = length-append first behind in
+    rw (long, enough (length first) first behind refl, take_at first behind (length first) refl, drop_at first behind (length first) refl)
+    (ap (λ (x : List (List ℕ × Option ℕ)). (first, Some n) ∷ x) (only_further (length (first ++ behind)) n behind further left (omega (arith, a)) are none))
+
+-- where no piece stands at the beginning there are none
+no_units : (n : ℕ) (bytes : List ℕ) → HasNoPiece bytes → units_from n bytes ≡ []
+no_units n [] none = refl
+no_units n (high ∷ []) none = refl
+no_units n (high ∷ low ∷ bytes) none =
+    elim (nat_le (high * 256 + low) (length bytes)) as (λ b. nat_le (high * 256 + low) (length bytes) ≡ b →
+    cond b ((take (high * 256 + low) bytes, Some n) ∷ further_units (length bytes) n (drop (high * 256 + low) bytes)) [] ≡ []) [
+      | true ↦ λ h. let within : high * 256 + low ≤ length bytes = grind (arith, nat_tests) in let s = split_at (high * 256 + low) bytes within in
+          absurd (none high low (take (high * 256 + low) bytes) (drop (high * 256 + low) bytes) (ap (λ (x : List ℕ). high ∷ low ∷ x) s.0) s.1)
+      | false ↦ λ h. refl
+    ] refl
+
+-- a fragment that bears no number, with data and without
+some_fragment : (numbered start : Bool) (high low b : ℕ) (body : List ℕ) → (numbered && start) ≡ false → 1 ≤ length body →
+    fragment_of numbered start high low b body ≡ Fragment start (is_set b 6) (with_type high (field b 5 0) ∷ low ∷ []) None body
+some_fragment numbered start high low b [] n some = absurd (omega arith)
+some_fragment true true high low b (x ∷ body) n some = absurd cc
+some_fragment true false high low b (x ∷ body) n some = refl
+some_fragment false true high low b (x ∷ body) n some = refl
+some_fragment false false high low b (x ∷ body) n some = refl
+
+no_fragment : (numbered start : Bool) (high low b : ℕ) → (numbered && start) ≡ false → fragment_of numbered start high low b [] ≡ Refused ErrShortPacket
+no_fragment true true high low b n = absurd cc
+no_fragment true false high low b n = refl
+no_fragment false true high low b n = refl
+no_fragment false false high low b n = refl
+
+-- a start that bears a number, with data and without
+numbered_start : (numbered start : Bool) (high low b d e : ℕ) (body : List ℕ) → (numbered && start) ≡ true → 1 ≤ length body →
+    fragment_of numbered start high low b (d ∷ e ∷ body) ≡ Fragment true (is_set b 6) (with_type high (field b 5 0) ∷ low ∷ []) (Some (d * 256 + e)) body
+numbered_start numbered start high low b d e [] n some = absurd (omega arith)
+numbered_start true true high low b d e (x ∷ body) n some = refl
+numbered_start true false high low b d e (x ∷ body) n some = absurd cc
+numbered_start false start high low b d e (x ∷ body) n some = absurd cc
+
+short_start : (numbered start : Bool) (high low b : ℕ) (body : List ℕ) → (numbered && start) ≡ true → length body ≤ 2 →
+    fragment_of numbered start high low b body ≡ Refused ErrShortPacket
+short_start true true high low b [] n short = refl
+short_start true true high low b (d ∷ []) n short = refl
+short_start true true high low b (d ∷ e ∷ []) n short = refl
+short_start true true high low b (d ∷ e ∷ x ∷ body) n short = absurd (omega arith)
+short_start true false high low b body n short = absurd cc
+short_start false start high low b body n short = absurd cc
+
+-- a PACI with a payload behind its extension, and without one
+some_behind : (high low fields : ℕ) (extension body : List ℕ) → 1 ≤ length body → paci_behind high low fields extension body ≡ Paci (paci_head high low fields) fields extension body
+some_behind high low fields extension [] some = absurd (omega arith)
+some_behind high low fields extension (b ∷ body) some = refl
+
+none_behind : (high low fields : ℕ) (extension body : List ℕ) → length body ≡ 0 → paci_behind high low fields extension body ≡ Refused ErrShortPacket
+none_behind high low fields extension [] zero_long = refl
+none_behind high low fields extension (b ∷ body) zero_long = absurd (omega arith)
+
+some_paci : (high low a b : ℕ) (extension body : List ℕ) → field (a * 256 + b) 8 4 ≡ length extension → 1 ≤ length body →
+    paci_of high low (a ∷ b ∷ extension ++ body) ≡ Paci (paci_head high low (a * 256 + b)) (a * 256 + b) extension body
+some_paci high low a b extension body long some =
+    rw (take_at extension body (field (a * 256 + b) 8 4) (sym long), drop_at extension body (field (a * 256 + b) 8 4) (sym long)) (some_behind high low (a * 256 + b) extension body some)
+
+short_paci : (high low a b : ℕ) (bytes : List ℕ) → length bytes ≤ field (a * 256 + b) 8 4 → paci_of high low (a ∷ b ∷ bytes) ≡ Refused ErrShortPacket
+short_paci high low a b bytes short =
+    let l = length-drop (field (a * 256 + b) 8 4) bytes in
+    none_behind high low (a * 256 + b) (take (field (a * 256 + b) 8 4) bytes) (drop (field (a * 256 + b) 8 4) bytes) (omega (arith, l))
+
+-- a packet has no other reading than the one that is computed
+pub only_reading : (numbered : Bool) (packet : List ℕ) (reading : Reading) → IsReading numbered packet reading → read numbered packet ≡ reading
+only_reading numbered packet reading (IsShort short is) = read_short numbered packet short ∙ sym is
+only_reading numbered packet reading (IsCorrupted high low rest same some f is) = ap (read numbered) same ∙ read_corrupted numbered high low rest some f ∙ sym is
+only_reading numbered packet reading (IsUnit high low rest w t n is) = read_single numbered packet high low rest w t ∙ rw n (ap (λ (x : List ℕ). Single x None) (sym w.whole)) ∙ sym is
+only_reading numbered packet reading (IsNumberedUnit high low d e body w t n some is) =
+    read_single numbered packet high low (d ∷ e ∷ body) w t ∙ rw n (numbered_single high low d e body some) ∙ sym is
+only_reading numbered packet reading (IsShortUnit high low rest w t n short is) = read_single numbered packet high low rest w t ∙ rw n (short_single high low rest short) ∙ sym is
+only_reading numbered packet reading (IsAggregate high low rest left pieces w t n are none two is) =
+    read_aggregate numbered packet high low rest w t
+    ∙ rw n (ap (λ (p : Pieces). two_or_more (map unnumbered p.whole)) (only_pieces rest pieces left are none) ∙ two_read (map unnumbered pieces) (rw length-map two)) ∙ sym is
+only_reading numbered packet reading (IsShortAggregate high low rest left pieces w t n are none one is) =
+    read_aggregate numbered packet high low rest w t
+    ∙ rw n (ap (λ (p : Pieces). two_or_more (map unnumbered p.whole)) (only_pieces rest pieces left are none) ∙ one_read (map unnumbered pieces) (rw length-map one)) ∙ sym is
+only_reading numbered packet reading (IsNumberedAggregate high low d e h l first behind left further w t n long are none some is) =
+    read_aggregate numbered packet high low (d ∷ e ∷ h ∷ l ∷ first ++ behind) w t
+    ∙ rw n (ap two_or_more (units_are (d * 256 + e) h l first behind left further long are none) ∙ two_read ((first, Some (d * 256 + e)) ∷ further) (omega arith)) ∙ sym is
+only_reading numbered packet reading (IsOneNumbered high low d e h l first behind w t n long none is) =
+    read_aggregate numbered packet high low (d ∷ e ∷ h ∷ l ∷ first ++ behind) w t
+    ∙ rw n (ap two_or_more (units_are (d * 256 + e) h l first behind behind [] long refl none)) ∙ sym is
+only_reading numbered packet reading (IsNoneNumbered high low d e bytes w t n none is) =
+    read_aggregate numbered packet high low (d ∷ e ∷ bytes) w t ∙ rw n (ap two_or_more (no_units (d * 256 + e) bytes none)) ∙ sym is
+only_reading numbered packet reading (IsWithoutNumber high low d w t n is) = read_aggregate numbered packet high low (d ∷ []) w t ∙ rw n refl ∙ sym is
+only_reading numbered packet reading (IsFragment high low b body w t n some is) =
+    read_fragment numbered packet high low b body w t ∙ some_fragment numbered (is_set b 7) high low b body n some ∙ sym is
+only_reading numbered packet reading (IsNumberedStart high low b d e body w t n some is) =
+    read_fragment numbered packet high low b (d ∷ e ∷ body) w t ∙ numbered_start numbered (is_set b 7) high low b d e body n some ∙ sym is
+only_reading numbered packet reading (IsShortFragment high low b w t n is) = read_fragment numbered packet high low b [] w t ∙ no_fragment numbered (is_set b 7) high low b n ∙ sym is
+only_reading numbered packet reading (IsShortStart high low b body w t n short is) =
+    read_fragment numbered packet high low b body w t ∙ short_start numbered (is_set b 7) high low b body n short ∙ sym is
+only_reading numbered packet reading (IsPaci high low a b extension body w t long some is) =
+    read_paci numbered packet high low (a ∷ b ∷ extension ++ body) w t ∙ some_paci high low a b extension body long some ∙ sym is
+only_reading numbered packet reading (IsShortPaci high low a b bytes w t short is) =
+    read_paci numbered packet high low (a ∷ b ∷ bytes) w t ∙ short_paci high low a b bytes short ∙ sym is
+only_reading numbered packet reading (IsPaciWithoutFields high low a w t is) = read_paci numbered packet high low (a ∷ []) w t ∙ sym is

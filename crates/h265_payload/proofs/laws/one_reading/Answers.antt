@@ -1,0 +1,6 @@
+use Rattle.h265_payload.proofs.RuleLemmas.{has_reading}
+use Rattle.h265_payload.proofs.ReadingLemmas.{only_reading}
+use Rattle.h265_payload.proofs.laws.one_reading.Goals as goal
+
+pub returns : goal.returns
+returns c = record { is = has_reading; only = only_reading }

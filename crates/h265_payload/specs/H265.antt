@@ -1,0 +1,148 @@
+-- The payload format of H.265 (RFC 7798), with and without decoding order numbers.
+use Rattle.std.specs.Prelude.{ℕ, zero, suc, ◌+◌, ◌*◌, ◌%◌, nat_le, nat_lt, min, Bool, true, false, ◌&&◌, ◌||◌, ◌==◌, if◌then◌else◌, List, [], ◌∷◌, ◌++◌, length, map, take, drop, take_while, Option, Some, None}
+use Rattle.std.specs.List.{flat_map, list_any, sum_by}
+use Rattle.h26x_core.specs.declared.extra.CodecExtra.{CodecExtra}
+use Rattle.h26x_core.specs.declared.extra.CodecExtra.TheVariants as extras
+use Rattle.h26x_core.specs.declared.error.PacketError.TheVariants.{ErrShortPacket, ErrH265CorruptedPacket}
+use Rattle.h26x_cut.specs.declared.ZeroRule.TheVariants.{All}
+use Rattle.h26x_cut.specs.Cutting.{units_of}
+use Rattle.h26x_core.specs.Word.{field, is_set, word}
+use Rattle.h26x_core.specs.H265Unit.{type_of, kind, is_key, is_key_type}
+use Rattle.h26x_core.specs.Reading.{Reading, Single, Aggregate, Fragment, Paci, Refused}
+use Rattle.h26x_core.specs.Format.{Format}
+use Rattle.h26x_core.specs.Pieces.{pieces_of, piece}
+
+-- the high byte of a header with another type: F clear, the layer's highest bit kept
+abbrev pub with_type : ℕ → ℕ → ℕ
+with_type high type = type * 2 + field high 0 0
+
+-- the same with F kept
+abbrev pub with_type_and_f : ℕ → ℕ → ℕ
+with_type_and_f high type = field high 7 7 * 128 + with_type high type
+
+abbrev pub if_numbered : Bool → ℕ → ℕ
+if_numbered numbered n = if numbered then n else 0
+
+-- sets fit an aggregate: its header and number, and each set behind its length, from the second on behind a difference too
+abbrev pub sets_fit : Bool → ℕ → List (List ℕ) → Bool
+sets_fit numbered limit sets = nat_le (2 + if_numbered numbered (length sets + 1) + sum_by (λ set. 2 + length set) sets) limit
+
+-- a set behind the difference of its number, less 1, from that of the set before (DOND, 4.4.2)
+abbrev pub further : Bool → List ℕ → List ℕ
+further numbered set = (if numbered then 0 ∷ [] else []) ++ piece set
+
+-- an aggregate: the header of the unit behind the sets with type 48, the first set's number, the sets (4.4.2)
+abbrev pub sets_packet : Bool → ℕ → List (List ℕ) → List ℕ → List ℕ
+sets_packet numbered n (set ∷ sets) (high ∷ low ∷ unit) =
+    (with_type_and_f high 48 ∷ low ∷ []) ++ (if numbered then word (n % 65536) else []) ++ piece set ++ flat_map (further numbered) sets
+sets_packet numbered n sets unit = []
+
+abbrev pub flag : Bool → ℕ → ℕ
+flag b bit = if b then bit else 0
+
+-- a fragment's header: the unit's with type 49, and a byte of S, E and the unit's type (4.4.3)
+abbrev pub fragment_header : List ℕ → Bool → Bool → List ℕ
+fragment_header (high ∷ low ∷ unit) start end = with_type_and_f high 49 ∷ low ∷ (flag start 0x80 + flag end 0x40 + type_of high) ∷ []
+fragment_header unit start end = []
+
+abbrev pub unnumbered : List ℕ → List ℕ × Option ℕ
+unnumbered unit = (unit, None)
+
+-- the units of an aggregate behind the first, each behind the difference of its number and its length
+abbrev pub further_units : ℕ → ℕ → List ℕ → List (List ℕ × Option ℕ)
+further_units zero n bytes = []
+further_units (suc most) n (difference ∷ high ∷ low ∷ bytes) =
+    if nat_le (high * 256 + low) (length bytes)
+    then (take (high * 256 + low) bytes, Some ((n + difference + 1) % 65536)) ∷ further_units most ((n + difference + 1) % 65536) (drop (high * 256 + low) bytes)
+    else []
+further_units (suc most) n bytes = []
+
+abbrev pub units_from : ℕ → List ℕ → List (List ℕ × Option ℕ)
+units_from n (high ∷ low ∷ bytes) =
+    if nat_le (high * 256 + low) (length bytes)
+    then (take (high * 256 + low) bytes, Some n) ∷ further_units (length bytes) n (drop (high * 256 + low) bytes)
+    else []
+units_from n bytes = []
+
+abbrev pub two_or_more : List (List ℕ × Option ℕ) → Reading
+two_or_more (first ∷ second ∷ units) = Aggregate (first ∷ second ∷ units)
+two_or_more units = Refused ErrShortPacket
+
+abbrev pub aggregate_of : Bool → List ℕ → Reading
+aggregate_of false bytes = two_or_more (map unnumbered (pieces_of bytes).whole)
+aggregate_of true (high ∷ low ∷ bytes) = two_or_more (units_from (high * 256 + low) bytes)
+aggregate_of true bytes = Refused ErrShortPacket
+
+abbrev pub single_of : Bool → ℕ → ℕ → List ℕ → Reading
+single_of false high low body = Single (high ∷ low ∷ body) None
+single_of true high low (d ∷ e ∷ b ∷ body) = Single (high ∷ low ∷ b ∷ body) (Some (d * 256 + e))
+single_of true high low body = Refused ErrShortPacket
+
+abbrev pub fragment_of : Bool → Bool → ℕ → ℕ → ℕ → List ℕ → Reading
+fragment_of true true high low fu (d ∷ e ∷ b ∷ body) = Fragment true (is_set fu 6) (with_type high (field fu 5 0) ∷ low ∷ []) (Some (d * 256 + e)) (b ∷ body)
+fragment_of true true high low fu body = Refused ErrShortPacket
+fragment_of numbered start high low fu (b ∷ body) = Fragment start (is_set fu 6) (with_type high (field fu 5 0) ∷ low ∷ []) None (b ∷ body)
+fragment_of numbered start high low fu body = Refused ErrShortPacket
+
+-- the header that a PACI packet stands for: A as F, cType, and the packet's layer and temporal id (4.4.4; ours)
+abbrev pub paci_head : ℕ → ℕ → ℕ → List ℕ
+paci_head high low fields = (field fields 15 15 * 128 + with_type high (field fields 14 9)) ∷ low ∷ []
+
+abbrev pub paci_behind : ℕ → ℕ → ℕ → List ℕ → List ℕ → Reading
+paci_behind high low fields extension [] = Refused ErrShortPacket
+paci_behind high low fields extension (b ∷ body) = Paci (paci_head high low fields) fields extension (b ∷ body)
+
+abbrev pub paci_of : ℕ → ℕ → List ℕ → Reading
+paci_of high low (a ∷ b ∷ bytes) = paci_behind high low (a * 256 + b) (take (field (a * 256 + b) 8 4) bytes) (drop (field (a * 256 + b) 8 4) bytes)
+paci_of high low bytes = Refused ErrShortPacket
+
+-- the same as the relation `IsReading` of the file beside this one, computed
+abbrev pub read : Bool → List ℕ → Reading
+read numbered (high ∷ low ∷ b ∷ body) =
+    if is_set high 7 then Refused ErrH265CorruptedPacket
+    else if type_of high == 48 then aggregate_of numbered (b ∷ body)
+    else if type_of high == 49 then fragment_of numbered (is_set b 7) high low b body
+    else if type_of high == 50 then paci_of high low (b ∷ body)
+    else single_of numbered high low (b ∷ body)
+read numbered packet = Refused ErrShortPacket
+
+-- a unit of three bytes or more with F clear and a type of its own
+abbrev pub carries : List ℕ → Bool
+carries (high ∷ low ∷ b ∷ unit) = nat_lt high 0x80 && (nat_lt (type_of high) 48 || nat_lt 50 (type_of high))
+carries unit = false
+
+abbrev pub has_key : CodecExtra → Bool
+has_key (extras.H265 extra) = extra.is_keyframe
+has_key extra = false
+
+-- Whether a key unit is known to stand in a packet, or to begin in it; numbers are not accounted for (the crate's rule).
+abbrev pub detects_fragment : List ℕ → Bool
+detects_fragment [] = false
+detects_fragment (fu ∷ body) = is_set fu 7 && is_key_type (field fu 5 0)
+
+abbrev pub detects : List ℕ → Bool
+detects (high ∷ low ∷ rest) =
+    if type_of high == 48 then list_any is_key (take_while (λ unit. nat_le 2 (length unit)) (pieces_of rest).whole)
+    else if type_of high == 49 then detects_fragment rest
+    else is_key_type (type_of high)
+detects packet = false
+
+abbrev pub h265 : Bool → Format
+h265 numbered = record {
+  units = units_of All;
+  kind = kind;
+  is_key = is_key;
+  limit = λ mtu. min mtu 1200;
+  least_mtu = 4;
+  header_len = 2;
+  numbered = numbered;
+  sets_fit = sets_fit numbered;
+  sets_go_alone = true;
+  sets_packet = sets_packet numbered;
+  fragment_header = fragment_header;
+  read = read numbered;
+  carries = carries;
+  extra = λ key. extras.H265 (record { is_keyframe = key });
+  has_key = has_key;
+  detects = detects;
+}

@@ -1,0 +1,2 @@
+pub mod H265
+pub mod Reading

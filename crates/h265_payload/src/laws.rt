@@ -1,0 +1,39 @@
+//! Laws of the H.265 payload format. Each is the contract of a function without a result.
+
+ghost use Rattle.std.specs.Prelude.{◌≡◌, ◌≤◌, true, false, ℕ, Bool, List};
+ghost use Rattle.h26x_core.specs.Reading.{Reading};
+ghost use Rattle.h26x_core.specs.Plan.{is_dropped};
+ghost use Rattle.h26x_core.specs.Rival.{TakesFewestFragments};
+ghost use Rattle.h26x_core.specs.Loss.{LossStaysWithin};
+ghost use Rattle.h26x_core.specs.Facts.{HeadersTakeRoom, ReadsWhatItWrites, FitsLimits, SetsLeaveRoom, ExtraTells, KnowsKeyUnits, KeyUnitsAreOther};
+ghost use Rattle.h265_payload.specs.H265.{h265, read};
+ghost use Rattle.h265_payload.specs.Reading.{IsReading};
+
+/// A packet has one reading, and `read` finds it.
+pub fn one_reading()
+    ensures is { (numbered : Bool) (packet : List ℕ) → IsReading numbered packet (read numbered packet) }
+    ensures only { (numbered : Bool) (packet : List ℕ) (reading : Reading) → IsReading numbered packet reading → read numbered packet ≡ reading }
+{}
+
+/// The format meets the facts on which the laws of every format stand.
+pub fn meets_the_facts()
+    ensures headers { (numbered : Bool) → HeadersTakeRoom (h265 numbered) }
+    ensures reads { (numbered : Bool) → ReadsWhatItWrites (h265 numbered) }
+    ensures limits { (numbered : Bool) → FitsLimits (h265 numbered) }
+    ensures sets { (numbered : Bool) → SetsLeaveRoom (h265 numbered) }
+    ensures extra { (numbered : Bool) → ExtraTells (h265 numbered) }
+    ensures detects { (numbered : Bool) → KnowsKeyUnits (h265 numbered) }
+    ensures other { (numbered : Bool) → KeyUnitsAreOther (h265 numbered) }
+{}
+
+/// From limit 4 on, 6 with numbers, only sets are dropped for size.
+pub fn only_sets_are_dropped()
+    ensures plain { (limit : ℕ) (unit : List ℕ) → 4 ≤ limit → is_dropped (h265 false) limit unit ≡ false }
+    ensures numbered { (limit : ℕ) (unit : List ℕ) → 6 ≤ limit → is_dropped (h265 true) limit unit ≡ false }
+{}
+
+/// A unit takes the fewest fragments that there could be, and a lost packet hurts no item but its own.
+pub fn fewest_fragments_and_least_loss()
+    ensures fewest { (numbered : Bool) → TakesFewestFragments (h265 numbered) }
+    ensures loss { (numbered : Bool) → LossStaysWithin (h265 numbered) }
+{}
