@@ -7,7 +7,7 @@ use Rattle.h26x_core.specs.Text.{is_not_empty}
 use Rattle.h26x_core.specs.H264Unit.{type_of}
 use Rattle.h26x_core.specs.Reading.{Reading, Single, Aggregate}
 use Rattle.h26x_core.specs.Pieces.{ArePieces, HasNoPiece, Pieces, pieces_of}
-use Rattle.h26x_core.proofs.PieceLemmas.{pieces_are, pieces_short, pieces_stop, only_pieces}
+use Rattle.h26x_core.proofs.PieceLemmas.{pieces_are, pieces_short, pieces_stop, only_pieces, none_past}
 use Rattle.h264_payload.specs.H264.{read, unnumbered, stap_of, aggregate_of, fragment_of}
 use Rattle.h264_payload.specs.Reading.{IsReading, IsEmpty, IsUnit, IsStap, IsCutStap, IsFragment, IsShortFragment, IsOtherType}
 use Rattle.h264_payload.proofs.HeaderLemmas.{unit_is_read, stap_is_read, fragment_is_read, other_is_read}
@@ -21,11 +21,6 @@ passes_end high low left none = elim (cases_lt (length left) (high * 256 + low))
       let l = length-take n left in
       absurd (none high low (take n left) (drop n left) (ap (λ (x : List ℕ). high ∷ low ∷ x) (sym (take-append-drop n left))) (omega (arith, l)))
 ]
-
--- and one that passes the end begins none
-none_past : (high low : ℕ) (left : List ℕ) → length left < high * 256 + low → HasNoPiece (high ∷ low ∷ left)
-none_past high low left past =
-    subst HasNoPiece (ap (λ (p : Pieces). p.left) (pieces_stop (high ∷ low ∷ left) (high * 256 + low) (omega arith) refl past)) (pieces_are (high ∷ low ∷ left)).1
 
 -- nor does one byte, or none
 none_in_one : (left : List ℕ) → length left ≤ 1 → HasNoPiece left

@@ -8,16 +8,8 @@ use Rattle.std.proofs.lemmas.List.Sums.{sum_by-cons}
 use Rattle.h26x_core.specs.Text.{is_not_empty}
 use Rattle.h26x_core.specs.Pieces.{piece}
 use Rattle.h26x_core.specs.Facts.{AreCarried}
+use Rattle.h26x_core.proofs.PieceLemmas.{pieces_long}
 use Rattle.h264_payload.specs.H264.{h264, sets_fit}
-
--- the bytes of sets behind their lengths
-pieces_long : (sets : List (List ℕ)) → length (flat_map piece sets) ≡ sum_by (λ set. 2 + length set) sets
-pieces_long [] = refl
-pieces_long (set ∷ sets) =
-    let h = pieces_long sets in
-    let l = length-append set (flat_map piece sets) in
-    let s = sum_by-cons (λ (x : List ℕ). 2 + length x) set sets in
-    omega (arith, h, l, s)
 
 -- sets that are tested to be shorter than 65536 bytes are
 sets_short : (sets : List (List ℕ)) → list_all (λ set. nat_lt (length set) 65536) sets ≡ true → AllByRecursion (λ set. length set < 65536) sets

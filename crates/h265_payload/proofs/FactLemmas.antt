@@ -11,8 +11,9 @@ use Rattle.h26x_core.specs.Packets.{single}
 use Rattle.h26x_core.specs.Pieces.{pieces_of}
 use Rattle.h26x_core.specs.Facts.{HeadersTakeRoom, ReadsWhatItWrites, FitsLimits, SetsLeaveRoom, ExtraTells, KnowsKeyUnits, KeyUnitsAreOther}
 use Rattle.h26x_core.proofs.PieceLemmas.{pieces_back}
+use Rattle.h26x_core.proofs.TestLemmas.{both_true}
 use Rattle.h265_payload.specs.H265.{h265, carries, read, fragment_header, fragment_of, aggregate_of, single_of, paci_of, paci_behind, two_or_more, units_from, unnumbered, sets_fit, sets_packet, detects}
-use Rattle.h265_payload.proofs.HeaderLemmas.{of_carried, fragment_bytes, both_true}
+use Rattle.h265_payload.proofs.HeaderLemmas.{of_carried, fragment_bytes}
 use Rattle.h265_payload.proofs.ReadBackLemmas.{carried_long, single_back, fragment_back}
 use Rattle.h265_payload.proofs.SetsLemmas.{fit_within, sets_short, sets_within, sets_back, room_of-cons}
 
@@ -32,12 +33,14 @@ two_has_room numbered n [] = tt
 two_has_room numbered n (first ∷ []) = tt
 two_has_room numbered n (first ∷ second ∷ units) = tt
 
+-- an aggregate is no fragment
 aggregate_has_room : (numbered : Bool) (n : ℕ) (bytes : List ℕ) → HasRoom numbered n (aggregate_of numbered bytes)
 aggregate_has_room false n bytes = two_has_room false n (map unnumbered (pieces_of bytes).whole)
 aggregate_has_room true n [] = tt
 aggregate_has_room true n (high ∷ []) = tt
 aggregate_has_room true n (high ∷ low ∷ bytes) = two_has_room true n (units_from (high * 256 + low) bytes)
 
+-- a single unit is no fragment
 single_has_room : (numbered : Bool) (n high low : ℕ) (rest : List ℕ) → HasRoom numbered n (single_of numbered high low rest)
 single_has_room false n high low rest = tt
 single_has_room true n high low [] = tt
@@ -45,10 +48,12 @@ single_has_room true n high low (d ∷ []) = tt
 single_has_room true n high low (d ∷ e ∷ []) = tt
 single_has_room true n high low (d ∷ e ∷ b ∷ rest) = tt
 
+-- what stands behind the fields of a PACI makes no fragment
 behind_has_room : (numbered : Bool) (n high low fields : ℕ) (extension rest : List ℕ) → HasRoom numbered n (paci_behind high low fields extension rest)
 behind_has_room numbered n high low fields extension [] = tt
 behind_has_room numbered n high low fields extension (b ∷ rest) = tt
 
+-- a PACI is no fragment
 paci_has_room : (numbered : Bool) (n high low : ℕ) (rest : List ℕ) → HasRoom numbered n (paci_of high low rest)
 paci_has_room numbered n high low [] = tt
 paci_has_room numbered n high low (a ∷ []) = tt

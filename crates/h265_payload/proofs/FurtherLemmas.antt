@@ -5,22 +5,17 @@ use Rattle.std.proofs.lemmas.List.{take_at, drop_at, length-drop, length-take, t
 use Rattle.std.proofs.lemmas.Bool.Decides.{nat_tests}
 use Rattle.h265_payload.specs.H265.{further_units}
 use Rattle.h265_payload.specs.Reading.{AreFurther, HasNoFurther}
-
--- a length that a list has is within the list and what is behind it
-pub enough : (n : ℕ) (xs ys : List ℕ) → length xs ≡ n → nat_le n (length (xs ++ ys)) ≡ true
-enough n xs ys e = let l = length-append xs ys in let h : n ≤ length (xs ++ ys) = omega (arith, l, e) in grind (arith, nat_tests)
-
--- a list is its first bytes and those behind them
-pub split_at : (n : ℕ) (bytes : List ℕ) → n ≤ length bytes → (bytes ≡ take n bytes ++ drop n bytes) × (n ≡ length (take n bytes))
-split_at n bytes h = (sym (take-append-drop n bytes), let e = length-take n bytes in omega (arith, e))
+use Rattle.h26x_core.proofs.PieceLemmas.{enough, split_at}
 
 -- fewer than three bytes begin no unit
 none_of_none : HasNoFurther []
 none_of_none difference high low piece behind same long = cc
 
+-- one byte begins no further unit
 none_of_one : (x : ℕ) → HasNoFurther (x ∷ [])
 none_of_one x difference high low piece behind same long = cc
 
+-- nor do two bytes
 none_of_two : (x y : ℕ) → HasNoFurther (x ∷ y ∷ [])
 none_of_two x y difference high low piece behind same long = cc
 

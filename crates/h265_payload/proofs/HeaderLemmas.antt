@@ -8,36 +8,9 @@ use Rattle.std.proofs.lemmas.List.Folds.{list_all_at}
 use Rattle.std.proofs.lemmas.List.FromFn.{length-range_with_len, get_or-range_with_len}
 use Rattle.h26x_core.specs.Word.{field, is_set}
 use Rattle.h26x_core.specs.H265Unit.{type_of}
+use Rattle.h26x_core.proofs.TestLemmas.{both_true, same_bool, same_bool_is, test_below}
 use Rattle.h265_payload.specs.H265.{with_type, with_type_and_f, flag, carries}
 use Rattle.h265_payload.specs.Reading.{IsUnitType}
-
--- both of two tests that hold together hold
-pub both_true : (a b : Bool) → (a && b) ≡ true → (a ≡ true) × (b ≡ true)
-both_true true b e = (refl, e)
-both_true false b e = absurd cc
-
--- whether two tests agree
-same_bool : Bool → Bool → Bool
-same_bool true b = b
-same_bool false true = false
-same_bool false false = true
-
-same_bool_is : (a b : Bool) → same_bool a b ≡ true → a ≡ b
-unfolding same_bool
-same_bool_is true true e = refl
-same_bool_is true false e = absurd cc
-same_bool_is false true e = absurd cc
-same_bool_is false false e = refl
-
--- a test that holds in a table holds of each number below its length
-test_below : (n : ℕ) (p : ℕ → Bool) → list_all p (range_with_len 0 n) ≡ true → (b : ℕ) → b < n → p b ≡ true
-test_below n p h b lt = elim (p b) as (λ t. p b ≡ t → t ≡ true) [
-  | true ↦ λ _. refl
-  | false ↦ λ e.
-      let long : b < length (range_with_len 0 n) = rw length-range_with_len lt in
-      let here : p (get_or (range_with_len 0 n) b 0) ≡ false = rw (get_or-range_with_len 0 n b 0 lt, zero-add b) e in
-      let no = list_all_at p (range_with_len 0 n) b 0 long here in cc
-] refl
 
 -- the byte behind a fragment's header
 abbrev pub fu : Bool → Bool → ℕ → ℕ
@@ -52,6 +25,7 @@ fragment_table start end b =
     && (same_bool (is_set (fu start end b) 7) start
     && (same_bool (is_set (fu start end b) 6) end && field (fu start end b) 5 0 == type_of b))))
 
+-- the table of fragment headers holds
 fragment_table_holds : (start end : Bool) (b : ℕ) → b < 128 → fragment_table start end b ≡ true
 unfolding fragment_table same_bool
 fragment_table_holds true true b h = test_below 128 (fragment_table true true) refl b h
@@ -90,6 +64,7 @@ fragment_bytes start end b h =
 sets_table : ℕ → Bool
 sets_table b = same_bool (is_set (with_type_and_f b 48) 7) false && (type_of (with_type_and_f b 48) == 48 && same_bool (is_set b 7) false)
 
+-- the table of aggregate headers holds
 sets_table_holds : (b : ℕ) → b < 128 → sets_table b ≡ true
 unfolding sets_table same_bool
 sets_table_holds b h = test_below 128 sets_table refl b h

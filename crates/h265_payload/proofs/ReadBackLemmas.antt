@@ -7,13 +7,9 @@ use Rattle.h26x_core.specs.Reading.{Single, Fragment}
 use Rattle.h26x_core.specs.Format.{number}
 use Rattle.h26x_core.specs.Packets.{single}
 use Rattle.h26x_core.specs.Number.{number_borne}
-use Rattle.h26x_core.proofs.PieceLemmas.{word_back}
+use Rattle.h26x_core.proofs.PieceLemmas.{number_back}
 use Rattle.h265_payload.specs.H265.{h265, carries, fragment_header, fragment_of, with_type, with_type_and_f, read}
 use Rattle.h265_payload.proofs.HeaderLemmas.{CarriedBytes, of_carried, fu, fragment_bytes}
-
--- a number that two bytes hold is read from them
-pub number_back : (n : ℕ) → n % 65536 / 256 % 256 * 256 + n % 65536 % 256 ≡ n % 65536
-number_back n = let h = mod_below n 65536 (omega arith) in word_back (n % 65536) h
 
 -- a carried unit has three bytes or more
 pub carried_long : (unit : List ℕ) → IsTrue (carries unit) → 3 ≤ length unit

@@ -8,11 +8,11 @@ use Rattle.h26x_core.specs.H265Unit.{type_of}
 use Rattle.h26x_core.specs.Reading.{Reading, Single, Aggregate, Fragment, Paci, Refused}
 use Rattle.h26x_core.specs.declared.error.PacketError.TheVariants.{ErrShortPacket, ErrH265CorruptedPacket}
 use Rattle.h26x_core.specs.Pieces.{HasNoPiece, Pieces}
-use Rattle.h26x_core.proofs.PieceLemmas.{only_pieces}
+use Rattle.h26x_core.proofs.PieceLemmas.{only_pieces, split_at, enough}
 use Rattle.h265_payload.specs.H265.{read, with_type, unnumbered, two_or_more, aggregate_of, units_from, further_units, single_of, fragment_of, paci_of, paci_behind, paci_head}
 use Rattle.h265_payload.specs.Reading.{IsReading, IsWhole, IsUnitType, AreFurther, HasNoFurther, IsShort, IsCorrupted, IsUnit, IsNumberedUnit, IsShortUnit, IsAggregate, IsShortAggregate, IsNumberedAggregate, IsOneNumbered, IsNoneNumbered, IsWithoutNumber, IsFragment, IsNumberedStart, IsShortFragment, IsShortStart, IsPaci, IsShortPaci, IsPaciWithoutFields}
 use Rattle.h265_payload.proofs.HeaderLemmas.{unit_type}
-use Rattle.h265_payload.proofs.FurtherLemmas.{split_at, enough, only_further}
+use Rattle.h265_payload.proofs.FurtherLemmas.{only_further}
 
 -- a packet with F clear and type 48 is read as an aggregate
 read_aggregate : (numbered : Bool) (packet : List ℕ) (high low : ℕ) (rest : List ℕ) → IsWhole packet high low rest → type_of high ≡ 48 →
@@ -67,6 +67,7 @@ two_read [] two = absurd (omega arith)
 two_read (first ∷ []) two = absurd (omega arith)
 two_read (first ∷ second ∷ units) two = refl
 
+-- one unit alone is too short
 one_read : (units : List (List ℕ × Option ℕ)) → length units ≤ 1 → two_or_more units ≡ Refused ErrShortPacket
 one_read [] one = refl
 one_read (first ∷ []) one = refl
@@ -101,6 +102,7 @@ some_fragment true false high low b (x ∷ body) n some = refl
 some_fragment false true high low b (x ∷ body) n some = refl
 some_fragment false false high low b (x ∷ body) n some = refl
 
+-- without data a fragment is too short
 no_fragment : (numbered start : Bool) (high low b : ℕ) → (numbered && start) ≡ false → fragment_of numbered start high low b [] ≡ Refused ErrShortPacket
 no_fragment true true high low b n = absurd cc
 no_fragment true false high low b n = refl
@@ -115,6 +117,7 @@ numbered_start true true high low b d e (x ∷ body) n some = refl
 numbered_start true false high low b d e (x ∷ body) n some = absurd cc
 numbered_start false start high low b d e (x ∷ body) n some = absurd cc
 
+-- a numbered start without data is too short
 short_start : (numbered start : Bool) (high low b : ℕ) (body : List ℕ) → (numbered && start) ≡ true → length body ≤ 2 →
     fragment_of numbered start high low b body ≡ Refused ErrShortPacket
 short_start true true high low b [] n short = refl
@@ -129,15 +132,18 @@ some_behind : (high low fields : ℕ) (extension body : List ℕ) → 1 ≤ leng
 some_behind high low fields extension [] some = absurd (omega arith)
 some_behind high low fields extension (b ∷ body) some = refl
 
+-- nothing behind an extension is too short
 none_behind : (high low fields : ℕ) (extension body : List ℕ) → length body ≡ 0 → paci_behind high low fields extension body ≡ Refused ErrShortPacket
 none_behind high low fields extension [] zero_long = refl
 none_behind high low fields extension (b ∷ body) zero_long = absurd (omega arith)
 
+-- a PACI with a payload
 some_paci : (high low a b : ℕ) (extension body : List ℕ) → field (a * 256 + b) 8 4 ≡ length extension → 1 ≤ length body →
     paci_of high low (a ∷ b ∷ extension ++ body) ≡ Paci (paci_head high low (a * 256 + b)) (a * 256 + b) extension body
 some_paci high low a b extension body long some =
     rw (take_at extension body (field (a * 256 + b) 8 4) (sym long), drop_at extension body (field (a * 256 + b) 8 4) (sym long)) (some_behind high low (a * 256 + b) extension body some)
 
+-- a PACI without one is too short
 short_paci : (high low a b : ℕ) (bytes : List ℕ) → length bytes ≤ field (a * 256 + b) 8 4 → paci_of high low (a ∷ b ∷ bytes) ≡ Refused ErrShortPacket
 short_paci high low a b bytes short =
     let l = length-drop (field (a * 256 + b) 8 4) bytes in

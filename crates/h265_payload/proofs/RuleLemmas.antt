@@ -9,10 +9,10 @@ use Rattle.h26x_core.specs.H265Unit.{type_of}
 use Rattle.h26x_core.specs.Reading.{Refused}
 use Rattle.h26x_core.specs.declared.error.PacketError.TheVariants.{ErrH265CorruptedPacket}
 use Rattle.h26x_core.specs.Pieces.{ArePieces, HasNoPiece, pieces_of}
-use Rattle.h26x_core.proofs.PieceLemmas.{pieces_are, pieces_stop}
+use Rattle.h26x_core.proofs.PieceLemmas.{pieces_are, pieces_stop, split_at, none_past}
 use Rattle.h265_payload.specs.H265.{read, unnumbered, two_or_more, aggregate_of, further_units, single_of, fragment_of, paci_of, paci_behind}
 use Rattle.h265_payload.specs.Reading.{IsReading, IsWhole, IsUnitType, AreFurther, HasNoFurther, IsShort, IsCorrupted, IsUnit, IsNumberedUnit, IsShortUnit, IsAggregate, IsShortAggregate, IsNumberedAggregate, IsOneNumbered, IsNoneNumbered, IsWithoutNumber, IsFragment, IsNumberedStart, IsShortFragment, IsShortStart, IsPaci, IsShortPaci, IsPaciWithoutFields}
-use Rattle.h265_payload.proofs.FurtherLemmas.{split_at, further_are}
+use Rattle.h265_payload.proofs.FurtherLemmas.{further_are}
 
 -- a single unit
 single_is : (numbered : Bool) (packet : List ℕ) (high low : ℕ) (rest : List ℕ) → IsWhole packet high low rest → IsUnitType (type_of high) → packet ≡ high ∷ low ∷ rest →
@@ -39,12 +39,6 @@ further_is packet high low d e h l first behind left [] w t long are none = IsOn
 further_is packet high low d e h l first behind left (second ∷ further) w t long are none =
     IsNumberedAggregate high low d e h l first behind left (second ∷ further) w t refl long are none (omega arith) refl
 
--- where a length passes the end no piece stands at the beginning
-no_piece_past : (h l : ℕ) (bytes : List ℕ) → length bytes < h * 256 + l → HasNoPiece (h ∷ l ∷ bytes)
-no_piece_past h l bytes past =
-    let stop = pieces_stop (h ∷ l ∷ bytes) (h * 256 + l) (omega arith) refl past in
-    rw stop at ((pieces_are (h ∷ l ∷ bytes)).1)
-
 -- an aggregate
 aggregate_is : (numbered : Bool) (packet : List ℕ) (high low : ℕ) (rest : List ℕ) → IsWhole packet high low rest → type_of high ≡ 48 →
     IsReading numbered packet (aggregate_of numbered rest)
@@ -63,7 +57,7 @@ aggregate_is true packet high low (d ∷ e ∷ h ∷ l ∷ bytes) w t =
           let f = further_are (length bytes) (d * 256 + e) (drop k bytes) (omega (arith, len)) in
           further_is packet high low d e h l (take k bytes) (drop k bytes) f.0 (further_units (length bytes) (d * 256 + e) (drop k bytes))
           (rw (← s.0) w) t s.1 f.1 f.2
-      | false ↦ λ t_. let past : length bytes < k = grind (arith, nat_tests) in IsNoneNumbered high low d e (h ∷ l ∷ bytes) w t refl (no_piece_past h l bytes past) refl
+      | false ↦ λ t_. let past : length bytes < k = grind (arith, nat_tests) in IsNoneNumbered high low d e (h ∷ l ∷ bytes) w t refl (none_past h l bytes past) refl
     ] refl
 
 -- a fragment

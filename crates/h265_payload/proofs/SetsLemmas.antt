@@ -8,11 +8,9 @@ use Rattle.std.proofs.lemmas.Bool.Decides.{nat_tests}
 use Rattle.h26x_core.specs.Reading.{Aggregate}
 use Rattle.h26x_core.specs.Number.{numbered_from}
 use Rattle.h26x_core.specs.Pieces.{piece}
-use Rattle.h26x_core.proofs.PieceLemmas.{word_back, pieces_back}
+use Rattle.h26x_core.proofs.PieceLemmas.{word_back, pieces_back, enough, number_back}
 use Rattle.h265_payload.specs.H265.{h265, carries, read, sets_fit, sets_packet, further, further_units, units_from, unnumbered, two_or_more}
 use Rattle.h265_payload.proofs.HeaderLemmas.{CarriedBytes, of_carried}
-use Rattle.h265_payload.proofs.ReadBackLemmas.{number_back}
-use Rattle.h265_payload.proofs.FurtherLemmas.{enough}
 
 -- what sets take behind their lengths
 abbrev pub room_of : List (List ℕ) → ℕ

@@ -13,11 +13,11 @@ use Rattle.h26x_core.specs.Pieces.{piece}
 use Rattle.h26x_core.specs.Facts.{HeadersTakeRoom, ReadsWhatItWrites, FitsLimits, SetsLeaveRoom, ExtraTells, KnowsKeyUnits, KeyUnitsAreOther}
 use Rattle.h26x_core.specs.declared.error.PacketError.{PacketError}
 use Rattle.h26x_core.specs.declared.error.PacketError.TheVariants.{ErrH266CorruptedPacket}
-use Rattle.h26x_core.proofs.PieceLemmas.{pieces_back}
+use Rattle.h26x_core.proofs.PieceLemmas.{pieces_back, pieces_long}
 use Rattle.h266_payload.specs.H266.{h266, carries, sets_fit, sets_packet, fragment_header, fragment_of, single_of, aggregate_of, two_or_more, units_within, detects}
 use Rattle.h266_payload.proofs.HeaderLemmas.{pick, carried_header, fragment_bytes}
 use Rattle.h266_payload.proofs.ReadBackLemmas.{header_there, single_back, fragment_back}
-use Rattle.h266_payload.proofs.SetsLemmas.{sets_back, sets_type, pieces_long, fitting_short}
+use Rattle.h266_payload.proofs.SetsLemmas.{sets_back, sets_type, fitting_short}
 
 -- units behind their lengths are not read as a fragment
 two_no_fragment : (number : Option ℕ) (units : Result (List (List ℕ)) PacketError) (start end : Bool) (head body : List ℕ) (own : Option ℕ) →

@@ -8,40 +8,13 @@ use Rattle.std.proofs.lemmas.List.Folds.{list_all_at}
 use Rattle.std.proofs.lemmas.List.FromFn.{length-range_with_len, get_or-range_with_len}
 use Rattle.h26x_core.specs.Word.{field, is_set}
 use Rattle.h26x_core.specs.H266Unit.{type_of}
+use Rattle.h26x_core.proofs.TestLemmas.{both_true, same_bool, same_bool_is, test_below}
 use Rattle.h266_payload.specs.H266.{with_type, flag, carries}
-
--- a test that holds of all numbers below n holds of each
-test_below : (n : ℕ) (p : ℕ → Bool) → list_all p (range_with_len 0 n) ≡ true → (b : ℕ) → b < n → p b ≡ true
-test_below n p h b lt = elim (p b) as (λ t. p b ≡ t → t ≡ true) [
-  | true ↦ λ _. refl
-  | false ↦ λ e.
-      let long : b < length (range_with_len 0 n) = rw length-range_with_len lt in
-      let here : p (get_or (range_with_len 0 n) b 0) ≡ false = rw (get_or-range_with_len 0 n b 0 lt, zero-add b) e in
-      let no = list_all_at p (range_with_len 0 n) b 0 long here in cc
-] refl
-
--- two tests that hold together hold each
-pub both_true : (a b : Bool) → (a && b) ≡ true → (a ≡ true) × (b ≡ true)
-both_true true b e = (refl, e)
-both_true false b e = absurd cc
 
 -- a choice gives one of its two
 pub pick : {A : Type 0} (b : Bool) (x y r : A) → cond b x y ≡ r → (x ≡ r) ⊎ (y ≡ r)
 pick true x y r e = inl e
 pick false x y r e = inr e
-
--- whether two answers are the same
-same_bool : Bool → Bool → Bool
-same_bool true b = b
-same_bool false b = cond b false true
-
--- answers that are the same are equal
-same_bool_is : (a b : Bool) → same_bool a b ≡ true → a ≡ b
-unfolding same_bool
-same_bool_is true true e = refl
-same_bool_is true false e = absurd cc
-same_bool_is false true e = absurd cc
-same_bool_is false false e = refl
 
 -- the byte of S, E and the type that a fragment has
 fragment_byte : Bool → Bool → ℕ → ℕ

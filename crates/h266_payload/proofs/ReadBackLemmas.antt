@@ -5,13 +5,9 @@ use Rattle.h26x_core.specs.Reading.{Single, Fragment}
 use Rattle.h26x_core.specs.Format.{number}
 use Rattle.h26x_core.specs.Packets.{single}
 use Rattle.h26x_core.specs.Number.{number_borne}
-use Rattle.h26x_core.proofs.PieceLemmas.{word_back}
+use Rattle.h26x_core.proofs.PieceLemmas.{number_back}
 use Rattle.h266_payload.specs.H266.{h266, read, carries, fragment_header}
 use Rattle.h266_payload.proofs.HeaderLemmas.{carried_header, fragment_bytes}
-
--- a number's two bytes are read back
-pub number_back : (n : ℕ) → n % 65536 / 256 % 256 * 256 + n % 65536 % 256 ≡ n % 65536
-number_back n = word_back (n % 65536) (omega arith)
 
 -- a unit that packets carry has a whole header
 pub header_there : (unit : List ℕ) → IsTrue (carries unit) → 2 ≤ length unit

@@ -8,11 +8,11 @@ use Rattle.h26x_core.specs.H266Unit.{type_of}
 use Rattle.h26x_core.specs.Reading.{Reading, Single, Aggregate, Fragment, Refused}
 use Rattle.h26x_core.specs.declared.error.PacketError.{PacketError}
 use Rattle.h26x_core.specs.declared.error.PacketError.TheVariants.{ErrShortPacket, ErrH266CorruptedPacket}
+use Rattle.h26x_core.proofs.TestLemmas.{both_true}
 use Rattle.h266_payload.specs.H266.{read, numbered_on, two_or_more, units_within, aggregate_of, fragment_of, single_of, with_type}
 use Rattle.h266_payload.specs.Reading.{IsReading, IsWhole, IsUnitType, IsBehind, IsPlain, IsNumbered}
 use Rattle.h266_payload.specs.Reading.{IsShort, IsCorrupted, IsUnit, IsNumberedUnit, IsShortUnit}
 use Rattle.h266_payload.specs.Reading.{IsAggregate, IsShortAggregate, IsCutAggregate, IsCorruptedAggregate, IsWithoutNumber, IsFragment, IsNumberedStart, IsShortStart}
-use Rattle.h266_payload.proofs.HeaderLemmas.{both_true}
 use Rattle.h266_payload.proofs.SetsLemmas.{aggregate_read}
 use Rattle.h266_payload.proofs.WithinLemmas.{IsFound, ToTheEnd, ToACut, ToAForbidden, found_within, only_found}
 

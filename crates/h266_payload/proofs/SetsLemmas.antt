@@ -11,21 +11,12 @@ use Rattle.h26x_core.specs.Format.{number}
 use Rattle.h26x_core.specs.Number.{numbered_from}
 use Rattle.h26x_core.specs.Pieces.{piece}
 use Rattle.h26x_core.specs.Facts.{AreCarried}
-use Rattle.h26x_core.proofs.PieceLemmas.{word_back}
+use Rattle.h26x_core.proofs.PieceLemmas.{word_back, number_back, pieces_long}
 use Rattle.h266_payload.specs.H266.{h266, read, carries, sets_fit, sets_packet, forbidden_of, layer_of, temporal_of, least}
 use Rattle.h266_payload.specs.H266.{is_forbidden, with_unit, units_within, numbered_on, two_or_more, aggregate_of}
 use Rattle.h266_payload.proofs.HeaderLemmas.{carried_header, aggregate_type}
 use Rattle.h266_payload.proofs.WithinLemmas.{unit_within}
-use Rattle.h266_payload.proofs.ReadBackLemmas.{header_there, number_back}
-
--- sets behind their lengths are as long as they are counted
-pub pieces_long : (sets : List (List ℕ)) → length (flat_map piece sets) ≡ sum_by (λ set. 2 + length set) sets
-pieces_long [] = refl
-pieces_long (set ∷ sets) =
-    let h = pieces_long sets in
-    let l : length (set ++ flat_map piece sets) ≡ length set + length (flat_map piece sets) = length-append set (flat_map piece sets) in
-    let s : sum_by (λ (x : List ℕ). 2 + length x) (set ∷ sets) ≡ (2 + length set) + sum_by (λ (x : List ℕ). 2 + length x) sets = sum_by-cons (λ (x : List ℕ). 2 + length x) set sets in
-    omega (arith, h, l, s)
+use Rattle.h266_payload.proofs.ReadBackLemmas.{header_there}
 
 -- where units behind their lengths are shorter than a bound together, each unit is
 each_short : (most : ℕ) (sets : List (List ℕ)) → length (flat_map piece sets) < most → AllByRecursion (λ set. length set < most) sets

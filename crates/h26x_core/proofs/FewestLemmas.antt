@@ -1,33 +1,28 @@
--- A unit that is fragmented takes the fewest fragments.
-use Rattle.std.proofs.Common.{◌≡◌, ℕ, zero, suc, ◌+◌, ◌-◌, ◌*◌, ◌/◌, ◌<◌, ◌≤◌, Bool, true, false, cond, nat_le, List, [], ◌∷◌, ◌++◌, length, drop, Option, refl, sym, ap, ◌∙◌, subst, arith, length-append}
+-- A unit that is fragmented takes the fewest fragments that there could be.
+use Rattle.std.proofs.Common.{◌≡◌, ℕ, ◌+◌, ◌-◌, ◌*◌, ◌/◌, ◌<◌, ◌≤◌, true, false, nat_le, List, [], ◌∷◌, length, refl, ap, ◌∙◌, arith, length-append}
 use Rattle.std.specs.List.{AllByRecursion, flat_map}
 use Rattle.std.proofs.lemmas.Nat.{div_below}
-use Rattle.std.proofs.lemmas.Bool.Decides.{nat_tests}
-use Rattle.std.proofs.Math.Nat.{mul-le-mul_left}
+use Rattle.std.proofs.lemmas.Bool.{leb-false}
 use Rattle.std.proofs.lemmas.List.{length-drop}
-use Rattle.h26x_core.specs.Reading.{Reading, Single, Aggregate, Fragment, Paci, Refused, IsFragment, body_of}
+use Rattle.h26x_core.specs.Reading.{Reading, Fragment, IsFragment, body_of}
 use Rattle.h26x_core.specs.Format.{Format, fragment_header_len, number_len}
 use Rattle.h26x_core.specs.Plan.{fits, is_dropped}
-use Rattle.h26x_core.specs.Packets.{fragment_count, room, pieces_needed}
-use Rattle.h26x_core.specs.Rival.{IsStart, FirstStarts, IsRival, TakesFewestFragments}
+use Rattle.h26x_core.specs.Packets.{room, pieces_needed}
+use Rattle.h26x_core.specs.Rival.{IsStart, FirstStarts, TakesFewestFragments}
 use Rattle.h26x_core.specs.Facts.{HeadersTakeRoom}
 
-body_fits : (f : Format) (packet : List ℕ) (reading : Reading) → HeadersTakeRoom f → f.read packet ≡ reading → IsFragment reading → length (body_of reading) + fragment_header_len f ≤ length packet
+-- a fragment is longer than its data by its headers at least, and by a number too where it starts
+body_fits : (f : Format) (packet : List ℕ) (reading : Reading) → HeadersTakeRoom f → f.read packet ≡ reading → IsFragment reading →
+    length (body_of reading) + fragment_header_len f ≤ length packet
 body_fits f packet (Fragment start end head number body) takes e is = omega (arith, takes packet head body start end number e)
-body_fits f packet (Single unit number) takes e is = absurd is
-body_fits f packet (Aggregate units) takes e is = absurd is
-body_fits f packet (Paci head word extension body) takes e is = absurd is
-body_fits f packet (Refused error) takes e is = absurd is
+body_fits f packet reading takes e is = absurd is
 
-start_fits : (f : Format) (packet : List ℕ) (reading : Reading) → HeadersTakeRoom f → f.read packet ≡ reading → IsStart reading → length (body_of reading) + (fragment_header_len f + number_len f) ≤ length packet
+start_fits : (f : Format) (packet : List ℕ) (reading : Reading) → HeadersTakeRoom f → f.read packet ≡ reading → IsStart reading →
+    length (body_of reading) + (fragment_header_len f + number_len f) ≤ length packet
 start_fits f packet (Fragment true end head number body) takes e is = takes packet head body true end number e
-start_fits f packet (Fragment false end head number body) takes e is = absurd is
-start_fits f packet (Single unit number) takes e is = absurd is
-start_fits f packet (Aggregate units) takes e is = absurd is
-start_fits f packet (Paci head word extension body) takes e is = absurd is
-start_fits f packet (Refused error) takes e is = absurd is
+start_fits f packet reading takes e is = absurd is
 
--- packets within the limit carry at most so much
+-- the data of fragments within the limit take at most the room of each
 carried : (f : Format) (limit : ℕ) (packets : List (List ℕ)) → HeadersTakeRoom f →
     AllByRecursion (λ packet. length packet ≤ limit) packets → AllByRecursion (λ packet. IsFragment (f.read packet)) packets →
     length (flat_map (λ packet. body_of (f.read packet)) packets) ≤ length packets * room f limit
@@ -38,28 +33,36 @@ carried f limit (packet ∷ packets) takes within each =
     let few = within.0 in
     simp length-append (omega arith)
 
+-- what k pieces can hold needs at most k pieces
 pub needed_le : (x c k : ℕ) → 0 < c → x ≤ k * c → pieces_needed c x ≤ k
 needed_le x c k pos h = let b : (x + (c - 1)) / c < k + 1 = div_below (x + (c - 1)) c (k + 1) pos (omega arith) in omega arith
 
+-- where a number is not at most another, it is greater
 pub not_le : (m n : ℕ) → nat_le m n ≡ false → n < m
-not_le m n h = grind (arith, nat_tests)
+not_le m n h = leb-false m n h
 
-pub has_room : (f : Format) (limit : ℕ) (unit : List ℕ) → fits f limit unit ≡ false → is_dropped f limit unit ≡ false → fragment_header_len f + number_len f < limit
+-- where a unit is fragmented, a fragment with a number has room for data
+pub has_room : (f : Format) (limit : ℕ) (unit : List ℕ) → fits f limit unit ≡ false → is_dropped f limit unit ≡ false →
+    fragment_header_len f + number_len f < limit
 has_room f limit unit unfit kept = not_le limit (fragment_header_len f + number_len f) (rw unfit at kept)
 
+-- where the first of them starts, a number and their data take at most the room of each
 carried_all : (f : Format) (limit : ℕ) (packets : List (List ℕ)) → HeadersTakeRoom f → fragment_header_len f + number_len f < limit →
     AllByRecursion (λ packet. length packet ≤ limit) packets → AllByRecursion (λ packet. IsFragment (f.read packet)) packets → FirstStarts f packets →
     number_len f + length (flat_map (λ packet. body_of (f.read packet)) packets) ≤ length packets * room f limit
 carried_all f limit [] takes large within each first = absurd first
 carried_all f limit (packet ∷ packets) takes large within each first =
-    let here : length (body_of (f.read packet)) + (fragment_header_len f + number_len f) ≤ length packet = start_fits f packet (f.read packet) takes refl first in
+    let here : length (body_of (f.read packet)) + (fragment_header_len f + number_len f) ≤ length packet =
+        start_fits f packet (f.read packet) takes refl first in
     let later = carried f limit packets takes within.1 each.1 in
     let few = within.0 in
     simp length-append (omega arith)
 
+-- no rival of a unit that is fragmented has fewer packets than the packetizer
 pub takes_fewest : (f : Format) → HeadersTakeRoom f → TakesFewestFragments f
 takes_fewest f takes limit unit packets unfit kept rival =
     let large = has_room f limit unit unfit kept in
     let all = carried_all f limit packets takes large rival.within rival.each rival.first in
-    let whole : length (flat_map (λ packet. body_of (f.read packet)) packets) ≡ length unit - f.header_len = ap length rival.joined ∙ length-drop f.header_len unit in
+    let whole : length (flat_map (λ packet. body_of (f.read packet)) packets) ≡ length unit - f.header_len =
+        ap length rival.joined ∙ length-drop f.header_len unit in
     needed_le (number_len f + (length unit - f.header_len)) (room f limit) (length packets) (omega arith) (omega arith)

@@ -1,3 +1,4 @@
+pub mod TestLemmas
 pub mod PlanLemmas
 pub mod GroupLemmas
 pub mod AgainLemmas

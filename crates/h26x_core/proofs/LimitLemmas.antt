@@ -1,5 +1,5 @@
--- No packet passes its limit.
-use Rattle.std.proofs.Common.{◌≡◌, ℕ, ◌+◌, ◌-◌, ◌*◌, ◌%◌, ◌≤◌, ◌<◌, Bool, true, false, cond, List, [], ◌∷◌, ◌++◌, refl, sym, ap, ◌∙◌, length, length-append, take, drop, map, arith, min}
+-- No packet of a plan is longer than the limit of the call that sends it.
+use Rattle.std.proofs.Common.{◌≡◌, ℕ, ◌+◌, ◌-◌, ◌*◌, ◌%◌, ◌≤◌, true, false, cond, List, [], ◌∷◌, ◌++◌, refl, ap, ◌∙◌, length, length-append, take, drop, map, arith, min}
 use Rattle.std.specs.Prelude.{filter, nat_le, ◌==◌}
 use Rattle.std.specs.List.{AllByRecursion, range_with_len, flat_map}
 use Rattle.std.proofs.lemmas.List.{length-drop, length-take}
@@ -8,93 +8,122 @@ use Rattle.h26x_core.specs.Word.{word}
 use Rattle.h26x_core.specs.Kind.{is_other}
 use Rattle.h26x_core.specs.Format.{Format, number, number_len, fragment_header_len}
 use Rattle.h26x_core.specs.Group.{Entry, Group, split, sets_of}
-use Rattle.h26x_core.specs.Plan.{Item, Alone, Together, fits, is_dropped, items_alone, item_of, items_of_sets, items_of_group, plan}
-use Rattle.h26x_core.specs.Packets.{single, room, fragmented, fragment_count, fragment, fragments, packets_of_item}
+use Rattle.h26x_core.specs.Plan.{Alone, Together, fits, is_dropped, items_alone, item_of, items_of_sets, items_of_group, plan}
+use Rattle.h26x_core.specs.Packets.{single, room, fragmented, fragment_count, fragment, fragments}
 use Rattle.h26x_core.specs.Limit.{AreWithin, ItemIsWithin}
 use Rattle.h26x_core.specs.Facts.{FitsLimits}
 
+-- what holds of each element of two lists holds of each of both together
 pub all_both : {A : Type 0} (P : A → Type 0) (xs ys : List A) → AllByRecursion P xs → AllByRecursion P ys → AllByRecursion P (xs ++ ys)
 all_both P [] ys a b = b
 all_both P (x ∷ xs) ys (here, later) b = (here, all_both P xs ys later b)
 
+-- what holds of each image holds of each element of a mapped list
 all_mapped : {A B : Type 0} (P : B → Type 0) (g : A → B) (xs : List A) → ((x : A) → P (g x)) → AllByRecursion P (map g xs)
 all_mapped P g [] each = tt
 all_mapped P g (x ∷ xs) each = (each x, all_mapped P g xs each)
 
-pub all_joined : {A B : Type 0} (P : B → Type 0) (g : A → List B) (xs : List A) → ((x : A) → AllByRecursion P (g x)) → AllByRecursion P (flat_map g xs)
+-- what holds of each element of each part holds of each of the parts together
+pub all_joined : {A B : Type 0} (P : B → Type 0) (g : A → List B) (xs : List A) → ((x : A) → AllByRecursion P (g x)) →
+    AllByRecursion P (flat_map g xs)
 all_joined P g [] each = tt
 all_joined P g (x ∷ xs) each = all_both P (g x) (flat_map g xs) (each x) (all_joined P g xs each)
 
-number_long : (f : Format) (n : ℕ) → length (number f n) ≡ number_len f
+-- a number has as many bytes as it is counted with
+pub number_long : (f : Format) (n : ℕ) → length (number f n) ≡ number_len f
 number_long f n = elim f.numbered as (λ b. length (cond b (word (n % 65536)) []) ≡ cond b 2 0) [ true ↦ refl | false ↦ refl ]
 
-parts : (s h u k : ℕ) → s ≡ (min h u + k) + (u - h) → s ≤ u + k
-parts s h u k e = omega arith
+-- the header, a number and the unit without its header are no longer than the unit and the number
+sum_of_parts : (s h u k : ℕ) → s ≡ (min h u + k) + (u - h) → s ≤ u + k
+sum_of_parts s h u k e = omega arith
 
+-- a unit that is sent whole has its own bytes and those of its number at most
 single_long : (f : Format) (n : ℕ) (unit : List ℕ) → length (single f n unit) ≤ length unit + number_len f
 single_long f n unit =
-    let a : length (single f n unit) ≡ (length (take f.header_len unit) + length (number f n)) + length (drop f.header_len unit) =
-    length-append (take f.header_len unit ++ number f n) (drop f.header_len unit) ∙ ap (λ k. k + length (drop f.header_len unit)) (length-append (take f.header_len unit) (number f n)) in
-    let b : length (take f.header_len unit) ≡ min f.header_len (length unit) = length-take f.header_len unit in
-    let d : length (drop f.header_len unit) ≡ length unit - f.header_len = length-drop f.header_len unit in
-    let e : length (number f n) ≡ number_len f = number_long f n in
-    let g : length (single f n unit) ≡ (min f.header_len (length unit) + number_len f) + (length unit - f.header_len) = a ∙ ap (λ k. (k + length (number f n)) + length (drop f.header_len unit)) b ∙ ap (λ k. (min f.header_len (length unit) + k) + length (drop f.header_len unit)) e ∙ ap (λ k. (min f.header_len (length unit) + number_len f) + k) d in
-    parts (length (single f n unit)) f.header_len (length unit) (number_len f) g
+    let head = take f.header_len unit in let behind = drop f.header_len unit in
+    let whole : length (single f n unit) ≡ (length head + length (number f n)) + length behind =
+        length-append (head ++ number f n) behind ∙ ap (λ k. k + length behind) (length-append head (number f n)) in
+    sum_of_parts (length (single f n unit)) f.header_len (length unit) (number_len f)
+        (whole ∙ rw (length-take, length-drop, number_long f n) refl)
 
-fragment_long : (f : Format) → FitsLimits f → (n limit : ℕ) (unit : List ℕ) (j : ℕ) → fragment_header_len f ≤ limit → length (fragment f n limit unit j) ≤ limit
+-- a fragment is no longer than the limit
+fragment_long : (f : Format) → FitsLimits f → (n limit : ℕ) (unit : List ℕ) (j : ℕ) → fragment_header_len f ≤ limit →
+    length (fragment f n limit unit j) ≤ limit
 fragment_long f ok n limit unit j enough =
-    let a = length-append (f.fragment_header unit (j == 0) (j + 1 == fragment_count f limit unit)) (take (room f limit) (drop (j * room f limit) (fragmented f n unit))) in
-    let b = length-take (room f limit) (drop (j * room f limit) (fragmented f n unit)) in
-    let h = ok.header unit (j == 0) (j + 1 == fragment_count f limit unit) in
-    omega (arith, a, b, h)
+    let last = j + 1 == fragment_count f limit unit in
+    let behind = drop (j * room f limit) (fragmented f n unit) in
+    let whole = length-append (f.fragment_header unit (j == 0) last) (take (room f limit) behind) in
+    let part = length-take (room f limit) behind in
+    let header = ok.header unit (j == 0) last in
+    omega (arith, whole, part, header)
 
--- a unit that is not dropped
+-- the packets of a unit that is not dropped are within the limit
 alone_within : (f : Format) → FitsLimits f → (limit : ℕ) (unit : List ℕ) → is_dropped f limit unit ≡ false → ItemIsWithin f (Alone limit unit)
 alone_within f ok limit unit kept n =
-    elim (fits f limit unit) as (λ b. fits f limit unit ≡ b → cond b false (nat_le limit (fragment_header_len f + number_len f)) ≡ false → AreWithin limit (cond b (single f n unit ∷ []) (fragments f n limit unit))) [
-      | true ↦ λ h k. let long = single_long f n unit in let fit : length unit + number_len f ≤ limit = grind (arith, nat_tests) in (omega (arith, long, fit), tt)
-      | false ↦ λ h k. let enough : fragment_header_len f ≤ limit = grind (arith, nat_tests) in
-          all_mapped (λ packet. length packet ≤ limit) (fragment f n limit unit) (range_with_len 0 (fragment_count f limit unit)) (λ j. fragment_long f ok n limit unit j enough)
-    ] refl kept
+    elim (fits f limit unit) as (λ b. fits f limit unit ≡ b → cond b false (nat_le limit (fragment_header_len f + number_len f)) ≡ false →
+        AreWithin limit (cond b (single f n unit ∷ []) (fragments f n limit unit))) [
+    | true ↦ λ h k.
+        let long = single_long f n unit in
+        let fit : length unit + number_len f ≤ limit = grind (arith, nat_tests) in
+        (omega (arith, long, fit), tt)
+    | false ↦ λ h k.
+        let enough : fragment_header_len f ≤ limit = grind (arith, nat_tests) in
+        all_mapped (λ packet. length packet ≤ limit) (fragment f n limit unit) (range_with_len 0 (fragment_count f limit unit))
+            (λ j. fragment_long f ok n limit unit j enough)
+  ] refl kept
 
--- the items of one unit
+-- so are those of any unit, which may be dropped
 unit_within : (f : Format) → FitsLimits f → (limit : ℕ) (unit : List ℕ) → AllByRecursion (ItemIsWithin f) (items_alone f limit unit)
-unit_within f ok limit unit = elim (is_dropped f limit unit) as (λ b. is_dropped f limit unit ≡ b → AllByRecursion (ItemIsWithin f) (cond b [] (Alone limit unit ∷ []))) [
-  | true ↦ λ h. tt
-  | false ↦ λ h. (alone_within f ok limit unit h, tt)
-] refl
+unit_within f ok limit unit =
+    elim (is_dropped f limit unit) as (λ b. is_dropped f limit unit ≡ b → AllByRecursion (ItemIsWithin f) (cond b [] (Alone limit unit ∷ []))) [
+    | true ↦ λ h. tt
+    | false ↦ λ h. (alone_within f ok limit unit h, tt)
+  ] refl
 
+-- so are those of an entry
 entry_within : (f : Format) → FitsLimits f → (e : Entry) → AllByRecursion (ItemIsWithin f) (item_of f e)
 entry_within f ok e = elim (is_other (f.kind e.unit)) as (λ b. AllByRecursion (ItemIsWithin f) (cond b (items_alone f e.limit e.unit) [])) [
-  | true ↦ unit_within f ok e.limit e.unit
-  | false ↦ tt
-]
+    | true ↦ unit_within f ok e.limit e.unit
+    | false ↦ tt
+  ]
 
--- sets that go alone fit
-sets_alone : (f : Format) → FitsLimits f → (limit : ℕ) (sets : List (List ℕ)) → AllByRecursion (ItemIsWithin f) (map (Alone limit) (filter (fits f limit) sets))
+-- so are those of sets that go alone: only sets that fit do
+sets_alone : (f : Format) → FitsLimits f → (limit : ℕ) (sets : List (List ℕ)) →
+    AllByRecursion (ItemIsWithin f) (map (Alone limit) (filter (fits f limit) sets))
 sets_alone f ok limit [] = tt
-sets_alone f ok limit (set ∷ sets) = elim (fits f limit set) as (λ b. fits f limit set ≡ b → AllByRecursion (ItemIsWithin f) (map (Alone limit) (cond b (set ∷ filter (fits f limit) sets) (filter (fits f limit) sets)))) [
-  | true ↦ λ h. (alone_within f ok limit set (rw h refl), sets_alone f ok limit sets)
-  | false ↦ λ h. sets_alone f ok limit sets
-] refl
+sets_alone f ok limit (set ∷ sets) =
+    elim (fits f limit set) as (λ b. fits f limit set ≡ b →
+        AllByRecursion (ItemIsWithin f) (map (Alone limit) (cond b (set ∷ filter (fits f limit) sets) (filter (fits f limit) sets)))) [
+    | true ↦ λ h. (alone_within f ok limit set (rw h refl), sets_alone f ok limit sets)
+    | false ↦ λ h. sets_alone f ok limit sets
+  ] refl
 
-sets_within : (f : Format) → FitsLimits f → (limit : ℕ) (sets : List (List ℕ)) (unit : List ℕ) → AllByRecursion (ItemIsWithin f) (items_of_sets f limit sets unit)
-sets_within f ok limit sets unit = elim (f.sets_fit limit sets) as (λ b. f.sets_fit limit sets ≡ b → AllByRecursion (ItemIsWithin f) (cond b (Together limit sets unit ∷ []) (cond f.sets_go_alone (map (Alone limit) (filter (fits f limit) sets)) []))) [
-  | true ↦ λ h. ((λ n. (ok.sets limit n sets unit h, tt)), tt)
-  | false ↦ λ h. elim f.sets_go_alone as (λ g. AllByRecursion (ItemIsWithin f) (cond g (map (Alone limit) (filter (fits f limit) sets)) [])) [ true ↦ sets_alone f ok limit sets | false ↦ tt ]
-] refl
+-- so are those of sets before a unit
+sets_within : (f : Format) → FitsLimits f → (limit : ℕ) (sets : List (List ℕ)) (unit : List ℕ) →
+    AllByRecursion (ItemIsWithin f) (items_of_sets f limit sets unit)
+sets_within f ok limit sets unit =
+    let alone = map (Alone limit) (filter (fits f limit) sets) in
+    elim (f.sets_fit limit sets) as (λ b. f.sets_fit limit sets ≡ b →
+        AllByRecursion (ItemIsWithin f) (cond b (Together limit sets unit ∷ []) (cond f.sets_go_alone alone []))) [
+    | true ↦ λ h. ((λ n. (ok.sets limit n sets unit h, tt)), tt)
+    | false ↦ λ h. elim f.sets_go_alone as (λ g. AllByRecursion (ItemIsWithin f) (cond g alone [])) [
+        | true ↦ sets_alone f ok limit sets
+        | false ↦ tt
+      ]
+  ] refl
 
+-- so are those of a group
 group_within : (f : Format) → FitsLimits f → (g : Group) → AllByRecursion (ItemIsWithin f) (items_of_group f g)
 group_within f ok g =
     all_both (ItemIsWithin f) (flat_map (item_of f) g.front ++ items_of_sets f g.last.limit (sets_of f g.front) g.last.unit) (item_of f g.last)
-    (all_both (ItemIsWithin f) (flat_map (item_of f) g.front) (items_of_sets f g.last.limit (sets_of f g.front) g.last.unit)
-    (all_joined (ItemIsWithin f) (item_of f) g.front (entry_within f ok))
-    (sets_within f ok g.last.limit (sets_of f g.front) g.last.unit))
-    (entry_within f ok g.last)
+        (all_both (ItemIsWithin f) (flat_map (item_of f) g.front) (items_of_sets f g.last.limit (sets_of f g.front) g.last.unit)
+            (all_joined (ItemIsWithin f) (item_of f) g.front (entry_within f ok))
+            (sets_within f ok g.last.limit (sets_of f g.front) g.last.unit))
+        (entry_within f ok g.last)
 
 -- every packet of a plan is within the limit of its call
 pub plan_within : (f : Format) → FitsLimits f → (entries : List Entry) → AllByRecursion (ItemIsWithin f) (plan f entries)
 plan_within f ok entries =
     all_both (ItemIsWithin f) (flat_map (items_of_group f) (split f entries).groups) (flat_map (item_of f) (split f entries).rest)
-    (all_joined (ItemIsWithin f) (items_of_group f) (split f entries).groups (group_within f ok))
-    (all_joined (ItemIsWithin f) (item_of f) (split f entries).rest (entry_within f ok))
+        (all_joined (ItemIsWithin f) (items_of_group f) (split f entries).groups (group_within f ok))
+        (all_joined (ItemIsWithin f) (item_of f) (split f entries).rest (entry_within f ok))

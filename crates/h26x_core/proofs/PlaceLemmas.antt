@@ -28,6 +28,7 @@ record Reaches (readings : List Reading) (first last : ℕ) : Type 0 where
 run_of : {readings : List Reading} {first last : ℕ} → ends_at readings last ≡ true → Reaches readings first last → IsRun readings first last
 run_of ends h = record { ends = ends; starts = h.starts; order = h.order; latest = h.latest; unbroken = h.unbroken }
 
+-- what is reached where a run is open or not
 reaches_of : {readings : List Reading} {first last : ℕ} → IsRun readings first last → Reaches readings first last
 reaches_of h = record { starts = h.starts; order = h.order; latest = h.latest; unbroken = h.unbroken }
 
@@ -84,6 +85,7 @@ IsReached readings last (Some run) = (first : ℕ) × Reaches readings first las
 starts_as : (readings : List Reading) (place : ℕ) (r : Reading) → slice_get readings place ≡ Some r → starts_at readings place ≡ is_start r
 starts_as readings place r at = rw at refl
 
+-- whether a place ends is what its reading says
 ends_as : (readings : List Reading) (place : ℕ) (r : Reading) → slice_get readings place ≡ Some r → ends_at readings place ≡ is_end r
 ends_as readings place r at = rw at refl
 
@@ -218,6 +220,7 @@ parts_long : (earlier readings : List Reading) → length (parts_after earlier r
 parts_long earlier [] = refl
 parts_long earlier (r ∷ readings) = ap suc (parts_long (r ∷ earlier) readings)
 
+-- parts joined are the parts joined one after the other
 parts_joined : (earlier readings : List Reading) → units_after earlier readings ≡ flat_map (λ part. part) (parts_after earlier readings)
 parts_joined earlier [] = refl
 parts_joined earlier (r ∷ readings) = ap (λ (x : List (List ℕ)). units_of r earlier ++ x) (parts_joined (r ∷ earlier) readings)

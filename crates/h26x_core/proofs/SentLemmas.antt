@@ -19,6 +19,7 @@ use Rattle.h26x_core.specs.Facts.{AreCarried, SetsLeaveRoom, KeyUnitsAreOther, R
 use Rattle.h26x_core.proofs.PlanLemmas.{tail, plan-tail, any-latest}
 use Rattle.h26x_core.proofs.LimitLemmas.{all_both, all_joined}
 use Rattle.h26x_core.proofs.LossLemmas.{items_left}
+use Rattle.h26x_core.proofs.AgainLemmas.{other_is}
 
 -- where a fragment has room for data no unit is dropped
 pub never_dropped : (f : Format) (limit : ℕ) (unit : List ℕ) → fragment_header_len f + number_len f < limit → is_dropped f limit unit ≡ false
@@ -35,6 +36,7 @@ and_each true true false e = absurd cc
 and_each true false c e = absurd cc
 and_each false b c e = absurd cc
 
+-- a list that is not empty has one element or more
 not_empty_long : (xs : List (List ℕ)) → is_not_empty xs ≡ true → 1 ≤ length xs
 not_empty_long [] e = absurd cc
 not_empty_long (x ∷ xs) e = omega arith
@@ -82,6 +84,7 @@ items_carried f (item ∷ items) h = let (a, b) = all_parts (λ unit. IsTrue (f.
 abbrev IsOfCall : Format → Entry → Type 0
 IsOfCall f e = (mtu : ℕ) × (e.limit ≡ f.limit mtu)
 
+-- the limits of a call's entries are the call's
 entries_at_of_call : (f : Format) (mtu : ℕ) (units : List (List ℕ)) → AllByRecursion (IsOfCall f) (entries_at (f.limit mtu) units)
 entries_at_of_call f mtu [] = tt
 entries_at_of_call f mtu (unit ∷ units) = ((mtu, refl), entries_at_of_call f mtu units)
@@ -102,6 +105,7 @@ unit_planned f limit unit h = elim (is_dropped f limit unit) as (λ b. is_droppe
       | false ↦ λ kept carried. ((carried.0.0, kept), tt)
     ] refl h
 
+-- an entry whose unit is carried where it is sent
 entry_planned : (f : Format) (e : Entry) → AllByRecursion (ItemIsCarried f) (item_of f e) → AllByRecursion (IsPlanned f) (item_of f e)
 entry_planned f e h = elim (is_other (f.kind e.unit)) as (λ b.
     AllByRecursion (ItemIsCarried f) (cond b (items_alone f e.limit e.unit) []) → AllByRecursion (IsPlanned f) (cond b (items_alone f e.limit e.unit) [])) [
@@ -134,13 +138,6 @@ latest_each P is_it f each (e ∷ entries) =
       | true ↦ latest_each P is_it f each entries
       | false ↦ elim (is_it (f.kind e.unit)) as (λ t. is_it (f.kind e.unit) ≡ t → AllByRecursion P (cond t (e.unit ∷ []) [])) [ true ↦ λ h. (each e.unit h, tt) | false ↦ λ _. tt ] refl
     ]
-
-other_is : (k : Kind) → is_other k ≡ true → k ≡ Other
-other_is Other e = refl
-other_is Skipped e = absurd cc
-other_is Vps e = absurd cc
-other_is Sps e = absurd cc
-other_is Pps e = absurd cc
 
 -- no unit of a kind of sets is a key unit
 set_no_key : (f : Format) → KeyUnitsAreOther f → (is_it : Kind → Bool) → is_it Other ≡ false → (unit : List ℕ) → is_it (f.kind unit) ≡ true → f.is_key unit ≡ false
@@ -227,6 +224,7 @@ abbrev masks_of_all : Format → ℕ → List Item → List (List Bool)
 masks_of_all f n [] = []
 masks_of_all f n (item ∷ items) = keeps_all (packets_of_item f n item) ∷ masks_of_all f (n + length (units_of_item item)) items
 
+-- a mask that keeps all is as long as the list
 kept_long : (packets : List (List ℕ)) → length (keeps_all packets) ≡ length packets
 kept_long packets = simp length-map
 
@@ -235,14 +233,17 @@ all_fit : (f : Format) (n : ℕ) (items : List Item) → AreMasks f n items (mas
 all_fit f n [] = tt
 all_fit f n (item ∷ items) = (kept_long (packets_of_item f n item), all_fit f (n + length (units_of_item item)) items)
 
+-- every place of such a mask keeps
 each_kept : (packets : List (List ℕ)) → kept (keeps_all packets) packets ≡ packets
 each_kept [] = refl
 each_kept (packet ∷ packets) = ap (λ (x : List (List ℕ)). packet ∷ x) (each_kept packets)
 
+-- masks that keep every packet of every item
 every_kept : (f : Format) (n : ℕ) (items : List Item) → kept_packets f n items (masks_of_all f n items) ≡ packets f n items
 every_kept f n [] = refl
 every_kept f n (item ∷ items) = rw (each_kept (packets_of_item f n item), every_kept f (n + length (units_of_item item)) items) refl
 
+-- with such masks no packet is lost
 none_lost : (packets : List (List ℕ)) → list_all (λ b. b) (keeps_all packets) ≡ true
 none_lost [] = refl
 none_lost (packet ∷ packets) = none_lost packets

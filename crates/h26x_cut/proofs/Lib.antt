@@ -1,2 +1,5 @@
 pub mod CuttingLemmas
 pub mod MarkLemmas
+pub mod SliceLemmas
+pub mod SearchLemmas
+pub mod UnitLemmas

@@ -1,9 +1,10 @@
-//! Start codes, and the units between them: the cutting grammar of a payload.
-//!
-//! So far this crate has the grammar and its laws.
+//! Start codes, and the units between them: the cutting of a payload.
 #![tactic(auto)]
 
 pub mod laws;
+mod slices;
+
+pub use slices::{UnitSlices, units};
 
 /// How many zeros before its mark a start code takes.
 #[derive(Clone, Copy, Debug, PartialEq, Eq)]

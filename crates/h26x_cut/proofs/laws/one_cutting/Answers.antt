@@ -5,7 +5,8 @@ use Rattle.h26x_cut.proofs.laws.one_cutting.Goals as goal
 
 pub returns : goal.returns
 returns c = record {
-    is = lemmas.has_cutting; only = lemmas.one_cutting;
-    units = λ rule payload. (pieces_of rule payload, lemmas.has_cutting rule payload, refl);
-    only_units = λ rule payload units (pieces, cut, same). same ∙ ap units_of_pieces (lemmas.cutting_is rule payload pieces cut)
-  }
+  is = lemmas.has_cutting;
+  only = lemmas.one_cutting;
+  units = λ rule payload. (pieces_of rule payload, lemmas.has_cutting rule payload, refl);
+  only_units = λ rule payload units (pieces, cut, same). same ∙ ap units_of_pieces (lemmas.cutting_is rule payload pieces cut);
+}

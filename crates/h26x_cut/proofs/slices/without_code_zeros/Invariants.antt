@@ -1,0 +1,12 @@
+use Rattle.std.proofs.Common.{◌≡◌, ◌≤◌, length, take}
+use Rattle.h26x_cut.specs.Cutting.{without_zeros}
+use Rattle.h26x_cut.proofs.slices.without_code_zeros.Given as goal
+
+abbrev pub invariant-loop-end : goal.invariant-loop-end
+invariant-loop-end l = record {
+  within : l.end ≤ length l.piece;
+  same : without_zeros (take l.end l.piece) ≡ without_zeros l.piece;
+}
+
+abbrev pub decreases-loop-end : goal.decreases-loop-end
+decreases-loop-end l = l.end

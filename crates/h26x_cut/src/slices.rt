@@ -1,0 +1,134 @@
+//! The units of a payload, as slices of it.
+
+ghost use Rattle.std.specs.Prelude.{◌≡◌};
+ghost use Rattle.std.specs.Iterator.{YieldsFirstBy, item_count};
+ghost use Rattle.memchr.specs.Find.{FindsNeedle};
+ghost use Rattle.h26x_cut.specs.Cutting.{AreUnits, trimmed};
+ghost use Rattle.h26x_cut.specs.Slices.{IsFirstCode, code, units_behind};
+
+use crate::ZeroRule;
+use memchr::memmem::Finder;
+use std::marker::Model;
+
+/// The nearest zeros of a start code, and its mark.
+const CODE: &[u8] = &[0, 0, 1];
+
+/// The units of a payload that are left, in order.
+#[derive(Debug, Drop)]
+pub struct UnitSlices<'a> {
+    /// What stands behind the last start code that was passed.
+    rest: &'a [u8],
+    /// Where the next start code begins in it, by its two nearest zeros.
+    next_code: Option<usize>,
+    rule: ZeroRule,
+    finder: Finder<'static>,
+}
+
+impl<'a> Model for UnitSlices<'a> {
+    ghost use Rattle.std.specs.Prelude.{◌≡◌, List, ℕ};
+    ghost use Rattle.h26x_cut.specs.Slices.{units_behind, IsFirstCode, code};
+
+    ghost Value = { List (List ℕ) };
+
+    ghost view = { λ a. units_behind a.rule a.rest.now };
+
+    ghost invariant = { λ a. IsFirstCode a.rest.now a.next_code × (a.finder ≡ code) };
+}
+
+/// Where the first start code of bytes begins, by its two nearest zeros.
+fn first_code(finder: &Finder<'static>, bytes: &[u8]) -> Option<usize>
+    requires { finder.now ≡ code }
+    ensures { IsFirstCode bytes.now result }
+{
+    finder.find(bytes)
+}
+
+/// A piece without the zeros that the start code behind it takes.
+fn without_code_zeros(piece: &[u8], rule: ZeroRule) -> &[u8]
+    ensures { result.now ≡ trimmed rule piece.now }
+{
+    match rule {
+        ZeroRule::All => {
+            let mut end = piece.len();
+            while end > 0 && piece[end - 1] == 0 {
+                end -= 1;
+            }
+            &piece[..end]
+        }
+        ZeroRule::AtMostThree => {
+            let len = piece.len();
+            if len > 0 && piece[len - 1] == 0 {
+                &piece[..len - 1]
+            } else {
+                piece
+            }
+        }
+    }
+}
+
+/// The units of bytes that stand behind a start code.
+fn units_behind_code<'a>(bytes: &'a [u8], rule: ZeroRule, finder: Finder<'static>) -> UnitSlices<'a>
+    requires { finder ≡ code }
+    ensures { result ≡ units_behind rule bytes.now }
+{
+    UnitSlices {
+        rest: bytes,
+        next_code: first_code(&finder, bytes),
+        rule,
+        finder,
+    }
+}
+
+/// The units of a payload, in order, as slices of it.
+///
+/// Without a start code the whole payload is one unit. Otherwise the bytes before the first code are
+/// dropped, and a unit stands between each code and the next, the last one up to the end. Empty
+/// units are left out. It takes no memory and refuses nothing (Annex B of the video standards).
+pub fn units(payload: &[u8], rule: ZeroRule) -> UnitSlices<'_>
+    ensures { AreUnits rule payload.now result }
+{
+    let finder = Finder::new(CODE);
+    match first_code(&finder, payload) {
+        Some(place) => units_behind_code(&payload[place + CODE.len()..], rule, finder),
+        None => UnitSlices {
+            rest: payload,
+            next_code: None,
+            rule,
+            finder,
+        },
+    }
+}
+
+impl<'a> Iterator for UnitSlices<'a> {
+    type Item = &'a [u8];
+
+    ghost next_gives = { YieldsFirstBy (λ unit. unit.now) (λ s. s) };
+
+    ghost remaining = { item_count (λ s. s) };
+
+    fn next(&mut self) -> Option<&'a [u8]> {
+        while !self.rest.is_empty() {
+            match self.next_code {
+                Some(place) => {
+                    let unit = without_code_zeros(&self.rest[..place], self.rule);
+                    self.rest = &self.rest[place + CODE.len()..];
+                    self.next_code = first_code(&self.finder, self.rest);
+                    if !unit.is_empty() {
+                        return Some(unit);
+                    }
+                }
+                None => {
+                    let unit = self.rest;
+                    self.rest = &[];
+                    return Some(unit);
+                }
+            }
+        }
+        None
+    }
+}
+
+#[cfg(test)]
+mod plain;
+#[cfg(test)]
+mod tests;
