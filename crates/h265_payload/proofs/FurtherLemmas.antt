@@ -1,7 +1,7 @@
 -- The units of an aggregate behind the first, each behind the difference of its number and its length.
 use Rattle.std.proofs.Common.{◌≡◌, ℕ, zero, suc, ◌+◌, ◌*◌, ◌%◌, ◌<◌, ◌≤◌, true, false, cond, List, [], ◌∷◌, ◌++◌, length, take, drop, Option, Some, refl, sym, ap, ◌∙◌, arith, length-append}
 use Rattle.std.specs.Prelude.{nat_le}
-use Rattle.std.proofs.lemmas.List.{take_at, drop_at, length-drop, length-take, take-append-drop}
+use Rattle.std.proofs.lemmas.List.{take_at, drop_at, length-drop}
 use Rattle.std.proofs.lemmas.Bool.Decides.{nat_tests}
 use Rattle.h265_payload.specs.H265.{further_units}
 use Rattle.h265_payload.specs.Reading.{AreFurther, HasNoFurther}

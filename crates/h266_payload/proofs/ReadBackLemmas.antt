@@ -1,5 +1,5 @@
 -- Units alone and fragments are read back.
-use Rattle.std.proofs.Common.{◌≡◌, ℕ, ◌+◌, ◌*◌, ◌/◌, ◌%◌, ◌<◌, ◌≤◌, Bool, true, false, cond, List, [], ◌∷◌, ◌++◌, length, take, None, refl, arith}
+use Rattle.std.proofs.Common.{◌≡◌, ℕ, ◌<◌, ◌≤◌, Bool, true, false, cond, List, [], ◌∷◌, ◌++◌, length, take, None, refl, arith}
 use Rattle.std.specs.Prelude.{IsTrue}
 use Rattle.h26x_core.specs.Reading.{Single, Fragment}
 use Rattle.h26x_core.specs.Format.{number}

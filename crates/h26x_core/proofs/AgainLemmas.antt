@@ -54,13 +54,13 @@ one_latest : (is_it : Kind → Bool) (f : Format) (entries : List Entry) → IsO
 one_latest is_it f [] = NoSet
 one_latest is_it f (e ∷ entries) =
     elim (list_any (λ (later : Entry). is_it (f.kind later.unit)) entries) as (λ b.
-        IsOneSet is_it f (cond b (latest is_it f entries) (cond (is_it (f.kind e.unit)) (e.unit ∷ []) []))) [
-    | true ↦ one_latest is_it f entries
-    | false ↦ elim (is_it (f.kind e.unit)) as (λ t. is_it (f.kind e.unit) ≡ t → IsOneSet is_it f (cond t (e.unit ∷ []) [])) [
+    IsOneSet is_it f (cond b (latest is_it f entries) (cond (is_it (f.kind e.unit)) (e.unit ∷ []) []))) [
+      | true ↦ one_latest is_it f entries
+      | false ↦ elim (is_it (f.kind e.unit)) as (λ t. is_it (f.kind e.unit) ≡ t → IsOneSet is_it f (cond t (e.unit ∷ []) [])) [
         | true ↦ λ h. OneSet e.unit h
         | false ↦ λ _. NoSet
       ] refl
-  ]
+    ]
 
 -- of these units the latest of each kind are these
 record Finds (f : Format) (limit : ℕ) (v s p : List (List ℕ)) : Type 0 where
@@ -110,7 +110,7 @@ passed f limit front [] after every = rw append-nil refl
 passed f limit front (u ∷ sets) after (here, later) =
     let e = as_entry limit u in
     rw here (passed f limit (front ++ e ∷ []) sets after later
-        ∙ ap (λ (x : List Entry). tail f x after) (append_assoc front (e ∷ []) (as_entries limit sets)))
+    ∙ ap (λ (x : List Entry). tail f x after) (append_assoc front (e ∷ []) (as_entries limit sets)))
 
 -- none is an other unit with a set, or nothing, before them
 one_no_other : (is_it : Kind → Bool) (f : Format) {v : List (List ℕ)} → ((k : Kind) → is_it k ≡ true → is_other k ≡ false) →
@@ -125,10 +125,10 @@ unfolding NoOthers
 sets_no_other f front =
     let vps = latest is_vps f front in let sps = latest is_sps f front in let pps = latest is_pps f front in
     subst (NoOthers f) (sym (append_assoc vps sps pps))
-        (one_no_other is_vps f (λ k h. rw (vps_is k h) refl) (one_latest is_vps f front) (sps ++ pps)
-            (one_no_other is_sps f (λ k h. rw (sps_is k h) refl) (one_latest is_sps f front) pps
-                (subst (NoOthers f) (append-nil pps)
-                    (one_no_other is_pps f (λ k h. rw (pps_is k h) refl) (one_latest is_pps f front) [] tt))))
+    (one_no_other is_vps f (λ k h. rw (vps_is k h) refl) (one_latest is_vps f front) (sps ++ pps)
+    (one_no_other is_sps f (λ k h. rw (sps_is k h) refl) (one_latest is_sps f front) pps
+    (subst (NoOthers f) (append-nil pps)
+    (one_no_other is_pps f (λ k h. rw (pps_is k h) refl) (one_latest is_pps f front) [] tt))))
 
 -- an other unit says nothing to what follows
 other_same : (f : Format) (e : Entry) → is_other (f.kind e.unit) ≡ true → SameSets f (e ∷ []) []
@@ -184,7 +184,7 @@ end_again f limit front u rest done kept sets again =
     let other = done_other f limit front u done in
     let item = item_kept f limit u other kept in
     let units : units_of_items (items_of_sets f limit (sets_of f front) u ++ (item_of f e ++ rest)) ≡ sets_of f front ++ (u ∷ units_of_items rest) =
-        flat_map-append units_of_item (items_of_sets f limit (sets_of f front) u) (item_of f e ++ rest) ∙ rw (sets, item) refl in
+    flat_map-append units_of_item (items_of_sets f limit (sets_of f front) u) (item_of f e ++ rest) ∙ rw (sets, item) refl in
     ap (λ (us : List (List ℕ)). tail f [] (as_entries limit us)) units
     ∙ ap (tail f []) (map-append (as_entry limit) (sets_of f front) (u ∷ units_of_items rest))
     ∙ passed f limit [] (sets_of f front) (as_entries limit (u ∷ units_of_items rest)) (sets_no_other f front)
@@ -198,10 +198,10 @@ entry_again : (f : Format) (limit : ℕ) (u : List ℕ) (rest : List Item) → (
 unfolding units_of_items as_entries
 entry_again f limit u rest kept again =
     elim (is_other (f.kind u)) as (λ b. is_other (f.kind u) ≡ b → AreSentAgain f limit (item_of f (as_entry limit u) ++ rest)) [
-    | true ↦ λ other. let alone = item_kept f limit u other (kept other) in
-        rw alone (first_other f limit u (as_entries limit (units_of_items rest)) other ∙ rw (alone, again) refl)
-    | false ↦ λ other. rw (item_none f limit u other) again
-  ] refl
+      | true ↦ λ other. let alone = item_kept f limit u other (kept other) in
+          rw alone (first_other f limit u (as_entries limit (units_of_items rest)) other ∙ rw (alone, again) refl)
+      | false ↦ λ other. rw (item_none f limit u other) again
+    ] refl
 
 -- The plan of what was sent is the plan that it was sent by.
 pub sent_again : (f : Format) (limit : ℕ) (front : List Entry) (units : List (List ℕ)) → Kept f limit front units →
@@ -211,15 +211,15 @@ sent_again f limit front [] kept = refl
 sent_again f limit front (u ∷ units) (unit_kept, sets_kept, later) =
     let e = as_entry limit u in
     elim (completes f front e) as (λ b. completes f front e ≡ b → Kept f limit (cond b [] (front ++ e ∷ [])) units →
-        AreSentAgain f limit (cond b
-            (items_of_sets f limit (sets_of f front) u ++ (item_of f e ++ tail f [] (as_entries limit units)))
-            (item_of f e ++ tail f (front ++ e ∷ []) (as_entries limit units)))) [
-    | true ↦ λ done others.
-        let kept = unit_kept (done_other f limit front u done) in
-        end_again f limit front u (tail f [] (as_entries limit units)) done kept (sets_kept done) (sent_again f limit [] units others)
-    | false ↦ λ never others.
-        entry_again f limit u (tail f (front ++ e ∷ []) (as_entries limit units)) unit_kept (sent_again f limit (front ++ e ∷ []) units others)
-  ] refl later
+    AreSentAgain f limit (cond b
+    (items_of_sets f limit (sets_of f front) u ++ (item_of f e ++ tail f [] (as_entries limit units)))
+    (item_of f e ++ tail f (front ++ e ∷ []) (as_entries limit units)))) [
+      | true ↦ λ done others.
+          let kept = unit_kept (done_other f limit front u done) in
+          end_again f limit front u (tail f [] (as_entries limit units)) done kept (sets_kept done) (sent_again f limit [] units others)
+      | false ↦ λ never others.
+          entry_again f limit u (tail f (front ++ e ∷ []) (as_entries limit units)) unit_kept (sent_again f limit (front ++ e ∷ []) units others)
+    ] refl later
 
 -- A plan may be made call by call: what came before counts by the sets that wait.
 pub plans_call_by_call : (f : Format) → PlansCallByCall f
@@ -228,20 +228,20 @@ plans_call_by_call f limit before entries =
     let rest = (split f before).rest in
     plan-append f before entries
     ∙ ap (λ (x : List Item). plan f before ++ x) (
-        sym (same-tail f (as_entries limit (sets_of f rest)) rest entries (waiting_same f limit rest))
-        ∙ sym (passed f limit [] (sets_of f rest) entries (sets_no_other f rest))
-        ∙ sym (plan-tail f (as_entries limit (sets_of f rest) ++ entries)))
+    sym (same-tail f (as_entries limit (sets_of f rest)) rest entries (waiting_same f limit rest))
+    ∙ sym (passed f limit [] (sets_of f rest) entries (sets_no_other f rest))
+    ∙ sym (plan-tail f (as_entries limit (sets_of f rest) ++ entries)))
 
 -- two lists of entries leave what the second leaves after the rest of the first
 rest-append : (f : Format) (front us vs : List Entry) → (split_from f front (us ++ vs)).rest ≡ (split_from f (split_from f front us).rest vs).rest
 rest-append f front [] vs = refl
 rest-append f front (e ∷ us) vs =
     elim (completes f front e) as (λ b.
-        (cond b (with_group (record { front = front; last = e }) (split_from f [] (us ++ vs))) (split_from f (front ++ e ∷ []) (us ++ vs))).rest
-        ≡ (split_from f (cond b (with_group (record { front = front; last = e }) (split_from f [] us)) (split_from f (front ++ e ∷ []) us)).rest vs).rest) [
-    | true ↦ rest-append f [] us vs
-    | false ↦ rest-append f (front ++ e ∷ []) us vs
-  ]
+    (cond b (with_group (record { front = front; last = e }) (split_from f [] (us ++ vs))) (split_from f (front ++ e ∷ []) (us ++ vs))).rest
+    ≡ (split_from f (cond b (with_group (record { front = front; last = e }) (split_from f [] us)) (split_from f (front ++ e ∷ []) us)).rest vs).rest) [
+      | true ↦ rest-append f [] us vs
+      | false ↦ rest-append f (front ++ e ∷ []) us vs
+    ]
 
 -- fronts with the same sets leave rests with the same sets
 same-rest : (f : Format) (a b entries : List Entry) → SameSets f a b → SameSets f (split_from f a entries).rest (split_from f b entries).rest
@@ -249,11 +249,11 @@ same-rest f a b [] s = s
 same-rest f a b (e ∷ entries) s =
     rw (same-completes f a b e s) (
     elim (completes f b e) as (λ t.
-        SameSets f (cond t (with_group (record { front = a; last = e }) (split_from f [] entries)) (split_from f (a ++ e ∷ []) entries)).rest
-            (cond t (with_group (record { front = b; last = e }) (split_from f [] entries)) (split_from f (b ++ e ∷ []) entries)).rest) [
-    | true ↦ record { vps = refl; sps = refl; pps = refl }
-    | false ↦ same-rest f (a ++ e ∷ []) (b ++ e ∷ []) entries (same-push f a b e s)
-  ])
+    SameSets f (cond t (with_group (record { front = a; last = e }) (split_from f [] entries)) (split_from f (a ++ e ∷ []) entries)).rest
+    (cond t (with_group (record { front = b; last = e }) (split_from f [] entries)) (split_from f (b ++ e ∷ []) entries)).rest) [
+      | true ↦ record { vps = refl; sps = refl; pps = refl }
+      | false ↦ same-rest f (a ++ e ∷ []) (b ++ e ∷ []) entries (same-push f a b e s)
+    ])
 
 -- units that are no other units only lengthen the front, for the rest too
 passed_rest : (f : Format) (limit : ℕ) (front : List Entry) (sets : List (List ℕ)) (after : List Entry) → NoOthers f sets →
@@ -263,7 +263,7 @@ passed_rest f limit front [] after every = rw append-nil refl
 passed_rest f limit front (u ∷ sets) after (here, later) =
     let e = as_entry limit u in
     rw here (passed_rest f limit (front ++ e ∷ []) sets after later
-        ∙ ap (λ (x : List Entry). (split_from f x after).rest) (append_assoc front (e ∷ []) (as_entries limit sets)))
+    ∙ ap (λ (x : List Entry). (split_from f x after).rest) (append_assoc front (e ∷ []) (as_entries limit sets)))
 
 -- The sets that wait in the end may be found call by call.
 pub waits_call_by_call : (f : Format) → WaitsCallByCall f

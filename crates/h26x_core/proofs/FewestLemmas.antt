@@ -53,7 +53,7 @@ carried_all : (f : Format) (limit : ℕ) (packets : List (List ℕ)) → Headers
 carried_all f limit [] takes large within each first = absurd first
 carried_all f limit (packet ∷ packets) takes large within each first =
     let here : length (body_of (f.read packet)) + (fragment_header_len f + number_len f) ≤ length packet =
-        start_fits f packet (f.read packet) takes refl first in
+    start_fits f packet (f.read packet) takes refl first in
     let later = carried f limit packets takes within.1 each.1 in
     let few = within.0 in
     simp length-append (omega arith)
@@ -64,5 +64,5 @@ takes_fewest f takes limit unit packets unfit kept rival =
     let large = has_room f limit unit unfit kept in
     let all = carried_all f limit packets takes large rival.within rival.each rival.first in
     let whole : length (flat_map (λ packet. body_of (f.read packet)) packets) ≡ length unit - f.header_len =
-        ap length rival.joined ∙ length-drop f.header_len unit in
+    ap length rival.joined ∙ length-drop f.header_len unit in
     needed_le (number_len f + (length unit - f.header_len)) (room f limit) (length packets) (omega arith) (omega arith)

@@ -26,10 +26,11 @@ open_from : (f : Format) (front entries : List Entry) →
     ((before after : List Entry) (e : Entry) → entries ≡ before ++ e ∷ after → completes f (front ++ before) e ≡ false) → IsOpenAfter f front entries
 unfolding IsOpenAfter
 open_from f front [] h = tt
-open_from f front (e ∷ entries) h =
-    (rw append-nil at (h [] entries e refl),
-     open_from f (front ++ e ∷ []) entries
-        (λ before after d same. rw (append_snoc front e before) (h (e ∷ before) after d (ap (λ (x : List Entry). e ∷ x) same))))
+open_from f front (e ∷ entries) h = (
+  rw append-nil at (h [] entries e refl),
+  open_from f (front ++ e ∷ []) entries
+      (λ before after d same. rw (append_snoc front e before) (h (e ∷ before) after d (ap (λ (x : List Entry). e ∷ x) same))),
+)
 
 -- an entry that completes no group may be added at the end
 open-push : (f : Format) (front entries : List Entry) (e : Entry) → IsOpenAfter f front entries → completes f (front ++ entries) e ≡ false →
@@ -51,11 +52,11 @@ groups-from f front (e ∷ entries) h =
     let done_split = with_group (record { front = front; last = e }) (split_from f [] entries) in
     let next_split = split_from f (front ++ e ∷ []) entries in
     elim (completes f front e) as (λ b. completes f front e ≡ b →
-        AreGroups f (front ++ e ∷ entries) (cond b done_split next_split).groups (cond b done_split next_split).rest) [
-    | true ↦ λ done. (entries, refl, is_open f front h, done, groups-from f [] entries tt)
-    | false ↦ λ never. subst (λ (x : List Entry). AreGroups f x next_split.groups next_split.rest) (append_snoc front e entries)
-        (groups-from f (front ++ e ∷ []) entries (open-push f [] front e h never))
-  ] refl
+    AreGroups f (front ++ e ∷ entries) (cond b done_split next_split).groups (cond b done_split next_split).rest) [
+      | true ↦ λ done. (entries, refl, is_open f front h, done, groups-from f [] entries tt)
+      | false ↦ λ never. subst (λ (x : List Entry). AreGroups f x next_split.groups next_split.rest) (append_snoc front e entries)
+          (groups-from f (front ++ e ∷ []) entries (open-push f [] front e h never))
+    ] refl
 
 -- the entries are the groups that are computed, and their rest
 pub split_is : (f : Format) (entries : List Entry) → AreGroups f entries (split f entries).groups (split f entries).rest

@@ -42,9 +42,9 @@ single_long : (f : Format) (n : ℕ) (unit : List ℕ) → length (single f n un
 single_long f n unit =
     let head = take f.header_len unit in let behind = drop f.header_len unit in
     let whole : length (single f n unit) ≡ (length head + length (number f n)) + length behind =
-        length-append (head ++ number f n) behind ∙ ap (λ k. k + length behind) (length-append head (number f n)) in
+    length-append (head ++ number f n) behind ∙ ap (λ k. k + length behind) (length-append head (number f n)) in
     sum_of_parts (length (single f n unit)) f.header_len (length unit) (number_len f)
-        (whole ∙ rw (length-take, length-drop, number_long f n) refl)
+    (whole ∙ rw (length-take, length-drop, number_long f n) refl)
 
 -- a fragment is no longer than the limit
 fragment_long : (f : Format) → FitsLimits f → (n limit : ℕ) (unit : List ℕ) (j : ℕ) → fragment_header_len f ≤ limit →
@@ -61,31 +61,31 @@ fragment_long f ok n limit unit j enough =
 alone_within : (f : Format) → FitsLimits f → (limit : ℕ) (unit : List ℕ) → is_dropped f limit unit ≡ false → ItemIsWithin f (Alone limit unit)
 alone_within f ok limit unit kept n =
     elim (fits f limit unit) as (λ b. fits f limit unit ≡ b → cond b false (nat_le limit (fragment_header_len f + number_len f)) ≡ false →
-        AreWithin limit (cond b (single f n unit ∷ []) (fragments f n limit unit))) [
-    | true ↦ λ h k.
-        let long = single_long f n unit in
-        let fit : length unit + number_len f ≤ limit = grind (arith, nat_tests) in
-        (omega (arith, long, fit), tt)
-    | false ↦ λ h k.
-        let enough : fragment_header_len f ≤ limit = grind (arith, nat_tests) in
-        all_mapped (λ packet. length packet ≤ limit) (fragment f n limit unit) (range_with_len 0 (fragment_count f limit unit))
-            (λ j. fragment_long f ok n limit unit j enough)
-  ] refl kept
+    AreWithin limit (cond b (single f n unit ∷ []) (fragments f n limit unit))) [
+      | true ↦ λ h k.
+          let long = single_long f n unit in
+          let fit : length unit + number_len f ≤ limit = grind (arith, nat_tests) in
+          (omega (arith, long, fit), tt)
+      | false ↦ λ h k.
+          let enough : fragment_header_len f ≤ limit = grind (arith, nat_tests) in
+          all_mapped (λ packet. length packet ≤ limit) (fragment f n limit unit) (range_with_len 0 (fragment_count f limit unit))
+          (λ j. fragment_long f ok n limit unit j enough)
+    ] refl kept
 
 -- so are those of any unit, which may be dropped
 unit_within : (f : Format) → FitsLimits f → (limit : ℕ) (unit : List ℕ) → AllByRecursion (ItemIsWithin f) (items_alone f limit unit)
 unit_within f ok limit unit =
     elim (is_dropped f limit unit) as (λ b. is_dropped f limit unit ≡ b → AllByRecursion (ItemIsWithin f) (cond b [] (Alone limit unit ∷ []))) [
-    | true ↦ λ h. tt
-    | false ↦ λ h. (alone_within f ok limit unit h, tt)
-  ] refl
+      | true ↦ λ h. tt
+      | false ↦ λ h. (alone_within f ok limit unit h, tt)
+    ] refl
 
 -- so are those of an entry
 entry_within : (f : Format) → FitsLimits f → (e : Entry) → AllByRecursion (ItemIsWithin f) (item_of f e)
 entry_within f ok e = elim (is_other (f.kind e.unit)) as (λ b. AllByRecursion (ItemIsWithin f) (cond b (items_alone f e.limit e.unit) [])) [
-    | true ↦ unit_within f ok e.limit e.unit
-    | false ↦ tt
-  ]
+  | true ↦ unit_within f ok e.limit e.unit
+  | false ↦ tt
+]
 
 -- so are those of sets that go alone: only sets that fit do
 sets_alone : (f : Format) → FitsLimits f → (limit : ℕ) (sets : List (List ℕ)) →
@@ -93,10 +93,10 @@ sets_alone : (f : Format) → FitsLimits f → (limit : ℕ) (sets : List (List 
 sets_alone f ok limit [] = tt
 sets_alone f ok limit (set ∷ sets) =
     elim (fits f limit set) as (λ b. fits f limit set ≡ b →
-        AllByRecursion (ItemIsWithin f) (map (Alone limit) (cond b (set ∷ filter (fits f limit) sets) (filter (fits f limit) sets)))) [
-    | true ↦ λ h. (alone_within f ok limit set (rw h refl), sets_alone f ok limit sets)
-    | false ↦ λ h. sets_alone f ok limit sets
-  ] refl
+    AllByRecursion (ItemIsWithin f) (map (Alone limit) (cond b (set ∷ filter (fits f limit) sets) (filter (fits f limit) sets)))) [
+      | true ↦ λ h. (alone_within f ok limit set (rw h refl), sets_alone f ok limit sets)
+      | false ↦ λ h. sets_alone f ok limit sets
+    ] refl
 
 -- so are those of sets before a unit
 sets_within : (f : Format) → FitsLimits f → (limit : ℕ) (sets : List (List ℕ)) (unit : List ℕ) →
@@ -104,26 +104,26 @@ sets_within : (f : Format) → FitsLimits f → (limit : ℕ) (sets : List (List
 sets_within f ok limit sets unit =
     let alone = map (Alone limit) (filter (fits f limit) sets) in
     elim (f.sets_fit limit sets) as (λ b. f.sets_fit limit sets ≡ b →
-        AllByRecursion (ItemIsWithin f) (cond b (Together limit sets unit ∷ []) (cond f.sets_go_alone alone []))) [
-    | true ↦ λ h. ((λ n. (ok.sets limit n sets unit h, tt)), tt)
-    | false ↦ λ h. elim f.sets_go_alone as (λ g. AllByRecursion (ItemIsWithin f) (cond g alone [])) [
+    AllByRecursion (ItemIsWithin f) (cond b (Together limit sets unit ∷ []) (cond f.sets_go_alone alone []))) [
+      | true ↦ λ h. ((λ n. (ok.sets limit n sets unit h, tt)), tt)
+      | false ↦ λ h. elim f.sets_go_alone as (λ g. AllByRecursion (ItemIsWithin f) (cond g alone [])) [
         | true ↦ sets_alone f ok limit sets
         | false ↦ tt
       ]
-  ] refl
+    ] refl
 
 -- so are those of a group
 group_within : (f : Format) → FitsLimits f → (g : Group) → AllByRecursion (ItemIsWithin f) (items_of_group f g)
 group_within f ok g =
     all_both (ItemIsWithin f) (flat_map (item_of f) g.front ++ items_of_sets f g.last.limit (sets_of f g.front) g.last.unit) (item_of f g.last)
-        (all_both (ItemIsWithin f) (flat_map (item_of f) g.front) (items_of_sets f g.last.limit (sets_of f g.front) g.last.unit)
-            (all_joined (ItemIsWithin f) (item_of f) g.front (entry_within f ok))
-            (sets_within f ok g.last.limit (sets_of f g.front) g.last.unit))
-        (entry_within f ok g.last)
+    (all_both (ItemIsWithin f) (flat_map (item_of f) g.front) (items_of_sets f g.last.limit (sets_of f g.front) g.last.unit)
+    (all_joined (ItemIsWithin f) (item_of f) g.front (entry_within f ok))
+    (sets_within f ok g.last.limit (sets_of f g.front) g.last.unit))
+    (entry_within f ok g.last)
 
 -- every packet of a plan is within the limit of its call
 pub plan_within : (f : Format) → FitsLimits f → (entries : List Entry) → AllByRecursion (ItemIsWithin f) (plan f entries)
 plan_within f ok entries =
     all_both (ItemIsWithin f) (flat_map (items_of_group f) (split f entries).groups) (flat_map (item_of f) (split f entries).rest)
-        (all_joined (ItemIsWithin f) (items_of_group f) (split f entries).groups (group_within f ok))
-        (all_joined (ItemIsWithin f) (item_of f) (split f entries).rest (entry_within f ok))
+    (all_joined (ItemIsWithin f) (items_of_group f) (split f entries).groups (group_within f ok))
+    (all_joined (ItemIsWithin f) (item_of f) (split f entries).rest (entry_within f ok))

@@ -49,7 +49,7 @@ later_left : (f : Format) (n limit : ℕ) (unit : List ℕ) (earlier : List Read
     IsTrue (f.carries unit) → Bounds f n limit unit → 0 < j → j + suc m ≡ fragment_count f limit unit → length mask ≡ suc m →
     brought f earlier (kept mask (fragments_at f n limit unit j (suc m)))
     ≡ cond (last_kept mask)
-        (named_by (take f.header_len unit) (extended (open_run earlier) (carried_by f (kept mask (fragments_at f n limit unit j (suc m)))))) []
+    (named_by (take f.header_len unit) (extended (open_run earlier) (carried_by f (kept mask (fragments_at f n limit unit j (suc m)))))) []
 unfolding carried_by
 later_left f n limit unit earlier j m [] sound carried b pos count long = absurd (omega arith)
 later_left f n limit unit earlier j zero (true ∷ []) sound carried b pos count long =
@@ -59,8 +59,8 @@ later_left f n limit unit earlier j zero (true ∷ []) sound carried b pos count
     let body = fragment_part f n limit unit j in
     let run = continued false (open_run earlier) body in
     rw (later_read f n limit unit j sound carried pos (omega arith) at, last) (
-        append-nil (named_by head run)
-        ∙ ap (named_by head) (sym (extended-nil run) ∙ extended-continued (open_run earlier) body []))
+    append-nil (named_by head run)
+    ∙ ap (named_by head) (sym (extended-nil run) ∙ extended-continued (open_run earlier) body []))
 later_left f n limit unit earlier j zero (false ∷ []) sound carried b pos count long = refl
 later_left f n limit unit earlier j zero (x ∷ y ∷ mask) sound carried b pos count long = absurd (omega arith)
 later_left f n limit unit earlier j (suc m) (x ∷ []) sound carried b pos count long = absurd (omega arith)
@@ -75,21 +75,21 @@ later_left f n limit unit earlier j (suc m) (true ∷ y ∷ mask) sound carried 
     let behind = carried_by f (kept (y ∷ mask) (fragments_at f n limit unit (j + 1) (suc m))) in
     let next = later_left f n limit unit (here ∷ earlier) (j + 1) m (y ∷ mask) sound carried b (omega arith) (omega arith) (omega arith) in
     rw (later_read f n limit unit j sound carried pos (omega arith) at, more) (
-        next ∙ ap (λ r. cond (last_kept (y ∷ mask)) (named_by head r) []) (extended-continued (open_run earlier) body behind))
+    next ∙ ap (λ r. cond (last_kept (y ∷ mask)) (named_by head r) []) (extended-continued (open_run earlier) body behind))
 
 -- with the first fragment, what is left brings the header and the data left, if the last is left, and else nothing
 with_first : (f : Format) (n limit : ℕ) (unit : List ℕ) (earlier : List Reading) (m : ℕ) (mask : List Bool) → ReadsWhatItWrites f →
     IsTrue (f.carries unit) → Bounds f n limit unit → suc (suc m) ≡ fragment_count f limit unit → length mask ≡ suc m →
     brought f earlier (kept (true ∷ mask) (fragments_at f n limit unit 0 (suc (suc m))))
     ≡ cond (last_kept mask)
-        ((take f.header_len unit ++ carried_by f (kept (true ∷ mask) (fragments_at f n limit unit 0 (suc (suc m))))) ∷ []) []
+    ((take f.header_len unit ++ carried_by f (kept (true ∷ mask) (fragments_at f n limit unit 0 (suc (suc m))))) ∷ []) []
 unfolding carried_by extended
 with_first f n limit unit earlier m mask sound carried b count long =
     let more : eqb 1 (fragment_count f limit unit) ≡ false = grind (arith, nat_tests) in
     let body = drop (number_len f) (take (room f limit) (fragmented f n unit)) in
     let here = Fragment true false (take f.header_len unit) (number_borne f n) body in
     rw (first_read f n limit unit sound carried b.large b.some, more)
-        (later_left f n limit unit (here ∷ earlier) 1 m mask sound carried b (omega arith) (omega arith) long)
+    (later_left f n limit unit (here ∷ earlier) 1 m mask sound carried b (omega arith) (omega arith) long)
 
 -- a run brings at most one unit
 one_at_most : (b : Bool) (head : List ℕ) (run : Option (List ℕ)) → length (cond b (named_by head run) []) ≤ 1
@@ -131,29 +131,29 @@ some_left : (f : Format) (n limit : ℕ) (unit : List ℕ) (earlier : List Readi
     ReadsWhatItWrites f → IsTrue (f.carries unit) → Bounds f n limit unit →
     suc (suc m) ≡ fragment_count f limit unit → length (second ∷ mask) ≡ suc m →
     AreWritten (last_kept (second ∷ mask)) first (brought f earlier (kept (first ∷ second ∷ mask) (listed f n limit unit m)))
-        (patched f (Alone limit unit) (kept (first ∷ second ∷ mask) (listed f n limit unit m)))
+    (patched f (Alone limit unit) (kept (first ∷ second ∷ mask) (listed f n limit unit m)))
 unfolding listed carried_by
 some_left f n limit unit earlier m true second mask sound carried b count long =
     let left = kept (true ∷ second ∷ mask) (listed f n limit unit m) in
     let last = last_kept (second ∷ mask) in
     let e = with_first f n limit unit earlier m (second ∷ mask) sound carried b count long in
     by_last last true (brought f earlier left) (patched f (Alone limit unit) left) (λ _. e)
-        (subst (λ (us : List (List ℕ)). length us ≤ 1) (sym e) (one_at_most last (take f.header_len unit) (Some (carried_by f left))))
-        (λ h. absurd cc)
+    (subst (λ (us : List (List ℕ)). length us ≤ 1) (sym e) (one_at_most last (take f.header_len unit) (Some (carried_by f left))))
+    (λ h. absurd cc)
 some_left f n limit unit earlier m false second mask sound carried b count long =
     let left = kept (false ∷ second ∷ mask) (listed f n limit unit m) in
     let last = last_kept (second ∷ mask) in
     let e = later_left f n limit unit earlier 1 m (second ∷ mask) sound carried b (omega arith) (omega arith) long in
     by_last last false (brought f earlier left) (patched f (Alone limit unit) left) (λ h. absurd cc)
-        (subst (λ (us : List (List ℕ)). length us ≤ 1) (sym e) (one_at_most last (take f.header_len unit) _))
-        (λ _ h. e ∙ rw h refl)
+    (subst (λ (us : List (List ℕ)). length us ≤ 1) (sym e) (one_at_most last (take f.header_len unit) _))
+    (λ _ h. e ∙ rw h refl)
 
 -- what is left of a unit's fragments is written as it should be, whatever came before
 pub fragments_left : (f : Format) (n limit : ℕ) (unit : List ℕ) (earlier : List Reading) (m : ℕ) (first second : Bool) (mask : List Bool) →
     ReadsWhatItWrites f → IsTrue (f.carries unit) → Bounds f n limit unit →
     fits f limit unit ≡ false → suc (suc m) ≡ fragment_count f limit unit → length (second ∷ mask) ≡ suc m →
     IsLeftOf f n (Alone limit unit) (first ∷ second ∷ mask)
-        (units_after earlier (map f.read (kept (first ∷ second ∷ mask) (packets_of_item f n (Alone limit unit)))))
+    (units_after earlier (map f.read (kept (first ∷ second ∷ mask) (packets_of_item f n (Alone limit unit)))))
 unfolding listed
 fragments_left f n limit unit earlier m first second mask sound carried b unfit count long =
     let left = first ∷ second ∷ mask in
@@ -161,12 +161,12 @@ fragments_left f n limit unit earlier m first second mask sound carried b unfit 
     let same : packets_of_item f n (Alone limit unit) ≡ listed f n limit unit m = rw unfit whole in
     let lengths : length left ≡ length (listed f n limit unit m) = simp (length-map, length-range_with_len) (omega arith) in
     let P : List (List ℕ) → Type 0 = λ ps.
-        MatchBool (list_all (λ b. b) left) (brought f earlier (kept left ps) ≡ unit ∷ [])
-            (AreWritten (last_kept (second ∷ mask)) first (brought f earlier (kept left ps)) (patched f (Alone limit unit) (kept left ps))) in
+    MatchBool (list_all (λ b. b) left) (brought f earlier (kept left ps) ≡ unit ∷ [])
+    (AreWritten (last_kept (second ∷ mask)) first (brought f earlier (kept left ps)) (patched f (Alone limit unit) (kept left ps))) in
     subst P (sym same) (by_all (list_all (λ b. b) left) _ _
-        (λ all. ap (brought f earlier) (all_kept left (listed f n limit unit m) all lengths ∙ sym whole)
-            ∙ fragments_read f n limit unit earlier sound carried b (omega arith))
-        (some_left f n limit unit earlier m first second mask sound carried b count long))
+    (λ all. ap (brought f earlier) (all_kept left (listed f n limit unit m) all lengths ∙ sym whole)
+    ∙ fragments_read f n limit unit earlier sound carried b (omega arith))
+    (some_left f n limit unit earlier m first second mask sound carried b count long))
 
 -- numbered units without their numbers are the units
 numbered_back : (f : Format) (n : ℕ) (sets : List (List ℕ)) → map (λ (u : List ℕ × Option ℕ). u.0) (numbered_from f n sets) ≡ sets
@@ -199,19 +199,19 @@ item_left : (f : Format) (n : ℕ) (item : Item) (earlier : List Reading) (mask 
     length mask ≡ length (packets_of_item f n item) → IsLeftOf f n item mask (brought f earlier (kept mask (packets_of_item f n item)))
 item_left f n (Together limit sets unit) earlier mask sound send long =
     one_packet f n (Together limit sets unit) (f.sets_packet n sets unit) earlier mask refl
-        (ap (λ r. units_of r earlier) (send n) ∙ numbered_back f n sets) long
+    (ap (λ r. units_of r earlier) (send n) ∙ numbered_back f n sets) long
 item_left f n (Alone limit unit) earlier mask sound send long =
     elim (fits f limit unit) as (λ b. fits f limit unit ≡ b →
-        IsLeftOf f n (Alone limit unit) mask (brought f earlier (kept mask (packets_of_item f n (Alone limit unit))))) [
-    | true ↦ λ e.
-        let one : packets_of_item f n (Alone limit unit) ≡ single f n unit ∷ [] = rw e refl in
-        one_packet f n (Alone limit unit) (single f n unit) earlier mask one
-            (ap (λ r. units_of r earlier) (sound.single n unit send.0)) (long ∙ ap length one)
-    | false ↦ λ e.
-        let all : packets_of_item f n (Alone limit unit) ≡ fragments f n limit unit = rw e refl in
-        let count = length-map-range_with_len (fragment f n limit unit) 0 (fragment_count f limit unit) in
-        unit_left f n limit unit earlier mask sound send.0 send.1 e (long ∙ ap length all ∙ count)
-  ] refl
+    IsLeftOf f n (Alone limit unit) mask (brought f earlier (kept mask (packets_of_item f n (Alone limit unit))))) [
+      | true ↦ λ e.
+          let one : packets_of_item f n (Alone limit unit) ≡ single f n unit ∷ [] = rw e refl in
+          one_packet f n (Alone limit unit) (single f n unit) earlier mask one
+          (ap (λ r. units_of r earlier) (sound.single n unit send.0)) (long ∙ ap length one)
+      | false ↦ λ e.
+          let all : packets_of_item f n (Alone limit unit) ≡ fragments f n limit unit = rw e refl in
+          let count = length-map-range_with_len (fragment f n limit unit) 0 (fragment_count f limit unit) in
+          unit_left f n limit unit earlier mask sound send.0 send.1 e (long ∙ ap length all ∙ count)
+    ] refl
 
 -- the readings so far, the latest first
 pushed : List Reading → List Reading → List Reading
@@ -230,7 +230,7 @@ units_after-append earlier (x ∷ xs) ys =
 pub items_left : (f : Format) (n : ℕ) (items : List Item) (masks : List (List Bool)) (earlier : List Reading) → ReadsWhatItWrites f →
     AllByRecursion (CanSend f) items → AreMasks f n items masks →
     (written : List (List (List ℕ))) × AreLeftOf f n items masks written
-        × (units_after earlier (map f.read (kept_packets f n items masks)) ≡ flat_map (λ units. units) written)
+    × (units_after earlier (map f.read (kept_packets f n items masks)) ≡ flat_map (λ units. units) written)
 items_left f n [] [] earlier sound send fit = ([], tt, refl)
 items_left f n [] (mask ∷ masks) earlier sound send fit = absurd fit
 items_left f n (item ∷ items) [] earlier sound send fit = absurd fit
@@ -238,8 +238,9 @@ items_left f n (item ∷ items) (mask ∷ masks) earlier sound send fit =
     let here = kept mask (packets_of_item f n item) in
     let next = n + length (units_of_item item) in
     let behind = kept_packets f next items masks in
-    let (written, left, same) = items_left f next items masks (pushed earlier (map f.read here)) sound send.1 fit.1 in
-    (brought f earlier here ∷ written,
-     (item_left f n item earlier mask sound send.0 fit.0, left),
-     ap (units_after earlier) (map-append f.read here behind) ∙ units_after-append earlier (map f.read here) (map f.read behind)
-     ∙ ap (λ (us : List (List ℕ)). brought f earlier here ++ us) same)
+    let (written, left, same) = items_left f next items masks (pushed earlier (map f.read here)) sound send.1 fit.1 in (
+      brought f earlier here ∷ written,
+      (item_left f n item earlier mask sound send.0 fit.0, left),
+      ap (units_after earlier) (map-append f.read here behind) ∙ units_after-append earlier (map f.read here) (map f.read behind)
+          ∙ ap (λ (us : List (List ℕ)). brought f earlier here ++ us) same,
+    )

@@ -53,7 +53,7 @@ fuel (suc m) (suc k) (high ∷ low ∷ bytes) a b =
     let n = high * 256 + low in
     let len = length-drop n bytes in
     ap (λ (p : Pieces). cond (nat_le n (length bytes)) (with_piece (take n bytes) p) (record { whole = []; left = high ∷ low ∷ bytes }))
-        (fuel m k (drop n bytes) (omega (arith, len)) (omega (arith, len)))
+    (fuel m k (drop n bytes) (omega (arith, len)) (omega (arith, len)))
 
 -- whole pieces one by one: the first, and then those of the bytes behind it
 pub pieces_next : (bytes : List ℕ) (n : ℕ) → 2 ≤ length bytes → n ≡ get_or bytes 0 0 * 256 + get_or bytes 1 0 → n ≤ length (drop 2 bytes) →
@@ -84,7 +84,7 @@ pieces_short (x ∷ y ∷ bytes) short = absurd (omega arith)
 pub pieces_sliced : (bytes : List ℕ) (n : ℕ) → 2 ≤ length bytes → n ≡ get_or bytes 0 0 * 256 + get_or bytes 1 0 →
     n ≤ length (take (length bytes - 2) (drop 2 bytes)) →
     pieces_of bytes ≡ with_piece (take n (take (length bytes - 2) (drop 2 bytes)))
-        (pieces_of (take (length (take (length bytes - 2) (drop 2 bytes)) - n) (drop n (take (length bytes - 2) (drop 2 bytes)))))
+    (pieces_of (take (length (take (length bytes - 2) (drop 2 bytes)) - n) (drop n (take (length bytes - 2) (drop 2 bytes)))))
 pieces_sliced bytes n long is within =
     let all = take_all (length bytes - 2) (drop 2 bytes) (simp length-drop (omega arith)) in
     let rest = take_all (length (drop 2 bytes) - n) (drop n (drop 2 bytes)) (simp length-drop (omega arith)) in
@@ -124,15 +124,15 @@ pieces_are_within (suc most) (high ∷ low ∷ bytes) few =
     let more = with_piece (take n bytes) (pieces_within most (drop n bytes)) in
     let stop : Pieces = record { whole = []; left = high ∷ low ∷ bytes } in
     elim (nat_le n (length bytes)) as (λ b. nat_le n (length bytes) ≡ b →
-        ArePieces (high ∷ low ∷ bytes) (cond b more stop).whole (cond b more stop).left × HasNoPiece (cond b more stop).left) [
-    | true ↦ λ h.
-        let within : n ≤ length bytes = grind (arith, nat_tests) in
-        let s = split_at n bytes within in
-        ((high, low, drop n bytes, ap (λ (x : List ℕ). high ∷ low ∷ x) s.0, s.1, next.0), next.1)
-    | false ↦ λ h.
-        let past : length bytes < n = grind (arith, nat_tests) in
-        (refl, none_past high low bytes past)
-  ] refl
+    ArePieces (high ∷ low ∷ bytes) (cond b more stop).whole (cond b more stop).left × HasNoPiece (cond b more stop).left) [
+      | true ↦ λ h.
+          let within : n ≤ length bytes = grind (arith, nat_tests) in
+          let s = split_at n bytes within in
+          ((high, low, drop n bytes, ap (λ (x : List ℕ). high ∷ low ∷ x) s.0, s.1, next.0), next.1)
+      | false ↦ λ h.
+          let past : length bytes < n = grind (arith, nat_tests) in
+          (refl, none_past high low bytes past)
+    ] refl
 
 -- a number of two bytes, read back
 pub number_back : (n : ℕ) → n % 65536 / 256 % 256 * 256 + n % 65536 % 256 ≡ n % 65536
@@ -160,13 +160,13 @@ none_within (suc most) (high ∷ low ∷ bytes) none =
     let n = high * 256 + low in
     let stop : Pieces = record { whole = []; left = high ∷ low ∷ bytes } in
     elim (nat_le n (length bytes)) as (λ b. nat_le n (length bytes) ≡ b →
-        cond b (with_piece (take n bytes) (pieces_within most (drop n bytes))) stop ≡ stop) [
-    | true ↦ λ h.
-        let within : n ≤ length bytes = grind (arith, nat_tests) in
-        let s = split_at n bytes within in
-        absurd (none high low (take n bytes) (drop n bytes) (ap (λ (x : List ℕ). high ∷ low ∷ x) s.0) s.1)
-    | false ↦ λ h. refl
-  ] refl
+    cond b (with_piece (take n bytes) (pieces_within most (drop n bytes))) stop ≡ stop) [
+      | true ↦ λ h.
+          let within : n ≤ length bytes = grind (arith, nat_tests) in
+          let s = split_at n bytes within in
+          absurd (none high low (take n bytes) (drop n bytes) (ap (λ (x : List ℕ). high ∷ low ∷ x) s.0) s.1)
+      | false ↦ λ h. refl
+    ] refl
 
 -- where at least as many pieces are allowed as there are bytes, pieces with no piece left behind them are those found
 only_within : (most : ℕ) (bytes : List ℕ) (pieces : List (List ℕ)) (left : List ℕ) → length bytes ≤ most → ArePieces bytes pieces left →
@@ -177,8 +177,14 @@ only_within zero (x ∷ bytes) (piece ∷ pieces) left few are none = absurd (om
 only_within (suc most) bytes (piece ∷ pieces) left few (high, low, behind, same, long, later) none =
     let size : length bytes ≡ suc (suc (length piece + length behind)) = ap length same ∙ ap (λ k. suc (suc k)) (length-append piece behind) in
     let n = length piece in
-    rw (same, long, enough n piece behind refl, take_at piece behind n refl, drop_at piece behind n refl,
-        only_within most behind pieces left (omega arith) later none) refl
+    rw (
+      same,
+      long,
+      enough n piece behind refl,
+      take_at piece behind n refl,
+      drop_at piece behind n refl,
+      only_within most behind pieces left (omega arith) later none,
+    ) refl
 
 -- and there are no others
 pub only_pieces : (bytes : List ℕ) (pieces : List (List ℕ)) (left : List ℕ) → ArePieces bytes pieces left → HasNoPiece left →

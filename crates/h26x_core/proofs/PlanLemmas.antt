@@ -17,8 +17,8 @@ unfoldable pub tail : Format → List Entry → List Entry → List Item
 tail f front [] = []
 tail f front (e ∷ entries) =
     cond (completes f front e)
-        (items_of_sets f e.limit (sets_of f front) e.unit ++ (item_of f e ++ tail f [] entries))
-        (item_of f e ++ tail f (front ++ e ∷ []) entries)
+    (items_of_sets f e.limit (sets_of f front) e.unit ++ (item_of f e ++ tail f [] entries))
+    (item_of f e ++ tail f (front ++ e ∷ []) entries)
 
 -- what is sent for groups and then a rest
 abbrev items_of_split : Format → Split → List Item
@@ -44,12 +44,12 @@ split-items f front (e ∷ entries) =
     let done = split_from f [] entries in
     let next = front ++ e ∷ [] in
     elim (completes f front e) as (λ b.
-        items_of_split f (cond b (with_group (record { front = front; last = e }) done) (split_from f next entries))
-        ≡ flat_map (item_of f) front ++ cond b (sets ++ (item_of f e ++ tail f [] entries)) (item_of f e ++ tail f next entries)) [
-    | true ↦ regroup (flat_map (item_of f) front) sets (item_of f e) (flat_map (items_of_group f) done.groups)
-        (flat_map (item_of f) done.rest) (tail f [] entries) (split-items f [] entries)
-    | false ↦ split-items f next entries ∙ front_more f front e (tail f next entries)
-  ]
+    items_of_split f (cond b (with_group (record { front = front; last = e }) done) (split_from f next entries))
+    ≡ flat_map (item_of f) front ++ cond b (sets ++ (item_of f e ++ tail f [] entries)) (item_of f e ++ tail f next entries)) [
+      | true ↦ regroup (flat_map (item_of f) front) sets (item_of f e) (flat_map (items_of_group f) done.groups)
+          (flat_map (item_of f) done.rest) (tail f [] entries) (split-items f [] entries)
+      | false ↦ split-items f next entries ∙ front_more f front e (tail f next entries)
+    ]
 
 -- a plan is what is sent after an empty front
 pub plan-tail : (f : Format) (entries : List Entry) → plan f entries ≡ tail f [] entries
@@ -83,12 +83,12 @@ tail-append f front (e ∷ us) vs =
     let here = item_of f e in
     let next = front ++ e ∷ [] in
     elim (completes f front e) as (λ b.
-        cond b (sets ++ (here ++ tail f [] (us ++ vs))) (here ++ tail f next (us ++ vs))
-        ≡ cond b (sets ++ (here ++ tail f [] us)) (here ++ tail f next us)
-          ++ tail f (cond b (with_group (record { front = front; last = e }) (split_from f [] us)) (split_from f next us)).rest vs) [
-    | true ↦ three sets here (tail f [] us) (tail f (split_from f [] us).rest vs) (tail f [] (us ++ vs)) (tail-append f [] us vs)
-    | false ↦ two here (tail f next us) (tail f (split_from f next us).rest vs) (tail f next (us ++ vs)) (tail-append f next us vs)
-  ]
+    cond b (sets ++ (here ++ tail f [] (us ++ vs))) (here ++ tail f next (us ++ vs))
+    ≡ cond b (sets ++ (here ++ tail f [] us)) (here ++ tail f next us)
+    ++ tail f (cond b (with_group (record { front = front; last = e }) (split_from f [] us)) (split_from f next us)).rest vs) [
+      | true ↦ three sets here (tail f [] us) (tail f (split_from f [] us).rest vs) (tail f [] (us ++ vs)) (tail-append f [] us vs)
+      | false ↦ two here (tail f next us) (tail f (split_from f next us).rest vs) (tail f next (us ++ vs)) (tail-append f next us vs)
+    ]
 
 -- two fronts whose latest VPS, SPS and PPS are the same
 pub record SameSets (f : Format) (a b : List Entry) : Type 0 where
@@ -104,9 +104,9 @@ any-latest is_it f (e ∷ entries) =
     let here = is_it (f.kind e.unit) in
     let later = list_any (λ (d : Entry). is_it (f.kind d.unit)) entries in
     elim (later) as (λ b. later ≡ b → (here || b) ≡ is_not_empty (cond b (latest is_it f entries) (cond here (e.unit ∷ []) []))) [
-    | true ↦ λ h. or-true here ∙ sym h ∙ any-latest is_it f entries
-    | false ↦ λ _. one_or_none here e.unit
-  ] refl
+      | true ↦ λ h. or-true here ∙ sym h ∙ any-latest is_it f entries
+      | false ↦ λ _. one_or_none here e.unit
+    ] refl
 
 -- with one entry more, this one is the latest if it is of the kind, and else the latest is as before
 pub latest-push : (is_it : Kind → Bool) (f : Format) (entries : List Entry) (e : Entry) →
@@ -116,15 +116,15 @@ latest-push is_it f (d ∷ entries) e =
     let here = is_it (f.kind e.unit) in
     let later = list_any (λ (c : Entry). is_it (f.kind c.unit)) entries in
     rw (list_any-append (λ (c : Entry). is_it (f.kind c.unit)) entries (e ∷ []), latest-push is_it f entries e)
-        (pushed here later (e.unit ∷ []) (latest is_it f entries) (cond (is_it (f.kind d.unit)) (d.unit ∷ []) []))
+    (pushed here later (e.unit ∷ []) (latest is_it f entries) (cond (is_it (f.kind d.unit)) (d.unit ∷ []) []))
 
 -- fronts with the same sets have the same ones with one entry more
 pub same-push : (f : Format) (a b : List Entry) (e : Entry) → SameSets f a b → SameSets f (a ++ e ∷ []) (b ++ e ∷ [])
 same-push f a b e s = record {
-    vps = rw (latest-push is_vps f a e, latest-push is_vps f b e, s.vps) refl;
-    sps = rw (latest-push is_sps f a e, latest-push is_sps f b e, s.sps) refl;
-    pps = rw (latest-push is_pps f a e, latest-push is_pps f b e, s.pps) refl;
-  }
+  vps = rw (latest-push is_vps f a e, latest-push is_vps f b e, s.vps) refl;
+  sps = rw (latest-push is_sps f a e, latest-push is_sps f b e, s.sps) refl;
+  pps = rw (latest-push is_pps f a e, latest-push is_pps f b e, s.pps) refl;
+}
 
 -- an entry completes a group after both or after neither of them
 pub same-completes : (f : Format) (a b : List Entry) (e : Entry) → SameSets f a b → completes f a e ≡ completes f b e

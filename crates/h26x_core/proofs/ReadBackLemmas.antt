@@ -30,7 +30,7 @@ front_is : (f : Format) (n : ℕ) (unit : List ℕ) (c : ℕ) → number_len f �
 front_is f n unit c h =
     sym (take-append-drop (number_len f) (take c (fragmented f n unit)))
     ∙ ap (λ (x : List ℕ). x ++ drop (number_len f) (take c (fragmented f n unit)))
-        (take-take (number_len f) c (fragmented f n unit) h ∙ take_at (number f n) (drop f.header_len unit) (number_len f) (number_long f n))
+    (take-take (number_len f) c (fragmented f n unit) h ∙ take_at (number f n) (drop f.header_len unit) (number_len f) (number_long f n))
 
 -- a fragment but the first is read as a fragment of the unit's header and its data
 pub later_read : (f : Format) (n limit : ℕ) (unit : List ℕ) (j : ℕ) → ReadsWhatItWrites f → IsTrue (f.carries unit) →
@@ -48,14 +48,14 @@ pub first_read : (f : Format) (n limit : ℕ) (unit : List ℕ) → ReadsWhatItW
     number_len f < room f limit → number_len f < length (fragmented f n unit) →
     f.read (fragment f n limit unit 0)
     ≡ Fragment true (eqb 1 (fragment_count f limit unit)) (take f.header_len unit) (number_borne f n)
-        (drop (number_len f) (take (room f limit) (fragmented f n unit)))
+    (drop (number_len f) (take (room f limit) (fragmented f n unit)))
 first_read f n limit unit sound carried large within =
     let last = eqb 1 (fragment_count f limit unit) in
     let body = drop (number_len f) (take (room f limit) (fragmented f n unit)) in
     let some : 0 < length body = rw (length-drop, length-take) (omega arith) in
     let start : 0 * room f limit ≡ 0 = omega arith in
     let whole : fragment_part f n limit unit 0 ≡ number f n ++ body =
-        ap (λ k. take (room f limit) (drop k (fragmented f n unit))) start ∙ front_is f n unit (room f limit) (omega arith) in
+    ap (λ k. take (room f limit) (drop k (fragmented f n unit))) start ∙ front_is f n unit (room f limit) (omega arith) in
     ap (λ (x : List ℕ). f.read (f.fragment_header unit true last ++ x)) whole
     ∙ sound.fragment n unit body true last carried some
 
@@ -90,9 +90,9 @@ whole_unit f n limit unit j b carried pos count =
     let grown = places_grow j c pos in
     let reach : fragment_count f limit unit * c ≡ j * c + c = sym (ap (λ k. k * c) count) ∙ next_place j c in
     ap (λ (x : List ℕ). take f.header_len unit ++ x) (
-        parts (number_len f) c (j * c) (fragmented f n unit) (omega (arith, grown, b.large)) (omega (arith, b.some))
-        ∙ ap (drop (number_len f)) (take_all (j * c + c) (fragmented f n unit) (omega (arith, reach, b.upper)))
-        ∙ drop_at (number f n) (drop f.header_len unit) (number_len f) (number_long f n))
+    parts (number_len f) c (j * c) (fragmented f n unit) (omega (arith, grown, b.large)) (omega (arith, b.some))
+    ∙ ap (drop (number_len f)) (take_all (j * c + c) (fragmented f n unit) (omega (arith, reach, b.upper)))
+    ∙ drop_at (number f n) (drop f.header_len unit) (number_len f) (number_long f n))
     ∙ take-append-drop f.header_len unit
 
 -- the fragments from place j on, where the data before them are the open run, bring the unit
@@ -103,7 +103,7 @@ rest_read f n limit unit earlier j zero sound carried b pos count run =
     let last : eqb (j + 1) (fragment_count f limit unit) ≡ true = eq-eqb (j + 1) (fragment_count f limit unit) (omega arith) in
     let at = place_below j (fragment_count f limit unit) (room f limit) (length (fragmented f n unit)) (omega arith) b.lower in
     rw (later_read f n limit unit j sound carried pos (omega arith) at, last, run)
-        (ap (λ (x : List ℕ). x ∷ []) (whole_unit f n limit unit j b carried pos (omega arith)))
+    (ap (λ (x : List ℕ). x ∷ []) (whole_unit f n limit unit j b carried pos (omega arith)))
 rest_read f n limit unit earlier j (suc m) sound carried b pos count run =
     let c = room f limit in
     let more : eqb (j + 1) (fragment_count f limit unit) ≡ false = grind (arith, nat_tests) in
@@ -111,10 +111,10 @@ rest_read f n limit unit earlier j (suc m) sound carried b pos count run =
     let grown = places_grow j c pos in
     let here = Fragment false false (take f.header_len unit) None (fragment_part f n limit unit j) in
     let carried_on : open_run (here ∷ earlier) ≡ Some (data_before f n limit unit (j + 1)) =
-        rw run (ap Some (parts (number_len f) c (j * c) (fragmented f n unit) (omega (arith, grown, b.large)) (omega (arith, b.some))
-            ∙ ap (λ k. drop (number_len f) (take k (fragmented f n unit))) (sym (next_place j c)))) in
+    rw run (ap Some (parts (number_len f) c (j * c) (fragmented f n unit) (omega (arith, grown, b.large)) (omega (arith, b.some))
+    ∙ ap (λ k. drop (number_len f) (take k (fragmented f n unit))) (sym (next_place j c)))) in
     rw (later_read f n limit unit j sound carried pos (omega arith) at, more)
-        (rest_read f n limit unit (here ∷ earlier) (j + 1) m sound carried b (omega arith) (omega arith) carried_on)
+    (rest_read f n limit unit (here ∷ earlier) (j + 1) m sound carried b (omega arith) (omega arith) carried_on)
 
 -- all fragments, of which there are at least two, bring the unit
 fragments_from : (f : Format) (n limit : ℕ) (unit : List ℕ) (earlier : List Reading) (m : ℕ) → ReadsWhatItWrites f → IsTrue (f.carries unit) →
@@ -126,9 +126,9 @@ fragments_from f n limit unit earlier m sound carried b count =
     let here = Fragment true false (take f.header_len unit) (number_borne f n) body in
     let one : room f limit ≡ 1 * room f limit = omega arith in
     let started : open_run (here ∷ earlier) ≡ Some (data_before f n limit unit 1) =
-        ap (λ k. Some (drop (number_len f) (take k (fragmented f n unit)))) one in
+    ap (λ k. Some (drop (number_len f) (take k (fragmented f n unit)))) one in
     rw (first_read f n limit unit sound carried b.large b.some, more)
-        (rest_read f n limit unit (here ∷ earlier) 1 m sound carried b (omega arith) (omega arith) started)
+    (rest_read f n limit unit (here ∷ earlier) 1 m sound carried b (omega arith) (omega arith) started)
 
 -- a unit's fragments are read back as the unit, whatever came before
 pub fragments_read : (f : Format) (n limit : ℕ) (unit : List ℕ) (earlier : List Reading) → ReadsWhatItWrites f → IsTrue (f.carries unit) →
@@ -165,11 +165,12 @@ bounds f n limit unit unfit kept header =
     let room_left = has_room f limit unit unfit kept in
     let over = not_le (length unit + number_len f) limit unfit in
     let long : length (fragmented f n unit) ≡ size =
-        length-append (number f n) (drop f.header_len unit) ∙ rw (number_long f n, length-drop f.header_len unit) refl in
+    length-append (number f n) (drop f.header_len unit) ∙ rw (number_long f n, length-drop f.header_len unit) refl in
     let up = needed_upper size c (omega arith) in
-    let low = needed_lower size c (omega arith) (omega arith) in
-    (record { large = omega arith; lower = omega (arith, long, low); upper = omega (arith, long, up); some = omega (arith, long) },
-     le-div 2 (size + (c - 1)) c (omega arith) (omega arith))
+    let low = needed_lower size c (omega arith) (omega arith) in (
+      record { large = omega arith; lower = omega (arith, long, low); upper = omega (arith, long, up); some = omega (arith, long) },
+      le-div 2 (size + (c - 1)) c (omega arith) (omega arith),
+    )
 
 -- the first fragment has the number and as much data as it leaves room for, each later one the data behind those before it
 pub part_by_place : (f : Format) (n limit j : ℕ) (unit : List ℕ) → number_len f ≤ room f limit →
@@ -182,7 +183,8 @@ part_by_place f n limit j unit large =
     let start : 0 * c ≡ 0 = omega arith in
     let split_room : c ≡ length (number f n) + (c - number_len f) = omega (arith, len) in
     let next = next_place j c in
-    let place : (j + 1) * c ≡ length (number f n) + ((c - number_len f) + j * c) = omega (arith, len, next) in
-    (ap (λ k. take c (drop k (fragmented f n unit))) start
-        ∙ ap (λ k. take k (fragmented f n unit)) split_room ∙ take-append-add (number f n) behind (c - number_len f),
-     ap (take c) (ap (λ k. drop k (fragmented f n unit)) place ∙ drop-append-add (number f n) behind ((c - number_len f) + j * c)))
+    let place : (j + 1) * c ≡ length (number f n) + ((c - number_len f) + j * c) = omega (arith, len, next) in (
+      ap (λ k. take c (drop k (fragmented f n unit))) start
+          ∙ ap (λ k. take k (fragmented f n unit)) split_room ∙ take-append-add (number f n) behind (c - number_len f),
+      ap (take c) (ap (λ k. drop k (fragmented f n unit)) place ∙ drop-append-add (number f n) behind ((c - number_len f) + j * c)),
+    )

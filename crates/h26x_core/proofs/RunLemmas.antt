@@ -51,25 +51,39 @@ with_more : (r : Reading) (earlier : List Reading) (run : List ℕ) → is_start
     IsOpenRun (r ∷ earlier) (run ++ body_of r)
 unfolding bytes_of
 with_more r earlier run a b h = record {
-    since = r ∷ h.since; start = h.start; before = h.before;
-    whole = ap (λ (x : List Reading). r ∷ x) h.whole;
-    starts = h.starts;
-    quiet = ((a, b), h.quiet);
-    bytes = ap (λ (x : List ℕ). x ++ body_of r) h.bytes ∙ append_assoc (body_of h.start) (bytes_of h.since) (body_of r)
-        ∙ ap (λ (x : List ℕ). body_of h.start ++ x) (sym (bytes-more r h.since));
-  }
+  since = r ∷ h.since;
+  start = h.start;
+  before = h.before;
+  whole = ap (λ (x : List Reading). r ∷ x) h.whole;
+  starts = h.starts;
+  quiet = ((a, b), h.quiet);
+  bytes = ap (λ (x : List ℕ). x ++ body_of r) h.bytes ∙ append_assoc (body_of h.start) (bytes_of h.since) (body_of r)
+      ∙ ap (λ (x : List ℕ). body_of h.start ++ x) (sym (bytes-more r h.since));
+}
 
 -- an open run, by what it is equal to
 same_bytes : {readings : List Reading} (run bytes : List ℕ) → run ≡ bytes → IsOpenRun readings run → IsOpenRun readings bytes
 same_bytes run bytes e h = record {
-    since = h.since; start = h.start; before = h.before;
-    whole = h.whole; starts = h.starts; quiet = h.quiet; bytes = sym e ∙ h.bytes }
+  since = h.since;
+  start = h.start;
+  before = h.before;
+  whole = h.whole;
+  starts = h.starts;
+  quiet = h.quiet;
+  bytes = sym e ∙ h.bytes;
+}
 
 -- the data of a start that is no end are an open run
 fresh : (head : List ℕ) (number : Option ℕ) (body : List ℕ) (earlier : List Reading) → IsOpenRun (Fragment true false head number body ∷ earlier) body
 fresh head number body earlier = record {
-    since = []; start = Fragment true false head number body; before = earlier;
-    whole = refl; starts = (refl, refl); quiet = tt; bytes = sym (append-nil body) }
+  since = [];
+  start = Fragment true false head number body;
+  before = earlier;
+  whole = refl;
+  starts = (refl, refl);
+  quiet = tt;
+  bytes = sym (append-nil body);
+}
 
 -- the run that is computed is an open run
 pub is_open_run : (readings : List Reading) (run : List ℕ) → open_run readings ≡ Some run → IsOpenRun readings run
@@ -78,9 +92,9 @@ is_open_run (Fragment start true head number body ∷ earlier) run e = absurd cc
 is_open_run (Fragment true false head number body ∷ earlier) run e = same_bytes body run (same_Some body run e) (fresh head number body earlier)
 is_open_run (Fragment false false head number body ∷ earlier) run e =
     elim (open_run earlier) as (λ o. open_run earlier ≡ o → continued false o body ≡ Some run →
-        IsOpenRun (Fragment false false head number body ∷ earlier) run) [
-    | None ↦ λ _ k. absurd cc
-    | Some r ↦ λ h k. same_bytes (r ++ body) run (same_Some (r ++ body) run k)
-        (with_more (Fragment false false head number body) earlier r refl refl (is_open_run earlier r h))
-  ] refl e
+    IsOpenRun (Fragment false false head number body ∷ earlier) run) [
+      | None ↦ λ _ k. absurd cc
+      | Some r ↦ λ h k. same_bytes (r ++ body) run (same_Some (r ++ body) run k)
+          (with_more (Fragment false false head number body) earlier r refl refl (is_open_run earlier r h))
+    ] refl e
 is_open_run (r ∷ earlier) run e = same_bytes (run ++ []) run (append-nil run) (with_more r earlier run refl refl (is_open_run earlier run e))

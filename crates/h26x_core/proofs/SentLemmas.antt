@@ -4,7 +4,7 @@ use Rattle.std.specs.Prelude.{◌&&◌, nat_le, nat_lt, filter, IsTrue}
 use Rattle.std.specs.List.{AllByRecursion, flat_map, list_any, list_all}
 use Rattle.std.proofs.lemmas.Bool.{lt-leb}
 use Rattle.std.proofs.lemmas.List.{length-map}
-use Rattle.h26x_core.specs.Kind.{Kind, Vps, Sps, Pps, Skipped, Other, is_vps, is_sps, is_pps, is_other}
+use Rattle.h26x_core.specs.Kind.{Kind, Other, is_vps, is_sps, is_pps, is_other}
 use Rattle.h26x_core.specs.Text.{is_not_empty}
 use Rattle.h26x_core.specs.Format.{Format, number_len, fragment_header_len}
 use Rattle.h26x_core.specs.Group.{Entry, Group, completes, latest, sets_of, AreGroups}

@@ -53,7 +53,7 @@ keys_whole : (f : Format) → ExtraTells f → (us : List (List ℕ)) → list_a
 keys_whole f tells [] e = absurd cc
 keys_whole f tells (unit ∷ us) e =
     either_true (f.is_key unit) (list_any f.is_key us) (nat_le f.header_len (length unit)) (list_any (λ u. nat_le f.header_len (length u)) us)
-        (tells.whole unit) (keys_whole f tells us) e
+    (tells.whole unit) (keys_whole f tells us) e
 
 -- a test that would give one that fails, fails
 not_true : (b c : Bool) → (b ≡ true → c ≡ true) → c ≡ false → b ≡ false
@@ -76,8 +76,8 @@ pub extra_more : (f : Format) → ExtraTells f → (extra : CodecExtra) (us vs :
 extra_more f tells extra us vs =
     let is_whole = λ (unit : List ℕ). nat_le f.header_len (length unit) in
     rw (list_any-append is_whole us vs, list_any-append f.is_key us vs)
-        (extra_joined f extra tells.tells (list_any is_whole us) (list_any is_whole vs) (list_any f.is_key us) (list_any f.is_key vs)
-            (keys_whole f tells us) (keys_whole f tells vs))
+    (extra_joined f extra tells.tells (list_any is_whole us) (list_any is_whole vs) (list_any f.is_key us) (list_any f.is_key vs)
+    (keys_whole f tells us) (keys_whole f tells vs))
 
 -- what a step makes of what was taken so far
 pub taken_more : (f : Format) → ExtraTells f →
@@ -90,24 +90,24 @@ taken_more f tells avc rs os r (Ok v) first before after start extra later run n
     let units = units_with run r in
     let earlier = received_back (accepted [] rs os) in
     record {
-        each = outcomes_more avc [] rs os r (Ok v) t.each (rw t.left_open at step.outcome);
-        written = rw more (
-            step.written ∙ ap (λ (x : List ℕ). x ++ text avc units) t.written ∙ append_assoc first (text avc earlier) (text avc units)
-            ∙ ap (λ (x : List ℕ). first ++ x) (
-                sym (flat_map-append (λ (unit : List ℕ). lead avc unit ++ unit) earlier units)
-                ∙ ap (λ p. text avc (earlier ++ units_with p r)) t.left_open));
-        told = rw more (
-            step.told ∙ ap (λ x. extra_after f x units) t.told ∙ extra_more f tells start earlier units
-            ∙ ap (λ p. extra_after f start (earlier ++ units_with p r)) t.left_open);
-        left_open = rw more (step.left_open ∙ ap (λ p. run_after p r) t.left_open);
+      each = outcomes_more avc [] rs os r (Ok v) t.each (rw t.left_open at step.outcome);
+      written = rw more (
+          step.written ∙ ap (λ (x : List ℕ). x ++ text avc units) t.written ∙ append_assoc first (text avc earlier) (text avc units)
+          ∙ ap (λ (x : List ℕ). first ++ x) (
+          sym (flat_map-append (λ (unit : List ℕ). lead avc unit ++ unit) earlier units)
+          ∙ ap (λ p. text avc (earlier ++ units_with p r)) t.left_open));
+      told = rw more (
+          step.told ∙ ap (λ x. extra_after f x units) t.told ∙ extra_more f tells start earlier units
+          ∙ ap (λ p. extra_after f start (earlier ++ units_with p r)) t.left_open);
+      left_open = rw more (step.left_open ∙ ap (λ p. run_after p r) t.left_open);
     }
 taken_more f tells avc rs os r (Err e) first before after start extra later run next t step =
     let more = accepted_more avc [] rs os r (Err e) t.each in
     record {
-        each = outcomes_more avc [] rs os r (Err e) t.each (rw t.left_open at step.outcome);
-        written = rw more (step.out_kept ∙ t.written);
-        told = rw more (step.extra_kept ∙ t.told);
-        left_open = rw more (step.run_kept ∙ t.left_open);
+      each = outcomes_more avc [] rs os r (Err e) t.each (rw t.left_open at step.outcome);
+      written = rw more (step.out_kept ∙ t.written);
+      told = rw more (step.extra_kept ∙ t.told);
+      left_open = rw more (step.run_kept ∙ t.left_open);
     }
 
 -- where nothing was taken all is as it was

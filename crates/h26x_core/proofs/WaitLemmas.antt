@@ -22,9 +22,10 @@ completes-is f front e = rw (any-latest is_sps f front, any-latest is_pps f fron
 -- what waits after a front and an entry that completes no group: a set takes the place of an earlier one
 abbrev waiting_next : Format → List Entry → Entry → Waiting
 waiting_next f front e = record {
-    vps = cond (is_vps (f.kind e.unit)) (e.unit ∷ []) (latest is_vps f front);
-    sps = cond (is_sps (f.kind e.unit)) (e.unit ∷ []) (latest is_sps f front);
-    pps = cond (is_pps (f.kind e.unit)) (e.unit ∷ []) (latest is_pps f front) }
+  vps = cond (is_vps (f.kind e.unit)) (e.unit ∷ []) (latest is_vps f front);
+  sps = cond (is_sps (f.kind e.unit)) (e.unit ∷ []) (latest is_sps f front);
+  pps = cond (is_pps (f.kind e.unit)) (e.unit ∷ []) (latest is_pps f front);
+}
 
 -- that is what waits after the front with this entry
 push : (f : Format) (front : List Entry) (e : Entry) → waiting_in f (front ++ e ∷ []) ≡ waiting_next f front e
@@ -40,11 +41,11 @@ tail-with f front (e ∷ entries) =
     let next = front ++ e ∷ [] in
     ap (λ b. cond b (sets ++ (here ++ tail f [] entries)) (here ++ tail f next entries)) (completes-is f front e)
     ∙ elim (are_due (f.kind e.unit) (waiting_in f front)) as (λ b.
-        cond b (sets ++ (here ++ tail f [] entries)) (here ++ tail f next entries)
-        ≡ (cond b sets [] ++ here) ++ plan_with f (cond b none_waiting (waiting_next f front e)) entries) [
-        | true ↦ ap (λ x. sets ++ (here ++ x)) (tail-with f [] entries) ∙ sym (append_assoc sets here (plan_with f none_waiting entries))
-        | false ↦ ap (λ x. here ++ x) (tail-with f next entries ∙ ap (λ w. plan_with f w entries) (push f front e))
-      ]
+    cond b (sets ++ (here ++ tail f [] entries)) (here ++ tail f next entries)
+    ≡ (cond b sets [] ++ here) ++ plan_with f (cond b none_waiting (waiting_next f front e)) entries) [
+      | true ↦ ap (λ x. sets ++ (here ++ x)) (tail-with f [] entries) ∙ sym (append_assoc sets here (plan_with f none_waiting entries))
+      | false ↦ ap (λ x. here ++ x) (tail-with f next entries ∙ ap (λ w. plan_with f w entries) (push f front e))
+    ]
 
 -- a plan, unit by unit
 pub plan-with : (f : Format) (entries : List Entry) → plan f entries ≡ plan_with f none_waiting entries
@@ -59,10 +60,10 @@ rest-with f front (e ∷ entries) =
     let next = split_from f (front ++ e ∷ []) entries in
     ap (λ b. waiting_in f (cond b done next).rest) (completes-is f front e)
     ∙ elim (are_due (f.kind e.unit) (waiting_in f front)) as (λ b.
-        waiting_in f (cond b done next).rest ≡ waits_after_all f (cond b none_waiting (waiting_next f front e)) entries) [
-        | true ↦ rest-with f [] entries
-        | false ↦ rest-with f (front ++ e ∷ []) entries ∙ ap (λ w. waits_after_all f w entries) (push f front e)
-      ]
+    waiting_in f (cond b done next).rest ≡ waits_after_all f (cond b none_waiting (waiting_next f front e)) entries) [
+      | true ↦ rest-with f [] entries
+      | false ↦ rest-with f (front ++ e ∷ []) entries ∙ ap (λ w. waits_after_all f w entries) (push f front e)
+    ]
 
 -- the sets that wait after entries, unit by unit
 pub waits-with : (f : Format) (entries : List Entry) → waiting_in f (split f entries).rest ≡ waits_after_all f none_waiting entries
@@ -132,15 +133,15 @@ waits-waiting f limit w entries sets = ap sets_waiting (
 -- what waits after a unit are sets, each of its kind
 pub sets_stay : (f : Format) (w : Waiting) (unit : List ℕ) → AreSets f w → AreSets f (waits_after f w unit)
 sets_stay f w unit sets = elim (f.kind unit) as (λ k. f.kind unit ≡ k → AreSets f (waits_after f w unit)) [
-    | Skipped ↦ λ h. rw h sets
-    | Vps ↦ λ h. rw h (record { vps = OneSet unit (ap is_vps h); sps = sets.sps; pps = sets.pps })
-    | Sps ↦ λ h. rw h (record { vps = sets.vps; sps = OneSet unit (ap is_sps h); pps = sets.pps })
-    | Pps ↦ λ h. rw h (record { vps = sets.vps; sps = sets.sps; pps = OneSet unit (ap is_pps h) })
-    | Other ↦ λ h. rw h (elim (is_not_empty w.sps && is_not_empty w.pps) as (λ b. AreSets f (cond b none_waiting w)) [
-        | true ↦ record { vps = NoSet; sps = NoSet; pps = NoSet }
-        | false ↦ sets
-      ])
-  ] refl
+  | Skipped ↦ λ h. rw h sets
+  | Vps ↦ λ h. rw h (record { vps = OneSet unit (ap is_vps h); sps = sets.sps; pps = sets.pps })
+  | Sps ↦ λ h. rw h (record { vps = sets.vps; sps = OneSet unit (ap is_sps h); pps = sets.pps })
+  | Pps ↦ λ h. rw h (record { vps = sets.vps; sps = sets.sps; pps = OneSet unit (ap is_pps h) })
+  | Other ↦ λ h. rw h (elim (is_not_empty w.sps && is_not_empty w.pps) as (λ b. AreSets f (cond b none_waiting w)) [
+    | true ↦ record { vps = NoSet; sps = NoSet; pps = NoSet }
+    | false ↦ sets
+  ])
+] refl
 
 -- what waits after entries are sets, each of its kind
 pub sets_stay_all : (f : Format) (w : Waiting) (entries : List Entry) → AreSets f w → AreSets f (waits_after_all f w entries)

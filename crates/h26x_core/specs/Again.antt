@@ -1,5 +1,5 @@
 -- What was sent, sent again (ours).
-use Rattle.std.specs.Prelude.{◌≡◌, ℕ, Bool, true, false, List, IsTrue}
+use Rattle.std.specs.Prelude.{◌≡◌, ℕ, false, List, IsTrue}
 use Rattle.std.specs.List.{flat_map, AllByRecursion}
 use Rattle.h26x_core.specs.Kind.{is_other}
 use Rattle.h26x_core.specs.Format.{Format}

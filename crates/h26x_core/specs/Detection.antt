@@ -1,5 +1,5 @@
 -- Key units that packets are known to hold or begin (the crate's rule).
-use Rattle.std.specs.Prelude.{◌≡◌, ℕ, ◌+◌, ◌-◌, Bool, true, false, List, [], ◌∷◌, length, map, replicate}
+use Rattle.std.specs.Prelude.{◌≡◌, ℕ, ◌+◌, ◌-◌, false, List, [], ◌∷◌, length, map, replicate}
 use Rattle.h26x_core.specs.Format.{Format}
 use Rattle.h26x_core.specs.Plan.{Item, Alone, Together, units_of_item}
 use Rattle.h26x_core.specs.Packets.{packets_of_item}

@@ -1,5 +1,5 @@
 -- What is told of the units that were written (the crate's rule).
-use Rattle.std.specs.Prelude.{ℕ, nat_le, Bool, ◌||◌, if◌then◌else◌, List, length}
+use Rattle.std.specs.Prelude.{ℕ, nat_le, ◌||◌, if◌then◌else◌, List, length}
 use Rattle.std.specs.List.{list_any}
 use Rattle.h26x_core.specs.declared.extra.CodecExtra.{CodecExtra}
 use Rattle.h26x_core.specs.Format.{Format}

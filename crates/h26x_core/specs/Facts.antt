@@ -1,8 +1,8 @@
 -- What the laws ask of a payload format. Each codec's format is proved to meet these facts.
-use Rattle.std.specs.Prelude.{◌≡◌, ℕ, ◌+◌, ◌<◌, ◌≤◌, nat_le, Bool, true, false, ◌&&◌, if◌then◌else◌, List, [], ◌∷◌, ◌++◌, length, take, Option, Some, None, IsTrue}
+use Rattle.std.specs.Prelude.{◌≡◌, ℕ, ◌+◌, ◌<◌, ◌≤◌, nat_le, Bool, true, false, ◌&&◌, if◌then◌else◌, List, [], ◌++◌, length, take, Option, None, IsTrue}
 use Rattle.std.specs.List.{AllByRecursion}
 use Rattle.h26x_core.specs.Kind.{is_other}
-use Rattle.h26x_core.specs.Reading.{Reading, Single, Aggregate, Fragment}
+use Rattle.h26x_core.specs.Reading.{Single, Aggregate, Fragment}
 use Rattle.h26x_core.specs.Format.{Format, number, number_len, fragment_header_len}
 use Rattle.h26x_core.specs.Plan.{Item, Alone, Together, is_dropped}
 use Rattle.h26x_core.specs.Packets.{single}

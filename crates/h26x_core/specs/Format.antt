@@ -1,5 +1,5 @@
 -- What sets the payload formats of H.264, H.265 and H.266 apart.
-use Rattle.std.specs.Prelude.{ℕ, ◌+◌, ◌%◌, Bool, true, false, if◌then◌else◌, List, [], ◌∷◌}
+use Rattle.std.specs.Prelude.{ℕ, ◌+◌, ◌%◌, Bool, if◌then◌else◌, List, []}
 use Rattle.h26x_core.specs.declared.extra.CodecExtra.{CodecExtra}
 use Rattle.h26x_core.specs.Word.{word}
 use Rattle.h26x_core.specs.Kind.{Kind}

@@ -1,9 +1,9 @@
 -- The fragments of a unit, place by place (RFC 6184, 5.8; RFC 7798, 4.4.3; RFC 9328, 4.3.3).
-use Rattle.std.specs.Prelude.{◌≡◌, ℕ, ◌+◌, ◌-◌, ◌*◌, ◌<◌, ◌≤◌, Bool, true, false, ◌==◌, if◌then◌else◌, List, ◌++◌, length, map, take, drop, Option, None}
+use Rattle.std.specs.Prelude.{◌≡◌, ℕ, ◌+◌, ◌-◌, ◌*◌, ◌<◌, ◌≤◌, ◌==◌, if◌then◌else◌, List, ◌++◌, length, take, drop, None}
 use Rattle.std.specs.List.{flat_map, range_with_len}
 use Rattle.h26x_core.specs.Reading.{Fragment}
 use Rattle.h26x_core.specs.Format.{Format, number, number_len}
-use Rattle.h26x_core.specs.Packets.{room, fragment, fragment_count, fragment_part, fragments, fragmented}
+use Rattle.h26x_core.specs.Packets.{room, fragment, fragment_count, fragment_part}
 use Rattle.h26x_core.specs.Number.{number_borne}
 
 -- the data of the fragment at place j: the first leaves room for the number

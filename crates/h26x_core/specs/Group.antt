@@ -1,5 +1,5 @@
 -- Groups: units up to one before which parameter sets are due (the crate's rule).
-use Rattle.std.specs.Prelude.{◌≡◌, ℕ, Bool, true, false, ◌&&◌, if◌then◌else◌, List, [], ◌∷◌, ◌++◌, IsTrue}
+use Rattle.std.specs.Prelude.{◌≡◌, ℕ, Bool, false, ◌&&◌, if◌then◌else◌, List, [], ◌∷◌, ◌++◌, IsTrue}
 use Rattle.std.specs.List.{list_any}
 use Rattle.h26x_core.specs.Kind.{Kind, is_vps, is_sps, is_pps, is_other}
 use Rattle.h26x_core.specs.Format.{Format}

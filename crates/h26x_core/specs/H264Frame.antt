@@ -1,5 +1,5 @@
 -- Where a frame begins and ends among H.264 packets (RFC 6184, 5.1 and 5.8; the crate's rule).
-use Rattle.std.specs.Prelude.{ℕ, Bool, true, false, ◌||◌, ◌==◌, if◌then◌else◌, List, [], ◌∷◌}
+use Rattle.std.specs.Prelude.{ℕ, Bool, true, false, ◌||◌, ◌==◌, if◌then◌else◌, List, ◌∷◌}
 use Rattle.h26x_core.specs.Word.{field}
 use Rattle.h26x_core.specs.H264Unit.{type_of}
 

@@ -1,5 +1,5 @@
 -- H.264 NAL units (RFC 6184, 1.3 and 5.2).
-use Rattle.std.specs.Prelude.{ℕ, ◌<◌, Bool, true, false, ◌==◌, if◌then◌else◌, List, [], ◌∷◌}
+use Rattle.std.specs.Prelude.{ℕ, Bool, false, ◌==◌, if◌then◌else◌, List, [], ◌∷◌}
 use Rattle.h26x_core.specs.Word.{field}
 use Rattle.h26x_core.specs.Kind.{Kind, Skipped, Sps, Pps, Other}
 

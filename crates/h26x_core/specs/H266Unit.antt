@@ -1,5 +1,5 @@
 -- H.266 NAL units (RFC 9328, 1.1.4). A header has two bytes: F, Z and layer; type and temporal id.
-use Rattle.std.specs.Prelude.{ℕ, nat_le, Bool, true, false, ◌&&◌, ◌||◌, ◌==◌, if◌then◌else◌, List, [], ◌∷◌}
+use Rattle.std.specs.Prelude.{ℕ, nat_le, Bool, false, ◌&&◌, ◌||◌, ◌==◌, if◌then◌else◌, List, ◌∷◌}
 use Rattle.h26x_core.specs.Word.{field}
 use Rattle.h26x_core.specs.Kind.{Kind, Skipped, Vps, Sps, Pps, Other}
 

@@ -1,7 +1,7 @@
 -- Decoding order numbers (RFC 7798, 4.4 and 4.5; RFC 9328, 4.3 and 4.4).
-use Rattle.std.specs.Prelude.{◌≡◌, ℕ, ◌+◌, ◌%◌, Bool, true, false, if◌then◌else◌, List, [], ◌∷◌, length, map, Option, Some, None}
+use Rattle.std.specs.Prelude.{◌≡◌, ℕ, ◌+◌, ◌%◌, true, if◌then◌else◌, List, [], ◌∷◌, length, map, Option, Some, None}
 use Rattle.std.specs.List.{flat_map, range_with_len}
-use Rattle.h26x_core.specs.Reading.{Reading, Single, Aggregate, Fragment, Paci, Refused}
+use Rattle.h26x_core.specs.Reading.{Reading, Single, Aggregate, Fragment}
 use Rattle.h26x_core.specs.Format.{Format}
 use Rattle.h26x_core.specs.Plan.{Item, units_of_item}
 use Rattle.h26x_core.specs.Packets.{packets}

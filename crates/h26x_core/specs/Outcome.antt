@@ -1,5 +1,5 @@
 -- What becomes of packets, any whatever, that a depacketizer takes one after the other (ours).
-use Rattle.std.specs.Prelude.{◌≡◌, ℕ, ◌^◌, nat_le, Bool, true, false, ◌&&◌, if◌then◌else◌, List, [], ◌∷◌, ◌++◌, length, map, Option, Some, None, Result, Ok, Err, is_ok, OnOk, OnErr, ◌⊎◌, MatchBool}
+use Rattle.std.specs.Prelude.{◌≡◌, ℕ, ◌^◌, nat_le, Bool, true, false, ◌&&◌, if◌then◌else◌, List, [], ◌∷◌, ◌++◌, length, Option, None, Result, Ok, Err, is_ok, OnOk, OnErr, ◌⊎◌, MatchBool}
 use Rattle.std.specs.List.{list_any}
 use Rattle.h26x_core.specs.declared.extra.CodecExtra.{CodecExtra}
 use Rattle.h26x_core.specs.declared.error.PacketError.{PacketError}

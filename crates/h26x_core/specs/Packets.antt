@@ -1,7 +1,6 @@
 -- The packets of what is sent, in closed form (RFC 6184, 5.6 to 5.8; RFC 7798, 4.4; RFC 9328, 4.3).
-use Rattle.std.specs.Prelude.{◌≡◌, ℕ, ◌+◌, ◌-◌, ◌*◌, ◌/◌, ◌<◌, ◌≤◌, Bool, true, false, ◌==◌, if◌then◌else◌, List, [], ◌∷◌, ◌++◌, length, map, take, drop, Option, None}
-use Rattle.std.specs.List.{flat_map, range_with_len}
-use Rattle.h26x_core.specs.Reading.{Fragment}
+use Rattle.std.specs.Prelude.{ℕ, ◌+◌, ◌-◌, ◌*◌, ◌/◌, ◌==◌, if◌then◌else◌, List, [], ◌∷◌, ◌++◌, length, map, take, drop}
+use Rattle.std.specs.List.{range_with_len}
 use Rattle.h26x_core.specs.Format.{Format, number, number_len, fragment_header_len}
 use Rattle.h26x_core.specs.Plan.{Item, Alone, Together, fits, units_of_item}
 

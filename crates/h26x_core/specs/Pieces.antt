@@ -1,5 +1,5 @@
 -- Units behind lengths of two bytes, as aggregation packets have them (RFC 6184, 5.7.1; RFC 7798, 4.4.2; RFC 9328, 4.3.2).
-use Rattle.std.specs.Prelude.{◌≡◌, ℕ, zero, suc, ◌+◌, ◌*◌, nat_le, Bool, true, false, if◌then◌else◌, List, [], ◌∷◌, ◌++◌, length, take, drop}
+use Rattle.std.specs.Prelude.{◌≡◌, ℕ, zero, suc, ◌+◌, ◌*◌, nat_le, if◌then◌else◌, List, [], ◌∷◌, ◌++◌, length, take, drop}
 use Rattle.h26x_core.specs.Word.{word}
 
 -- the bytes are these pieces, each behind its length, and then what is left

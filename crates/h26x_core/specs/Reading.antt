@@ -1,5 +1,5 @@
 -- What a packet is to a depacketizer (RFC 6184, 5.2; RFC 7798, 4.4; RFC 9328, 4.3).
-use Rattle.std.specs.Prelude.{ℕ, Bool, true, false, List, [], ◌∷◌, Option}
+use Rattle.std.specs.Prelude.{ℕ, Bool, false, List, [], Option}
 use Rattle.h26x_core.specs.declared.error.PacketError.{PacketError}
 
 -- One unit; several; a part of one, with the header that its unit would have; an H.265 PACI with its fields

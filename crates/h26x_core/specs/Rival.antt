@@ -1,5 +1,5 @@
 -- A unit that is fragmented takes the fewest fragments that there could be.
-use Rattle.std.specs.Prelude.{◌≡◌, ℕ, ◌≤◌, Bool, true, false, List, [], ◌∷◌, length, drop, Option}
+use Rattle.std.specs.Prelude.{◌≡◌, ℕ, ◌≤◌, true, false, List, [], ◌∷◌, length, drop}
 use Rattle.std.specs.List.{AllByRecursion, flat_map}
 use Rattle.h26x_core.specs.Reading.{Reading, Fragment, IsFragment, body_of}
 use Rattle.h26x_core.specs.Format.{Format}

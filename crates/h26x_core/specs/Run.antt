@@ -1,8 +1,8 @@
 -- Runs of fragments, by their places in a list of packets (RFC 6184, 5.8; RFC 7798, 4.4.3; RFC 9328, 4.3.3).
-use Rattle.std.specs.Prelude.{◌≡◌, ℕ, ◌+◌, ◌<◌, ◌≤◌, Bool, true, false, List, [], ◌∷◌, ◌++◌, length, map, take, drop, Option, Some, None, ◌⊎◌, IsTrue, slice_get}
+use Rattle.std.specs.Prelude.{◌≡◌, ℕ, ◌+◌, ◌<◌, ◌≤◌, Bool, true, false, List, [], ◌∷◌, ◌++◌, length, map, take, drop, Option, Some, ◌⊎◌, slice_get}
 use Rattle.std.specs.Option.{option_map_or}
 use Rattle.std.specs.List.{flat_map}
-use Rattle.h26x_core.specs.Reading.{Reading, Single, Aggregate, Fragment, Paci, Refused, is_start, is_end, head_of, body_of}
+use Rattle.h26x_core.specs.Reading.{Reading, Single, Aggregate, Fragment, Paci, is_start, is_end, head_of, body_of}
 
 abbrev pub starts_at : List Reading → ℕ → Bool
 starts_at readings place = option_map_or is_start (slice_get readings place) false

@@ -1,5 +1,5 @@
 -- Bytes hold a start code exactly where a mark stands in them.
-use Rattle.std.proofs.Common.{◌≡◌, ℕ, ◌+◌, ◌-◌, ◌<◌, ◌≤◌, List, [], ◌∷◌, ◌++◌, length, take, drop, get_or, refl, sym, ap, ◌∙◌, arith, length-append}
+use Rattle.std.proofs.Common.{◌≡◌, ℕ, ◌+◌, ◌-◌, ◌<◌, List, ◌∷◌, ◌++◌, length, take, drop, get_or, sym, ap, ◌∙◌, arith, length-append}
 use Rattle.std.proofs.lemmas.List.{get_or-append-add, drop_more, take-append-drop}
 use Rattle.h26x_core.specs.Mark.{IsMark, HasNoMark}
 use Rattle.h26x_cut.specs.Cutting.{HoldsStartCode}

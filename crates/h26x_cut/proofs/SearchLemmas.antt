@@ -1,5 +1,5 @@
 -- The first place at which `00 00 01` occurs is where the first start code begins.
-use Rattle.std.proofs.Common.{◌≡◌, ℕ, zero, suc, ◌+◌, ◌-◌, ◌<◌, ◌≤◌, Bool, true, false, List, [], ◌∷◌, Option, Some, None, refl, sym, ap, ◌∙◌, arith, get_or, drop, length, subst, add-one}
+use Rattle.std.proofs.Common.{◌≡◌, ℕ, zero, suc, ◌+◌, ◌-◌, ◌<◌, ◌≤◌, true, false, List, Option, Some, None, ap, ◌∙◌, arith, get_or, drop, length, subst, add-one}
 use Rattle.memchr.specs.Find.{FindsNeedle, OccursAt}
 use Rattle.h26x_cut.specs.Cutting.{begins_code}
 use Rattle.h26x_cut.specs.Slices.{IsFirstCode, code}

@@ -1,6 +1,6 @@
 -- Start codes by place, and the units behind them.
-use Rattle.std.proofs.Common.{◌≡◌, ℕ, zero, suc, ◌+◌, ◌-◌, ◌<◌, ◌≤◌, Bool, true, false, cond, List, [], ◌∷◌, ◌++◌, refl, sym, ap, ◌∙◌, arith, eqb, get_or, drop, take, length, add-one, drop-cons, append_assoc, Some, None}
-use Rattle.std.specs.Prelude.{◌&&◌, filter}
+use Rattle.std.proofs.Common.{◌≡◌, ℕ, zero, suc, ◌+◌, ◌-◌, ◌<◌, ◌≤◌, true, false, List, [], ◌∷◌, ◌++◌, refl, sym, ap, ◌∙◌, arith, get_or, drop, take, length, add-one, drop-cons, append_assoc, Some, None}
+use Rattle.std.specs.Prelude.{filter}
 use Rattle.std.proofs.Math.Seq.{take-suc}
 use Rattle.std.proofs.lemmas.List.{append-nil, length-drop, drop-drop, get_or-drop, take-append-drop, take_all}
 use Rattle.h26x_cut.specs.declared.ZeroRule.{ZeroRule}

@@ -1,6 +1,6 @@
 -- The units of a payload are not empty and hold no start code.
-use Rattle.std.proofs.Common.{◌≡◌, ℕ, Bool, true, false, cond, List, [], ◌∷◌, refl, sym, subst}
-use Rattle.std.specs.Prelude.{filter, IsTrue}
+use Rattle.std.proofs.Common.{ℕ, List, [], ◌∷◌, refl, sym, subst}
+use Rattle.std.specs.Prelude.{filter}
 use Rattle.std.specs.List.{AllByRecursion}
 use Rattle.h26x_core.specs.Text.{is_not_empty}
 use Rattle.h26x_cut.specs.declared.ZeroRule.{ZeroRule}

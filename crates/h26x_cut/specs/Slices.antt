@@ -1,5 +1,5 @@
 -- What an iterator over units has left.
-use Rattle.std.specs.Prelude.{◌≡◌, ℕ, ◌+◌, ◌≤◌, List, [], ◌∷◌, length, take, drop, filter, Option, Some, None, MatchOption}
+use Rattle.std.specs.Prelude.{◌≡◌, ℕ, ◌+◌, ◌≤◌, List, [], ◌∷◌, length, take, drop, filter, Option, Some, None}
 use Rattle.h26x_core.specs.Text.{is_not_empty}
 use Rattle.h26x_cut.specs.declared.ZeroRule.{ZeroRule}
 use Rattle.h26x_cut.specs.Cutting.{cut_of, pieces_of}

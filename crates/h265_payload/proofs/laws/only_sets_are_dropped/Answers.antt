@@ -1,4 +1,4 @@
-use Rattle.std.proofs.Common.{arith, true, false, ◌≤◌, ◌<◌}
+use Rattle.std.proofs.Common.{arith, true, false}
 use Rattle.h26x_core.proofs.SentLemmas.{never_dropped}
 use Rattle.h265_payload.specs.H265.{h265}
 use Rattle.h265_payload.proofs.laws.only_sets_are_dropped.Goals as goal

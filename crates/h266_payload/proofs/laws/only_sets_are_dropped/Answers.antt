@@ -1,4 +1,4 @@
-use Rattle.std.proofs.Common.{arith, true, false, ◌≤◌, ◌<◌}
+use Rattle.std.proofs.Common.{arith, true, false}
 use Rattle.h26x_core.proofs.SentLemmas.{never_dropped}
 use Rattle.h266_payload.specs.H266.{h266}
 use Rattle.h266_payload.proofs.laws.only_sets_are_dropped.Goals as goal

@@ -6,6 +6,6 @@ use Rattle.h26x_core.proofs.laws.key_units_are_detected.Goals as goal
 
 pub returns : goal.returns
 returns c = record {
-    items = are_detected;
-    calls = λ f knows reads room other n calls carried. are_detected f knows reads n (plan f (entries_of f calls)) (calls_planned f room other calls carried);
-  }
+  items = are_detected;
+  calls = λ f knows reads room other n calls carried. are_detected f knows reads n (plan f (entries_of f calls)) (calls_planned f room other calls carried);
+}

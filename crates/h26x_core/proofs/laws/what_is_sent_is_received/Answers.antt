@@ -5,7 +5,7 @@ use Rattle.h26x_core.proofs.laws.what_is_sent_is_received.Goals as goal
 
 pub returns : goal.returns
 returns c = record {
-    items = all_received;
-    calls = λ f reads room other n calls earlier carried.
-        all_received f reads n (plan f (entries_of f calls)) earlier (can_send f reads (plan f (entries_of f calls)) (calls_planned f room other calls carried));
-  }
+  items = all_received;
+  calls = λ f reads room other n calls earlier carried.
+      all_received f reads n (plan f (entries_of f calls)) earlier (can_send f reads (plan f (entries_of f calls)) (calls_planned f room other calls carried));
+}

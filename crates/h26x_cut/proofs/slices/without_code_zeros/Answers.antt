@@ -1,4 +1,4 @@
-use Rattle.std.proofs.Common.{arith, ◌≡◌, ◌∙◌, sym}
+use Rattle.std.proofs.Common.{arith, ◌∙◌, sym}
 use Rattle.h26x_cut.proofs.SliceLemmas.{one_zero_less, no_zero_last, none_at_all, zero_off, none_off, empty_off}
 use Rattle.h26x_cut.proofs.slices.without_code_zeros.Goals as goal
 use Rattle.h26x_cut.proofs.slices.without_code_zeros.Goals.{then-loop-end-test+else-piece-end-eq0, else-loop-end-test, else-len-gt0-via-then-len-gt0+else-piece-len-eq0, else-len-gt0-via-else-len-gt0}

@@ -1,4 +1,4 @@
-use Rattle.std.proofs.Common.{arith, ◌≡◌, false, drop, Some, None}
+use Rattle.std.proofs.Common.{arith, ◌≡◌, false, drop}
 use Rattle.h26x_cut.specs.Cutting.{begins_code}
 use Rattle.h26x_cut.proofs.SliceLemmas.{from_start, from_next, first_found, none_found, begins_at, begins_not}
 use Rattle.h26x_cut.proofs.slices.plain.first_code.Goals as goal
