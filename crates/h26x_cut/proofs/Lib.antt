@@ -1,4 +1,5 @@
 pub mod CuttingLemmas
+pub mod TextLemmas
 pub mod MarkLemmas
 pub mod SliceLemmas
 pub mod SearchLemmas
