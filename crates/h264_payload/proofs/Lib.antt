@@ -3,3 +3,6 @@ pub mod SetLemmas
 pub mod ReadBackLemmas
 pub mod FactLemmas
 pub mod ReadingLemmas
+pub mod FragmentLemmas
+pub mod SendLemmas
+pub mod StapLemmas

@@ -1,7 +1,27 @@
-//! The H.264 payload format (RFC 6184).
+//! The H.264 payload format (RFC 6184): a packetizer, a depacketizer and the detection of keyframes,
+//! with the format's definitions and their laws.
 //!
-//! So far this crate has the format's definitions and their laws.
+//! ```text
+//! let mut packetizer = H264Packetizer::new(alloc);
+//! let packets = packetizer.packetize(1200, &frame)?;
+//!
+//! let mut depacketizer = H264Depacketizer::new(alloc);
+//! for packet in &packets {
+//!     depacketizer.depacketize(packet, &mut out, &mut extra)?;
+//! }
+//! ```
 #![tactic(auto)]
 
 pub mod cases;
+mod depacketizer;
+mod detect;
+mod fragments;
 pub mod laws;
+mod packet;
+mod packetizer;
+mod stap;
+
+pub use depacketizer::H264Depacketizer;
+pub use detect::{detect_h264_keyframe, detect_h264_nalu};
+pub use h26x_core::ANNEXB_NALUSTART_CODE;
+pub use packetizer::H264Packetizer;

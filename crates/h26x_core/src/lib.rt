@@ -8,6 +8,7 @@ mod constants;
 mod error;
 mod extra;
 pub mod laws;
+mod pieces;
 mod traits;
 
 pub use constants::{
@@ -18,4 +19,5 @@ pub use constants::{
 };
 pub use error::PacketError;
 pub use extra::{CodecExtra, H264CodecExtra, H265CodecExtra, H266CodecExtra};
+pub use pieces::first_piece;
 pub use traits::{Depacketizer, Packetizer};

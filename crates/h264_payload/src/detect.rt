@@ -1,0 +1,58 @@
+//! Whether a packet is known to hold a unit of a type, or to begin one (ours).
+
+ghost use Rattle.std.specs.Prelude.{◌≡◌, ◌==◌};
+ghost use Rattle.std.specs.List.{list_any};
+ghost use Rattle.h26x_core.specs.H264Unit.{type_of_first};
+ghost use Rattle.h264_payload.specs.H264.{detects};
+ghost use Rattle.h264_payload.specs.Packet.{stap_units};
+
+use crate::stap;
+use h26x_core::{
+    FU_START_BITMASK, FUA_HEADER_SIZE, FUA_NALU_TYPE, IDR_NALU_TYPE, NALU_TYPE_BITMASK,
+    STAPA_HEADER_SIZE, STAPA_NALU_TYPE,
+};
+
+/// The type of a unit (RFC 6184, 1.3); 0 where it is empty.
+fn unit_type(unit: &[u8]) -> u8
+    ensures { result ≡ type_of_first unit.now }
+{
+    match unit.first() {
+        Some(header) => header & NALU_TYPE_BITMASK,
+        None => 0,
+    }
+}
+
+/// Whether a unit of this type stands behind a STAP-A's header, up to a length that passes its end.
+fn stap_holds(bytes: &[u8], target_nalu: u8) -> bool
+    ensures { result ≡ list_any (λ unit. type_of_first unit == target_nalu) (stap_units bytes.now) }
+{
+    stap::units(bytes).any(|unit| unit_type(unit) == target_nalu)
+}
+
+/// Whether a packet is known to hold a unit of this type, or to be the first fragment of one.
+pub fn detect_h264_nalu(payload: &[u8], target_nalu: u8) -> bool
+    ensures { result ≡ detects target_nalu payload.now }
+{
+    if payload.is_empty() {
+        return false;
+    }
+    match payload[0] & NALU_TYPE_BITMASK {
+        STAPA_NALU_TYPE => stap_holds(&payload[STAPA_HEADER_SIZE..], target_nalu),
+        FUA_NALU_TYPE => {
+            payload.len() >= FUA_HEADER_SIZE
+                && payload[1] & FU_START_BITMASK != 0
+                && payload[1] & NALU_TYPE_BITMASK == target_nalu
+        }
+        nalu_type => (1..=23).contains(&nalu_type) && nalu_type == target_nalu,
+    }
+}
+
+/// Whether a packet is known to hold a slice of an IDR picture, or to be the first fragment of one.
+pub fn detect_h264_keyframe(payload: &[u8]) -> bool
+    ensures { result ≡ detects 5 payload.now }
+{
+    detect_h264_nalu(payload, IDR_NALU_TYPE)
+}
+
+#[cfg(test)]
+mod tests;
