@@ -35,9 +35,9 @@ is_last : (x c j taken left : ℕ) → 0 < c → left ≡ x - j * c → 0 < left
 is_last x c j taken left pos is more t =
     let a = needed_more x c j pos (omega arith) in
     ⊎_elim
-        (λ (long : c < left). let b = needed_more x c (j + 1) pos (omega arith) in grind (arith, nat_tests))
-        (λ (short : left ≤ c). let b = needed_here x c j pos (omega arith) (omega arith) in eq-eqb taken left (omega arith) ∙ sym (eq-eqb (j + 1) (pieces_needed c x) b))
-        (cases_lt c left)
+    (λ (long : c < left). let b = needed_more x c (j + 1) pos (omega arith) in grind (arith, nat_tests))
+    (λ (short : left ≤ c). let b = needed_here x c j pos (omega arith) (omega arith) in eq-eqb taken left (omega arith) ∙ sym (eq-eqb (j + 1) (pieces_needed c x) b))
+    (cases_lt c left)
 
 indicator_test : ℕ → Bool
 indicator_test b = eqb (bit_or 28 (bit_and b 96)) (28 + reference_bits b)
@@ -45,12 +45,12 @@ indicator_test b = eqb (bit_or 28 (bit_and b 96)) (28 + reference_bits b)
 -- a test that all numbers below n pass
 test_below : (n : ℕ) (p : ℕ → Bool) → list_all p (range_with_len 0 n) ≡ true → (b : ℕ) → b < n → p b ≡ true
 test_below n p h b lt = elim (p b) as (λ t. p b ≡ t → t ≡ true) [
-    | true ↦ λ _. refl
-    | false ↦ λ e.
-        let long : b < length (range_with_len 0 n) = rw length-range_with_len lt in
-        let here : p (get_or (range_with_len 0 n) b 0) ≡ false = rw (get_or-range_with_len 0 n b 0 lt, zero-add b) e in
-        let no = list_all_at p (range_with_len 0 n) b 0 long here in cc
-  ] refl
+  | true ↦ λ _. refl
+  | false ↦ λ e.
+      let long : b < length (range_with_len 0 n) = rw length-range_with_len lt in
+      let here : p (get_or (range_with_len 0 n) b 0) ≡ false = rw (get_or-range_with_len 0 n b 0 lt, zero-add b) e in
+      let no = list_all_at p (range_with_len 0 n) b 0 long here in cc
+] refl
 
 -- an indicator's bits are the NRI of its unit and type 28
 pub indicator_is : (b : ℕ) → b < 256 → bit_or 28 (bit_and b 96) ≡ 28 + reference_bits b

@@ -85,9 +85,9 @@ counted_more w later limit unit rest units count more now all bound is then_ her
     let items = items_now h264 w (record { unit = unit; limit = limit }) in
     let behind = plan_with h264 later (entries_at limit units) in
     let total : length (packets_sent (plan_with h264 w (entries_at limit rest))) ≡ length (packets_sent items) + length (packets_sent behind) =
-        ap (λ (r : List (List ℕ)). length (packets_sent (plan_with h264 w (entries_at limit r)))) is
-        ∙ ap (λ (after : Waiting). length (packets_sent (items ++ plan_with h264 after (entries_at limit units)))) (sym then_)
-        ∙ ap length (packets_then items behind) ∙ length-append (packets_sent items) (packets_sent behind) in
+    ap (λ (r : List (List ℕ)). length (packets_sent (plan_with h264 w (entries_at limit r)))) is
+    ∙ ap (λ (after : Waiting). length (packets_sent (items ++ plan_with h264 after (entries_at limit units)))) (sym then_)
+    ∙ ap length (packets_then items behind) ∙ length-append (packets_sent items) (packets_sent behind) in
     omega arith
 
 skipped_kind : (kind : Kind) → is_skipped_kind kind ≡ true → kind ≡ Skipped
@@ -144,9 +144,9 @@ limits_now w limit unit =
     let sets = sets_waiting w in
     all_both (λ item. limit_of item ≡ limit) (cond (are_due (kind unit) w) (items_of_sets h264 limit sets unit) []) (item_of h264 (record { unit = unit; limit = limit }))
     (all_of (λ item. limit_of item ≡ limit) (are_due (kind unit) w) (items_of_sets h264 limit sets unit) []
-        (all_of (λ item. limit_of item ≡ limit) (sets_fit limit sets) (Together limit sets unit ∷ []) [] (refl, tt) tt) tt)
+    (all_of (λ item. limit_of item ≡ limit) (sets_fit limit sets) (Together limit sets unit ∷ []) [] (refl, tt) tt) tt)
     (all_of (λ item. limit_of item ≡ limit) (is_other (kind unit)) (items_alone h264 limit unit) []
-        (all_of (λ item. limit_of item ≡ limit) (is_dropped h264 limit unit) [] (Alone limit unit ∷ []) tt (refl, tt)) tt)
+    (all_of (λ item. limit_of item ≡ limit) (is_dropped h264 limit unit) [] (Alone limit unit ∷ []) tt (refl, tt)) tt)
 
 -- and so has all that one call sends
 limits_all : (w : Waiting) (limit : ℕ) (units : List (List ℕ)) → AllByRecursion (λ item. limit_of item ≡ limit) (plan_with h264 w (entries_at limit units))

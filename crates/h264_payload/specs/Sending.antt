@@ -37,9 +37,10 @@ newest old taken (set ∷ sets) = set ∷ []
 -- the sets that wait, by those from before and what a payload brought
 abbrev pub waiting_with : Waiting → Brought → Waiting
 waiting_with w b = record {
-    vps = w.vps;
-    sps = newest w.sps b.taken (listed (option_map (λ s. s.now) b.sps));
-    pps = newest w.pps b.taken (listed (option_map (λ s. s.now) b.pps)) }
+  vps = w.vps;
+  sps = newest w.sps b.taken (listed (option_map (λ s. s.now) b.sps));
+  pps = newest w.pps b.taken (listed (option_map (λ s. s.now) b.pps));
+}
 
 -- what later answers depend on: the bytes of the set of each kind that waits, and no number
 abbrev pub meaning_of : Waiting → List (List ℕ)

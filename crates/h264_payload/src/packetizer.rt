@@ -95,7 +95,11 @@ fn units_in(b: &[u8]) -> UnitSlices<'_>
 }
 
 /// The latest set, if one waits.
-fn newest_of<'a>(old: &'a Option<Vec<u8>>, taken: bool, brought: Option<&'a [u8]>) -> Option<&'a [u8]>
+fn newest_of<'a>(
+    old: &'a Option<Vec<u8>>,
+    taken: bool,
+    brought: Option<&'a [u8]>,
+) -> Option<&'a [u8]>
     ensures { listed (option_map (λ s. s.now) result) ≡ newest (listed (option_map (λ v. v.items) old.now)) taken (listed (option_map (λ s. s.now) brought.entry)) }
 {
     match brought {
@@ -142,13 +146,17 @@ fn go_together(limit: usize, sps: &[u8], pps: &[u8]) -> bool
     ensures fit { result ≡ sets_fit limit (sps.now ∷ pps.now ∷ []) }
     ensures room { result ≡ true → 5 + length sps.now + length pps.now ≤ limit }
 {
-    sps.len() <= 65535
-        && pps.len() <= 65535
-        && SETS_HEADERS_SIZE + sps.len() + pps.len() <= limit
+    sps.len() <= 65535 && pps.len() <= 65535 && SETS_HEADERS_SIZE + sps.len() + pps.len() <= limit
 }
 
 /// Appends the STAP-A of two sets, if they go together (RFC 6184, 5.7.1).
-fn append_sets(alloc: Global, limit: usize, sps: &[u8], pps: &[u8], packets: &mut Vec<Vec<u8>>) -> Result<(), PacketError>
+fn append_sets(
+    alloc: Global,
+    limit: usize,
+    sps: &[u8],
+    pps: &[u8],
+    packets: &mut Vec<Vec<u8>>,
+) -> Result<(), PacketError>
     ensures sent { OnOk result (map (λ p. p.items) packets.new.items ≡ map (λ p. p.items) packets.old.items ++ (if sets_fit limit (sps.now ∷ pps.now ∷ []) then sets_packet 0 (sps.now ∷ pps.now ∷ []) [] ∷ [] else [])) }
     ensures memory { OnErr result (result ≡ Err PacketError.OutOfMemory) }
 {
@@ -169,7 +177,12 @@ fn append_sets(alloc: Global, limit: usize, sps: &[u8], pps: &[u8], packets: &mu
 }
 
 /// Appends the packets of one unit: itself, or its fragments; none where no fragment has room for data.
-fn append_unit(alloc: Global, limit: usize, unit: &[u8], packets: &mut Vec<Vec<u8>>) -> Result<(), PacketError>
+fn append_unit(
+    alloc: Global,
+    limit: usize,
+    unit: &[u8],
+    packets: &mut Vec<Vec<u8>>,
+) -> Result<(), PacketError>
     ensures sent { OnOk result (map (λ p. p.items) packets.new.items ≡ map (λ p. p.items) packets.old.items ++ packets_sent (items_alone h264 limit unit.now)) }
     ensures memory { OnErr result (result ≡ Err PacketError.OutOfMemory) }
 {
@@ -182,7 +195,13 @@ fn append_unit(alloc: Global, limit: usize, unit: &[u8], packets: &mut Vec<Vec<u
 }
 
 /// Appends the packets of what goes when a unit comes.
-fn append_due(alloc: Global, limit: usize, unit: &[u8], due: Due<'_>, packets: &mut Vec<Vec<u8>>) -> Result<(), PacketError>
+fn append_due(
+    alloc: Global,
+    limit: usize,
+    unit: &[u8],
+    due: Due<'_>,
+    packets: &mut Vec<Vec<u8>>,
+) -> Result<(), PacketError>
     ensures sent { OnOk result (map (λ p. p.items) packets.new.items ≡ map (λ p. p.items) packets.old.items ++ packets_sent (items_due limit unit.now due.entry)) }
     ensures nothing { due.entry ≡ Due.Nothing → IsOk result }
     ensures memory { OnErr result (result ≡ Err PacketError.OutOfMemory) }
@@ -303,7 +322,12 @@ impl H264Packetizer {
     }
 
     /// Appends the packets of a payload, and tells what it brought.
-    fn append_payload<'a>(&'a self, limit: usize, b: &'a [u8], packets: &mut Vec<Vec<u8>>) -> Result<Brought<'a>, PacketError>
+    fn append_payload<'a>(
+        &'a self,
+        limit: usize,
+        b: &'a [u8],
+        packets: &mut Vec<Vec<u8>>,
+    ) -> Result<Brought<'a>, PacketError>
         ensures sent { OnOk result (map (λ p. p.items) packets.new.items ≡ map (λ p. p.items) packets.old.items ++ packets_sent (plan_with h264 self.now (entries_at limit (units_of All b.now)))) }
         ensures waits { IfOk result (λ brought. waiting_with self.now brought ≡ waits_after_all h264 self.now (entries_at limit (units_of All b.now))) }
         ensures skipped { are_skipped (units_of All b.now) ≡ true → IfOk result (λ brought. (brought.sps ≡ None) × (brought.pps ≡ None)) × IsOk result }

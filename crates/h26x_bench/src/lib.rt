@@ -1,24 +1,78 @@
-//! What the benchmark of `bench/` calls: the cutting of a payload, from C.
+//! What the benchmarks of `bench/` call from C.
 #![tactic(auto)]
 
+use h26x_core::{CodecExtra, Depacketizer, Packetizer};
 use h26x_cut::{ZeroRule, units};
+use h264_payload::{H264Depacketizer, H264Packetizer};
+use std::alloc::Global;
 
-/// The bytes in all units of a payload, cut by the rule of H.264 and H.265.
-#[unsafe(no_mangle)]
-pub extern "C" fn h26x_units_all(payload: &[u8]) -> usize {
+/// The bytes in all units of a payload.
+fn bytes_in_units(payload: &[u8], rule: ZeroRule) -> usize {
     let mut bytes: usize = 0;
-    for unit in units(payload, ZeroRule::All) {
+    for unit in units(payload, rule) {
         bytes = bytes.saturating_add(unit.len());
     }
     bytes
 }
 
+/// The bytes in all units of a payload, cut by the rule of H.264 and H.265.
+#[unsafe(no_mangle)]
+pub extern "C" fn h26x_units_all(payload: &[u8]) -> usize {
+    bytes_in_units(payload, ZeroRule::All)
+}
+
 /// The bytes in all units of a payload, cut by the rule of H.266.
 #[unsafe(no_mangle)]
 pub extern "C" fn h26x_units_at_most_three(payload: &[u8]) -> usize {
+    bytes_in_units(payload, ZeroRule::AtMostThree)
+}
+
+/// Packetizes a payload so many times; the bytes of all packets.
+#[unsafe(no_mangle)]
+pub extern "C" fn h264_pack_rounds(
+    alloc: Global,
+    limit: usize,
+    payload: &[u8],
+    rounds: usize,
+) -> usize {
+    let mut packetizer = H264Packetizer::new(alloc);
     let mut bytes: usize = 0;
-    for unit in units(payload, ZeroRule::AtMostThree) {
-        bytes = bytes.saturating_add(unit.len());
+    for _ in 0..rounds {
+        if let Ok(packets) = packetizer.packetize(limit, payload) {
+            for packet in &packets {
+                bytes = bytes.saturating_add(packet.len());
+            }
+        }
+    }
+    bytes
+}
+
+/// Takes the packets of a payload so many times; the bytes written.
+#[unsafe(no_mangle)]
+pub extern "C" fn h264_take_rounds(
+    alloc: Global,
+    limit: usize,
+    payload: &[u8],
+    rounds: usize,
+) -> usize {
+    let Ok(packets) = H264Packetizer::new(alloc).packetize(limit, payload) else {
+        return 0;
+    };
+    let mut depacketizer = H264Depacketizer::new(alloc);
+    let mut out = Vec::new(alloc);
+    let mut extra = CodecExtra::None;
+    let mut bytes: usize = 0;
+    for _ in 0..rounds {
+        out.clear();
+        for packet in &packets {
+            if depacketizer
+                .depacketize(packet, &mut out, &mut extra)
+                .is_err()
+            {
+                return 0;
+            }
+        }
+        bytes = bytes.saturating_add(out.len());
     }
     bytes
 }

@@ -1,14 +1,14 @@
 //! A payload through a packetizer and a depacketizer.
 
-ghost use Rattle.std.specs.Prelude.{◌≡◌, IfOk, IfErr, OnErr, MatchBool};
-ghost use Rattle.h26x_tool.specs.Carry.{IsCarried, IsLeft, Refuses};
+ghost use Rattle.std.specs.Prelude.{◌≡◌, IfOk};
+ghost use Rattle.h26x_core.specs.Front.{IsFrontOf};
+ghost use Rattle.h26x_tool.specs.Carry.{makes_packets};
 
-use crate::depacketizer::H264Depacketizer;
-use crate::packetizer::H264Packetizer;
 use h26x_core::{CodecExtra, Depacketizer, PacketError, Packetizer};
+use h264_payload::{H264Depacketizer, H264Packetizer};
 
-/// Packetizes a payload and depacketizes its packet, if there is one. The answer is whether there
-/// was one; after a refusal `out` and the extra are as before.
+/// Packetizes a payload and depacketizes its packets, in order. The answer is whether there was
+/// one. The bytes that stood in `out` stay, after a refusal too.
 pub fn carry_one(
     p: &mut H264Packetizer,
     d: &mut H264Depacketizer,
@@ -17,19 +17,14 @@ pub fn carry_one(
     out: &mut Vec<u8>,
     extra: &mut CodecExtra,
 ) -> Result<bool, PacketError>
-    ensures carried { IfOk result (λ made. MatchBool made
-        (IsCarried mtu payload.now out.old.items out.new.items extra.old extra.new)
-        (IsLeft mtu payload.now out.old.items out.new.items extra.old extra.new)) }
-    ensures refused { IfErr result (λ e. Refuses mtu payload.now e) }
-    ensures refused_out { OnErr result (out.new.items ≡ out.old.items) }
-    ensures refused_extra { OnErr result (extra.new ≡ extra.old) }
+    ensures kept { IsFrontOf out.old.items out.new.items }
+    ensures made { IfOk result (λ made. made ≡ makes_packets p.old mtu payload.now) }
 {
     let packets = p.packetize(mtu, payload)?;
-    let Some(packet) = packets.first() else {
-        return Ok(false);
-    };
-    d.depacketize(packet, out, extra)?;
-    Ok(true)
+    for packet in &packets {
+        d.depacketize(packet, out, extra)?;
+    }
+    Ok(!packets.is_empty())
 }
 
 #[cfg(test)]

@@ -12,6 +12,8 @@ pub enum Line {
     Blank,
     /// A fresh packetizer and depacketizer.
     Codec,
+    /// Units written behind their lengths, in AVC form, or behind start codes.
+    Avc { is_on: bool },
     /// `payload` cut into packets of at most `limit` bytes.
     Pack { limit: usize, payload: Vec<u8> },
     /// `packet` put together.
@@ -32,6 +34,8 @@ pub fn read_line(alloc: Global, line: &[u8]) -> Result<Line, RunError> {
     match (words.next(), words.next(), words.next(), words.next()) {
         (None, _, _, _) => Ok(Line::Blank),
         (Some("codec"), Some("h264"), None, _) => Ok(Line::Codec),
+        (Some("avc"), Some("on"), None, _) => Ok(Line::Avc { is_on: true }),
+        (Some("avc"), Some("off"), None, _) => Ok(Line::Avc { is_on: false }),
         (Some("pack"), Some(limit), Some(payload), None) => {
             let (Ok(limit), Some(payload)) = (limit.parse::<usize>(), read_bytes(alloc, payload)?)
             else {

@@ -3,9 +3,7 @@
 #![tactic(auto)]
 
 mod carry;
-mod depacketizer;
 mod line;
-mod packetizer;
 mod run;
 
 use run::run;
@@ -21,3 +19,6 @@ fn main(rt: HostRuntime) -> ExitCode {
         }
     }
 }
+
+#[cfg(test)]
+mod rows;

@@ -1,9 +1,8 @@
 //! The program's lines: what each does, and what is answered.
 
-use crate::depacketizer::H264Depacketizer;
 use crate::line::{Line, read_line};
-use crate::packetizer::H264Packetizer;
 use h26x_core::{CodecExtra, Depacketizer, PacketError, Packetizer};
+use h264_payload::{H264Depacketizer, H264Packetizer};
 use std::alloc::{AllocError, Global};
 use std::io;
 use std::io::{Read, Write};
@@ -69,6 +68,10 @@ impl Session {
             Line::Blank => Ok(()),
             Line::Codec => {
                 *self = Session::new(self.alloc);
+                say(writer, "ok")
+            }
+            Line::Avc { is_on } => {
+                self.depacketizer.is_avc = is_on;
                 say(writer, "ok")
             }
             Line::Pack { limit, payload } => self.pack(limit, &payload, writer),

@@ -48,7 +48,11 @@ fn payloads_and_their_packets(rt: HostRuntime) -> Result<(), Fail> {
         let packets = sent(rt.alloc(), mtu, payload)?;
         assert_eq!(rt; packets.len(), want.len(), "at {mtu}: {payload:?}");
         for place in 0..want.len() {
-            assert_eq!(rt; packets[place].as_slice(), want[place], "at {mtu}: {payload:?}");
+            assert_eq!(rt;
+                packets[place].as_slice(),
+                want[place],
+                "at {mtu}: {payload:?}"
+            );
         }
     }
     Ok(())
@@ -59,10 +63,20 @@ fn a_long_unit_in_fragments(rt: HostRuntime) -> Result<(), Fail> {
     let mut unit = Vec::new(rt.alloc());
     unit.resize(2001, 0xab)?;
     unit[0] = 5;
-    for (mtu, count) in [(100, 21), (300, 7), (600, 4), (1200, 2), (2000, 2), (2001, 1)] {
+    for (mtu, count) in [
+        (100, 21),
+        (300, 7),
+        (600, 4),
+        (1200, 2),
+        (2000, 2),
+        (2001, 1),
+    ] {
         let packets = sent(rt.alloc(), mtu, &unit)?;
         assert_eq!(rt; packets.len(), count, "at {mtu}");
-        assert!(rt; packets.iter().all(|packet| packet.len() <= mtu), "at {mtu}");
+        assert!(rt;
+            packets.iter().all(|packet| packet.len() <= mtu),
+            "at {mtu}"
+        );
     }
     Ok(())
 }
@@ -75,7 +89,10 @@ fn sets_go_before_the_next_unit(rt: HostRuntime) -> Result<(), Fail> {
     let mut other = packetizer.clone()?;
     let packets = packetizer.packetize(1500, &[5, 4, 5])?;
     assert_eq!(rt; packets.len(), 2);
-    assert_eq!(rt; packets[0].as_slice(), [0x78, 0, 3, 7, 0, 1, 0, 3, 8, 2, 3].as_slice());
+    assert_eq!(rt;
+        packets[0].as_slice(),
+        [0x78, 0, 3, 7, 0, 1, 0, 3, 8, 2, 3].as_slice()
+    );
     assert_eq!(rt; packets[1].as_slice(), [5, 4, 5].as_slice());
     assert_eq!(rt; packetizer.packetize(1500, &[5, 4, 5])?.len(), 1);
     let packets = other.packetize(10, &[5, 4, 5])?;

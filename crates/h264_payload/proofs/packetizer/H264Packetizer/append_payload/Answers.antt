@@ -12,13 +12,13 @@ loop-unit-preserved c =
     let made = map (λ (p : Vec ℕ Global). p.items) c.loop-unit.packets.items in
     let is : c.loop-unit.unit-iterator ≡ c.in-Some.unit.now ∷ c.next.new.self = search rules in
     record {
-        sent = sent_more before after c.args.limit c.in-Some.unit.now c.loop-unit.unit-iterator c.next.new.self made _ _ is
-            (c.in_ok-append_due.ensures.sent ∙ ap (λ (items : List Item). made ++ packets_sent items) (c.take_unit-due.ensures.sent c.args.limit))
-            c.take_unit-due.ensures.waits c.loop-unit.invariant.sent;
-        waits = waits_more before after _ c.args.limit c.in-Some.unit.now c.loop-unit.unit-iterator c.next.new.self is c.take_unit-due.ensures.waits c.loop-unit.invariant.waits;
-        skipped = λ all.
-            let (left, no_sps, no_pps) = c.loop-unit.invariant.skipped all in
-            let (here, later) = skipped_more c.in-Some.unit.now c.loop-unit.unit-iterator c.next.new.self is left in
-            let same = (c.take_unit-due.ensures.skipped here).1 in
-            (later, ap (λ (b : Brought). b.sps) same ∙ no_sps, ap (λ (b : Brought). b.pps) same ∙ no_pps);
-      }
+      sent = sent_more before after c.args.limit c.in-Some.unit.now c.loop-unit.unit-iterator c.next.new.self made _ _ is
+          (c.in_ok-append_due.ensures.sent ∙ ap (λ (items : List Item). made ++ packets_sent items) (c.take_unit-due.ensures.sent c.args.limit))
+          c.take_unit-due.ensures.waits c.loop-unit.invariant.sent;
+      waits = waits_more before after _ c.args.limit c.in-Some.unit.now c.loop-unit.unit-iterator c.next.new.self is c.take_unit-due.ensures.waits c.loop-unit.invariant.waits;
+      skipped = λ all.
+          let (left, no_sps, no_pps) = c.loop-unit.invariant.skipped all in
+          let (here, later) = skipped_more c.in-Some.unit.now c.loop-unit.unit-iterator c.next.new.self is left in
+          let same = (c.take_unit-due.ensures.skipped here).1 in
+          (later, ap (λ (b : Brought). b.sps) same ∙ no_sps, ap (λ (b : Brought). b.pps) same ∙ no_pps);
+    }

@@ -8,12 +8,12 @@ pub loop-unit-preserved : goal.loop-unit-preserved
 loop-unit-preserved c =
     let is : c.loop-unit.unit-iterator ≡ c.in-Some.unit.now ∷ c.next.new.self = search rules in
     record {
-        counted = counted_more (waiting_with c.args.self.now c.loop-unit.brought) (waiting_with c.args.self.now c.take_unit-due.new.brought) c.args.limit c.in-Some.unit.now c.loop-unit.unit-iterator c.next.new.self
-            c.loop-unit.count c.saturating_add-count.result c.count_of_due.result _ (2 ^ 64 - 1) is c.take_unit-due.ensures.waits
-            (c.count_of_due.ensures ∙ ap (λ (items : List Item). min (length (packets_sent items)) (2 ^ 64 - 1)) (c.take_unit-due.ensures.sent c.args.limit))
-            c.saturating_add-count.ensures c.loop-unit.invariant.counted;
-        most = omega arith;
-      }
+      counted = counted_more (waiting_with c.args.self.now c.loop-unit.brought) (waiting_with c.args.self.now c.take_unit-due.new.brought) c.args.limit c.in-Some.unit.now c.loop-unit.unit-iterator c.next.new.self
+          c.loop-unit.count c.saturating_add-count.result c.count_of_due.result _ (2 ^ 64 - 1) is c.take_unit-due.ensures.waits
+          (c.count_of_due.ensures ∙ ap (λ (items : List Item). min (length (packets_sent items)) (2 ^ 64 - 1)) (c.take_unit-due.ensures.sent c.args.limit))
+          c.saturating_add-count.ensures c.loop-unit.invariant.counted;
+      most = omega arith;
+    }
 
 pub returns : goal.returns
 returns c =

@@ -70,5 +70,5 @@ returns-clause-without_effect c =
     let w = c.args.self.now in
     let units = units_of All c.args.b.now in
     ⊎_elim
-        (λ (zero_mtu : c.args.mtu ≡ 0). absurd (omega arith))
-        (λ (all : are_skipped units ≡ true). (none_made (λ (p : Vec ℕ Global). p.items) c.append_payload.new.packets.items w c.args.mtu units all (sent c), waits c ∙ same_wait w c.args.mtu units all))
+    (λ (zero_mtu : c.args.mtu ≡ 0). absurd (omega arith))
+    (λ (all : are_skipped units ≡ true). (none_made (λ (p : Vec ℕ Global). p.items) c.append_payload.new.packets.items w c.args.mtu units all (sent c), waits c ∙ same_wait w c.args.mtu units all))

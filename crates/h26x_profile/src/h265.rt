@@ -1,0 +1,318 @@
+//! Profiles, tiers and levels of H.265.
+
+ghost use Rattle.std.specs.Prelude.{◌≡◌};
+
+use crate::fmtp::byte_of;
+use serde::{Deserialize, Serialize};
+use std::collections::HashMap;
+use std::marker::Model;
+
+/// A profile of H.265, as `profile-id` names it (RFC 7798, section 7.1; Rec. ITU-T H.265, Annex A).
+#[derive(Debug, Clone, Copy, PartialEq, Eq, Serialize, Deserialize)]
+pub enum H265Profile {
+    /// Id 1.
+    Main,
+    /// Id 2.
+    Main10,
+    /// Id 3.
+    MainStillPicture,
+    /// Id 4.
+    FormatRangeExtensions,
+    /// Id 5.
+    HighThroughput,
+    /// Id 6.
+    MultiviewMain,
+    /// Id 7.
+    ScalableMain,
+    /// Id 8.
+    ThreeDMain,
+    /// Id 9.
+    ScreenContentCoding,
+    /// Id 10.
+    ScreenContentCodingExtensions,
+    /// Id 11.
+    HighThroughputScreenContentCoding,
+}
+
+impl H265Profile {
+    ghost use Rattle.h26x_profile.specs.H265.{profile_id, profile_of};
+
+    /// The profile with this id, if one has it.
+    pub fn from_id(id: u8) -> Option<Self>
+        ensures { result ≡ profile_of id }
+    {
+        match id {
+            1 => Some(H265Profile::Main),
+            2 => Some(H265Profile::Main10),
+            3 => Some(H265Profile::MainStillPicture),
+            4 => Some(H265Profile::FormatRangeExtensions),
+            5 => Some(H265Profile::HighThroughput),
+            6 => Some(H265Profile::MultiviewMain),
+            7 => Some(H265Profile::ScalableMain),
+            8 => Some(H265Profile::ThreeDMain),
+            9 => Some(H265Profile::ScreenContentCoding),
+            10 => Some(H265Profile::ScreenContentCodingExtensions),
+            11 => Some(H265Profile::HighThroughputScreenContentCoding),
+            _ => None,
+        }
+    }
+
+    /// The profile's id.
+    pub fn to_id(self) -> u8
+        ensures { result ≡ profile_id self }
+    {
+        match self {
+            H265Profile::Main => 1,
+            H265Profile::Main10 => 2,
+            H265Profile::MainStillPicture => 3,
+            H265Profile::FormatRangeExtensions => 4,
+            H265Profile::HighThroughput => 5,
+            H265Profile::MultiviewMain => 6,
+            H265Profile::ScalableMain => 7,
+            H265Profile::ThreeDMain => 8,
+            H265Profile::ScreenContentCoding => 9,
+            H265Profile::ScreenContentCodingExtensions => 10,
+            H265Profile::HighThroughputScreenContentCoding => 11,
+        }
+    }
+}
+
+/// A tier of H.265, as `tier-flag` names it (RFC 7798, section 7.1).
+#[derive(Debug, Clone, Copy, PartialEq, Eq, Serialize, Deserialize)]
+pub enum H265Tier {
+    /// Flag 0.
+    Main,
+    /// Flag 1.
+    High,
+}
+
+impl H265Tier {
+    ghost use Rattle.h26x_profile.specs.H265.{tier_flag, tier_of};
+
+    /// The tier with this flag, if one has it.
+    pub fn from_flag(flag: u8) -> Option<Self>
+        ensures { result ≡ tier_of flag }
+    {
+        match flag {
+            0 => Some(H265Tier::Main),
+            1 => Some(H265Tier::High),
+            _ => None,
+        }
+    }
+
+    /// The tier's flag.
+    pub fn to_flag(self) -> u8
+        ensures { result ≡ tier_flag self }
+    {
+        match self {
+            H265Tier::Main => 0,
+            H265Tier::High => 1,
+        }
+    }
+}
+
+/// A level of H.265, as `level-id` names it (RFC 7798, section 7.1; Rec. ITU-T H.265, Annex A). Levels are ordered
+/// by `ordinal`, and so by their ids.
+#[derive(Debug, Clone, Copy, PartialEq, Eq, PartialOrd, Ord, Serialize, Deserialize)]
+pub enum H265Level {
+    /// Level 1, id 30.
+    Level1,
+    /// Level 2, id 60.
+    Level2,
+    /// Level 2.1, id 63.
+    Level2_1,
+    /// Level 3, id 90.
+    Level3,
+    /// Level 3.1, id 93.
+    Level3_1,
+    /// Level 4, id 120.
+    Level4,
+    /// Level 4.1, id 123.
+    Level4_1,
+    /// Level 5, id 150.
+    Level5,
+    /// Level 5.1, id 153.
+    Level5_1,
+    /// Level 5.2, id 156.
+    Level5_2,
+    /// Level 6, id 180.
+    Level6,
+    /// Level 6.1, id 183.
+    Level6_1,
+    /// Level 6.2, id 186.
+    Level6_2,
+}
+
+impl H265Level {
+    ghost use Rattle.h26x_profile.specs.H265.{level_id, level_of, ordinal};
+
+    /// The level with this id, if one has it.
+    pub fn from_id(id: u8) -> Option<Self>
+        ensures { result ≡ level_of id }
+    {
+        match id {
+            30 => Some(H265Level::Level1),
+            60 => Some(H265Level::Level2),
+            63 => Some(H265Level::Level2_1),
+            90 => Some(H265Level::Level3),
+            93 => Some(H265Level::Level3_1),
+            120 => Some(H265Level::Level4),
+            123 => Some(H265Level::Level4_1),
+            150 => Some(H265Level::Level5),
+            153 => Some(H265Level::Level5_1),
+            156 => Some(H265Level::Level5_2),
+            180 => Some(H265Level::Level6),
+            183 => Some(H265Level::Level6_1),
+            186 => Some(H265Level::Level6_2),
+            _ => None,
+        }
+    }
+
+    /// The level's id.
+    pub fn to_id(self) -> u8
+        ensures { result ≡ level_id self }
+    {
+        match self {
+            H265Level::Level1 => 30,
+            H265Level::Level2 => 60,
+            H265Level::Level2_1 => 63,
+            H265Level::Level3 => 90,
+            H265Level::Level3_1 => 93,
+            H265Level::Level4 => 120,
+            H265Level::Level4_1 => 123,
+            H265Level::Level5 => 150,
+            H265Level::Level5_1 => 153,
+            H265Level::Level5_2 => 156,
+            H265Level::Level6 => 180,
+            H265Level::Level6_1 => 183,
+            H265Level::Level6_2 => 186,
+        }
+    }
+
+    /// The level's place among all levels, from 0.
+    pub fn ordinal(self) -> u8
+        ensures { result ≡ ordinal self }
+    {
+        self as u8
+    }
+}
+
+/// The profile, tier and level of an H.265 format in SDP (RFC 7798, section 7.1).
+#[derive(Debug, Clone, Copy, PartialEq, Eq, Serialize, Deserialize)]
+pub struct H265ProfileTierLevel {
+    profile: H265Profile,
+    tier: H265Tier,
+    level: H265Level,
+}
+
+impl Model for H265ProfileTierLevel {
+    ghost use Rattle.h26x_profile.specs.ProfileTierLevel.{ProfileTierLevel};
+    ghost use Rattle.h26x_profile.specs.declared.h265.H265Profile.{H265Profile};
+    ghost use Rattle.h26x_profile.specs.declared.h265.H265Tier.{H265Tier};
+    ghost use Rattle.h26x_profile.specs.declared.h265.H265Level.{H265Level};
+
+    ghost Value = { ProfileTierLevel H265Profile H265Tier H265Level };
+
+    ghost view = { λ it. record { profile = it.profile; tier = it.tier; level = it.level } };
+
+    ghost inverse = { λ it. record { profile = it.profile; tier = it.tier; level = it.level } };
+}
+
+impl H265ProfileTierLevel {
+    ghost use Rattle.h26x_profile.specs.Parameters.{read_with};
+    ghost use Rattle.h26x_profile.specs.H265 as spec;
+
+    /// What stands where a format says nothing.
+    pub const FALLBACK: Self = H265ProfileTierLevel {
+        profile: H265Profile::Main,
+        tier: H265Tier::Main,
+        level: H265Level::Level3_1,
+    };
+
+    /// The profile, tier and level with these numbers, if all three are known.
+    pub fn new(profile_id: u8, tier_flag: u8, level_id: u8) -> Option<Self>
+        ensures { result ≡ spec.known profile_id tier_flag level_id }
+    {
+        let profile = H265Profile::from_id(profile_id)?;
+        let tier = H265Tier::from_flag(tier_flag)?;
+        let level = H265Level::from_id(level_id)?;
+        Some(H265ProfileTierLevel {
+            profile,
+            tier,
+            level,
+        })
+    }
+
+    /// What the parameters `profile-id`, `tier-flag` and `level-id` of a format say. `None` where
+    /// one of them is not there, is no text that std reads as a `u8`, or has an unknown value.
+    pub fn from_fmtp(params: &HashMap<String, String>) -> Option<Self>
+        ensures { result ≡ read_with spec.known params.now }
+    {
+        let profile_id = byte_of(params, "profile-id")?;
+        let tier_flag = byte_of(params, "tier-flag")?;
+        let level_id = byte_of(params, "level-id")?;
+        Self::new(profile_id, tier_flag, level_id)
+    }
+
+    /// The profile.
+    pub fn profile(&self) -> H265Profile
+        ensures { result ≡ self.now.profile }
+    {
+        self.profile
+    }
+
+    /// The tier.
+    pub fn tier(&self) -> H265Tier
+        ensures { result ≡ self.now.tier }
+    {
+        self.tier
+    }
+
+    /// The level.
+    pub fn level(&self) -> H265Level
+        ensures { result ≡ self.now.level }
+    {
+        self.level
+    }
+
+    /// The same profile and tier at another level.
+    pub fn with_level(self, level: H265Level) -> Self
+        ensures { result ≡ record self { level = level } }
+    {
+        H265ProfileTierLevel { level, ..self }
+    }
+
+    /// The id of the profile.
+    pub fn profile_id(&self) -> u8
+        ensures { result ≡ spec.profile_id self.now.profile }
+    {
+        self.profile.to_id()
+    }
+
+    /// The flag of the tier.
+    pub fn tier_flag(&self) -> u8
+        ensures { result ≡ spec.tier_flag self.now.tier }
+    {
+        self.tier.to_flag()
+    }
+
+    /// The id of the level.
+    pub fn level_id(&self) -> u8
+        ensures { result ≡ spec.level_id self.now.level }
+    {
+        self.level.to_id()
+    }
+}
+
+/// The profile, tier and level with these numbers, or `FALLBACK` where one is unknown.
+impl From<(u8, u8, u8)> for H265ProfileTierLevel {
+    ghost use Rattle.std.specs.Prelude.{unwrap_or};
+    ghost use Rattle.h26x_profile.specs.H265.{known, fallback};
+
+    ghost from_gives = { λ n it. it ≡ unwrap_or (known n.0 n.1 n.2) fallback };
+
+    fn from(numbers: (u8, u8, u8)) -> Self {
+        let (profile_id, tier_flag, level_id) = numbers;
+        Self::new(profile_id, tier_flag, level_id).unwrap_or(Self::FALLBACK)
+    }
+}

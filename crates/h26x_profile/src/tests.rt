@@ -1,0 +1,211 @@
+//! Worked examples: what the tables say of values from outside, and the forms that serde writes.
+
+use crate::{
+    BitPattern, H264LevelIdc, H264Profile, H264ProfileIdc, H264ProfileLevel, H265Level,
+    H265Profile, H265ProfileTierLevel, H265Tier, H266Level, H266Profile, H266ProfileTierLevel,
+    H266Tier,
+};
+use std::alloc::Global;
+use std::collections::HashMap;
+use std::test::Fail;
+
+#[test]
+fn profile_level_ids_of_h264(rt: HostRuntime) {
+    for (value, want) in [
+        (0x64001f, Some((H264Profile::High, H264LevelIdc::Level3_1))),
+        (
+            0xff64001f,
+            Some((H264Profile::High, H264LevelIdc::Level3_1)),
+        ),
+        (
+            0x640c34,
+            Some((H264Profile::ConstrainedHigh, H264LevelIdc::Level5_2)),
+        ),
+        (
+            0x42e01f,
+            Some((H264Profile::ConstrainedBaseline, H264LevelIdc::Level3_1)),
+        ),
+        (
+            0x42100b,
+            Some((H264Profile::Baseline, H264LevelIdc::Level1B)),
+        ),
+        (
+            0x42100a,
+            Some((H264Profile::Baseline, H264LevelIdc::Level1)),
+        ),
+        (
+            0x42000b,
+            Some((H264Profile::Baseline, H264LevelIdc::Level1_1)),
+        ),
+        (0x64101f, None),
+        (0x640063, None),
+        (0x630a1f, None),
+    ] {
+        let got = H264ProfileLevel::try_from(value).ok();
+        assert_eq!(rt;
+            got.map(|it| (it.profile(), it.level())),
+            want,
+            "at {value}"
+        );
+    }
+}
+
+#[test]
+fn patterns_of_bits(rt: HostRuntime) {
+    let pattern = BitPattern::new(*b"x1xx0000");
+    for (value, want) in [(0x40, true), (0xf0, true), (0x00, false), (0x41, false)] {
+        assert_eq!(rt; pattern.matches(value), want, "at {value}");
+    }
+}
+
+#[test]
+fn profiles_and_levels_of_h264(rt: HostRuntime) {
+    let level = H264ProfileLevel::FALLBACK.level();
+    assert_eq!(rt; H264ProfileLevel::FALLBACK.profile(), H264Profile::Baseline);
+    assert_eq!(rt; level, H264LevelIdc::Level3_1);
+    assert_eq!(rt; H264ProfileLevel::new(H264ProfileIdc::X2C, 0, level), None);
+    let intra = H264ProfileLevel::new(H264ProfileIdc::X2C, 0x10, level);
+    assert_eq!(rt;
+        intra.map(|it| it.profile()),
+        Some(H264Profile::CAVLC444Intra)
+    );
+
+    assert!(rt; H264LevelIdc::Level1 < H264LevelIdc::Level1B);
+    assert!(rt; H264LevelIdc::Level1B < H264LevelIdc::Level1_1);
+    assert_eq!(rt; H264LevelIdc::Level5_2.ordinal(), 16);
+    assert_eq!(rt; H264LevelIdc::try_from(0), Ok(H264LevelIdc::Level1B));
+    assert_eq!(rt; H264LevelIdc::try_from(9), Err(()));
+    assert_eq!(rt; H264ProfileIdc::try_from(244), Ok(H264ProfileIdc::XF4));
+    assert_eq!(rt; H264ProfileIdc::try_from(99), Err(()));
+}
+
+#[test]
+fn numbers_of_h265(rt: HostRuntime) {
+    let main = H265ProfileTierLevel::new(1, 0, 93);
+    let want = (H265Profile::Main, H265Tier::Main, H265Level::Level3_1);
+    assert_eq!(rt; main, Some(H265ProfileTierLevel::FALLBACK));
+    assert_eq!(rt;
+        main.map(|it| (it.profile(), it.tier(), it.level())),
+        Some(want)
+    );
+    for (profile, tier, level) in [(1, 0, 255), (99, 0, 93), (1, 5, 93)] {
+        assert_eq!(rt;
+            H265ProfileTierLevel::new(profile, tier, level),
+            None,
+            "at {profile} {tier} {level}"
+        );
+        assert_eq!(rt;
+            H265ProfileTierLevel::from((profile, tier, level)),
+            H265ProfileTierLevel::FALLBACK
+        );
+    }
+
+    let high = H265ProfileTierLevel::from((2, 1, 186)).with_level(H265Level::Level4);
+    assert_eq!(rt;
+        (high.profile_id(), high.tier_flag(), high.level_id()),
+        (2, 1, 120)
+    );
+    assert_eq!(rt; H265Level::Level3_1.ordinal(), 4);
+    assert!(rt; H265Level::Level2_1 < H265Level::Level3);
+}
+
+#[test]
+fn numbers_of_h266(rt: HostRuntime) {
+    assert_eq!(rt; H266Level::from_id(255), Some(H266Level::Level15_5));
+    assert_eq!(rt; H266Level::from_id(93), None);
+    assert_eq!(rt; H266Level::from_id(180), None);
+    assert_eq!(rt; H266Profile::from_id(2), None);
+    assert_eq!(rt; H266Level::Level15_5.ordinal(), 14);
+    assert!(rt; H266Level::Level6_3 < H266Level::Level15_5);
+
+    let high = H266ProfileTierLevel::from((17, 1, 102)).with_level(H266Level::Level5_1);
+    assert_eq!(rt;
+        (high.profile_id(), high.tier_flag(), high.level_id()),
+        (17, 1, 83)
+    );
+    assert_eq!(rt;
+        H266ProfileTierLevel::from((1, 2, 51)),
+        H266ProfileTierLevel::FALLBACK
+    );
+    let fallback = H266ProfileTierLevel::FALLBACK;
+    assert_eq!(rt;
+        (fallback.profile(), fallback.tier(), fallback.level()),
+        (H266Profile::Main10, H266Tier::Main, H266Level::Level3_1)
+    );
+}
+
+/// The parameters of a format, from their names and texts.
+fn params_of(alloc: Global, pairs: &[(&str, &str)]) -> Result<HashMap<String, String>, Fail> {
+    let mut params = HashMap::new(alloc);
+    for (name, text) in pairs {
+        params.insert(
+            String::from_str(alloc, name)?,
+            String::from_str(alloc, text)?,
+        )?;
+    }
+    Ok(params)
+}
+
+#[test]
+fn parameters_of_a_format(rt: HostRuntime) -> Result<(), Fail> {
+    let alloc = rt.alloc();
+    let params = params_of(
+        alloc,
+        &[("profile-id", "1"), ("tier-flag", "0"), ("level-id", "51")],
+    )?;
+    assert_eq!(rt;
+        H266ProfileTierLevel::from_fmtp(&params),
+        H266ProfileTierLevel::new(1, 0, 51)
+    );
+    assert_eq!(rt; H265ProfileTierLevel::from_fmtp(&params), None);
+
+    let params = params_of(
+        alloc,
+        &[("profile-id", "2"), ("tier-flag", "1"), ("level-id", "+93")],
+    )?;
+    assert_eq!(rt;
+        H265ProfileTierLevel::from_fmtp(&params),
+        H265ProfileTierLevel::new(2, 1, 93)
+    );
+    assert_eq!(rt; H266ProfileTierLevel::from_fmtp(&params), None);
+
+    let params = params_of(
+        alloc,
+        &[("profile-id", "1"), ("tier-flag", "0"), ("level-id", "256")],
+    )?;
+    assert_eq!(rt; H265ProfileTierLevel::from_fmtp(&params), None);
+    assert_eq!(rt; H266ProfileTierLevel::from_fmtp(&params), None);
+
+    let params = params_of(alloc, &[("profile-id", "1"), ("level-id", "51")])?;
+    assert_eq!(rt; H266ProfileTierLevel::from_fmtp(&params), None);
+    Ok(())
+}
+
+#[test]
+fn json_of_h265(rt: HostRuntime) -> Result<(), Fail> {
+    let alloc = rt.alloc();
+    let text = "{\"profile\":\"Main\",\"tier\":\"Main\",\"level\":\"Level3_1\"}";
+    let written = serde_json::to_string(alloc, &H265ProfileTierLevel::FALLBACK)?;
+    assert_eq!(rt; written.as_str(), text);
+    let read: H265ProfileTierLevel = serde_json::from_str(alloc, text)?;
+    assert_eq!(rt; read, H265ProfileTierLevel::FALLBACK);
+
+    let unknown = "{\"profile\":\"Main\",\"tier\":\"Main\",\"level\":\"Level9\"}";
+    let refused: Result<H265ProfileTierLevel, serde_json::Error> = serde_json::from_str(
+        alloc, unknown,
+    );
+    assert!(rt; refused.is_err());
+    Ok(())
+}
+
+#[test]
+fn json_of_h266(rt: HostRuntime) -> Result<(), Fail> {
+    let alloc = rt.alloc();
+    let text = "{\"profile\":\"Main10_444\",\"tier\":\"High\",\"level\":\"Level15_5\"}";
+    let value = H266ProfileTierLevel::from((33, 1, 255));
+    let written = serde_json::to_string(alloc, &value)?;
+    assert_eq!(rt; written.as_str(), text);
+    let read: H266ProfileTierLevel = serde_json::from_str(alloc, text)?;
+    assert_eq!(rt; read, value);
+    Ok(())
+}
