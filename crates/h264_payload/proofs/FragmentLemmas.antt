@@ -12,6 +12,7 @@ use Rattle.h26x_core.specs.H264Unit.{type_of}
 use Rattle.h26x_core.specs.Packets.{pieces_needed, fragment, fragments, fragment_count}
 use Rattle.h26x_core.proofs.FewestLemmas.{needed_le}
 use Rattle.h26x_core.specs.Plan.{items_alone}
+use Rattle.h26x_core.proofs.TestLemmas.{test_below}
 use Rattle.h264_payload.specs.H264.{h264, reference_bits, flag}
 use Rattle.h264_payload.specs.Sending.{packets_sent}
 
@@ -27,6 +28,7 @@ needed_here x c j pos h k = let a = needed_more x c j pos h in let b = needed_le
 take_shorter : (rest : List ℕ) (n : ℕ) → take (min (length rest) n) rest ≡ take n rest
 take_shorter rest n = ap (λ k. take k rest) (omega arith) ∙ take_min n rest
 
+-- of fewer bytes no more are dropped
 drop_shorter : (rest : List ℕ) (n : ℕ) → drop (min (length rest) n) rest ≡ drop n rest
 drop_shorter rest n = ap (λ k. drop k rest) (omega arith) ∙ drop_min n rest
 
@@ -39,18 +41,9 @@ is_last x c j taken left pos is more t =
     (λ (short : left ≤ c). let b = needed_here x c j pos (omega arith) (omega arith) in eq-eqb taken left (omega arith) ∙ sym (eq-eqb (j + 1) (pieces_needed c x) b))
     (cases_lt c left)
 
+-- whether a byte's indicator is the sum of its parts
 indicator_test : ℕ → Bool
 indicator_test b = eqb (bit_or 28 (bit_and b 96)) (28 + reference_bits b)
-
--- a test that all numbers below n pass
-test_below : (n : ℕ) (p : ℕ → Bool) → list_all p (range_with_len 0 n) ≡ true → (b : ℕ) → b < n → p b ≡ true
-test_below n p h b lt = elim (p b) as (λ t. p b ≡ t → t ≡ true) [
-  | true ↦ λ _. refl
-  | false ↦ λ e.
-      let long : b < length (range_with_len 0 n) = rw length-range_with_len lt in
-      let here : p (get_or (range_with_len 0 n) b 0) ≡ false = rw (get_or-range_with_len 0 n b 0 lt, zero-add b) e in
-      let no = list_all_at p (range_with_len 0 n) b 0 long here in cc
-] refl
 
 -- an indicator's bits are the NRI of its unit and type 28
 pub indicator_is : (b : ℕ) → b < 256 → bit_or 28 (bit_and b 96) ≡ 28 + reference_bits b

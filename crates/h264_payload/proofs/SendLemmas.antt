@@ -17,6 +17,7 @@ use Rattle.h26x_core.proofs.LimitLemmas.{all_both, plan_within}
 use Rattle.h26x_core.specs.Waits.{Waiting, AreSets, sets_waiting, are_due, waits_after, items_now, plan_with, waits_after_all, entries_at}
 use Rattle.h26x_core.proofs.PacketLemmas.{packets-append}
 use Rattle.h26x_core.proofs.WaitLemmas.{sets_stay_all, plan-waiting}
+use Rattle.h26x_core.proofs.TestLemmas.{both_true}
 use Rattle.h264_payload.specs.H264.{h264, sets_fit}
 use Rattle.h264_payload.proofs.FactLemmas.{fits_limits}
 use Rattle.h264_payload.specs.Sending.{is_skipped_kind, is_skipped, are_skipped, waiting_with, newest, listed, packets_sent}
@@ -31,6 +32,7 @@ same_item : (n m : ℕ) (item : Item) → packets_of_item h264 n item ≡ packet
 same_item n m (Alone limit unit) = refl
 same_item n m (Together limit sets unit) = refl
 
+-- packets of H.264 bear no numbers, so the number of the first changes nothing
 unnumbered_packets : (n m : ℕ) (items : List Item) → packets h264 n items ≡ packets h264 m items
 unnumbered_packets n m [] = refl
 unnumbered_packets n m (item ∷ items) =
@@ -55,11 +57,6 @@ sent_more w later limit unit rest units made more all is now then_ so_far =
 pub waits_more : (w later after : Waiting) (limit : ℕ) (unit : List ℕ) (rest units : List (List ℕ)) → rest ≡ unit ∷ units → later ≡ waits_after h264 w unit →
     waits_after_all h264 w (entries_at limit rest) ≡ after → waits_after_all h264 later (entries_at limit units) ≡ after
 waits_more w later after limit unit rest units is then_ so_far = rw then_ (ap (λ (r : List (List ℕ)). waits_after_all h264 w (entries_at limit r)) (sym is) ∙ so_far)
-
-both_true : (a b : Bool) → (a && b) ≡ true → (a ≡ true) × (b ≡ true)
-both_true true true e = (refl, refl)
-both_true true false e = absurd cc
-both_true false b e = absurd cc
 
 -- of skipped units the first is, and the others are
 pub skipped_more : (unit : List ℕ) (rest units : List (List ℕ)) → rest ≡ unit ∷ units → are_skipped rest ≡ true → (is_skipped unit ≡ true) × (are_skipped units ≡ true)
@@ -90,6 +87,7 @@ counted_more w later limit unit rest units count more now all bound is then_ her
     ∙ ap length (packets_then items behind) ∙ length-append (packets_sent items) (packets_sent behind) in
     omega arith
 
+-- a kind that is skipped is Skipped
 skipped_kind : (kind : Kind) → is_skipped_kind kind ≡ true → kind ≡ Skipped
 skipped_kind Skipped is = refl
 skipped_kind Vps is = absurd cc
@@ -134,6 +132,7 @@ none_made items (packet ∷ made) w limit units all is =
     let none = none_sent w limit units all in
     let same = is ∙ ap packets_sent none in absurd cc
 
+-- what holds of two lists holds of the one that is chosen
 all_of : {A : Type 0} (P : A → Type 0) (b : Bool) (xs ys : List A) → AllByRecursion P xs → AllByRecursion P ys → AllByRecursion P (cond b xs ys)
 all_of P true xs ys h k = h
 all_of P false xs ys h k = k

@@ -22,6 +22,7 @@ units_only (unit ∷ units) = ap (λ (x : List (List ℕ)). unit ∷ x) (units_o
 pub stap_brings : (run : Option (List ℕ)) (reading : Reading) (units : List (List ℕ)) → reading ≡ Aggregate (map unnumbered units) → units_with run reading ≡ units
 stap_brings run reading units is = rw is (units_only units)
 
+-- a test that fails makes both fail
 both_false : (a b : Bool) → b ≡ false → (a && b) ≡ false
 both_false true b e = e
 both_false false b e = refl
