@@ -25,6 +25,7 @@ sets_fit limit sets = nat_le (1 + sum_by (λ set. 2 + length set) sets) limit &&
 abbrev pub sets_packet : ℕ → List (List ℕ) → List ℕ → List ℕ
 sets_packet number sets unit = 0x78 ∷ flat_map piece sets
 
+-- a bit, where it is set
 abbrev pub flag : Bool → ℕ → ℕ
 flag b bit = if b then bit else 0
 
@@ -33,6 +34,7 @@ abbrev pub fragment_header : List ℕ → Bool → Bool → List ℕ
 fragment_header [] start end = []
 fragment_header (first ∷ unit) start end = (28 + reference_bits first) ∷ (flag start 0x80 + flag end 0x40 + type_of first) ∷ []
 
+-- a unit that bears no number
 abbrev pub unnumbered : List ℕ → List ℕ × Option ℕ
 unnumbered unit = (unit, None)
 
@@ -45,6 +47,7 @@ stap_of units left = Aggregate units
 abbrev pub aggregate_of : Pieces → Reading
 aggregate_of p = stap_of (map unnumbered (filter is_not_empty p.whole)) p.left
 
+-- an FU-A, behind its first byte (5.8)
 abbrev pub fragment_of : ℕ → List ℕ → Reading
 fragment_of first [] = Refused ErrShortPacket
 fragment_of first (second ∷ body) =
@@ -64,6 +67,7 @@ abbrev pub carries : List ℕ → Bool
 carries [] = false
 carries (first ∷ unit) = nat_lt first 0x80 && nat_le 1 (type_of first) && nat_le (type_of first) 23
 
+-- the H.264 variant with its flag true
 abbrev pub has_key : CodecExtra → Bool
 has_key (extras.H264 extra) = extra.is_keyframe
 has_key extra = false
@@ -73,6 +77,7 @@ abbrev pub detects_fragment : ℕ → List ℕ → Bool
 detects_fragment type [] = false
 detects_fragment type (second ∷ body) = is_set second 7 && (type_of second == type)
 
+-- whether a packet is known to hold a unit of this type, or to begin one
 abbrev pub detects : ℕ → List ℕ → Bool
 detects type [] = false
 detects type (first ∷ rest) =
@@ -80,6 +85,7 @@ detects type (first ∷ rest) =
     else if type_of first == 28 then detects_fragment type rest
     else nat_le 1 (type_of first) && nat_le (type_of first) 23 && (type_of first == type)
 
+-- the format
 abbrev pub h264 : Format
 h264 = record {
   units = units_of All;

@@ -46,10 +46,12 @@ waiting_with w b = record {
 abbrev pub meaning_of : Waiting → List (List ℕ)
 meaning_of w = flat_map (λ set. set) w.vps ∷ flat_map (λ set. set) w.sps ∷ flat_map (λ set. set) w.pps ∷ [] ∷ []
 
+-- whether units of a kind are not sent
 abbrev pub is_skipped_kind : Kind → Bool
 is_skipped_kind Skipped = true
 is_skipped_kind kind = false
 
+-- whether a unit is not sent
 abbrev pub is_skipped : List ℕ → Bool
 is_skipped unit = is_skipped_kind (kind unit)
 
@@ -57,6 +59,7 @@ is_skipped unit = is_skipped_kind (kind unit)
 abbrev pub are_skipped : List (List ℕ) → Bool
 are_skipped units = list_all is_skipped units
 
+-- the kind of a unit, as the code has it
 abbrev pub unit_kind : UnitKind → Kind
 unit_kind k.Skipped = Skipped
 unit_kind k.Sps = Sps

@@ -20,7 +20,7 @@ with_type high type = type * 2 + field high 0 0
 abbrev pub with_type_and_f : ℕ → ℕ → ℕ
 with_type_and_f high type = field high 7 7 * 128 + with_type high type
 
-abbrev pub if_numbered : Bool → ℕ → ℕ
+abbrev pub if_numbered : Bool → ℕ → ℕ  -- a length, where packets bear numbers
 if_numbered numbered n = if numbered then n else 0
 
 -- sets fit an aggregate: its header and number, and each set behind its length, from the second on behind a difference too
@@ -37,7 +37,7 @@ sets_packet numbered n (set ∷ sets) (high ∷ low ∷ unit) =
     (with_type_and_f high 48 ∷ low ∷ []) ++ (if numbered then word (n % 65536) else []) ++ piece set ++ flat_map (further numbered) sets
 sets_packet numbered n sets unit = []
 
-abbrev pub flag : Bool → ℕ → ℕ
+abbrev pub flag : Bool → ℕ → ℕ  -- a bit, where it is set
 flag b bit = if b then bit else 0
 
 -- a fragment's header: the unit's with type 49, and a byte of S, E and the unit's type (4.4.3)
@@ -45,7 +45,7 @@ abbrev pub fragment_header : List ℕ → Bool → Bool → List ℕ
 fragment_header (high ∷ low ∷ unit) start end = with_type_and_f high 49 ∷ low ∷ (flag start 0x80 + flag end 0x40 + type_of high) ∷ []
 fragment_header unit start end = []
 
-abbrev pub unnumbered : List ℕ → List ℕ × Option ℕ
+abbrev pub unnumbered : List ℕ → List ℕ × Option ℕ  -- a unit that bears no number
 unnumbered unit = (unit, None)
 
 -- the units of an aggregate behind the first, each behind the difference of its number and its length
@@ -57,28 +57,28 @@ further_units (suc most) n (difference ∷ high ∷ low ∷ bytes) =
     else []
 further_units (suc most) n bytes = []
 
-abbrev pub units_from : ℕ → List ℕ → List (List ℕ × Option ℕ)
+abbrev pub units_from : ℕ → List ℕ → List (List ℕ × Option ℕ)  -- the units of a numbered aggregate behind DONL
 units_from n (high ∷ low ∷ bytes) =
     if nat_le (high * 256 + low) (length bytes)
     then (take (high * 256 + low) bytes, Some n) ∷ further_units (length bytes) n (drop (high * 256 + low) bytes)
     else []
 units_from n bytes = []
 
-abbrev pub two_or_more : List (List ℕ × Option ℕ) → Reading
+abbrev pub two_or_more : List (List ℕ × Option ℕ) → Reading  -- an aggregate has two units or more
 two_or_more (first ∷ second ∷ units) = Aggregate (first ∷ second ∷ units)
 two_or_more units = Refused ErrShortPacket
 
-abbrev pub aggregate_of : Bool → List ℕ → Reading
+abbrev pub aggregate_of : Bool → List ℕ → Reading  -- an aggregate behind its header (4.4.2)
 aggregate_of false bytes = two_or_more (map unnumbered (pieces_of bytes).whole)
 aggregate_of true (high ∷ low ∷ bytes) = two_or_more (units_from (high * 256 + low) bytes)
 aggregate_of true bytes = Refused ErrShortPacket
 
-abbrev pub single_of : Bool → ℕ → ℕ → List ℕ → Reading
+abbrev pub single_of : Bool → ℕ → ℕ → List ℕ → Reading  -- a single unit behind its header (4.4.1)
 single_of false high low body = Single (high ∷ low ∷ body) None
 single_of true high low (d ∷ e ∷ b ∷ body) = Single (high ∷ low ∷ b ∷ body) (Some (d * 256 + e))
 single_of true high low body = Refused ErrShortPacket
 
-abbrev pub fragment_of : Bool → Bool → ℕ → ℕ → ℕ → List ℕ → Reading
+abbrev pub fragment_of : Bool → Bool → ℕ → ℕ → ℕ → List ℕ → Reading  -- a fragment behind its header, by its S bit (4.4.3)
 fragment_of true true high low fu (d ∷ e ∷ b ∷ body) = Fragment true (is_set fu 6) (with_type high (field fu 5 0) ∷ low ∷ []) (Some (d * 256 + e)) (b ∷ body)
 fragment_of true true high low fu body = Refused ErrShortPacket
 fragment_of numbered start high low fu (b ∷ body) = Fragment start (is_set fu 6) (with_type high (field fu 5 0) ∷ low ∷ []) None (b ∷ body)
@@ -88,11 +88,11 @@ fragment_of numbered start high low fu body = Refused ErrShortPacket
 abbrev pub paci_head : ℕ → ℕ → ℕ → List ℕ
 paci_head high low fields = (field fields 15 15 * 128 + with_type high (field fields 14 9)) ∷ low ∷ []
 
-abbrev pub paci_behind : ℕ → ℕ → ℕ → List ℕ → List ℕ → Reading
+abbrev pub paci_behind : ℕ → ℕ → ℕ → List ℕ → List ℕ → Reading  -- a PACI whose extension ends here
 paci_behind high low fields extension [] = Refused ErrShortPacket
 paci_behind high low fields extension (b ∷ body) = Paci (paci_head high low fields) fields extension (b ∷ body)
 
-abbrev pub paci_of : ℕ → ℕ → List ℕ → Reading
+abbrev pub paci_of : ℕ → ℕ → List ℕ → Reading  -- a PACI behind its header (4.4.4)
 paci_of high low (a ∷ b ∷ bytes) = paci_behind high low (a * 256 + b) (take (field (a * 256 + b) 8 4) bytes) (drop (field (a * 256 + b) 8 4) bytes)
 paci_of high low bytes = Refused ErrShortPacket
 
@@ -111,7 +111,7 @@ abbrev pub carries : List ℕ → Bool
 carries (high ∷ low ∷ b ∷ unit) = nat_lt high 0x80 && (nat_lt (type_of high) 48 || nat_lt 50 (type_of high))
 carries unit = false
 
-abbrev pub has_key : CodecExtra → Bool
+abbrev pub has_key : CodecExtra → Bool  -- the H.265 variant with its flag true
 has_key (extras.H265 extra) = extra.is_keyframe
 has_key extra = false
 
@@ -120,14 +120,14 @@ abbrev pub detects_fragment : List ℕ → Bool
 detects_fragment [] = false
 detects_fragment (fu ∷ body) = is_set fu 7 && is_key_type (field fu 5 0)
 
-abbrev pub detects : List ℕ → Bool
+abbrev pub detects : List ℕ → Bool  -- whether a packet holds or begins a key unit
 detects (high ∷ low ∷ rest) =
     if type_of high == 48 then list_any is_key (take_while (λ unit. nat_le 2 (length unit)) (pieces_of rest).whole)
     else if type_of high == 49 then detects_fragment rest
     else is_key_type (type_of high)
 detects packet = false
 
-abbrev pub h265 : Bool → Format
+abbrev pub h265 : Bool → Format  -- the format, with or without numbers
 h265 numbered = record {
   units = units_of All;
   kind = kind;

@@ -21,19 +21,19 @@ with_type low type = type * 8 + field low 2 0
 abbrev pub sets_fit : Bool → ℕ → List (List ℕ) → Bool
 sets_fit numbered limit sets = nat_le (2 + (if numbered then 2 else 0) + sum_by (λ set. 2 + length set) sets) limit
 
-abbrev pub forbidden_of : List ℕ → Bool
+abbrev pub forbidden_of : List ℕ → Bool  -- whether F is set
 forbidden_of [] = false
 forbidden_of (high ∷ unit) = is_set high 7
 
-abbrev pub layer_of : List ℕ → ℕ
+abbrev pub layer_of : List ℕ → ℕ  -- the layer of a unit
 layer_of [] = 0
 layer_of (high ∷ unit) = field high 5 0
 
-abbrev pub temporal_of : List ℕ → ℕ
+abbrev pub temporal_of : List ℕ → ℕ  -- the temporal id of a unit
 temporal_of (high ∷ low ∷ unit) = field low 2 0
 temporal_of unit = 0
 
-abbrev pub least : (List ℕ → ℕ) → List (List ℕ) → ℕ
+abbrev pub least : (List ℕ → ℕ) → List (List ℕ) → ℕ  -- the least of a value over units
 least value [] = 0
 least value (set ∷ []) = value set
 least value (set ∷ second ∷ sets) = min (value set) (least value (second ∷ sets))
@@ -44,7 +44,7 @@ sets_packet numbered n sets unit =
     (((if list_any forbidden_of sets then 0x80 else 0) + least layer_of sets) ∷ (28 * 8 + max 1 (least temporal_of sets)) ∷ [])
     ++ (if numbered then word (n % 65536) else []) ++ flat_map piece sets
 
-abbrev pub flag : Bool → ℕ → ℕ
+abbrev pub flag : Bool → ℕ → ℕ  -- a bit, where it is set
 flag b bit = if b then bit else 0
 
 -- a fragment's header: the unit's with type 29, and a byte of S, E, P clear and the unit's type (4.3.3)
@@ -52,7 +52,7 @@ abbrev pub fragment_header : List ℕ → Bool → Bool → List ℕ
 fragment_header (high ∷ low ∷ unit) start end = high ∷ with_type low 29 ∷ (flag start 0x80 + flag end 0x40 + type_of low) ∷ []
 fragment_header unit start end = []
 
-abbrev pub single_of : Bool → ℕ → ℕ → List ℕ → Reading
+abbrev pub single_of : Bool → ℕ → ℕ → List ℕ → Reading  -- a single unit behind its header (4.3.1)
 single_of false high low body = Single (high ∷ low ∷ body) None
 single_of true high low (d ∷ e ∷ b ∷ body) = Single (high ∷ low ∷ b ∷ body) (Some (d * 256 + e))
 single_of true high low body = Refused ErrShortPacket
@@ -62,7 +62,7 @@ abbrev pub is_forbidden : List ℕ → Bool
 is_forbidden (high ∷ low ∷ unit) = (type_of low == 28) || (type_of low == 29)
 is_forbidden unit = false
 
-abbrev pub with_unit : List ℕ → Result (List (List ℕ)) PacketError → Result (List (List ℕ)) PacketError
+abbrev pub with_unit : List ℕ → Result (List (List ℕ)) PacketError → Result (List (List ℕ)) PacketError  -- one unit more before the others
 with_unit unit (Ok units) = Ok (unit ∷ units)
 with_unit unit (Err error) = Err error
 
@@ -82,17 +82,17 @@ numbered_on None units = map (λ unit. (unit, None)) units
 numbered_on (Some n) [] = []
 numbered_on (Some n) (unit ∷ units) = (unit, Some n) ∷ numbered_on (Some ((n + 1) % 65536)) units
 
-abbrev pub two_or_more : Option ℕ → Result (List (List ℕ)) PacketError → Reading
+abbrev pub two_or_more : Option ℕ → Result (List (List ℕ)) PacketError → Reading  -- an aggregate has two units or more
 two_or_more number (Ok (first ∷ second ∷ units)) = Aggregate (numbered_on number (first ∷ second ∷ units))
 two_or_more number (Ok units) = Refused ErrShortPacket
 two_or_more number (Err error) = Refused error
 
-abbrev pub aggregate_of : Bool → List ℕ → Reading
+abbrev pub aggregate_of : Bool → List ℕ → Reading  -- an aggregate behind its header (4.3.2)
 aggregate_of false bytes = two_or_more None (units_within (length bytes) bytes)
 aggregate_of true (d ∷ e ∷ bytes) = two_or_more (Some (d * 256 + e)) (units_within (length bytes) bytes)
 aggregate_of true bytes = Refused ErrShortPacket
 
-abbrev pub fragment_of : Bool → Bool → ℕ → ℕ → ℕ → List ℕ → Reading
+abbrev pub fragment_of : Bool → Bool → ℕ → ℕ → ℕ → List ℕ → Reading  -- a fragment behind its header, by its S bit (4.3.3)
 fragment_of true true high low fu (d ∷ e ∷ body) = Fragment true (is_set fu 6) (high ∷ with_type low (field fu 4 0) ∷ []) (Some (d * 256 + e)) body
 fragment_of true true high low fu body = Refused ErrShortPacket
 fragment_of numbered start high low fu body = Fragment start (is_set fu 6) (high ∷ with_type low (field fu 4 0) ∷ []) None body
@@ -111,7 +111,7 @@ abbrev pub carries : List ℕ → Bool
 carries (high ∷ low ∷ b ∷ unit) = nat_lt high 0x80 && nat_lt low 0x100 && (nat_lt (type_of low) 28 || nat_lt 29 (type_of low))
 carries unit = false
 
-abbrev pub has_key : CodecExtra → Bool
+abbrev pub has_key : CodecExtra → Bool  -- the H.266 variant with its flag true
 has_key (extras.H266 extra) = extra.is_keyframe
 has_key extra = false
 
@@ -120,14 +120,14 @@ abbrev pub detects_fragment : List ℕ → Bool
 detects_fragment [] = false
 detects_fragment (fu ∷ body) = is_set fu 7 && is_key_type (field fu 4 0)
 
-abbrev pub detects : List ℕ → Bool
+abbrev pub detects : List ℕ → Bool  -- whether a packet holds or begins a key unit
 detects (high ∷ low ∷ rest) =
     if type_of low == 28 then list_any is_key (take_while (λ unit. nat_le 2 (length unit)) (pieces_of rest).whole)
     else if type_of low == 29 then detects_fragment rest
     else is_key_type (type_of low)
 detects packet = false
 
-abbrev pub h266 : Bool → Format
+abbrev pub h266 : Bool → Format  -- the format, with or without numbers
 h266 numbered = record {
   units = units_of AtMostThree;
   kind = kind;

@@ -7,9 +7,11 @@ use Rattle.h26x_core.specs.Group.{Entry, Group, split, sets_of}
 use Rattle.h26x_core.specs.Plan.{units_of_item, items_of_sets, is_dropped, plan, sent}
 use Rattle.h26x_core.specs.Waits.{entries_at}
 
+-- an other unit is not dropped for its size
 abbrev pub KeepsUnit : Format → Entry → Type 0
 KeepsUnit f entry = IsTrue (is_other (f.kind entry.unit)) → is_dropped f entry.limit entry.unit ≡ false
 
+-- no set of a group is dropped for its size
 abbrev pub KeepsSets : Format → Group → Type 0
 KeepsSets f g = flat_map units_of_item (items_of_sets f g.last.limit (sets_of f g.front) g.last.unit) ≡ sets_of f g.front
 

@@ -5,6 +5,7 @@ use Rattle.h26x_core.specs.Word.{word}
 use Rattle.h26x_core.specs.Kind.{Kind}
 use Rattle.h26x_core.specs.Reading.{Reading}
 
+-- one payload format
 pub record Format : Type 0 where
   -- the units of a payload
   pub units : List ℕ → List (List ℕ)

@@ -34,9 +34,11 @@ pub record Split : Type 0 where
   pub groups : List Group
   pub rest : List Entry
 
+-- one group more before the others
 abbrev pub with_group : Group → Split → Split
 with_group g s = record { groups = g ∷ s.groups; rest = s.rest }
 
+-- the groups and the rest of entries behind a front of which none is completed
 abbrev pub split_from : Format → List Entry → List Entry → Split
 split_from f front [] = record { groups = []; rest = front }
 split_from f front (e ∷ entries) =
@@ -44,6 +46,7 @@ split_from f front (e ∷ entries) =
     then with_group (record { front = front; last = e }) (split_from f [] entries)
     else split_from f (front ++ e ∷ []) entries
 
+-- the groups and the rest of a list
 abbrev pub split : Format → List Entry → Split
 split f entries = split_from f [] entries
 

@@ -20,6 +20,7 @@ kind unit = Skipped
 abbrev pub is_key_type : ℕ → Bool
 is_key_type type = nat_le 16 type && nat_le type 21
 
+-- a key unit: one of a key type
 abbrev pub is_key : List ℕ → Bool
 is_key (high ∷ low ∷ unit) = is_key_type (type_of high)
 is_key unit = false

@@ -5,6 +5,7 @@ use Rattle.h26x_core.specs.Format.{Format}
 use Rattle.h26x_core.specs.Plan.{Item, Alone, Together}
 use Rattle.h26x_core.specs.Packets.{packets_of_item}
 
+-- none of the packets is longer than this
 abbrev pub AreWithin : ℕ → List (List ℕ) → Type 0
 AreWithin most packets = AllByRecursion (λ packet. length packet ≤ most) packets
 

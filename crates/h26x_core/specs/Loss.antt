@@ -14,11 +14,12 @@ kept (true ∷ mask) (x ∷ xs) = x ∷ kept mask xs
 kept (false ∷ mask) (x ∷ xs) = kept mask xs
 kept mask xs = []
 
--- whether the first, or the last, is kept
+-- whether the first is kept
 abbrev pub first_kept : List Bool → Bool
 first_kept [] = false
 first_kept (b ∷ mask) = b
 
+-- whether the last is kept
 abbrev pub last_kept : List Bool → Bool
 last_kept [] = false
 last_kept (b ∷ []) = b

@@ -20,6 +20,7 @@ pieces_needed n len = (len + (n - 1)) / n
 abbrev pub fragmented : Format → ℕ → List ℕ → List ℕ
 fragmented f n unit = number f n ++ drop f.header_len unit
 
+-- how many fragments a unit takes
 abbrev pub fragment_count : Format → ℕ → List ℕ → ℕ
 fragment_count f limit unit = pieces_needed (room f limit) (number_len f + (length unit - f.header_len))
 
@@ -32,6 +33,7 @@ abbrev pub fragment : Format → ℕ → ℕ → List ℕ → ℕ → List ℕ
 fragment f n limit unit j =
     f.fragment_header unit (j == 0) (j + 1 == fragment_count f limit unit) ++ fragment_part f n limit unit j
 
+-- all fragments of a unit, in order
 abbrev pub fragments : Format → ℕ → ℕ → List ℕ → List (List ℕ)
 fragments f n limit unit = map (fragment f n limit unit) (range_with_len 0 (fragment_count f limit unit))
 

@@ -17,6 +17,7 @@ pub record Pieces : Type 0 where
   pub whole : List (List ℕ)
   pub left : List ℕ
 
+-- one piece more before the others
 abbrev pub with_piece : List ℕ → Pieces → Pieces
 with_piece piece p = record { whole = piece ∷ p.whole; left = p.left }
 
@@ -29,6 +30,7 @@ pieces_within (suc most) (high ∷ low ∷ bytes) =
     else record { whole = []; left = high ∷ low ∷ bytes }
 pieces_within (suc most) bytes = record { whole = []; left = bytes }
 
+-- all whole pieces
 abbrev pub pieces_of : List ℕ → Pieces
 pieces_of bytes = pieces_within (length bytes) bytes
 

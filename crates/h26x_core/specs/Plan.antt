@@ -18,6 +18,7 @@ fits f limit unit = nat_le (length unit + number_len f) limit
 abbrev pub is_dropped : Format → ℕ → List ℕ → Bool
 is_dropped f limit unit = if fits f limit unit then false else nat_le limit (fragment_header_len f + number_len f)
 
+-- a unit that is sent alone, if it is not dropped
 abbrev pub items_alone : Format → ℕ → List ℕ → List Item
 items_alone f limit unit = if is_dropped f limit unit then [] else Alone limit unit ∷ []
 
@@ -39,6 +40,7 @@ items_of_group f g = flat_map (item_of f) g.front ++ items_of_sets f g.last.limi
 abbrev pub plan : Format → List Entry → List Item
 plan f entries = flat_map (items_of_group f) (split f entries).groups ++ flat_map (item_of f) (split f entries).rest
 
+-- the units of an item, in order
 abbrev pub units_of_item : Item → List (List ℕ)
 units_of_item (Alone limit unit) = unit ∷ []
 units_of_item (Together limit sets unit) = sets

@@ -11,18 +11,22 @@ pub data Reading : Type 0 where
   Paci : (head : List ℕ) (fields : ℕ) (extension body : List ℕ) → Reading
   Refused : (error : PacketError) → Reading
 
+-- the packet is a fragment
 abbrev pub IsFragment : Reading → Type 0
 IsFragment (Fragment start end head number body) = Unit {0}
 IsFragment reading = ⊥
 
+-- whether it is a fragment that starts
 abbrev pub is_start : Reading → Bool
 is_start (Fragment start end head number body) = start
 is_start reading = false
 
+-- whether it is a fragment that ends
 abbrev pub is_end : Reading → Bool
 is_end (Fragment start end head number body) = end
 is_end reading = false
 
+-- the header of a fragment
 abbrev pub head_of : Reading → List ℕ
 head_of (Fragment start end head number body) = head
 head_of reading = []

@@ -14,6 +14,7 @@ abbrev pub run_after : Option (List ℕ) → Reading → Option (List ℕ)
 run_after run (Fragment start end head number body) = if end then None else continued start run body
 run_after run reading = run
 
+-- the unit of a header and the data of a run, if one is open
 abbrev pub named_by : List ℕ → Option (List ℕ) → List (List ℕ)
 named_by head None = []
 named_by head (Some run) = (head ++ run) ∷ []

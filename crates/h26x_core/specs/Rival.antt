@@ -6,10 +6,12 @@ use Rattle.h26x_core.specs.Format.{Format}
 use Rattle.h26x_core.specs.Plan.{fits, is_dropped}
 use Rattle.h26x_core.specs.Packets.{fragment_count}
 
+-- the packet is a fragment that starts
 abbrev pub IsStart : Reading → Type 0
 IsStart (Fragment true end head number body) = Unit {0}
 IsStart reading = ⊥
 
+-- the first of the packets is a start
 abbrev pub FirstStarts : Format → List (List ℕ) → Type 0
 FirstStarts f [] = ⊥
 FirstStarts f (packet ∷ packets) = IsStart (f.read packet)

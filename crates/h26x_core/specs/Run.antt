@@ -4,9 +4,11 @@ use Rattle.std.specs.Option.{option_map_or}
 use Rattle.std.specs.List.{flat_map}
 use Rattle.h26x_core.specs.Reading.{Reading, Single, Aggregate, Fragment, Paci, is_start, is_end, head_of, body_of}
 
+-- whether the packet at a place starts
 abbrev pub starts_at : List Reading → ℕ → Bool
 starts_at readings place = option_map_or is_start (slice_get readings place) false
 
+-- whether the packet at a place ends
 abbrev pub ends_at : List Reading → ℕ → Bool
 ends_at readings place = option_map_or is_end (slice_get readings place) false
 

@@ -12,9 +12,11 @@ pub record Waiting : Type 0 where
   pub sps : List (List ℕ)
   pub pps : List (List ℕ)
 
+-- no set waits
 abbrev pub none_waiting : Waiting
 none_waiting = record { vps = []; sps = []; pps = [] }
 
+-- the sets that wait, in the order that they are sent in
 abbrev pub sets_waiting : Waiting → List (List ℕ)
 sets_waiting w = w.vps ++ w.sps ++ w.pps
 
@@ -41,6 +43,7 @@ abbrev pub plan_with : Format → Waiting → List Entry → List Item
 plan_with f w [] = []
 plan_with f w (e ∷ entries) = items_now f w e ++ plan_with f (waits_after f w e.unit) entries
 
+-- the sets that wait after entries, one after the other
 abbrev pub waits_after_all : Format → Waiting → List Entry → Waiting
 waits_after_all f w [] = w
 waits_after_all f w (e ∷ entries) = waits_after_all f (waits_after f w e.unit) entries
@@ -54,6 +57,7 @@ pub data IsOneSet (is_it : Kind → Bool) (f : Format) : List (List ℕ) → Typ
   NoSet : IsOneSet is_it f []
   OneSet : (unit : List ℕ) → is_it (f.kind unit) ≡ true → IsOneSet is_it f (unit ∷ [])
 
+-- of each kind no set waits, or one of this kind
 pub record AreSets (f : Format) (w : Waiting) : Type 0 where
   pub vps : IsOneSet is_vps f w.vps
   pub sps : IsOneSet is_sps f w.sps
