@@ -1,19 +1,19 @@
 -- A unit in fragments, from one place to the next: each has two bytes beside its data.
-use Rattle.std.proofs.Common.{◌≡◌, ℕ, ◌+◌, ◌-◌, ◌*◌, ◌<◌, ◌≤◌, Bool, true, false, eqb, bit_or, bit_and, List, [], ◌∷◌, ◌++◌, length, get_or, take, drop, min, refl, sym, ap, ◌∙◌, ⊎_elim, arith, eq-eqb, zero-add, append_assoc}
+use Rattle.std.proofs.Common.{◌≡◌, ℕ, ◌+◌, ◌-◌, ◌*◌, ◌<◌, ◌≤◌, Bool, false, eqb, bit_or, bit_and, List, [], ◌∷◌, ◌++◌, length, get_or, take, drop, min, refl, sym, ap, ◌∙◌, ⊎_elim, arith, eq-eqb, zero-add, append_assoc}
 use Rattle.std.specs.Prelude.{map, nat_le}
-use Rattle.std.specs.List.{list_all, range_with_len}
+use Rattle.std.specs.List.{range_with_len}
 use Rattle.std.proofs.lemmas.Bool.{eqb-true, cases_lt}
 use Rattle.std.proofs.lemmas.Bool.Decides.{nat_tests}
 use Rattle.std.proofs.lemmas.List.{append-nil, length-map, length-drop, take_min, drop_min, take_all, drop-drop, map_push}
-use Rattle.std.proofs.lemmas.List.Folds.{list_all_at}
-use Rattle.std.proofs.lemmas.List.FromFn.{length-range_with_len, get_or-range_with_len, map-range_with_len_more}
+use Rattle.std.proofs.lemmas.List.FromFn.{length-range_with_len, map-range_with_len_more}
 use Rattle.std.proofs.lemmas.Nat.{le-div}
+use Rattle.h26x_core.specs.Word.{flag}
 use Rattle.h26x_core.specs.H264Unit.{type_of}
 use Rattle.h26x_core.specs.Packets.{pieces_needed, fragment, fragments, fragment_count}
 use Rattle.h26x_core.proofs.FewestLemmas.{needed_le}
 use Rattle.h26x_core.specs.Plan.{items_alone}
 use Rattle.h26x_core.proofs.TestLemmas.{test_below}
-use Rattle.h264_payload.specs.H264.{h264, reference_bits, flag}
+use Rattle.h264_payload.specs.H264.{h264, reference_bits}
 use Rattle.h264_payload.specs.Sending.{packets_sent}
 
 -- a piece that begins within the data is counted

@@ -3,12 +3,12 @@ use Rattle.std.proofs.Common.{◌≡◌, ℕ, ◌+◌, ◌<◌, ◌≤◌, Bool,
 use Rattle.std.specs.Prelude.{◌≢◌, IsTrue, nat_le, nat_lt, ◌&&◌}
 use Rattle.std.proofs.lemmas.Bool.{and_parts}
 use Rattle.std.proofs.lemmas.Bool.Decides.{nat_tests}
-use Rattle.h26x_core.specs.Word.{is_set}
+use Rattle.h26x_core.specs.Word.{is_set, flag}
 use Rattle.h26x_core.specs.H264Unit.{type_of}
 use Rattle.h26x_core.specs.Reading.{Single, Refused}
 use Rattle.h26x_core.specs.Pieces.{pieces_of}
 use Rattle.h26x_core.specs.declared.error.PacketError.TheVariants.{NaluTypeIsNotHandled}
-use Rattle.h264_payload.specs.H264.{read, carries, flag, reference_bits, aggregate_of, fragment_of}
+use Rattle.h264_payload.specs.H264.{read, carries, reference_bits, aggregate_of, fragment_of}
 
 -- a type has five bits
 pub type_below : (byte : ℕ) → type_of byte < 32

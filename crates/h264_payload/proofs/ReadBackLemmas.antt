@@ -2,12 +2,12 @@
 use Rattle.std.proofs.Common.{◌≡◌, ℕ, ◌+◌, ◌<◌, ◌≤◌, Bool, true, false, cond, List, [], ◌∷◌, ◌++◌, length, take, Option, None, refl, ap, arith}
 use Rattle.std.specs.Prelude.{IsTrue, map}
 use Rattle.h26x_core.specs.H264Unit.{type_of}
-use Rattle.h26x_core.specs.Reading.{Single, Aggregate, Fragment}
+use Rattle.h26x_core.specs.Reading.{Single, Aggregate, Fragment, unnumbered}
 use Rattle.h26x_core.specs.Packets.{single}
 use Rattle.h26x_core.specs.Number.{number_borne, numbered_from}
 use Rattle.h26x_core.specs.Facts.{AreCarried, ReadsWhatItWrites}
 use Rattle.h26x_core.proofs.PieceLemmas.{pieces_back}
-use Rattle.h264_payload.specs.H264.{h264, read, carries, fragment_header, sets_fit, unnumbered}
+use Rattle.h264_payload.specs.H264.{h264, read, carries, fragment_header, sets_fit}
 use Rattle.h264_payload.proofs.HeaderLemmas.{type_below, indicator_type, indicator_bits, byte_of_parts, start_back, end_back, type_back, carried_first, unit_is_read}
 use Rattle.h264_payload.proofs.SetLemmas.{fit_parts, none_is_empty}
 

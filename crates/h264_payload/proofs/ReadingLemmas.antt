@@ -5,10 +5,10 @@ use Rattle.std.proofs.lemmas.Bool.{cases_lt, cases_eq}
 use Rattle.std.proofs.lemmas.List.{length-take, take-append-drop}
 use Rattle.h26x_core.specs.Text.{is_not_empty}
 use Rattle.h26x_core.specs.H264Unit.{type_of}
-use Rattle.h26x_core.specs.Reading.{Reading, Single, Aggregate}
+use Rattle.h26x_core.specs.Reading.{Reading, Single, Aggregate, unnumbered}
 use Rattle.h26x_core.specs.Pieces.{ArePieces, HasNoPiece, Pieces, pieces_of}
-use Rattle.h26x_core.proofs.PieceLemmas.{pieces_are, pieces_short, pieces_stop, only_pieces, none_past}
-use Rattle.h264_payload.specs.H264.{read, unnumbered, stap_of, aggregate_of, fragment_of}
+use Rattle.h26x_core.proofs.PieceLemmas.{pieces_are, pieces_short, only_pieces, none_past}
+use Rattle.h264_payload.specs.H264.{read, stap_of, aggregate_of, fragment_of}
 use Rattle.h264_payload.specs.Reading.{IsReading, IsEmpty, IsUnit, IsStap, IsCutStap, IsFragment, IsShortFragment, IsOtherType}
 use Rattle.h264_payload.proofs.HeaderLemmas.{unit_is_read, stap_is_read, fragment_is_read, other_is_read}
 

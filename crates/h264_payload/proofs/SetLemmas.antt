@@ -1,10 +1,9 @@
 -- Parameter sets that fit a STAP-A.
-use Rattle.std.proofs.Common.{◌≡◌, ℕ, ◌+◌, ◌<◌, ◌≤◌, true, false, List, [], ◌∷◌, length, refl, ap, arith, length-append}
+use Rattle.std.proofs.Common.{◌≡◌, ℕ, ◌+◌, ◌<◌, ◌≤◌, true, false, List, [], ◌∷◌, length, refl, ap, arith}
 use Rattle.std.specs.Prelude.{nat_le, nat_lt, filter}
 use Rattle.std.specs.List.{flat_map, list_all, sum_by, AllByRecursion}
 use Rattle.std.proofs.lemmas.Bool.{and_parts}
 use Rattle.std.proofs.lemmas.Bool.Decides.{nat_tests}
-use Rattle.std.proofs.lemmas.List.Sums.{sum_by-cons}
 use Rattle.h26x_core.specs.Text.{is_not_empty}
 use Rattle.h26x_core.specs.Pieces.{piece}
 use Rattle.h26x_core.specs.Facts.{AreCarried}

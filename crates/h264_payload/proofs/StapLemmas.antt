@@ -7,10 +7,9 @@ use Rattle.std.proofs.lemmas.List.Sums.{sum_by-cons}
 use Rattle.h26x_core.specs.declared.error.PacketError.{PacketError}
 use Rattle.h26x_core.specs.declared.error.PacketError.TheVariants.{OutOfMemory}
 use Rattle.h26x_core.specs.Text.{is_not_empty}
-use Rattle.h26x_core.specs.Reading.{Reading, Aggregate}
+use Rattle.h26x_core.specs.Reading.{Reading, Aggregate, unnumbered}
 use Rattle.h26x_core.specs.Received.{units_with, run_after}
 use Rattle.h26x_core.specs.Outcome.{is_too_long, IsOutcomeWith}
-use Rattle.h264_payload.specs.H264.{unnumbered}
 use Rattle.h264_payload.specs.Packet.{written_len}
 
 -- numbers put beside units and left out again

@@ -1,15 +1,15 @@
 -- The payload format of H.264 (RFC 6184).
-use Rattle.std.specs.Prelude.{ℕ, ◌+◌, ◌*◌, nat_le, nat_lt, Bool, true, false, ◌&&◌, ◌==◌, if◌then◌else◌, List, [], ◌∷◌, ◌++◌, length, map, filter, Option, None}
+use Rattle.std.specs.Prelude.{ℕ, ◌+◌, ◌*◌, nat_le, nat_lt, Bool, false, ◌&&◌, ◌==◌, if◌then◌else◌, List, [], ◌∷◌, length, map, filter, Option, None}
 use Rattle.std.specs.List.{flat_map, list_all, list_any, sum_by}
 use Rattle.h26x_core.specs.declared.extra.CodecExtra.{CodecExtra}
 use Rattle.h26x_core.specs.declared.extra.CodecExtra.TheVariants as extras
 use Rattle.h26x_core.specs.declared.error.PacketError.TheVariants.{ErrShortPacket, NaluTypeIsNotHandled, StapASizeLargerThanBuffer}
 use Rattle.h26x_cut.specs.declared.ZeroRule.TheVariants.{All}
 use Rattle.h26x_cut.specs.Cutting.{units_of}
-use Rattle.h26x_core.specs.Word.{field, is_set}
+use Rattle.h26x_core.specs.Word.{field, is_set, flag}
 use Rattle.h26x_core.specs.H264Unit.{type_of, type_of_first, kind, is_key}
 use Rattle.h26x_core.specs.Text.{is_not_empty}
-use Rattle.h26x_core.specs.Reading.{Reading, Single, Aggregate, Fragment, Refused}
+use Rattle.h26x_core.specs.Reading.{Reading, Single, Aggregate, Fragment, Refused, unnumbered}
 use Rattle.h26x_core.specs.Format.{Format}
 use Rattle.h26x_core.specs.Pieces.{Pieces, pieces_of, piece}
 
@@ -25,18 +25,10 @@ sets_fit limit sets = nat_le (1 + sum_by (λ set. 2 + length set) sets) limit &&
 abbrev pub sets_packet : ℕ → List (List ℕ) → List ℕ → List ℕ
 sets_packet number sets unit = 0x78 ∷ flat_map piece sets
 
--- a bit, where it is set
-abbrev pub flag : Bool → ℕ → ℕ
-flag b bit = if b then bit else 0
-
 -- an FU-A's indicator, with the unit's NRI, and its header: S, E and the unit's type (5.8)
 abbrev pub fragment_header : List ℕ → Bool → Bool → List ℕ
 fragment_header [] start end = []
 fragment_header (first ∷ unit) start end = (28 + reference_bits first) ∷ (flag start 0x80 + flag end 0x40 + type_of first) ∷ []
-
--- a unit that bears no number
-abbrev pub unnumbered : List ℕ → List ℕ × Option ℕ
-unnumbered unit = (unit, None)
 
 -- units, unless a length that is left over passes the bytes behind it
 abbrev pub stap_of : List (List ℕ × Option ℕ) → List ℕ → Reading

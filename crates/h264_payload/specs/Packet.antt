@@ -3,9 +3,8 @@ use Rattle.std.specs.Prelude.{◌≡◌, ℕ, ◌+◌, ◌<◌, Bool, false, if�
 use Rattle.std.specs.List.{list_any, sum_by}
 use Rattle.h26x_core.specs.Outcome.{is_too_long}
 use Rattle.h26x_core.specs.Text.{is_not_empty}
-use Rattle.h26x_core.specs.Reading.{Reading, Single, Aggregate, Fragment}
+use Rattle.h26x_core.specs.Reading.{Reading, Single, Aggregate, Fragment, unnumbered}
 use Rattle.h26x_core.specs.Pieces.{pieces_of}
-use Rattle.h264_payload.specs.H264.{unnumbered}
 use Rattle.h264_payload.specs.declared.packet.Packet.{Packet}
 use Rattle.h264_payload.specs.declared.packet.Packet.TheVariants as p
 

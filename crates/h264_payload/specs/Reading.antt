@@ -1,12 +1,12 @@
 -- How an H.264 packet is read: a relation on the whole packet (RFC 6184, 5.2 and 5.6 to 5.8).
-use Rattle.std.specs.Prelude.{◌≡◌, ◌≢◌, ℕ, ◌+◌, ◌*◌, ◌<◌, ◌≤◌, List, [], ◌∷◌, ◌++◌, length, map, filter, None, ◌⊎◌}
+use Rattle.std.specs.Prelude.{◌≡◌, ◌≢◌, ℕ, ◌+◌, ◌*◌, ◌<◌, ◌≤◌, List, [], ◌∷◌, length, map, filter, None, ◌⊎◌}
 use Rattle.h26x_core.specs.declared.error.PacketError.TheVariants.{ErrShortPacket, NaluTypeIsNotHandled, StapASizeLargerThanBuffer}
 use Rattle.h26x_core.specs.Word.{is_set}
 use Rattle.h26x_core.specs.H264Unit.{type_of}
 use Rattle.h26x_core.specs.Text.{is_not_empty}
-use Rattle.h26x_core.specs.Reading.{Reading, Single, Aggregate, Fragment, Refused}
+use Rattle.h26x_core.specs.Reading.{Reading, Single, Aggregate, Fragment, Refused, unnumbered}
 use Rattle.h26x_core.specs.Pieces.{ArePieces}
-use Rattle.h264_payload.specs.H264.{reference_bits, unnumbered}
+use Rattle.h264_payload.specs.H264.{reference_bits}
 
 -- A rule for each kind of packet; each says what the whole packet is, and how it is read.
 pub data IsReading (packet : List ℕ) (reading : Reading) : Type 0 where

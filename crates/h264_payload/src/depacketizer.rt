@@ -131,6 +131,14 @@ fn append_units(
 /// Writes the units of packets, each behind a start code, or in AVC form behind its length.
 ///
 /// It keeps the data of the fragments since the latest start, until an end completes their unit.
+///
+/// ```rust
+/// let mut depacketizer = H264Depacketizer::new(alloc);
+/// let mut extra = CodecExtra::None;
+/// for packet in &packets {
+///     depacketizer.depacketize(packet, &mut out, &mut extra)?;
+/// }
+/// ```
 #[derive(Debug, Drop)]
 pub struct H264Depacketizer {
     /// Whether units are written in AVC form (ISO/IEC 14496-15), behind lengths of four bytes.
@@ -164,7 +172,7 @@ impl H264Depacketizer {
         }
     }
 
-    /// The same depacketizer again, with its setting and its open run.
+    /// The same depacketizer again, with its setting and its open run. `OutOfMemory` is its only error.
     pub fn clone(&self) -> Result<Self, PacketError>
         ensures same { IfOk result (λ it. it ≡ self.now) }
         ensures memory { OnErr result (result ≡ Err PacketError.OutOfMemory) }
@@ -265,13 +273,27 @@ impl Depacketizer for H264Depacketizer {
     // The setting, and the data of the open run if there is one.
     ghost meaning = { meaning_of };
 
+    /// The bytes of the packets, four more, and four for each whole 1200 of them.
     fn out_size_hint(&self, packets_size: usize) -> Option<usize>
         ensures { result ≡ Some (size_hint packets_size) }
     {
         Some(packets_size.saturating_add(4 * (packets_size / 1200 + 1)))
     }
 
-    /// Appends the units that `packet` completes to `out`, each behind a start code or its length.
+    /// Appends the units that `packet` completes to `out`, each behind `00 00 00 01`, or in AVC form behind
+    /// its length in four bytes. `codec_extra` then tells whether one of them, or one told of before, is of
+    /// a keyframe; a packet that completes none leaves it.
+    ///
+    /// A start of fragments gives up a unit that was open, and a fragment without a start before it is
+    /// accepted and completes nothing. That fragments between were lost is not noticed here: their unit is
+    /// written without their data.
+    ///
+    /// A refusal leaves `out`, `codec_extra` and the open unit:
+    /// - `ErrShortPacket`: no byte, or an FU-A of one byte;
+    /// - `NaluTypeIsNotHandled`: type 0, 25 to 27 or 29 to 31 (RFC 6184, 5.2);
+    /// - `StapASizeLargerThanBuffer`: a length of a STAP-A, and the fewer bytes that are left;
+    /// - `AvcUnitTooLong`: in AVC form, a unit of over `u32::MAX` bytes;
+    /// - `OutOfMemory`.
     fn depacketize(
         &mut self,
         packet: &[u8],

@@ -1,4 +1,4 @@
-//! Whether a packet is known to hold a unit of a type, or to begin one (ours).
+//! Whether a packet is known to hold a unit of a type, or to begin one (str0m's rule).
 
 ghost use Rattle.std.specs.Prelude.{◌≡◌, ◌==◌};
 ghost use Rattle.std.specs.List.{list_any};
@@ -29,7 +29,8 @@ fn stap_holds(bytes: &[u8], target_nalu: u8) -> bool
     stap::units(bytes).any(|unit| unit_type(unit) == target_nalu)
 }
 
-/// Whether a packet is known to hold a unit of this type, or to be the first fragment of one.
+/// Whether a packet is known to hold a unit of this type, or to be the first fragment of one. The units of
+/// a STAP-A are looked at up to a length that passes its end.
 pub fn detect_h264_nalu(payload: &[u8], target_nalu: u8) -> bool
     ensures { result ≡ detects target_nalu payload.now }
 {
@@ -48,6 +49,11 @@ pub fn detect_h264_nalu(payload: &[u8], target_nalu: u8) -> bool
 }
 
 /// Whether a packet is known to hold a slice of an IDR picture, or to be the first fragment of one.
+///
+/// ```rust
+/// assert!(detect_h264_keyframe(&[0x65, 0x88]));
+/// assert!(!detect_h264_keyframe(&[0x67, 0x42]));
+/// ```
 pub fn detect_h264_keyframe(payload: &[u8]) -> bool
     ensures { result ≡ detects 5 payload.now }
 {

@@ -3,7 +3,8 @@
 ghost use Rattle.std.specs.Prelude.{◌≡◌, ◌++◌, ◌∷◌, ◌<◌, ◌+◌, ◌^◌, IfOk, OnOk, map, length};
 ghost use Rattle.h26x_core.specs.H264Unit.{type_of};
 ghost use Rattle.h26x_core.specs.Packets.{fragments, fragment_count};
-ghost use Rattle.h264_payload.specs.H264.{h264, reference_bits, flag};
+ghost use Rattle.h26x_core.specs.Word.{flag};
+ghost use Rattle.h264_payload.specs.H264.{h264, reference_bits};
 
 use h26x_core::{
     FU_END_BITMASK, FU_START_BITMASK, FUA_HEADER_SIZE, FUA_NALU_TYPE, NALU_REF_IDC_BITMASK,

@@ -1,7 +1,7 @@
 //! The H.264 payload format (RFC 6184): a packetizer, a depacketizer and the detection of keyframes,
 //! with the format's definitions and their laws.
 //!
-//! ```text
+//! ```rust
 //! let mut packetizer = H264Packetizer::new(alloc);
 //! let packets = packetizer.packetize(1200, &frame)?;
 //!

@@ -29,6 +29,7 @@ pub enum Packet<'a> {
         end: bool,
         /// The header of the unit that the fragment ends, if it ends one.
         head: u8,
+        /// The data behind the indicator and the header.
         body: &'a [u8],
     },
 }

@@ -26,6 +26,13 @@ use std::marker::Model;
 ///
 /// A unit that fits goes alone (5.6), a longer one in fragments (5.8). An SPS and a PPS wait, each the
 /// latest, and go in one STAP-A (5.7.1) before the next other unit. Access unit delimiters are not sent.
+///
+/// ```rust
+/// let mut packetizer = H264Packetizer::new(alloc);
+/// for packet in &packetizer.packetize(1200, &frame)? {
+///     send(packet);
+/// }
+/// ```
 #[derive(Debug, Drop)]
 pub struct H264Packetizer {
     sps: Option<Vec<u8>>,
@@ -255,7 +262,7 @@ impl H264Packetizer {
         }
     }
 
-    /// A packetizer for which the same sets wait.
+    /// A packetizer for which the same sets wait. `OutOfMemory` is its only error.
     pub fn clone(&self) -> Result<Self, PacketError>
         ensures same { IfOk result (λ it. it ≡ self.now) }
         ensures none { self.now ≡ none_waiting → IsOk result }
@@ -351,9 +358,15 @@ impl Packetizer for H264Packetizer {
 
     ghost meaning = { meaning_of };
 
-    /// The packets of a payload, each no longer than `mtu`, after the sets that wait.
+    /// The packets of a payload, in order, each of at most `mtu` bytes. The payload is one unit, or units
+    /// behind start codes of Annex B.
     ///
-    /// A payload of delimiters alone takes no memory and has no packets. So does every payload where `mtu` is 0.
+    /// Sets that wait from earlier calls go before the first unit that makes them due. At `mtu` 1 and 2 a
+    /// fragment has no room for data, so a longer unit is dropped; an SPS and a PPS that don't fit one packet
+    /// are dropped too. A payload of delimiters alone, or any at `mtu` 0, has no packets, takes no memory and
+    /// leaves the sets that wait.
+    ///
+    /// `OutOfMemory` is its only error, and leaves the sets that wait.
     fn packetize(&mut self, mtu: usize, b: &[u8]) -> Result<Vec<Vec<u8>>, PacketError>
         ensures sent { IfOk result (λ made. map (λ p. p.items) made.items ≡ packets h264 0 (plan_with h264 self.old (entries_of_payload mtu b.now))) }
         ensures waits { OnOk result (self.new ≡ waits_after_all h264 self.old (entries_of_payload mtu b.now)) }

@@ -5,8 +5,8 @@ ghost use Rattle.std.specs.List.{list_any};
 ghost use Rattle.std.specs.Iterator.{YieldsFirstBy, item_count};
 ghost use Rattle.h26x_core.specs.Outcome.{is_too_long};
 ghost use Rattle.h26x_core.specs.Pieces.{pieces_of};
-ghost use Rattle.h26x_core.specs.Reading.{Aggregate, Refused};
-ghost use Rattle.h264_payload.specs.H264.{aggregate_of, unnumbered};
+ghost use Rattle.h26x_core.specs.Reading.{Aggregate, Refused, unnumbered};
+ghost use Rattle.h264_payload.specs.H264.{aggregate_of};
 ghost use Rattle.h264_payload.specs.Packet.{stap_units};
 
 use h26x_core::{PacketError, STAPA_NALU_LENGTH_SIZE, first_piece};

@@ -3,10 +3,10 @@ use Rattle.std.proofs.Common.{◌≡◌, ℕ, ◌+◌, ◌<◌, Bool, true, fals
 use Rattle.std.specs.Prelude.{◌&&◌, ◌||◌, nat_lt, IsTrue}
 use Rattle.std.proofs.lemmas.Bool.{eqb-true}
 use Rattle.std.proofs.lemmas.Bool.Decides.{nat_tests}
-use Rattle.h26x_core.specs.Word.{field, is_set}
+use Rattle.h26x_core.specs.Word.{field, is_set, flag}
 use Rattle.h26x_core.specs.H265Unit.{type_of}
 use Rattle.h26x_core.proofs.TestLemmas.{both_true, same_bool, same_bool_is, test_below}
-use Rattle.h265_payload.specs.H265.{with_type, with_type_and_f, flag, carries}
+use Rattle.h265_payload.specs.H265.{with_type, with_type_and_f, carries}
 use Rattle.h265_payload.specs.Reading.{IsUnitType}
 
 -- the byte behind a fragment's header

@@ -5,11 +5,11 @@ use Rattle.std.proofs.lemmas.List.{take_at, drop_at, length-drop, length-map}
 use Rattle.std.proofs.lemmas.Bool.Decides.{nat_tests}
 use Rattle.h26x_core.specs.Word.{field, is_set}
 use Rattle.h26x_core.specs.H265Unit.{type_of}
-use Rattle.h26x_core.specs.Reading.{Reading, Single, Aggregate, Fragment, Paci, Refused}
+use Rattle.h26x_core.specs.Reading.{Reading, Single, Aggregate, Fragment, Paci, Refused, unnumbered}
 use Rattle.h26x_core.specs.declared.error.PacketError.TheVariants.{ErrShortPacket, ErrH265CorruptedPacket}
 use Rattle.h26x_core.specs.Pieces.{HasNoPiece, Pieces}
 use Rattle.h26x_core.proofs.PieceLemmas.{only_pieces, split_at, enough}
-use Rattle.h265_payload.specs.H265.{read, with_type, unnumbered, two_or_more, aggregate_of, units_from, further_units, single_of, fragment_of, paci_of, paci_behind, paci_head}
+use Rattle.h265_payload.specs.H265.{read, with_type, two_or_more, aggregate_of, units_from, further_units, single_of, fragment_of, paci_of, paci_behind, paci_head}
 use Rattle.h265_payload.specs.Reading.{IsReading, IsWhole, IsUnitType, AreFurther, HasNoFurther, IsShort, IsCorrupted, IsUnit, IsNumberedUnit, IsShortUnit, IsAggregate, IsShortAggregate, IsNumberedAggregate, IsOneNumbered, IsNoneNumbered, IsWithoutNumber, IsFragment, IsNumberedStart, IsShortFragment, IsShortStart, IsPaci, IsShortPaci, IsPaciWithoutFields}
 use Rattle.h265_payload.proofs.HeaderLemmas.{unit_type}
 use Rattle.h265_payload.proofs.FurtherLemmas.{only_further}

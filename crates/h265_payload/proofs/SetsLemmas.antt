@@ -5,11 +5,11 @@ use Rattle.std.specs.List.{flat_map, sum_by, AllByRecursion}
 use Rattle.std.proofs.lemmas.List.{take_at, drop_at}
 use Rattle.std.proofs.lemmas.List.Sums.{sum_by-cons}
 use Rattle.std.proofs.lemmas.Bool.Decides.{nat_tests}
-use Rattle.h26x_core.specs.Reading.{Aggregate}
+use Rattle.h26x_core.specs.Reading.{Aggregate, unnumbered}
 use Rattle.h26x_core.specs.Number.{numbered_from}
 use Rattle.h26x_core.specs.Pieces.{piece}
 use Rattle.h26x_core.proofs.PieceLemmas.{word_back, pieces_back, enough, number_back}
-use Rattle.h265_payload.specs.H265.{h265, carries, read, sets_fit, sets_packet, further, further_units, units_from, unnumbered, two_or_more}
+use Rattle.h265_payload.specs.H265.{h265, carries, read, sets_fit, sets_packet, further, further_units, units_from, two_or_more}
 use Rattle.h265_payload.proofs.HeaderLemmas.{CarriedBytes, of_carried}
 
 -- what sets take behind their lengths

@@ -6,9 +6,9 @@ use Rattle.h26x_core.specs.declared.extra.CodecExtra.TheVariants as extras
 use Rattle.h26x_core.specs.declared.error.PacketError.TheVariants.{ErrShortPacket, ErrH265CorruptedPacket}
 use Rattle.h26x_cut.specs.declared.ZeroRule.TheVariants.{All}
 use Rattle.h26x_cut.specs.Cutting.{units_of}
-use Rattle.h26x_core.specs.Word.{field, is_set, word}
+use Rattle.h26x_core.specs.Word.{field, is_set, flag, word}
 use Rattle.h26x_core.specs.H265Unit.{type_of, kind, is_key, is_key_type}
-use Rattle.h26x_core.specs.Reading.{Reading, Single, Aggregate, Fragment, Paci, Refused}
+use Rattle.h26x_core.specs.Reading.{Reading, Single, Aggregate, Fragment, Paci, Refused, unnumbered}
 use Rattle.h26x_core.specs.Format.{Format}
 use Rattle.h26x_core.specs.Pieces.{pieces_of, piece}
 
@@ -37,16 +37,10 @@ sets_packet numbered n (set ∷ sets) (high ∷ low ∷ unit) =
     (with_type_and_f high 48 ∷ low ∷ []) ++ (if numbered then word (n % 65536) else []) ++ piece set ++ flat_map (further numbered) sets
 sets_packet numbered n sets unit = []
 
-abbrev pub flag : Bool → ℕ → ℕ  -- a bit, where it is set
-flag b bit = if b then bit else 0
-
 -- a fragment's header: the unit's with type 49, and a byte of S, E and the unit's type (4.4.3)
 abbrev pub fragment_header : List ℕ → Bool → Bool → List ℕ
 fragment_header (high ∷ low ∷ unit) start end = with_type_and_f high 49 ∷ low ∷ (flag start 0x80 + flag end 0x40 + type_of high) ∷ []
 fragment_header unit start end = []
-
-abbrev pub unnumbered : List ℕ → List ℕ × Option ℕ  -- a unit that bears no number
-unnumbered unit = (unit, None)
 
 -- the units of an aggregate behind the first, each behind the difference of its number and its length
 abbrev pub further_units : ℕ → ℕ → List ℕ → List (List ℕ × Option ℕ)

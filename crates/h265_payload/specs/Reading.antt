@@ -3,9 +3,9 @@ use Rattle.std.specs.Prelude.{◌≡◌, ℕ, ◌+◌, ◌*◌, ◌%◌, ◌<◌
 use Rattle.h26x_core.specs.declared.error.PacketError.TheVariants.{ErrShortPacket, ErrH265CorruptedPacket}
 use Rattle.h26x_core.specs.Word.{field, is_set}
 use Rattle.h26x_core.specs.H265Unit.{type_of}
-use Rattle.h26x_core.specs.Reading.{Reading, Single, Aggregate, Fragment, Paci, Refused}
+use Rattle.h26x_core.specs.Reading.{Reading, Single, Aggregate, Fragment, Paci, Refused, unnumbered}
 use Rattle.h26x_core.specs.Pieces.{ArePieces, HasNoPiece}
-use Rattle.h265_payload.specs.H265.{with_type, paci_head, unnumbered}
+use Rattle.h265_payload.specs.H265.{with_type, paci_head}
 
 -- a header with F clear, and one byte or more behind it
 pub record IsWhole (packet : List ℕ) (high low : ℕ) (rest : List ℕ) : Type 0 where

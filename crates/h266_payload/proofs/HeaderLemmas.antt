@@ -3,10 +3,10 @@ use Rattle.std.proofs.Common.{◌≡◌, ℕ, ◌+◌, ◌*◌, ◌<◌, Bool, t
 use Rattle.std.specs.Prelude.{◌&&◌, ◌||◌, ◌==◌, nat_lt, max}
 use Rattle.std.proofs.lemmas.Bool.{eqb-true}
 use Rattle.std.proofs.lemmas.Bool.Decides.{nat_tests}
-use Rattle.h26x_core.specs.Word.{field, is_set}
+use Rattle.h26x_core.specs.Word.{field, is_set, flag}
 use Rattle.h26x_core.specs.H266Unit.{type_of}
 use Rattle.h26x_core.proofs.TestLemmas.{both_true, same_bool, same_bool_is, test_below}
-use Rattle.h266_payload.specs.H266.{with_type, flag, carries}
+use Rattle.h266_payload.specs.H266.{with_type, carries}
 
 -- a choice gives one of its two
 pub pick : {A : Type 0} (b : Bool) (x y r : A) → cond b x y ≡ r → (x ≡ r) ⊎ (y ≡ r)

@@ -7,7 +7,7 @@ use Rattle.h26x_core.specs.declared.error.PacketError.{PacketError}
 use Rattle.h26x_core.specs.declared.error.PacketError.TheVariants.{ErrShortPacket, ErrH266CorruptedPacket}
 use Rattle.h26x_cut.specs.declared.ZeroRule.TheVariants.{AtMostThree}
 use Rattle.h26x_cut.specs.Cutting.{units_of}
-use Rattle.h26x_core.specs.Word.{field, is_set, word}
+use Rattle.h26x_core.specs.Word.{field, is_set, flag, word}
 use Rattle.h26x_core.specs.H266Unit.{type_of, kind, is_key, is_key_type}
 use Rattle.h26x_core.specs.Reading.{Reading, Single, Aggregate, Fragment, Refused}
 use Rattle.h26x_core.specs.Format.{Format}
@@ -43,9 +43,6 @@ abbrev pub sets_packet : Bool → ℕ → List (List ℕ) → List ℕ → List 
 sets_packet numbered n sets unit =
     (((if list_any forbidden_of sets then 0x80 else 0) + least layer_of sets) ∷ (28 * 8 + max 1 (least temporal_of sets)) ∷ [])
     ++ (if numbered then word (n % 65536) else []) ++ flat_map piece sets
-
-abbrev pub flag : Bool → ℕ → ℕ  -- a bit, where it is set
-flag b bit = if b then bit else 0
 
 -- a fragment's header: the unit's with type 29, and a byte of S, E, P clear and the unit's type (4.3.3)
 abbrev pub fragment_header : List ℕ → Bool → Bool → List ℕ

@@ -1,5 +1,5 @@
 -- What a packet is to a depacketizer (RFC 6184, 5.2; RFC 7798, 4.4; RFC 9328, 4.3).
-use Rattle.std.specs.Prelude.{ℕ, Bool, false, List, [], Option}
+use Rattle.std.specs.Prelude.{ℕ, Bool, false, List, [], Option, None}
 use Rattle.h26x_core.specs.declared.error.PacketError.{PacketError}
 
 -- One unit; several; a part of one, with the header that its unit would have; an H.265 PACI with its fields
@@ -10,6 +10,10 @@ pub data Reading : Type 0 where
   Fragment : (start end : Bool) (head : List ℕ) (number : Option ℕ) (body : List ℕ) → Reading
   Paci : (head : List ℕ) (fields : ℕ) (extension body : List ℕ) → Reading
   Refused : (error : PacketError) → Reading
+
+-- a unit that bears no number
+abbrev pub unnumbered : List ℕ → List ℕ × Option ℕ
+unnumbered unit = (unit, None)
 
 -- the packet is a fragment
 abbrev pub IsFragment : Reading → Type 0

@@ -22,11 +22,15 @@ pub struct H266CodecExtra {
 }
 
 /// What a depacketizer tells of the units that it has written: the codec, and whether a keyframe
-/// is among them. `None` stands for no unit.
+/// is among them.
 #[derive(Debug, Clone, Copy, PartialEq, Eq)]
 pub enum CodecExtra {
+    /// No unit was written.
     None,
+    /// Units of H.264.
     H264(H264CodecExtra),
+    /// Units of H.265.
     H265(H265CodecExtra),
+    /// Units of H.266.
     H266(H266CodecExtra),
 }

@@ -84,6 +84,12 @@ fn units_behind_code<'a>(bytes: &'a [u8], rule: ZeroRule, finder: Finder<'static
 /// Without a start code the whole payload is one unit. Otherwise the bytes before the first code are
 /// dropped, and a unit stands between each code and the next, the last one up to the end. Empty
 /// units are left out. It takes no memory and refuses nothing (Annex B of the video standards).
+///
+/// ```rust
+/// for unit in units(&[0, 0, 1, 0x67, 0x42, 0, 0, 0, 1, 0x65], ZeroRule::All) {
+///     // first 67 42, then 65
+/// }
+/// ```
 pub fn units(payload: &[u8], rule: ZeroRule) -> UnitSlices<'_>
     ensures { AreUnits rule payload.now result }
 {

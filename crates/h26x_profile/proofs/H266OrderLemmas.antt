@@ -1,9 +1,8 @@
 -- The order of the levels of H.266.
 use Rattle.std.proofs.Common.{◌≡◌, Bool, true, refl}
 use Rattle.std.specs.List.{list_all}
-use Rattle.std.specs.Ordering.{nat_cmp}
 use Rattle.std.specs.declared.cmp.Ordering.{Ordering}
-use Rattle.h26x_profile.specs.H266.{levels, ordinal}
+use Rattle.h26x_profile.specs.H266.{levels}
 use Rattle.h26x_profile.proofs.TableLemmas.{passes_at, same, same_is}
 use Rattle.h26x_profile.specs.declared.h266.H266Level.{H266Level}
 use Rattle.h26x_profile.specs.declared.h266.H266Level.TheVariants as level

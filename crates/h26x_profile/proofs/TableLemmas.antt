@@ -1,5 +1,5 @@
 -- Tests of whole tables.
-use Rattle.std.proofs.Common.{◌≡◌, ℕ, ◌<◌, ltb, Bool, true, false, List, length, get_or, refl}
+use Rattle.std.proofs.Common.{◌≡◌, ℕ, ltb, Bool, true, false, List, length, get_or, refl}
 use Rattle.std.specs.List.{list_all}
 use Rattle.std.proofs.lemmas.Bool.{ltb-true}
 use Rattle.std.proofs.lemmas.List.Folds.{list_all_at}

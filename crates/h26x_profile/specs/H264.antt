@@ -1,5 +1,5 @@
 -- Profiles and levels of H.264 (RFC 6184, section 8.1; Rec. ITU-T H.264, Annex A).
-use Rattle.std.specs.Prelude.{ℕ, ◌/◌, ◌%◌, Bool, ◌==◌, ◌&&◌, ◌||◌, cond, List, [], ◌∷◌, Option, Some, Result, codes, find}
+use Rattle.std.specs.Prelude.{ℕ, ◌/◌, ◌%◌, Bool, ◌==◌, ◌&&◌, ◌||◌, cond, List, [], ◌∷◌, Option, Some, codes, find}
 use Rattle.std.specs.Option.{option_map, option_and_then}
 use Rattle.h26x_profile.specs.Table.{with_number, place_of}
 use Rattle.h26x_profile.specs.Pattern.{bit_of, matches}

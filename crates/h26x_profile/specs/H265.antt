@@ -1,5 +1,5 @@
 -- Profiles, tiers and levels of H.265 (RFC 7798, section 7.1; Rec. ITU-T H.265, Annex A).
-use Rattle.std.specs.Prelude.{ℕ, List, [], ◌∷◌, Option, Some, unwrap_or}
+use Rattle.std.specs.Prelude.{ℕ, List, [], ◌∷◌, Option}
 use Rattle.h26x_profile.specs.Table.{with_number, place_of}
 use Rattle.h26x_profile.specs.ProfileTierLevel.{ProfileTierLevel, all_known}
 use Rattle.h26x_profile.specs.declared.h265.H265Profile.{H265Profile}

@@ -1,5 +1,5 @@
 -- Profiles, tiers and levels of H.266 (RFC 9328, section 7.2; Rec. ITU-T H.266, Annex A).
-use Rattle.std.specs.Prelude.{ℕ, List, [], ◌∷◌, Option, Some, unwrap_or}
+use Rattle.std.specs.Prelude.{ℕ, List, [], ◌∷◌, Option}
 use Rattle.h26x_profile.specs.Table.{with_number, place_of}
 use Rattle.h26x_profile.specs.ProfileTierLevel.{ProfileTierLevel, all_known}
 use Rattle.h26x_profile.specs.declared.h266.H266Profile.{H266Profile}

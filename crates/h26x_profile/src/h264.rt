@@ -163,6 +163,11 @@ impl TryFrom<u8> for H264LevelIdc {
 }
 
 /// The profile and level of an H.264 format in SDP (RFC 6184, section 8.1).
+///
+/// ```rust
+/// let high = H264ProfileLevel::try_from(0x64001f)?;
+/// assert_eq!(rt; (high.profile(), high.level()), (H264Profile::High, H264LevelIdc::Level3_1));
+/// ```
 #[derive(Debug, Clone, Copy, PartialEq, Eq)]
 pub struct H264ProfileLevel {
     profile: H264Profile,

@@ -2,10 +2,9 @@
 
 ghost use Rattle.std.specs.Prelude.{◌≡◌};
 
-use crate::fmtp::byte_of;
+use crate::numbered::Numbered;
+use crate::profile_tier_level::ProfileTierLevel;
 use serde::{Deserialize, Serialize};
-use std::collections::HashMap;
-use std::marker::Model;
 
 /// A profile of H.265, as `profile-id` names it (RFC 7798, section 7.1; Rec. ITU-T H.265, Annex A).
 #[derive(Debug, Clone, Copy, PartialEq, Eq, Serialize, Deserialize)]
@@ -77,6 +76,22 @@ impl H265Profile {
     }
 }
 
+impl Numbered for H265Profile {
+    ghost use Rattle.h26x_profile.specs.H265.{profile_id, profile_of};
+
+    ghost named = { profile_of };
+
+    ghost number_of = { profile_id };
+
+    fn from_number(number: u8) -> Option<Self> {
+        H265Profile::from_id(number)
+    }
+
+    fn to_number(self) -> u8 {
+        self.to_id()
+    }
+}
+
 /// A tier of H.265, as `tier-flag` names it (RFC 7798, section 7.1).
 #[derive(Debug, Clone, Copy, PartialEq, Eq, Serialize, Deserialize)]
 pub enum H265Tier {
@@ -111,8 +126,24 @@ impl H265Tier {
     }
 }
 
-/// A level of H.265, as `level-id` names it (RFC 7798, section 7.1; Rec. ITU-T H.265, Annex A). Levels are ordered
-/// by `ordinal`, and so by their ids.
+impl Numbered for H265Tier {
+    ghost use Rattle.h26x_profile.specs.H265.{tier_flag, tier_of};
+
+    ghost named = { tier_of };
+
+    ghost number_of = { tier_flag };
+
+    fn from_number(number: u8) -> Option<Self> {
+        H265Tier::from_flag(number)
+    }
+
+    fn to_number(self) -> u8 {
+        self.to_flag()
+    }
+}
+
+/// A level of H.265, as `level-id` names it (RFC 7798, section 7.1; Rec. ITU-T H.265, Annex A).
+/// Levels are ordered by `ordinal`, and so by their ids.
 #[derive(Debug, Clone, Copy, PartialEq, Eq, PartialOrd, Ord, Serialize, Deserialize)]
 pub enum H265Level {
     /// Level 1, id 30.
@@ -197,111 +228,32 @@ impl H265Level {
     }
 }
 
+impl Numbered for H265Level {
+    ghost use Rattle.h26x_profile.specs.H265.{level_id, level_of};
+
+    ghost named = { level_of };
+
+    ghost number_of = { level_id };
+
+    fn from_number(number: u8) -> Option<Self> {
+        H265Level::from_id(number)
+    }
+
+    fn to_number(self) -> u8 {
+        self.to_id()
+    }
+}
+
 /// The profile, tier and level of an H.265 format in SDP (RFC 7798, section 7.1).
-#[derive(Debug, Clone, Copy, PartialEq, Eq, Serialize, Deserialize)]
-pub struct H265ProfileTierLevel {
-    profile: H265Profile,
-    tier: H265Tier,
-    level: H265Level,
-}
+pub type H265ProfileTierLevel = ProfileTierLevel<H265Profile, H265Tier, H265Level>;
 
-impl Model for H265ProfileTierLevel {
-    ghost use Rattle.h26x_profile.specs.ProfileTierLevel.{ProfileTierLevel};
-    ghost use Rattle.h26x_profile.specs.declared.h265.H265Profile.{H265Profile};
-    ghost use Rattle.h26x_profile.specs.declared.h265.H265Tier.{H265Tier};
-    ghost use Rattle.h26x_profile.specs.declared.h265.H265Level.{H265Level};
-
-    ghost Value = { ProfileTierLevel H265Profile H265Tier H265Level };
-
-    ghost view = { λ it. record { profile = it.profile; tier = it.tier; level = it.level } };
-
-    ghost inverse = { λ it. record { profile = it.profile; tier = it.tier; level = it.level } };
-}
-
-impl H265ProfileTierLevel {
-    ghost use Rattle.h26x_profile.specs.Parameters.{read_with};
-    ghost use Rattle.h26x_profile.specs.H265 as spec;
-
-    /// What stands where a format says nothing.
-    pub const FALLBACK: Self = H265ProfileTierLevel {
+impl ProfileTierLevel<H265Profile, H265Tier, H265Level> {
+    /// What stands where an H.265 format says nothing.
+    pub const FALLBACK: Self = ProfileTierLevel {
         profile: H265Profile::Main,
         tier: H265Tier::Main,
         level: H265Level::Level3_1,
     };
-
-    /// The profile, tier and level with these numbers, if all three are known.
-    pub fn new(profile_id: u8, tier_flag: u8, level_id: u8) -> Option<Self>
-        ensures { result ≡ spec.known profile_id tier_flag level_id }
-    {
-        let profile = H265Profile::from_id(profile_id)?;
-        let tier = H265Tier::from_flag(tier_flag)?;
-        let level = H265Level::from_id(level_id)?;
-        Some(H265ProfileTierLevel {
-            profile,
-            tier,
-            level,
-        })
-    }
-
-    /// What the parameters `profile-id`, `tier-flag` and `level-id` of a format say. `None` where
-    /// one of them is not there, is no text that std reads as a `u8`, or has an unknown value.
-    pub fn from_fmtp(params: &HashMap<String, String>) -> Option<Self>
-        ensures { result ≡ read_with spec.known params.now }
-    {
-        let profile_id = byte_of(params, "profile-id")?;
-        let tier_flag = byte_of(params, "tier-flag")?;
-        let level_id = byte_of(params, "level-id")?;
-        Self::new(profile_id, tier_flag, level_id)
-    }
-
-    /// The profile.
-    pub fn profile(&self) -> H265Profile
-        ensures { result ≡ self.now.profile }
-    {
-        self.profile
-    }
-
-    /// The tier.
-    pub fn tier(&self) -> H265Tier
-        ensures { result ≡ self.now.tier }
-    {
-        self.tier
-    }
-
-    /// The level.
-    pub fn level(&self) -> H265Level
-        ensures { result ≡ self.now.level }
-    {
-        self.level
-    }
-
-    /// The same profile and tier at another level.
-    pub fn with_level(self, level: H265Level) -> Self
-        ensures { result ≡ record self { level = level } }
-    {
-        H265ProfileTierLevel { level, ..self }
-    }
-
-    /// The id of the profile.
-    pub fn profile_id(&self) -> u8
-        ensures { result ≡ spec.profile_id self.now.profile }
-    {
-        self.profile.to_id()
-    }
-
-    /// The flag of the tier.
-    pub fn tier_flag(&self) -> u8
-        ensures { result ≡ spec.tier_flag self.now.tier }
-    {
-        self.tier.to_flag()
-    }
-
-    /// The id of the level.
-    pub fn level_id(&self) -> u8
-        ensures { result ≡ spec.level_id self.now.level }
-    {
-        self.level.to_id()
-    }
 }
 
 /// The profile, tier and level with these numbers, or `FALLBACK` where one is unknown.

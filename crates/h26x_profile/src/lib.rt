@@ -14,6 +14,8 @@ mod h264;
 mod h265;
 mod h266;
 pub mod laws;
+mod numbered;
+mod profile_tier_level;
 mod table;
 #[cfg(test)]
 mod tests;
@@ -22,3 +24,5 @@ pub use bit_pattern::BitPattern;
 pub use h264::{H264LevelIdc, H264Profile, H264ProfileIdc, H264ProfileLevel};
 pub use h265::{H265Level, H265Profile, H265ProfileTierLevel, H265Tier};
 pub use h266::{H266Level, H266Profile, H266ProfileTierLevel, H266Tier};
+pub use numbered::Numbered;
+pub use profile_tier_level::ProfileTierLevel;

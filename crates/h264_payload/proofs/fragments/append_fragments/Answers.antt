@@ -1,8 +1,8 @@
-use Rattle.std.proofs.Common.{rules, map, false, ◌≡◌, List, ℕ, ◌+◌, ◌<◌, length, ◌-◌, ◌*◌, vec_len, refl, sym, ap, ◌∙◌, arith, drop, min, eqb, Vec, Global, ◌++◌}
+use Rattle.std.proofs.Common.{rules, map, false, ◌≡◌, ℕ, ◌+◌, ◌<◌, length, ◌-◌, ◌*◌, vec_len, refl, sym, ap, ◌∙◌, arith, drop, min, eqb, Vec, Global, ◌++◌}
 use Rattle.std.specs.List.{range_with_len}
 use Rattle.std.proofs.lemmas.Grind.{common_steps}
 use Rattle.std.proofs.lemmas.Bool.Decides.{nat_tests}
-use Rattle.h26x_core.specs.Packets.{fragment, fragment_count}
+use Rattle.h26x_core.specs.Packets.{fragment}
 use Rattle.h264_payload.specs.H264.{h264}
 use Rattle.h264_payload.proofs.FragmentLemmas.{packets_more, fragment_at, rest_more, count_more, all_taken}
 use Rattle.h264_payload.proofs.fragments.append_fragments.Goals as goal

@@ -1,4 +1,3 @@
-use Rattle.std.proofs.Common.{◌∙◌, ap}
 use Rattle.h264_payload.proofs.SendLemmas.{units_are}
 use Rattle.h264_payload.proofs.packetizer.units_in.Goals as goal
 

@@ -1,4 +1,4 @@
-use Rattle.std.proofs.Common.{rules, ap, ◌≡◌, [], ◌∷◌, ◌∙◌, ◌-◌, ◌^◌, List, ℕ, length, min, arith}
+use Rattle.std.proofs.Common.{rules, ap, ◌≡◌, [], ◌∷◌, ◌∙◌, ◌-◌, ◌^◌, List, length, min, arith}
 use Rattle.h26x_core.specs.Plan.{Item}
 use Rattle.h264_payload.specs.Sending.{packets_sent, waiting_with}
 use Rattle.h264_payload.proofs.SendLemmas.{counted_more, count_ended}

@@ -1,4 +1,4 @@
-use Rattle.std.proofs.Common.{rules, arith, ◌≡◌, ◌∙◌, ◌++◌, sym, ap, subst, List, ℕ, Vec, Global, map, true, false, ◌-◌, ◌^◌, ⊎_elim}
+use Rattle.std.proofs.Common.{rules, arith, ◌≡◌, ◌∙◌, sym, ap, subst, ℕ, Vec, Global, map, true, false, ◌-◌, ◌^◌, ⊎_elim}
 use Rattle.std.specs.Option.{option_map}
 use Rattle.h26x_core.specs.Packets.{packets}
 use Rattle.h26x_core.specs.Waits.{Waiting, AreSets, entries_at, sets_waiting, plan_with, waits_after_all}

@@ -1,0 +1,20 @@
+//! Values that numbers in SDP name.
+
+ghost use Rattle.std.specs.Prelude.{◌≡◌, ℕ, Option};
+
+/// A profile, a tier or a level: one of a few values, each with a number of its own.
+pub trait Numbered: Copy {
+    // The value that a number names.
+    ghost named: { ℕ → Option Self };
+
+    // The number of a value.
+    ghost number_of: { Self → ℕ };
+
+    /// The value with this number, if one has it.
+    fn from_number(number: u8) -> Option<Self>
+        ensures { result ≡ named number };
+
+    /// The value's number.
+    fn to_number(self) -> u8
+        ensures { result ≡ number_of self };
+}
