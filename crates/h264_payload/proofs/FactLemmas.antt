@@ -7,9 +7,10 @@ use Rattle.h26x_core.specs.H264Unit.{type_of, type_of_first, is_key}
 use Rattle.h26x_core.specs.Packets.{single}
 use Rattle.h26x_core.specs.Pieces.{piece}
 use Rattle.h26x_core.specs.Facts.{AreCarried, HeadersTakeRoom, FitsLimits, SetsLeaveRoom, ExtraTells, KnowsKeyUnits, KeyUnitsAreOther}
+use Rattle.h26x_core.proofs.HeaderLemmas.{start_back, type_back}
 use Rattle.h26x_core.proofs.PieceLemmas.{pieces_back}
 use Rattle.h264_payload.specs.H264.{h264, carries, sets_fit, fragment_header}
-use Rattle.h264_payload.proofs.HeaderLemmas.{type_below, indicator_type, start_back, type_back, carried_first, unit_tests}
+use Rattle.h264_payload.proofs.HeaderLemmas.{type_below, type_fits, indicator_type, carried_first, unit_tests}
 use Rattle.h264_payload.proofs.SetLemmas.{fit_parts, none_is_empty}
 
 -- a fragment has two bytes beside its data
@@ -55,8 +56,7 @@ single_detected n (first ∷ unit) h =
 fragment_detected : (unit behind : List ℕ) (start end : Bool) → IsTrue (carries unit) → h264.detects (fragment_header unit start end ++ behind) ≡ (start && is_key unit)
 fragment_detected [] behind start end h = let e : false ≡ true = h in absurd cc
 fragment_detected (first ∷ unit) behind start end h =
-    let below = type_below first in
-    rw (indicator_type first, start_back start end (type_of first) below, type_back start end (type_of first) below) refl
+    rw (indicator_type first, start_back start end (type_of first) (type_fits first), type_back start end (type_of first) (type_below first)) refl
 
 -- where no unit is a key unit, none is of the key type
 none_of_key_type : (sets : List (List ℕ)) → AllByRecursion (λ set. is_key set ≡ false) sets → list_any (λ set. eqb (type_of_first set) 5) sets ≡ false

@@ -1,8 +1,8 @@
 -- A unit in fragments, from one place to the next: each has two bytes beside its data.
-use Rattle.std.proofs.Common.{◌≡◌, ℕ, ◌+◌, ◌-◌, ◌*◌, ◌<◌, ◌≤◌, Bool, false, eqb, bit_or, bit_and, List, [], ◌∷◌, ◌++◌, length, get_or, take, drop, min, refl, sym, ap, ◌∙◌, ⊎_elim, arith, eq-eqb, zero-add, append_assoc}
+use Rattle.std.proofs.Common.{◌≡◌, ℕ, ◌+◌, ◌-◌, ◌*◌, ◌<◌, ◌≤◌, Bool, true, false, eqb, bit_or, bit_and, List, [], ◌∷◌, ◌++◌, length, get_or, take, drop, min, refl, sym, ap, ◌∙◌, ⊎_elim, arith, eq-eqb, zero-add, append_assoc}
 use Rattle.std.specs.Prelude.{map, nat_le}
 use Rattle.std.specs.List.{range_with_len}
-use Rattle.std.proofs.lemmas.Bool.{eqb-true, cases_lt}
+use Rattle.std.proofs.lemmas.Bool.{eqb-true, cases_lt, agree_below_at}
 use Rattle.std.proofs.lemmas.Bool.Decides.{nat_tests}
 use Rattle.std.proofs.lemmas.List.{append-nil, length-map, length-drop, take_min, drop_min, take_all, drop-drop, map_push}
 use Rattle.std.proofs.lemmas.List.FromFn.{length-range_with_len, map-range_with_len_more}
@@ -12,7 +12,6 @@ use Rattle.h26x_core.specs.H264Unit.{type_of}
 use Rattle.h26x_core.specs.Packets.{pieces_needed, fragment, fragments, fragment_count}
 use Rattle.h26x_core.proofs.FewestLemmas.{needed_le}
 use Rattle.h26x_core.specs.Plan.{items_alone}
-use Rattle.h26x_core.proofs.TestLemmas.{test_below}
 use Rattle.h264_payload.specs.H264.{h264, reference_bits}
 use Rattle.h264_payload.specs.Sending.{packets_sent}
 
@@ -48,7 +47,7 @@ indicator_test b = eqb (bit_or 28 (bit_and b 96)) (28 + reference_bits b)
 -- an indicator's bits are the NRI of its unit and type 28
 pub indicator_is : (b : ℕ) → b < 256 → bit_or 28 (bit_and b 96) ≡ 28 + reference_bits b
 unfolding indicator_test
-indicator_is b fits = eqb-true _ _ (test_below 256 indicator_test refl b fits)
+indicator_is b fits = eqb-true _ _ (agree_below_at indicator_test (λ _. true) 256 b refl fits)
 
 -- two header bytes and what is taken of the rest are the fragment at place j
 pub fragment_at : (limit : ℕ) (unit rest packet : List ℕ) (j taken : ℕ) (start end : Bool) → 2 < limit → 0 < length unit →

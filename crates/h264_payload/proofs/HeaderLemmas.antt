@@ -1,9 +1,8 @@
 -- The first bytes of H.264 packets, and which rule reads a packet that begins so.
-use Rattle.std.proofs.Common.{◌≡◌, ℕ, ◌+◌, ◌<◌, ◌≤◌, Bool, true, false, eqb, List, ◌∷◌, None, refl, arith, ◌⊎◌, inl, inr}
+use Rattle.std.proofs.Common.{◌≡◌, ℕ, ◌+◌, ◌<◌, ◌≤◌, true, false, eqb, List, ◌∷◌, None, refl, arith, ◌⊎◌, inl, inr}
 use Rattle.std.specs.Prelude.{◌≢◌, IsTrue, nat_le, nat_lt, ◌&&◌}
 use Rattle.std.proofs.lemmas.Bool.{and_parts}
 use Rattle.std.proofs.lemmas.Bool.Decides.{nat_tests}
-use Rattle.h26x_core.specs.Word.{is_set, flag}
 use Rattle.h26x_core.specs.H264Unit.{type_of}
 use Rattle.h26x_core.specs.Reading.{Single, Refused}
 use Rattle.h26x_core.specs.Pieces.{pieces_of}
@@ -13,6 +12,10 @@ use Rattle.h264_payload.specs.H264.{read, carries, reference_bits, aggregate_of,
 -- a type has five bits
 pub type_below : (byte : ℕ) → type_of byte < 32
 type_below byte = omega arith
+
+-- so it is below 64 too
+pub type_fits : (byte : ℕ) → type_of byte < 64
+type_fits byte = omega arith
 
 -- an FU-A's indicator has type 28
 pub indicator_type : (byte : ℕ) → type_of (28 + reference_bits byte) ≡ 28
@@ -25,27 +28,6 @@ indicator_bits byte = omega arith
 -- a byte with F clear is its NRI and its type
 pub byte_of_parts : (byte : ℕ) → byte < 128 → reference_bits byte + type_of byte ≡ byte
 byte_of_parts byte h = omega arith
-
--- an FU header has the start bit that it was made with
-pub start_back : (start end : Bool) (type : ℕ) → type < 32 → is_set (flag start 0x80 + flag end 0x40 + type) 7 ≡ start
-start_back true true type h = grind (arith, nat_tests)
-start_back true false type h = grind (arith, nat_tests)
-start_back false true type h = grind (arith, nat_tests)
-start_back false false type h = grind (arith, nat_tests)
-
--- so with the end bit
-pub end_back : (start end : Bool) (type : ℕ) → type < 32 → is_set (flag start 0x80 + flag end 0x40 + type) 6 ≡ end
-end_back true true type h = grind (arith, nat_tests)
-end_back true false type h = grind (arith, nat_tests)
-end_back false true type h = grind (arith, nat_tests)
-end_back false false type h = grind (arith, nat_tests)
-
--- and with the type
-pub type_back : (start end : Bool) (type : ℕ) → type < 32 → type_of (flag start 0x80 + flag end 0x40 + type) ≡ type
-type_back true true type h = omega arith
-type_back true false type h = omega arith
-type_back false true type h = omega arith
-type_back false false type h = omega arith
 
 -- what is known of the first byte of a unit that packets carry
 pub carried_first : (first : ℕ) (unit : List ℕ) → IsTrue (carries (first ∷ unit)) → (first < 128) × (1 ≤ type_of first) × (type_of first ≤ 23)

@@ -6,9 +6,10 @@ use Rattle.h26x_core.specs.Reading.{Single, Aggregate, Fragment, unnumbered}
 use Rattle.h26x_core.specs.Packets.{single}
 use Rattle.h26x_core.specs.Number.{number_borne, numbered_from}
 use Rattle.h26x_core.specs.Facts.{AreCarried, ReadsWhatItWrites}
+use Rattle.h26x_core.proofs.HeaderLemmas.{start_back, end_back, type_back}
 use Rattle.h26x_core.proofs.PieceLemmas.{pieces_back}
 use Rattle.h264_payload.specs.H264.{h264, read, carries, fragment_header, sets_fit}
-use Rattle.h264_payload.proofs.HeaderLemmas.{type_below, indicator_type, indicator_bits, byte_of_parts, start_back, end_back, type_back, carried_first, unit_is_read}
+use Rattle.h264_payload.proofs.HeaderLemmas.{type_below, type_fits, indicator_type, indicator_bits, byte_of_parts, carried_first, unit_is_read}
 use Rattle.h264_payload.proofs.SetLemmas.{fit_parts, none_is_empty}
 
 -- a unit that is carried has a whole header
@@ -31,15 +32,14 @@ fragment_back : (n : ℕ) (unit body : List ℕ) (start end : Bool) → IsTrue (
     read (fragment_header unit start end ++ (cond start [] [] ++ body)) ≡ Fragment start end (take 1 unit) (cond start None None) body
 fragment_back n [] body start end h some = let e : false ≡ true = h in absurd cc
 fragment_back n (first ∷ unit) body start end h some =
-    let below = type_below first in
     rw (
       same_either_way {A = List ℕ} start [],
       same_either_way {A = Option ℕ} start None,
       indicator_type first,
       indicator_bits first,
-      start_back start end (type_of first) below,
-      end_back start end (type_of first) below,
-      type_back start end (type_of first) below,
+      start_back start end (type_of first) (type_fits first),
+      end_back start end (type_of first) (type_fits first),
+      type_back start end (type_of first) (type_below first),
       byte_of_parts first (carried_first first unit h).0,
     ) refl
 

@@ -2,6 +2,7 @@
 use Rattle.std.proofs.Common.{◌≡◌, ℕ, ◌+◌, ◌≤◌, Bool, true, false, cond, List, [], ◌∷◌, ◌++◌, length, length-append, min, map, refl, sym, ap, subst, ◌∙◌, append_assoc, arith}
 use Rattle.std.specs.List.{flat_map, AllByRecursion}
 use Rattle.std.specs.Option.{option_map}
+use Rattle.std.proofs.lemmas.Bool.{and_parts}
 use Rattle.h26x_cut.specs.Cutting.{AreUnits, units_of, units_of_pieces}
 use Rattle.h26x_cut.specs.declared.ZeroRule.TheVariants.{All}
 use Rattle.h26x_cut.proofs.CuttingLemmas.{cutting_is}
@@ -16,7 +17,6 @@ use Rattle.h26x_core.proofs.LimitLemmas.{all_both, plan_within}
 use Rattle.h26x_core.specs.Waits.{Waiting, AreSets, sets_waiting, are_due, waits_after, items_now, plan_with, waits_after_all, entries_at}
 use Rattle.h26x_core.proofs.PacketLemmas.{packets-append}
 use Rattle.h26x_core.proofs.WaitLemmas.{sets_stay_all, plan-waiting}
-use Rattle.h26x_core.proofs.TestLemmas.{both_true}
 use Rattle.h264_payload.specs.H264.{h264, sets_fit}
 use Rattle.h264_payload.proofs.FactLemmas.{fits_limits}
 use Rattle.h264_payload.specs.Sending.{is_skipped_kind, is_skipped, are_skipped, waiting_with, newest, listed, packets_sent}
@@ -59,7 +59,7 @@ waits_more w later after limit unit rest units is then_ so_far = rw then_ (ap (�
 
 -- of skipped units the first is, and the others are
 pub skipped_more : (unit : List ℕ) (rest units : List (List ℕ)) → rest ≡ unit ∷ units → are_skipped rest ≡ true → (is_skipped unit ≡ true) × (are_skipped units ≡ true)
-skipped_more unit rest units is all = both_true (is_skipped unit) (are_skipped units) (ap are_skipped (sym is) ∙ all)
+skipped_more unit rest units is all = and_parts (is_skipped unit) (are_skipped units) (ap are_skipped (sym is) ∙ all)
 
 -- the sets of a packetizer stay at most one of each kind
 pub are_sets_now : (w : Waiting) (b : Brought) (entries : List Entry) (sps pps : List (List ℕ)) → AreSets h264 w → waiting_with w b ≡ waits_after_all h264 w entries → w.vps ≡ [] →

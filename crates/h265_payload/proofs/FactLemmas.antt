@@ -2,6 +2,7 @@
 use Rattle.std.proofs.Common.{◌≡◌, ℕ, zero, suc, ◌+◌, ◌*◌, ◌≤◌, min, Bool, true, false, cond, eqb, List, [], ◌∷◌, ◌++◌, length, map, take, drop, Option, refl, arith}
 use Rattle.std.specs.Prelude.{IsTrue, ◌&&◌, nat_le}
 use Rattle.std.specs.List.{list_any, prefix_len, AllByRecursion}
+use Rattle.std.proofs.lemmas.Bool.{and_parts}
 use Rattle.std.proofs.lemmas.Bool.Decides.{nat_tests}
 use Rattle.h26x_core.specs.Word.{field, is_set}
 use Rattle.h26x_core.specs.Kind.{is_other}
@@ -11,7 +12,6 @@ use Rattle.h26x_core.specs.Packets.{single}
 use Rattle.h26x_core.specs.Pieces.{pieces_of}
 use Rattle.h26x_core.specs.Facts.{HeadersTakeRoom, ReadsWhatItWrites, FitsLimits, SetsLeaveRoom, ExtraTells, KnowsKeyUnits, KeyUnitsAreOther}
 use Rattle.h26x_core.proofs.PieceLemmas.{pieces_back}
-use Rattle.h26x_core.proofs.TestLemmas.{both_true}
 use Rattle.h265_payload.specs.H265.{h265, carries, read, fragment_header, fragment_of, aggregate_of, single_of, paci_of, paci_behind, two_or_more, units_from, sets_fit, sets_packet, detects}
 use Rattle.h265_payload.proofs.HeaderLemmas.{of_carried, fragment_bytes}
 use Rattle.h265_payload.proofs.ReadBackLemmas.{carried_long, single_back, fragment_back}
@@ -133,7 +133,7 @@ extra_tells numbered = record { tells = λ key. refl; whole = key_whole }
 -- a key type is no parameter set's
 key_is_other : (t : ℕ) → is_key_type t ≡ true → is_other (kind_of_type t) ≡ true
 key_is_other t e =
-    let p = both_true (nat_le 16 t) (nat_le t 21) e in
+    let p = and_parts (nat_le 16 t) (nat_le t 21) e in
     let upper : nat_le t 21 ≡ true = p.1 in
     let no_35 : eqb t 35 ≡ false = grind (arith, nat_tests) in
     let no_32 : eqb t 32 ≡ false = grind (arith, nat_tests) in

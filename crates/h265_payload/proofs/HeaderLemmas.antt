@@ -1,34 +1,25 @@
 -- The bytes of headers, by tables over the high byte: it is below 128 where F is clear.
 use Rattle.std.proofs.Common.{◌≡◌, ℕ, ◌+◌, ◌<◌, Bool, true, false, eqb, ◌==◌, List, [], ◌∷◌, refl, arith, inl, inr}
 use Rattle.std.specs.Prelude.{◌&&◌, ◌||◌, nat_lt, IsTrue}
-use Rattle.std.proofs.lemmas.Bool.{eqb-true}
+use Rattle.std.proofs.lemmas.Bool.{and_parts}
 use Rattle.std.proofs.lemmas.Bool.Decides.{nat_tests}
 use Rattle.h26x_core.specs.Word.{field, is_set, flag}
 use Rattle.h26x_core.specs.H265Unit.{type_of}
-use Rattle.h26x_core.proofs.TestLemmas.{both_true, same_bool, same_bool_is, test_below}
+use Rattle.h26x_core.proofs.HeaderLemmas.{start_back, end_back, six_bits_back}
 use Rattle.h265_payload.specs.H265.{with_type, with_type_and_f, carries}
 use Rattle.h265_payload.specs.Reading.{IsUnitType}
+
+-- another type leaves F clear
+clear_as : (b type : ℕ) → b < 128 → type < 64 → is_set (with_type_and_f b type) 7 ≡ false
+clear_as b type h fits = grind (arith, nat_tests)
+
+-- a type has six bits
+type_fits : (high : ℕ) → type_of high < 64
+type_fits high = omega arith
 
 -- the byte behind a fragment's header
 abbrev pub fu : Bool → Bool → ℕ → ℕ
 fu start end high = flag start 0x80 + flag end 0x40 + type_of high
-
--- what holds of each fragment's header, by a table
-fragment_table : Bool → Bool → ℕ → Bool
-fragment_table start end b =
-    same_bool (is_set (with_type_and_f b 49) 7) false
-    && (type_of (with_type_and_f b 49) == 49
-    && (with_type (with_type_and_f b 49) (field (fu start end b) 5 0) == b
-    && (same_bool (is_set (fu start end b) 7) start
-    && (same_bool (is_set (fu start end b) 6) end && field (fu start end b) 5 0 == type_of b))))
-
--- the table of fragment headers holds
-fragment_table_holds : (start end : Bool) (b : ℕ) → b < 128 → fragment_table start end b ≡ true
-unfolding fragment_table same_bool
-fragment_table_holds true true b h = test_below 128 (fragment_table true true) refl b h
-fragment_table_holds true false b h = test_below 128 (fragment_table true false) refl b h
-fragment_table_holds false true b h = test_below 128 (fragment_table false true) refl b h
-fragment_table_holds false false b h = test_below 128 (fragment_table false false) refl b h
 
 -- what is read from a fragment's header
 pub record FragmentBytes (start end : Bool) (b : ℕ) : Type 0 where
@@ -39,32 +30,22 @@ pub record FragmentBytes (start end : Bool) (b : ℕ) : Type 0 where
   pub ends : is_set (fu start end b) 6 ≡ end
   pub unit_type : field (fu start end b) 5 0 ≡ type_of b
 
--- it holds of every high byte with F clear
+-- a high byte with F clear is its type and the layer's highest bit
+head_back : (b type : ℕ) → b < 128 → type ≡ type_of b → with_type (with_type_and_f b 49) type ≡ b
+head_back b type h is = omega arith
+
+-- a fragment's header says all of it of every high byte with F clear
 pub fragment_bytes : (start end : Bool) (b : ℕ) → b < 128 → FragmentBytes start end b
-unfolding fragment_table
 fragment_bytes start end b h =
-    let t = both_true _ _ (fragment_table_holds start end b h) in
-    let u = both_true _ _ t.1 in
-    let v = both_true _ _ u.1 in
-    let w = both_true _ _ v.1 in
-    let x = both_true _ _ w.1 in
+    let type = six_bits_back start end (type_of b) (type_fits b) in
     record {
-      clear = same_bool_is _ _ t.0;
-      type = eqb-true _ _ u.0;
-      head = eqb-true _ _ v.0;
-      starts = same_bool_is _ _ w.0;
-      ends = same_bool_is _ _ x.0;
-      unit_type = eqb-true _ _ x.1;
+      clear = clear_as b 49 h (omega arith);
+      type = omega arith;
+      head = head_back b (field (fu start end b) 5 0) h type;
+      starts = start_back start end (type_of b) (type_fits b);
+      ends = end_back start end (type_of b) (type_fits b);
+      unit_type = type;
     }
-
--- the same for an aggregate's header, and a unit's
-sets_table : ℕ → Bool
-sets_table b = same_bool (is_set (with_type_and_f b 48) 7) false && (type_of (with_type_and_f b 48) == 48 && same_bool (is_set b 7) false)
-
--- the table of aggregate headers holds
-sets_table_holds : (b : ℕ) → b < 128 → sets_table b ≡ true
-unfolding sets_table same_bool
-sets_table_holds b h = test_below 128 sets_table refl b h
 
 -- a carried unit has F clear and is no packet of type 48 to 50, and in an aggregate's header its high byte has type 48
 pub record CarriedBytes (high : ℕ) : Type 0 where
@@ -90,22 +71,19 @@ either_side t e = elim (nat_lt t 48) as (λ b. nat_lt t 48 ≡ b → (b || nat_l
 
 -- which a carried unit's first byte shows
 carried_bytes : (high : ℕ) → (nat_lt high 0x80 && (nat_lt (type_of high) 48 || nat_lt 50 (type_of high))) ≡ true → CarriedBytes high
-unfolding sets_table
 carried_bytes high h =
-    let p = both_true (nat_lt high 0x80) (nat_lt (type_of high) 48 || nat_lt 50 (type_of high)) h in
+    let p = and_parts (nat_lt high 0x80) (nat_lt (type_of high) 48 || nat_lt 50 (type_of high)) h in
     let f : nat_lt high 0x80 ≡ true = p.0 in
     let below : high < 128 = grind (arith, nat_tests) in
     let t = unit_type (type_of high) (either_side (type_of high) p.1) in
-    let u = both_true _ _ (sets_table_holds high below) in
-    let v = both_true _ _ u.1 in
     record {
       below = below;
-      clear = same_bool_is _ _ v.1;
+      clear = grind (arith, nat_tests);
       is_not_48 = t.0;
       is_not_49 = t.1;
       is_not_50 = t.2;
-      sets_clear = same_bool_is _ _ u.0;
-      sets_type = eqb-true _ _ v.0;
+      sets_clear = clear_as high 48 below (omega arith);
+      sets_type = omega arith;
     }
 
 -- what holds of every unit of three bytes or more with such a high byte holds of every carried unit

@@ -1,14 +1,13 @@
 -- A packet has one reading, and it is the one computed.
 use Rattle.std.proofs.Common.{◌≡◌, ℕ, ◌+◌, ◌*◌, ◌<◌, ◌≤◌, Bool, true, false, cond, List, [], ◌∷◌, length, Option, Some, None, refl, sym, ap, ◌∙◌, inl, inr, ⊎_elim, arith}
 use Rattle.std.specs.Prelude.{◌&&◌, ◌==◌, Result, Ok, Err}
-use Rattle.std.proofs.lemmas.Bool.{eqb-true, cases_lt}
+use Rattle.std.proofs.lemmas.Bool.{eqb-true, cases_lt, and_parts}
 use Rattle.std.proofs.lemmas.Bool.Decides.{nat_tests}
 use Rattle.h26x_core.specs.Word.{field, is_set}
 use Rattle.h26x_core.specs.H266Unit.{type_of}
 use Rattle.h26x_core.specs.Reading.{Reading, Single, Aggregate, Fragment, Refused}
 use Rattle.h26x_core.specs.declared.error.PacketError.{PacketError}
 use Rattle.h26x_core.specs.declared.error.PacketError.TheVariants.{ErrShortPacket, ErrH266CorruptedPacket}
-use Rattle.h26x_core.proofs.TestLemmas.{both_true}
 use Rattle.h266_payload.specs.H266.{read, numbered_on, two_or_more, units_within, aggregate_of, fragment_of, single_of, with_type}
 use Rattle.h266_payload.specs.Reading.{IsReading, IsWhole, IsUnitType, IsBehind, IsPlain, IsNumbered}
 use Rattle.h266_payload.specs.Reading.{IsShort, IsCorrupted, IsUnit, IsNumberedUnit, IsShortUnit}
@@ -198,8 +197,8 @@ only_reading numbered packet reading (IsWithoutNumber high low d whole type bear
 only_reading numbered packet reading (IsFragment high low fu body whole type none is) =
     fragment_read numbered high low fu packet body whole type ∙ plain_fragment numbered high low fu body none ∙ sym is
 only_reading numbered packet reading (IsNumberedStart high low fu d e body whole type starts is) =
-    let both = both_true numbered (is_set fu 7) starts in
+    let both = and_parts numbered (is_set fu 7) starts in
     fragment_read numbered high low fu packet (d ∷ e ∷ body) whole type ∙ rw (both.0, both.1) (sym is)
 only_reading numbered packet reading (IsShortStart high low fu body whole type starts short is) =
-    let both = both_true numbered (is_set fu 7) starts in
+    let both = and_parts numbered (is_set fu 7) starts in
     fragment_read numbered high low fu packet body whole type ∙ rw (both.0, both.1) (short_start high low fu body short) ∙ sym is

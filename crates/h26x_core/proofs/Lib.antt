@@ -1,4 +1,4 @@
-pub mod TestLemmas
+pub mod HeaderLemmas
 pub mod PlanLemmas
 pub mod GroupLemmas
 pub mod AgainLemmas

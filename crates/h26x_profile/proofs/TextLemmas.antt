@@ -1,10 +1,11 @@
 -- Texts that std reads as a byte.
-use Rattle.std.proofs.Common.{◌≡◌, ℕ, ◌^◌, ◌<◌, ◌&&◌, Bool, true, false, cond, List, [], ◌∷◌, length, Some, None, Result, Ok, Err, refl, arith}
+use Rattle.std.proofs.Common.{◌≡◌, ℕ, ◌^◌, ◌<◌, ◌&&◌, true, false, cond, List, [], ◌∷◌, length, Some, None, Result, Ok, Err, refl, arith}
 use Rattle.std.specs.Prelude.{nat_lt}
 use Rattle.std.specs.List.{list_all}
 use Rattle.std.specs.Result.{result_ok}
 use Rattle.std.specs.Char.{digit_value}
 use Rattle.std.specs.Str.Parse.{AllDigits, IsNumeral, digits_value, without_leading_plus, ParsesUnsigned}
+use Rattle.std.proofs.lemmas.Bool.{and_parts}
 use Rattle.std.proofs.lemmas.Bool.Decides.{nat_tests}
 use Rattle.h26x_profile.specs.Parameters.{writes_byte, byte_of}
 
@@ -15,16 +16,11 @@ tested_digits (c ∷ cs) h =
     let first : nat_lt (digit_value c) 10 ≡ true = grind (arith, nat_tests, h.0) in
     rw (first, tested_digits cs h.1) refl
 
--- two tests that pass together pass
-pub both_pass : (a b : Bool) → (a && b) ≡ true → (a ≡ true) × (b ≡ true)
-both_pass true b h = (refl, h)
-both_pass false b h = absurd cc
-
 -- what passes the test of digits are digits
 pub digits_tested : (ds : List ℕ) → list_all (λ c. nat_lt (digit_value c) 10) ds ≡ true → AllDigits 10 ds
 digits_tested [] h = tt
 digits_tested (c ∷ cs) h =
-    let both = both_pass (nat_lt (digit_value c) 10) (list_all (λ c. nat_lt (digit_value c) 10) cs) h in
+    let both = and_parts (nat_lt (digit_value c) 10) (list_all (λ c. nat_lt (digit_value c) 10) cs) h in
     let first : digit_value c < 10 = grind (arith, nat_tests, both.0) in
     (first, digits_tested cs both.1)
 
@@ -38,8 +34,8 @@ byte_passes ds numeral small =
 -- what passes the test of a byte is a numeral below 256
 pub passes_byte : (ds : List ℕ) → writes_byte ds ≡ true → IsNumeral 10 ds × (digits_value 10 ds < 2 ^ 8)
 passes_byte ds h =
-    let all = both_pass (nat_lt 0 (length ds) && list_all (λ c. nat_lt (digit_value c) 10) ds) (nat_lt (digits_value 10 ds) (2 ^ 8)) h in
-    let front = both_pass (nat_lt 0 (length ds)) (list_all (λ c. nat_lt (digit_value c) 10) ds) all.0 in
+    let all = and_parts (nat_lt 0 (length ds) && list_all (λ c. nat_lt (digit_value c) 10) ds) (nat_lt (digits_value 10 ds) (2 ^ 8)) h in
+    let front = and_parts (nat_lt 0 (length ds)) (list_all (λ c. nat_lt (digit_value c) 10) ds) all.0 in
     let some : 0 < length ds = grind (arith, nat_tests, front.0) in
     let fits : digits_value 10 ds < 2 ^ 8 = grind (arith, nat_tests, all.1) in
     ((some, digits_tested ds front.1), fits)
