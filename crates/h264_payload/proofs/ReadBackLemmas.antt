@@ -1,6 +1,7 @@
 -- H.264 reads what it writes.
 use Rattle.std.proofs.Common.{◌≡◌, ℕ, ◌+◌, ◌<◌, ◌≤◌, Bool, true, false, cond, List, [], ◌∷◌, ◌++◌, length, take, Option, None, refl, ap, arith}
 use Rattle.std.specs.Prelude.{IsTrue, map}
+use Rattle.std.proofs.lemmas.Bool.{cond_both}
 use Rattle.h26x_core.specs.H264Unit.{type_of}
 use Rattle.h26x_core.specs.Reading.{Single, Aggregate, Fragment, unnumbered}
 use Rattle.h26x_core.specs.Packets.{single}
@@ -22,19 +23,14 @@ single_back : (n : ℕ) (unit : List ℕ) → IsTrue (carries unit) → read (si
 single_back n [] h = let e : false ≡ true = h in absurd cc
 single_back n (first ∷ unit) h = let c = carried_first first unit h in unit_is_read first unit c.1 c.2
 
--- a choice between the same two is no choice
-same_either_way : {A : Type 0} (b : Bool) (a : A) → cond b a a ≡ a
-same_either_way true a = refl
-same_either_way false a = refl
-
 -- a fragment is read with the bits, the unit's first byte and the data that it was made of
 fragment_back : (n : ℕ) (unit body : List ℕ) (start end : Bool) → IsTrue (carries unit) → 0 < length body →
     read (fragment_header unit start end ++ (cond start [] [] ++ body)) ≡ Fragment start end (take 1 unit) (cond start None None) body
 fragment_back n [] body start end h some = let e : false ≡ true = h in absurd cc
 fragment_back n (first ∷ unit) body start end h some =
     rw (
-      same_either_way {A = List ℕ} start [],
-      same_either_way {A = Option ℕ} start None,
+      cond_both start [] [] (λ (r : List ℕ). r ≡ []) (λ _. refl) (λ _. refl),
+      cond_both start None None (λ (r : Option ℕ). r ≡ None) (λ _. refl) (λ _. refl),
       indicator_type first,
       indicator_bits first,
       start_back start end (type_of first) (type_fits first),

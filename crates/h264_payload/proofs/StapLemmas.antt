@@ -1,7 +1,8 @@
 -- What a STAP-A brings to a depacketizer.
 use Rattle.std.proofs.Common.{◌≡◌, ℕ, Bool, true, false, List, [], ◌∷◌, Option, refl, ap, map, Result, Ok, Err, OnOk, OnErr, ◌⊎◌, ◌+◌, ◌<◌, length, arith}
-use Rattle.std.specs.Prelude.{◌&&◌, nat_le, filter}
+use Rattle.std.specs.Prelude.{nat_le, filter}
 use Rattle.std.specs.List.{list_any}
+use Rattle.std.proofs.lemmas.Bool.{and_right}
 use Rattle.std.proofs.lemmas.Bool.Decides.{nat_tests}
 use Rattle.std.proofs.lemmas.List.Sums.{sum_by-cons}
 use Rattle.h26x_core.specs.declared.error.PacketError.{PacketError}
@@ -21,15 +22,10 @@ units_only (unit ∷ units) = ap (λ (x : List (List ℕ)). unit ∷ x) (units_o
 pub stap_brings : (run : Option (List ℕ)) (reading : Reading) (units : List (List ℕ)) → reading ≡ Aggregate (map unnumbered units) → units_with run reading ≡ units
 stap_brings run reading units is = rw is (units_only units)
 
--- a test that fails makes both fail
-both_false : (a b : Bool) → b ≡ false → (a && b) ≡ false
-both_false true b e = e
-both_false false b e = refl
-
 -- where none of its units is too long it is accepted, or memory lacks
 pub stap_outcome : (avc : Bool) (run : Option (List ℕ)) (reading : Reading) (units : List (List ℕ)) (outcome : Result (Unit {0}) PacketError) →
     reading ≡ Aggregate (map unnumbered units) → list_any is_too_long units ≡ false → (outcome ≡ Ok tt) ⊎ (outcome ≡ Err OutOfMemory) → IsOutcomeWith avc run reading outcome
-stap_outcome avc run reading units outcome is short either = rw (is, units_only units, both_false avc (list_any is_too_long units) short) either
+stap_outcome avc run reading units outcome is short either = rw (is, units_only units, and_right avc (list_any is_too_long units) short) either
 
 -- and the run stays open as it was
 pub stap_stays : (run : Option (List ℕ)) (reading : Reading) (units : List (List ℕ)) (outcome : Result (Unit {0}) PacketError) →

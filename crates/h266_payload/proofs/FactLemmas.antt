@@ -3,6 +3,7 @@ use Rattle.std.proofs.Common.{◌≡◌, ℕ, ◌+◌, ◌*◌, ◌≤◌, Bool,
 use Rattle.std.specs.Prelude.{IsTrue, ◌&&◌, ◌==◌, nat_le, min, Result, Ok, Err, take_while}
 use Rattle.std.specs.List.{flat_map, sum_by, list_any, AllByRecursion}
 use Rattle.std.proofs.lemmas.List.Sums.{take_while-cons}
+use Rattle.std.proofs.lemmas.Bool.{cond_both}
 use Rattle.std.proofs.lemmas.Bool.Decides.{nat_tests}
 use Rattle.h26x_core.specs.Word.{is_set}
 use Rattle.h26x_core.specs.Kind.{is_other}
@@ -44,16 +45,11 @@ single_no_fragment true high low (d ∷ []) start end head body own e = cc
 single_no_fragment true high low (d ∷ e ∷ []) start end head body own same = cc
 single_no_fragment true high low (d ∷ e ∷ b ∷ bytes) start end head body own same = cc
 
--- a choice of the same on both sides
-if_same : (b : Bool) (n : ℕ) → cond b n n ≡ n
-if_same true n = refl
-if_same false n = refl
-
 -- a fragment's data is what stands behind its header and number
 fragment_room : (numbered begins : Bool) (high low fu : ℕ) (rest : List ℕ) (start end : Bool) (head body : List ℕ) (number : Option ℕ) →
     fragment_of numbered begins high low fu rest ≡ Fragment start end head number body → length body + cond start (cond numbered 2 0) 0 ≤ length rest
 fragment_room false begins high low fu rest start end head body number e =
-    let same : rest ≡ body = cc in let long = ap length same in simp if_same (omega arith)
+    let same : rest ≡ body = cc in let long = ap length same in rw (cond_both start 0 0 (λ (n : ℕ). n ≡ 0) (λ _. refl) (λ _. refl)) (omega arith)
 fragment_room true false high low fu rest start end head body number e =
     let same : rest ≡ body = cc in let late : false ≡ start = cc in let long = ap length same in rw (← late) (omega arith)
 fragment_room true true high low fu [] start end head body number e = absurd cc

@@ -2,6 +2,7 @@
 use Rattle.std.proofs.Common.{◌≡◌, ℕ, Bool, true, false, cond, List, [], ◌∷◌, ◌++◌, map, refl, sym, ap, ◌∙◌, subst, append_assoc}
 use Rattle.std.specs.Prelude.{◌&&◌}
 use Rattle.std.specs.List.{flat_map, list_any}
+use Rattle.std.proofs.lemmas.Bool.{and_parts}
 use Rattle.std.proofs.lemmas.List.{append-nil, map-append}
 use Rattle.std.proofs.lemmas.List.Concat.{flat_map-append}
 use Rattle.std.proofs.Math.Bool.{and-false}
@@ -26,11 +27,6 @@ Kept f limit front (u ∷ units) =
     (is_other (f.kind u) ≡ true → is_dropped f limit u ≡ false)
     × (completes f front (as_entry limit u) ≡ true → flat_map units_of_item (items_of_sets f limit (sets_of f front) u) ≡ sets_of f front)
     × Kept f limit (cond (completes f front (as_entry limit u)) [] (front ++ as_entry limit u ∷ [])) units
-
--- the first of three tests that all hold
-and_left : (a b c : Bool) → (a && b && c) ≡ true → a ≡ true
-and_left true b c e = refl
-and_left false b c e = absurd cc
 
 -- a kind that counts as a VPS, an SPS, a PPS or an other unit is just this kind
 pub vps_is : (k : Kind) → is_vps k ≡ true → k ≡ Vps
@@ -171,8 +167,7 @@ first_done f limit front u after done = rw done refl
 -- a unit that completes a group is an other unit
 done_other : (f : Format) (limit : ℕ) (front : List Entry) (u : List ℕ) → completes f front (as_entry limit u) ≡ true → is_other (f.kind u) ≡ true
 unfolding as_entry
-done_other f limit front u done = and_left (is_other (f.kind u)) (list_any (λ (d : Entry). is_sps (f.kind d.unit)) front)
-    (list_any (λ (d : Entry). is_pps (f.kind d.unit)) front) done
+done_other f limit front u done = (and_parts _ _ (and_parts _ _ done).0).0
 
 -- what was sent from a group's end on, sent again, is sent as it was
 end_again : (f : Format) (limit : ℕ) (front : List Entry) (u : List ℕ) (rest : List Item) → completes f front (as_entry limit u) ≡ true →

@@ -1,5 +1,5 @@
 -- A unit that is fragmented takes the fewest fragments that there could be.
-use Rattle.std.proofs.Common.{◌≡◌, ℕ, ◌+◌, ◌-◌, ◌*◌, ◌/◌, ◌<◌, ◌≤◌, true, false, nat_le, List, [], ◌∷◌, length, refl, ap, ◌∙◌, arith, length-append}
+use Rattle.std.proofs.Common.{◌≡◌, ℕ, ◌+◌, ◌-◌, ◌*◌, ◌/◌, ◌<◌, ◌≤◌, true, false, List, [], ◌∷◌, length, refl, ap, ◌∙◌, arith, length-append}
 use Rattle.std.specs.List.{AllByRecursion, flat_map}
 use Rattle.std.proofs.lemmas.Nat.{div_below}
 use Rattle.std.proofs.lemmas.Bool.{leb-false}
@@ -37,14 +37,10 @@ carried f limit (packet ∷ packets) takes within each =
 pub needed_le : (x c k : ℕ) → 0 < c → x ≤ k * c → pieces_needed c x ≤ k
 needed_le x c k pos h = let b : (x + (c - 1)) / c < k + 1 = div_below (x + (c - 1)) c (k + 1) pos (omega arith) in omega arith
 
--- where a number is not at most another, it is greater
-pub not_le : (m n : ℕ) → nat_le m n ≡ false → n < m
-not_le m n h = leb-false m n h
-
 -- where a unit is fragmented, a fragment with a number has room for data
 pub has_room : (f : Format) (limit : ℕ) (unit : List ℕ) → fits f limit unit ≡ false → is_dropped f limit unit ≡ false →
     fragment_header_len f + number_len f < limit
-has_room f limit unit unfit kept = not_le limit (fragment_header_len f + number_len f) (rw unfit at kept)
+has_room f limit unit unfit kept = leb-false limit (fragment_header_len f + number_len f) (rw unfit at kept)
 
 -- where the first of them starts, a number and their data take at most the room of each
 carried_all : (f : Format) (limit : ℕ) (packets : List (List ℕ)) → HeadersTakeRoom f → fragment_header_len f + number_len f < limit →

@@ -4,6 +4,7 @@ use Rattle.std.specs.Prelude.{IsTrue, ◌&&◌}
 use Rattle.std.specs.List.{flat_map, range_with_len}
 use Rattle.std.proofs.Math.ListN.{drop_of_length-le}
 use Rattle.std.proofs.lemmas.List.{append-nil, length-drop, length-take, take-append-drop, drop-drop, drop_at}
+use Rattle.std.proofs.lemmas.Bool.{leb-false}
 use Rattle.std.proofs.lemmas.Bool.Decides.{nat_tests}
 use Rattle.h26x_core.specs.Reading.{Fragment}
 use Rattle.h26x_core.specs.Format.{Format, number, number_len}
@@ -12,7 +13,7 @@ use Rattle.h26x_core.specs.Packets.{fragment_count, fragmented, fragment_part, r
 use Rattle.h26x_core.specs.Number.{number_borne}
 use Rattle.h26x_core.specs.Facts.{ReadsWhatItWrites}
 use Rattle.h26x_core.specs.Fragments.{fragment_data, AreFragments, ReadsFragments}
-use Rattle.h26x_core.proofs.FewestLemmas.{has_room, not_le}
+use Rattle.h26x_core.proofs.FewestLemmas.{has_room}
 use Rattle.h26x_core.proofs.ReadBackLemmas.{Bounds, bounds, part_by_place, place_below}
 
 -- pieces of c bytes from place j on, and what stands behind them, are all that stands from place j on
@@ -85,7 +86,7 @@ data_some : (f : Format) (n limit : ℕ) (unit : List ℕ) (j : ℕ) → fits f 
     j < fragment_count f limit unit → 0 < length (fragment_data f limit unit j)
 data_some f n limit unit zero unfit kept b h =
     let enough = has_room f limit unit unfit kept in
-    let over = not_le (length unit + number_len f) limit unfit in
+    let over = leb-false (length unit + number_len f) limit unfit in
     rw (length-take, length-drop) (omega (arith, b.large, enough, over))
 data_some f n limit unit (suc j) unfit kept b h =
     let at = place_below (suc j) (fragment_count f limit unit) (room f limit) (length (fragmented f n unit)) (omega arith) b.lower in

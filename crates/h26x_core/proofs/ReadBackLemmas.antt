@@ -5,6 +5,7 @@ use Rattle.std.specs.List.{range_with_len}
 use Rattle.std.proofs.lemmas.List.{length-drop, length-take, drop-append-le, take-append-drop, take_all, take_at, drop_at, take-take}
 use Rattle.std.proofs.Math.Nat.{mul-le-mul_right}
 use Rattle.std.proofs.lemmas.Nat.{div-add-mod', mod_below, le-div}
+use Rattle.std.proofs.lemmas.Bool.{leb-false}
 use Rattle.std.proofs.lemmas.Bool.Decides.{nat_tests}
 use Rattle.std.proofs.lemmas.Simd.{map-map}
 use Rattle.std.proofs.Math.Seq.{take-add, take-append-add, drop-append-add}
@@ -16,7 +17,7 @@ use Rattle.h26x_core.specs.Number.{number_borne}
 use Rattle.h26x_core.specs.Received.{open_run, units_after}
 use Rattle.h26x_core.specs.Facts.{ReadsWhatItWrites}
 use Rattle.h26x_core.proofs.LimitLemmas.{number_long}
-use Rattle.h26x_core.proofs.FewestLemmas.{not_le, has_room}
+use Rattle.h26x_core.proofs.FewestLemmas.{has_room}
 
 -- a part of a list behind its first d elements, and the part after it
 parts : (d c m : ℕ) (xs : List ℕ) → d ≤ m → d ≤ length xs → drop d (take m xs) ++ take c (drop m xs) ≡ drop d (take (m + c) xs)
@@ -163,7 +164,7 @@ bounds f n limit unit unfit kept header =
     let c = room f limit in
     let size = number_len f + (length unit - f.header_len) in
     let room_left = has_room f limit unit unfit kept in
-    let over = not_le (length unit + number_len f) limit unfit in
+    let over = leb-false (length unit + number_len f) limit unfit in
     let long : length (fragmented f n unit) ≡ size =
     length-append (number f n) (drop f.header_len unit) ∙ rw (number_long f n, length-drop f.header_len unit) refl in
     let up = needed_upper size c (omega arith) in

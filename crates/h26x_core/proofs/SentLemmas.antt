@@ -2,7 +2,7 @@
 use Rattle.std.proofs.Common.{◌≡◌, ℕ, ◌+◌, ◌≤◌, ◌<◌, Bool, true, false, cond, List, [], ◌∷◌, ◌++◌, length, map, refl, sym, ap, ◌∙◌, subst, length-append, arith}
 use Rattle.std.specs.Prelude.{◌&&◌, nat_le, nat_lt, filter, IsTrue}
 use Rattle.std.specs.List.{AllByRecursion, flat_map, list_any, list_all}
-use Rattle.std.proofs.lemmas.Bool.{lt-leb}
+use Rattle.std.proofs.lemmas.Bool.{lt-leb, and_parts}
 use Rattle.std.proofs.lemmas.List.{length-map}
 use Rattle.h26x_core.specs.Kind.{Kind, Other, is_vps, is_sps, is_pps, is_other}
 use Rattle.h26x_core.specs.Text.{is_not_empty}
@@ -29,13 +29,6 @@ never_dropped f limit unit large =
       | false ↦ lt-leb limit (fragment_header_len f + number_len f) large
     ]
 
--- the parts of a test that is true
-and_each : (a b c : Bool) → (a && b && c) ≡ true → (a ≡ true) × (b ≡ true) × (c ≡ true)
-and_each true true true e = (refl, refl, refl)
-and_each true true false e = absurd cc
-and_each true false c e = absurd cc
-and_each false b c e = absurd cc
-
 -- a list that is not empty has one element or more
 not_empty_long : (xs : List (List ℕ)) → is_not_empty xs ≡ true → 1 ≤ length xs
 not_empty_long [] e = absurd cc
@@ -45,8 +38,11 @@ not_empty_long (x ∷ xs) e = omega arith
 ends_group : (f : Format) (front : List Entry) (e : Entry) → completes f front e ≡ true →
     (is_other (f.kind e.unit) ≡ true) × (is_not_empty (latest is_sps f front) ≡ true) × (is_not_empty (latest is_pps f front) ≡ true)
 ends_group f front e done =
-    and_each (is_other (f.kind e.unit)) (is_not_empty (latest is_sps f front)) (is_not_empty (latest is_pps f front))
-    (rw (any-latest is_sps f front, any-latest is_pps f front) at done)
+    let waits : (is_other (f.kind e.unit) && is_not_empty (latest is_sps f front) && is_not_empty (latest is_pps f front)) ≡ true
+    = rw (any-latest is_sps f front, any-latest is_pps f front) at done in
+    let p = and_parts _ _ waits in
+    let q = and_parts _ _ p.0 in
+    (q.0, q.1, p.1)
 
 -- before the end of a group two sets wait, or three
 pub two_wait : (f : Format) (front : List Entry) (e : Entry) → completes f front e ≡ true → 2 ≤ length (sets_of f front)

@@ -1,11 +1,11 @@
 -- The text of units is cut into these units.
-use Rattle.std.proofs.Common.{◌≡◌, ℕ, zero, suc, true, false, List, [], ◌∷◌, ◌++◌, replicate, refl, sym, ap, ◌∙◌, ◌⊎◌, inl, inr, subst, append_assoc}
+use Rattle.std.proofs.Common.{◌≡◌, ℕ, true, false, List, [], ◌∷◌, ◌++◌, refl, sym, ap, inr, append_assoc}
 use Rattle.std.proofs.lemmas.List.{append-nil}
 use Rattle.std.specs.List.{AllByRecursion, filter}
 use Rattle.h26x_core.specs.Text.{is_not_empty, annex_b}
 use Rattle.h26x_cut.specs.declared.ZeroRule.{ZeroRule}
 use Rattle.h26x_cut.specs.declared.ZeroRule.TheVariants.{All, AtMostThree}
-use Rattle.h26x_cut.specs.Cutting.{IsCutting, HoldsStartCode, EndsInZero, IsStartCode, units_of_pieces, IsUnit, AreSeparable, AreUnits}
+use Rattle.h26x_cut.specs.Cutting.{IsCutting, IsStartCode, IsUnit, AreSeparable, AreUnits}
 use Rattle.h26x_cut.proofs.CuttingLemmas.{nothing_held, nothing_ends}
 
 -- a unit and the text of those after it are cut into these units
