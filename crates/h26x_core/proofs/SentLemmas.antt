@@ -77,7 +77,7 @@ items_carried f [] h = tt
 items_carried f (item ∷ items) h = let (a, b) = all_parts (λ unit. IsTrue (f.carries unit)) (units_of_item item) (flat_map units_of_item items) h in (a, items_carried f items b)
 
 -- an entry with the limit of a call
-abbrev IsOfCall : Format → Entry → Type 0
+abbrev pub IsOfCall : Format → Entry → Type 0
 IsOfCall f e = (mtu : ℕ) × (e.limit ≡ f.limit mtu)
 
 -- the limits of a call's entries are the call's
@@ -192,14 +192,18 @@ tail_planned f roomy keys front (e ∷ entries) limits h =
           all_both (IsPlanned f) (item_of f e) (tail f (front ++ e ∷ []) entries) (entry_planned f e here) (tail_planned f roomy keys (front ++ e ∷ []) entries limits.1 later)
     ] refl h
 
+-- what is planned of entries with limits of calls, whose units sent are carried
+pub entries_planned : (f : Format) → SetsLeaveRoom f → KeyUnitsAreOther f → (entries : List Entry) → AllByRecursion (IsOfCall f) entries →
+    AreCarried f (sent f entries) → AllByRecursion (IsPlanned f) (plan f entries)
+entries_planned f roomy keys entries limits carried =
+    let same = plan-tail f entries in
+    subst (AllByRecursion (IsPlanned f)) (sym same)
+    (tail_planned f roomy keys [] entries limits (subst (AllByRecursion (ItemIsCarried f)) same (items_carried f (plan f entries) carried)))
+
 -- what is planned of calls whose units sent are carried
 pub calls_planned : (f : Format) → SetsLeaveRoom f → KeyUnitsAreOther f → (calls : List Call) → AreCarried f (sent f (entries_of f calls)) →
     AllByRecursion (IsPlanned f) (plan f (entries_of f calls))
-calls_planned f roomy keys calls carried =
-    let same = plan-tail f (entries_of f calls) in
-    subst (AllByRecursion (IsPlanned f)) (sym same)
-    (tail_planned f roomy keys [] (entries_of f calls) (entries_of_calls f calls)
-    (subst (AllByRecursion (ItemIsCarried f)) same (items_carried f (plan f (entries_of f calls)) carried)))
+calls_planned f roomy keys calls = entries_planned f roomy keys (entries_of f calls) (entries_of_calls f calls)
 
 -- by cases of an item
 item_can_send : (f : Format) → ReadsWhatItWrites f → (item : Item) → IsPlanned f item → CanSend f item

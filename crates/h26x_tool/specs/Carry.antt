@@ -1,12 +1,50 @@
--- Whether a call of an H.264 packetizer makes packets.
-use Rattle.std.specs.Prelude.{ℕ, Bool, List}
-use Rattle.h26x_core.specs.Text.{is_not_empty}
+-- What an H.264 payload through a packetizer and a depacketizer gives.
+use Rattle.std.specs.Prelude.{◌≡◌, ℕ, Bool, List, [], ◌∷◌, ◌++◌, map, Option, Result, Ok, Err, IfErr, OnOk, ◌⊎◌}
+use Rattle.h26x_core.specs.declared.extra.CodecExtra.{CodecExtra}
+use Rattle.h26x_core.specs.declared.error.PacketError.{PacketError}
+use Rattle.h26x_core.specs.declared.error.PacketError.TheVariants.{OutOfMemory}
+use Rattle.h26x_core.specs.Text.{is_not_empty, text}
 use Rattle.h26x_core.specs.Calls.{entries_of_call}
-use Rattle.h26x_core.specs.Waits.{Waiting, plan_with}
+use Rattle.h26x_core.specs.Group.{Entry}
+use Rattle.h26x_core.specs.Plan.{sent}
+use Rattle.h26x_core.specs.Waits.{Waiting, sets_waiting, entries_at, plan_with}
 use Rattle.h26x_core.specs.Packets.{packets}
+use Rattle.h26x_core.specs.Extra.{extra_after}
+use Rattle.h26x_core.specs.Outcome.{IsOutcomeWith, AreTaken}
+use Rattle.h26x_core.specs.Facts.{AreCarried}
 use Rattle.h264_payload.specs.H264.{h264}
 
--- the sets that wait before the call, its limit and its payload
+-- the packets of a call, where these sets wait before it
+abbrev pub packets_made : Waiting → ℕ → List ℕ → List (List ℕ)
+packets_made w mtu payload = packets h264 0 (plan_with h264 w (entries_of_call h264 (record { mtu = mtu; payload = payload })))
+
+-- whether there is one
 abbrev pub makes_packets : Waiting → ℕ → List ℕ → Bool
-makes_packets w mtu payload =
-    is_not_empty (packets h264 0 (plan_with h264 w (entries_of_call h264 (record { mtu = mtu; payload = payload }))))
+makes_packets w mtu payload = is_not_empty (packets_made w mtu payload)
+
+-- Why packets are not taken to their end: memory lacks, or the next one is refused where this run is open.
+abbrev pub IsCause : Bool → Option (List ℕ) → List (List ℕ) → PacketError → Type 0
+IsCause avc run left error =
+    (error ≡ OutOfMemory)
+    ⊎ ((packet : List ℕ) × (later : List (List ℕ)) × (left ≡ packet ∷ later) × IsOutcomeWith avc run (h264.read packet) (Err error))
+
+-- What a depacketizer that had no open run has done with packets: it has taken those of a front, and all of them
+-- where the answer is no refusal.
+pub record IsCarried {A : Type 0} (avc : Bool) (made : List (List ℕ)) (answer : Result A PacketError) (out new : List ℕ) (extra after : CodecExtra) (run : Option (List ℕ)) : Type 0 where
+  pub taken : List (List ℕ)
+  pub left : List (List ℕ)
+  pub front : made ≡ taken ++ left
+  pub are_taken : AreTaken h264 avc (map h264.read taken) (map (λ packet. Ok tt) taken) out new extra after run
+  pub all : OnOk answer (left ≡ [])
+  pub cause : IfErr answer (IsCause avc run left)
+
+-- the units of a call, behind the sets that wait before it
+abbrev pub entries_with : Waiting → ℕ → List ℕ → List Entry
+entries_with w mtu payload = entries_at mtu (sets_waiting w) ++ entries_of_call h264 (record { mtu = mtu; payload = payload })
+
+-- Where packets can carry each unit that is sent, what is sent is written, and the extra is the one after it.
+abbrev pub IsCarriedWhole : Bool → Waiting → ℕ → List ℕ → List ℕ → List ℕ → CodecExtra → CodecExtra → Type 0
+IsCarriedWhole avc w mtu payload out new extra after =
+    AreCarried h264 (sent h264 (entries_with w mtu payload)) →
+    (new ≡ out ++ text avc (sent h264 (entries_with w mtu payload)))
+    × (after ≡ extra_after h264 extra (sent h264 (entries_with w mtu payload)))
