@@ -14,6 +14,7 @@ pub mod TakenLemmas
 pub mod FragmentLemmas
 pub mod NumberLemmas
 pub mod DetectionLemmas
+pub mod AcceptedLemmas
 pub mod SentLemmas
 pub mod SteadyLemmas
 pub mod PlaceLemmas

@@ -15,6 +15,11 @@ pub data Reading : Type 0 where
 abbrev pub unnumbered : List ℕ → List ℕ × Option ℕ
 unnumbered unit = (unit, None)
 
+-- the packet is not refused
+abbrev pub IsRead : Reading → Type 0
+IsRead (Refused error) = ⊥
+IsRead reading = Unit {0}
+
 -- the packet is a fragment
 abbrev pub IsFragment : Reading → Type 0
 IsFragment (Fragment start end head number body) = Unit {0}

@@ -3,7 +3,7 @@
 
 ghost use Rattle.std.specs.Prelude.{◌≡◌, ◌==◌, ◌&&◌, ℕ, Bool, List, [], ◌∷◌, ◌++◌, Option, Result, None, Some, ◌+◌, ◌≤◌, false, length, IsTrue, ◌<◌, map};
 ghost use Rattle.std.specs.List.{AllByRecursion, flat_map};
-ghost use Rattle.h26x_core.specs.Reading.{Reading};
+ghost use Rattle.h26x_core.specs.Reading.{Reading, IsRead};
 ghost use Rattle.h26x_core.specs.Format.{Format, number_len, fragment_header_len};
 ghost use Rattle.h26x_core.specs.Calls.{Call, entries_of, packets_of};
 ghost use Rattle.h26x_core.specs.Group.{Entry, Group, split, AreGroups, sets_of};
@@ -104,12 +104,14 @@ pub fn what_is_carried_can_be_sent()
     ensures can_send { (f : Format) → ReadsWhatItWrites f → (items : List Item) → AllByRecursion (IsPlanned f) items → AllByRecursion (CanSend f) items }
 {}
 
-/// From all packets what is sent is received, whatever came before.
+/// From all packets what is sent is received, whatever came before; and none of them is refused for what it is.
 pub fn what_is_sent_is_received()
     ensures items { (f : Format) → ReadsWhatItWrites f → (n : ℕ) (items : List Item) (earlier : List Reading) → AllByRecursion (CanSend f) items →
         units_after earlier (map f.read (packets f n items)) ≡ flat_map units_of_item items }
     ensures calls { (f : Format) → ReadsWhatItWrites f → SetsLeaveRoom f → KeyUnitsAreOther f → (n : ℕ) (calls : List Call) (earlier : List Reading) →
         AreCarried f (sent f (entries_of f calls)) → units_after earlier (map f.read (packets_of f n calls)) ≡ sent f (entries_of f calls) }
+    ensures read { (f : Format) → ReadsWhatItWrites f → (n : ℕ) (items : List Item) → AllByRecursion (CanSend f) items →
+        AllByRecursion (λ packet. IsRead (f.read packet)) (packets f n items) }
 {}
 
 /// A lost packet hurts no item but its own, whatever came before.

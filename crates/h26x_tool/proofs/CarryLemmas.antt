@@ -1,23 +1,26 @@
 -- Packets of H.264 that a depacketizer takes one after the other.
-use Rattle.std.proofs.Common.{◌≡◌, ℕ, ◌+◌, ◌<◌, ◌≤◌, Bool, List, [], ◌∷◌, ◌++◌, length, map, take, drop, get_or, Option, Result, Ok, Err, refl, sym, ap, ◌∙◌, inr, append_assoc}
-use Rattle.std.specs.List.{AllByRecursion}
+use Rattle.std.proofs.Common.{◌≡◌, ℕ, ◌+◌, ◌<◌, ◌≤◌, Bool, true, false, List, [], ◌∷◌, ◌++◌, length, map, take, drop, get_or, Option, Result, Ok, Err, refl, sym, ap, ◌∙◌, ◌⊎◌, inl, inr, ⊎_elim, subst, append_assoc}
+use Rattle.std.specs.Prelude.{◌&&◌, MatchBool}
+use Rattle.std.specs.List.{AllByRecursion, list_any}
 use Rattle.std.proofs.lemmas.List.{append-nil, map-append, take_all, take-append-drop, drop_more}
 use Rattle.std.proofs.lemmas.Grind.{take_at_read}
 use Rattle.h26x_core.specs.declared.extra.CodecExtra.{CodecExtra}
 use Rattle.h26x_core.specs.declared.error.PacketError.{PacketError}
+use Rattle.h26x_core.specs.declared.error.PacketError.TheVariants.{AvcUnitTooLong, OutOfMemory}
 use Rattle.h26x_core.specs.Front.{IsFrontOf}
 use Rattle.h26x_core.specs.Text.{text}
-use Rattle.h26x_core.specs.Reading.{Reading}
-use Rattle.h26x_core.specs.Received.{units_of, units_after, received_back}
+use Rattle.h26x_core.specs.Reading.{Reading, Single, Aggregate, Fragment, Paci, Refused, IsRead}
+use Rattle.h26x_core.specs.Received.{units_of, units_with, units_after, received_back}
 use Rattle.h26x_core.specs.Extra.{extra_after}
-use Rattle.h26x_core.specs.Outcome.{accepted, AreTaken, IsStep}
+use Rattle.h26x_core.specs.Outcome.{is_too_long, IsOutcomeWith, accepted, AreTaken, IsStep}
 use Rattle.h26x_core.specs.Group.{Entry}
 use Rattle.h26x_core.specs.Plan.{plan, sent}
 use Rattle.h26x_core.specs.Waits.{Waiting}
 use Rattle.h26x_core.specs.Packets.{packets}
-use Rattle.h26x_core.specs.Facts.{AreCarried}
+use Rattle.h26x_core.specs.Facts.{AreCarried, CanSend}
 use Rattle.h26x_core.proofs.TakenLemmas.{taken_more}
-use Rattle.h26x_core.proofs.SentLemmas.{IsOfCall, entries_planned, can_send, all_received}
+use Rattle.h26x_core.proofs.SentLemmas.{IsOfCall, all_parts, entries_planned, can_send, all_received}
+use Rattle.h26x_core.proofs.AcceptedLemmas.{all_read}
 use Rattle.h264_payload.specs.H264.{h264}
 use Rattle.h264_payload.proofs.ReadBackLemmas.{reads_what_it_writes}
 use Rattle.h264_payload.proofs.FactLemmas.{extra_tells, sets_leave_room, key_units_are_other}
@@ -82,19 +85,49 @@ limits_of_calls : (entries : List Entry) → AllByRecursion (IsOfCall h264) entr
 limits_of_calls [] = tt
 limits_of_calls (e ∷ entries) = ((e.limit, refl), limits_of_calls entries)
 
--- the packets of what can be carried bring what is sent
-sent_back : (entries : List Entry) → AreCarried h264 (sent h264 entries) → units_after [] (map h264.read (packets h264 0 (plan h264 entries))) ≡ sent h264 entries
-sent_back entries carried =
-    all_received h264 reads_what_it_writes 0 (plan h264 entries) []
-    (can_send h264 reads_what_it_writes (plan h264 entries)
-    (entries_planned h264 sets_leave_room key_units_are_other entries (limits_of_calls entries) carried))
+-- what is planned where each unit sent is carried
+can_be_sent : (entries : List Entry) → AreCarried h264 (sent h264 entries) → AllByRecursion (CanSend h264) (plan h264 entries)
+can_be_sent entries carried = can_send h264 reads_what_it_writes (plan h264 entries)
+    (entries_planned h264 sets_leave_room key_units_are_other entries (limits_of_calls entries) carried)
 
--- where all packets of a call are carried, what is sent is written
-pub carried_whole : (avc : Bool) (w : Waiting) (mtu : ℕ) (payload : List ℕ) (made : List (List ℕ)) (out new : List ℕ) (extra after : CodecExtra) (run : Option (List ℕ)) →
-    made ≡ packets h264 0 (plan h264 (entries_with w mtu payload)) → IsCarried {A = Unit {0}} avc made (Ok tt) out new extra after run →
-    IsCarriedWhole avc w mtu payload out new extra after
-carried_whole avc w mtu payload made out new extra after run is c = λ carried.
+-- a refusal of what is read: in AVC form by a length, else for want of memory
+by_length : (avc long : Bool) (e : PacketError) (answer : Result (Unit {0}) PacketError) → answer ≡ Err e →
+    MatchBool (avc && long) (answer ≡ Err AvcUnitTooLong) ((answer ≡ Ok tt) ⊎ (answer ≡ Err OutOfMemory)) → (e ≡ OutOfMemory) ⊎ ((avc ≡ true) × (e ≡ AvcUnitTooLong))
+by_length true true e answer is h = inr (refl, cc)
+by_length true false e answer is (inl h) = absurd cc
+by_length true false e answer is (inr h) = inl cc
+by_length false long e answer is (inl h) = absurd cc
+by_length false long e answer is (inr h) = inl cc
+
+-- why a packet that is read is refused all the same
+cause_of : (avc : Bool) (run : Option (List ℕ)) (reading : Reading) (e : PacketError) → IsRead reading → IsOutcomeWith avc run reading (Err e) →
+    (e ≡ OutOfMemory) ⊎ ((avc ≡ true) × (e ≡ AvcUnitTooLong))
+cause_of avc run (Refused error) e read outcome = absurd read
+cause_of avc run (Single unit number) e read outcome = by_length avc (list_any is_too_long (units_with run (Single unit number))) e (Err e) refl outcome
+cause_of avc run (Aggregate units) e read outcome = by_length avc (list_any is_too_long (units_with run (Aggregate units))) e (Err e) refl outcome
+cause_of avc run (Fragment start end head number body) e read outcome =
+    by_length avc (list_any is_too_long (units_with run (Fragment start end head number body))) e (Err e) refl outcome
+cause_of avc run (Paci head fields extension body) e read outcome =
+    by_length avc (list_any is_too_long (units_with run (Paci head fields extension body))) e (Err e) refl outcome
+
+-- a front of the packets of a call was carried: what is written where it is all of them, and why it stopped where not
+pub carried_whole : {A : Type 0} (avc : Bool) (w : Waiting) (mtu : ℕ) (payload : List ℕ) (made : List (List ℕ)) (answer : Result A PacketError) (out new : List ℕ) (extra after : CodecExtra) (run : Option (List ℕ)) →
+    made ≡ packets h264 0 (plan h264 (entries_with w mtu payload)) → IsCarried avc made answer out new extra after run →
+    IsCarriedWhole avc w mtu payload answer out new extra after
+carried_whole avc w mtu payload made (Ok a) out new extra after run is c = λ carried.
+    let entries = entries_with w mtu payload in
     let all : c.taken ≡ made = sym (append-nil c.taken) ∙ ap (λ (left : List (List ℕ)). c.taken ++ left) (sym c.all) ∙ sym c.front in
-    let bring = accepted_bring [] (map h264.read c.taken) c.taken refl in
-    let units = bring ∙ ap (λ (made : List (List ℕ)). units_after [] (map h264.read made)) (all ∙ is) ∙ sent_back (entries_with w mtu payload) carried in
-    (c.are_taken.written ∙ ap (λ (us : List (List ℕ)). out ++ text avc us) units, c.are_taken.told ∙ ap (extra_after h264 extra) units)
+    let units = accepted_bring [] (map h264.read c.taken) c.taken refl
+    ∙ ap (λ (made : List (List ℕ)). units_after [] (map h264.read made)) (all ∙ is)
+    ∙ all_received h264 reads_what_it_writes 0 (plan h264 entries) [] (can_be_sent entries carried) in
+    ((c.are_taken.written ∙ ap (λ (us : List (List ℕ)). out ++ text avc us) units, c.are_taken.told ∙ ap (extra_after h264 extra) units), tt)
+carried_whole avc w mtu payload made (Err e) out new extra after run is c = λ carried.
+    let entries = entries_with w mtu payload in (
+      tt,
+      ⊎_elim (λ memory. inl memory)
+          (λ (packet, later, here, outcome).
+          let read = all_read h264 reads_what_it_writes 0 (plan h264 entries) (can_be_sent entries carried) in
+          let parts = all_parts (λ packet. IsRead (h264.read packet)) c.taken c.left (subst (AllByRecursion (λ packet. IsRead (h264.read packet))) (sym is ∙ c.front) read) in
+          cause_of avc run (h264.read packet) e (subst (AllByRecursion (λ packet. IsRead (h264.read packet))) here parts.1).0 outcome)
+          c.cause,
+    )

@@ -1,8 +1,8 @@
 -- What an H.264 payload through a packetizer and a depacketizer gives.
-use Rattle.std.specs.Prelude.{◌≡◌, ℕ, Bool, List, [], ◌∷◌, ◌++◌, map, Option, Result, Ok, Err, IfErr, OnOk, ◌⊎◌}
+use Rattle.std.specs.Prelude.{◌≡◌, ℕ, Bool, true, List, [], ◌∷◌, ◌++◌, map, Option, Result, Ok, Err, IfErr, OnOk, ◌⊎◌}
 use Rattle.h26x_core.specs.declared.extra.CodecExtra.{CodecExtra}
 use Rattle.h26x_core.specs.declared.error.PacketError.{PacketError}
-use Rattle.h26x_core.specs.declared.error.PacketError.TheVariants.{OutOfMemory}
+use Rattle.h26x_core.specs.declared.error.PacketError.TheVariants.{AvcUnitTooLong, OutOfMemory}
 use Rattle.h26x_core.specs.Text.{is_not_empty, text}
 use Rattle.h26x_core.specs.Calls.{entries_of_call}
 use Rattle.h26x_core.specs.Group.{Entry}
@@ -42,9 +42,12 @@ pub record IsCarried {A : Type 0} (avc : Bool) (made : List (List ℕ)) (answer 
 abbrev pub entries_with : Waiting → ℕ → List ℕ → List Entry
 entries_with w mtu payload = entries_at mtu (sets_waiting w) ++ entries_of_call h264 (record { mtu = mtu; payload = payload })
 
--- Where packets can carry each unit that is sent, what is sent is written, and the extra is the one after it.
-abbrev pub IsCarriedWhole : Bool → Waiting → ℕ → List ℕ → List ℕ → List ℕ → CodecExtra → CodecExtra → Type 0
-IsCarriedWhole avc w mtu payload out new extra after =
+-- Where packets can carry each unit that is sent: what is sent is written, and the extra is the one after it; a refusal is
+-- want of memory, or in AVC form a unit that is too long.
+abbrev pub IsCarriedWhole : {A : Type 0} → Bool → Waiting → ℕ → List ℕ → Result A PacketError → List ℕ → List ℕ → CodecExtra → CodecExtra → Type 0
+IsCarriedWhole avc w mtu payload answer out new extra after =
     AreCarried h264 (sent h264 (entries_with w mtu payload)) →
+    OnOk answer (
     (new ≡ out ++ text avc (sent h264 (entries_with w mtu payload)))
-    × (after ≡ extra_after h264 extra (sent h264 (entries_with w mtu payload)))
+    × (after ≡ extra_after h264 extra (sent h264 (entries_with w mtu payload))))
+    × IfErr answer (λ error. (error ≡ OutOfMemory) ⊎ ((avc ≡ true) × (error ≡ AvcUnitTooLong)))

@@ -43,7 +43,7 @@ pub fn carry_one(
     ensures waits { OnOk result (p.new ≡ waits_after_all h264 p.old (entries_of_payload mtu payload.now)) }
     ensures waits_on { OnErr result ((p.new ≡ waits_after_all h264 p.old (entries_of_payload mtu payload.now)) ⊎ ((p.new ≡ p.old) × (result ≡ Err PacketError.OutOfMemory))) }
     ensures setting { d.new.is_avc ≡ d.old.is_avc }
-    ensures whole { d.old.run ≡ None → OnOk result (IsCarriedWhole d.old.is_avc p.old mtu payload.now out.old.items out.new.items extra.old extra.new) }
+    ensures whole { d.old.run ≡ None → IsCarriedWhole d.old.is_avc p.old mtu payload.now result out.old.items out.new.items extra.old extra.new }
 {
     let packets = p.packetize(mtu, payload)?;
     deliver(d, &packets, out, extra)?;
