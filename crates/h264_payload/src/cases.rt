@@ -1,10 +1,12 @@
 //! Worked cases: packets of payloads, units of packets, refusals and detection, byte by byte. Each is the contract of a
 //! function without a result.
 
-ghost use Rattle.std.specs.Prelude.{◌≡◌, true, false, None, [], ◌∷◌, map};
+ghost use Rattle.std.specs.Prelude.{◌≡◌, true, false, None, [], ◌∷◌, map, length};
+ghost use Rattle.std.specs.List.{range_with_len};
 ghost use Rattle.h26x_core.specs.Reading.{Aggregate, Refused};
 ghost use Rattle.h26x_core.specs.Calls.{packets_of, packets_of_payload};
 ghost use Rattle.h26x_core.specs.Received.{received};
+ghost use Rattle.h26x_core.specs.Text.{annex_b};
 ghost use Rattle.h26x_core.specs.Extra.{extra_after};
 ghost use Rattle.h264_payload.specs.H264.{h264};
 
@@ -94,7 +96,8 @@ pub fn a_run_closed_by_its_end()
 /// Packets that are refused: too short, with a length that passes the end, or of a type that is not handled.
 pub fn refused_packets()
     ensures empty { h264.read [] ≡ Refused PacketError.ErrShortPacket }
-    ensures cut_stap { h264.read (0x78 ∷ 0x00 ∷ 0x02 ∷ 0x67 ∷ 0xaa ∷ 0x00 ∷ 0x05 ∷ 0x68 ∷ 0x1a ∷ []) ≡ Refused (PacketError.StapASizeLargerThanBuffer 5 2) }
+    ensures cut_stap { h264.read (0x78 ∷ 0x00 ∷ 0x02 ∷ 0x67 ∷ 0xaa ∷ 0x00 ∷ 0x05 ∷ 0x68 ∷ 0x1a ∷ [])
+        ≡ Refused (PacketError.StapASizeLargerThanBuffer 5 2) }
     ensures other_type { h264.read (0xff ∷ 0x00 ∷ 0x00 ∷ []) ≡ Refused (PacketError.NaluTypeIsNotHandled 31) }
     ensures short_fragment { h264.read (0x7c ∷ []) ≡ Refused PacketError.ErrShortPacket }
 {}
@@ -112,4 +115,32 @@ pub fn detected_packets()
     ensures later_fragment { h264.detects (0x7c ∷ 0x05 ∷ 0x00 ∷ 0x00 ∷ []) ≡ false }
     ensures first_fragment { h264.detects (0x7c ∷ 0x85 ∷ 0x00 ∷ 0x00 ∷ []) ≡ true }
     ensures short_fragment { h264.detects (0x7c ∷ []) ≡ false }
+{}
+
+/// How many packets a unit of eight bytes takes, at each limit up to 10.
+pub fn packets_by_limit()
+    ensures { map (λ mtu. length (packets_of_payload h264 mtu (0x65 ∷ 0x01 ∷ 0x02 ∷ 0x03 ∷ 0x04 ∷ 0x05 ∷ 0x06 ∷ 0x07 ∷ []))) (range_with_len 0 11)
+        ≡ 0 ∷ 0 ∷ 0 ∷ 7 ∷ 4 ∷ 3 ∷ 2 ∷ 2 ∷ 1 ∷ 1 ∷ 1 ∷ [] }
+{}
+
+/// Fragments that start and end are units of their own, with data or without.
+pub fn fragments_that_start_and_end()
+    ensures { received (map h264.read ((0x7c ∷ 0xc5 ∷ []) ∷ (0x7c ∷ 0xc5 ∷ 0x09 ∷ []) ∷ [])) ≡ (0x65 ∷ []) ∷ (0x65 ∷ 0x09 ∷ []) ∷ [] }
+{}
+
+/// Without its middle fragment a unit is what is left; without its start an end completes the run that an earlier unit began.
+pub fn lost_packets()
+    ensures middle { received (map h264.read ((0x7c ∷ 0x85 ∷ 0x01 ∷ []) ∷ (0x1c ∷ 0x41 ∷ 0x02 ∷ []) ∷ [])) ≡ (0x01 ∷ 0x01 ∷ 0x02 ∷ []) ∷ [] }
+    ensures start { received (map h264.read ((0x7c ∷ 0x85 ∷ 0x01 ∷ 0x02 ∷ 0x03 ∷ []) ∷ (0x7c ∷ 0x41 ∷ 0x14 ∷ 0x15 ∷ 0x16 ∷ []) ∷ []))
+        ≡ (0x61 ∷ 0x01 ∷ 0x02 ∷ 0x03 ∷ 0x14 ∷ 0x15 ∷ 0x16 ∷ []) ∷ [] }
+{}
+
+/// Units that end in zeros lose them to the start codes, where they are cut again: all but the last.
+pub fn zeros_at_the_end_of_a_unit()
+    ensures first { packets_of h264 0 (
+        record { mtu = 100; payload = 0x65 ∷ 0x01 ∷ 0x00 ∷ [] } ∷
+        record { mtu = 100; payload = 0x65 ∷ 0x02 ∷ [] } ∷ [])
+        ≡ (0x65 ∷ 0x01 ∷ 0x00 ∷ []) ∷ (0x65 ∷ 0x02 ∷ []) ∷ [] }
+    ensures again { packets_of_payload h264 100 (annex_b ((0x65 ∷ 0x01 ∷ 0x00 ∷ []) ∷ (0x65 ∷ 0x02 ∷ []) ∷ []))
+        ≡ (0x65 ∷ 0x01 ∷ []) ∷ (0x65 ∷ 0x02 ∷ []) ∷ [] }
 {}

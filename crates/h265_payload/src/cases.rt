@@ -1,11 +1,13 @@
 //! Worked cases on bytes. Each is the contract of a function without a result.
 
-ghost use Rattle.std.specs.Prelude.{◌≡◌, true, false, [], ◌∷◌, map, replicate, Some, None};
+ghost use Rattle.std.specs.Prelude.{◌≡◌, true, false, [], ◌∷◌, map, replicate, Some, None, length, take};
+ghost use Rattle.std.specs.List.{range_with_len};
 ghost use Rattle.h26x_core.specs.declared.error.PacketError.TheVariants.{ErrShortPacket, ErrH265CorruptedPacket};
 ghost use Rattle.h26x_core.specs.declared.extra.CodecExtra.TheVariants as extras;
-ghost use Rattle.h26x_core.specs.Reading.{Aggregate, Refused};
+ghost use Rattle.h26x_core.specs.Reading.{Single, Aggregate, Refused};
 ghost use Rattle.h26x_core.specs.Calls.{packets_of, packets_of_payload};
 ghost use Rattle.h26x_core.specs.Received.{received};
+ghost use Rattle.h26x_core.specs.Text.{annex_b, text};
 ghost use Rattle.h26x_core.specs.Extra.{extra_after};
 ghost use Rattle.h265_payload.specs.H265.{h265};
 
@@ -110,7 +112,8 @@ pub fn numbers_go_round()
 /// A PACI stands for the unit that has its cType and its payload; its extension is left out. A cType of an aggregate
 /// is a unit's type like every other.
 pub fn paci_stands_for_a_unit()
-    ensures extension { received (map (h265 false).read ((0x64 ∷ 0x01 ∷ 0x26 ∷ 0x38 ∷ 0x11 ∷ 0x22 ∷ 0x33 ∷ 0xaa ∷ []) ∷ [])) ≡ (0x26 ∷ 0x01 ∷ 0xaa ∷ []) ∷ [] }
+    ensures extension { received (map (h265 false).read ((0x64 ∷ 0x01 ∷ 0x26 ∷ 0x38 ∷ 0x11 ∷ 0x22 ∷ 0x33 ∷ 0xaa ∷ []) ∷ []))
+        ≡ (0x26 ∷ 0x01 ∷ 0xaa ∷ []) ∷ [] }
     ensures aggregate_type { received (map (h265 false).read ((0x64 ∷ 0x01 ∷ 0x60 ∷ 0x00 ∷ 0xaa ∷ []) ∷ [])) ≡ (0x60 ∷ 0x01 ∷ 0xaa ∷ []) ∷ [] }
     ensures no_key { extra_after (h265 false) extras.None (received (map (h265 false).read (
         (0x64 ∷ 0x01 ∷ 0x60 ∷ 0x00 ∷ 0xaa ∷ []) ∷ [])))
@@ -140,4 +143,54 @@ pub fn run_through_other_packets()
 pub fn key_unit_detected()
     ensures start { (h265 true).detects (0x62 ∷ 0x01 ∷ 0x93 ∷ 0x00 ∷ 0x07 ∷ 0xaa ∷ []) ≡ true }
     ensures later { (h265 true).detects (0x62 ∷ 0x01 ∷ 0x13 ∷ 0xbb ∷ []) ≡ false }
+{}
+
+/// How many packets a unit of eight bytes takes, at each limit up to 10.
+pub fn packets_by_limit()
+    ensures plain { map (λ mtu. length (packets_of_payload (h265 false) mtu (0x02 ∷ 0x01 ∷ 0x01 ∷ 0x02 ∷ 0x03 ∷ 0x04 ∷ 0x05 ∷ 0x06 ∷ []))) (range_with_len 0 11)
+        ≡ 0 ∷ 0 ∷ 0 ∷ 0 ∷ 6 ∷ 3 ∷ 2 ∷ 2 ∷ 1 ∷ 1 ∷ 1 ∷ [] }
+    ensures numbered { map (λ mtu. length (packets_of_payload (h265 true) mtu (0x02 ∷ 0x01 ∷ 0x01 ∷ 0x02 ∷ 0x03 ∷ 0x04 ∷ 0x05 ∷ 0x06 ∷ []))) (range_with_len 0 11)
+        ≡ 0 ∷ 0 ∷ 0 ∷ 0 ∷ 0 ∷ 0 ∷ 3 ∷ 2 ∷ 2 ∷ 2 ∷ 1 ∷ [] }
+{}
+
+/// An aggregate that is cut anywhere holds fewer than two units; units may be empty.
+pub fn cut_and_empty_units()
+    ensures cut { map (λ n. (h265 false).read (take n (0x60 ∷ 0x01 ∷ 0x00 ∷ 0x03 ∷ 0x02 ∷ 0x01 ∷ 0xaa ∷ 0x00 ∷ 0x02 ∷ 0x02 ∷ 0x01 ∷ []))) (range_with_len 0 11)
+        ≡ replicate 11 (Refused ErrShortPacket) }
+    ensures whole { received (map (h265 false).read ((0x60 ∷ 0x01 ∷ 0x00 ∷ 0x03 ∷ 0x02 ∷ 0x01 ∷ 0xaa ∷ 0x00 ∷ 0x02 ∷ 0x02 ∷ 0x01 ∷ []) ∷ []))
+        ≡ (0x02 ∷ 0x01 ∷ 0xaa ∷ []) ∷ (0x02 ∷ 0x01 ∷ []) ∷ [] }
+    ensures empty { text false (received (map (h265 false).read ((0x60 ∷ 0x01 ∷ 0x00 ∷ 0x00 ∷ 0x00 ∷ 0x00 ∷ []) ∷ [])))
+        ≡ 0x00 ∷ 0x00 ∷ 0x00 ∷ 0x01 ∷ 0x00 ∷ 0x00 ∷ 0x00 ∷ 0x01 ∷ [] }
+    ensures nothing_told { extra_after (h265 false) extras.None (received (map (h265 false).read ((0x60 ∷ 0x01 ∷ 0x00 ∷ 0x00 ∷ 0x00 ∷ 0x00 ∷ []) ∷ [])))
+        ≡ extras.None }
+    ensures numbered { received (map (h265 true).read ((0x60 ∷ 0x01 ∷ 0x00 ∷ 0x00 ∷ 0x00 ∷ 0x00 ∷ 0x00 ∷ 0x00 ∷ 0x00 ∷ []) ∷ [])) ≡ [] ∷ [] ∷ [] }
+    ensures numbered_cut { (h265 true).read (0x60 ∷ 0x01 ∷ 0x00 ∷ 0x00 ∷ 0x00 ∷ 0x00 ∷ 0x00 ∷ 0x00 ∷ []) ≡ Refused ErrShortPacket }
+{}
+
+/// A number stands behind a unit's header, and in the first fragment alone.
+pub fn numbers_of_units()
+    ensures unit { (h265 true).read (0x02 ∷ 0x01 ∷ 0x00 ∷ 0x05 ∷ 0xaa ∷ []) ≡ Single (0x02 ∷ 0x01 ∷ 0xaa ∷ []) (Some 5) }
+    ensures fragments { received (map (h265 true).read ((0x62 ∷ 0x01 ∷ 0x93 ∷ 0x00 ∷ 0x07 ∷ 0xaa ∷ []) ∷ (0x62 ∷ 0x01 ∷ 0x53 ∷ 0xbb ∷ []) ∷ []))
+        ≡ (0x26 ∷ 0x01 ∷ 0xaa ∷ 0xbb ∷ []) ∷ [] }
+{}
+
+/// Packets that are refused leave the run open.
+pub fn refusals_within_a_run()
+    ensures { received (map (h265 false).read (
+        (0x62 ∷ 0x01 ∷ 0x93 ∷ 0xaa ∷ []) ∷
+        (0x62 ∷ 0x01 ∷ 0x93 ∷ []) ∷
+        (0xe2 ∷ 0x01 ∷ 0x93 ∷ 0xaa ∷ []) ∷
+        (0x62 ∷ 0x01 ∷ 0x53 ∷ 0xbb ∷ []) ∷ []))
+        ≡ (0x26 ∷ 0x01 ∷ 0xaa ∷ 0xbb ∷ []) ∷ [] }
+{}
+
+/// Where a set was dropped for its size, what was sent is not what is sent of it again: the other set waits.
+pub fn sets_sent_again()
+    ensures first { packets_of (h265 false) 0 (
+        record { mtu = 4; payload = 0x42 ∷ 0x01 ∷ 0x01 ∷ 0x02 ∷ 0x03 ∷ [] } ∷
+        record { mtu = 4; payload = 0x44 ∷ 0x01 ∷ 0xc1 ∷ [] } ∷
+        record { mtu = 4; payload = 0x02 ∷ 0x01 ∷ 0xaa ∷ [] } ∷ [])
+        ≡ (0x44 ∷ 0x01 ∷ 0xc1 ∷ []) ∷ (0x02 ∷ 0x01 ∷ 0xaa ∷ []) ∷ [] }
+    ensures again { packets_of_payload (h265 false) 4 (annex_b ((0x44 ∷ 0x01 ∷ 0xc1 ∷ []) ∷ (0x02 ∷ 0x01 ∷ 0xaa ∷ []) ∷ []))
+        ≡ (0x02 ∷ 0x01 ∷ 0xaa ∷ []) ∷ [] }
 {}
