@@ -7,12 +7,12 @@ use Rattle.std.proofs.lemmas.Bool.Decides.{nat_tests}
 use Rattle.h26x_core.specs.Word.{field, is_set}
 use Rattle.h26x_core.specs.Kind.{is_other}
 use Rattle.h26x_core.specs.H265Unit.{type_of, kind_of_type, is_key, is_key_type}
-use Rattle.h26x_core.specs.Reading.{Reading, Fragment, unnumbered}
+use Rattle.h26x_core.specs.Reading.{Reading, Fragment, unnumbered, single_of}
 use Rattle.h26x_core.specs.Packets.{single}
 use Rattle.h26x_core.specs.Pieces.{pieces_of}
 use Rattle.h26x_core.specs.Facts.{HeadersTakeRoom, ReadsWhatItWrites, FitsLimits, SetsLeaveRoom, ExtraTells, KnowsKeyUnits, KeyUnitsAreOther}
 use Rattle.h26x_core.proofs.PieceLemmas.{pieces_back}
-use Rattle.h265_payload.specs.H265.{h265, carries, read, fragment_header, fragment_of, aggregate_of, single_of, paci_of, paci_behind, two_or_more, units_from, sets_fit, sets_packet, detects}
+use Rattle.h265_payload.specs.H265.{h265, carries, read, fragment_header, fragment_of, aggregate_of, paci_of, paci_behind, two_or_more, units_from, sets_fit, sets_packet, detects}
 use Rattle.h265_payload.proofs.HeaderLemmas.{of_carried, fragment_bytes}
 use Rattle.h265_payload.proofs.ReadBackLemmas.{carried_long, single_back, fragment_back}
 use Rattle.h265_payload.proofs.SetsLemmas.{fit_within, sets_short, sets_within, sets_back, room_of-cons}

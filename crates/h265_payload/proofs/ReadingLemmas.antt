@@ -5,11 +5,12 @@ use Rattle.std.proofs.lemmas.List.{take_at, drop_at, length-drop, length-map}
 use Rattle.std.proofs.lemmas.Bool.Decides.{nat_tests}
 use Rattle.h26x_core.specs.Word.{field, is_set}
 use Rattle.h26x_core.specs.H265Unit.{type_of}
-use Rattle.h26x_core.specs.Reading.{Reading, Single, Aggregate, Fragment, Paci, Refused, unnumbered}
+use Rattle.h26x_core.specs.Reading.{Reading, Single, Aggregate, Fragment, Paci, Refused, unnumbered, single_of}
 use Rattle.h26x_core.specs.declared.error.PacketError.TheVariants.{ErrShortPacket, ErrH265CorruptedPacket}
 use Rattle.h26x_core.specs.Pieces.{HasNoPiece, Pieces}
 use Rattle.h26x_core.proofs.PieceLemmas.{only_pieces, split_at, enough}
-use Rattle.h265_payload.specs.H265.{read, with_type, two_or_more, aggregate_of, units_from, further_units, single_of, fragment_of, paci_of, paci_behind, paci_head}
+use Rattle.h26x_core.proofs.SingleLemmas.{short_single, numbered_single}
+use Rattle.h265_payload.specs.H265.{read, with_type, two_or_more, aggregate_of, units_from, further_units, fragment_of, paci_of, paci_behind, paci_head}
 use Rattle.h265_payload.specs.Reading.{IsReading, IsWhole, IsUnitType, AreFurther, HasNoFurther, IsShort, IsCorrupted, IsUnit, IsNumberedUnit, IsShortUnit, IsAggregate, IsShortAggregate, IsNumberedAggregate, IsOneNumbered, IsNoneNumbered, IsWithoutNumber, IsFragment, IsNumberedStart, IsShortFragment, IsShortStart, IsPaci, IsShortPaci, IsPaciWithoutFields}
 use Rattle.h265_payload.proofs.HeaderLemmas.{unit_type}
 use Rattle.h265_payload.proofs.FurtherLemmas.{only_further}
@@ -48,18 +49,6 @@ read_short numbered (high ∷ low ∷ b ∷ rest) h = absurd (omega arith)
 read_corrupted : (numbered : Bool) (high low : ℕ) (rest : List ℕ) → 1 ≤ length rest → is_set high 7 ≡ true → read numbered (high ∷ low ∷ rest) ≡ Refused ErrH265CorruptedPacket
 read_corrupted numbered high low [] some f = absurd (omega arith)
 read_corrupted numbered high low (b ∷ rest) some f = rw f refl
-
--- a unit alone with its number needs a byte behind the number
-short_single : (high low : ℕ) (rest : List ℕ) → length rest ≤ 2 → single_of true high low rest ≡ Refused ErrShortPacket
-short_single high low [] h = refl
-short_single high low (d ∷ []) h = refl
-short_single high low (d ∷ e ∷ []) h = refl
-short_single high low (d ∷ e ∷ b ∷ rest) h = absurd (omega arith)
-
--- and is the packet without it
-numbered_single : (high low d e : ℕ) (body : List ℕ) → 1 ≤ length body → single_of true high low (d ∷ e ∷ body) ≡ Single (high ∷ low ∷ body) (Some (d * 256 + e))
-numbered_single high low d e [] some = absurd (omega arith)
-numbered_single high low d e (b ∷ body) some = refl
 
 -- two units or more are an aggregate, and fewer are too short
 two_read : (units : List (List ℕ × Option ℕ)) → 2 ≤ length units → two_or_more units ≡ Aggregate units

@@ -6,11 +6,11 @@ use Rattle.std.proofs.lemmas.Bool.{eqb-true}
 use Rattle.std.proofs.lemmas.Bool.Decides.{nat_tests}
 use Rattle.h26x_core.specs.Word.{field, is_set}
 use Rattle.h26x_core.specs.H265Unit.{type_of}
-use Rattle.h26x_core.specs.Reading.{Refused, unnumbered}
+use Rattle.h26x_core.specs.Reading.{Refused, unnumbered, single_of}
 use Rattle.h26x_core.specs.declared.error.PacketError.TheVariants.{ErrH265CorruptedPacket}
 use Rattle.h26x_core.specs.Pieces.{ArePieces, HasNoPiece, pieces_of}
 use Rattle.h26x_core.proofs.PieceLemmas.{pieces_are, split_at, none_past}
-use Rattle.h265_payload.specs.H265.{read, two_or_more, aggregate_of, further_units, single_of, fragment_of, paci_of, paci_behind}
+use Rattle.h265_payload.specs.H265.{read, two_or_more, aggregate_of, further_units, fragment_of, paci_of, paci_behind}
 use Rattle.h265_payload.specs.Reading.{IsReading, IsWhole, IsUnitType, AreFurther, HasNoFurther, IsShort, IsCorrupted, IsUnit, IsNumberedUnit, IsShortUnit, IsAggregate, IsShortAggregate, IsNumberedAggregate, IsOneNumbered, IsNoneNumbered, IsWithoutNumber, IsFragment, IsNumberedStart, IsShortFragment, IsShortStart, IsPaci, IsShortPaci, IsPaciWithoutFields}
 use Rattle.h265_payload.proofs.FurtherLemmas.{further_are}
 

@@ -8,7 +8,7 @@ use Rattle.h26x_cut.specs.declared.ZeroRule.TheVariants.{All}
 use Rattle.h26x_cut.specs.Cutting.{units_of}
 use Rattle.h26x_core.specs.Word.{field, is_set, flag, word}
 use Rattle.h26x_core.specs.H265Unit.{type_of, kind, is_key, is_key_type}
-use Rattle.h26x_core.specs.Reading.{Reading, Single, Aggregate, Fragment, Paci, Refused, unnumbered}
+use Rattle.h26x_core.specs.Reading.{Reading, Aggregate, Fragment, Paci, Refused, unnumbered, single_of}
 use Rattle.h26x_core.specs.Format.{Format}
 use Rattle.h26x_core.specs.Pieces.{pieces_of, piece}
 
@@ -66,11 +66,6 @@ abbrev pub aggregate_of : Bool → List ℕ → Reading  -- an aggregate behind 
 aggregate_of false bytes = two_or_more (map unnumbered (pieces_of bytes).whole)
 aggregate_of true (high ∷ low ∷ bytes) = two_or_more (units_from (high * 256 + low) bytes)
 aggregate_of true bytes = Refused ErrShortPacket
-
-abbrev pub single_of : Bool → ℕ → ℕ → List ℕ → Reading  -- a single unit behind its header (4.4.1)
-single_of false high low body = Single (high ∷ low ∷ body) None
-single_of true high low (d ∷ e ∷ b ∷ body) = Single (high ∷ low ∷ b ∷ body) (Some (d * 256 + e))
-single_of true high low body = Refused ErrShortPacket
 
 abbrev pub fragment_of : Bool → Bool → ℕ → ℕ → ℕ → List ℕ → Reading  -- a fragment behind its header, by its S bit (4.4.3)
 fragment_of true true high low fu (d ∷ e ∷ b ∷ body) = Fragment true (is_set fu 6) (with_type high (field fu 5 0) ∷ low ∷ []) (Some (d * 256 + e)) (b ∷ body)

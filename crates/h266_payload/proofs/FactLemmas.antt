@@ -8,14 +8,14 @@ use Rattle.std.proofs.lemmas.Bool.Decides.{nat_tests}
 use Rattle.h26x_core.specs.Word.{is_set}
 use Rattle.h26x_core.specs.Kind.{is_other}
 use Rattle.h26x_core.specs.H266Unit.{type_of, kind_of_type, is_key, is_key_type}
-use Rattle.h26x_core.specs.Reading.{Fragment, Refused}
+use Rattle.h26x_core.specs.Reading.{Fragment, Refused, single_of}
 use Rattle.h26x_core.specs.Packets.{single}
 use Rattle.h26x_core.specs.Pieces.{piece}
 use Rattle.h26x_core.specs.Facts.{HeadersTakeRoom, ReadsWhatItWrites, FitsLimits, SetsLeaveRoom, ExtraTells, KnowsKeyUnits, KeyUnitsAreOther}
 use Rattle.h26x_core.specs.declared.error.PacketError.{PacketError}
 use Rattle.h26x_core.specs.declared.error.PacketError.TheVariants.{ErrH266CorruptedPacket}
 use Rattle.h26x_core.proofs.PieceLemmas.{pieces_back, pieces_long}
-use Rattle.h266_payload.specs.H266.{h266, carries, sets_fit, sets_packet, fragment_header, fragment_of, single_of, aggregate_of, two_or_more, units_within, detects}
+use Rattle.h266_payload.specs.H266.{h266, carries, sets_fit, sets_packet, fragment_header, fragment_of, aggregate_of, two_or_more, units_within, detects}
 use Rattle.h266_payload.proofs.HeaderLemmas.{pick, carried_header, fragment_bytes}
 use Rattle.h266_payload.proofs.ReadBackLemmas.{header_there, single_back, fragment_back}
 use Rattle.h266_payload.proofs.SetsLemmas.{sets_back, sets_type, fitting_short}

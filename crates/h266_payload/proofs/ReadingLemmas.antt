@@ -5,10 +5,11 @@ use Rattle.std.proofs.lemmas.Bool.{eqb-true, cases_lt, and_parts}
 use Rattle.std.proofs.lemmas.Bool.Decides.{nat_tests}
 use Rattle.h26x_core.specs.Word.{field, is_set}
 use Rattle.h26x_core.specs.H266Unit.{type_of}
-use Rattle.h26x_core.specs.Reading.{Reading, Single, Aggregate, Fragment, Refused}
+use Rattle.h26x_core.specs.Reading.{Reading, Single, Aggregate, Fragment, Refused, single_of}
 use Rattle.h26x_core.specs.declared.error.PacketError.{PacketError}
 use Rattle.h26x_core.specs.declared.error.PacketError.TheVariants.{ErrShortPacket, ErrH266CorruptedPacket}
-use Rattle.h266_payload.specs.H266.{read, numbered_on, two_or_more, units_within, aggregate_of, fragment_of, single_of, with_type}
+use Rattle.h26x_core.proofs.SingleLemmas.{short_single, numbered_single}
+use Rattle.h266_payload.specs.H266.{read, numbered_on, two_or_more, units_within, aggregate_of, fragment_of, with_type}
 use Rattle.h266_payload.specs.Reading.{IsReading, IsWhole, IsUnitType, IsBehind, IsPlain, IsNumbered}
 use Rattle.h266_payload.specs.Reading.{IsShort, IsCorrupted, IsUnit, IsNumberedUnit, IsShortUnit}
 use Rattle.h266_payload.specs.Reading.{IsAggregate, IsShortAggregate, IsCutAggregate, IsCorruptedAggregate, IsWithoutNumber, IsFragment, IsNumberedStart, IsShortStart}
@@ -150,18 +151,6 @@ few_read number [] one = refl
 few_read number (first ∷ []) one = refl
 few_read number (first ∷ second ∷ units) one = absurd (omega arith)
 
--- a unit alone with its number
-numbered_unit : (high low d e : ℕ) (body : List ℕ) → 1 ≤ length body → single_of true high low (d ∷ e ∷ body) ≡ Single (high ∷ low ∷ body) (Some (d * 256 + e))
-numbered_unit high low d e [] some = absurd (omega arith)
-numbered_unit high low d e (b ∷ body) some = refl
-
--- without a byte behind its number a unit alone is too short
-short_unit : (high low : ℕ) (rest : List ℕ) → length rest ≤ 2 → single_of true high low rest ≡ Refused ErrShortPacket
-short_unit high low [] short = refl
-short_unit high low (d ∷ []) short = refl
-short_unit high low (d ∷ e ∷ []) short = refl
-short_unit high low (d ∷ e ∷ b ∷ body) short = absurd (omega arith)
-
 -- a fragment without a number keeps all its bytes
 plain_fragment : (numbered : Bool) (high low fu : ℕ) (body : List ℕ) → (numbered && is_set fu 7) ≡ false →
     fragment_of numbered (is_set fu 7) high low fu body ≡ Fragment (is_set fu 7) (is_set fu 6) (high ∷ with_type low (field fu 4 0) ∷ []) None body
@@ -181,9 +170,9 @@ only_reading numbered packet reading (IsCorrupted high low rest whole some marke
 only_reading numbered packet reading (IsUnit high low rest whole type plain is) =
     unit_read numbered high low packet rest whole type ∙ rw plain (ap (λ (unit : List ℕ). Single unit None) (sym whole.whole)) ∙ sym is
 only_reading numbered packet reading (IsNumberedUnit high low d e body whole type bears some is) =
-    unit_read numbered high low packet (d ∷ e ∷ body) whole type ∙ rw bears (numbered_unit high low d e body some) ∙ sym is
+    unit_read numbered high low packet (d ∷ e ∷ body) whole type ∙ rw bears (numbered_single high low d e body some) ∙ sym is
 only_reading numbered packet reading (IsShortUnit high low rest whole type bears short is) =
-    unit_read numbered high low packet rest whole type ∙ rw bears (short_unit high low rest short) ∙ sym is
+    unit_read numbered high low packet rest whole type ∙ rw bears (short_single high low rest short) ∙ sym is
 only_reading numbered packet reading (IsAggregate high low rest bytes number units whole type behind are all two is) =
     found_read numbered high low packet rest bytes number (Ok units) whole type behind (ToTheEnd units are all refl) ∙ many_read number units two ∙ sym is
 only_reading numbered packet reading (IsShortAggregate high low rest bytes number units whole type behind are all one is) =

@@ -9,7 +9,7 @@ use Rattle.h26x_cut.specs.declared.ZeroRule.TheVariants.{AtMostThree}
 use Rattle.h26x_cut.specs.Cutting.{units_of}
 use Rattle.h26x_core.specs.Word.{field, is_set, flag, word}
 use Rattle.h26x_core.specs.H266Unit.{type_of, kind, is_key, is_key_type}
-use Rattle.h26x_core.specs.Reading.{Reading, Single, Aggregate, Fragment, Refused}
+use Rattle.h26x_core.specs.Reading.{Reading, Aggregate, Fragment, Refused, single_of}
 use Rattle.h26x_core.specs.Format.{Format}
 use Rattle.h26x_core.specs.Pieces.{pieces_of, piece}
 
@@ -48,11 +48,6 @@ sets_packet numbered n sets unit =
 abbrev pub fragment_header : List ℕ → Bool → Bool → List ℕ
 fragment_header (high ∷ low ∷ unit) start end = high ∷ with_type low 29 ∷ (flag start 0x80 + flag end 0x40 + type_of low) ∷ []
 fragment_header unit start end = []
-
-abbrev pub single_of : Bool → ℕ → ℕ → List ℕ → Reading  -- a single unit behind its header (4.3.1)
-single_of false high low body = Single (high ∷ low ∷ body) None
-single_of true high low (d ∷ e ∷ b ∷ body) = Single (high ∷ low ∷ b ∷ body) (Some (d * 256 + e))
-single_of true high low body = Refused ErrShortPacket
 
 -- an aggregate or a fragment, which no aggregate may hold
 abbrev pub is_forbidden : List ℕ → Bool

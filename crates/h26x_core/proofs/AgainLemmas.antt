@@ -17,6 +17,7 @@ use Rattle.h26x_core.proofs.PlanLemmas.{tail, SameSets, same-tail, plan-append, 
 unfoldable pub as_entry : ℕ → List ℕ → Entry
 as_entry limit unit = record { unit = unit; limit = limit }
 
+-- the same of a list
 unfoldable pub as_entries : ℕ → List (List ℕ) → List Entry
 as_entries limit units = map (as_entry limit) units
 
@@ -28,19 +29,22 @@ Kept f limit front (u ∷ units) =
     × (completes f front (as_entry limit u) ≡ true → flat_map units_of_item (items_of_sets f limit (sets_of f front) u) ≡ sets_of f front)
     × Kept f limit (cond (completes f front (as_entry limit u)) [] (front ++ as_entry limit u ∷ [])) units
 
--- a kind that counts as a VPS, an SPS, a PPS or an other unit is just this kind
+-- a kind that counts as a VPS is a VPS
 pub vps_is : (k : Kind) → is_vps k ≡ true → k ≡ Vps
 vps_is Vps e = refl
 vps_is k e = absurd cc
 
+-- one that counts as an SPS is an SPS
 pub sps_is : (k : Kind) → is_sps k ≡ true → k ≡ Sps
 sps_is Sps e = refl
 sps_is k e = absurd cc
 
+-- one that counts as a PPS is a PPS
 pub pps_is : (k : Kind) → is_pps k ≡ true → k ≡ Pps
 pps_is Pps e = refl
 pps_is k e = absurd cc
 
+-- one that counts as an other unit is other
 pub other_is : (k : Kind) → is_other k ≡ true → k ≡ Other
 other_is Other e = refl
 other_is k e = absurd cc

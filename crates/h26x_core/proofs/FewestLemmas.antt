@@ -11,12 +11,13 @@ use Rattle.h26x_core.specs.Packets.{room, pieces_needed}
 use Rattle.h26x_core.specs.Rival.{IsStart, FirstStarts, TakesFewestFragments}
 use Rattle.h26x_core.specs.Facts.{HeadersTakeRoom}
 
--- a fragment is longer than its data by its headers at least, and by a number too where it starts
+-- a fragment is longer than its data by its headers at least
 body_fits : (f : Format) (packet : List ℕ) (reading : Reading) → HeadersTakeRoom f → f.read packet ≡ reading → IsFragment reading →
     length (body_of reading) + fragment_header_len f ≤ length packet
 body_fits f packet (Fragment start end head number body) takes e is = omega (arith, takes packet head body start end number e)
 body_fits f packet reading takes e is = absurd is
 
+-- a start is longer than its data by its headers and a number
 start_fits : (f : Format) (packet : List ℕ) (reading : Reading) → HeadersTakeRoom f → f.read packet ≡ reading → IsStart reading →
     length (body_of reading) + (fragment_header_len f + number_len f) ≤ length packet
 start_fits f packet (Fragment true end head number body) takes e is = takes packet head body true end number e

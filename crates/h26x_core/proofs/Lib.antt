@@ -1,4 +1,5 @@
 pub mod HeaderLemmas
+pub mod SingleLemmas
 pub mod PlanLemmas
 pub mod GroupLemmas
 pub mod AgainLemmas

@@ -90,10 +90,11 @@ pieces_sliced bytes n long is within =
     let rest = take_all (length (drop 2 bytes) - n) (drop n (drop 2 bytes)) (simp length-drop (omega arith)) in
     rw (all, rest) (pieces_next bytes n long is (rw all at within))
 
--- no byte, or one, begins no piece
+-- no byte begins no piece
 pub none_of_none : HasNoPiece []
 none_of_none high low piece behind same long = cc
 
+-- nor does one byte
 pub none_of_one : (x : ℕ) → HasNoPiece (x ∷ [])
 none_of_one x high low piece behind same long = cc
 

@@ -55,10 +55,11 @@ split-items f front (e ∷ entries) =
 pub plan-tail : (f : Format) (entries : List Entry) → plan f entries ≡ tail f [] entries
 plan-tail f entries = split-items f [] entries
 
--- what falls in two parts does so behind two other parts, and behind one
+-- what falls in two parts does so behind two other parts
 three : {X : Type 0} (a b t u x : List X) → x ≡ t ++ u → a ++ (b ++ x) ≡ a ++ (b ++ t) ++ u
 three a b t u x e = simp append_assoc (ap (λ y. a ++ (b ++ y)) e)
 
+-- and so behind one other part
 two : {X : Type 0} (a t u x : List X) → x ≡ t ++ u → a ++ x ≡ a ++ t ++ u
 two a t u x e = simp append_assoc (ap (λ y. a ++ y) e)
 

@@ -74,13 +74,15 @@ pub record SetComes (f : Format) (w later : Waiting) (e : Entry) : Type 0 where
   pub now : items_now f w e ≡ []
   pub then_ : waits_after f w e.unit ≡ later
 
--- a VPS, an SPS or a PPS is not sent when it comes: it waits, in place of an earlier one
+-- a VPS is not sent when it comes: it waits, in place of an earlier one
 vps_comes : (f : Format) (w : Waiting) (e : Entry) → is_vps (f.kind e.unit) ≡ true → SetComes f w (record w { vps = e.unit ∷ [] }) e
 vps_comes f w e is = let h = vps_is (f.kind e.unit) is in record { now = rw h refl; then_ = rw h refl }
 
+-- so does an SPS
 sps_comes : (f : Format) (w : Waiting) (e : Entry) → is_sps (f.kind e.unit) ≡ true → SetComes f w (record w { sps = e.unit ∷ [] }) e
 sps_comes f w e is = let h = sps_is (f.kind e.unit) is in record { now = rw h refl; then_ = rw h refl }
 
+-- and a PPS
 pps_comes : (f : Format) (w : Waiting) (e : Entry) → is_pps (f.kind e.unit) ≡ true → SetComes f w (record w { pps = e.unit ∷ [] }) e
 pps_comes f w e is = let h = pps_is (f.kind e.unit) is in record { now = rw h refl; then_ = rw h refl }
 
@@ -88,19 +90,21 @@ pps_comes f w e is = let h = pps_is (f.kind e.unit) is in record { now = rw h re
 abbrev ComesToSame : Format → Waiting → List Entry → Waiting → List Entry → Type 0
 ComesToSame f w entries v others = (plan_with f w entries ≡ plan_with f v others) × (waits_after_all f w entries ≡ waits_after_all f v others)
 
--- where no VPS, SPS or PPS waits, at most one that comes first counts as one that waits
+-- where no VPS waits, at most one that comes first counts as one that waits
 with_vps : (f : Format) (limit : ℕ) (vps : List (List ℕ)) (w : Waiting) (entries : List Entry) → w.vps ≡ [] → IsOneSet is_vps f vps →
     ComesToSame f w (entries_at limit vps ++ entries) (record w { vps = vps }) entries
 with_vps f limit vps w entries none NoSet = (rw none refl, rw none refl)
 with_vps f limit vps w entries none (OneSet unit is) =
     let s = vps_comes f w (record { unit = unit; limit = limit }) is in (rw (s.now, s.then_) refl, rw s.then_ refl)
 
+-- so with an SPS
 with_sps : (f : Format) (limit : ℕ) (sps : List (List ℕ)) (w : Waiting) (entries : List Entry) → w.sps ≡ [] → IsOneSet is_sps f sps →
     ComesToSame f w (entries_at limit sps ++ entries) (record w { sps = sps }) entries
 with_sps f limit sps w entries none NoSet = (rw none refl, rw none refl)
 with_sps f limit sps w entries none (OneSet unit is) =
     let s = sps_comes f w (record { unit = unit; limit = limit }) is in (rw (s.now, s.then_) refl, rw s.then_ refl)
 
+-- and with a PPS
 with_pps : (f : Format) (limit : ℕ) (pps : List (List ℕ)) (w : Waiting) (entries : List Entry) → w.pps ≡ [] → IsOneSet is_pps f pps →
     ComesToSame f w (entries_at limit pps ++ entries) (record w { pps = pps }) entries
 with_pps f limit pps w entries none NoSet = (rw none refl, rw none refl)

@@ -35,10 +35,11 @@ pub record Format : Type 0 where
   -- whether a packet is known to hold a key unit, or to begin one
   pub detects : List ℕ → Bool
 
--- how many bytes a number takes, and these bytes
+-- how many bytes a number takes
 abbrev pub number_len : Format → ℕ
 number_len f = if f.numbered then 2 else 0
 
+-- the bytes of a number, where packets bear numbers
 abbrev pub number : Format → ℕ → List ℕ
 number f n = if f.numbered then word (n % 65536) else []
 

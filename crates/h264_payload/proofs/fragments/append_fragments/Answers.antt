@@ -11,16 +11,20 @@ use Rattle.h264_payload.proofs.fragments.append_fragments.Goals as goal
 place : goal.After-rest-in-loop-rest-1 → ℕ
 place c = vec_len c.loop-rest.packets - vec_len c.args.packets.now
 
+-- as much is taken as the limit leaves room for
 taken_is : (c : goal.After-rest-in-loop-rest-1) → c.min-taken.result ≡ min (length c.loop-rest.rest.now) (c.args.limit - 2)
 taken_is c = search rules
 
+-- something is left in each turn
 some_left : (c : goal.After-rest-in-loop-rest-1) → 0 < length c.loop-rest.rest.now
 some_left c = grind (arith, common_steps)
 
+-- one packet more is the next place
 next : (c : goal.After-rest-in-loop-rest-1) → vec_len c.push.new.self - vec_len c.args.packets.now ≡ place c + 1
 unfolding place
 next c = omega (arith, c.in_ok-push.ensures.len, c.loop-rest.invariant.before)
 
+-- the packet of this turn is the fragment at its place
 here : (c : goal.After-rest-in-loop-rest-1) → c.in_ok-fragment_of.field-0.items ≡ fragment h264 0 c.args.limit c.args.unit.now (place c)
 unfolding place
 here c =

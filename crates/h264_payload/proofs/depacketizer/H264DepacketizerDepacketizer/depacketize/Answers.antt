@@ -10,10 +10,11 @@ use Rattle.h264_payload.specs.Packet.{stap_units, reading_of}
 use Rattle.h264_payload.proofs.StapLemmas.{stap_brings, stap_outcome, stap_stays, stays}
 use Rattle.h264_payload.proofs.depacketizer.H264DepacketizerDepacketizer.depacketize.Goals as goal
 
--- how the packet is read, and what it brings
+-- how the packet is read
 reads : (c : goal.After-append_units) → h264.read c.args.packet.now ≡ Aggregate (map unnumbered (stap_units c.in-Aggregate.bytes.now))
 reads c = c.in_ok-unit.ensures.accepted ∙ ap reading_of c.in-Aggregate.is
 
+-- and brings its units
 brings : (c : goal.After-append_units) → units_with c.args.self.now.run (h264.read c.args.packet.now) ≡ stap_units c.in-Aggregate.bytes.now
 brings c = stap_brings c.args.self.now.run (h264.read c.args.packet.now) (stap_units c.in-Aggregate.bytes.now) (reads c)
 
@@ -23,11 +24,12 @@ outcome c =
     let short : list_any is_too_long (stap_units c.in-Aggregate.bytes.now) ≡ false = rw c.in-Aggregate.is at c.in_ok-unit.ensures.whole in
     stap_outcome c.args.self.now.is_avc c.args.self.now.run (h264.read c.args.packet.now) (stap_units c.in-Aggregate.bytes.now) c.append_units.result (reads c) short c.append_units.ensures.outcome
 
--- what is written and told, by the units of the reading
+-- what is written, by the units of the reading
 written : (c : goal.After-append_units) → OnOk c.append_units.result
     (c.append_units.new.out.items ≡ c.args.out.now.items ++ text c.args.self.now.is_avc (units_with c.args.self.now.run (h264.read c.args.packet.now)))
 written c = let e = brings c in rw e (search rules)
 
+-- the extra is told of them
 told : (c : goal.After-append_units) → OnOk c.append_units.result
     (c.append_units.new.codec_extra ≡ extra_after h264 c.args.codec_extra.now (units_with c.args.self.now.run (h264.read c.args.packet.now)))
 told c = let e = brings c in rw e (search rules)

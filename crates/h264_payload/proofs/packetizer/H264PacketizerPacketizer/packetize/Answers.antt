@@ -14,6 +14,7 @@ use Rattle.h264_payload.proofs.packetizer.H264PacketizerPacketizer.packetize.Goa
 sets_before : (c : goal.After-replace_set-2) → AreSets h264 c.args.self.now
 sets_before c = subst (λ (x : Waiting). AreSets h264 x) c.self.view_is c.self.invariant
 
+-- the packets are those of the plan
 sent : (c : goal.After-replace_set-2) → map (λ (p : Vec ℕ Global). p.items) c.append_payload.new.packets.items
     ≡ packets h264 0 (plan_with h264 c.args.self.now (entries_at c.args.mtu (units_of All c.args.b.now)))
 sent c = search rules
@@ -22,6 +23,7 @@ sent c = search rules
 next : (c : goal.After-replace_set-2) → Waiting
 next c = waiting_of (option_map (λ (v : Vec ℕ Global). v.items) c.replace_set.new.set) (option_map (λ (v : Vec ℕ Global). v.items) c.replace_set-2.new.set)
 
+-- and they are those that wait after the payload
 waits : (c : goal.After-replace_set-2) → next c ≡ waits_after_all h264 c.args.self.now (entries_at c.args.mtu (units_of All c.args.b.now))
 unfolding next
 waits c = search rules
