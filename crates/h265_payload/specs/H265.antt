@@ -9,7 +9,7 @@ use Rattle.h26x_cut.specs.Cutting.{units_of}
 use Rattle.h26x_core.specs.Word.{field, is_set, flag, word}
 use Rattle.h26x_core.specs.H265Unit.{type_of, kind, is_key, is_key_type}
 use Rattle.h26x_core.specs.Reading.{Reading, Aggregate, Fragment, Paci, Refused, unnumbered, single_of}
-use Rattle.h26x_core.specs.Format.{Format}
+use Rattle.h26x_core.specs.Format.{Format, number_bytes}
 use Rattle.h26x_core.specs.Pieces.{pieces_of, piece}
 
 -- the high byte of a header with another type: F clear, the layer's highest bit kept
@@ -34,7 +34,7 @@ further numbered set = (if numbered then 0 ∷ [] else []) ++ piece set
 -- an aggregate: the header of the unit behind the sets with type 48, the first set's number, the sets (4.4.2)
 abbrev pub sets_packet : Bool → ℕ → List (List ℕ) → List ℕ → List ℕ
 sets_packet numbered n (set ∷ sets) (high ∷ low ∷ unit) =
-    (with_type_and_f high 48 ∷ low ∷ []) ++ (if numbered then word (n % 65536) else []) ++ piece set ++ flat_map (further numbered) sets
+    (with_type_and_f high 48 ∷ low ∷ []) ++ number_bytes numbered n ++ piece set ++ flat_map (further numbered) sets
 sets_packet numbered n sets unit = []
 
 -- a fragment's header: the unit's with type 49, and a byte of S, E and the unit's type (4.4.3)

@@ -11,8 +11,8 @@ use Rattle.h26x_core.specs.Number.{numbered_from}
 use Rattle.h26x_core.specs.Pieces.{piece}
 use Rattle.h26x_core.specs.Facts.{AreCarried}
 use Rattle.h26x_core.proofs.PieceLemmas.{word_back, number_back, pieces_long}
-use Rattle.h266_payload.specs.H266.{h266, read, carries, sets_fit, sets_packet, forbidden_of, layer_of, temporal_of, least}
-use Rattle.h266_payload.specs.H266.{is_forbidden, with_unit, units_within, numbered_on, two_or_more, aggregate_of}
+use Rattle.h266_payload.specs.H266.{h266, read, carries, sets_fit, sets_packet, has_forbidden_bit, layer_of, temporal_of, least}
+use Rattle.h266_payload.specs.H266.{has_packet_type, with_unit, units_within, numbered_on, two_or_more, aggregate_of}
 use Rattle.h266_payload.proofs.HeaderLemmas.{carried_header, aggregate_type}
 use Rattle.h266_payload.proofs.WithinLemmas.{unit_within}
 use Rattle.h266_payload.proofs.ReadBackLemmas.{header_there}
@@ -33,19 +33,19 @@ fitting_short numbered mtu sets fit =
     each_short 65536 sets (omega (arith, h, most))
 
 -- no carried unit has F set
-unmarked : (unit : List ℕ) → IsTrue (carries unit) → forbidden_of unit ≡ false
+unmarked : (unit : List ℕ) → IsTrue (carries unit) → has_forbidden_bit unit ≡ false
 unmarked [] h = refl
 unmarked (high ∷ []) h = let e : false ≡ true = h in absurd cc
 unmarked (high ∷ low ∷ []) h = let e : false ≡ true = h in absurd cc
 unmarked (high ∷ low ∷ b ∷ unit) h = (carried_header high low b unit h).clear
 
 -- none of carried sets has F set
-none_marked : (numbered : Bool) (sets : List (List ℕ)) → AreCarried (h266 numbered) sets → list_any forbidden_of sets ≡ false
+none_marked : (numbered : Bool) (sets : List (List ℕ)) → AreCarried (h266 numbered) sets → list_any has_forbidden_bit sets ≡ false
 none_marked numbered [] carried = refl
 none_marked numbered (set ∷ sets) (here, later) = rw (unmarked set here) (none_marked numbered sets later)
 
 -- no carried unit is an aggregate or a fragment
-allowed : (unit : List ℕ) → IsTrue (carries unit) → is_forbidden unit ≡ false
+allowed : (unit : List ℕ) → IsTrue (carries unit) → has_packet_type unit ≡ false
 allowed [] h = refl
 allowed (high ∷ []) h = refl
 allowed (high ∷ low ∷ []) h = let e : false ≡ true = h in absurd cc
@@ -69,7 +69,7 @@ temporal_below (high ∷ []) = omega arith
 temporal_below (high ∷ low ∷ unit) = omega arith
 
 -- the header of an aggregate of carried sets has F clear
-sets_clear : (numbered : Bool) (sets : List (List ℕ)) → AreCarried (h266 numbered) sets → is_set (cond (list_any forbidden_of sets) 0x80 0 + least layer_of sets) 7 ≡ false
+sets_clear : (numbered : Bool) (sets : List (List ℕ)) → AreCarried (h266 numbered) sets → is_set (cond (list_any has_forbidden_bit sets) 0x80 0 + least layer_of sets) 7 ≡ false
 sets_clear numbered sets carried =
     let below = least_below 64 layer_of (omega arith) layer_below sets in
     rw (none_marked numbered sets carried) (grind (arith, nat_tests))
@@ -116,9 +116,9 @@ borne_numbers n (unit ∷ units) = ap (λ (us : List (List ℕ × Option ℕ)). 
 
 -- the header of an aggregate of carried sets is read as one
 sets_read : (numbered : Bool) (sets : List (List ℕ)) (bytes : List ℕ) → 1 ≤ length bytes → AreCarried (h266 numbered) sets →
-    read numbered ((cond (list_any forbidden_of sets) 0x80 0 + least layer_of sets) ∷ (28 * 8 + max 1 (least temporal_of sets)) ∷ bytes) ≡ aggregate_of numbered bytes
+    read numbered ((cond (list_any has_forbidden_bit sets) 0x80 0 + least layer_of sets) ∷ (28 * 8 + max 1 (least temporal_of sets)) ∷ bytes) ≡ aggregate_of numbered bytes
 sets_read numbered sets bytes some carried =
-    aggregate_read numbered (cond (list_any forbidden_of sets) 0x80 0 + least layer_of sets) (28 * 8 + max 1 (least temporal_of sets)) bytes some
+    aggregate_read numbered (cond (list_any has_forbidden_bit sets) 0x80 0 + least layer_of sets) (28 * 8 + max 1 (least temporal_of sets)) bytes some
     (sets_clear numbered sets carried) (sets_type sets)
 
 -- sets that fit one packet at a call's limit are found again behind their lengths

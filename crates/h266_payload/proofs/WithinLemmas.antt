@@ -7,7 +7,7 @@ use Rattle.std.proofs.lemmas.Bool.Decides.{nat_tests}
 use Rattle.h26x_core.specs.Pieces.{ArePieces}
 use Rattle.h26x_core.specs.declared.error.PacketError.{PacketError}
 use Rattle.h26x_core.specs.declared.error.PacketError.TheVariants.{ErrShortPacket, ErrH266CorruptedPacket}
-use Rattle.h266_payload.specs.H266.{is_forbidden, with_unit, units_within}
+use Rattle.h266_payload.specs.H266.{has_packet_type, with_unit, units_within}
 use Rattle.h266_payload.specs.Reading.{IsAllowed, IsCut, IsLoneByte, IsBadLength}
 
 -- the length of a unit of two bytes or more that is there is within bounds
@@ -19,7 +19,7 @@ in_bounds n unit behind long same =
     rw (low, high) refl
 
 -- one allowed unit behind its length, and then the others
-pub unit_within : (most high low : ℕ) (unit behind : List ℕ) → 2 ≤ length unit → high * 256 + low ≡ length unit → is_forbidden unit ≡ false →
+pub unit_within : (most high low : ℕ) (unit behind : List ℕ) → 2 ≤ length unit → high * 256 + low ≡ length unit → has_packet_type unit ≡ false →
     units_within (suc most) (high ∷ low ∷ unit ++ behind) ≡ with_unit unit (units_within most behind)
 unit_within most high low unit behind long same own =
     rw (in_bounds (high * 256 + low) unit behind long same, take_at unit behind (high * 256 + low) (sym same), own, drop_at unit behind (high * 256 + low) (sym same)) refl
@@ -29,7 +29,7 @@ pub data IsFound (bytes : List ℕ) (result : Result (List (List ℕ)) PacketErr
   ToTheEnd : (units : List (List ℕ)) → ArePieces bytes units [] → AllByRecursion IsAllowed units → result ≡ Ok units → IsFound bytes result
   ToACut : (left : List ℕ) (units : List (List ℕ)) → ArePieces bytes units left → AllByRecursion IsAllowed units → IsCut left → result ≡ Err ErrShortPacket → IsFound bytes result
   ToAForbidden : (high low : ℕ) (unit behind : List ℕ) (units : List (List ℕ)) → ArePieces bytes units (high ∷ low ∷ unit ++ behind) → AllByRecursion IsAllowed units →
-      high * 256 + low ≡ length unit → is_forbidden unit ≡ true → result ≡ Err ErrH266CorruptedPacket → IsFound bytes result
+      high * 256 + low ≡ length unit → has_packet_type unit ≡ true → result ≡ Err ErrH266CorruptedPacket → IsFound bytes result
 
 -- with one allowed unit more before them
 one_more : (high low : ℕ) (bytes unit behind : List ℕ) (result : Result (List (List ℕ)) PacketError) →
@@ -70,12 +70,12 @@ found_within (suc most) (high ∷ low ∷ bytes) few =
     let next = found_within most (drop n bytes) (omega (arith, len)) in
     elim (nat_lt n 2 || nat_lt (length bytes) n) as (λ b. (nat_lt n 2 || nat_lt (length bytes) n) ≡ b →
     IsFound (high ∷ low ∷ bytes) (cond b (Err ErrShortPacket)
-    (cond (is_forbidden (take n bytes)) (Err ErrH266CorruptedPacket) (with_unit (take n bytes) (units_within most (drop n bytes)))))) [
+    (cond (has_packet_type (take n bytes)) (Err ErrH266CorruptedPacket) (with_unit (take n bytes) (units_within most (drop n bytes)))))) [
       | true ↦ λ bad. ToACut (high ∷ low ∷ bytes) [] refl tt (IsBadLength high low bytes refl (out_of_bounds n (length bytes) bad)) refl
       | false ↦ λ good.
           let bounds = within_bounds n (length bytes) good in
           let parts = split_at n high low bytes bounds.1 in
-          elim (is_forbidden (take n bytes)) as (λ b. is_forbidden (take n bytes) ≡ b →
+          elim (has_packet_type (take n bytes)) as (λ b. has_packet_type (take n bytes) ≡ b →
           IsFound (high ∷ low ∷ bytes) (cond b (Err ErrH266CorruptedPacket) (with_unit (take n bytes) (units_within most (drop n bytes))))) [
             | true ↦ λ forbidden. ToAForbidden high low (take n bytes) (drop n bytes) [] parts.0 tt parts.1 forbidden refl
             | false ↦ λ own. let long = bounds.0 in let same = parts.1 in
@@ -122,13 +122,13 @@ cut_short (suc most) left few (IsBadLength high low bytes same (inr past)) =
     let test : (nat_lt (high * 256 + low) 2 || nat_lt (length bytes) (high * 256 + low)) ≡ true = grind (arith, nat_tests) in rw (same, test) refl
 
 -- a forbidden unit has a whole header
-forbidden_long : (unit : List ℕ) → is_forbidden unit ≡ true → 2 ≤ length unit
+forbidden_long : (unit : List ℕ) → has_packet_type unit ≡ true → 2 ≤ length unit
 forbidden_long [] e = absurd cc
 forbidden_long (high ∷ []) e = absurd cc
 forbidden_long (high ∷ low ∷ unit) e = omega arith
 
 -- a forbidden unit is corrupted
-forbidden_corrupted : (most high low : ℕ) (unit behind : List ℕ) → length (high ∷ low ∷ unit ++ behind) ≤ most → high * 256 + low ≡ length unit → is_forbidden unit ≡ true →
+forbidden_corrupted : (most high low : ℕ) (unit behind : List ℕ) → length (high ∷ low ∷ unit ++ behind) ≤ most → high * 256 + low ≡ length unit → has_packet_type unit ≡ true →
     units_within most (high ∷ low ∷ unit ++ behind) ≡ Err ErrH266CorruptedPacket
 forbidden_corrupted zero high low unit behind few long forbidden = absurd (omega arith)
 forbidden_corrupted (suc most) high low unit behind few long forbidden =

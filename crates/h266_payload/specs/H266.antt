@@ -9,8 +9,8 @@ use Rattle.h26x_cut.specs.declared.ZeroRule.TheVariants.{AtMostThree}
 use Rattle.h26x_cut.specs.Cutting.{units_of}
 use Rattle.h26x_core.specs.Word.{field, is_set, flag, word}
 use Rattle.h26x_core.specs.H266Unit.{type_of, kind, is_key, is_key_type}
-use Rattle.h26x_core.specs.Reading.{Reading, Aggregate, Fragment, Refused, single_of}
-use Rattle.h26x_core.specs.Format.{Format}
+use Rattle.h26x_core.specs.Reading.{Reading, Aggregate, Fragment, Refused, unnumbered, single_of}
+use Rattle.h26x_core.specs.Format.{Format, number_bytes}
 use Rattle.h26x_core.specs.Pieces.{pieces_of, piece}
 
 -- the low byte of a header with another type: the temporal id kept
@@ -21,9 +21,9 @@ with_type low type = type * 8 + field low 2 0
 abbrev pub sets_fit : Bool → ℕ → List (List ℕ) → Bool
 sets_fit numbered limit sets = nat_le (2 + (if numbered then 2 else 0) + sum_by (λ set. 2 + length set) sets) limit
 
-abbrev pub forbidden_of : List ℕ → Bool  -- whether F is set
-forbidden_of [] = false
-forbidden_of (high ∷ unit) = is_set high 7
+abbrev pub has_forbidden_bit : List ℕ → Bool  -- whether F is set
+has_forbidden_bit [] = false
+has_forbidden_bit (high ∷ unit) = is_set high 7
 
 abbrev pub layer_of : List ℕ → ℕ  -- the layer of a unit
 layer_of [] = 0
@@ -41,8 +41,8 @@ least value (set ∷ second ∷ sets) = min (value set) (least value (second ∷
 -- an aggregate: F where a set has it, Z 0, the lowest layer, type 28, the lowest temporal id but at least 1 (4.3.2)
 abbrev pub sets_packet : Bool → ℕ → List (List ℕ) → List ℕ → List ℕ
 sets_packet numbered n sets unit =
-    (((if list_any forbidden_of sets then 0x80 else 0) + least layer_of sets) ∷ (28 * 8 + max 1 (least temporal_of sets)) ∷ [])
-    ++ (if numbered then word (n % 65536) else []) ++ flat_map piece sets
+    (((if list_any has_forbidden_bit sets then 0x80 else 0) + least layer_of sets) ∷ (28 * 8 + max 1 (least temporal_of sets)) ∷ [])
+    ++ number_bytes numbered n ++ flat_map piece sets
 
 -- a fragment's header: the unit's with type 29, and a byte of S, E, P clear and the unit's type (4.3.3)
 abbrev pub fragment_header : List ℕ → Bool → Bool → List ℕ
@@ -50,9 +50,9 @@ fragment_header (high ∷ low ∷ unit) start end = high ∷ with_type low 29 �
 fragment_header unit start end = []
 
 -- an aggregate or a fragment, which no aggregate may hold
-abbrev pub is_forbidden : List ℕ → Bool
-is_forbidden (high ∷ low ∷ unit) = (type_of low == 28) || (type_of low == 29)
-is_forbidden unit = false
+abbrev pub has_packet_type : List ℕ → Bool
+has_packet_type (high ∷ low ∷ unit) = (type_of low == 28) || (type_of low == 29)
+has_packet_type unit = false
 
 abbrev pub with_unit : List ℕ → Result (List (List ℕ)) PacketError → Result (List (List ℕ)) PacketError  -- one unit more before the others
 with_unit unit (Ok units) = Ok (unit ∷ units)
@@ -65,12 +65,12 @@ units_within zero bytes = Err ErrShortPacket
 units_within (suc most) (high ∷ []) = Err ErrShortPacket
 units_within (suc most) (high ∷ low ∷ bytes) =
     if nat_lt (high * 256 + low) 2 || nat_lt (length bytes) (high * 256 + low) then Err ErrShortPacket
-    else if is_forbidden (take (high * 256 + low) bytes) then Err ErrH266CorruptedPacket
+    else if has_packet_type (take (high * 256 + low) bytes) then Err ErrH266CorruptedPacket
     else with_unit (take (high * 256 + low) bytes) (units_within most (drop (high * 256 + low) bytes))
 
 -- units without numbers, or each numbered one more than the one before
 abbrev pub numbered_on : Option ℕ → List (List ℕ) → List (List ℕ × Option ℕ)
-numbered_on None units = map (λ unit. (unit, None)) units
+numbered_on None units = map unnumbered units
 numbered_on (Some n) [] = []
 numbered_on (Some n) (unit ∷ units) = (unit, Some n) ∷ numbered_on (Some ((n + 1) % 65536)) units
 

@@ -6,7 +6,7 @@ use Rattle.h26x_core.specs.Word.{field, is_set}
 use Rattle.h26x_core.specs.H266Unit.{type_of}
 use Rattle.h26x_core.specs.Reading.{Reading, Single, Aggregate, Fragment, Refused}
 use Rattle.h26x_core.specs.Pieces.{ArePieces}
-use Rattle.h266_payload.specs.H266.{with_type, is_forbidden, numbered_on}
+use Rattle.h266_payload.specs.H266.{with_type, has_packet_type, numbered_on}
 
 -- a header with F clear, and one byte or more behind it
 pub record IsWhole (packet : List ℕ) (high low : ℕ) (rest : List ℕ) : Type 0 where
@@ -20,7 +20,7 @@ IsUnitType type = (type < 28) ⊎ (29 < type)
 
 -- a unit that an aggregate may hold: a whole header, and a type of its own
 abbrev pub IsAllowed : List ℕ → Type 0
-IsAllowed unit = (2 ≤ length unit) × (is_forbidden unit ≡ false)
+IsAllowed unit = (2 ≤ length unit) × (has_packet_type unit ≡ false)
 
 -- behind an aggregate's header: DONL, where packets bear numbers, and then its bytes
 pub data IsBehind (numbered : Bool) (rest : List ℕ) (number : Option ℕ) (bytes : List ℕ) : Type 0 where
@@ -58,7 +58,7 @@ pub data IsReading (numbered : Bool) (packet : List ℕ) (reading : Reading) : T
       IsBehind numbered rest number bytes → ArePieces bytes units left → AllByRecursion IsAllowed units → IsCut left →
       reading ≡ Refused ErrShortPacket → IsReading numbered packet reading
   IsCorruptedAggregate : (high low h l : ℕ) (rest bytes unit behind : List ℕ) (number : Option ℕ) (units : List (List ℕ)) → IsWhole packet high low rest → type_of low ≡ 28 →
-      IsBehind numbered rest number bytes → ArePieces bytes units (h ∷ l ∷ unit ++ behind) → AllByRecursion IsAllowed units → h * 256 + l ≡ length unit → is_forbidden unit ≡ true →
+      IsBehind numbered rest number bytes → ArePieces bytes units (h ∷ l ∷ unit ++ behind) → AllByRecursion IsAllowed units → h * 256 + l ≡ length unit → has_packet_type unit ≡ true →
       reading ≡ Refused ErrH266CorruptedPacket → IsReading numbered packet reading
   -- with numbers there must be room for DONL
   IsWithoutNumber : (high low d : ℕ) → IsWhole packet high low (d ∷ []) → type_of low ≡ 28 → numbered ≡ true →

@@ -1,6 +1,6 @@
 //! Worked cases: what the definitions give on literal bytes. Each is the contract of a function without a result.
 
-ghost use Rattle.std.specs.Prelude.{map, ◌≡◌, ℕ, List, [], ◌∷◌, true, false, Some, None, length, replicate};
+ghost use Rattle.std.specs.Prelude.{map, ◌≡◌, [], ◌∷◌, true, false, Some, None, length, replicate};
 ghost use Rattle.std.specs.List.{range_with_len};
 ghost use Rattle.h26x_core.specs.Reading.{Aggregate, Refused};
 ghost use Rattle.h26x_core.specs.Received.{received};
@@ -214,4 +214,67 @@ pub fn key_types_detected()
         (0x00 ∷ 0xe1 ∷ 0x00 ∷ 0x03 ∷ 0x00 ∷ 0x01 ∷ 0xaa ∷ 0x00 ∷ 0x03 ∷ 0x00 ∷ 0x39 ∷ 0xbb ∷ []) ∷
         (0x00 ∷ 0xe1 ∷ 0x00 ∷ 0x01 ∷ 0x39 ∷ 0x00 ∷ 0x03 ∷ 0x00 ∷ 0x39 ∷ 0xbb ∷ []) ∷ [])
         ≡ false ∷ true ∷ true ∷ false ∷ true ∷ false ∷ true ∷ false ∷ [] }
+{}
+
+/// Nothing may be left behind the units of an aggregate, and a length of 0 is too short.
+pub fn rest_of_an_aggregate()
+    ensures lone_byte { (h266 false).read (0x00 ∷ 0xe1 ∷ 0x00 ∷ 0x02 ∷ 0x00 ∷ 0x09 ∷ 0x00 ∷ 0x02 ∷ 0x00 ∷ 0x11 ∷ 0x00 ∷ []) ≡ Refused PacketError.ErrShortPacket }
+    ensures past_the_end { (h266 false).read (0x00 ∷ 0xe1 ∷ 0x00 ∷ 0x02 ∷ 0x00 ∷ 0x09 ∷ 0x00 ∷ 0x02 ∷ 0x00 ∷ 0x11 ∷ 0x00 ∷ 0x05 ∷ 0xaa ∷ []) ≡ Refused PacketError.ErrShortPacket }
+    ensures length_0 { (h266 false).read (0x00 ∷ 0xe1 ∷ 0x00 ∷ 0x00 ∷ 0x00 ∷ 0x02 ∷ 0x00 ∷ 0x09 ∷ 0x00 ∷ 0x02 ∷ 0x00 ∷ 0x11 ∷ []) ≡ Refused PacketError.ErrShortPacket }
+    ensures forbidden { received (map (h266 false).read ((0x00 ∷ 0xe1 ∷ 0x00 ∷ 0x02 ∷ 0x80 ∷ 0x09 ∷ 0x00 ∷ 0x02 ∷ 0x00 ∷ 0x11 ∷ []) ∷ [])) ≡ (0x80 ∷ 0x09 ∷ []) ∷
+        (0x00 ∷ 0x11 ∷ []) ∷ [] }
+{}
+
+/// The packet of sets has their lowest layer and temporal id, of whichever set, and Z clear.
+pub fn layers_of_sets()
+    ensures lowest { packets_of_payload (h266 false) 1200 (
+        0x00 ∷ 0x00 ∷ 0x01 ∷ 0x01 ∷ 0x7b ∷ 0xbb ∷
+        0x00 ∷ 0x00 ∷ 0x01 ∷ 0x02 ∷ 0x82 ∷ 0xcc ∷
+        0x00 ∷ 0x00 ∷ 0x01 ∷ 0x00 ∷ 0x39 ∷ 0xdd ∷ [])
+        ≡ (0x01 ∷ 0xe2 ∷ 0x00 ∷ 0x03 ∷ 0x01 ∷ 0x7b ∷ 0xbb ∷ 0x00 ∷ 0x03 ∷ 0x02 ∷ 0x82 ∷ 0xcc ∷ []) ∷
+        (0x00 ∷ 0x39 ∷ 0xdd ∷ []) ∷ [] }
+    ensures z_clear { packets_of_payload (h266 false) 100 (
+        0x00 ∷ 0x00 ∷ 0x01 ∷ 0x40 ∷ 0x79 ∷ 0xbb ∷
+        0x00 ∷ 0x00 ∷ 0x01 ∷ 0x40 ∷ 0x81 ∷ 0xcc ∷
+        0x00 ∷ 0x00 ∷ 0x01 ∷ 0x00 ∷ 0x39 ∷ 0xdd ∷ [])
+        ≡ (0x00 ∷ 0xe1 ∷ 0x00 ∷ 0x03 ∷ 0x40 ∷ 0x79 ∷ 0xbb ∷ 0x00 ∷ 0x03 ∷ 0x40 ∷ 0x81 ∷ 0xcc ∷ []) ∷
+        (0x00 ∷ 0x39 ∷ 0xdd ∷ []) ∷ [] }
+{}
+
+/// Fragments keep F, Z, layer and temporal id of their unit, and P of a fragment is not looked at.
+pub fn headers_of_fragments()
+    ensures sent { packets_of_payload (h266 false) 4 (0xc5 ∷ 0x0a ∷ 0x01 ∷ 0x02 ∷ 0x03 ∷ [])
+        ≡ (0xc5 ∷ 0xea ∷ 0x81 ∷ 0x01 ∷ []) ∷
+        (0xc5 ∷ 0xea ∷ 0x01 ∷ 0x02 ∷ []) ∷
+        (0xc5 ∷ 0xea ∷ 0x41 ∷ 0x03 ∷ []) ∷ [] }
+    ensures received { received (map (h266 false).read ((0x41 ∷ 0xea ∷ 0xe1 ∷ 0xaa ∷ []) ∷
+        (0x40 ∷ 0x09 ∷ 0xaa ∷ []) ∷ [])) ≡ (0x41 ∷ 0x0a ∷ 0xaa ∷ []) ∷
+        (0x40 ∷ 0x09 ∷ 0xaa ∷ []) ∷ [] }
+{}
+
+/// With numbers a single packet has five bytes, an aggregate four, and a start may have no data.
+pub fn short_numbered_packets()
+    ensures single { (h266 true).read (0x00 ∷ 0x09 ∷ 0x00 ∷ 0x05 ∷ []) ≡ Refused PacketError.ErrShortPacket }
+    ensures aggregate { (h266 true).read (0x00 ∷ 0xe1 ∷ 0x00 ∷ []) ≡ Refused PacketError.ErrShortPacket }
+    ensures start { received (map (h266 true).read ((0x00 ∷ 0xe9 ∷ 0x87 ∷ 0x00 ∷ 0x05 ∷ []) ∷
+        (0x00 ∷ 0xe9 ∷ 0x47 ∷ 0xaa ∷ []) ∷ [])) ≡ (0x00 ∷ 0x39 ∷ 0xaa ∷ []) ∷ [] }
+{}
+
+/// Two bytes are too short, whatever they are; three with F set are corrupted. Types 30 and 31 are units.
+pub fn short_before_corrupted()
+    ensures short { (h266 false).read (0x00 ∷ 0x09 ∷ []) ≡ Refused PacketError.ErrShortPacket }
+    ensures short_first { (h266 false).read (0x80 ∷ 0x01 ∷ []) ≡ Refused PacketError.ErrShortPacket }
+    ensures corrupted { (h266 false).read (0x80 ∷ 0x09 ∷ 0xaa ∷ []) ≡ Refused PacketError.ErrH266CorruptedPacket }
+    ensures sent { packets_of_payload (h266 false) 100 (0x00 ∷ 0xf1 ∷ 0xaa ∷ []) ≡ (0x00 ∷ 0xf1 ∷ 0xaa ∷ []) ∷ [] }
+    ensures read { received (map (h266 false).read ((0x00 ∷ 0xf1 ∷ 0xaa ∷ []) ∷ [])) ≡ (0x00 ∷ 0xf1 ∷ 0xaa ∷ []) ∷ [] }
+{}
+
+/// Detection looks no further than it needs: two bytes of a unit, and lengths within an aggregate.
+pub fn detection_of_short_packets()
+    ensures { map (h266 false).detects (
+        (0x00 ∷ 0x39 ∷ []) ∷
+        (0x00 ∷ []) ∷
+        (0x00 ∷ 0xe1 ∷ 0x00 ∷ 0x02 ∷ 0x00 ∷ 0x39 ∷ []) ∷
+        (0x00 ∷ 0xe1 ∷ 0x00 ∷ 0x09 ∷ 0x00 ∷ 0x39 ∷ []) ∷ [])
+        ≡ true ∷ false ∷ true ∷ false ∷ [] }
 {}

@@ -4,11 +4,11 @@ use Rattle.std.specs.List.{AllByRecursion, flat_map}
 use Rattle.std.proofs.lemmas.Nat.{div_below}
 use Rattle.std.proofs.lemmas.Bool.{leb-false}
 use Rattle.std.proofs.lemmas.List.{length-drop}
-use Rattle.h26x_core.specs.Reading.{Reading, Fragment, IsFragment, body_of}
+use Rattle.h26x_core.specs.Reading.{Reading, Fragment, IsFragment, body_of, is_start}
 use Rattle.h26x_core.specs.Format.{Format, fragment_header_len, number_len}
 use Rattle.h26x_core.specs.Plan.{fits, is_dropped}
 use Rattle.h26x_core.specs.Packets.{room, pieces_needed}
-use Rattle.h26x_core.specs.Rival.{IsStart, FirstStarts, TakesFewestFragments}
+use Rattle.h26x_core.specs.Rival.{FirstStarts, TakesFewestFragments}
 use Rattle.h26x_core.specs.Facts.{HeadersTakeRoom}
 
 -- a fragment is longer than its data by its headers at least
@@ -18,10 +18,10 @@ body_fits f packet (Fragment start end head number body) takes e is = omega (ari
 body_fits f packet reading takes e is = absurd is
 
 -- a start is longer than its data by its headers and a number
-start_fits : (f : Format) (packet : List ℕ) (reading : Reading) → HeadersTakeRoom f → f.read packet ≡ reading → IsStart reading →
+start_fits : (f : Format) (packet : List ℕ) (reading : Reading) → HeadersTakeRoom f → f.read packet ≡ reading → is_start reading ≡ true →
     length (body_of reading) + (fragment_header_len f + number_len f) ≤ length packet
 start_fits f packet (Fragment true end head number body) takes e is = takes packet head body true end number e
-start_fits f packet reading takes e is = absurd is
+start_fits f packet reading takes e is = absurd cc
 
 -- the data of fragments within the limit take at most the room of each
 carried : (f : Format) (limit : ℕ) (packets : List (List ℕ)) → HeadersTakeRoom f →

@@ -6,10 +6,10 @@ use Rattle.std.proofs.Math.ListN.{drop_of_length-le}
 use Rattle.std.proofs.lemmas.List.{append-nil, length-drop, length-take, take-append-drop, drop-drop, drop_at}
 use Rattle.std.proofs.lemmas.Bool.{leb-false}
 use Rattle.std.proofs.lemmas.Bool.Decides.{nat_tests}
-use Rattle.h26x_core.specs.Reading.{Fragment}
+use Rattle.h26x_core.specs.Reading.{Fragment, is_start, is_end}
 use Rattle.h26x_core.specs.Format.{Format, number, number_len}
 use Rattle.h26x_core.specs.Plan.{fits, is_dropped}
-use Rattle.h26x_core.specs.Packets.{fragment_count, fragmented, fragment_part, room}
+use Rattle.h26x_core.specs.Packets.{fragment_count, fragmented, fragment_part, room, fragment}
 use Rattle.h26x_core.specs.Number.{number_borne}
 use Rattle.h26x_core.specs.Facts.{ReadsWhatItWrites}
 use Rattle.h26x_core.specs.Fragments.{fragment_data, AreFragments, ReadsFragments}
@@ -128,6 +128,14 @@ reads_fragments f sound n limit unit unfit kept carried (suc j) h =
     (sym not_first) (sound.fragment n unit body false last carried (are.some (suc j) h)))
 
 -- of two fragments or more none is the first and the last
-pub start_is_not_end : (f : Format) (limit : ℕ) (unit : List ℕ) (j : ℕ) → 2 ≤ fragment_count f limit unit → (eqb j 0 && eqb (j + 1) (fragment_count f limit unit)) ≡ false
-start_is_not_end f limit unit zero two = let more : eqb (0 + 1) (fragment_count f limit unit) ≡ false = grind (arith, nat_tests) in more
-start_is_not_end f limit unit (suc j) two = let later : eqb (suc j) 0 ≡ false = grind (arith, nat_tests) in rw later refl
+first_not_last : (j count : ℕ) → 2 ≤ count → (eqb j 0 && eqb (j + 1) count) ≡ false
+first_not_last zero count two = let more : eqb (0 + 1) count ≡ false = grind (arith, nat_tests) in more
+first_not_last (suc j) count two = let later : eqb (suc j) 0 ≡ false = grind (arith, nat_tests) in rw later refl
+
+-- so none is read as both a start and an end
+pub start_is_not_end : (f : Format) → ReadsWhatItWrites f → (n limit : ℕ) (unit : List ℕ) → fits f limit unit ≡ false → is_dropped f limit unit ≡ false →
+    IsTrue (f.carries unit) → (j : ℕ) → j < fragment_count f limit unit →
+    (is_start (f.read (fragment f n limit unit j)) && is_end (f.read (fragment f n limit unit j))) ≡ false
+start_is_not_end f sound n limit unit unfit kept carried j h =
+    rw (reads_fragments f sound n limit unit unfit kept carried j h)
+    (first_not_last j (fragment_count f limit unit) (are_fragments f n limit unit unfit kept (sound.header unit carried)).two)

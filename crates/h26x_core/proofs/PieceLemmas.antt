@@ -65,16 +65,7 @@ pieces_next (high ∷ low ∷ bytes) n long is within =
     let len = length-drop n bytes in
     rw (← is, fits, fuel (suc (length bytes)) (length (drop n bytes)) (drop n bytes) (omega (arith, len)) (omega arith)) refl
 
--- where the first length passes the end there is no piece, and all is left
-pub pieces_stop : (bytes : List ℕ) (n : ℕ) → 2 ≤ length bytes → n ≡ get_or bytes 0 0 * 256 + get_or bytes 1 0 → length (drop 2 bytes) < n →
-    pieces_of bytes ≡ record { whole = []; left = bytes }
-pieces_stop [] n long is past = absurd (omega arith)
-pieces_stop (x ∷ []) n long is past = absurd (omega arith)
-pieces_stop (high ∷ low ∷ bytes) n long is past =
-    let fits : nat_le n (length bytes) ≡ false = grind (arith, nat_tests) in
-    rw (← is, fits) refl
-
--- so it is where there are not even two bytes
+-- where there are not even two bytes there is no piece, and all is left
 pub pieces_short : (bytes : List ℕ) → length bytes < 2 → pieces_of bytes ≡ record { whole = []; left = bytes }
 pieces_short [] short = refl
 pieces_short (x ∷ []) short = refl

@@ -35,13 +35,17 @@ pub record Format : Type 0 where
   -- whether a packet is known to hold a key unit, or to begin one
   pub detects : List ℕ → Bool
 
+-- the two bytes of a number, where packets bear numbers
+abbrev pub number_bytes : Bool → ℕ → List ℕ
+number_bytes numbered n = if numbered then word (n % 65536) else []
+
 -- how many bytes a number takes
 abbrev pub number_len : Format → ℕ
 number_len f = if f.numbered then 2 else 0
 
--- the bytes of a number, where packets bear numbers
+-- the bytes of a number
 abbrev pub number : Format → ℕ → List ℕ
-number f n = if f.numbered then word (n % 65536) else []
+number f n = number_bytes f.numbered n
 
 -- what a fragment has before its number and data: a packet's header and a byte of its own
 abbrev pub fragment_header_len : Format → ℕ

@@ -8,7 +8,3 @@ pub record IsMark (bytes : List ℕ) (place : ℕ) : Type 0 where
   pub one : slice_index bytes place ≡ 1
   pub zero_before : slice_index bytes (place - 1) ≡ 0
   pub zero_first : slice_index bytes (place - 2) ≡ 0
-
--- `00 00 01` stands nowhere in the bytes
-abbrev pub HasNoMark : List ℕ → Type 0
-HasNoMark bytes = (place : ℕ) → IsMark bytes place → ⊥

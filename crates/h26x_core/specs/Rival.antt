@@ -1,20 +1,15 @@
 -- A unit that is fragmented takes the fewest fragments that there could be.
 use Rattle.std.specs.Prelude.{◌≡◌, ℕ, ◌≤◌, true, false, List, [], ◌∷◌, length, drop}
 use Rattle.std.specs.List.{AllByRecursion, flat_map}
-use Rattle.h26x_core.specs.Reading.{Reading, Fragment, IsFragment, body_of}
+use Rattle.h26x_core.specs.Reading.{IsFragment, body_of, is_start}
 use Rattle.h26x_core.specs.Format.{Format}
 use Rattle.h26x_core.specs.Plan.{fits, is_dropped}
 use Rattle.h26x_core.specs.Packets.{fragment_count}
 
--- the packet is a fragment that starts
-abbrev pub IsStart : Reading → Type 0
-IsStart (Fragment true end head number body) = Unit {0}
-IsStart reading = ⊥
-
 -- the first of the packets is a start
 abbrev pub FirstStarts : Format → List (List ℕ) → Type 0
 FirstStarts f [] = ⊥
-FirstStarts f (packet ∷ packets) = IsStart (f.read packet)
+FirstStarts f (packet ∷ packets) = is_start (f.read packet) ≡ true
 
 -- A rival: packets within the limit that carry these bytes as fragments do, the first with a start. It need not be
 -- a list that a depacketizer could put together.

@@ -8,10 +8,6 @@ abbrev pub is_not_empty : {A : Type 0} → List A → Bool
 is_not_empty [] = false
 is_not_empty (b ∷ bytes) = true
 
--- units, each behind a start code of four bytes (Annex B of the video standards)
-abbrev pub annex_b : List (List ℕ) → List ℕ
-annex_b units = flat_map (λ unit. 0 ∷ 0 ∷ 0 ∷ 1 ∷ unit) units
-
 -- what stands before a unit that is written: a start code, or in AVC form its length (ISO/IEC 14496-15)
 abbrev pub lead : Bool → List ℕ → List ℕ
 lead avc unit = if avc then long_word (length unit) else 0 ∷ 0 ∷ 0 ∷ 1 ∷ []
@@ -19,3 +15,7 @@ lead avc unit = if avc then long_word (length unit) else 0 ∷ 0 ∷ 0 ∷ 1 ∷
 -- what is written for units, in AVC form or with start codes
 abbrev pub text : Bool → List (List ℕ) → List ℕ
 text avc units = flat_map (λ unit. lead avc unit ++ unit) units
+
+-- units, each behind a start code of four bytes (Annex B of the video standards)
+abbrev pub annex_b : List (List ℕ) → List ℕ
+annex_b units = text false units

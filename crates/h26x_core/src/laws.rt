@@ -1,22 +1,22 @@
 //! Laws of the definitions, for every payload format that meets the facts that they ask for. Each is
 //! the contract of a function without a result. The crates of the codecs show the facts of theirs.
 
-ghost use Rattle.std.specs.Prelude.{◌≡◌, ◌==◌, ◌&&◌, ℕ, Bool, List, [], ◌∷◌, ◌++◌, Option, Result, None, Some, ◌+◌, ◌≤◌, false, length, IsTrue, ◌<◌, map};
+ghost use Rattle.std.specs.Prelude.{◌≡◌, ◌==◌, ◌&&◌, ℕ, Bool, List, [], ◌∷◌, ◌++◌, Option, Result, None, Some, ◌+◌, ◌≤◌, false, length, IsTrue, ◌<◌, map, reverse};
 ghost use Rattle.std.specs.List.{AllByRecursion, flat_map};
-ghost use Rattle.h26x_core.specs.Reading.{Reading, IsRead};
+ghost use Rattle.h26x_core.specs.Reading.{Reading, IsRead, is_start, is_end};
 ghost use Rattle.h26x_core.specs.Format.{Format, number_len, fragment_header_len};
 ghost use Rattle.h26x_core.specs.Calls.{Call, entries_of, packets_of};
 ghost use Rattle.h26x_core.specs.Group.{Entry, Group, split, AreGroups, sets_of};
 ghost use Rattle.h26x_core.specs.Plan.{plan, PlansCallByCall, WaitsCallByCall, Item, fits, is_dropped, units_of_item, sent, KeepsLast};
 ghost use Rattle.h26x_core.specs.Waits.{Waiting, AreSets, entries_at, plan_with, none_waiting, waits_after_all, sets_waiting};
-ghost use Rattle.h26x_core.specs.Packets.{packets, fragment_count};
+ghost use Rattle.h26x_core.specs.Packets.{packets, fragment, fragment_count};
 ghost use Rattle.h26x_core.specs.Fragments.{AreFragments, ReadsFragments};
 ghost use Rattle.h26x_core.specs.Limit.{ItemIsWithin};
 ghost use Rattle.h26x_core.specs.Number.{NumbersInOrder};
 ghost use Rattle.h26x_core.specs.Rival.{TakesFewestFragments};
 ghost use Rattle.h26x_core.specs.Pieces.{ArePieces, HasNoPiece, pieces_of};
 ghost use Rattle.h26x_core.specs.Run.{AreReceived};
-ghost use Rattle.h26x_core.specs.Received.{open_run, IsOpenRun, units_after, received};
+ghost use Rattle.h26x_core.specs.Received.{open_run, IsOpenRun, units_after, received, received_back};
 ghost use Rattle.h26x_core.specs.Extra.{extra_after};
 ghost use Rattle.h26x_core.specs.Outcome.{AreTaken, IsStep};
 ghost use Rattle.h26x_core.specs.Facts.{ExtraTells, FitsLimits, HeadersTakeRoom, ReadsWhatItWrites, CanSend, IsPlanned, KnowsKeyUnits, AreCarried, KeyUnitsAreOther, SetsLeaveRoom};
@@ -61,11 +61,12 @@ pub fn packets_are_within_limits()
     ensures { (f : Format) → FitsLimits f → (entries : List Entry) → AllByRecursion (ItemIsWithin f) (plan f entries) }
 {}
 
-/// The fragments of a unit, place by place.
+/// The fragments of a unit, place by place; none of them both starts and ends it.
 pub fn fragments_by_place()
     ensures are { (f : Format) (n limit : ℕ) (unit : List ℕ) → fits f limit unit ≡ false → is_dropped f limit unit ≡ false → f.header_len ≤ length unit → AreFragments f n limit unit }
     ensures read { (f : Format) → ReadsWhatItWrites f → (n limit : ℕ) (unit : List ℕ) → fits f limit unit ≡ false → is_dropped f limit unit ≡ false → IsTrue (f.carries unit) → ReadsFragments f n limit unit }
-    ensures apart { (f : Format) (limit : ℕ) (unit : List ℕ) (j : ℕ) → 2 ≤ fragment_count f limit unit → ((j == 0) && (j + 1 == fragment_count f limit unit)) ≡ false }
+    ensures apart { (f : Format) → ReadsWhatItWrites f → (n limit : ℕ) (unit : List ℕ) → fits f limit unit ≡ false → is_dropped f limit unit ≡ false → IsTrue (f.carries unit) →
+        (j : ℕ) → j < fragment_count f limit unit → (is_start (f.read (fragment f n limit unit j)) && is_end (f.read (fragment f n limit unit j))) ≡ false }
 {}
 
 /// A unit takes the fewest fragments that there could be.
@@ -92,10 +93,12 @@ pub fn one_open_run()
     ensures only { (readings : List Reading) (run : List ℕ) → IsOpenRun readings run → open_run readings ≡ Some run }
 {}
 
-/// What is received by places, by runs from a latest start to an end, is what is computed, and nothing else.
+/// What is received by places, by runs from a latest start to an end, is what is computed, and nothing else; with the
+/// latest reading first, too.
 pub fn received_by_places()
     ensures are { (readings : List Reading) → AreReceived readings (received readings) }
     ensures only { (readings : List Reading) (units : List (List ℕ)) → AreReceived readings units → units ≡ received readings }
+    ensures back { (readings : List Reading) → received_back readings ≡ received (reverse readings) }
 {}
 
 /// What is planned of calls whose units sent are carried can be sent.

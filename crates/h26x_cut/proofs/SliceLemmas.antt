@@ -7,21 +7,11 @@ use Rattle.h26x_cut.specs.declared.ZeroRule.{ZeroRule}
 use Rattle.h26x_cut.specs.Cutting.{begins_code, cut_at, cut_of, trimmed_by, trimmed, without_zeros, without_zero, trimmed_but_last, pieces_of, units_of_pieces, units_of}
 use Rattle.h26x_cut.specs.Slices.{IsFirstCode, units_behind}
 use Rattle.h26x_core.specs.Text.{is_not_empty}
-use Rattle.h26x_cut.proofs.CuttingLemmas.{without_zero_of}
+use Rattle.h26x_cut.proofs.CuttingLemmas.{begins_with, without_zero_of}
 
 -- where a start code begins stand 00, 00 and 01
 zeros_and_one : (rest : List ℕ) → begins_code rest ≡ true → (get_or rest 0 0 ≡ 0) × (get_or rest 1 0 ≡ 0) × (get_or rest 2 0 ≡ 1)
-zeros_and_one [] e = absurd cc
-zeros_and_one (zero ∷ []) e = absurd cc
-zeros_and_one (suc b ∷ []) e = absurd cc
-zeros_and_one (zero ∷ zero ∷ []) e = absurd cc
-zeros_and_one (zero ∷ suc c ∷ []) e = absurd cc
-zeros_and_one (suc b ∷ c ∷ []) e = absurd cc
-zeros_and_one (zero ∷ zero ∷ zero ∷ p) e = absurd cc
-zeros_and_one (zero ∷ zero ∷ suc zero ∷ p) e = (refl, refl, refl)
-zeros_and_one (zero ∷ zero ∷ suc (suc d) ∷ p) e = absurd cc
-zeros_and_one (zero ∷ suc c ∷ d ∷ p) e = absurd cc
-zeros_and_one (suc b ∷ c ∷ d ∷ p) e = absurd cc
+zeros_and_one rest e = let (behind, same) = begins_with rest e in rw same (refl, refl, refl)
 
 -- where 00, 00 and 01 stand a start code begins
 begins_now : (rest : List ℕ) → get_or rest 0 0 ≡ 0 → get_or rest 1 0 ≡ 0 → get_or rest 2 0 ≡ 1 → begins_code rest ≡ true
@@ -51,17 +41,7 @@ begins_not bytes i differs = elim (begins_code (drop i bytes)) as (λ t. begins_
 
 -- a start code at the beginning cuts bytes into nothing and what stands behind it
 cuts_here : (rest : List ℕ) → begins_code rest ≡ true → (3 ≤ length rest) × (cut_of rest ≡ ([], (cut_of (drop 3 rest)).0 ∷ (cut_of (drop 3 rest)).1))
-cuts_here [] e = absurd cc
-cuts_here (zero ∷ []) e = absurd cc
-cuts_here (suc b ∷ []) e = absurd cc
-cuts_here (zero ∷ zero ∷ []) e = absurd cc
-cuts_here (zero ∷ suc c ∷ []) e = absurd cc
-cuts_here (suc b ∷ c ∷ []) e = absurd cc
-cuts_here (zero ∷ zero ∷ zero ∷ p) e = absurd cc
-cuts_here (zero ∷ zero ∷ suc zero ∷ p) e = (omega arith, refl)
-cuts_here (zero ∷ zero ∷ suc (suc d) ∷ p) e = absurd cc
-cuts_here (zero ∷ suc c ∷ d ∷ p) e = absurd cc
-cuts_here (suc b ∷ c ∷ d ∷ p) e = absurd cc
+cuts_here rest e = let (behind, same) = begins_with rest e in rw same (omega arith, refl)
 
 -- fewer than three bytes are one piece
 cuts_short : (rest : List ℕ) → length rest < 3 → cut_of rest ≡ (rest, [])
@@ -109,15 +89,6 @@ unfolding CutsFrom
 none_found bytes i short so_far =
     let cut = cuts_short (drop i bytes) (rw length-drop (omega arith)) in
     so_far ∙ (rw cut (ap (λ (x : List ℕ). (x, [])) (take-append-drop i bytes)))
-
--- the units behind the first start code
-pub units_next : (rule : ZeroRule) (bytes : List ℕ) (place : ℕ) → IsFirstCode bytes (Some place) →
-    units_behind rule bytes ≡ filter is_not_empty (trimmed rule (take place bytes) ∷ pieces_of rule (drop (place + 3) bytes))
-units_next rule bytes place (long, cut) = rw cut refl
-
--- without a start code the bytes are the one unit, if they are not empty
-pub units_last : (rule : ZeroRule) (bytes : List ℕ) → IsFirstCode bytes None → units_behind rule bytes ≡ filter is_not_empty (bytes ∷ [])
-units_last rule bytes cut = rw cut refl
 
 -- of two pieces or more the units are those of all but the first
 more_than_one : (rule : ZeroRule) (before piece : List ℕ) (pieces : List (List ℕ)) → units_of_pieces (before ∷ trimmed_but_last rule piece pieces) ≡ filter is_not_empty (trimmed_but_last rule piece pieces)

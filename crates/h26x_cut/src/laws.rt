@@ -2,16 +2,16 @@
 
 ghost use Rattle.std.specs.Prelude.{◌≡◌, ℕ, List};
 ghost use Rattle.std.specs.List.{AllByRecursion};
-ghost use Rattle.h26x_core.specs.Mark.{HasNoMark};
+ghost use Rattle.h26x_core.specs.Mark.{IsMark};
 ghost use Rattle.h26x_core.specs.Text.{annex_b};
-ghost use Rattle.h26x_cut.specs.Cutting.{HoldsStartCode, IsCutting, pieces_of, AreUnits, IsUnit, AreSeparable, units_of};
+ghost use Rattle.h26x_cut.specs.Cutting.{EndsCodeAt, IsCutting, pieces_of, AreUnits, IsUnit, AreSeparable, units_of};
 
 use crate::ZeroRule;
 
-/// Bytes hold `00 00 01` exactly where a mark stands in them.
+/// The marks of bytes are the places where `00 00 01` ends in them.
 pub fn a_start_code_ends_at_a_mark()
-    ensures no_mark { (bytes : List ℕ) → HasNoMark bytes → ¬ HoldsStartCode bytes }
-    ensures no_code { (bytes : List ℕ) → (¬ HoldsStartCode bytes) → HasNoMark bytes }
+    ensures mark { (bytes : List ℕ) (place : ℕ) → IsMark bytes place → EndsCodeAt bytes place }
+    ensures code { (bytes : List ℕ) (place : ℕ) → EndsCodeAt bytes place → IsMark bytes place }
 {}
 
 /// A payload has one cutting under each rule, and so one list of units.
