@@ -54,7 +54,7 @@ static void report(const char *name, const uint8_t *bytes) {
     printf("%-24s %8zu marks  loop %6.2f GB/s  All %6.2f GB/s (%5.1f times)  AtMostThree %6.2f GB/s (%5.1f times)",
            name, count, SIZE / loop * 1e-9, SIZE / all * 1e-9, loop / all, SIZE / three * 1e-9, loop / three);
     if (count > 1000)
-        printf("  %4.1f ns a mark", all / (double)count * 1e9);
+        printf("  %4.1f and %4.1f ns a mark", all / (double)count * 1e9, three / (double)count * 1e9);
     printf("\n");
 }
 

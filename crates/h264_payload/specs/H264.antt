@@ -35,7 +35,11 @@ abbrev pub stap_of : List (List ℕ × Option ℕ) → List ℕ → Reading
 stap_of units (high ∷ low ∷ left) = Refused (StapASizeLargerThanBuffer (high * 256 + low) (length left))
 stap_of units left = Aggregate units
 
--- the units of a STAP-A; a length of 0 holds none (ours)
+-- the units in a STAP-A behind its header, up to a length that passes the end (5.7.1); a length of 0 holds none (ours)
+abbrev pub stap_units : List ℕ → List (List ℕ)
+stap_units bytes = filter is_not_empty (pieces_of bytes).whole
+
+-- a STAP-A of these pieces
 abbrev pub aggregate_of : Pieces → Reading
 aggregate_of p = stap_of (map unnumbered (filter is_not_empty p.whole)) p.left
 
@@ -64,16 +68,16 @@ abbrev pub has_key : CodecExtra → Bool
 has_key (extras.H264 extra) = extra.is_keyframe
 has_key extra = false
 
--- Whether a unit of this type is known to stand in a packet, or to begin in it (the crate's rule).
+-- whether an FU-A, behind its first byte, begins a unit of this type
 abbrev pub detects_fragment : ℕ → List ℕ → Bool
 detects_fragment type [] = false
 detects_fragment type (second ∷ body) = is_set second 7 && (type_of second == type)
 
--- whether a packet is known to hold a unit of this type, or to begin one
+-- whether a packet is known to hold a unit of this type, or to begin one (the crate's rule)
 abbrev pub detects : ℕ → List ℕ → Bool
 detects type [] = false
 detects type (first ∷ rest) =
-    if type_of first == 24 then list_any (λ unit. type_of_first unit == type) (filter is_not_empty (pieces_of rest).whole)
+    if type_of first == 24 then list_any (λ unit. type_of_first unit == type) (stap_units rest)
     else if type_of first == 28 then detects_fragment type rest
     else nat_le 1 (type_of first) && nat_le (type_of first) 23 && (type_of first == type)
 

@@ -1,16 +1,11 @@
 -- What the parts of an H.264 packet stand for, and what a depacketizer is.
-use Rattle.std.specs.Prelude.{◌≡◌, ℕ, ◌+◌, ◌<◌, Bool, false, if◌then◌else◌, List, [], ◌∷◌, length, map, filter, Option, Some, None}
+use Rattle.std.specs.Prelude.{◌≡◌, ℕ, ◌+◌, ◌<◌, Bool, false, if◌then◌else◌, List, [], ◌∷◌, length, map, Option, Some, None}
 use Rattle.std.specs.List.{list_any, sum_by}
 use Rattle.h26x_core.specs.Outcome.{is_too_long}
-use Rattle.h26x_core.specs.Text.{is_not_empty}
 use Rattle.h26x_core.specs.Reading.{Reading, Single, Aggregate, Fragment, unnumbered}
-use Rattle.h26x_core.specs.Pieces.{pieces_of}
+use Rattle.h264_payload.specs.H264.{stap_units}
 use Rattle.h264_payload.specs.declared.packet.Packet.{Packet}
 use Rattle.h264_payload.specs.declared.packet.Packet.TheVariants as p
-
--- the units in a STAP-A behind its header, up to a length that passes the end (RFC 6184, 5.7.1)
-abbrev pub stap_units : List ℕ → List (List ℕ)
-stap_units bytes = filter is_not_empty (pieces_of bytes).whole
 
 -- what a packet that was read is to a depacketizer
 abbrev pub reading_of : Packet → Reading

@@ -12,8 +12,8 @@ ghost use Rattle.h26x_core.specs.Reading.{Fragment};
 ghost use Rattle.h26x_core.specs.Received.{units_with, run_after};
 ghost use Rattle.h26x_core.specs.Extra.{extra_after};
 ghost use Rattle.h26x_core.specs.Outcome.{is_too_long, is_startless, IsOutcomeWith, IsStep};
-ghost use Rattle.h264_payload.specs.H264.{h264, has_key};
-ghost use Rattle.h264_payload.specs.Packet.{stap_units, written_len};
+ghost use Rattle.h264_payload.specs.H264.{h264, has_key, stap_units};
+ghost use Rattle.h264_payload.specs.Packet.{written_len};
 
 use crate::packet::{Packet, read};
 use crate::stap;
@@ -273,7 +273,7 @@ impl Depacketizer for H264Depacketizer {
     // The setting, and the data of the open run if there is one.
     ghost meaning = { meaning_of };
 
-    /// The bytes of the packets, four more, and four for each whole 1200 of them.
+    /// The bytes of the packets, four more, and four for each whole 1200 of them; at most `usize::MAX`.
     fn out_size_hint(&self, packets_size: usize) -> Option<usize>
         ensures { result ≡ Some (size_hint packets_size) }
     {
@@ -282,7 +282,7 @@ impl Depacketizer for H264Depacketizer {
 
     /// Appends the units that `packet` completes to `out`, each behind `00 00 00 01`, or in AVC form behind
     /// its length in four bytes. `codec_extra` then tells whether one of them, or one told of before, is of
-    /// a keyframe; a packet that completes none leaves it.
+    /// a keyframe; what another codec told is replaced. A packet that completes none leaves it.
     ///
     /// A start of fragments gives up a unit that was open, and a fragment without a start before it is
     /// accepted and completes nothing. That fragments between were lost is not noticed here: their unit is
@@ -330,7 +330,8 @@ impl Depacketizer for H264Depacketizer {
         }
     }
 
-    /// Whether `packet` may be the first of a frame: it has two bytes or more, and a fragment starts.
+    /// Whether `packet` may be the first of a frame: it has two bytes or more and, where it is a fragment (FU-A or
+    /// FU-B), its S bit is set.
     fn is_partition_head(&self, packet: &[u8]) -> bool
         ensures { result ≡ is_head packet.now }
     {

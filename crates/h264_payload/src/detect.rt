@@ -3,8 +3,7 @@
 ghost use Rattle.std.specs.Prelude.{◌≡◌, ◌==◌};
 ghost use Rattle.std.specs.List.{list_any};
 ghost use Rattle.h26x_core.specs.H264Unit.{type_of_first};
-ghost use Rattle.h264_payload.specs.H264.{detects};
-ghost use Rattle.h264_payload.specs.Packet.{stap_units};
+ghost use Rattle.h264_payload.specs.H264.{detects, stap_units};
 
 use crate::stap;
 use h26x_core::{

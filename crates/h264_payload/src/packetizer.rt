@@ -377,7 +377,7 @@ impl Packetizer for H264Packetizer {
         ensures refused { OnErr result (self.new ≡ self.old) }
         ensures memory { OnErr result (result ≡ Err PacketError.OutOfMemory) }
 
-        // These take no memory, and the last two have no effect.
+        // These calls take no memory, and have no effect.
         ensures empty { b.now ≡ [] → IsOk result }
         ensures skipped { are_skipped (units_of All b.now) ≡ true → IsOk result }
         ensures no_room { mtu ≡ 0 → IsOk result }

@@ -6,8 +6,7 @@ ghost use Rattle.std.specs.Iterator.{YieldsFirstBy, item_count};
 ghost use Rattle.h26x_core.specs.Outcome.{is_too_long};
 ghost use Rattle.h26x_core.specs.Pieces.{pieces_of};
 ghost use Rattle.h26x_core.specs.Reading.{Aggregate, Refused, unnumbered};
-ghost use Rattle.h264_payload.specs.H264.{aggregate_of};
-ghost use Rattle.h264_payload.specs.Packet.{stap_units};
+ghost use Rattle.h264_payload.specs.H264.{aggregate_of, stap_units};
 
 use h26x_core::{PacketError, STAPA_NALU_LENGTH_SIZE, first_piece};
 use std::marker::Model;
@@ -21,7 +20,7 @@ pub struct StapUnits<'a> {
 
 impl<'a> Model for StapUnits<'a> {
     ghost use Rattle.std.specs.Prelude.{List, ℕ};
-    ghost use Rattle.h264_payload.specs.Packet.{stap_units};
+    ghost use Rattle.h264_payload.specs.H264.{stap_units};
 
     ghost Value = { List (List ℕ) };
 

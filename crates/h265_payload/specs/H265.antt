@@ -6,7 +6,7 @@ use Rattle.h26x_core.specs.declared.extra.CodecExtra.TheVariants as extras
 use Rattle.h26x_core.specs.declared.error.PacketError.TheVariants.{ErrShortPacket, ErrH265CorruptedPacket}
 use Rattle.h26x_cut.specs.declared.ZeroRule.TheVariants.{All}
 use Rattle.h26x_cut.specs.Cutting.{units_of}
-use Rattle.h26x_core.specs.Word.{field, is_set, flag, word}
+use Rattle.h26x_core.specs.Word.{field, is_set, flag}
 use Rattle.h26x_core.specs.H265Unit.{type_of, kind, is_key, is_key_type}
 use Rattle.h26x_core.specs.Reading.{Reading, Aggregate, Fragment, Paci, Refused, unnumbered, single_of}
 use Rattle.h26x_core.specs.Format.{Format, number_bytes}

@@ -7,7 +7,7 @@ use Rattle.h26x_core.specs.declared.error.PacketError.{PacketError}
 use Rattle.h26x_core.specs.declared.error.PacketError.TheVariants.{ErrShortPacket, ErrH266CorruptedPacket}
 use Rattle.h26x_cut.specs.declared.ZeroRule.TheVariants.{AtMostThree}
 use Rattle.h26x_cut.specs.Cutting.{units_of}
-use Rattle.h26x_core.specs.Word.{field, is_set, flag, word}
+use Rattle.h26x_core.specs.Word.{field, is_set, flag}
 use Rattle.h26x_core.specs.H266Unit.{type_of, kind, is_key, is_key_type}
 use Rattle.h26x_core.specs.Reading.{Reading, Aggregate, Fragment, Refused, unnumbered, single_of}
 use Rattle.h26x_core.specs.Format.{Format, number_bytes}

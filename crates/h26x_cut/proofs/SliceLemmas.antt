@@ -4,7 +4,7 @@ use Rattle.std.specs.Prelude.{filter}
 use Rattle.std.proofs.Math.Seq.{take-suc}
 use Rattle.std.proofs.lemmas.List.{append-nil, length-drop, drop-drop, get_or-drop, take-append-drop, take_all}
 use Rattle.h26x_cut.specs.declared.ZeroRule.{ZeroRule}
-use Rattle.h26x_cut.specs.Cutting.{begins_code, cut_at, cut_of, trimmed_by, trimmed, without_zeros, without_zero, trimmed_but_last, pieces_of, units_of_pieces, units_of}
+use Rattle.h26x_cut.specs.Cutting.{begins_code, cut_at, cut_of, trimmed_by, trimmed, without_zeros, without_zero, trimmed_but_last, units_of_pieces, units_of}
 use Rattle.h26x_cut.specs.Slices.{IsFirstCode, units_behind}
 use Rattle.h26x_core.specs.Text.{is_not_empty}
 use Rattle.h26x_cut.proofs.CuttingLemmas.{begins_with, without_zero_of}

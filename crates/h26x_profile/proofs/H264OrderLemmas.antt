@@ -1,9 +1,8 @@
 -- The order of the levels of H.264.
 use Rattle.std.proofs.Common.{◌≡◌, Bool, true, refl}
 use Rattle.std.specs.List.{list_all}
-use Rattle.std.specs.declared.cmp.Ordering.{Ordering}
 use Rattle.h26x_profile.specs.H264.{levels}
-use Rattle.h26x_profile.proofs.TableLemmas.{passes_at, same, same_is}
+use Rattle.h26x_profile.proofs.TableLemmas.{passes_at}
 use Rattle.h26x_profile.specs.declared.h264.H264LevelIdc.{H264LevelIdc}
 use Rattle.h26x_profile.specs.declared.h264.H264LevelIdc.TheVariants as level
 
@@ -26,7 +25,3 @@ every_level test all level.Level4_2 = passes_at test levels 13 level.Level4_2 re
 every_level test all level.Level5 = passes_at test levels 14 level.Level5 refl refl all
 every_level test all level.Level5_1 = passes_at test levels 15 level.Level5_1 refl refl all
 every_level test all level.Level5_2 = passes_at test levels 16 level.Level5_2 refl refl all
-
--- two ways to compare levels are the same where they are at each two levels of the list
-pub same_order : (one other : H264LevelIdc → H264LevelIdc → Ordering) → list_all (λ a. list_all (λ b. same (one a b) (other a b)) levels) levels ≡ true → (a b : H264LevelIdc) → one a b ≡ other a b
-same_order one other all a b = same_is (one a b) (other a b) (every_level (λ y. same (one a y) (other a y)) (every_level (λ x. list_all (λ y. same (one x y) (other x y)) levels) all a) b)

@@ -1,9 +1,8 @@
 -- The order of the levels of H.266.
 use Rattle.std.proofs.Common.{◌≡◌, Bool, true, refl}
 use Rattle.std.specs.List.{list_all}
-use Rattle.std.specs.declared.cmp.Ordering.{Ordering}
 use Rattle.h26x_profile.specs.H266.{levels}
-use Rattle.h26x_profile.proofs.TableLemmas.{passes_at, same, same_is}
+use Rattle.h26x_profile.proofs.TableLemmas.{passes_at}
 use Rattle.h26x_profile.specs.declared.h266.H266Level.{H266Level}
 use Rattle.h26x_profile.specs.declared.h266.H266Level.TheVariants as level
 
@@ -24,7 +23,3 @@ every_level test all level.Level6_1 = passes_at test levels 11 level.Level6_1 re
 every_level test all level.Level6_2 = passes_at test levels 12 level.Level6_2 refl refl all
 every_level test all level.Level6_3 = passes_at test levels 13 level.Level6_3 refl refl all
 every_level test all level.Level15_5 = passes_at test levels 14 level.Level15_5 refl refl all
-
--- two ways to compare levels are the same where they are at each two levels of the list
-pub same_order : (one other : H266Level → H266Level → Ordering) → list_all (λ a. list_all (λ b. same (one a b) (other a b)) levels) levels ≡ true → (a b : H266Level) → one a b ≡ other a b
-same_order one other all a b = same_is (one a b) (other a b) (every_level (λ y. same (one a y) (other a y)) (every_level (λ x. list_all (λ y. same (one x y) (other x y)) levels) all a) b)

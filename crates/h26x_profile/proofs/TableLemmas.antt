@@ -32,3 +32,9 @@ same_is Equal Less h = absurd cc
 same_is Equal Greater h = absurd cc
 same_is Greater Less h = absurd cc
 same_is Greater Equal h = absurd cc
+
+-- two ways to compare values are the same where they are at each two values of a list that has them all
+pub same_order : {A : Type 0} (values : List A) → ((test : A → Bool) → list_all test values ≡ true → (it : A) → test it ≡ true) → (one other : A → A → Ordering) →
+    list_all (λ a. list_all (λ b. same (one a b) (other a b)) values) values ≡ true → (a b : A) → one a b ≡ other a b
+same_order values every one other all a b =
+    same_is (one a b) (other a b) (every (λ y. same (one a y) (other a y)) (every (λ x. list_all (λ y. same (one x y) (other x y)) values) all a) b)

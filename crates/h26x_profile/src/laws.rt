@@ -1,6 +1,6 @@
 //! Laws of the tables and of the orders. Each is the contract of a function without a result.
 
-ghost use Rattle.std.specs.Prelude.{◌≡◌, ℕ, ◌<◌, ◌≤◌, Some, None, count_by};
+ghost use Rattle.std.specs.Prelude.{◌≡◌, ℕ, ◌<◌, ◌≤◌, Some, count_by};
 ghost use Rattle.std.specs.Ordering.{nat_cmp};
 ghost use Rattle.h26x_profile.specs.H264 as h264_spec;
 ghost use Rattle.h26x_profile.specs.H265 as h265_spec;

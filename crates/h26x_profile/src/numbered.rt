@@ -2,7 +2,7 @@
 
 ghost use Rattle.std.specs.Prelude.{◌≡◌, ℕ, Option};
 
-/// A profile, a tier or a level: one of a few values, each with a number of its own.
+/// A profile, a tier or a level: one of a few values that numbers name.
 pub trait Numbered: Copy {
     // The value that a number names.
     ghost named: { ℕ → Option Self };

@@ -24,15 +24,11 @@ use Rattle.h26x_core.proofs.AcceptedLemmas.{all_read}
 use Rattle.h264_payload.specs.H264.{h264}
 use Rattle.h264_payload.proofs.ReadBackLemmas.{reads_what_it_writes}
 use Rattle.h264_payload.proofs.FactLemmas.{extra_tells, sets_leave_room, key_units_are_other}
-use Rattle.h26x_tool.specs.Carry.{IsCarried, IsCarriedWhole, entries_with}
+use Rattle.h26x_tool.specs.Carry.{oks, IsCarried, IsCarriedWhole, entries_with}
 
 -- a beginning of a beginning is one of the whole
 pub still_front : (a b whole : List ℕ) → IsFrontOf a b → IsFrontOf b whole → IsFrontOf a whole
 still_front a b whole (x, is) (y, more) = (x ++ y, more ∙ ap (λ (l : List ℕ). l ++ y) is ∙ append_assoc a x y)
-
--- the answer to each of these packets
-abbrev pub oks : List (List ℕ) → List (Result (Unit {0}) PacketError)
-oks packets = map (λ packet. Ok tt) packets
 
 -- the packets before a place were taken
 abbrev pub AreTakenTo : Bool → List (List ℕ) → ℕ → List ℕ → List ℕ → CodecExtra → CodecExtra → Option (List ℕ) → Type 0

@@ -1,5 +1,5 @@
 //! Reads lines that cut H.264 payloads into RTP payloads and put them together, and prints the
-//! answers. `run` says what the lines are.
+//! answers. `line::Line` says what the lines are.
 #![tactic(auto)]
 
 mod carry;

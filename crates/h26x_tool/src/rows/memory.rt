@@ -126,7 +126,8 @@ fn retried_copies(rt: HostRuntime) -> Result<(), Fail> {
     Ok(())
 }
 
-/// The same calls with no second try: this passes as soon as none of their requests is refused.
+/// Calls without a second try, which make at least as many requests as each test above: this passes as soon as no
+/// request of theirs is refused.
 #[test]
 fn no_request_is_refused(rt: HostRuntime) -> Result<(), Fail> {
     let mut packetizer = H264Packetizer::new(rt.alloc());

@@ -1,7 +1,8 @@
 use Rattle.std.proofs.Common.{rules, arith, ◌≡◌, ◌<◌}
 use Rattle.std.proofs.lemmas.Bool.Decides.{nat_tests}
 use Rattle.h26x_core.specs.Pieces.{pieces_of}
-use Rattle.h264_payload.specs.Packet.{stap_units, written_len}
+use Rattle.h264_payload.specs.Packet.{written_len}
+use Rattle.h264_payload.specs.H264.{stap_units}
 use Rattle.h264_payload.proofs.StapLemmas.{some_written, none_written}
 use Rattle.h264_payload.proofs.depacketizer.append_units.Goals as goal
 

@@ -3,7 +3,8 @@ use Rattle.std.specs.List.{list_any}
 use Rattle.h26x_core.specs.H264Unit.{is_key}
 use Rattle.h26x_core.specs.Outcome.{is_too_long}
 use Rattle.h26x_core.specs.Text.{text}
-use Rattle.h264_payload.specs.Packet.{stap_units, written_len}
+use Rattle.h264_payload.specs.Packet.{written_len}
+use Rattle.h264_payload.specs.H264.{stap_units}
 use Rattle.h264_payload.proofs.depacketizer.append_units.Given as goal
 
 -- there is room for the units to come; what was written and told of the units so far, with those to come, is that of all

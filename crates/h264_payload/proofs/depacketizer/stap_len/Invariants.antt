@@ -1,5 +1,6 @@
 use Rattle.std.proofs.Common.{◌≡◌, ◌+◌, ◌-◌, ◌≤◌, ◌^◌, min}
-use Rattle.h264_payload.specs.Packet.{stap_units, written_len}
+use Rattle.h264_payload.specs.Packet.{written_len}
+use Rattle.h264_payload.specs.H264.{stap_units}
 use Rattle.h264_payload.proofs.depacketizer.stap_len.Given as goal
 
 -- the length so far, with that of the units to come, is that of all; each is a usize at most

@@ -2,7 +2,7 @@ use Rattle.std.proofs.Common.{◌≡◌, length}
 use Rattle.std.specs.List.{list_any}
 use Rattle.h26x_core.specs.Outcome.{is_too_long}
 use Rattle.h26x_core.specs.Pieces.{pieces_of}
-use Rattle.h264_payload.specs.Packet.{stap_units}
+use Rattle.h264_payload.specs.H264.{stap_units}
 use Rattle.h264_payload.proofs.stap.check_stap.Given as goal
 
 -- what is left in the end is the same, and the units before here are not too long

@@ -1,11 +1,12 @@
 use Rattle.std.proofs.Common.{refl}
 use Rattle.std.specs.Ordering.{nat_cmp}
-use Rattle.h26x_profile.specs.H266.{ordinal, level_id}
-use Rattle.h26x_profile.proofs.H266OrderLemmas.{same_order}
+use Rattle.h26x_profile.specs.H266.{levels, ordinal, level_id}
+use Rattle.h26x_profile.proofs.TableLemmas.{same_order}
+use Rattle.h26x_profile.proofs.H266OrderLemmas.{every_level}
 use Rattle.h26x_profile.proofs.laws.order_of_h266_levels.Goals as goal
 
 pub returns-clause-order : goal.returns-clause-order
-returns-clause-order c = same_order _ (λ a b. nat_cmp (ordinal a) (ordinal b)) refl
+returns-clause-order c = same_order levels every_level _ (λ a b. nat_cmp (ordinal a) (ordinal b)) refl
 
 pub returns-clause-ids : goal.returns-clause-ids
-returns-clause-ids c = same_order (λ a b. nat_cmp (ordinal a) (ordinal b)) (λ a b. nat_cmp (level_id a) (level_id b)) refl
+returns-clause-ids c = same_order levels every_level (λ a b. nat_cmp (ordinal a) (ordinal b)) (λ a b. nat_cmp (level_id a) (level_id b)) refl

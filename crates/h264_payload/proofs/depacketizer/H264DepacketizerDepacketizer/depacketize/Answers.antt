@@ -5,8 +5,8 @@ use Rattle.h26x_core.specs.Text.{text}
 use Rattle.h26x_core.specs.Received.{units_with}
 use Rattle.h26x_core.specs.Extra.{extra_after}
 use Rattle.h26x_core.specs.Outcome.{is_too_long, IsOutcomeWith}
-use Rattle.h264_payload.specs.H264.{h264}
-use Rattle.h264_payload.specs.Packet.{stap_units, reading_of}
+use Rattle.h264_payload.specs.H264.{h264, stap_units}
+use Rattle.h264_payload.specs.Packet.{reading_of}
 use Rattle.h264_payload.proofs.StapLemmas.{stap_brings, stap_outcome, stap_stays, stays}
 use Rattle.h264_payload.proofs.depacketizer.H264DepacketizerDepacketizer.depacketize.Goals as goal
 

@@ -1,5 +1,5 @@
 use Rattle.std.proofs.Common.{◌≡◌, length}
-use Rattle.h264_payload.specs.Packet.{stap_units}
+use Rattle.h264_payload.specs.H264.{stap_units}
 use Rattle.h264_payload.proofs.stap.StapUnitsIterator.next.Given as goal
 
 -- the units are those from the beginning on
