@@ -6,11 +6,12 @@ use Rattle.std.proofs.lemmas.Bool.Decides.{nat_tests}
 use Rattle.h26x_core.specs.H264Unit.{type_of, type_of_first, is_key}
 use Rattle.h26x_core.specs.Packets.{single}
 use Rattle.h26x_core.specs.Pieces.{piece}
-use Rattle.h26x_core.specs.Facts.{AreCarried, HeadersTakeRoom, FitsLimits, SetsLeaveRoom, ExtraTells, KnowsKeyUnits, KeyUnitsAreOther}
-use Rattle.h26x_core.proofs.HeaderLemmas.{start_back, type_back}
+use Rattle.h26x_core.specs.Facts.{AreCarried, HeadersTakeRoom, FitsLimits, MarksFragments, SetsLeaveRoom, ExtraTells, KnowsKeyUnits, KeyUnitsAreOther, IsPayloadFormat}
+use Rattle.h26x_core.proofs.HeaderLemmas.{start_back, end_back, type_back}
 use Rattle.h26x_core.proofs.PieceLemmas.{pieces_back}
 use Rattle.h264_payload.specs.H264.{h264, carries, sets_fit, fragment_header}
 use Rattle.h264_payload.proofs.HeaderLemmas.{type_below, type_fits, indicator_type, carried_first, unit_tests}
+use Rattle.h264_payload.proofs.ReadBackLemmas.{reads_what_it_writes}
 use Rattle.h264_payload.proofs.SetLemmas.{fit_parts, none_is_empty}
 
 -- a fragment has two bytes beside its data
@@ -75,9 +76,28 @@ pub knows_key_units : KnowsKeyUnits h264
 knows_key_units = record {
   single = single_detected;
   fragment = fragment_detected;
-  sets = λ n mtu sets unit plain fit carried unit_carried none. sets_detected n mtu sets unit fit carried none;
+  sets = λ n limit sets unit plain is fit carried unit_carried none. sets_detected n limit sets unit fit carried none;
 }
 
 -- a key unit is no parameter set
 pub key_units_are_other : KeyUnitsAreOther h264
 key_units_are_other = search rules
+
+-- an FU-A bears its marks in its second byte
+marks_fragments : MarksFragments h264
+marks_fragments [] behind start end header = absurd (omega arith)
+marks_fragments (first ∷ unit) behind start end header = (start_back start end (type_of first) (type_fits first), end_back start end (type_of first) (type_fits first))
+
+-- the format meets all facts
+pub is_payload_format : IsPayloadFormat h264
+is_payload_format = record {
+  headers = headers_take_room;
+  reads = reads_what_it_writes;
+  limits = fits_limits;
+  marks = marks_fragments;
+  sets = sets_leave_room;
+  extra = extra_tells;
+  detects = knows_key_units;
+  other = key_units_are_other;
+  numbers = record { sets = λ n sets unit. refl; none = λ none n m sets unit. refl };
+}

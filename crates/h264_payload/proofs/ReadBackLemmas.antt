@@ -56,5 +56,5 @@ reads_what_it_writes = record {
   header = header_there;
   single = single_back;
   fragment = fragment_back;
-  sets = λ n mtu sets unit fit two carried unit_carried. sets_back n mtu sets unit fit carried;
+  sets = λ n limit sets unit is fit two carried unit_carried. sets_back n limit sets unit fit carried;
 }

@@ -11,7 +11,7 @@ use Rattle.h26x_core.specs.H264Unit.{kind}
 use Rattle.h26x_core.specs.Group.{Entry}
 use Rattle.h26x_core.specs.Plan.{Item, Alone, Together, units_of_item, is_dropped, items_alone, item_of, items_of_sets}
 use Rattle.h26x_core.specs.Packets.{packets_of_item, packets}
-use Rattle.h26x_core.specs.Calls.{entries_of_call}
+use Rattle.h26x_core.specs.Calls.{call_at, entries_of_call}
 use Rattle.h26x_core.specs.Limit.{AreWithin, ItemIsWithin, limit_of}
 use Rattle.h26x_core.proofs.LimitLemmas.{all_both, plan_within}
 use Rattle.h26x_core.specs.Waits.{Waiting, AreSets, sets_waiting, are_due, waits_after, items_now, plan_with, waits_after_all, entries_at}
@@ -19,7 +19,8 @@ use Rattle.h26x_core.proofs.PacketLemmas.{packets-append}
 use Rattle.h26x_core.proofs.WaitLemmas.{sets_stay_all, plan-waiting}
 use Rattle.h264_payload.specs.H264.{h264, sets_fit}
 use Rattle.h264_payload.proofs.FactLemmas.{fits_limits}
-use Rattle.h264_payload.specs.Sending.{is_skipped_kind, is_skipped, are_skipped, waiting_with, newest, listed, packets_sent}
+use Rattle.h26x_core.specs.Sender.{is_skipped_kind}
+use Rattle.h264_payload.specs.Sending.{is_skipped, are_skipped, waiting_with, newest, listed, packets_sent}
 use Rattle.h264_payload.specs.declared.packetizer.Brought.{Brought}
 
 -- a payload's units are those that are computed
@@ -70,7 +71,7 @@ are_sets_now w b entries sps pps sets waits none is_sps is_pps =
     rw (is_sps, is_pps) (rw none at here)
 
 -- a call at mtu 0 brings nothing
-pub no_entries : (w : Waiting) (mtu : ℕ) (payload : List ℕ) → mtu ≡ 0 → waits_after_all h264 w (entries_of_call h264 (record { mtu = mtu; payload = payload })) ≡ w
+pub no_entries : (w : Waiting) (mtu : ℕ) (payload : List ℕ) → mtu ≡ 0 → waits_after_all h264 w (entries_of_call h264 (call_at mtu payload)) ≡ w
 no_entries w mtu payload none = rw none refl
 
 -- the packets of one unit more are counted, up to a bound

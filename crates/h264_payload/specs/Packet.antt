@@ -1,9 +1,11 @@
 -- What the parts of an H.264 packet stand for, and what a depacketizer is.
 use Rattle.std.specs.Prelude.{◌≡◌, ℕ, ◌+◌, ◌<◌, Bool, false, if◌then◌else◌, List, [], ◌∷◌, length, map, Option, Some, None}
 use Rattle.std.specs.List.{list_any, sum_by}
+use Rattle.h26x_core.specs.declared.extra.CodecExtra.{CodecExtra}
 use Rattle.h26x_core.specs.Outcome.{is_too_long}
+use Rattle.h26x_core.specs.Receiver.{Work}
 use Rattle.h26x_core.specs.Reading.{Reading, Single, Aggregate, Fragment, unnumbered}
-use Rattle.h264_payload.specs.H264.{stap_units}
+use Rattle.h264_payload.specs.H264.{h264, stap_units}
 use Rattle.h264_payload.specs.declared.packet.Packet.{Packet}
 use Rattle.h264_payload.specs.declared.packet.Packet.TheVariants as p
 
@@ -23,6 +25,10 @@ IsWhole (p.Fragment start end head body) = Unit {0}
 pub record Depacketizer : Type 0 where
   pub is_avc : Bool
   pub run : Option (List ℕ)
+
+-- a depacketizer, what was written so far, and what is told
+abbrev pub work : Depacketizer → List ℕ → CodecExtra → Work
+work d out extra = record { receiver = record { format = h264; is_avc = d.is_avc; run = d.run }; out = out; extra = extra }
 
 -- the run of these bytes, if it is open
 abbrev pub run_where : Bool → List ℕ → Option (List ℕ)

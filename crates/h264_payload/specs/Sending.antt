@@ -1,11 +1,12 @@
 -- What a packetizer of H.264 does with the sets that wait, and what it sends (the crate's rule).
-use Rattle.std.specs.Prelude.{ℕ, Bool, true, false, if◌then◌else◌, List, [], ◌∷◌, ◌++◌, Option, Some, None}
+use Rattle.std.specs.Prelude.{ℕ, Bool, if◌then◌else◌, List, [], ◌∷◌, ◌++◌, Option, Some, None}
 use Rattle.std.specs.List.{flat_map, list_all}
 use Rattle.std.specs.Option.{option_map}
 use Rattle.h26x_core.specs.Kind.{Kind, Skipped, Sps, Pps, Other}
 use Rattle.h26x_core.specs.H264Unit.{kind}
 use Rattle.h26x_core.specs.Group.{Entry}
-use Rattle.h26x_core.specs.Calls.{entries_of_call}
+use Rattle.h26x_core.specs.Sender.{Sender, is_skipped_kind}
+use Rattle.h26x_core.specs.Calls.{call_at, first_largest, entries_of_call}
 use Rattle.h26x_core.specs.Plan.{Item, items_alone, items_of_sets}
 use Rattle.h26x_core.specs.Packets.{packets}
 use Rattle.h26x_core.specs.Waits.{Waiting}
@@ -18,7 +19,11 @@ use Rattle.h264_payload.specs.declared.packetizer.UnitKind.TheVariants as k
 
 -- the units of a payload, at this mtu
 abbrev pub entries_of_payload : ℕ → List ℕ → List Entry
-entries_of_payload mtu payload = entries_of_call h264 (record { mtu = mtu; payload = payload })
+entries_of_payload mtu payload = entries_of_call h264 (call_at mtu payload)
+
+-- the packetizer for which these sets wait; its packets bear no numbers
+abbrev pub sender : Waiting → Sender
+sender w = record { format = h264; waiting = w; counter = 0; largest = first_largest }
 
 -- a set that may be there, as a list
 abbrev pub listed : Option (List ℕ) → List (List ℕ)
@@ -45,11 +50,6 @@ waiting_with w b = record {
 -- what later answers depend on: the bytes of the set of each kind that waits, and no number
 abbrev pub meaning_of : Waiting → List (List ℕ)
 meaning_of w = flat_map (λ set. set) w.vps ∷ flat_map (λ set. set) w.sps ∷ flat_map (λ set. set) w.pps ∷ [] ∷ []
-
--- whether units of a kind are not sent
-abbrev pub is_skipped_kind : Kind → Bool
-is_skipped_kind Skipped = true
-is_skipped_kind kind = false
 
 -- whether a unit is not sent
 abbrev pub is_skipped : List ℕ → Bool

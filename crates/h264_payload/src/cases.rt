@@ -4,7 +4,7 @@
 ghost use Rattle.std.specs.Prelude.{◌≡◌, true, false, None, [], ◌∷◌, map, length};
 ghost use Rattle.std.specs.List.{range_with_len};
 ghost use Rattle.h26x_core.specs.Reading.{Aggregate, Refused};
-ghost use Rattle.h26x_core.specs.Calls.{packets_of, packets_of_payload};
+ghost use Rattle.h26x_core.specs.Calls.{call_at, packets_of, packets_of_payload};
 ghost use Rattle.h26x_core.specs.Received.{received};
 ghost use Rattle.h26x_core.specs.Text.{annex_b};
 ghost use Rattle.h26x_core.specs.Extra.{extra_after};
@@ -38,14 +38,14 @@ pub fn tiny_limits()
 /// An SPS and a PPS go in a STAP-A before the next unit, which goes alone; at limit 10 they do not fit, and only the unit is sent.
 pub fn sets_before_a_unit()
     ensures at_1500 { packets_of h264 0 (
-        record { mtu = 1500; payload = 0x07 ∷ 0x00 ∷ 0x01 ∷ [] } ∷
-        record { mtu = 1500; payload = 0x08 ∷ 0x02 ∷ 0x03 ∷ [] } ∷
-        record { mtu = 1500; payload = 0x05 ∷ 0x04 ∷ 0x05 ∷ [] } ∷ [])
+        call_at 1500 (0x07 ∷ 0x00 ∷ 0x01 ∷ []) ∷
+        call_at 1500 (0x08 ∷ 0x02 ∷ 0x03 ∷ []) ∷
+        call_at 1500 (0x05 ∷ 0x04 ∷ 0x05 ∷ []) ∷ [])
         ≡ (0x78 ∷ 0x00 ∷ 0x03 ∷ 0x07 ∷ 0x00 ∷ 0x01 ∷ 0x00 ∷ 0x03 ∷ 0x08 ∷ 0x02 ∷ 0x03 ∷ []) ∷ (0x05 ∷ 0x04 ∷ 0x05 ∷ []) ∷ [] }
     ensures at_10 { packets_of h264 0 (
-        record { mtu = 10; payload = 0x07 ∷ 0x00 ∷ 0x01 ∷ [] } ∷
-        record { mtu = 10; payload = 0x08 ∷ 0x02 ∷ 0x03 ∷ [] } ∷
-        record { mtu = 10; payload = 0x05 ∷ 0x04 ∷ 0x05 ∷ [] } ∷ [])
+        call_at 10 (0x07 ∷ 0x00 ∷ 0x01 ∷ []) ∷
+        call_at 10 (0x08 ∷ 0x02 ∷ 0x03 ∷ []) ∷
+        call_at 10 (0x05 ∷ 0x04 ∷ 0x05 ∷ []) ∷ [])
         ≡ (0x05 ∷ 0x04 ∷ 0x05 ∷ []) ∷ [] }
 {}
 
@@ -138,8 +138,8 @@ pub fn lost_packets()
 /// Units that end in zeros lose them to the start codes, where they are cut again: all but the last.
 pub fn zeros_at_the_end_of_a_unit()
     ensures first { packets_of h264 0 (
-        record { mtu = 100; payload = 0x65 ∷ 0x01 ∷ 0x00 ∷ [] } ∷
-        record { mtu = 100; payload = 0x65 ∷ 0x02 ∷ [] } ∷ [])
+        call_at 100 (0x65 ∷ 0x01 ∷ 0x00 ∷ []) ∷
+        call_at 100 (0x65 ∷ 0x02 ∷ []) ∷ [])
         ≡ (0x65 ∷ 0x01 ∷ 0x00 ∷ []) ∷ (0x65 ∷ 0x02 ∷ []) ∷ [] }
     ensures again { packets_of_payload h264 100 (annex_b ((0x65 ∷ 0x01 ∷ 0x00 ∷ []) ∷ (0x65 ∷ 0x02 ∷ []) ∷ []))
         ≡ (0x65 ∷ 0x01 ∷ []) ∷ (0x65 ∷ 0x02 ∷ []) ∷ [] }

@@ -11,9 +11,10 @@ ghost use Rattle.h26x_core.specs.Text.{lead, text};
 ghost use Rattle.h26x_core.specs.Reading.{Fragment};
 ghost use Rattle.h26x_core.specs.Received.{units_with, run_after};
 ghost use Rattle.h26x_core.specs.Extra.{extra_after};
-ghost use Rattle.h26x_core.specs.Outcome.{is_too_long, is_startless, IsOutcomeWith, IsStep};
+ghost use Rattle.h26x_core.specs.Outcome.{is_too_long, is_startless, IsOutcomeWith};
 ghost use Rattle.h264_payload.specs.H264.{h264, has_key, stap_units};
-ghost use Rattle.h264_payload.specs.Packet.{written_len};
+ghost use Rattle.h26x_core.specs.Receiver.{work_after, IsOutcomeAt};
+ghost use Rattle.h264_payload.specs.Packet.{written_len, work};
 
 use crate::packet::{Packet, read};
 use crate::stap;
@@ -300,19 +301,17 @@ impl Depacketizer for H264Depacketizer {
         out: &mut Vec<u8>,
         codec_extra: &mut CodecExtra,
     ) -> Result<(), PacketError>
-        ensures outcome { IsOutcomeWith self.old.is_avc self.old.run (h264.read packet.now) result }
-        ensures written { OnOk result (out.new.items ≡ out.old.items ++ text self.old.is_avc (units_with self.old.run (h264.read packet.now))) }
-        ensures told { OnOk result (codec_extra.new ≡ extra_after h264 codec_extra.old (units_with self.old.run (h264.read packet.now))) }
-        ensures run { OnOk result (self.new ≡ record self.old { run = run_after self.old.run (h264.read packet.now) }) }
+        ensures outcome { IsOutcomeAt (work self.old out.old.items codec_extra.old) packet.now result }
+        ensures taken { OnOk result (work self.new out.new.items codec_extra.new
+            ≡ work_after (work self.old out.old.items codec_extra.old) (packet.now ∷ [])) }
+        ensures left { OnErr result (work self.new out.new.items codec_extra.new
+            ≡ work self.old out.old.items codec_extra.old) }
         ensures startless { is_startless self.old.run (h264.read packet.now) ≡ true → IsOk result }
 
-        ensures kept { OnErr result (out.new.items ≡ out.old.items) }
-        ensures kept_extra { OnErr result (codec_extra.new ≡ codec_extra.old) }
-        ensures kept_run { OnErr result (self.new ≡ self.old) }
-
-        ensures setting { self.new.is_avc ≡ self.old.is_avc }
         ensures accepted { OnOk result (IsFrontOf out.old.items out.new.items) }
-        ensures step { IsStep h264 self.old.is_avc (h264.read packet.now) result out.old.items out.new.items codec_extra.old codec_extra.new self.old.run self.new.run }
+        ensures refused_out { OnErr result (out.new.items ≡ out.old.items) }
+        ensures refused_extra { OnErr result (codec_extra.new ≡ codec_extra.old) }
+        ensures refused { OnErr result (self.new ≡ self.old) }
     {
         match read(packet)? {
             Packet::Single(unit) => {

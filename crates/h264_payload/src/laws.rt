@@ -5,7 +5,7 @@ ghost use Rattle.h26x_core.specs.Reading.{Reading};
 ghost use Rattle.h26x_core.specs.Plan.{is_dropped};
 ghost use Rattle.h26x_core.specs.Rival.{TakesFewestFragments};
 ghost use Rattle.h26x_core.specs.Loss.{LossStaysWithin};
-ghost use Rattle.h26x_core.specs.Facts.{HeadersTakeRoom, ReadsWhatItWrites, FitsLimits, SetsLeaveRoom, ExtraTells, KnowsKeyUnits, KeyUnitsAreOther};
+ghost use Rattle.h26x_core.specs.Facts.{IsPayloadFormat};
 ghost use Rattle.h264_payload.specs.H264.{h264, read};
 ghost use Rattle.h264_payload.specs.Reading.{IsReading};
 
@@ -17,13 +17,7 @@ pub fn one_reading()
 
 /// The format meets the facts on which the laws of every format stand.
 pub fn meets_the_facts()
-    ensures headers { HeadersTakeRoom h264 }
-    ensures reads { ReadsWhatItWrites h264 }
-    ensures limits { FitsLimits h264 }
-    ensures sets { SetsLeaveRoom h264 }
-    ensures extra { ExtraTells h264 }
-    ensures detects { KnowsKeyUnits h264 }
-    ensures other { KeyUnitsAreOther h264 }
+    ensures { IsPayloadFormat h264 }
 {}
 
 /// From limit 3 on only sets are dropped for size.

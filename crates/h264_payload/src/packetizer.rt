@@ -8,7 +8,7 @@ ghost use Rattle.h26x_core.specs.Limit.{AreWithin};
 ghost use Rattle.h26x_core.specs.H264Unit.{kind};
 ghost use Rattle.h26x_core.specs.Group.{split, sets_of};
 ghost use Rattle.h26x_core.specs.Packets.{packets};
-ghost use Rattle.h26x_core.specs.Waits.{entries_at, sets_waiting, waits_after, items_now, plan_with, waits_after_all, none_waiting};
+ghost use Rattle.h26x_core.specs.Waits.{AreSets, entries_at, sets_waiting, waits_after, items_now, plan_with, waits_after_all, none_waiting};
 ghost use Rattle.h26x_core.specs.Plan.{plan, items_alone};
 ghost use Rattle.h264_payload.specs.H264.{h264, sets_fit, sets_packet};
 ghost use Rattle.h264_payload.specs.Sending.{unit_kind, listed, newest, waiting_with, is_skipped, are_skipped, items_due, packets_sent, entries_of_payload};
@@ -260,6 +260,13 @@ impl H264Packetizer {
             pps: None,
             alloc,
         }
+    }
+
+    /// A law of every packetizer: of each kind no set waits, or one of this kind.
+    pub fn waits_for_sets(&self)
+        ensures { AreSets h264 self.now }
+    {
+        let _ = &self.sps;
     }
 
     /// A packetizer for which the same sets wait. `OutOfMemory` is its only error.

@@ -1,19 +1,21 @@
 -- H.265 meets the facts that the laws of every format ask.
-use Rattle.std.proofs.Common.{◌≡◌, ℕ, zero, suc, ◌+◌, ◌*◌, ◌≤◌, min, Bool, true, false, cond, eqb, List, [], ◌∷◌, ◌++◌, length, map, take, drop, Option, refl, arith}
+use Rattle.std.proofs.Common.{◌≡◌, ℕ, zero, suc, ◌+◌, ◌*◌, ◌%◌, ◌≤◌, Bool, true, false, cond, eqb, List, [], ◌∷◌, ◌++◌, length, map, take, drop, Option, refl, arith}
 use Rattle.std.specs.Prelude.{IsTrue, ◌&&◌, nat_le}
 use Rattle.std.specs.List.{list_any, prefix_len, AllByRecursion}
 use Rattle.std.proofs.lemmas.Bool.{and_parts}
 use Rattle.std.proofs.lemmas.Bool.Decides.{nat_tests}
+use Rattle.std.proofs.Math.Nat.{mod-mod}
 use Rattle.h26x_core.specs.Word.{field, is_set}
 use Rattle.h26x_core.specs.Kind.{is_other}
 use Rattle.h26x_core.specs.H265Unit.{type_of, kind_of_type, is_key, is_key_type}
 use Rattle.h26x_core.specs.Reading.{Reading, Fragment, unnumbered, single_of}
 use Rattle.h26x_core.specs.Packets.{single}
 use Rattle.h26x_core.specs.Pieces.{pieces_of}
-use Rattle.h26x_core.specs.Facts.{HeadersTakeRoom, ReadsWhatItWrites, FitsLimits, SetsLeaveRoom, ExtraTells, KnowsKeyUnits, KeyUnitsAreOther}
+use Rattle.h26x_core.specs.Facts.{HeadersTakeRoom, ReadsWhatItWrites, FitsLimits, MarksFragments, SetsLeaveRoom, ExtraTells, KnowsKeyUnits, KeyUnitsAreOther, IsPayloadFormat}
+use Rattle.h26x_core.proofs.HeaderLemmas.{start_back, end_back}
 use Rattle.h26x_core.proofs.PieceLemmas.{pieces_back}
 use Rattle.h265_payload.specs.H265.{h265, carries, read, fragment_header, fragment_of, aggregate_of, paci_of, paci_behind, two_or_more, units_from, sets_fit, sets_packet, detects}
-use Rattle.h265_payload.proofs.HeaderLemmas.{of_carried, fragment_bytes}
+use Rattle.h265_payload.proofs.HeaderLemmas.{of_carried, fragment_bytes, type_fits}
 use Rattle.h265_payload.proofs.ReadBackLemmas.{carried_long, single_back, fragment_back}
 use Rattle.h265_payload.proofs.SetsLemmas.{fit_within, sets_short, sets_within, sets_back, room_of-cons}
 
@@ -98,7 +100,7 @@ reads_what_it_writes numbered = record {
   header = λ unit h. (let l = carried_long unit h in omega (arith, l));
   single = single_back numbered;
   fragment = fragment_back numbered;
-  sets = λ n mtu sets unit fit two carried h. sets_back numbered n mtu sets unit fit two h;
+  sets = λ n limit sets unit is fit two carried h. sets_back numbered n limit sets unit (is refl) fit two h;
 }
 
 -- a fragment's header has three bytes at most
@@ -164,11 +166,11 @@ no_key (suc n) [] all = refl
 no_key (suc n) (set ∷ sets) (here, others) = rw here (no_key n sets others)
 
 -- an aggregate of sets without numbers is not detected
-sets_undetected : (n mtu : ℕ) (sets : List (List ℕ)) (unit : List ℕ) → sets_fit false (min mtu 1200) sets ≡ true → IsTrue (carries unit) →
+sets_undetected : (n limit : ℕ) (sets : List (List ℕ)) (unit : List ℕ) → limit ≤ 65535 → sets_fit false limit sets ≡ true → IsTrue (carries unit) →
     AllByRecursion (λ set. is_key set ≡ false) sets → detects (sets_packet false n sets unit) ≡ false
-sets_undetected n mtu [] unit fit h all = refl
-sets_undetected n mtu (set ∷ sets) unit fit h all = of_carried (λ unit. detects (sets_packet false n (set ∷ sets) unit) ≡ false)
-    (λ high low b unit c. rw (c.sets_type, pieces_back (set ∷ sets) (sets_short false mtu (set ∷ sets) fit))
+sets_undetected n limit [] unit small fit h all = refl
+sets_undetected n limit (set ∷ sets) unit small fit h all = of_carried (λ unit. detects (sets_packet false n (set ∷ sets) unit) ≡ false)
+    (λ high low b unit c. rw (c.sets_type, pieces_back (set ∷ sets) (sets_short false limit (set ∷ sets) small fit))
     (no_key (prefix_len (λ piece. nat_le 2 (length piece)) (set ∷ sets)) (set ∷ sets) all))
     unit h
 
@@ -177,10 +179,44 @@ pub knows_key_units : (numbered : Bool) → KnowsKeyUnits (h265 numbered)
 knows_key_units true = record {
   single = single_detected true;
   fragment = fragment_detected;
-  sets = λ n mtu sets unit none. absurd cc;
+  sets = λ n limit sets unit none. absurd cc;
 }
 knows_key_units false = record {
   single = single_detected false;
   fragment = fragment_detected;
-  sets = λ n mtu sets unit none fit carried h all. sets_undetected n mtu sets unit fit h all;
+  sets = λ n limit sets unit none is fit carried h all. sets_undetected n limit sets unit (is refl) fit h all;
+}
+
+-- a fragment bears its marks in its third byte
+marks_fragments : (numbered : Bool) → MarksFragments (h265 numbered)
+marks_fragments numbered [] behind start end header = absurd (omega arith)
+marks_fragments numbered (high ∷ []) behind start end header = absurd (omega arith)
+marks_fragments numbered (high ∷ low ∷ unit) behind start end header = (start_back start end (type_of high) (type_fits high), end_back start end (type_of high) (type_fits high))
+
+-- a number counts by its two bytes
+two_bytes : (numbered : Bool) (n : ℕ) (sets : List (List ℕ)) (unit : List ℕ) → sets_packet numbered (n % 65536) sets unit ≡ sets_packet numbered n sets unit
+two_bytes numbered n [] unit = refl
+two_bytes numbered n (set ∷ sets) [] = refl
+two_bytes numbered n (set ∷ sets) (high ∷ []) = refl
+two_bytes numbered n (set ∷ sets) (high ∷ low ∷ unit) = rw (mod-mod n 65536) refl
+
+-- where packets bear none it doesn't count
+no_number : (numbered : Bool) → numbered ≡ false → (n m : ℕ) (sets : List (List ℕ)) (unit : List ℕ) → sets_packet numbered n sets unit ≡ sets_packet numbered m sets unit
+no_number numbered none n m [] unit = refl
+no_number numbered none n m (set ∷ sets) [] = refl
+no_number numbered none n m (set ∷ sets) (high ∷ []) = refl
+no_number numbered none n m (set ∷ sets) (high ∷ low ∷ unit) = rw none refl
+
+-- the format meets all facts, with and without numbers
+pub is_payload_format : (numbered : Bool) → IsPayloadFormat (h265 numbered)
+is_payload_format numbered = record {
+  headers = headers_take_room numbered;
+  reads = reads_what_it_writes numbered;
+  limits = fits_limits numbered;
+  marks = marks_fragments numbered;
+  sets = sets_leave_room numbered;
+  extra = extra_tells numbered;
+  detects = knows_key_units numbered;
+  other = key_units_are_other numbered;
+  numbers = record { sets = two_bytes numbered; none = no_number numbered };
 }

@@ -14,7 +14,7 @@ clear_as : (b type : ℕ) → b < 128 → type < 64 → is_set (with_type_and_f 
 clear_as b type h fits = grind (arith, nat_tests)
 
 -- a type has six bits
-type_fits : (high : ℕ) → type_of high < 64
+pub type_fits : (high : ℕ) → type_of high < 64
 type_fits high = omega arith
 
 -- the byte behind a fragment's header

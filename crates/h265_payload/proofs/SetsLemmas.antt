@@ -31,8 +31,8 @@ each_short most [] h k = tt
 each_short most (set ∷ sets) h k = let e = room_of-cons set sets in (omega (arith, e), each_short most sets (omega (arith, e)) k)
 
 -- two bytes hold the length of each set that fits at a call's limit
-pub sets_short : (numbered : Bool) (mtu : ℕ) (sets : List (List ℕ)) → sets_fit numbered (min mtu 1200) sets ≡ true → AllByRecursion (λ set. length set < 65536) sets
-sets_short numbered mtu sets fit = let w = fit_within numbered (min mtu 1200) sets fit in each_short 1200 sets (omega (arith, w)) (omega arith)
+pub sets_short : (numbered : Bool) (limit : ℕ) (sets : List (List ℕ)) → limit ≤ 65535 → sets_fit numbered limit sets ≡ true → AllByRecursion (λ set. length set < 65536) sets
+sets_short numbered limit sets small fit = let w = fit_within numbered limit sets fit in each_short limit sets (omega (arith, w)) (omega arith)
 
 -- the further sets take one byte more each where they bear numbers
 pub further_long : (numbered : Bool) (sets : List (List ℕ)) → length (flat_map (further numbered) sets) ≡ cond numbered (length sets) 0 + room_of sets
@@ -107,7 +107,7 @@ aggregate_read true n (set ∷ second ∷ sets) high low b unit c two short =
     rw (c.sets_clear, c.sets_type, number_back n) (ap two_or_more (units_back n set (second ∷ sets) short))
 
 -- two sets or more that fit an aggregate are read back with their numbers
-pub sets_back : (numbered : Bool) (n mtu : ℕ) (sets : List (List ℕ)) (unit : List ℕ) → sets_fit numbered (min mtu 1200) sets ≡ true → 2 ≤ length sets →
+pub sets_back : (numbered : Bool) (n limit : ℕ) (sets : List (List ℕ)) (unit : List ℕ) → limit ≤ 65535 → sets_fit numbered limit sets ≡ true → 2 ≤ length sets →
     IsTrue (carries unit) → read numbered (sets_packet numbered n sets unit) ≡ Aggregate (numbered_from (h265 numbered) n sets)
-sets_back numbered n mtu sets unit fit two h = of_carried (λ unit. read numbered (sets_packet numbered n sets unit) ≡ Aggregate (numbered_from (h265 numbered) n sets))
-    (λ high low b unit c. aggregate_read numbered n sets high low b unit c two (sets_short numbered mtu sets fit)) unit h
+sets_back numbered n limit sets unit small fit two h = of_carried (λ unit. read numbered (sets_packet numbered n sets unit) ≡ Aggregate (numbered_from (h265 numbered) n sets))
+    (λ high low b unit c. aggregate_read numbered n sets high low b unit c two (sets_short numbered limit sets small fit)) unit h

@@ -1,5 +1,5 @@
 -- The payload format of H.265 (RFC 7798), with and without decoding order numbers.
-use Rattle.std.specs.Prelude.{ℕ, zero, suc, ◌+◌, ◌*◌, ◌%◌, nat_le, nat_lt, min, Bool, true, false, ◌&&◌, ◌||◌, ◌==◌, if◌then◌else◌, List, [], ◌∷◌, ◌++◌, length, map, take, drop, take_while, Option, Some, None}
+use Rattle.std.specs.Prelude.{ℕ, zero, suc, ◌+◌, ◌*◌, ◌%◌, nat_le, nat_lt, Bool, true, false, ◌&&◌, ◌||◌, ◌==◌, if◌then◌else◌, List, [], ◌∷◌, ◌++◌, length, map, take, drop, take_while, Option, Some, None}
 use Rattle.std.specs.List.{flat_map, list_any, sum_by}
 use Rattle.h26x_core.specs.declared.extra.CodecExtra.{CodecExtra}
 use Rattle.h26x_core.specs.declared.extra.CodecExtra.TheVariants as extras
@@ -121,8 +121,8 @@ h265 numbered = record {
   units = units_of All;
   kind = kind;
   is_key = is_key;
-  limit = λ mtu. min mtu 1200;
   least_mtu = 4;
+  sized = true;
   header_len = 2;
   numbered = numbered;
   sets_fit = sets_fit numbered;

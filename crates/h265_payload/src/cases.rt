@@ -5,7 +5,7 @@ ghost use Rattle.std.specs.List.{range_with_len};
 ghost use Rattle.h26x_core.specs.declared.error.PacketError.TheVariants.{ErrShortPacket, ErrH265CorruptedPacket};
 ghost use Rattle.h26x_core.specs.declared.extra.CodecExtra.TheVariants as extras;
 ghost use Rattle.h26x_core.specs.Reading.{Single, Aggregate, Refused};
-ghost use Rattle.h26x_core.specs.Calls.{packets_of, packets_of_payload};
+ghost use Rattle.h26x_core.specs.Calls.{call_at, packets_of, packets_of_payload};
 ghost use Rattle.h26x_core.specs.Received.{received};
 ghost use Rattle.h26x_core.specs.Text.{annex_b, text};
 ghost use Rattle.h26x_core.specs.Extra.{extra_after};
@@ -32,9 +32,9 @@ pub fn large_mtu()
 /// data, and one of three fits; at 6 the first fragment bears the number and one byte. A dropped unit takes no number.
 pub fn numbers_take_room()
     ensures { packets_of (h265 true) 0 (
-        record { mtu = 5; payload = 0x02 ∷ 0x01 ∷ 0xaa ∷ 0xbb ∷ [] } ∷
-        record { mtu = 5; payload = 0x02 ∷ 0x01 ∷ 0xaa ∷ [] } ∷
-        record { mtu = 6; payload = 0x02 ∷ 0x01 ∷ 0xaa ∷ 0xbb ∷ 0xcc ∷ [] } ∷ [])
+        call_at 5 (0x02 ∷ 0x01 ∷ 0xaa ∷ 0xbb ∷ []) ∷
+        call_at 5 (0x02 ∷ 0x01 ∷ 0xaa ∷ []) ∷
+        call_at 6 (0x02 ∷ 0x01 ∷ 0xaa ∷ 0xbb ∷ 0xcc ∷ []) ∷ [])
         ≡ (0x02 ∷ 0x01 ∷ 0x00 ∷ 0x00 ∷ 0xaa ∷ []) ∷
         (0x62 ∷ 0x01 ∷ 0x81 ∷ 0x00 ∷ 0x01 ∷ 0xaa ∷ []) ∷ (0x62 ∷ 0x01 ∷ 0x41 ∷ 0xbb ∷ 0xcc ∷ []) ∷ [] }
 {}
@@ -187,9 +187,9 @@ pub fn refusals_within_a_run()
 /// Where a set was dropped for its size, what was sent is not what is sent of it again: the other set waits.
 pub fn sets_sent_again()
     ensures first { packets_of (h265 false) 0 (
-        record { mtu = 4; payload = 0x42 ∷ 0x01 ∷ 0x01 ∷ 0x02 ∷ 0x03 ∷ [] } ∷
-        record { mtu = 4; payload = 0x44 ∷ 0x01 ∷ 0xc1 ∷ [] } ∷
-        record { mtu = 4; payload = 0x02 ∷ 0x01 ∷ 0xaa ∷ [] } ∷ [])
+        call_at 4 (0x42 ∷ 0x01 ∷ 0x01 ∷ 0x02 ∷ 0x03 ∷ []) ∷
+        call_at 4 (0x44 ∷ 0x01 ∷ 0xc1 ∷ []) ∷
+        call_at 4 (0x02 ∷ 0x01 ∷ 0xaa ∷ []) ∷ [])
         ≡ (0x44 ∷ 0x01 ∷ 0xc1 ∷ []) ∷ (0x02 ∷ 0x01 ∷ 0xaa ∷ []) ∷ [] }
     ensures again { packets_of_payload (h265 false) 4 (annex_b ((0x44 ∷ 0x01 ∷ 0xc1 ∷ []) ∷ (0x02 ∷ 0x01 ∷ 0xaa ∷ []) ∷ []))
         ≡ (0x02 ∷ 0x01 ∷ 0xaa ∷ []) ∷ [] }

@@ -5,7 +5,7 @@ ghost use Rattle.h26x_core.specs.Reading.{Reading};
 ghost use Rattle.h26x_core.specs.Plan.{is_dropped};
 ghost use Rattle.h26x_core.specs.Rival.{TakesFewestFragments};
 ghost use Rattle.h26x_core.specs.Loss.{LossStaysWithin};
-ghost use Rattle.h26x_core.specs.Facts.{HeadersTakeRoom, ReadsWhatItWrites, FitsLimits, SetsLeaveRoom, ExtraTells, KnowsKeyUnits, KeyUnitsAreOther};
+ghost use Rattle.h26x_core.specs.Facts.{IsPayloadFormat};
 ghost use Rattle.h265_payload.specs.H265.{h265, read};
 ghost use Rattle.h265_payload.specs.Reading.{IsReading};
 
@@ -17,13 +17,7 @@ pub fn one_reading()
 
 /// The format meets the facts on which the laws of every format stand.
 pub fn meets_the_facts()
-    ensures headers { (numbered : Bool) → HeadersTakeRoom (h265 numbered) }
-    ensures reads { (numbered : Bool) → ReadsWhatItWrites (h265 numbered) }
-    ensures limits { (numbered : Bool) → FitsLimits (h265 numbered) }
-    ensures sets { (numbered : Bool) → SetsLeaveRoom (h265 numbered) }
-    ensures extra { (numbered : Bool) → ExtraTells (h265 numbered) }
-    ensures detects { (numbered : Bool) → KnowsKeyUnits (h265 numbered) }
-    ensures other { (numbered : Bool) → KeyUnitsAreOther (h265 numbered) }
+    ensures { (numbered : Bool) → IsPayloadFormat (h265 numbered) }
 {}
 
 /// From limit 4 on, 6 with numbers, only sets are dropped for size.

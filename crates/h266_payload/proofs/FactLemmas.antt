@@ -1,22 +1,24 @@
 -- What H.266's format is asked for: room for headers, limits, the extra, and key units.
-use Rattle.std.proofs.Common.{◌≡◌, ℕ, ◌+◌, ◌*◌, ◌≤◌, Bool, true, false, cond, List, [], ◌∷◌, ◌++◌, length, Option, Some, None, refl, ap, ⊎_elim, arith, length-append}
-use Rattle.std.specs.Prelude.{IsTrue, ◌&&◌, ◌==◌, nat_le, min, Result, Ok, Err, take_while}
+use Rattle.std.proofs.Common.{◌≡◌, ℕ, ◌+◌, ◌*◌, ◌%◌, ◌≤◌, Bool, true, false, cond, List, [], ◌∷◌, ◌++◌, length, Option, Some, None, refl, ap, ⊎_elim, arith, length-append}
+use Rattle.std.specs.Prelude.{IsTrue, ◌&&◌, ◌==◌, nat_le, Result, Ok, Err, take_while}
 use Rattle.std.specs.List.{flat_map, sum_by, list_any, AllByRecursion}
 use Rattle.std.proofs.lemmas.List.Sums.{take_while-cons}
 use Rattle.std.proofs.lemmas.Bool.{cond_both}
 use Rattle.std.proofs.lemmas.Bool.Decides.{nat_tests}
+use Rattle.std.proofs.Math.Nat.{mod-mod}
 use Rattle.h26x_core.specs.Word.{is_set}
 use Rattle.h26x_core.specs.Kind.{is_other}
 use Rattle.h26x_core.specs.H266Unit.{type_of, kind_of_type, is_key, is_key_type}
 use Rattle.h26x_core.specs.Reading.{Fragment, Refused, single_of}
 use Rattle.h26x_core.specs.Packets.{single}
 use Rattle.h26x_core.specs.Pieces.{piece}
-use Rattle.h26x_core.specs.Facts.{HeadersTakeRoom, ReadsWhatItWrites, FitsLimits, SetsLeaveRoom, ExtraTells, KnowsKeyUnits, KeyUnitsAreOther}
+use Rattle.h26x_core.specs.Facts.{HeadersTakeRoom, ReadsWhatItWrites, FitsLimits, MarksFragments, SetsLeaveRoom, ExtraTells, KnowsKeyUnits, KeyUnitsAreOther, IsPayloadFormat}
 use Rattle.h26x_core.specs.declared.error.PacketError.{PacketError}
 use Rattle.h26x_core.specs.declared.error.PacketError.TheVariants.{ErrH266CorruptedPacket}
+use Rattle.h26x_core.proofs.HeaderLemmas.{start_back, end_back}
 use Rattle.h26x_core.proofs.PieceLemmas.{pieces_back, pieces_long}
 use Rattle.h266_payload.specs.H266.{h266, carries, sets_fit, sets_packet, fragment_header, fragment_of, aggregate_of, two_or_more, units_within, detects}
-use Rattle.h266_payload.proofs.HeaderLemmas.{pick, carried_header, fragment_bytes}
+use Rattle.h266_payload.proofs.HeaderLemmas.{pick, carried_header, fragment_bytes, type_fits}
 use Rattle.h266_payload.proofs.ReadBackLemmas.{header_there, single_back, fragment_back}
 use Rattle.h266_payload.proofs.SetsLemmas.{sets_back, sets_type, fitting_short}
 
@@ -73,7 +75,12 @@ headers_take_room numbered (high ∷ low ∷ b ∷ rest) head body start end num
 
 -- what is written is read back
 pub reads_what_it_writes : (numbered : Bool) → ReadsWhatItWrites (h266 numbered)
-reads_what_it_writes numbered = record { header = header_there; single = single_back numbered; fragment = fragment_back numbered; sets = sets_back numbered }
+reads_what_it_writes numbered = record {
+  header = header_there;
+  single = single_back numbered;
+  fragment = fragment_back numbered;
+  sets = λ n limit sets unit is. sets_back numbered n limit sets unit (is refl);
+}
 
 -- a fragment's header has three bytes at most
 header_long : (unit : List ℕ) (start end : Bool) → length (fragment_header unit start end) ≤ 3
@@ -143,22 +150,22 @@ none_key (set ∷ sets) (here, later) =
     ])
 
 -- an aggregate of sets without numbers is not detected
-sets_detected : (n mtu : ℕ) (sets : List (List ℕ)) (unit : List ℕ) → sets_fit false (min mtu 1200) sets ≡ true →
+sets_detected : (n limit : ℕ) (sets : List (List ℕ)) (unit : List ℕ) → limit ≤ 65535 → sets_fit false limit sets ≡ true →
     AllByRecursion (λ set. is_key set ≡ false) sets → detects (sets_packet false n sets unit) ≡ false
-sets_detected n mtu sets unit fit each =
-    rw (sets_type sets, pieces_back sets (fitting_short false mtu sets fit)) (none_key sets each)
+sets_detected n limit sets unit small fit each =
+    rw (sets_type sets, pieces_back sets (fitting_short false limit sets small fit)) (none_key sets each)
 
 -- packets tell whether they hold or begin a key unit
 pub knows_key_units : (numbered : Bool) → KnowsKeyUnits (h266 numbered)
 knows_key_units false = record {
   single = single_detected false;
   fragment = fragment_detected;
-  sets = λ n mtu sets unit plain fit carried one each. sets_detected n mtu sets unit fit each;
+  sets = λ n limit sets unit plain is fit carried one each. sets_detected n limit sets unit (is refl) fit each;
 }
 knows_key_units true = record {
   single = single_detected true;
   fragment = fragment_detected;
-  sets = λ n mtu sets unit plain fit carried one each. absurd cc;
+  sets = λ n limit sets unit plain is fit carried one each. absurd cc;
 }
 
 -- a key type is neither a parameter set's nor one that is skipped
@@ -177,3 +184,31 @@ pub key_units_are_other : (numbered : Bool) → KeyUnitsAreOther (h266 numbered)
 key_units_are_other numbered [] e = absurd cc
 key_units_are_other numbered (high ∷ []) e = absurd cc
 key_units_are_other numbered (high ∷ low ∷ unit) e = key_type_other (type_of low) e
+
+-- a fragment bears its marks in its third byte
+marks_fragments : (numbered : Bool) → MarksFragments (h266 numbered)
+marks_fragments numbered [] behind start end header = absurd (omega arith)
+marks_fragments numbered (high ∷ []) behind start end header = absurd (omega arith)
+marks_fragments numbered (high ∷ low ∷ unit) behind start end header = (start_back start end (type_of low) (type_fits low), end_back start end (type_of low) (type_fits low))
+
+-- a number counts by its two bytes
+two_bytes : (numbered : Bool) (n : ℕ) (sets : List (List ℕ)) (unit : List ℕ) → sets_packet numbered (n % 65536) sets unit ≡ sets_packet numbered n sets unit
+two_bytes numbered n sets unit = rw (mod-mod n 65536) refl
+
+-- where packets bear none it doesn't count
+no_number : (numbered : Bool) → numbered ≡ false → (n m : ℕ) (sets : List (List ℕ)) (unit : List ℕ) → sets_packet numbered n sets unit ≡ sets_packet numbered m sets unit
+no_number numbered none n m sets unit = rw none refl
+
+-- the format meets all facts, with and without numbers
+pub is_payload_format : (numbered : Bool) → IsPayloadFormat (h266 numbered)
+is_payload_format numbered = record {
+  headers = headers_take_room numbered;
+  reads = reads_what_it_writes numbered;
+  limits = fits_limits numbered;
+  marks = marks_fragments numbered;
+  sets = sets_leave_room numbered;
+  extra = extra_tells numbered;
+  detects = knows_key_units numbered;
+  other = key_units_are_other numbered;
+  numbers = record { sets = two_bytes numbered; none = no_number numbered };
+}

@@ -18,7 +18,7 @@ type_below : (low : ℕ) → type_of low < 32
 type_below low = omega arith
 
 -- so it is below 64 too
-type_fits : (low : ℕ) → type_of low < 64
+pub type_fits : (low : ℕ) → type_of low < 64
 type_fits low = omega arith
 
 -- what a fragment's header says of the unit with this low byte

@@ -26,11 +26,11 @@ each_short most (set ∷ sets) short =
     (omega (arith, l, whole), each_short most sets (omega (arith, l, whole)))
 
 -- sets that fit a call's packet are short
-pub fitting_short : (numbered : Bool) (mtu : ℕ) (sets : List (List ℕ)) → sets_fit numbered (min mtu 1200) sets ≡ true → AllByRecursion (λ set. length set < 65536) sets
-fitting_short numbered mtu sets fit =
+pub fitting_short : (numbered : Bool) (limit : ℕ) (sets : List (List ℕ)) → limit ≤ 65535 → sets_fit numbered limit sets ≡ true → AllByRecursion (λ set. length set < 65536) sets
+fitting_short numbered limit sets small fit =
     let h = pieces_long sets in
-    let most : 2 + cond numbered 2 0 + sum_by (λ (set : List ℕ). 2 + length set) sets ≤ min mtu 1200 = grind (arith, nat_tests) in
-    each_short 65536 sets (omega (arith, h, most))
+    let most : 2 + cond numbered 2 0 + sum_by (λ (set : List ℕ). 2 + length set) sets ≤ limit = grind (arith, nat_tests) in
+    each_short 65536 sets (omega (arith, h, most, small))
 
 -- no carried unit has F set
 unmarked : (unit : List ℕ) → IsTrue (carries unit) → has_forbidden_bit unit ≡ false
@@ -122,22 +122,22 @@ sets_read numbered sets bytes some carried =
     (sets_clear numbered sets carried) (sets_type sets)
 
 -- sets that fit one packet at a call's limit are found again behind their lengths
-sets_found : (numbered : Bool) (mtu : ℕ) (sets : List (List ℕ)) → sets_fit numbered (min mtu 1200) sets ≡ true → AreCarried (h266 numbered) sets →
+sets_found : (numbered : Bool) (limit : ℕ) (sets : List (List ℕ)) → limit ≤ 65535 → sets_fit numbered limit sets ≡ true → AreCarried (h266 numbered) sets →
     units_within (length (flat_map piece sets)) (flat_map piece sets) ≡ Ok sets
-sets_found numbered mtu sets fit carried = sets_within numbered (length (flat_map piece sets)) sets (omega arith) (fitting_short numbered mtu sets fit) carried
+sets_found numbered limit sets small fit carried = sets_within numbered (length (flat_map piece sets)) sets (omega arith) (fitting_short numbered limit sets small fit) carried
 
 -- sets that fit one packet at a call's limit are read back from it
-pub sets_back : (numbered : Bool) (n mtu : ℕ) (sets : List (List ℕ)) (unit : List ℕ) → sets_fit numbered (min mtu 1200) sets ≡ true → 2 ≤ length sets →
+pub sets_back : (numbered : Bool) (n limit : ℕ) (sets : List (List ℕ)) (unit : List ℕ) → limit ≤ 65535 → sets_fit numbered limit sets ≡ true → 2 ≤ length sets →
     AreCarried (h266 numbered) sets → IsTrue (carries unit) → read numbered (sets_packet numbered n sets unit) ≡ Aggregate (numbered_from (h266 numbered) n sets)
-sets_back numbered n mtu [] unit fit two carried one = absurd (omega arith)
-sets_back numbered n mtu (first ∷ []) unit fit two carried one = absurd (omega arith)
-sets_back false n mtu (first ∷ second ∷ sets) unit fit two carried one =
+sets_back numbered n limit [] unit small fit two carried one = absurd (omega arith)
+sets_back numbered n limit (first ∷ []) unit small fit two carried one = absurd (omega arith)
+sets_back false n limit (first ∷ second ∷ sets) unit small fit two carried one =
     let all = first ∷ second ∷ sets in
     sets_read false all (flat_map piece all) (omega arith) carried
-    ∙ two_read None (flat_map piece all) first second sets (sets_found false mtu all fit carried)
+    ∙ two_read None (flat_map piece all) first second sets (sets_found false limit all small fit carried)
     ∙ ap Aggregate (plain_numbers n all)
-sets_back true n mtu (first ∷ second ∷ sets) unit fit two carried one =
+sets_back true n limit (first ∷ second ∷ sets) unit small fit two carried one =
     let all = first ∷ second ∷ sets in
     sets_read true all (word (n % 65536) ++ flat_map piece all) (omega arith) carried
-    ∙ two_read (Some (n % 65536 / 256 % 256 * 256 + n % 65536 % 256)) (flat_map piece all) first second sets (sets_found true mtu all fit carried)
+    ∙ two_read (Some (n % 65536 / 256 % 256 * 256 + n % 65536 % 256)) (flat_map piece all) first second sets (sets_found true limit all small fit carried)
     ∙ ap Aggregate (rw (number_back n) (borne_numbers n all))

@@ -6,7 +6,7 @@ ghost use Rattle.h26x_core.specs.Reading.{Aggregate, Refused};
 ghost use Rattle.h26x_core.specs.Received.{received};
 ghost use Rattle.h26x_core.specs.Text.{annex_b};
 ghost use Rattle.h26x_core.specs.Extra.{extra_after};
-ghost use Rattle.h26x_core.specs.Calls.{packets_of, packets_of_payload};
+ghost use Rattle.h26x_core.specs.Calls.{call_at, packets_of, packets_of_payload};
 ghost use Rattle.h266_payload.specs.H266.{h266};
 
 use h26x_core::{CodecExtra, PacketError};
@@ -105,14 +105,14 @@ pub fn lengths_of_packets()
     ensures longest { map (λ packet. length packet) (packets_of_payload (h266 false) 5000 (0x00 ∷ 0x09 ∷ replicate 1199 0xaa)) ≡ 1200 ∷ 5 ∷ [] }
     ensures sixteen { length (packets_of_payload (h266 false) 200 (0x00 ∷ 0x49 ∷ replicate 2998 0xaa)) ≡ 16 }
     ensures sets { map (λ packet. length packet) (packets_of (h266 false) 0 (
-        record { mtu = 700; payload = 0x00 ∷ 0x79 ∷ replicate 598 0xaa } ∷
-        record { mtu = 700; payload = 0x00 ∷ 0x81 ∷ replicate 598 0xaa } ∷
-        record { mtu = 700; payload = 0x00 ∷ 0x39 ∷ replicate 48 0xaa } ∷ []))
+        call_at 700 (0x00 ∷ 0x79 ∷ replicate 598 0xaa) ∷
+        call_at 700 (0x00 ∷ 0x81 ∷ replicate 598 0xaa) ∷
+        call_at 700 (0x00 ∷ 0x39 ∷ replicate 48 0xaa) ∷ []))
         ≡ 600 ∷ 600 ∷ 50 ∷ [] }
     ensures delimiter { map (λ packet. length packet) (packets_of (h266 false) 0 (
-        record { mtu = 1200; payload = 0x00 ∷ 0xa1 ∷ replicate 2 0xaa } ∷
-        record { mtu = 1200; payload = 0x00 ∷ 0x01 ∷ replicate 6 0xaa } ∷
-        record { mtu = 1200; payload = 0x00 ∷ 0xc9 ∷ replicate 8 0xaa } ∷ []))
+        call_at 1200 (0x00 ∷ 0xa1 ∷ replicate 2 0xaa) ∷
+        call_at 1200 (0x00 ∷ 0x01 ∷ replicate 6 0xaa) ∷
+        call_at 1200 (0x00 ∷ 0xc9 ∷ replicate 8 0xaa) ∷ []))
         ≡ 8 ∷ 10 ∷ [] }
 {}
 
@@ -130,8 +130,8 @@ pub fn refusals_within_a_run()
 /// A zero at the end of a unit stays with it where it is sent again.
 pub fn sent_again()
     ensures first { packets_of (h266 false) 0 (
-        record { mtu = 100; payload = 0x00 ∷ 0x09 ∷ 0xaa ∷ 0x00 ∷ [] } ∷
-        record { mtu = 100; payload = 0x00 ∷ 0x11 ∷ 0xbb ∷ [] } ∷ [])
+        call_at 100 (0x00 ∷ 0x09 ∷ 0xaa ∷ 0x00 ∷ []) ∷
+        call_at 100 (0x00 ∷ 0x11 ∷ 0xbb ∷ []) ∷ [])
         ≡ (0x00 ∷ 0x09 ∷ 0xaa ∷ 0x00 ∷ []) ∷ (0x00 ∷ 0x11 ∷ 0xbb ∷ []) ∷ [] }
     ensures again { packets_of_payload (h266 false) 100 (annex_b ((0x00 ∷ 0x09 ∷ 0xaa ∷ 0x00 ∷ []) ∷ (0x00 ∷ 0x11 ∷ 0xbb ∷ []) ∷ []))
         ≡ (0x00 ∷ 0x09 ∷ 0xaa ∷ 0x00 ∷ []) ∷ (0x00 ∷ 0x11 ∷ 0xbb ∷ []) ∷ [] }

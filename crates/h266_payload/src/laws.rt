@@ -5,7 +5,7 @@ ghost use Rattle.h26x_core.specs.Reading.{Reading};
 ghost use Rattle.h26x_core.specs.Plan.{is_dropped};
 ghost use Rattle.h26x_core.specs.Rival.{TakesFewestFragments};
 ghost use Rattle.h26x_core.specs.Loss.{LossStaysWithin};
-ghost use Rattle.h26x_core.specs.Facts.{HeadersTakeRoom, ReadsWhatItWrites, FitsLimits, SetsLeaveRoom, ExtraTells, KnowsKeyUnits, KeyUnitsAreOther};
+ghost use Rattle.h26x_core.specs.Facts.{IsPayloadFormat};
 ghost use Rattle.h266_payload.specs.H266.{h266, read};
 ghost use Rattle.h266_payload.specs.Reading.{IsReading};
 
@@ -17,13 +17,7 @@ pub fn one_reading()
 
 /// The format meets the facts on which the laws of every format stand.
 pub fn meets_the_facts()
-    ensures headers { (numbered : Bool) → HeadersTakeRoom (h266 numbered) }
-    ensures reads { (numbered : Bool) → ReadsWhatItWrites (h266 numbered) }
-    ensures limits { (numbered : Bool) → FitsLimits (h266 numbered) }
-    ensures sets { (numbered : Bool) → SetsLeaveRoom (h266 numbered) }
-    ensures extra { (numbered : Bool) → ExtraTells (h266 numbered) }
-    ensures detects { (numbered : Bool) → KnowsKeyUnits (h266 numbered) }
-    ensures other { (numbered : Bool) → KeyUnitsAreOther (h266 numbered) }
+    ensures { (numbered : Bool) → IsPayloadFormat (h266 numbered) }
 {}
 
 /// From limit 4 on, 6 with numbers, only sets are dropped for size.

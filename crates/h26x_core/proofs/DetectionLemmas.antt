@@ -35,8 +35,8 @@ fragments_detected f n limit unit m knows carried count =
 
 -- an item's packets tell of its key unit
 item_detected : (f : Format) (n : ℕ) (item : Item) → KnowsKeyUnits f → ReadsWhatItWrites f → IsPlanned f item → IsDetected f n item
-item_detected f n (Together limit sets unit) knows sound (mtu, at, fit, two, carried, last, none_key) =
-    λ unnumbered. knows.sets n mtu sets unit unnumbered (ap (λ k. f.sets_fit k sets) (sym at) ∙ fit) carried last none_key
+item_detected f n (Together limit sets unit) knows sound (is, fit, two, carried, last, none_key) =
+    λ unnumbered. knows.sets n limit sets unit unnumbered is fit carried last none_key
 item_detected f n (Alone limit unit) knows sound (carried, kept) =
     elim (fits f limit unit) as (λ b. fits f limit unit ≡ b →
     map f.detects (cond b (single f n unit ∷ []) (fragments f n limit unit))

@@ -6,13 +6,13 @@ use Rattle.std.proofs.Math.ListN.{drop_of_length-le}
 use Rattle.std.proofs.lemmas.List.{append-nil, length-drop, length-take, take-append-drop, drop-drop, drop_at}
 use Rattle.std.proofs.lemmas.Bool.{leb-false}
 use Rattle.std.proofs.lemmas.Bool.Decides.{nat_tests}
-use Rattle.h26x_core.specs.Reading.{Fragment, is_start, is_end}
+use Rattle.h26x_core.specs.Reading.{Fragment}
 use Rattle.h26x_core.specs.Format.{Format, number, number_len}
 use Rattle.h26x_core.specs.Plan.{fits, is_dropped}
 use Rattle.h26x_core.specs.Packets.{fragment_count, fragmented, fragment_part, room, fragment}
 use Rattle.h26x_core.specs.Number.{number_borne}
-use Rattle.h26x_core.specs.Facts.{ReadsWhatItWrites}
-use Rattle.h26x_core.specs.Fragments.{fragment_data, AreFragments, ReadsFragments}
+use Rattle.h26x_core.specs.Facts.{ReadsWhatItWrites, MarksFragments}
+use Rattle.h26x_core.specs.Fragments.{fragment_data, AreFragments, ReadsFragments, AreMarked}
 use Rattle.h26x_core.proofs.FewestLemmas.{has_room}
 use Rattle.h26x_core.proofs.ReadBackLemmas.{Bounds, bounds, part_by_place, place_below}
 
@@ -132,10 +132,16 @@ first_not_last : (j count : ℕ) → 2 ≤ count → (eqb j 0 && eqb (j + 1) cou
 first_not_last zero count two = let more : eqb (0 + 1) count ≡ false = grind (arith, nat_tests) in more
 first_not_last (suc j) count two = let later : eqb (suc j) 0 ≡ false = grind (arith, nat_tests) in rw later refl
 
--- so none is read as both a start and an end
-pub start_is_not_end : (f : Format) → ReadsWhatItWrites f → (n limit : ℕ) (unit : List ℕ) → fits f limit unit ≡ false → is_dropped f limit unit ≡ false →
-    IsTrue (f.carries unit) → (j : ℕ) → j < fragment_count f limit unit →
-    (is_start (f.read (fragment f n limit unit j)) && is_end (f.read (fragment f n limit unit j))) ≡ false
-start_is_not_end f sound n limit unit unfit kept carried j h =
-    rw (reads_fragments f sound n limit unit unfit kept carried j h)
-    (first_not_last j (fragment_count f limit unit) (are_fragments f n limit unit unfit kept (sound.header unit carried)).two)
+-- the fragments of a unit bear their marks
+pub are_marked : (f : Format) → MarksFragments f → (n limit : ℕ) (unit : List ℕ) → fits f limit unit ≡ false → is_dropped f limit unit ≡ false → f.header_len ≤ length unit →
+    AreMarked f n limit unit
+are_marked f marks n limit unit unfit kept header =
+    let count = fragment_count f limit unit in
+    let two = (are_fragments f n limit unit unfit kept header).two in
+    let here = λ (j : ℕ). marks unit (fragment_part f n limit unit j) (eqb j 0) (eqb (j + 1) count) header in
+    record {
+      two = two;
+      start = λ j h. (here j).0;
+      end = λ j h. (here j).1;
+      apart = λ j h. rw ((here j).0, (here j).1) (first_not_last j count two);
+    }

@@ -11,7 +11,7 @@ pub mod PieceLemmas
 pub mod RunLemmas
 pub mod ReadBackLemmas
 pub mod LossLemmas
-pub mod TakenLemmas
+pub mod ExtraLemmas
 pub mod FragmentLemmas
 pub mod NumberLemmas
 pub mod DetectionLemmas
@@ -19,3 +19,7 @@ pub mod AcceptedLemmas
 pub mod SentLemmas
 pub mod SteadyLemmas
 pub mod PlaceLemmas
+pub mod SenderLemmas
+pub mod ReceiverLemmas
+pub mod EndLemmas
+pub mod RunLawLemmas

@@ -8,7 +8,7 @@ use Rattle.std.proofs.lemmas.List.{append-nil, append_assoc, reverse-append, rev
 use Rattle.std.proofs.lemmas.List.Concat.{flat_map-append}
 use Rattle.std.proofs.lemmas.Option.{slice_get_within, get_or_from_slice_get}
 use Rattle.h26x_core.specs.Reading.{Reading, Single, Aggregate, Fragment, Paci, Refused, is_start, is_end, head_of, body_of}
-use Rattle.h26x_core.specs.Received.{continued, run_after, named_by, units_with, open_run, units_of, units_after, received, received_back}
+use Rattle.h26x_core.specs.Received.{continued, run_after, named_by, units_with, open_run, units_of, units_after, received}
 use Rattle.h26x_core.specs.Run.{starts_at, ends_at, IsRun, unit_of_run, IsNamed, Brings, AreReceived}
 
 -- a run that may go on at a place: from the latest start before it, with no end since
@@ -279,17 +279,3 @@ only_received readings units h =
     let same = same_lists h.parts (parts_after [] readings) (h.long ∙ sym (parts_long [] readings))
     (λ i part other a b. one_brought readings i (slice_get readings i) part other (h.each i part a) (all_bring readings i other b)) in
     h.joined ∙ ap (flat_map (λ part. part)) same ∙ sym (parts_joined [] readings)
-
--- with the latest reading first, what readings bring after others
-back_after : (earlier readings : List Reading) → received_back (reverse readings ++ earlier) ≡ received_back earlier ++ units_after earlier readings
-back_after earlier [] = sym (append-nil (received_back earlier))
-back_after earlier (r ∷ readings) =
-    ap (λ (x : List Reading). received_back (x ++ earlier)) (reverse-append (r ∷ []) readings)
-    ∙ ap received_back (append_assoc (reverse readings) (r ∷ []) earlier)
-    ∙ back_after (r ∷ earlier) readings
-    ∙ append_assoc (received_back earlier) (units_of r earlier) (units_after (r ∷ earlier) readings)
-
--- so what is received is the same with the latest reading first
-pub received_from_back : (readings : List Reading) → received_back readings ≡ received (reverse readings)
-received_from_back readings =
-    ap received_back (sym (append-nil readings) ∙ ap (λ (x : List Reading). x ++ []) (sym (reverse-reverse readings))) ∙ back_after [] (reverse readings)

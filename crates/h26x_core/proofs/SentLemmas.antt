@@ -6,7 +6,7 @@ use Rattle.std.proofs.lemmas.Bool.{lt-leb, and_parts}
 use Rattle.std.proofs.lemmas.List.{length-map}
 use Rattle.h26x_core.specs.Kind.{Kind, Other, is_vps, is_sps, is_pps, is_other}
 use Rattle.h26x_core.specs.Text.{is_not_empty}
-use Rattle.h26x_core.specs.Format.{Format, number_len, fragment_header_len}
+use Rattle.h26x_core.specs.Format.{Format, IsLimit, number_len, fragment_header_len}
 use Rattle.h26x_core.specs.Group.{Entry, Group, completes, latest, sets_of, AreGroups}
 use Rattle.h26x_core.specs.Plan.{Item, Alone, Together, fits, is_dropped, items_alone, item_of, items_of_sets, units_of_item, plan, sent, KeepsLast}
 use Rattle.h26x_core.specs.Waits.{entries_at}
@@ -14,10 +14,10 @@ use Rattle.h26x_core.specs.Packets.{packets_of_item, packets}
 use Rattle.h26x_core.specs.Reading.{Reading}
 use Rattle.h26x_core.specs.Received.{units_after}
 use Rattle.h26x_core.specs.Loss.{kept, kept_packets, AreMasks, AreLeftOf}
-use Rattle.h26x_core.specs.Calls.{Call, entries_of_call, entries_of}
+use Rattle.h26x_core.specs.Calls.{Call, AreCalls, limit_of_call, entries_of_call, entries_of}
 use Rattle.h26x_core.specs.Facts.{AreCarried, SetsLeaveRoom, KeyUnitsAreOther, ReadsWhatItWrites, IsPlanned, CanSend}
 use Rattle.h26x_core.proofs.PlanLemmas.{tail, plan-tail, any-latest}
-use Rattle.h26x_core.proofs.LimitLemmas.{all_both, all_joined}
+use Rattle.h26x_core.proofs.LimitLemmas.{all_both}
 use Rattle.h26x_core.proofs.LossLemmas.{items_left}
 use Rattle.h26x_core.proofs.AgainLemmas.{other_is}
 
@@ -76,22 +76,31 @@ items_carried : (f : Format) (items : List Item) → AreCarried f (flat_map unit
 items_carried f [] h = tt
 items_carried f (item ∷ items) h = let (a, b) = all_parts (λ unit. IsTrue (f.carries unit)) (units_of_item item) (flat_map units_of_item items) h in (a, items_carried f items b)
 
--- an entry with the limit of a call
+-- an entry with a limit that a call can have
 abbrev pub IsOfCall : Format → Entry → Type 0
-IsOfCall f e = (mtu : ℕ) × (e.limit ≡ f.limit mtu)
+IsOfCall f e = IsLimit f e.limit
 
 -- the limits of a call's entries are the call's
-entries_at_of_call : (f : Format) (mtu : ℕ) (units : List (List ℕ)) → AllByRecursion (IsOfCall f) (entries_at (f.limit mtu) units)
-entries_at_of_call f mtu [] = tt
-entries_at_of_call f mtu (unit ∷ units) = ((mtu, refl), entries_at_of_call f mtu units)
+pub entries_at_of_call : (f : Format) (limit : ℕ) → IsLimit f limit → (units : List (List ℕ)) → AllByRecursion (IsOfCall f) (entries_at limit units)
+entries_at_of_call f limit is [] = tt
+entries_at_of_call f limit is (unit ∷ units) = (is, entries_at_of_call f limit is units)
+
+-- the limit of a call is one that a call can have
+is_limit : (f : Format) (call : Call) → call.largest ≤ 65535 → IsLimit f (limit_of_call f call)
+is_limit f call small sized = rw sized (omega arith)
+
+-- the entries of one call
+entries_of_one : (f : Format) (call : Call) → call.largest ≤ 65535 → AllByRecursion (IsOfCall f) (entries_of_call f call)
+entries_of_one f call small = elim (nat_lt call.mtu f.least_mtu) as (λ b. AllByRecursion (IsOfCall f) (cond b [] (entries_at (limit_of_call f call) (f.units call.payload)))) [
+  | true ↦ tt
+  | false ↦ entries_at_of_call f (limit_of_call f call) (is_limit f call small) (f.units call.payload)
+]
 
 -- the entries of calls have limits of calls
-entries_of_calls : (f : Format) (calls : List Call) → AllByRecursion (IsOfCall f) (entries_of f calls)
-entries_of_calls f calls = all_joined (IsOfCall f) (entries_of_call f) calls (λ call.
-    elim (nat_lt call.mtu f.least_mtu) as (λ b. AllByRecursion (IsOfCall f) (cond b [] (entries_at (f.limit call.mtu) (f.units call.payload)))) [
-      | true ↦ tt
-      | false ↦ entries_at_of_call f call.mtu (f.units call.payload)
-    ])
+pub entries_of_calls : (f : Format) (calls : List Call) → AreCalls calls → AllByRecursion (IsOfCall f) (entries_of f calls)
+entries_of_calls f [] small = tt
+entries_of_calls f (call ∷ calls) small =
+    all_both (IsOfCall f) (entries_of_call f call) (entries_of f calls) (entries_of_one f call small.0) (entries_of_calls f calls small.1)
 
 -- what is sent of a unit, and of an entry, if it is carried
 unit_planned : (f : Format) (limit : ℕ) (unit : List ℕ) → AllByRecursion (ItemIsCarried f) (items_alone f limit unit) → AllByRecursion (IsPlanned f) (items_alone f limit unit)
@@ -153,17 +162,17 @@ waiting_no_key f keys front =
     (latest_each P is_pps f (set_no_key f keys is_pps refl) front)
 
 -- the sets before the end of a group, together or each alone
-sets_planned : (f : Format) → SetsLeaveRoom f → KeyUnitsAreOther f → (front : List Entry) (e : Entry) → IsOfCall f e → completes f front e ≡ true →
+sets_planned : (f : Format) → SetsLeaveRoom f → KeyUnitsAreOther f → (front : List Entry) (e : Entry) → IsLimit f e.limit → completes f front e ≡ true →
     AllByRecursion (ItemIsCarried f) (items_of_sets f e.limit (sets_of f front) e.unit) → AllByRecursion (ItemIsCarried f) (item_of f e) →
     AllByRecursion (IsPlanned f) (items_of_sets f e.limit (sets_of f front) e.unit)
-sets_planned f roomy keys front e (mtu, same) done h end =
+sets_planned f roomy keys front e is done h end =
     let sets = sets_of f front in
     elim (f.sets_fit e.limit sets) as (λ b. f.sets_fit e.limit sets ≡ b →
     AllByRecursion (ItemIsCarried f) (cond b (Together e.limit sets e.unit ∷ []) (cond f.sets_go_alone (map (Alone e.limit) (filter (fits f e.limit) sets)) [])) →
     AllByRecursion (IsPlanned f) (cond b (Together e.limit sets e.unit ∷ []) (cond f.sets_go_alone (map (Alone e.limit) (filter (fits f e.limit) sets)) []))) [
       | true ↦ λ fit carried.
           let unit = sent_is_carried f e (ends_group f front e done).0 (end_kept f roomy front e done fit) end in
-          ((mtu, same, fit, two_wait f front e done, carried.0, unit, waiting_no_key f keys front), tt)
+          ((is, fit, two_wait f front e done, carried.0, unit, waiting_no_key f keys front), tt)
       | false ↦ λ _ carried. elim f.sets_go_alone as (λ g.
           AllByRecursion (ItemIsCarried f) (cond g (map (Alone e.limit) (filter (fits f e.limit) sets)) []) →
           AllByRecursion (IsPlanned f) (cond g (map (Alone e.limit) (filter (fits f e.limit) sets)) [])) [
@@ -200,15 +209,10 @@ entries_planned f roomy keys entries limits carried =
     subst (AllByRecursion (IsPlanned f)) (sym same)
     (tail_planned f roomy keys [] entries limits (subst (AllByRecursion (ItemIsCarried f)) same (items_carried f (plan f entries) carried)))
 
--- what is planned of calls whose units sent are carried
-pub calls_planned : (f : Format) → SetsLeaveRoom f → KeyUnitsAreOther f → (calls : List Call) → AreCarried f (sent f (entries_of f calls)) →
-    AllByRecursion (IsPlanned f) (plan f (entries_of f calls))
-calls_planned f roomy keys calls = entries_planned f roomy keys (entries_of f calls) (entries_of_calls f calls)
-
 -- by cases of an item
 item_can_send : (f : Format) → ReadsWhatItWrites f → (item : Item) → IsPlanned f item → CanSend f item
 item_can_send f sound (Alone limit unit) h = h
-item_can_send f sound (Together limit sets unit) (mtu, same, fit, two, carried, last, keys) = λ n. sound.sets n mtu sets unit (rw same at fit) two carried last
+item_can_send f sound (Together limit sets unit) (is, fit, two, carried, last, keys) = λ n. sound.sets n limit sets unit is fit two carried last
 
 -- what is planned can be sent
 pub can_send : (f : Format) → ReadsWhatItWrites f → (items : List Item) → AllByRecursion (IsPlanned f) items → AllByRecursion (CanSend f) items

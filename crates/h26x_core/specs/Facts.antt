@@ -1,9 +1,9 @@
 -- What the laws ask of a payload format. Each codec's format is proved to meet these facts.
-use Rattle.std.specs.Prelude.{◌≡◌, ℕ, ◌+◌, ◌<◌, ◌≤◌, nat_le, Bool, true, false, ◌&&◌, if◌then◌else◌, List, [], ◌++◌, length, take, Option, None, IsTrue}
+use Rattle.std.specs.Prelude.{◌≡◌, ℕ, ◌+◌, ◌%◌, ◌<◌, ◌≤◌, nat_le, Bool, true, false, ◌&&◌, if◌then◌else◌, List, [], ◌++◌, length, take, Option, None, IsTrue}
 use Rattle.std.specs.List.{AllByRecursion}
 use Rattle.h26x_core.specs.Kind.{is_other}
 use Rattle.h26x_core.specs.Reading.{Single, Aggregate, Fragment}
-use Rattle.h26x_core.specs.Format.{Format, number, number_len, fragment_header_len}
+use Rattle.h26x_core.specs.Format.{Format, IsLimit, bears_start, bears_end, number, number_len, fragment_header_len}
 use Rattle.h26x_core.specs.Plan.{Item, Alone, Together, is_dropped}
 use Rattle.h26x_core.specs.Packets.{single}
 use Rattle.h26x_core.specs.Number.{number_borne, numbered_from}
@@ -25,13 +25,18 @@ pub record ReadsWhatItWrites (f : Format) : Type 0 where
   pub fragment : (n : ℕ) (unit body : List ℕ) (start end : Bool) → IsTrue (f.carries unit) → 0 < length body →
       f.read (f.fragment_header unit start end ++ ((if start then number f n else []) ++ body))
       ≡ Fragment start end (take f.header_len unit) (if start then number_borne f n else None) body
-  pub sets : (n mtu : ℕ) (sets : List (List ℕ)) (unit : List ℕ) → f.sets_fit (f.limit mtu) sets ≡ true → 2 ≤ length sets →
+  pub sets : (n limit : ℕ) (sets : List (List ℕ)) (unit : List ℕ) → IsLimit f limit → f.sets_fit limit sets ≡ true → 2 ≤ length sets →
       AreCarried f sets → IsTrue (f.carries unit) → f.read (f.sets_packet n sets unit) ≡ Aggregate (numbered_from f n sets)
 
 -- a fragment's header is as long as it is counted, and sets that fit are within the limit
 pub record FitsLimits (f : Format) : Type 0 where
   pub header : (unit : List ℕ) (start end : Bool) → length (f.fragment_header unit start end) ≤ fragment_header_len f
   pub sets : (limit n : ℕ) (sets : List (List ℕ)) (unit : List ℕ) → f.sets_fit limit sets ≡ true → length (f.sets_packet n sets unit) ≤ limit
+
+-- a fragment bears the marks that it was made with
+abbrev pub MarksFragments : Format → Type 0
+MarksFragments f = (unit behind : List ℕ) (start end : Bool) → f.header_len ≤ length unit →
+    (bears_start f (f.fragment_header unit start end ++ behind) ≡ start) × (bears_end f (f.fragment_header unit start end ++ behind) ≡ end)
 
 -- where two sets or more fit one packet, a fragment has room for data
 abbrev pub SetsLeaveRoom : Format → Type 0
@@ -47,7 +52,7 @@ pub record KnowsKeyUnits (f : Format) : Type 0 where
   pub single : (n : ℕ) (unit : List ℕ) → IsTrue (f.carries unit) → f.detects (single f n unit) ≡ f.is_key unit
   pub fragment : (unit behind : List ℕ) (start end : Bool) → IsTrue (f.carries unit) →
       f.detects (f.fragment_header unit start end ++ behind) ≡ (start && f.is_key unit)
-  pub sets : (n mtu : ℕ) (sets : List (List ℕ)) (unit : List ℕ) → f.numbered ≡ false → f.sets_fit (f.limit mtu) sets ≡ true →
+  pub sets : (n limit : ℕ) (sets : List (List ℕ)) (unit : List ℕ) → f.numbered ≡ false → IsLimit f limit → f.sets_fit limit sets ≡ true →
       AreCarried f sets → IsTrue (f.carries unit) → AllByRecursion (λ set. f.is_key set ≡ false) sets →
       f.detects (f.sets_packet n sets unit) ≡ false
 
@@ -60,10 +65,27 @@ KeyUnitsAreOther f = (unit : List ℕ) → f.is_key unit ≡ true → is_other (
 abbrev pub IsPlanned : Format → Item → Type 0
 IsPlanned f (Alone limit unit) = IsTrue (f.carries unit) × (is_dropped f limit unit ≡ false)
 IsPlanned f (Together limit sets unit) =
-    (mtu : ℕ) × (limit ≡ f.limit mtu) × (f.sets_fit limit sets ≡ true) × (2 ≤ length sets) × AreCarried f sets × IsTrue (f.carries unit)
+    IsLimit f limit × (f.sets_fit limit sets ≡ true) × (2 ≤ length sets) × AreCarried f sets × IsTrue (f.carries unit)
     × AllByRecursion (λ set. f.is_key set ≡ false) sets
 
 -- what an item's packets need to be read back
 abbrev pub CanSend : Format → Item → Type 0
 CanSend f (Alone limit unit) = IsTrue (f.carries unit) × (is_dropped f limit unit ≡ false)
 CanSend f (Together limit sets unit) = (n : ℕ) → f.read (f.sets_packet n sets unit) ≡ Aggregate (numbered_from f n sets)
+
+-- a packet of sets bears a number in two bytes, or none
+pub record NumbersAreTwoBytes (f : Format) : Type 0 where
+  pub sets : (n : ℕ) (sets : List (List ℕ)) (unit : List ℕ) → f.sets_packet (n % 65536) sets unit ≡ f.sets_packet n sets unit
+  pub none : f.numbered ≡ false → (n m : ℕ) (sets : List (List ℕ)) (unit : List ℕ) → f.sets_packet n sets unit ≡ f.sets_packet m sets unit
+
+-- the facts that each codec shows of its format
+pub record IsPayloadFormat (f : Format) : Type 0 where
+  pub headers : HeadersTakeRoom f
+  pub reads : ReadsWhatItWrites f
+  pub limits : FitsLimits f
+  pub marks : MarksFragments f
+  pub sets : SetsLeaveRoom f
+  pub extra : ExtraTells f
+  pub detects : KnowsKeyUnits f
+  pub other : KeyUnitsAreOther f
+  pub numbers : NumbersAreTwoBytes f

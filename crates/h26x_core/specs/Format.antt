@@ -1,7 +1,7 @@
 -- What sets the payload formats of H.264, H.265 and H.266 apart.
-use Rattle.std.specs.Prelude.{ℕ, ◌+◌, ◌%◌, Bool, if◌then◌else◌, List, []}
+use Rattle.std.specs.Prelude.{◌≡◌, ℕ, ◌+◌, ◌%◌, ◌≤◌, Bool, true, if◌then◌else◌, List, [], slice_index}
 use Rattle.h26x_core.specs.declared.extra.CodecExtra.{CodecExtra}
-use Rattle.h26x_core.specs.Word.{word}
+use Rattle.h26x_core.specs.Word.{word, is_set}
 use Rattle.h26x_core.specs.Kind.{Kind}
 use Rattle.h26x_core.specs.Reading.{Reading}
 
@@ -12,9 +12,9 @@ pub record Format : Type 0 where
   -- what a unit is to a packetizer, and whether it is of a key type
   pub kind : List ℕ → Kind
   pub is_key : List ℕ → Bool
-  -- the limit of a call, by its mtu, and the mtu under which it has no effect
-  pub limit : ℕ → ℕ
+  -- the mtu under which a call has no effect, and whether a packetizer's largest packet size limits it too
   pub least_mtu : ℕ
+  pub sized : Bool
   -- the bytes of a unit's header
   pub header_len : ℕ
   -- whether packets bear decoding order numbers
@@ -35,6 +35,10 @@ pub record Format : Type 0 where
   -- whether a packet is known to hold a key unit, or to begin one
   pub detects : List ℕ → Bool
 
+-- a limit that a call can have: a largest packet size is a number of two bytes
+abbrev pub IsLimit : Format → ℕ → Type 0
+IsLimit f limit = f.sized ≡ true → limit ≤ 65535
+
 -- the two bytes of a number, where packets bear numbers
 abbrev pub number_bytes : Bool → ℕ → List ℕ
 number_bytes numbered n = if numbered then word (n % 65536) else []
@@ -50,3 +54,11 @@ number f n = number_bytes f.numbered n
 -- what a fragment has before its number and data: a packet's header and a byte of its own
 abbrev pub fragment_header_len : Format → ℕ
 fragment_header_len f = f.header_len + 1
+
+-- the S bit of a fragment, in the byte behind the packet's header
+abbrev pub bears_start : Format → List ℕ → Bool
+bears_start f packet = is_set (slice_index packet f.header_len) 7
+
+-- its E bit
+abbrev pub bears_end : Format → List ℕ → Bool
+bears_end f packet = is_set (slice_index packet f.header_len) 6

@@ -1,8 +1,8 @@
 -- The fragments of a unit, place by place (RFC 6184, 5.8; RFC 7798, 4.4.3; RFC 9328, 4.3.3).
-use Rattle.std.specs.Prelude.{◌≡◌, ℕ, ◌+◌, ◌-◌, ◌*◌, ◌<◌, ◌≤◌, ◌==◌, if◌then◌else◌, List, ◌++◌, length, take, drop, None}
+use Rattle.std.specs.Prelude.{◌≡◌, ℕ, ◌+◌, ◌-◌, ◌*◌, ◌<◌, ◌≤◌, false, ◌==◌, ◌&&◌, if◌then◌else◌, List, ◌++◌, length, take, drop, None}
 use Rattle.std.specs.List.{flat_map, range_with_len}
 use Rattle.h26x_core.specs.Reading.{Fragment}
-use Rattle.h26x_core.specs.Format.{Format, number, number_len}
+use Rattle.h26x_core.specs.Format.{Format, number, number_len, bears_start, bears_end}
 use Rattle.h26x_core.specs.Packets.{room, fragment, fragment_count, fragment_part}
 use Rattle.h26x_core.specs.Number.{number_borne}
 
@@ -28,3 +28,10 @@ abbrev pub ReadsFragments : Format → ℕ → ℕ → List ℕ → Type 0
 ReadsFragments f n limit unit = (j : ℕ) → j < fragment_count f limit unit →
     f.read (fragment f n limit unit j)
     ≡ Fragment (j == 0) (j + 1 == fragment_count f limit unit) (take f.header_len unit) (if j == 0 then number_borne f n else None) (fragment_data f limit unit j)
+
+-- By their bytes: the first alone bears the start, the last alone the end, none both; there are at least two.
+pub record AreMarked (f : Format) (n limit : ℕ) (unit : List ℕ) : Type 0 where
+  pub two : 2 ≤ fragment_count f limit unit
+  pub start : (j : ℕ) → j < fragment_count f limit unit → bears_start f (fragment f n limit unit j) ≡ (j == 0)
+  pub end : (j : ℕ) → j < fragment_count f limit unit → bears_end f (fragment f n limit unit j) ≡ (j + 1 == fragment_count f limit unit)
+  pub apart : (j : ℕ) → j < fragment_count f limit unit → (bears_start f (fragment f n limit unit j) && bears_end f (fragment f n limit unit j)) ≡ false

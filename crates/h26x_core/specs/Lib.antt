@@ -28,3 +28,6 @@ pub mod Facts
 pub mod Loss
 pub mod Again
 pub mod Detection
+pub mod Sender
+pub mod Receiver
+pub mod Ends

@@ -36,11 +36,6 @@ open_run (reading ∷ earlier) = run_after (open_run earlier) reading
 abbrev pub units_of : Reading → List Reading → List (List ℕ)
 units_of reading earlier = units_with (open_run earlier) reading
 
--- the units of readings, the latest of which stands first
-abbrev pub received_back : List Reading → List (List ℕ)
-received_back [] = []
-received_back (reading ∷ earlier) = received_back earlier ++ units_of reading earlier
-
 -- the units that readings bring after others, which stand with the latest first
 abbrev pub units_after : List Reading → List Reading → List (List ℕ)
 units_after earlier [] = []

@@ -1,30 +1,29 @@
 //! Laws of the definitions, for every payload format that meets the facts that they ask for. Each is
 //! the contract of a function without a result. The crates of the codecs show the facts of theirs.
 
-ghost use Rattle.std.specs.Prelude.{◌≡◌, ◌==◌, ◌&&◌, ℕ, Bool, List, [], ◌∷◌, ◌++◌, Option, Result, None, Some, ◌+◌, ◌≤◌, false, length, IsTrue, ◌<◌, map, reverse};
+ghost use Rattle.std.specs.Prelude.{◌≡◌, true, ◌%◌, ◌==◌, ◌&&◌, ℕ, Bool, List, [], ◌∷◌, ◌++◌, Some, ◌+◌, ◌≤◌, false, length, IsTrue, ◌<◌, map};
 ghost use Rattle.std.specs.List.{AllByRecursion, flat_map};
-ghost use Rattle.h26x_core.specs.Reading.{Reading, IsRead, is_start, is_end};
+ghost use Rattle.h26x_core.specs.Reading.{Reading, IsRead};
 ghost use Rattle.h26x_core.specs.Format.{Format, number_len, fragment_header_len};
-ghost use Rattle.h26x_core.specs.Calls.{Call, entries_of, packets_of};
+ghost use Rattle.h26x_core.specs.Calls.{Call, AreCalls, entries_of};
 ghost use Rattle.h26x_core.specs.Group.{Entry, Group, split, AreGroups, sets_of};
 ghost use Rattle.h26x_core.specs.Plan.{plan, PlansCallByCall, WaitsCallByCall, Item, fits, is_dropped, units_of_item, sent, KeepsLast};
 ghost use Rattle.h26x_core.specs.Waits.{Waiting, AreSets, entries_at, plan_with, none_waiting, waits_after_all, sets_waiting};
-ghost use Rattle.h26x_core.specs.Packets.{packets, fragment, fragment_count};
-ghost use Rattle.h26x_core.specs.Fragments.{AreFragments, ReadsFragments};
+ghost use Rattle.h26x_core.specs.Packets.{packets};
+ghost use Rattle.h26x_core.specs.Fragments.{AreFragments, ReadsFragments, AreMarked};
 ghost use Rattle.h26x_core.specs.Limit.{ItemIsWithin};
 ghost use Rattle.h26x_core.specs.Number.{NumbersInOrder};
 ghost use Rattle.h26x_core.specs.Rival.{TakesFewestFragments};
 ghost use Rattle.h26x_core.specs.Pieces.{ArePieces, HasNoPiece, pieces_of};
 ghost use Rattle.h26x_core.specs.Run.{AreReceived};
-ghost use Rattle.h26x_core.specs.Received.{open_run, IsOpenRun, units_after, received, received_back};
-ghost use Rattle.h26x_core.specs.Extra.{extra_after};
-ghost use Rattle.h26x_core.specs.Outcome.{AreTaken, IsStep};
-ghost use Rattle.h26x_core.specs.Facts.{ExtraTells, FitsLimits, HeadersTakeRoom, ReadsWhatItWrites, CanSend, IsPlanned, KnowsKeyUnits, AreCarried, KeyUnitsAreOther, SetsLeaveRoom};
+ghost use Rattle.h26x_core.specs.Received.{open_run, IsOpenRun, units_after, received};
+ghost use Rattle.h26x_core.specs.Facts.{MarksFragments, NumbersAreTwoBytes, IsPayloadFormat, ExtraTells, FitsLimits, HeadersTakeRoom, ReadsWhatItWrites, CanSend, IsPlanned, KnowsKeyUnits, AreCarried, KeyUnitsAreOther, SetsLeaveRoom};
 ghost use Rattle.h26x_core.specs.Loss.{LossStaysWithin};
 ghost use Rattle.h26x_core.specs.Again.{NothingDropped, IsSteady};
 ghost use Rattle.h26x_core.specs.Detection.{AreDetected};
-ghost use Rattle.h26x_core.specs.declared.extra.CodecExtra.{CodecExtra};
-ghost use Rattle.h26x_core.specs.declared.error.PacketError.{PacketError};
+ghost use Rattle.h26x_core.specs.Sender.{Sender, IsSender, planned, sent_by, packets_by, after, has_no_effect};
+ghost use Rattle.h26x_core.specs.Receiver.{Work, units_from};
+ghost use Rattle.h26x_core.specs.Ends.{SenderGoesOn, ReceiverGoesOn, CarriesWhole, LosesLittle, SendsAgain};
 
 /// A list of units is groups and a rest in one way, and `split` finds it.
 pub fn one_grouping()
@@ -61,12 +60,11 @@ pub fn packets_are_within_limits()
     ensures { (f : Format) → FitsLimits f → (entries : List Entry) → AllByRecursion (ItemIsWithin f) (plan f entries) }
 {}
 
-/// The fragments of a unit, place by place; none of them both starts and ends it.
+/// The fragments of a unit, place by place, and the marks that they bear.
 pub fn fragments_by_place()
     ensures are { (f : Format) (n limit : ℕ) (unit : List ℕ) → fits f limit unit ≡ false → is_dropped f limit unit ≡ false → f.header_len ≤ length unit → AreFragments f n limit unit }
     ensures read { (f : Format) → ReadsWhatItWrites f → (n limit : ℕ) (unit : List ℕ) → fits f limit unit ≡ false → is_dropped f limit unit ≡ false → IsTrue (f.carries unit) → ReadsFragments f n limit unit }
-    ensures apart { (f : Format) → ReadsWhatItWrites f → (n limit : ℕ) (unit : List ℕ) → fits f limit unit ≡ false → is_dropped f limit unit ≡ false → IsTrue (f.carries unit) →
-        (j : ℕ) → j < fragment_count f limit unit → (is_start (f.read (fragment f n limit unit j)) && is_end (f.read (fragment f n limit unit j))) ≡ false }
+    ensures marked { (f : Format) → MarksFragments f → (n limit : ℕ) (unit : List ℕ) → fits f limit unit ≡ false → is_dropped f limit unit ≡ false → f.header_len ≤ length unit → AreMarked f n limit unit }
 {}
 
 /// A unit takes the fewest fragments that there could be.
@@ -93,17 +91,16 @@ pub fn one_open_run()
     ensures only { (readings : List Reading) (run : List ℕ) → IsOpenRun readings run → open_run readings ≡ Some run }
 {}
 
-/// What is received by places, by runs from a latest start to an end, is what is computed, and nothing else; with the
-/// latest reading first, too.
+/// What is received by places, by runs from a latest start to an end, is what is computed, and nothing else.
 pub fn received_by_places()
     ensures are { (readings : List Reading) → AreReceived readings (received readings) }
     ensures only { (readings : List Reading) (units : List (List ℕ)) → AreReceived readings units → units ≡ received readings }
-    ensures back { (readings : List Reading) → received_back readings ≡ received (reverse readings) }
 {}
 
 /// What is planned of calls whose units sent are carried can be sent.
 pub fn what_is_carried_can_be_sent()
-    ensures planned { (f : Format) → SetsLeaveRoom f → KeyUnitsAreOther f → (calls : List Call) → AreCarried f (sent f (entries_of f calls)) → AllByRecursion (IsPlanned f) (plan f (entries_of f calls)) }
+    ensures planned { (s : Sender) (calls : List Call) → IsSender s → SetsLeaveRoom s.format → KeyUnitsAreOther s.format → AreCalls calls →
+        AreCarried s.format (sent_by s (entries_of s.format calls)) → AllByRecursion (IsPlanned s.format) (planned s (entries_of s.format calls)) }
     ensures can_send { (f : Format) → ReadsWhatItWrites f → (items : List Item) → AllByRecursion (IsPlanned f) items → AllByRecursion (CanSend f) items }
 {}
 
@@ -111,8 +108,6 @@ pub fn what_is_carried_can_be_sent()
 pub fn what_is_sent_is_received()
     ensures items { (f : Format) → ReadsWhatItWrites f → (n : ℕ) (items : List Item) (earlier : List Reading) → AllByRecursion (CanSend f) items →
         units_after earlier (map f.read (packets f n items)) ≡ flat_map units_of_item items }
-    ensures calls { (f : Format) → ReadsWhatItWrites f → SetsLeaveRoom f → KeyUnitsAreOther f → (n : ℕ) (calls : List Call) (earlier : List Reading) →
-        AreCarried f (sent f (entries_of f calls)) → units_after earlier (map f.read (packets_of f n calls)) ≡ sent f (entries_of f calls) }
     ensures read { (f : Format) → ReadsWhatItWrites f → (n : ℕ) (items : List Item) → AllByRecursion (CanSend f) items →
         AllByRecursion (λ packet. IsRead (f.read packet)) (packets f n items) }
 {}
@@ -122,17 +117,6 @@ pub fn loss_stays_within()
     ensures { (f : Format) → ReadsWhatItWrites f → LossStaysWithin f }
 {}
 
-/// Packets may be taken one by one: what a step makes of what was taken so far.
-pub fn taken_one_by_one()
-    ensures none { (f : Format) (avc : Bool) (out : List ℕ) (extra : CodecExtra) → AreTaken f avc [] [] out out extra extra None }
-    ensures more { (f : Format) → ExtraTells f → (avc : Bool) (readings : List Reading) (outcomes : List (Result (Unit {0}) PacketError)) (reading : Reading) (outcome : Result (Unit {0}) PacketError)
-        (out before after : List ℕ) (start extra later : CodecExtra) (run next : Option (List ℕ)) →
-        AreTaken f avc readings outcomes out before start extra run → IsStep f avc reading outcome before after extra later run next →
-        AreTaken f avc (readings ++ reading ∷ []) (outcomes ++ outcome ∷ []) out after start later next }
-    ensures extra { (f : Format) → ExtraTells f → (extra : CodecExtra) (units more : List (List ℕ)) →
-        extra_after f (extra_after f extra units) more ≡ extra_after f extra (units ++ more) }
-{}
-
 /// The plan of what was sent, at one limit with nothing dropped, is the plan; so what is sent is sent again.
 pub fn what_was_sent_is_sent_again()
     ensures { (f : Format) (limit : ℕ) (units : List (List ℕ)) → NothingDropped f (entries_at limit units) → IsSteady f limit units }
@@ -140,7 +124,52 @@ pub fn what_was_sent_is_sent_again()
 
 /// A key unit is detected in its packet or its first fragment, and in no other packet made, but for aggregates that bear numbers.
 pub fn key_units_are_detected()
-    ensures items { (f : Format) → KnowsKeyUnits f → ReadsWhatItWrites f → (n : ℕ) (items : List Item) → AllByRecursion (IsPlanned f) items → AreDetected f n items }
-    ensures calls { (f : Format) → KnowsKeyUnits f → ReadsWhatItWrites f → SetsLeaveRoom f → KeyUnitsAreOther f → (n : ℕ) (calls : List Call) →
-        AreCarried f (sent f (entries_of f calls)) → AreDetected f n (plan f (entries_of f calls)) }
+    ensures { (f : Format) → KnowsKeyUnits f → ReadsWhatItWrites f → (n : ℕ) (items : List Item) → AllByRecursion (IsPlanned f) items → AreDetected f n items }
+{}
+
+/// Numbers are two bytes: packets numbered on from n are those numbered on from its remainder; without numbers n counts for nothing.
+pub fn numbers_are_two_bytes()
+    ensures round { (f : Format) → NumbersAreTwoBytes f → (n : ℕ) (items : List Item) → packets f (n % 65536) items ≡ packets f n items }
+    ensures none { (f : Format) → NumbersAreTwoBytes f → f.numbered ≡ false → (n m : ℕ) (items : List Item) → packets f n items ≡ packets f m items }
+{}
+
+/// What packets bring after others is what they bring where the run of these is open.
+pub fn received_from_a_run()
+    ensures { (earlier readings : List Reading) → units_after earlier readings ≡ units_from (open_run earlier) readings }
+{}
+
+/// A packetizer goes on from call to call; what it plans is what is planned of the sets that wait and then the entries.
+pub fn packetizers_go_on()
+    ensures goes_on { (s : Sender) → IsPayloadFormat s.format → IsSender s → SenderGoesOn s }
+    ensures planned { (s : Sender) (entries : List Entry) → IsSender s → (limit : ℕ) → plan s.format (entries_at limit (sets_waiting s.waiting) ++ entries) ≡ planned s entries }
+{}
+
+/// A call without effect may be left out, wherever it stands: plan, and so what is sent and its packets, and what waits and the counter are the same.
+pub fn calls_without_effect()
+    ensures { (s : Sender) → IsPayloadFormat s.format → IsSender s → (before later : List Call) (call : Call) → has_no_effect s.format call ≡ true →
+        (planned s (entries_of s.format (before ++ call ∷ later)) ≡ planned s (entries_of s.format (before ++ later)))
+        × (after s (entries_of s.format (before ++ call ∷ later)) ≡ after s (entries_of s.format (before ++ later))) }
+{}
+
+/// A depacketizer goes on from packets to packets.
+pub fn depacketizers_go_on()
+    ensures { (w : Work) → IsPayloadFormat w.receiver.format → ReceiverGoesOn w }
+{}
+
+/// Where the units that calls send can be carried, they are carried whole, whatever waited, wherever the counter stood and whatever run was open.
+pub fn what_calls_send_is_carried()
+    ensures { (s : Sender) (w : Work) (calls : List Call) → IsPayloadFormat s.format → IsSender s → AreCalls calls → w.receiver.format ≡ s.format →
+        AreCarried s.format (sent_by s (entries_of s.format calls)) → CarriesWhole s w calls }
+{}
+
+/// What some of the packets that calls send bring, in order: item by item what is left of it, whatever run was open.
+pub fn what_is_left_is_brought()
+    ensures { (s : Sender) (w : Work) (calls : List Call) → IsPayloadFormat s.format → IsSender s → AreCalls calls → w.receiver.format ≡ s.format →
+        AreCarried s.format (sent_by s (entries_of s.format calls)) → (mask : List Bool) → length mask ≡ length (packets_by s (entries_of s.format calls)) →
+        LosesLittle s w calls mask }
+{}
+
+/// Payloads at one mtu, and the text of what was sent of them: they have the same packets.
+pub fn what_was_written_is_sent_again()
+    ensures { (f : Format) → SendsAgain f }
 {}

@@ -1,129 +1,120 @@
--- Packets of H.264 that a depacketizer takes one after the other.
-use Rattle.std.proofs.Common.{◌≡◌, ℕ, ◌+◌, ◌<◌, ◌≤◌, Bool, true, false, List, [], ◌∷◌, ◌++◌, length, map, take, drop, get_or, Option, Result, Ok, Err, refl, sym, ap, ◌∙◌, ◌⊎◌, inl, inr, ⊎_elim, subst, append_assoc}
-use Rattle.std.specs.Prelude.{◌&&◌, MatchBool}
-use Rattle.std.specs.List.{AllByRecursion, list_any}
-use Rattle.std.proofs.lemmas.List.{append-nil, map-append, take_all, take-append-drop, drop_more}
+-- Packets that a depacketizer takes one after the other. The laws that this stands on come as arguments.
+use Rattle.std.proofs.Common.{◌≡◌, ℕ, ◌+◌, ◌<◌, ◌≤◌, true, false, eqb, List, [], ◌∷◌, ◌++◌, length, map, take, drop, get_or, Option, Some, Result, Ok, Err, refl, sym, ap, subst, ◌∙◌, inl, inr, append_assoc, arith}
+use Rattle.std.specs.Prelude.{not}
+use Rattle.std.proofs.lemmas.List.{append-nil, take_all, take-append-drop, drop_more}
 use Rattle.std.proofs.lemmas.Grind.{take_at_read}
-use Rattle.h26x_core.specs.declared.extra.CodecExtra.{CodecExtra}
+use Rattle.std.proofs.lemmas.Bool.Decides.{nat_tests}
 use Rattle.h26x_core.specs.declared.error.PacketError.{PacketError}
-use Rattle.h26x_core.specs.declared.error.PacketError.TheVariants.{AvcUnitTooLong, OutOfMemory}
+use Rattle.h26x_core.specs.declared.error.PacketError.TheVariants.{OutOfMemory}
 use Rattle.h26x_core.specs.Front.{IsFrontOf}
-use Rattle.h26x_core.specs.Text.{text}
-use Rattle.h26x_core.specs.Reading.{Reading, Single, Aggregate, Fragment, Paci, Refused, IsRead}
-use Rattle.h26x_core.specs.Received.{units_of, units_with, units_after, received_back}
+use Rattle.h26x_core.specs.Text.{is_not_empty, text}
 use Rattle.h26x_core.specs.Extra.{extra_after}
-use Rattle.h26x_core.specs.Outcome.{is_too_long, IsOutcomeWith, accepted, AreTaken, IsStep}
+use Rattle.h26x_core.specs.Facts.{AreCarried, IsPayloadFormat}
 use Rattle.h26x_core.specs.Group.{Entry}
-use Rattle.h26x_core.specs.Plan.{plan, sent}
-use Rattle.h26x_core.specs.Waits.{Waiting}
-use Rattle.h26x_core.specs.Packets.{packets}
-use Rattle.h26x_core.specs.Facts.{AreCarried, CanSend}
-use Rattle.h26x_core.proofs.TakenLemmas.{taken_more}
-use Rattle.h26x_core.proofs.SentLemmas.{IsOfCall, all_parts, entries_planned, can_send, all_received}
-use Rattle.h26x_core.proofs.AcceptedLemmas.{all_read}
+use Rattle.h26x_core.specs.Waits.{Waiting, AreSets}
+use Rattle.h26x_core.specs.Calls.{Call, AreCalls, call_at, entries_of}
+use Rattle.h26x_core.specs.Sender.{Sender, IsSender, sent_by, packets_by}
+use Rattle.h26x_core.specs.Receiver.{Work, brought, work_after, IsOutcomeAt, AreDelivered, AreShort}
+use Rattle.h26x_core.specs.Ends.{ReceiverGoesOn, CarriesWhole}
 use Rattle.h264_payload.specs.H264.{h264}
-use Rattle.h264_payload.proofs.ReadBackLemmas.{reads_what_it_writes}
-use Rattle.h264_payload.proofs.FactLemmas.{extra_tells, sets_leave_room, key_units_are_other}
-use Rattle.h26x_tool.specs.Carry.{oks, IsCarried, IsCarriedWhole, entries_with}
+use Rattle.h264_payload.specs.Sending.{sender, entries_of_payload}
+use Rattle.h26x_tool.specs.Carry.{IsCarriedWhole}
 
 -- a beginning of a beginning is one of the whole
 pub still_front : (a b whole : List ℕ) → IsFrontOf a b → IsFrontOf b whole → IsFrontOf a whole
 still_front a b whole (x, is) (y, more) = (x ++ y, more ∙ ap (λ (l : List ℕ). l ++ y) is ∙ append_assoc a x y)
 
--- the packets before a place were taken
-abbrev pub AreTakenTo : Bool → List (List ℕ) → ℕ → List ℕ → List ℕ → CodecExtra → CodecExtra → Option (List ℕ) → Type 0
-AreTakenTo avc packets i out new extra after run = AreTaken h264 avc (map h264.read (take i packets)) (oks (take i packets)) out new extra after run
+-- one packet more is taken
+pub one_more : (w : Work) (packets : List (List ℕ)) (i : ℕ) (new : Work) → ReceiverGoesOn w → i < length packets →
+    new ≡ work_after (work_after w (take i packets)) (get_or packets i [] ∷ []) → new ≡ work_after w (take (i + 1) packets)
+one_more w packets i new law within taken =
+    taken ∙ law.more (take i packets) (get_or packets i [] ∷ []) ∙ ap (work_after w) (sym (take_at_read packets i [] within).1)
 
--- the one at the place is taken too
-pub one_more : (avc : Bool) (packets : List (List ℕ)) (i : ℕ) (out before new : List ℕ) (extra old after : CodecExtra) (run next : Option (List ℕ)) →
-    i < length packets → AreTakenTo avc packets i out before extra old run → IsStep h264 avc (h264.read (get_or packets i [])) (Ok tt) before new old after run next →
-    AreTakenTo avc packets (i + 1) out new extra after next
-one_more avc packets i out before new extra old after run next within taken step =
-    let packet = get_or packets i [] in
-    let more = taken_more h264 extra_tells avc (map h264.read (take i packets)) (oks (take i packets)) (h264.read packet) (Ok tt) out before new extra old after run next taken step in
-    rw ((take_at_read packets i [] within).1, map-append h264.read (take i packets) (packet ∷ []), map-append {B = Result (Unit {0}) PacketError} (λ p. Ok tt) (take i packets) (packet ∷ [])) more
-
--- where one is refused those before it are carried
-pub stopped : {A : Type 0} (avc : Bool) (packets : List (List ℕ)) (i : ℕ) (answer : Result A PacketError) (e : PacketError) (out before new : List ℕ) (extra old after : CodecExtra) (run next : Option (List ℕ)) →
-    i < length packets → answer ≡ Err e → AreTakenTo avc packets i out before extra old run → IsStep h264 avc (h264.read (get_or packets i [])) (Err e) before new old after run next →
-    IsCarried avc packets answer out new extra after next
-stopped avc packets i answer e out before new extra old after run next within is taken step = record {
+-- where one is refused those before it were taken
+pub stopped : {A : Type 0} (w : Work) (packets : List (List ℕ)) (i : ℕ) (answer : Result A PacketError) (e : PacketError) (new : Work) →
+    i < length packets → answer ≡ Err e → new ≡ work_after w (take i packets) → IsOutcomeAt (work_after w (take i packets)) (get_or packets i []) (Err e) →
+    AreDelivered w packets answer (Some new)
+stopped w packets i answer e new within is left outcome = record {
   taken = take i packets;
   left = drop i packets;
   front = sym (take-append-drop i packets);
-  are_taken = rw (step.out_kept, step.extra_kept, step.run_kept) taken;
+  work = ap Some left;
   all = rw is tt;
-  cause = rw is (inr (get_or packets i [], drop (i + 1) packets, drop_more packets i [] within, rw step.run_kept step.outcome));
+  cause = rw is (inr (get_or packets i [], drop (i + 1) packets, drop_more packets i [] within, outcome));
 }
 
--- where none is refused all are carried
-pub finished : (avc : Bool) (packets : List (List ℕ)) (i : ℕ) (out new : List ℕ) (extra after : CodecExtra) (run : Option (List ℕ)) →
-    length packets ≤ i → AreTakenTo avc packets i out new extra after run → IsCarried {A = Unit {0}} avc packets (Ok tt) out new extra after run
-finished avc packets i out new extra after run past taken = record {
+-- where none is refused all were taken
+pub finished : (w : Work) (packets : List (List ℕ)) (i : ℕ) (new : Work) → length packets ≤ i → new ≡ work_after w (take i packets) →
+    AreDelivered {A = Unit {0}} w packets (Ok tt) (Some new)
+finished w packets i new past is = record {
   taken = packets;
   left = [];
   front = sym (append-nil packets);
-  are_taken = rw (take_all i packets past) at taken;
+  work = ap Some (is ∙ ap (work_after w) (take_all i packets past));
   all = refl;
   cause = tt;
 }
 
--- what readings that were all accepted bring
-accepted_bring : (earlier readings : List Reading) (packets : List (List ℕ)) → readings ≡ map h264.read packets →
-    received_back (accepted earlier readings (oks packets)) ≡ received_back earlier ++ units_after earlier readings
-accepted_bring earlier readings [] is = rw is (sym (append-nil (received_back earlier)))
-accepted_bring earlier readings (packet ∷ packets) is =
-    rw is (accepted_bring (h264.read packet ∷ earlier) (map h264.read packets) packets refl
-    ∙ append_assoc (received_back earlier) (units_of (h264.read packet) earlier) (units_after (h264.read packet ∷ earlier) (map h264.read packets)))
+-- where memory lacks before the first none is delivered
+pub none_delivered : {A : Type 0} (w : Work) (packets : List (List ℕ)) (answer : Result A PacketError) → ReceiverGoesOn w → answer ≡ Err OutOfMemory →
+    AreDelivered w packets answer (Some w)
+none_delivered w packets answer law is = record { taken = []; left = packets; front = refl; work = ap Some (sym law.none); all = rw is tt; cause = rw is (inl refl) }
 
--- H.264's limit is the mtu, so any limit is one of a call
-limits_of_calls : (entries : List Entry) → AllByRecursion (IsOfCall h264) entries
-limits_of_calls [] = tt
-limits_of_calls (e ∷ entries) = ((e.limit, refl), limits_of_calls entries)
+-- whether there are packets, by how many there are
+pub some_made : {P : Type 0} (items : P → List ℕ) (made : List P) (n : ℕ) (all : List (List ℕ)) → n ≡ length made → map items made ≡ all → not (eqb n 0) ≡ is_not_empty all
+some_made items [] n all count is = rw (count, ← is) refl
+some_made items (packet ∷ made) n all count is =
+    let some : eqb n 0 ≡ false = grind (arith, nat_tests) in
+    rw (some, ← is) refl
 
--- what is planned where each unit sent is carried
-can_be_sent : (entries : List Entry) → AreCarried h264 (sent h264 entries) → AllByRecursion (CanSend h264) (plan h264 entries)
-can_be_sent entries carried = can_send h264 reads_what_it_writes (plan h264 entries)
-    (entries_planned h264 sets_leave_room key_units_are_other entries (limits_of_calls entries) carried)
+-- a call's entries are those of its payload
+one_call : (mtu : ℕ) (payload : List ℕ) → entries_of h264 (call_at mtu payload ∷ []) ≡ entries_of_payload mtu payload
+one_call mtu payload = append-nil (entries_of_payload mtu payload)
 
--- a refusal of what is read: in AVC form by a length, else for want of memory
-by_length : (avc long : Bool) (e : PacketError) (answer : Result (Unit {0}) PacketError) → answer ≡ Err e →
-    MatchBool (avc && long) (answer ≡ Err AvcUnitTooLong) ((answer ≡ Ok tt) ⊎ (answer ≡ Err OutOfMemory)) → (e ≡ OutOfMemory) ⊎ ((avc ≡ true) × (e ≡ AvcUnitTooLong))
-by_length true true e answer is h = inr (refl, cc)
-by_length true false e answer is (inl h) = absurd cc
-by_length true false e answer is (inr h) = inl cc
-by_length false long e answer is (inl h) = absurd cc
-by_length false long e answer is (inr h) = inl cc
+-- what calls send is carried whole, as the law has it
+abbrev pub CarriesCalls : Type 0
+CarriesCalls = (s : Sender) (w : Work) (calls : List Call) → IsPayloadFormat s.format → IsSender s → AreCalls calls → w.receiver.format ≡ s.format →
+    AreCarried s.format (sent_by s (entries_of s.format calls)) → CarriesWhole s w calls
 
--- why a packet that is read is refused all the same
-cause_of : (avc : Bool) (run : Option (List ℕ)) (reading : Reading) (e : PacketError) → IsRead reading → IsOutcomeWith avc run reading (Err e) →
-    (e ≡ OutOfMemory) ⊎ ((avc ≡ true) × (e ≡ AvcUnitTooLong))
-cause_of avc run (Refused error) e read outcome = absurd read
-cause_of avc run (Single unit number) e read outcome = by_length avc (list_any is_too_long (units_with run (Single unit number))) e (Err e) refl outcome
-cause_of avc run (Aggregate units) e read outcome = by_length avc (list_any is_too_long (units_with run (Aggregate units))) e (Err e) refl outcome
-cause_of avc run (Fragment start end head number body) e read outcome =
-    by_length avc (list_any is_too_long (units_with run (Fragment start end head number body))) e (Err e) refl outcome
-cause_of avc run (Paci head fields extension body) e read outcome =
-    by_length avc (list_any is_too_long (units_with run (Paci head fields extension body))) e (Err e) refl outcome
+-- so what one call sends is
+one_carried : (p : Waiting) (w : Work) (mtu : ℕ) (payload : List ℕ) → CarriesCalls → IsPayloadFormat h264 → AreSets h264 p → w.receiver.format ≡ h264 →
+    AreCarried h264 (sent_by (sender p) (entries_of_payload mtu payload)) → CarriesWhole (sender p) w (call_at mtu payload ∷ [])
+one_carried p w mtu payload law facts sets same carried =
+    let is : IsSender (sender p) = record { sets = sets; small = omega arith; size = omega arith } in
+    law (sender p) w (call_at mtu payload ∷ []) facts is (omega arith, tt) same
+    (subst (λ (es : List Entry). AreCarried h264 (sent_by (sender p) es)) (sym (one_call mtu payload)) carried)
 
--- a front of the packets of a call was carried: what is written where it is all of them, and why it stopped where not
-pub carried_whole : {A : Type 0} (avc : Bool) (w : Waiting) (mtu : ℕ) (payload : List ℕ) (made : List (List ℕ)) (answer : Result A PacketError) (out new : List ℕ) (extra after : CodecExtra) (run : Option (List ℕ)) →
-    made ≡ packets h264 0 (plan h264 (entries_with w mtu payload)) → IsCarried avc made answer out new extra after run →
-    IsCarriedWhole avc w mtu payload answer out new extra after
-carried_whole avc w mtu payload made (Ok a) out new extra after run is c = λ carried.
-    let entries = entries_with w mtu payload in
-    let all : c.taken ≡ made = sym (append-nil c.taken) ∙ ap (λ (left : List (List ℕ)). c.taken ++ left) (sym c.all) ∙ sym c.front in
-    let units = accepted_bring [] (map h264.read c.taken) c.taken refl
-    ∙ ap (λ (made : List (List ℕ)). units_after [] (map h264.read made)) (all ∙ is)
-    ∙ all_received h264 reads_what_it_writes 0 (plan h264 entries) [] (can_be_sent entries carried) in
-    ((c.are_taken.written ∙ ap (λ (us : List (List ℕ)). out ++ text avc us) units, c.are_taken.told ∙ ap (extra_after h264 extra) units), tt)
-carried_whole avc w mtu payload made (Err e) out new extra after run is c = λ carried.
-    let entries = entries_with w mtu payload in (
+-- where all of a call's packets were taken, and what it sends is carried whole
+pub all_carried : {A B : Type 0} (p : Waiting) (w : Work) (mtu : ℕ) (payload : List ℕ) (a : A) (b : B) (new : Work) →
+    CarriesCalls → IsPayloadFormat h264 → AreSets h264 p → w.receiver.format ≡ h264 →
+    AreDelivered w (packets_by (sender p) (entries_of_payload mtu payload)) (Ok b) (Some new) → IsCarriedWhole {A = A} (sender p) w mtu payload (Ok a) new
+all_carried p w mtu payload a b new law facts sets same d = λ carried.
+    let s = sender p in
+    let whole = one_carried p w mtu payload law facts sets same carried in
+    let received : brought w.receiver (packets_by s (entries_of_payload mtu payload)) ≡ sent_by s (entries_of_payload mtu payload) =
+    subst (λ (es : List Entry). brought w.receiver (packets_by s es) ≡ sent_by s es) (one_call mtu payload) whole.received in
+    let all : d.taken ≡ packets_by s (entries_of_payload mtu payload) =
+    sym (append-nil d.taken) ∙ ap (λ (left : List (List ℕ)). d.taken ++ left) (sym d.all) ∙ sym d.front in
+    let units : brought w.receiver d.taken ≡ sent_by s (entries_of_payload mtu payload) = ap (brought w.receiver) all ∙ received in
+    let stands : new ≡ work_after w d.taken = let is = d.work in cc in (
+      (
+        ap (λ (x : Work). x.out) stands ∙ ap (λ (us : List (List ℕ)). w.out ++ text w.receiver.is_avc us) units,
+        ap (λ (x : Work). x.extra) stands ∙ ap (extra_after w.receiver.format w.extra) units,
+      ),
       tt,
-      ⊎_elim (λ memory. inl memory)
-          (λ (packet, later, here, outcome).
-          let read = all_read h264 reads_what_it_writes 0 (plan h264 entries) (can_be_sent entries carried) in
-          let parts = all_parts (λ packet. IsRead (h264.read packet)) c.taken c.left (subst (AllByRecursion (λ packet. IsRead (h264.read packet))) (sym is ∙ c.front) read) in
-          cause_of avc run (h264.read packet) e (subst (AllByRecursion (λ packet. IsRead (h264.read packet))) here parts.1).0 outcome)
-          c.cause,
+      tt,
+    )
+
+-- where one was refused
+pub some_carried : {A B : Type 0} (p : Waiting) (w : Work) (mtu : ℕ) (payload : List ℕ) (answer : Result A PacketError) (e : PacketError) (new : Work) → answer ≡ Err e →
+    CarriesCalls → IsPayloadFormat h264 → AreSets h264 p → w.receiver.format ≡ h264 →
+    AreDelivered {A = B} w (packets_by (sender p) (entries_of_payload mtu payload)) (Err e) (Some new) → IsCarriedWhole (sender p) w mtu payload answer new
+some_carried p w mtu payload answer e new is law facts sets same d = λ carried.
+    let s = sender p in
+    let whole = one_carried p w mtu payload law facts sets same carried in
+    let front : packets_by s (entries_of h264 (call_at mtu payload ∷ [])) ≡ d.taken ++ d.left = ap (packets_by s) (one_call mtu payload) ∙ d.front in
+    rw is (
+      tt,
+      whole.causes d.taken d.left e front d.cause,
+      λ short. whole.refused (λ avc. subst (λ (es : List Entry). AreShort (sent_by s es)) (sym (one_call mtu payload)) (short avc)) d.taken d.left e front d.cause,
     )

@@ -1,13 +1,15 @@
 //! A payload through a packetizer and a depacketizer.
 
-ghost use Rattle.std.specs.Prelude.{◌≡◌, IfOk, OnOk, OnErr, map, None, Err, ◌⊎◌};
+ghost use Rattle.std.specs.Prelude.{◌≡◌, IfOk, OnOk, OnErr, map, Some, Err, ◌⊎◌};
 ghost use Rattle.h26x_core.specs.Front.{IsFrontOf};
-ghost use Rattle.h26x_core.specs.Waits.{waits_after_all};
-ghost use Rattle.h264_payload.specs.H264.{h264};
-ghost use Rattle.h264_payload.specs.Sending.{entries_of_payload};
-ghost use Rattle.h26x_tool.specs.Carry.{makes_packets, packets_made, IsCarried, IsCarriedWhole};
+ghost use Rattle.h26x_core.specs.Text.{is_not_empty};
+ghost use Rattle.h26x_core.specs.Sender.{after, packets_by};
+ghost use Rattle.h26x_core.specs.Receiver.{AreDelivered};
+ghost use Rattle.h264_payload.specs.Sending.{sender, entries_of_payload};
+ghost use Rattle.h264_payload.specs.Packet.{work};
+ghost use Rattle.h26x_tool.specs.Carry.{IsCarriedWhole};
 
-use h26x_core::{CodecExtra, Depacketizer, PacketError, Packetizer};
+use h26x_core::{CodecExtra, Depacketizer, PacketError, Packetizer, laws};
 use h264_payload::{H264Depacketizer, H264Packetizer};
 
 /// Depacketizes packets in order, up to the first that is refused.
@@ -18,9 +20,11 @@ fn deliver(
     extra: &mut CodecExtra,
 ) -> Result<(), PacketError>
     ensures kept { IsFrontOf out.old.items out.new.items }
-    ensures carried { d.old.run ≡ None → IsCarried d.old.is_avc (map (λ p. p.items) packets.now) result out.old.items out.new.items extra.old extra.new d.new.run }
-    ensures setting { d.new.is_avc ≡ d.old.is_avc }
+    ensures delivered { AreDelivered (work d.old out.old.items extra.old) (map (λ p. p.items) packets.now) result
+        (Some (work d.new out.new.items extra.new)) }
 {
+    h264_payload::laws::meets_the_facts();
+    laws::depacketizers_go_on();
     for packet in packets {
         d.depacketize(packet, out, extra)?;
     }
@@ -38,13 +42,17 @@ pub fn carry_one(
     extra: &mut CodecExtra,
 ) -> Result<bool, PacketError>
     ensures kept { IsFrontOf out.old.items out.new.items }
-    ensures made { IfOk result (λ made. made ≡ makes_packets p.old mtu payload.now) }
-    ensures carried { d.old.run ≡ None → IsCarried d.old.is_avc (packets_made p.old mtu payload.now) result out.old.items out.new.items extra.old extra.new d.new.run }
-    ensures waits { OnOk result (p.new ≡ waits_after_all h264 p.old (entries_of_payload mtu payload.now)) }
-    ensures waits_on { OnErr result ((p.new ≡ waits_after_all h264 p.old (entries_of_payload mtu payload.now)) ⊎ ((p.new ≡ p.old) × (result ≡ Err PacketError.OutOfMemory))) }
-    ensures setting { d.new.is_avc ≡ d.old.is_avc }
-    ensures whole { d.old.run ≡ None → IsCarriedWhole d.old.is_avc p.old mtu payload.now result out.old.items out.new.items extra.old extra.new }
+    ensures made { IfOk result (λ made. made ≡ is_not_empty (packets_by (sender p.old) (entries_of_payload mtu payload.now))) }
+    ensures delivered { AreDelivered (work d.old out.old.items extra.old) (packets_by (sender p.old) (entries_of_payload mtu payload.now)) result
+        (Some (work d.new out.new.items extra.new)) }
+    ensures waits { OnOk result (sender p.new ≡ after (sender p.old) (entries_of_payload mtu payload.now)) }
+    ensures waits_on { OnErr result ((sender p.new ≡ after (sender p.old) (entries_of_payload mtu payload.now)) ⊎ ((p.new ≡ p.old) × (result ≡ Err PacketError.OutOfMemory))) }
+    ensures whole { IsCarriedWhole (sender p.old) (work d.old out.old.items extra.old) mtu payload.now result (work d.new out.new.items extra.new) }
 {
+    h264_payload::laws::meets_the_facts();
+    laws::depacketizers_go_on();
+    laws::what_calls_send_is_carried();
+    p.waits_for_sets();
     let packets = p.packetize(mtu, payload)?;
     deliver(d, &packets, out, extra)?;
     Ok(!packets.is_empty())

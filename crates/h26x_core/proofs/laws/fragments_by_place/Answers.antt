@@ -1,5 +1,5 @@
-use Rattle.h26x_core.proofs.FragmentLemmas.{are_fragments, reads_fragments, start_is_not_end}
+use Rattle.h26x_core.proofs.FragmentLemmas.{are_fragments, reads_fragments, are_marked}
 use Rattle.h26x_core.proofs.laws.fragments_by_place.Goals as goal
 
 pub returns : goal.returns
-returns c = record { are = are_fragments; read = reads_fragments; apart = start_is_not_end }
+returns c = record { are = are_fragments; read = reads_fragments; marked = are_marked }

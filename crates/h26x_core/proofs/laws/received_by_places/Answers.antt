@@ -1,5 +1,5 @@
-use Rattle.h26x_core.proofs.PlaceLemmas.{are_received, only_received, received_from_back}
+use Rattle.h26x_core.proofs.PlaceLemmas.{are_received, only_received}
 use Rattle.h26x_core.proofs.laws.received_by_places.Goals as goal
 
 pub returns : goal.returns
-returns c = record { are = are_received; only = only_received; back = received_from_back }
+returns c = record { are = are_received; only = only_received }
