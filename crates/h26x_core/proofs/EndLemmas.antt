@@ -18,7 +18,7 @@ use Rattle.h26x_core.specs.Limit.{AreWithin, ItemIsWithin, limit_of}
 use Rattle.h26x_core.specs.Reading.{Reading, Single, Aggregate, Fragment, Paci, Refused, IsRead}
 use Rattle.h26x_core.specs.Received.{run_after, units_with}
 use Rattle.h26x_core.specs.Outcome.{is_too_long, IsOutcomeWith}
-use Rattle.h26x_core.specs.Facts.{IsPayloadFormat, AreCarried}
+use Rattle.h26x_core.specs.Facts.{FitsLimits, NumbersAreTwoBytes, IsPayloadFormat, AreCarried}
 use Rattle.h26x_core.specs.Sender.{Sender, IsSender, planned, sent_by, packets_by, counted_on, after, is_skipped_kind, has_no_effect, AreWithinLimits}
 use Rattle.h26x_core.specs.Receiver.{Receiver, Work, units_from, run_from, brought, work_after, IsCause, AreShort}
 use Rattle.h26x_core.specs.Ends.{SenderGoesOn, ReceiverGoesOn, CarriesWhole}
@@ -132,24 +132,24 @@ items_within f n limit (item ∷ items) (is, have) (here, later) =
     (subst (λ l. AreWithin l (packets_of_item f n item)) is (here n)) (items_within f (n + length (units_of_item item)) limit items have later)
 
 -- the packets of each call are within its limit
-calls_within : (s : Sender) (calls : List Call) → IsSender s → IsPayloadFormat s.format → AreWithinLimits s calls
+calls_within : (s : Sender) (calls : List Call) → IsSender s → FitsLimits s.format → AreWithinLimits s calls
 calls_within s [] is ok = tt
 calls_within s (call ∷ calls) is ok =
     let entries = entries_of_call s.format call in (
-      items_within s.format s.counter (limit_of_call s.format call) (planned s entries) (call_limit s.format s.waiting call) (sender_within s is ok.limits entries),
+      items_within s.format s.counter (limit_of_call s.format call) (planned s entries) (call_limit s.format s.waiting call) (sender_within s is ok entries),
       calls_within (after s entries) calls (still_sender s entries is) ok,
     )
 
 -- a packetizer goes on
-pub sender_goes_on : (s : Sender) → IsPayloadFormat s.format → IsSender s → SenderGoesOn s
-sender_goes_on s ok is = record {
+pub sender_goes_on : (s : Sender) → FitsLimits s.format → NumbersAreTwoBytes s.format → IsSender s → SenderGoesOn s
+sender_goes_on s fits numbers is = record {
   sent = sent_by-append s;
-  packets = packets_by-append s ok.numbers;
+  packets = packets_by-append s numbers;
   later = after-append s;
   stays = λ a. still_sender s a is;
   none = same_sender s [] is (refl, refl);
   no_effect = λ call none. let h = call_without s.format s.waiting call none in (h.0, same_sender s (entries_of_call s.format call) is h);
-  within = λ calls. calls_within s calls is ok;
+  within = λ calls. calls_within s calls is fits;
 }
 
 -- a depacketizer goes on

@@ -24,9 +24,13 @@ first_largest = 1200
 abbrev pub call_at : ℕ → List ℕ → Call
 call_at mtu payload = record { mtu = mtu; largest = first_largest; payload = payload }
 
+-- the limit at a largest packet size and an mtu
+abbrev pub limit_at : Format → ℕ → ℕ → ℕ
+limit_at f largest mtu = if f.sized then min mtu largest else mtu
+
 -- the limit of a call
 abbrev pub limit_of_call : Format → Call → ℕ
-limit_of_call f call = if f.sized then min call.mtu call.largest else call.mtu
+limit_of_call f call = limit_at f call.largest call.mtu
 
 -- the units of a call's payload at its limit; a call under the least mtu brings nothing
 abbrev pub entries_of_call : Format → Call → List Entry

@@ -53,9 +53,13 @@ abbrev pub is_skipped_kind : Kind → Bool
 is_skipped_kind Skipped = true
 is_skipped_kind kind = false
 
+-- no unit but skipped ones
+abbrev pub are_skipped : Format → List (List ℕ) → Bool
+are_skipped f units = list_all (λ unit. is_skipped_kind (f.kind unit)) units
+
 -- a call without effect: its mtu is under the least, or its payload has no unit but skipped ones
 abbrev pub has_no_effect : Format → Call → Bool
-has_no_effect f call = nat_lt call.mtu f.least_mtu || list_all (λ unit. is_skipped_kind (f.kind unit)) (f.units call.payload)
+has_no_effect f call = nat_lt call.mtu f.least_mtu || are_skipped f (f.units call.payload)
 
 -- of each call, the packets that it makes where it comes are within its limit
 abbrev pub AreWithinLimits : Sender → List Call → Type 0

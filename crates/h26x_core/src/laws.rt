@@ -140,7 +140,7 @@ pub fn received_from_a_run()
 
 /// A packetizer goes on from call to call; what it plans is what is planned of the sets that wait and then the entries.
 pub fn packetizers_go_on()
-    ensures goes_on { (s : Sender) → IsPayloadFormat s.format → IsSender s → SenderGoesOn s }
+    ensures goes_on { (s : Sender) → FitsLimits s.format → NumbersAreTwoBytes s.format → IsSender s → SenderGoesOn s }
     ensures planned { (s : Sender) (entries : List Entry) → IsSender s → (limit : ℕ) → plan s.format (entries_at limit (sets_waiting s.waiting) ++ entries) ≡ planned s entries }
 {}
 

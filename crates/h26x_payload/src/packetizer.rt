@@ -1,0 +1,298 @@
+//! The packets of payloads, for every codec.
+
+ghost use Rattle.std.specs.Prelude.{◌≡◌, ◌≤◌, ◌∷◌, ℕ, [], true, false, OnOk, OnErr, IfOk, IsOk, None, map, length, Err};
+ghost use Rattle.std.specs.Option.{option_map};
+ghost use Rattle.h26x_core.specs.Limit.{AreWithin};
+ghost use Rattle.h26x_core.specs.Calls.{limit_at, limit_of_call};
+ghost use Rattle.h26x_core.specs.Waits.{waits_after, items_now, plan_with, waits_after_all, entries_at, none_waiting};
+ghost use Rattle.h26x_core.specs.Sender.{packets_by, is_skipped_kind, are_skipped, has_no_effect};
+ghost use Rattle.h26x_payload.specs.Sending.{IsSent, listed, newest, waiting_with, items_due, is_nothing};
+ghost use Rattle.h26x_payload.specs.Held.{IsHeld, sender, fresh_with, call_of, entries_with, held_after};
+
+use crate::codec::{Codec, NumberedCodec, UnitKind};
+use crate::sets::Sets;
+use crate::units::{Due, append_due};
+use h26x_core::{PacketError, Packetizer, laws};
+use std::alloc::Global;
+use std::marker::Model;
+
+/// The largest packet size of a new packetizer, in bytes.
+const FIRST_LARGEST: u16 = 1200;
+
+/// What a payload has brought so far: whether the sets from before were sent, and the sets since.
+#[derive(Clone, Copy)]
+pub struct Brought<'a> {
+    taken: bool,
+    vps: Option<&'a [u8]>,
+    sps: Option<&'a [u8]>,
+    pps: Option<&'a [u8]>,
+}
+
+/// Sends the units of payloads.
+///
+/// A unit that fits goes alone, a longer one in fragments. Parameter sets wait, each the latest of its kind, and go
+/// before the next other unit once there are an SPS and a PPS.
+#[derive(Debug, Drop)]
+pub struct PayloadPacketizer<C: Codec> {
+    codec: C,
+    vps: Option<Vec<u8>>,
+    sps: Option<Vec<u8>>,
+    pps: Option<Vec<u8>>,
+    counter: u16,
+    largest: u16,
+    alloc: Global,
+}
+
+impl<C: Codec> Model for PayloadPacketizer<C> {
+    ghost use Rattle.std.specs.Option.{option_map};
+    ghost use Rattle.h26x_payload.specs.Held.{Held, IsHeld, held, sender};
+
+    ghost Value = { Held C };
+
+    ghost view = { λ a. held a.codec (option_map (λ v. v.items) a.vps) (option_map (λ v. v.items) a.sps) (option_map (λ v. v.items) a.pps) a.counter a.largest };
+
+    ghost invariant = { λ a. IsHeld (C.format a.codec) (sender (C.format a.codec) (held a.codec (option_map (λ v. v.items) a.vps) (option_map (λ v. v.items) a.sps) (option_map (λ v. v.items) a.pps) a.counter a.largest)) };
+}
+
+/// The latest set, if one waits.
+fn newest_of<'a>(
+    old: &'a Option<Vec<u8>>,
+    taken: bool,
+    brought: Option<&'a [u8]>,
+) -> Option<&'a [u8]>
+    ensures { listed (option_map (λ s. s.now) result) ≡ newest (listed (option_map (λ v. v.items) old.now)) taken (listed (option_map (λ s. s.now) brought.entry)) }
+{
+    match brought {
+        Some(set) => Some(set),
+        None => {
+            if taken {
+                None
+            } else {
+                match old {
+                    Some(set) => Some(set.as_slice()),
+                    None => None,
+                }
+            }
+        }
+    }
+}
+
+/// A copy of a set, if there is one.
+fn copied(alloc: Global, set: Option<&[u8]>) -> Result<Option<Vec<u8>>, PacketError>
+    ensures same { IfOk result (λ it. option_map (λ v. v.items) it ≡ option_map (λ s. s.now) set.entry) }
+    ensures none { set.entry ≡ None → IsOk result }
+    ensures memory { OnErr result (result ≡ Err PacketError.OutOfMemory) }
+{
+    match set {
+        Some(set) => Ok(Some(set.to_vec(alloc)?)),
+        None => Ok(None),
+    }
+}
+
+/// Puts the latest set in place.
+fn replace_set(set: &mut Option<Vec<u8>>, taken: bool, brought: Option<Vec<u8>>)
+    ensures { listed (option_map (λ v. v.items) set.new) ≡ newest (listed (option_map (λ v. v.items) set.old)) taken (listed (option_map (λ v. v.items) brought)) }
+{
+    if taken || brought.is_some() {
+        *set = brought;
+    }
+}
+
+impl<C: Codec> PayloadPacketizer<C> {
+    /// A packetizer for which nothing waits; its memory comes from `alloc`.
+    pub fn new(alloc: Global) -> Self
+        ensures { result ≡ fresh_with C.fresh }
+    {
+        PayloadPacketizer {
+            codec: C::new(),
+            vps: None,
+            sps: None,
+            pps: None,
+            counter: 0,
+            largest: FIRST_LARGEST,
+            alloc,
+        }
+    }
+
+    /// A law of every packetizer: at most one set of each kind waits, its numbers are of two bytes, and where packets
+    /// bear none its counter stands at 0.
+    pub fn is_sender(&self)
+        ensures { IsHeld (C.format self.now.codec) (sender (C.format self.now.codec) self.now) }
+    {
+        let _ = &self.codec;
+    }
+
+    /// A packetizer with the same setting, sets that wait, next number and largest packet size. `OutOfMemory` is its
+    /// only error.
+    pub fn clone(&self) -> Result<Self, PacketError>
+        ensures same { IfOk result (λ it. it ≡ self.now) }
+        ensures none { self.now.waiting ≡ none_waiting → IsOk result }
+        ensures memory { OnErr result (result ≡ Err PacketError.OutOfMemory) }
+    {
+        let vps = copied(self.alloc, self.vps.as_deref())?;
+        let sps = copied(self.alloc, self.sps.as_deref())?;
+        let pps = copied(self.alloc, self.pps.as_deref())?;
+        Ok(PayloadPacketizer {
+            codec: self.codec,
+            vps,
+            sps,
+            pps,
+            counter: self.counter,
+            largest: self.largest,
+            alloc: self.alloc,
+        })
+    }
+
+    /// The limit of a call.
+    fn limit(&self, mtu: usize) -> usize
+        ensures { result ≡ limit_at (C.format self.now.codec) self.now.largest mtu }
+    {
+        if self.codec.is_sized() {
+            mtu.min(usize::from(self.largest))
+        } else {
+            mtu
+        }
+    }
+
+    /// Takes the next unit of a payload, and tells what goes.
+    fn take_unit<'a>(&'a self, unit: &'a [u8], brought: &mut Brought<'a>) -> Due<'a>
+        ensures sent { (limit : ℕ) → items_due (C.format self.now.codec) limit unit.now result ≡ items_now (C.format self.now.codec) (waiting_with self.now.waiting brought.old) (record { unit = unit.now; limit = limit }) }
+        ensures waits { waiting_with self.now.waiting brought.new ≡ waits_after (C.format self.now.codec) (waiting_with self.now.waiting brought.old) unit.now }
+        ensures whole { is_nothing result ≡ false → (C.format self.now.codec).header_len ≤ length unit.now }
+        ensures skipped { is_skipped_kind ((C.format self.now.codec).kind unit.now) ≡ true → (result ≡ Due.Nothing) × (brought.new ≡ brought.old) }
+    {
+        match self.codec.kind_of(unit) {
+            UnitKind::Skipped => Due::Nothing,
+            UnitKind::Vps => {
+                brought.vps = Some(unit);
+                Due::Nothing
+            }
+            UnitKind::Sps => {
+                brought.sps = Some(unit);
+                Due::Nothing
+            }
+            UnitKind::Pps => {
+                brought.pps = Some(unit);
+                Due::Nothing
+            }
+            UnitKind::Other => {
+                let vps = newest_of(&self.vps, brought.taken, brought.vps);
+                let sps = newest_of(&self.sps, brought.taken, brought.sps);
+                let pps = newest_of(&self.pps, brought.taken, brought.pps);
+                match (sps, pps) {
+                    (Some(sps), Some(pps)) => {
+                        *brought = Brought {
+                            taken: true,
+                            vps: None,
+                            sps: None,
+                            pps: None,
+                        };
+                        Due::SetsAndUnit(Sets { vps, sps, pps })
+                    }
+                    _ => Due::Unit,
+                }
+            }
+        }
+    }
+
+    /// Appends the packets of a payload, and tells what it brought and the next number.
+    fn append_payload<'a>(
+        &'a self,
+        limit: usize,
+        b: &'a [u8],
+        made: &mut Vec<Vec<u8>>,
+    ) -> Result<(Brought<'a>, u16), PacketError>
+        ensures sent { IfOk result (λ it. IsSent (C.format self.now.codec) self.now.counter (plan_with (C.format self.now.codec) self.now.waiting (entries_at limit ((C.format self.now.codec).units b.now))) (map (λ p. p.items) made.old.items) (map (λ p. p.items) made.new.items) it.1) }
+        ensures waits { IfOk result (λ it. waiting_with self.now.waiting it.0 ≡ waits_after_all (C.format self.now.codec) self.now.waiting (entries_at limit ((C.format self.now.codec).units b.now))) }
+        ensures skipped { are_skipped (C.format self.now.codec) ((C.format self.now.codec).units b.now) ≡ true → IfOk result (λ it. (it.0.vps ≡ None) × (it.0.sps ≡ None) × (it.0.pps ≡ None)) × IsOk result }
+        ensures memory { OnErr result (result ≡ Err PacketError.OutOfMemory) }
+    {
+        let mut brought = Brought {
+            taken: false,
+            vps: None,
+            sps: None,
+            pps: None,
+        };
+        laws::numbers_are_two_bytes();
+        let mut number = self.counter;
+        for unit in self.codec.units_in(b) {
+            let due = self.take_unit(unit, &mut brought);
+            number = append_due(self.codec, self.alloc, limit, number, unit, due, made)?;
+        }
+        Ok((brought, number))
+    }
+}
+
+impl<C: NumberedCodec> PayloadPacketizer<C> {
+    /// Turns decoding order numbers on, which begin at 0, or off. Sets that wait stay.
+    pub fn with_donl(&mut self, has_donl: bool)
+        ensures { self.new ≡ record self.old { codec = C.with_numbers_of self.old.codec has_donl; counter = 0 } }
+    {
+        self.codec = self.codec.with_numbers(has_donl);
+        self.counter = 0;
+    }
+
+    /// Sets the largest packet size, in bytes: no packet of a later call is longer. It is 1200 at first.
+    pub fn with_max_packet_size(&mut self, n: u16)
+        requires { 4 ≤ n }
+        ensures { self.new ≡ record self.old { largest = n } }
+    {
+        self.largest = n;
+    }
+}
+
+impl<C: Codec> Packetizer for PayloadPacketizer<C> {
+    ghost use Rattle.h26x_payload.specs.Held.{meaning_of};
+
+    ghost meaning = { λ held. meaning_of (C.format held.codec) held };
+
+    /// The packets of a payload, in order, each within the limit of the call.
+    ///
+    /// Sets that wait from earlier calls go before the first unit that makes them due. Where no fragment has room for
+    /// data a longer unit is dropped. A payload of skipped units alone, or any under the least `mtu`, has no packets,
+    /// takes no memory and changes nothing.
+    ///
+    /// `OutOfMemory` is its only error, and leaves everything.
+    fn packetize(&mut self, mtu: usize, b: &[u8]) -> Result<Vec<Vec<u8>>, PacketError>
+        ensures sent { IfOk result (λ made. map (λ p. p.items) made.items
+            ≡ packets_by (sender (C.format self.old.codec) self.old) (entries_with (C.format self.old.codec) self.old mtu b.now)) }
+        ensures after { OnOk result (self.new
+            ≡ held_after (C.format self.old.codec) self.old (entries_with (C.format self.old.codec) self.old mtu b.now)) }
+        ensures within { IfOk result (λ made.
+            AreWithin (limit_of_call (C.format self.old.codec) (call_of self.old mtu b.now)) (map (λ p. p.items) made.items)) }
+
+        ensures refused { OnErr result (self.new ≡ self.old) }
+        ensures memory { OnErr result (result ≡ Err PacketError.OutOfMemory) }
+
+        // Calls without effect take no memory.
+        ensures free { has_no_effect (C.format self.old.codec) (call_of self.old mtu b.now) ≡ true → IsOk result }
+        ensures without_effect { has_no_effect (C.format self.old.codec) (call_of self.old mtu b.now) ≡ true →
+            IfOk result (λ made. (made.items ≡ []) × (self.new ≡ self.old)) }
+    {
+        laws::packetizers_go_on();
+        if mtu < self.codec.least_mtu() {
+            return Ok(Vec::new(self.alloc));
+        }
+        let mut made = Vec::new(self.alloc);
+        let (brought, counter) = self.append_payload(self.limit(mtu), b, &mut made)?;
+        let taken = brought.taken;
+        let vps = copied(self.alloc, brought.vps)?;
+        let sps = copied(self.alloc, brought.sps)?;
+        let pps = copied(self.alloc, brought.pps)?;
+        replace_set(&mut self.vps, taken, vps);
+        replace_set(&mut self.sps, taken, sps);
+        replace_set(&mut self.pps, taken, pps);
+        if self.codec.is_numbered() {
+            self.counter = counter;
+        }
+        Ok(made)
+    }
+
+    /// The marker bit stands on the last packet of a frame.
+    fn is_marker(&mut self, data: &[u8], previous: Option<&[u8]>, last: bool) -> bool
+        ensures is { result ≡ last }
+        ensures left { self.new ≡ self.old }
+    {
+        last
+    }
+}
