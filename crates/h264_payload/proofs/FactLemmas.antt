@@ -6,10 +6,11 @@ use Rattle.std.proofs.lemmas.Bool.Decides.{nat_tests}
 use Rattle.h26x_core.specs.H264Unit.{type_of, type_of_first, is_key}
 use Rattle.h26x_core.specs.Packets.{single}
 use Rattle.h26x_core.specs.Pieces.{piece}
-use Rattle.h26x_core.specs.Facts.{AreCarried, HeadersTakeRoom, FitsLimits, MarksFragments, SetsLeaveRoom, ExtraTells, KnowsKeyUnits, KeyUnitsAreOther, IsPayloadFormat}
+use Rattle.h26x_core.specs.Facts.{AreCarried, HeadersTakeRoom, MarksFragments, SetsLeaveRoom, ExtraTells, KnowsKeyUnits, KeyUnitsAreOther, IsPayloadFormat}
 use Rattle.h26x_core.proofs.HeaderLemmas.{start_back, end_back, type_back}
 use Rattle.h26x_core.proofs.PieceLemmas.{pieces_back}
 use Rattle.h264_payload.specs.H264.{h264, carries, sets_fit, fragment_header}
+use Rattle.h264_payload.specs.CodecFacts.{fits_limits, no_numbers}
 use Rattle.h264_payload.proofs.HeaderLemmas.{type_below, type_fits, indicator_type, carried_first, unit_tests}
 use Rattle.h264_payload.proofs.ReadBackLemmas.{reads_what_it_writes}
 use Rattle.h264_payload.proofs.SetLemmas.{fit_parts, none_is_empty}
@@ -17,15 +18,6 @@ use Rattle.h264_payload.proofs.SetLemmas.{fit_parts, none_is_empty}
 -- a fragment has two bytes beside its data
 pub headers_take_room : HeadersTakeRoom h264
 headers_take_room = search rules
-
--- a fragment's header has two bytes at most
-header_long : (unit : List ℕ) (start end : Bool) → length (fragment_header unit start end) ≤ 2
-header_long [] start end = omega arith
-header_long (first ∷ unit) start end = omega arith
-
--- fragments' headers are as long as they are counted, and a STAP-A of sets that fit is within the limit
-pub fits_limits : FitsLimits h264
-fits_limits = record { header = header_long; sets = λ limit n sets unit fit. let h = (fit_parts limit sets fit).0 in omega (arith, h) }
 
 -- two sets behind their lengths take more than a fragment's header
 pub sets_leave_room : SetsLeaveRoom h264
@@ -99,5 +91,5 @@ is_payload_format = record {
   extra = extra_tells;
   detects = knows_key_units;
   other = key_units_are_other;
-  numbers = record { sets = λ n sets unit. refl; none = λ none n m sets unit. refl };
+  numbers = no_numbers;
 }

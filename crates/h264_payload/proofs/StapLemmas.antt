@@ -15,7 +15,7 @@ use Rattle.h26x_core.specs.Extra.{extra_after}
 use Rattle.h26x_core.specs.Outcome.{is_too_long, IsOutcomeWith}
 use Rattle.h26x_core.specs.Receiver.{Work, work_after}
 use Rattle.h26x_core.proofs.ReceiverLemmas.{with_run, after_one}
-use Rattle.h264_payload.specs.Packet.{written_len}
+use Rattle.h26x_payload.specs.Run.{written_len}
 
 -- numbers put beside units and left out again
 pub units_only : (units : List (List ℕ)) → map (λ (u : List ℕ × Option ℕ). u.0) (map unnumbered units) ≡ units

@@ -1,130 +1,51 @@
 //! NAL units from H.264 packets (RFC 6184, 5 and 7).
 
-ghost use Rattle.std.specs.Prelude.{◌≡◌, ◌≤◌, ◌+◌, ◌-◌, ◌^◌, min, true, false, ◌&&◌, ◌||◌, MatchBool, ◌⊎◌};
-ghost use Rattle.std.specs.Prelude.{[], ◌∷◌, ◌++◌, length, vec_len, vec_capacity, Some, None, Ok, Err, IfOk, OnOk, OnErr, IsOk};
-ghost use Rattle.std.specs.List.{list_any};
+ghost use Rattle.std.specs.Prelude.{◌≡◌, ◌-◌, ◌^◌, min, true, false, ◌||◌, ◌⊎◌, [], ◌∷◌, ◌++◌, Some, None, Ok, Err, IfOk, OnOk, OnErr, IsOk};
 ghost use Rattle.h26x_core.specs.Front.{IsFrontOf};
 ghost use Rattle.h26x_core.specs.H264Frame.{is_head};
-ghost use Rattle.h26x_core.specs.H264Unit.{is_key};
 ghost use Rattle.h26x_core.specs.Hint.{size_hint};
-ghost use Rattle.h26x_core.specs.Text.{lead, text};
-ghost use Rattle.h26x_core.specs.Reading.{Fragment};
-ghost use Rattle.h26x_core.specs.Received.{units_with, run_after};
+ghost use Rattle.h26x_core.specs.Text.{text};
 ghost use Rattle.h26x_core.specs.Extra.{extra_after};
-ghost use Rattle.h26x_core.specs.Outcome.{is_too_long, is_startless, IsOutcomeWith};
-ghost use Rattle.h264_payload.specs.H264.{h264, has_key, stap_units};
+ghost use Rattle.h26x_core.specs.Outcome.{is_startless};
 ghost use Rattle.h26x_core.specs.Receiver.{work_after, IsOutcomeAt};
-ghost use Rattle.h264_payload.specs.Packet.{written_len, work};
+ghost use Rattle.h264_payload.specs.H264.{h264, stap_units};
+ghost use Rattle.h264_payload.specs.Packet.{IsStapOf};
+ghost use Rattle.h264_payload.specs.Depacketizer.{work};
 
 use crate::packet::{Packet, read};
+use crate::packetizer::H264;
 use crate::stap;
 use h26x_core::{
-    ANNEXB_NALUSTART_CODE, CodecExtra, Depacketizer, FU_START_BITMASK, FUA_NALU_TYPE,
-    FUB_NALU_TYPE, H264CodecExtra, IDR_NALU_TYPE, NALU_TYPE_BITMASK, PacketError,
+    CodecExtra, Depacketizer, FU_START_BITMASK, FUA_NALU_TYPE, FUB_NALU_TYPE, NALU_TYPE_BITMASK,
+    PacketError,
 };
+use h26x_payload::{Codec, Fragment, OpenRun, append_unit, out_size_hint, take_fragment, told, write_unit};
 use std::alloc::Global;
 use std::marker::Model;
 
-/// The bytes before a unit that is written: a start code, or in AVC form its length.
-const LEAD_SIZE: usize = 4;
-
-/// Writes one unit, of these parts, where there is room for it.
-fn write_unit(is_avc: bool, head: &[u8], run: &[u8], body: &[u8], out: &mut Vec<u8>)
-    requires room { vec_len out.old + (4 + (length head.now + (length run.now + length body.now))) ≤ vec_capacity out.old }
-    requires fits { (is_avc && is_too_long (head.now ++ (run.now ++ body.now))) ≡ false }
-    ensures written { out.new.items ≡ out.old.items ++ (lead is_avc (head.now ++ (run.now ++ body.now)) ++ (head.now ++ (run.now ++ body.now))) }
-    ensures capacity { vec_capacity out.old ≤ vec_capacity out.new }
-{
-    if is_avc {
-        let len = head.len() + run.len() + body.len();
-        out.extend_from_slice(&(len as u32).to_be_bytes()).unwrap();
-    } else {
-        out.extend_from_slice(&ANNEXB_NALUSTART_CODE).unwrap();
-    }
-    out.extend_from_slice(head).unwrap();
-    out.extend_from_slice(run).unwrap();
-    out.extend_from_slice(body).unwrap();
-}
-
-/// Appends one unit, of these parts.
-fn append_unit(
-    is_avc: bool,
-    head: &[u8],
-    run: &[u8],
-    body: &[u8],
-    out: &mut Vec<u8>,
-) -> Result<(), PacketError>
-    ensures outcome { MatchBool (is_avc && is_too_long (head.now ++ (run.now ++ body.now)))
-        (result ≡ Err PacketError.AvcUnitTooLong) ((result ≡ Ok tt) ⊎ (result ≡ Err PacketError.OutOfMemory)) }
-    ensures written { OnOk result (out.new.items ≡ out.old.items ++ text is_avc ((head.now ++ (run.now ++ body.now)) ∷ [])) }
-    ensures kept { OnErr result (out.new.items ≡ out.old.items) }
-{
-    let len = head
-        .len()
-        .saturating_add(run.len())
-        .saturating_add(body.len());
-    if is_avc && len > u32::MAX as usize {
-        return Err(PacketError::AvcUnitTooLong);
-    }
-    out.reserve(len.saturating_add(LEAD_SIZE))?;
-    write_unit(is_avc, head, run, body, out);
-    Ok(())
-}
-
-/// Whether a unit is a slice of an IDR picture.
-fn is_key_unit(unit: &[u8]) -> bool
-    ensures { result ≡ is_key unit.now }
-{
-    !unit.is_empty() && unit[0] & NALU_TYPE_BITMASK == IDR_NALU_TYPE
-}
-
-/// The extra after units, with a key unit among them or not.
-fn told(extra: CodecExtra, key: bool) -> CodecExtra
-    ensures { result ≡ h264.extra (key || has_key extra) }
-{
-    let was_keyframe = matches!(
-        extra,
-        CodecExtra::H264(H264CodecExtra { is_keyframe: true })
-    );
-    CodecExtra::H264(H264CodecExtra {
-        is_keyframe: key || was_keyframe,
-    })
-}
-
-/// How many bytes the units of a STAP-A take where they are written.
-fn stap_len(bytes: &[u8]) -> usize
-    ensures { result ≡ min (written_len (stap_units bytes.now)) (2 ^ 64 - 1) }
-{
-    let mut len: usize = 0;
-    for unit in stap::units(bytes) {
-        len = len.saturating_add(unit.len()).saturating_add(LEAD_SIZE);
-    }
-    len
-}
-
-/// Appends the units of a STAP-A.
+/// Appends the units of a STAP-A, which take so many bytes.
 fn append_units(
     is_avc: bool,
     bytes: &[u8],
+    len: usize,
     out: &mut Vec<u8>,
     codec_extra: &mut CodecExtra,
 ) -> Result<(), PacketError>
-    requires { list_any is_too_long (stap_units bytes.now) ≡ false }
+    requires { IsStapOf bytes.now len }
     ensures outcome { (result ≡ Ok tt) ⊎ (result ≡ Err PacketError.OutOfMemory) }
     ensures written { OnOk result (out.new.items ≡ out.old.items ++ text is_avc (stap_units bytes.now)) }
     ensures told { OnOk result (codec_extra.new ≡ extra_after h264 codec_extra.old (stap_units bytes.now)) }
     ensures kept { OnErr result (out.new.items ≡ out.old.items) }
     ensures kept_extra { OnErr result (codec_extra.new ≡ codec_extra.old) }
 {
-    let len = stap_len(bytes);
     out.reserve(len)?;
     let mut key = false;
     for unit in stap::units(bytes) {
-        key |= is_key_unit(unit);
-        write_unit(is_avc, unit, &[], &[], out);
+        key |= H264.is_key(unit);
+        write_unit(is_avc, unit, out);
     }
     if len > 0 {
-        *codec_extra = told(*codec_extra, key);
+        *codec_extra = told(H264, *codec_extra, key);
     }
     Ok(())
 }
@@ -144,20 +65,15 @@ fn append_units(
 pub struct H264Depacketizer {
     /// Whether units are written in AVC form (ISO/IEC 14496-15), behind lengths of four bytes.
     pub is_avc: bool,
-    run: Vec<u8>,
-    is_open: bool,
+    run: OpenRun,
 }
 
 impl Model for H264Depacketizer {
-    ghost use Rattle.std.specs.Prelude.{◌≡◌, false, []};
-    ghost use Rattle.h264_payload.specs.Packet.{Depacketizer, run_where};
+    ghost use Rattle.h264_payload.specs.Depacketizer.{Depacketizer};
 
     ghost Value = { Depacketizer };
 
-    ghost view = { λ a. record { is_avc = a.is_avc; run = run_where a.is_open a.run.items } };
-
-    // A run that is closed holds no bytes.
-    ghost invariant = { λ a. a.is_open ≡ false → a.run.items ≡ [] };
+    ghost view = { λ a. record { is_avc = a.is_avc; run = a.run } };
 }
 
 impl H264Depacketizer {
@@ -168,8 +84,7 @@ impl H264Depacketizer {
     {
         H264Depacketizer {
             is_avc: false,
-            run: Vec::new(alloc),
-            is_open: false,
+            run: OpenRun::none(alloc),
         }
     }
 
@@ -181,64 +96,7 @@ impl H264Depacketizer {
         Ok(H264Depacketizer {
             is_avc: self.is_avc,
             run: self.run.clone()?,
-            is_open: self.is_open,
         })
-    }
-
-    /// Begins a run anew with these data.
-    fn begin(&mut self, body: &[u8]) -> Result<(), PacketError>
-        ensures outcome { (result ≡ Ok tt) ⊎ (result ≡ Err PacketError.OutOfMemory) }
-        ensures run { OnOk result (self.new ≡ record self.old { run = Some body.now }) }
-        ensures kept { OnErr result (self.new ≡ self.old) }
-    {
-        self.run.reserve(body.len().saturating_sub(self.run.len()))?;
-        self.run.clear();
-        self.run.extend_from_slice(body).unwrap();
-        self.is_open = true;
-        Ok(())
-    }
-
-    /// Closes the run, and keeps its buffer for the next.
-    fn close(&mut self)
-        ensures { self.new ≡ record self.old { run = None } }
-    {
-        self.run.clear();
-        self.is_open = false;
-    }
-
-    /// Takes a fragment (RFC 6184, 5.8).
-    fn take_fragment(
-        &mut self,
-        start: bool,
-        end: bool,
-        head: u8,
-        body: &[u8],
-        out: &mut Vec<u8>,
-        codec_extra: &mut CodecExtra,
-    ) -> Result<(), PacketError>
-        ensures outcome { IsOutcomeWith self.old.is_avc self.old.run (Fragment start end (head ∷ []) None body.now) result }
-        ensures written { OnOk result (out.new.items ≡ out.old.items ++ text self.old.is_avc (units_with self.old.run (Fragment start end (head ∷ []) None body.now))) }
-        ensures told { OnOk result (codec_extra.new ≡ extra_after h264 codec_extra.old (units_with self.old.run (Fragment start end (head ∷ []) None body.now))) }
-        ensures run { OnOk result (self.new ≡ record self.old { run = run_after self.old.run (Fragment start end (head ∷ []) None body.now) }) }
-        ensures kept { OnErr result (out.new.items ≡ out.old.items) }
-        ensures kept_extra { OnErr result (codec_extra.new ≡ codec_extra.old) }
-        ensures kept_run { OnErr result (self.new ≡ self.old) }
-        ensures startless { start ≡ false → self.old.run ≡ None → IsOk result }
-    {
-        if !start && !self.is_open {
-            return Ok(());
-        }
-        if end {
-            let run = if start { &[] } else { self.run.as_slice() };
-            append_unit(self.is_avc, &[head], run, body, out)?;
-            *codec_extra = told(*codec_extra, is_key_unit(&[head]));
-            self.close();
-        } else if start {
-            self.begin(body)?;
-        } else {
-            self.run.extend_from_slice(body)?;
-        }
-        Ok(())
     }
 }
 
@@ -257,7 +115,7 @@ impl PartialEq for H264Depacketizer {
     ghost laws = { partial_equiv_from_equiv (Prim.search (comparing, rules)) };
 
     fn eq(&self, other: &Self) -> bool {
-        self.is_avc == other.is_avc && self.is_open == other.is_open && self.run == other.run
+        self.is_avc == other.is_avc && self.run == other.run
     }
 }
 
@@ -269,7 +127,7 @@ impl Eq for H264Depacketizer {
 }
 
 impl Depacketizer for H264Depacketizer {
-    ghost use Rattle.h264_payload.specs.Packet.{meaning_of};
+    ghost use Rattle.h264_payload.specs.Depacketizer.{meaning_of};
 
     // The setting, and the data of the open run if there is one.
     ghost meaning = { meaning_of };
@@ -278,7 +136,7 @@ impl Depacketizer for H264Depacketizer {
     fn out_size_hint(&self, packets_size: usize) -> Option<usize>
         ensures { result ≡ Some (size_hint packets_size) }
     {
-        Some(packets_size.saturating_add(4 * (packets_size / 1200 + 1)))
+        out_size_hint(packets_size)
     }
 
     /// Appends the units that `packet` completes to `out`, each behind `00 00 00 01`, or in AVC form behind
@@ -315,17 +173,21 @@ impl Depacketizer for H264Depacketizer {
     {
         match read(packet)? {
             Packet::Single(unit) => {
-                append_unit(self.is_avc, unit, &[], &[], out)?;
-                *codec_extra = told(*codec_extra, is_key_unit(unit));
+                append_unit(self.is_avc, unit, out)?;
+                *codec_extra = told(H264, *codec_extra, H264.is_key(unit));
                 Ok(())
             }
-            Packet::Aggregate(bytes) => append_units(self.is_avc, bytes, out, codec_extra),
+            Packet::Aggregate(bytes, len) => append_units(self.is_avc, bytes, len, out, codec_extra),
             Packet::Fragment {
                 start,
                 end,
                 head,
                 body,
-            } => self.take_fragment(start, end, head, body, out, codec_extra),
+            } => {
+                let head = &[head];
+                let fragment = Fragment { start, end, head, body };
+                take_fragment(H264, self.is_avc, fragment, &mut self.run, out, codec_extra)
+            }
         }
     }
 

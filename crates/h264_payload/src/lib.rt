@@ -15,7 +15,6 @@
 pub mod cases;
 mod depacketizer;
 mod detect;
-mod fragments;
 pub mod laws;
 mod packet;
 mod packetizer;
@@ -24,4 +23,4 @@ mod stap;
 pub use depacketizer::H264Depacketizer;
 pub use detect::{detect_h264_keyframe, detect_h264_nalu};
 pub use h26x_core::ANNEXB_NALUSTART_CODE;
-pub use packetizer::H264Packetizer;
+pub use packetizer::{H264, H264Packetizer};

@@ -18,8 +18,8 @@ pub enum Packet<'a> {
     /// A single NAL unit packet: the unit (RFC 6184, 5.6).
     Single(&'a [u8]),
 
-    /// A STAP-A: the bytes behind its header (RFC 6184, 5.7.1).
-    Aggregate(&'a [u8]),
+    /// A STAP-A: the bytes behind its header, and how many its units take where they are written (RFC 6184, 5.7.1).
+    Aggregate(&'a [u8], usize),
 
     /// An FU-A (RFC 6184, 5.8).
     Fragment {
@@ -53,8 +53,8 @@ pub fn read(packet: &[u8]) -> Result<Packet<'_>, PacketError>
     }
     match packet[0] & NALU_TYPE_BITMASK {
         STAPA_NALU_TYPE => {
-            check_stap(&packet[STAPA_HEADER_SIZE..])?;
-            Ok(Packet::Aggregate(&packet[STAPA_HEADER_SIZE..]))
+            let bytes = &packet[STAPA_HEADER_SIZE..];
+            Ok(Packet::Aggregate(bytes, check_stap(bytes)?))
         }
         FUA_NALU_TYPE => read_fragment(packet),
         1..=23 => Ok(Packet::Single(packet)),

@@ -1,14 +1,14 @@
 //! The units of a STAP-A (RFC 6184, 5.7.1).
 
-ghost use Rattle.std.specs.Prelude.{◌≡◌, false, map, IfOk, IfErr};
-ghost use Rattle.std.specs.List.{list_any};
+ghost use Rattle.std.specs.Prelude.{◌≡◌, map, IfOk, IfErr};
 ghost use Rattle.std.specs.Iterator.{YieldsFirstBy, item_count};
-ghost use Rattle.h26x_core.specs.Outcome.{is_too_long};
 ghost use Rattle.h26x_core.specs.Pieces.{pieces_of};
 ghost use Rattle.h26x_core.specs.Reading.{Aggregate, Refused, unnumbered};
 ghost use Rattle.h264_payload.specs.H264.{aggregate_of, stap_units};
+ghost use Rattle.h264_payload.specs.Packet.{IsStapOf};
 
 use h26x_core::{PacketError, STAPA_NALU_LENGTH_SIZE, first_piece};
+use h26x_payload::LEAD_SIZE;
 use std::marker::Model;
 
 /// The units of a STAP-A, as slices of it: empty ones are skipped, and they end where a length
@@ -57,21 +57,28 @@ pub fn units(bytes: &[u8]) -> StapUnits<'_>
     StapUnits { rest: bytes }
 }
 
-/// Refuses a STAP-A with a length that passes its end.
-pub fn check_stap(bytes: &[u8]) -> Result<(), PacketError>
-    ensures whole { IfOk result (λ _. aggregate_of (pieces_of bytes.now) ≡ Aggregate (map unnumbered (stap_units bytes.now))) }
-    ensures short { IfOk result (λ _. list_any is_too_long (stap_units bytes.now) ≡ false) }
+/// How many bytes the units of a STAP-A take where they are written, at most `usize::MAX`; one with a length that passes its
+/// end is refused.
+pub fn check_stap(bytes: &[u8]) -> Result<usize, PacketError>
+    ensures whole { IfOk result (λ len. aggregate_of (pieces_of bytes.now) ≡ Aggregate (map unnumbered (stap_units bytes.now))) }
+    ensures len { IfOk result (λ len. IsStapOf bytes.now len) }
     ensures refused { IfErr result (λ e. aggregate_of (pieces_of bytes.now) ≡ Refused e) }
 {
+    let mut len: usize = 0;
     let mut rest = bytes;
     while rest.len() >= STAPA_NALU_LENGTH_SIZE {
         match first_piece(rest) {
-            Ok((_, behind)) => rest = behind,
-            Err(len) => {
+            Ok((unit, behind)) => {
+                if !unit.is_empty() {
+                    len = len.saturating_add(unit.len() + LEAD_SIZE);
+                }
+                rest = behind;
+            }
+            Err(needed) => {
                 let left = rest.len() - STAPA_NALU_LENGTH_SIZE;
-                return Err(PacketError::StapASizeLargerThanBuffer(len, left));
+                return Err(PacketError::StapASizeLargerThanBuffer(needed, left));
             }
         }
     }
-    Ok(())
+    Ok(len)
 }

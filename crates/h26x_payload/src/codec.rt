@@ -7,6 +7,7 @@ ghost use Rattle.h26x_core.specs.Kind.{is_other};
 ghost use Rattle.h26x_payload.specs.Sending.{unit_kind, sets_in};
 
 use crate::sets::Sets;
+use h26x_core::CodecExtra;
 use h26x_cut::UnitSlices;
 use std::alloc::{AllocError, Global};
 use std::fmt;
@@ -86,6 +87,18 @@ pub trait Codec: Copy + fmt::Debug {
         requires whole { (format self).header_len ≤ length unit.now }
         ensures { OnOk result (packet.new.items ≡ packet.old.items ++ (format self).fragment_header unit.now start end) };
 
+    /// Whether a unit is of a key type.
+    fn is_key(self, unit: &[u8]) -> bool
+        ensures { result ≡ (format self).is_key unit.now };
+
+    /// What is told of units, with a key unit among them or not.
+    fn extra(self, key: bool) -> CodecExtra
+        ensures { result ≡ (format self).extra key };
+
+    /// Whether a key unit was told of.
+    fn has_key(self, extra: CodecExtra) -> bool
+        ensures { result ≡ (format self).has_key extra };
+
     // Headers are as long as they are counted, and sets that fit are within the limit.
     ghost fits: { (codec : Self) → FitsLimits (format codec) };
 
@@ -94,6 +107,9 @@ pub trait Codec: Copy + fmt::Debug {
 
     // An other unit has a whole header.
     ghost headed: { (codec : Self) (unit : List ℕ) → is_other ((format codec).kind unit) ≡ true → (format codec).header_len ≤ length unit };
+
+    // A header tells whether its unit is of a key type.
+    ghost keyed: { (codec : Self) (head rest : List ℕ) → length head ≡ (format codec).header_len → (format codec).is_key (head ++ rest) ≡ (format codec).is_key head };
 
     // No setting changes what a unit is.
     ghost one_kind: { (codec other : Self) (unit : List ℕ) → (format codec).kind unit ≡ (format other).kind unit };

@@ -11,13 +11,10 @@ use Rattle.h26x_core.specs.Text.{is_not_empty, text}
 use Rattle.h26x_core.specs.Extra.{extra_after}
 use Rattle.h26x_core.specs.Facts.{AreCarried, IsPayloadFormat}
 use Rattle.h26x_core.specs.Group.{Entry}
-use Rattle.h26x_core.specs.Waits.{Waiting, AreSets}
-use Rattle.h26x_core.specs.Calls.{Call, AreCalls, call_at, entries_of}
+use Rattle.h26x_core.specs.Calls.{Call, AreCalls, entries_of_call, entries_of}
 use Rattle.h26x_core.specs.Sender.{Sender, IsSender, sent_by, packets_by}
 use Rattle.h26x_core.specs.Receiver.{Work, brought, work_after, IsOutcomeAt, AreDelivered, AreShort}
 use Rattle.h26x_core.specs.Ends.{ReceiverGoesOn, CarriesWhole}
-use Rattle.h264_payload.specs.H264.{h264}
-use Rattle.h264_payload.specs.Sending.{sender, entries_of_payload}
 use Rattle.h26x_tool.specs.Carry.{IsCarriedWhole}
 
 -- a beginning of a beginning is one of the whole
@@ -67,35 +64,39 @@ some_made items (packet ∷ made) n all count is =
     let some : eqb n 0 ≡ false = grind (arith, nat_tests) in
     rw (some, ← is) refl
 
--- a call's entries are those of its payload
-one_call : (mtu : ℕ) (payload : List ℕ) → entries_of h264 (call_at mtu payload ∷ []) ≡ entries_of_payload mtu payload
-one_call mtu payload = append-nil (entries_of_payload mtu payload)
+-- one call's entries
+one_call : (s : Sender) (call : Call) → entries_of s.format (call ∷ []) ≡ entries_of_call s.format call
+one_call s call = append-nil (entries_of_call s.format call)
 
 -- what calls send is carried whole, as the law has it
 abbrev pub CarriesCalls : Type 0
 CarriesCalls = (s : Sender) (w : Work) (calls : List Call) → IsPayloadFormat s.format → IsSender s → AreCalls calls → w.receiver.format ≡ s.format →
     AreCarried s.format (sent_by s (entries_of s.format calls)) → CarriesWhole s w calls
 
+-- what it asks of a call through both ends
+pub record IsCall (s : Sender) (w : Work) (call : Call) : Type 0 where
+  pub law : CarriesCalls
+  pub facts : IsPayloadFormat s.format
+  pub is : IsSender s
+  pub small : call.largest ≤ 65535
+  pub same : w.receiver.format ≡ s.format
+
 -- so what one call sends is
-one_carried : (p : Waiting) (w : Work) (mtu : ℕ) (payload : List ℕ) → CarriesCalls → IsPayloadFormat h264 → AreSets h264 p → w.receiver.format ≡ h264 →
-    AreCarried h264 (sent_by (sender p) (entries_of_payload mtu payload)) → CarriesWhole (sender p) w (call_at mtu payload ∷ [])
-one_carried p w mtu payload law facts sets same carried =
-    let is : IsSender (sender p) = record { sets = sets; small = omega arith; size = omega arith } in
-    law (sender p) w (call_at mtu payload ∷ []) facts is (omega arith, tt) same
-    (subst (λ (es : List Entry). AreCarried h264 (sent_by (sender p) es)) (sym (one_call mtu payload)) carried)
+one_carried : (s : Sender) (w : Work) (call : Call) → IsCall s w call → AreCarried s.format (sent_by s (entries_of_call s.format call)) → CarriesWhole s w (call ∷ [])
+one_carried s w call c carried =
+    c.law s w (call ∷ []) c.facts c.is (c.small, tt) c.same (subst (λ (es : List Entry). AreCarried s.format (sent_by s es)) (sym (one_call s call)) carried)
 
 -- where all of a call's packets were taken, and what it sends is carried whole
-pub all_carried : {A B : Type 0} (p : Waiting) (w : Work) (mtu : ℕ) (payload : List ℕ) (a : A) (b : B) (new : Work) →
-    CarriesCalls → IsPayloadFormat h264 → AreSets h264 p → w.receiver.format ≡ h264 →
-    AreDelivered w (packets_by (sender p) (entries_of_payload mtu payload)) (Ok b) (Some new) → IsCarriedWhole {A = A} (sender p) w mtu payload (Ok a) new
-all_carried p w mtu payload a b new law facts sets same d = λ carried.
-    let s = sender p in
-    let whole = one_carried p w mtu payload law facts sets same carried in
-    let received : brought w.receiver (packets_by s (entries_of_payload mtu payload)) ≡ sent_by s (entries_of_payload mtu payload) =
-    subst (λ (es : List Entry). brought w.receiver (packets_by s es) ≡ sent_by s es) (one_call mtu payload) whole.received in
-    let all : d.taken ≡ packets_by s (entries_of_payload mtu payload) =
+pub all_carried : {A B : Type 0} (s : Sender) (w : Work) (call : Call) (a : A) (b : B) (new : Work) → IsCall s w call →
+    AreDelivered w (packets_by s (entries_of_call s.format call)) (Ok b) (Some new) → IsCarriedWhole {A = A} s w call (Ok a) new
+all_carried s w call a b new c d = λ carried.
+    let entries = entries_of_call s.format call in
+    let whole = one_carried s w call c carried in
+    let received : brought w.receiver (packets_by s entries) ≡ sent_by s entries =
+    subst (λ (es : List Entry). brought w.receiver (packets_by s es) ≡ sent_by s es) (one_call s call) whole.received in
+    let all : d.taken ≡ packets_by s entries =
     sym (append-nil d.taken) ∙ ap (λ (left : List (List ℕ)). d.taken ++ left) (sym d.all) ∙ sym d.front in
-    let units : brought w.receiver d.taken ≡ sent_by s (entries_of_payload mtu payload) = ap (brought w.receiver) all ∙ received in
+    let units : brought w.receiver d.taken ≡ sent_by s entries = ap (brought w.receiver) all ∙ received in
     let stands : new ≡ work_after w d.taken = let is = d.work in cc in (
       (
         ap (λ (x : Work). x.out) stands ∙ ap (λ (us : List (List ℕ)). w.out ++ text w.receiver.is_avc us) units,
@@ -106,15 +107,13 @@ all_carried p w mtu payload a b new law facts sets same d = λ carried.
     )
 
 -- where one was refused
-pub some_carried : {A B : Type 0} (p : Waiting) (w : Work) (mtu : ℕ) (payload : List ℕ) (answer : Result A PacketError) (e : PacketError) (new : Work) → answer ≡ Err e →
-    CarriesCalls → IsPayloadFormat h264 → AreSets h264 p → w.receiver.format ≡ h264 →
-    AreDelivered {A = B} w (packets_by (sender p) (entries_of_payload mtu payload)) (Err e) (Some new) → IsCarriedWhole (sender p) w mtu payload answer new
-some_carried p w mtu payload answer e new is law facts sets same d = λ carried.
-    let s = sender p in
-    let whole = one_carried p w mtu payload law facts sets same carried in
-    let front : packets_by s (entries_of h264 (call_at mtu payload ∷ [])) ≡ d.taken ++ d.left = ap (packets_by s) (one_call mtu payload) ∙ d.front in
+pub some_carried : {A B : Type 0} (s : Sender) (w : Work) (call : Call) (answer : Result A PacketError) (e : PacketError) (new : Work) → answer ≡ Err e → IsCall s w call →
+    AreDelivered {A = B} w (packets_by s (entries_of_call s.format call)) (Err e) (Some new) → IsCarriedWhole s w call answer new
+some_carried s w call answer e new is c d = λ carried.
+    let whole = one_carried s w call c carried in
+    let front : packets_by s (entries_of s.format (call ∷ [])) ≡ d.taken ++ d.left = ap (packets_by s) (one_call s call) ∙ d.front in
     rw is (
       tt,
       whole.causes d.taken d.left e front d.cause,
-      λ short. whole.refused (λ avc. subst (λ (es : List Entry). AreShort (sent_by s es)) (sym (one_call mtu payload)) (short avc)) d.taken d.left e front d.cause,
+      λ short. whole.refused (λ avc. subst (λ (es : List Entry). AreShort (sent_by s es)) (sym (one_call s call)) (short avc)) d.taken d.left e front d.cause,
     )

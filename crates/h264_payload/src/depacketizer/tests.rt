@@ -1,4 +1,5 @@
 use super::*;
+use h26x_core::{ANNEXB_NALUSTART_CODE, H264CodecExtra};
 use std::test::Fail;
 
 const STAP: [u8; 26] = [

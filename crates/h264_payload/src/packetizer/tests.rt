@@ -1,4 +1,5 @@
 use super::*;
+use h26x_core::{PacketError, Packetizer};
 use std::test::Fail;
 
 /// The packets of a payload that a new packetizer sends.
@@ -96,8 +97,10 @@ fn sets_go_before_the_next_unit(rt: HostRuntime) -> Result<(), Fail> {
     assert_eq!(rt; packets[1].as_slice(), [5, 4, 5].as_slice());
     assert_eq!(rt; packetizer.packetize(1500, &[5, 4, 5])?.len(), 1);
     let packets = other.packetize(10, &[5, 4, 5])?;
-    assert_eq!(rt; packets.len(), 1);
-    assert_eq!(rt; packets[0].as_slice(), [5, 4, 5].as_slice());
+    assert_eq!(rt; packets.len(), 3);
+    assert_eq!(rt; packets[0].as_slice(), [7, 0, 1].as_slice());
+    assert_eq!(rt; packets[1].as_slice(), [8, 2, 3].as_slice());
+    assert_eq!(rt; packets[2].as_slice(), [5, 4, 5].as_slice());
     assert_eq!(rt; other.packetize(1500, &[5, 4, 5])?.len(), 1);
     Ok(())
 }
@@ -109,5 +112,22 @@ fn the_marker_is_on_the_last_packet(rt: HostRuntime) -> Result<(), Fail> {
     assert!(rt; !packetizer.is_marker(&[5], Some(&[5]), false));
     assert!(rt; packetizer.nackable());
     assert!(rt; !packetizer.marks_talkspurt());
+    Ok(())
+}
+
+#[test]
+fn sets_with_long_lengths_go_alone(rt: HostRuntime) -> Result<(), Fail> {
+    let mut sps = vec![in rt.alloc(); 0xaau8; 70_000]?;
+    if let Some(first) = sps.first_mut() {
+        *first = 0x67;
+    }
+    let mut packetizer = H264Packetizer::new(rt.alloc());
+    assert!(rt; packetizer.packetize(200_000, &sps)?.is_empty());
+    assert!(rt; packetizer.packetize(200_000, &[0x68, 0xbb])?.is_empty());
+    let packets = packetizer.packetize(200_000, &[0x65, 0xcc])?;
+    assert_eq!(rt; packets.len(), 3);
+    assert_eq!(rt; packets[0].as_slice(), sps.as_slice());
+    assert_eq!(rt; packets[1].as_slice(), [0x68, 0xbb].as_slice());
+    assert_eq!(rt; packets[2].as_slice(), [0x65, 0xcc].as_slice());
     Ok(())
 }

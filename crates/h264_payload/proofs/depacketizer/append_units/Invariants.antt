@@ -3,7 +3,7 @@ use Rattle.std.specs.List.{list_any}
 use Rattle.h26x_core.specs.H264Unit.{is_key}
 use Rattle.h26x_core.specs.Outcome.{is_too_long}
 use Rattle.h26x_core.specs.Text.{text}
-use Rattle.h264_payload.specs.Packet.{written_len}
+use Rattle.h26x_payload.specs.Run.{written_len}
 use Rattle.h264_payload.specs.H264.{stap_units}
 use Rattle.h264_payload.proofs.depacketizer.append_units.Given as goal
 

@@ -2,8 +2,9 @@ use Rattle.std.proofs.Common.{◌≡◌, ◌∙◌, ap, map, refl, rules, ℕ, V
 use Rattle.std.proofs.lemmas.Result.{err_from_is_err_and}
 use Rattle.h26x_core.specs.declared.error.PacketError.TheVariants.{OutOfMemory}
 use Rattle.h26x_core.specs.Sender.{packets_by}
-use Rattle.h264_payload.specs.Sending.{sender, entries_of_payload}
-use Rattle.h264_payload.specs.Packet.{work}
+use Rattle.h264_payload.specs.H264.{h264}
+use Rattle.h264_payload.specs.Depacketizer.{work}
+use Rattle.h26x_payload.specs.Held.{sender, call_of, entries_with}
 use Rattle.h26x_tool.proofs.CarryLemmas.{none_delivered, some_made, all_carried, some_carried}
 use Rattle.h26x_tool.proofs.carry.carry_one.Goals as goal
 
@@ -15,23 +16,23 @@ returns-in_err-packets-clause-delivered c =
 
 pub returns-in_err-deliver-clause-whole : goal.returns-in_err-deliver-clause-whole
 returns-in_err-deliver-clause-whole c =
-    let made : map (λ (p : Vec ℕ Global). p.items) c.deref.result.now ≡ packets_by (sender c.args.p.now) (entries_of_payload c.args.mtu c.args.payload.now)
+    let made : map (λ (p : Vec ℕ Global). p.items) c.deref.result.now ≡ packets_by (sender h264 c.args.p.now) (entries_with h264 c.args.p.now c.args.mtu c.args.payload.now)
     = ap (map (λ (p : Vec ℕ Global). p.items)) c.deref.ensures.value ∙ c.in_ok-packets.ensures.sent in
     let (e, is, same) = err_from_is_err_and c.from_residual-in_err-deliver.result c.from_residual-in_err-deliver.ensures.1 in
-    some_carried {B = Unit {0}} c.args.p.now (work c.args.d.now c.args.out.now.items c.args.extra.now) c.args.mtu c.args.payload.now c.from_residual-in_err-deliver.result
-    e (work c.deliver.new.d c.deliver.new.out.items c.deliver.new.extra) is c.what_calls_send_is_carried.ensures c.meets_the_facts.ensures c.waits_for_sets.ensures refl
+    some_carried {B = Unit {0}} (sender h264 c.args.p.now) (work c.args.d.now c.args.out.now.items c.args.extra.now) (call_of c.args.p.now c.args.mtu c.args.payload.now) c.from_residual-in_err-deliver.result
+    e (work c.deliver.new.d c.deliver.new.out.items c.deliver.new.extra) is (record { law = c.what_calls_send_is_carried.ensures; facts = c.meets_the_facts.ensures; is = c.is_sender.ensures.is; small = c.is_sender.ensures.is.size; same = refl })
     (rw (← made, same) c.in_err-deliver.ensures.delivered)
 
 pub returns-clause-made : goal.returns-clause-made
 returns-clause-made c =
-    let made : map (λ (p : Vec ℕ Global). p.items) c.in_ok-packets.packets.items ≡ packets_by (sender c.args.p.now) (entries_of_payload c.args.mtu c.args.payload.now)
+    let made : map (λ (p : Vec ℕ Global). p.items) c.in_ok-packets.packets.items ≡ packets_by (sender h264 c.args.p.now) (entries_with h264 c.args.p.now c.args.mtu c.args.payload.now)
     = c.in_ok-packets.ensures.sent in
     rw c.is_empty.ensures (some_made (λ (p : Vec ℕ Global). p.items) c.in_ok-packets.packets.items _ _ (search rules) made)
 
 pub returns-clause-whole : goal.returns-clause-whole
 returns-clause-whole c =
-    let made : map (λ (p : Vec ℕ Global). p.items) c.deref.result.now ≡ packets_by (sender c.args.p.now) (entries_of_payload c.args.mtu c.args.payload.now)
+    let made : map (λ (p : Vec ℕ Global). p.items) c.deref.result.now ≡ packets_by (sender h264 c.args.p.now) (entries_with h264 c.args.p.now c.args.mtu c.args.payload.now)
     = ap (map (λ (p : Vec ℕ Global). p.items)) c.deref.ensures.value ∙ c.in_ok-packets.ensures.sent in
-    all_carried {A = Unit {0}} {B = Unit {0}} c.args.p.now (work c.args.d.now c.args.out.now.items c.args.extra.now) c.args.mtu c.args.payload.now (tt {0}) (tt {0})
-    (work c.deliver.new.d c.deliver.new.out.items c.deliver.new.extra) c.what_calls_send_is_carried.ensures c.meets_the_facts.ensures c.waits_for_sets.ensures refl
+    all_carried {A = Unit {0}} {B = Unit {0}} (sender h264 c.args.p.now) (work c.args.d.now c.args.out.now.items c.args.extra.now) (call_of c.args.p.now c.args.mtu c.args.payload.now) (tt {0}) (tt {0})
+    (work c.deliver.new.d c.deliver.new.out.items c.deliver.new.extra) (record { law = c.what_calls_send_is_carried.ensures; facts = c.meets_the_facts.ensures; is = c.is_sender.ensures.is; small = c.is_sender.ensures.is.size; same = refl })
     (rw (← made) c.in_ok-deliver.ensures.delivered)

@@ -3,7 +3,7 @@ use Rattle.std.proofs.lemmas.List.{get_or-map, length-map, append-nil}
 use Rattle.std.proofs.lemmas.Result.{err_from_is_err_and}
 use Rattle.h26x_core.specs.Receiver.{Work, work_after, IsOutcomeAt}
 use Rattle.h26x_core.specs.Ends.{ReceiverGoesOn}
-use Rattle.h264_payload.specs.Packet.{work}
+use Rattle.h264_payload.specs.Depacketizer.{work}
 use Rattle.h26x_tool.proofs.CarryLemmas.{still_front, one_more, stopped, finished}
 use Rattle.h26x_tool.proofs.carry.deliver.Goals as goal
 

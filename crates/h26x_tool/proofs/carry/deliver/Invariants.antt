@@ -1,7 +1,7 @@
 use Rattle.std.proofs.Common.{◌≡◌, map, take}
 use Rattle.h26x_core.specs.Front.{IsFrontOf}
 use Rattle.h26x_core.specs.Receiver.{work_after}
-use Rattle.h264_payload.specs.Packet.{work}
+use Rattle.h264_payload.specs.Depacketizer.{work}
 use Rattle.h26x_tool.proofs.carry.deliver.Given as goal
 
 -- the packets so far were taken

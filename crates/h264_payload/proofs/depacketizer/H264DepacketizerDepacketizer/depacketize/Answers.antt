@@ -4,7 +4,8 @@ use Rattle.h26x_core.specs.Text.{text}
 use Rattle.h26x_core.specs.Reading.{Aggregate, unnumbered}
 use Rattle.h26x_core.specs.Outcome.{is_too_long}
 use Rattle.h264_payload.specs.H264.{h264, stap_units}
-use Rattle.h264_payload.specs.Packet.{reading_of, work}
+use Rattle.h264_payload.specs.Packet.{reading_of}
+use Rattle.h264_payload.specs.Depacketizer.{work}
 use Rattle.h264_payload.proofs.StapLemmas.{stap_outcome, stap_taken}
 use Rattle.h264_payload.proofs.depacketizer.H264DepacketizerDepacketizer.depacketize.Goals as goal
 
@@ -14,7 +15,7 @@ reads c = c.in_ok-unit.ensures.accepted ∙ ap reading_of c.in-Aggregate.is
 
 pub returns-in-Aggregate-clause-outcome : goal.returns-in-Aggregate-clause-outcome
 returns-in-Aggregate-clause-outcome c =
-    let short : list_any is_too_long (stap_units c.in-Aggregate.bytes.now) ≡ false = rw c.in-Aggregate.is at c.in_ok-unit.ensures.whole in
+    let short : list_any is_too_long (stap_units c.in-Aggregate.bytes.now) ≡ false = (rw c.in-Aggregate.is at c.in_ok-unit.ensures.whole).0 in
     stap_outcome c.args.self.now.is_avc c.args.self.now.run (h264.read c.args.packet.now) (stap_units c.in-Aggregate.bytes.now) c.append_units.result (reads c) short c.append_units.ensures.outcome
 
 pub returns-in-Aggregate-clause-taken : goal.returns-in-Aggregate-clause-taken

@@ -1,0 +1,63 @@
+//! Fragments as a depacketizer takes them (RFC 6184, 5.8; RFC 7798, 4.4.3; RFC 9328, 4.3.3).
+
+ghost use Rattle.std.specs.Prelude.{◌≡◌, ◌++◌, ℕ, List, length, false, None, OnOk, OnErr, IsOk};
+ghost use Rattle.h26x_core.specs.Text.{text};
+ghost use Rattle.h26x_core.specs.Extra.{extra_after};
+ghost use Rattle.h26x_core.specs.Received.{units_with, run_after};
+ghost use Rattle.h26x_core.specs.Outcome.{IsOutcomeWith};
+ghost use Rattle.h26x_payload.specs.Run.{reading_of};
+
+use crate::codec::Codec;
+use crate::extra::told;
+use crate::run::OpenRun;
+use crate::text::append_parts;
+use h26x_core::{CodecExtra, PacketError};
+
+/// A fragment of a unit.
+#[derive(Clone, Copy)]
+pub struct Fragment<'a> {
+    /// Whether it is the first of its unit.
+    pub start: bool,
+    /// Whether it is the last.
+    pub end: bool,
+    /// The header that its unit has.
+    pub head: &'a [u8],
+    /// Its data.
+    pub body: &'a [u8],
+}
+
+/// Takes a fragment: a start begins a run anew, another is added to the open run, an end closes it and appends its unit.
+/// One that doesn't start while no run is open does nothing, and takes no memory.
+pub fn take_fragment<C: Codec>(
+    codec: C,
+    is_avc: bool,
+    fragment: Fragment<'_>,
+    run: &mut OpenRun,
+    out: &mut Vec<u8>,
+    codec_extra: &mut CodecExtra,
+) -> Result<(), PacketError>
+    requires whole { length fragment.head.now ≡ (C.format codec).header_len }
+    ensures outcome { IsOutcomeWith is_avc run.old (reading_of fragment.entry) result }
+    ensures written { OnOk result (out.new.items ≡ out.old.items ++ text is_avc (units_with run.old (reading_of fragment.entry))) }
+    ensures told { OnOk result (codec_extra.new ≡ extra_after (C.format codec) codec_extra.old (units_with run.old (reading_of fragment.entry))) }
+    ensures run { OnOk result (run.new ≡ run_after run.old (reading_of fragment.entry)) }
+    ensures kept { OnErr result (out.new.items ≡ out.old.items) }
+    ensures kept_extra { OnErr result (codec_extra.new ≡ codec_extra.old) }
+    ensures kept_run { OnErr result (run.new ≡ run.old) }
+    ensures startless { fragment.entry.start ≡ false → run.old ≡ None → IsOk result }
+{
+    if !fragment.start && !run.is_open() {
+        return Ok(());
+    }
+    if fragment.end {
+        let data = if fragment.start { &[] } else { run.bytes() };
+        append_parts(is_avc, fragment.head, data, fragment.body, out)?;
+        *codec_extra = told(codec, *codec_extra, codec.is_key(fragment.head));
+        run.close();
+    } else if fragment.start {
+        run.begin(fragment.body)?;
+    } else {
+        run.extend(fragment.body)?;
+    }
+    Ok(())
+}
