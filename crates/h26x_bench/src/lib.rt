@@ -47,24 +47,16 @@ pub extern "C" fn h264_pack_rounds(
     bytes
 }
 
-/// Takes the packets of a payload so many times; the bytes written.
-#[unsafe(no_mangle)]
-pub extern "C" fn h264_take_rounds(
-    alloc: Global,
-    limit: usize,
-    payload: &[u8],
-    rounds: usize,
-) -> usize {
-    let Ok(packets) = H264Packetizer::new(alloc).packetize(limit, payload) else {
-        return 0;
-    };
+/// Takes packets so many times, with units written in AVC form or not; the bytes written, 0 where one is refused.
+fn h264_take(alloc: Global, is_avc: bool, packets: &[Vec<u8>], rounds: usize) -> usize {
     let mut depacketizer = H264Depacketizer::new(alloc);
+    depacketizer.is_avc = is_avc;
     let mut out = Vec::new(alloc);
     let mut extra = CodecExtra::None;
     let mut bytes: usize = 0;
     for _ in 0..rounds {
         out.clear();
-        for packet in &packets {
+        for packet in packets {
             if depacketizer
                 .depacketize(packet, &mut out, &mut extra)
                 .is_err()
@@ -75,4 +67,50 @@ pub extern "C" fn h264_take_rounds(
         bytes = bytes.saturating_add(out.len());
     }
     bytes
+}
+
+/// Takes the packets of a payload so many times; the bytes written.
+#[unsafe(no_mangle)]
+pub extern "C" fn h264_take_rounds(
+    alloc: Global,
+    limit: usize,
+    payload: &[u8],
+    rounds: usize,
+) -> usize {
+    match H264Packetizer::new(alloc).packetize(limit, payload) {
+        Ok(packets) => h264_take(alloc, false, &packets, rounds),
+        Err(_) => 0,
+    }
+}
+
+/// The same with units written in AVC form.
+#[unsafe(no_mangle)]
+pub extern "C" fn h264_take_avc_rounds(
+    alloc: Global,
+    limit: usize,
+    payload: &[u8],
+    rounds: usize,
+) -> usize {
+    match H264Packetizer::new(alloc).packetize(limit, payload) {
+        Ok(packets) => h264_take(alloc, true, &packets, rounds),
+        Err(_) => 0,
+    }
+}
+
+/// Takes one packet so many times; the bytes written.
+#[unsafe(no_mangle)]
+pub extern "C" fn h264_take_packet_rounds(
+    alloc: Global,
+    _limit: usize,
+    packet: &[u8],
+    rounds: usize,
+) -> usize {
+    let mut packets = Vec::new(alloc);
+    let Ok(packet) = packet.to_vec(alloc) else {
+        return 0;
+    };
+    match packets.push(packet) {
+        Ok(()) => h264_take(alloc, false, &packets, rounds),
+        Err(_) => 0,
+    }
 }

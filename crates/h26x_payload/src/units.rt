@@ -12,6 +12,9 @@ use crate::sets::Sets;
 use h26x_core::{PacketError, laws};
 use std::alloc::{AllocError, Global};
 
+/// How many packets room is reserved for at first.
+const FIRST_PACKETS: usize = 16;
+
 /// What goes when a unit comes.
 #[derive(Clone, Copy)]
 pub enum Due<'a> {
@@ -119,6 +122,16 @@ fn append_sets<C: Codec>(
     append_set(codec, alloc, limit, third, Some(sets.pps), made)
 }
 
+/// Reserves room for the first packets at once, so that a list of many grows seldom.
+fn reserve_first(made: &mut Vec<Vec<u8>>) -> Result<(), AllocError>
+    ensures { made.new.items ≡ made.old.items }
+{
+    if made.is_empty() {
+        made.reserve(FIRST_PACKETS)?;
+    }
+    Ok(())
+}
+
 /// Appends the packets of what goes when a unit comes.
 pub(crate) fn append_due<C: Codec>(
     codec: C,
@@ -137,8 +150,12 @@ pub(crate) fn append_due<C: Codec>(
     laws::numbers_are_two_bytes();
     match due {
         Due::Nothing => Ok(number),
-        Due::Unit => append_unit(codec, alloc, limit, number, unit, made),
+        Due::Unit => {
+            reserve_first(made)?;
+            append_unit(codec, alloc, limit, number, unit, made)
+        }
         Due::SetsAndUnit(sets) => {
+            reserve_first(made)?;
             let next = append_sets(codec, alloc, limit, number, sets, unit, made)?;
             append_unit(codec, alloc, limit, next, unit, made)
         }
