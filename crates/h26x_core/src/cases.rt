@@ -4,6 +4,8 @@ ghost use Rattle.std.specs.Prelude.{◌≡◌, ℕ, ◌≤◌, true, false, List
 ghost use Rattle.h26x_core.specs.Mark.{IsMark};
 ghost use Rattle.h26x_core.specs.Pieces.{ArePieces, HasNoPiece};
 ghost use Rattle.h26x_core.specs.Reading.{Single, Aggregate, Fragment, Paci, Refused};
+ghost use Rattle.h26x_core.specs.Format.{Format};
+ghost use Rattle.h26x_core.specs.Rival.{IsRival};
 ghost use Rattle.h26x_core.specs.Received.{IsOpenRun};
 ghost use Rattle.h26x_core.specs.Run.{IsRun, AreReceived};
 ghost use Rattle.h26x_core.specs.Outcome.{is_startless, IsOutcomeWith};
@@ -95,4 +97,11 @@ pub fn received_units()
         Paci (0x65 ∷ []) 0 [] (0x04 ∷ []) ∷
         Single (0x66 ∷ []) None ∷ [])
         ((0x67 ∷ []) ∷ (0x68 ∷ []) ∷ (0x61 ∷ 0x02 ∷ 0x03 ∷ []) ∷ (0x65 ∷ 0x04 ∷ []) ∷ (0x66 ∷ []) ∷ []) }
+{}
+
+/// A start and an end are a rival where their data joined are the bytes and neither is over the limit.
+pub fn a_rival_of_two()
+    ensures { (f : Format) → f.read (0x01 ∷ []) ≡ Fragment true false [] None (0x0a ∷ []) →
+        f.read (0x02 ∷ []) ≡ Fragment false true [] None (0x0b ∷ []) →
+        IsRival f 1 (0x0a ∷ 0x0b ∷ []) ((0x01 ∷ []) ∷ (0x02 ∷ []) ∷ []) }
 {}
