@@ -5,6 +5,9 @@ ghost use Rattle.h26x_core.specs.Mark.{IsMark};
 ghost use Rattle.h26x_core.specs.Pieces.{ArePieces, HasNoPiece};
 ghost use Rattle.h26x_core.specs.Reading.{Single, Aggregate, Fragment, Paci, Refused};
 ghost use Rattle.h26x_core.specs.Format.{Format};
+ghost use Rattle.h26x_core.specs.Kind.{Sps, Pps, Other};
+ghost use Rattle.h26x_core.specs.Waits.{entries_at};
+ghost use Rattle.h26x_core.specs.Again.{NothingDropped};
 ghost use Rattle.h26x_core.specs.Rival.{IsRival};
 ghost use Rattle.h26x_core.specs.Received.{IsOpenRun};
 ghost use Rattle.h26x_core.specs.Run.{IsRun, AreReceived};
@@ -104,4 +107,11 @@ pub fn a_rival_of_two()
     ensures { (f : Format) → f.read (0x01 ∷ []) ≡ Fragment true false [] None (0x0a ∷ []) →
         f.read (0x02 ∷ []) ≡ Fragment false true [] None (0x0b ∷ []) →
         IsRival f 1 (0x0a ∷ 0x0b ∷ []) ((0x01 ∷ []) ∷ (0x02 ∷ []) ∷ []) }
+{}
+
+/// Nothing is dropped of a group whose sets fit one packet, and of a unit that fits.
+pub fn nothing_dropped()
+    ensures { (f : Format) → f.kind (0x01 ∷ []) ≡ Sps → f.kind (0x02 ∷ []) ≡ Pps → f.kind (0x03 ∷ []) ≡ Other →
+        f.numbered ≡ false → f.sets_fit 9 ((0x01 ∷ []) ∷ (0x02 ∷ []) ∷ []) ≡ true →
+        NothingDropped f (entries_at 9 ((0x01 ∷ []) ∷ (0x02 ∷ []) ∷ (0x03 ∷ []) ∷ (0x03 ∷ []) ∷ [])) }
 {}
