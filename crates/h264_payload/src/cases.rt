@@ -194,7 +194,8 @@ pub fn key_units_stay_told()
 /// Packets can carry units with F clear of types 1 to 23.
 pub fn carried_units()
     ensures each { map h264.carries (
-        [] ∷ (0x60 ∷ []) ∷ (0x01 ∷ []) ∷ (0x77 ∷ []) ∷ (0x18 ∷ []) ∷ (0x7f ∷ []) ∷ (0x81 ∷ []) ∷ (0xf7 ∷ []) ∷ [])
+        [] ∷ (0x60 ∷ []) ∷ (0x01 ∷ []) ∷ (0x77 ∷ []) ∷ (0x18 ∷ []) ∷ (0x7f ∷ []) ∷ (0x81 ∷ []) ∷
+        (0xf7 ∷ []) ∷ [])
         ≡ false ∷ false ∷ true ∷ true ∷ false ∷ false ∷ false ∷ false ∷ [] }
     ensures all { AreCarried h264 ((0x61 ∷ []) ∷ (0x77 ∷ 0xaa ∷ []) ∷ []) }
     ensures not_all { AreCarried h264 ((0x61 ∷ []) ∷ (0x78 ∷ 0xaa ∷ []) ∷ []) → ⊥ }
@@ -211,10 +212,12 @@ pub fn told_of_a_key_unit()
         ≡ true ∷ false ∷ false ∷ false ∷ false ∷ [] }
 {}
 
-/// A delimiter and an empty unit are skipped, types 7 and 8 are sets, and every other type is another unit.
+/// A delimiter and an empty unit are skipped, types 7 and 8 are sets, and every other type is
+/// another unit.
 pub fn kinds_of_units()
     ensures kinds { map h264.kind (
-        [] ∷ (0x60 ∷ []) ∷ (0x66 ∷ []) ∷ (0x67 ∷ []) ∷ (0x68 ∷ []) ∷ (0x09 ∷ 0xf0 ∷ []) ∷ (0x0a ∷ []) ∷ (0x7f ∷ []) ∷ [])
+        [] ∷ (0x60 ∷ []) ∷ (0x66 ∷ []) ∷ (0x67 ∷ []) ∷ (0x68 ∷ []) ∷ (0x09 ∷ 0xf0 ∷ []) ∷
+        (0x0a ∷ []) ∷ (0x7f ∷ []) ∷ [])
         ≡ Skipped ∷ Other ∷ Other ∷ Sps ∷ Pps ∷ Skipped ∷ Other ∷ Other ∷ [] }
     ensures skipped { map sending.is_skipped_kind (Skipped ∷ Vps ∷ Sps ∷ Pps ∷ Other ∷ [])
         ≡ true ∷ false ∷ false ∷ false ∷ false ∷ [] }
@@ -225,15 +228,19 @@ pub fn kinds_of_units()
         ≡ true ∷ true ∷ false ∷ [] }
 {}
 
-/// What later answers depend on: the sets that wait, and no number; the setting, and the data of a run that is open.
+/// What later answers depend on: the sets that wait, and no number; the setting, and the data of a
+/// run that is open.
 pub fn meanings()
-    ensures both_sets { sending.meaning_of (sending.waiting_of (Some (0x67 ∷ 0x01 ∷ [])) (Some (0x68 ∷ [])))
+    ensures both_sets { sending.meaning_of
+        (sending.waiting_of (Some (0x67 ∷ 0x01 ∷ [])) (Some (0x68 ∷ [])))
         ≡ [] ∷ (0x67 ∷ 0x01 ∷ []) ∷ (0x68 ∷ []) ∷ [] ∷ [] }
     ensures one_set { sending.meaning_of (sending.waiting_of None (Some (0x68 ∷ [])))
         ≡ [] ∷ [] ∷ (0x68 ∷ []) ∷ [] ∷ [] }
     ensures no_run { receiving.meaning_of (record { is_avc = false; run = None }) ≡ (0 ∷ []) ∷ [] }
-    ensures no_data { receiving.meaning_of (record { is_avc = false; run = Some [] }) ≡ (0 ∷ []) ∷ [] ∷ [] }
-    ensures run { receiving.meaning_of (record { is_avc = true; run = Some (0xaa ∷ []) }) ≡ (1 ∷ []) ∷ (0xaa ∷ []) ∷ [] }
+    ensures no_data { receiving.meaning_of (record { is_avc = false; run = Some [] })
+        ≡ (0 ∷ []) ∷ [] ∷ [] }
+    ensures run { receiving.meaning_of (record { is_avc = true; run = Some (0xaa ∷ []) })
+        ≡ (1 ∷ []) ∷ (0xaa ∷ []) ∷ [] }
 {}
 
 /// A set of its kind waits, or none; the groups of units, and the rest.
@@ -242,7 +249,8 @@ pub fn sets_and_groups()
     ensures none { AreSets h264 (sending.waiting_of None None) }
     ensures wrong_kind { AreSets h264 (sending.waiting_of (Some (0x68 ∷ [])) None) → ⊥ }
     ensures groups { AreGroups h264
-        (entries_at 9 ((0x65 ∷ []) ∷ (0x68 ∷ []) ∷ (0x67 ∷ []) ∷ (0x09 ∷ []) ∷ (0x65 ∷ []) ∷ (0x67 ∷ []) ∷ (0x61 ∷ []) ∷ []))
+        (entries_at 9 ((0x65 ∷ []) ∷ (0x68 ∷ []) ∷ (0x67 ∷ []) ∷ (0x09 ∷ []) ∷ (0x65 ∷ []) ∷
+        (0x67 ∷ []) ∷ (0x61 ∷ []) ∷ []))
         (record {
           front = entries_at 9 ((0x65 ∷ []) ∷ (0x68 ∷ []) ∷ (0x67 ∷ []) ∷ (0x09 ∷ []) ∷ []);
           last = record { unit = 0x65 ∷ []; limit = 9 };
@@ -252,13 +260,16 @@ pub fn sets_and_groups()
 
 /// What is planned and can be sent: a unit alone, one in fragments, and sets in one packet.
 pub fn items_that_can_be_sent()
-    ensures alone { IsPlanned h264 (Alone 2 (0x61 ∷ 0xaa ∷ [])) × CanSend h264 (Alone 2 (0x61 ∷ 0xaa ∷ [])) }
+    ensures alone { IsPlanned h264 (Alone 2 (0x61 ∷ 0xaa ∷ []))
+        × CanSend h264 (Alone 2 (0x61 ∷ 0xaa ∷ [])) }
     ensures in_fragments { IsPlanned h264 (Alone 3 (0x65 ∷ 0xaa ∷ 0xbb ∷ 0xcc ∷ []))
         × CanSend h264 (Alone 3 (0x65 ∷ 0xaa ∷ 0xbb ∷ 0xcc ∷ [])) }
     ensures together { IsPlanned h264 (Together 7 ((0x67 ∷ []) ∷ (0x68 ∷ []) ∷ []) (0x65 ∷ [])) }
     ensures together_sent { CanSend h264 (Together 7 ((0x67 ∷ []) ∷ (0x68 ∷ []) ∷ []) (0x65 ∷ [])) }
     ensures dropped { IsPlanned h264 (Alone 2 (0x61 ∷ 0xaa ∷ 0xbb ∷ [])) → ⊥ }
-    ensures too_long { IsPlanned h264 (Together 6 ((0x67 ∷ []) ∷ (0x68 ∷ []) ∷ []) (0x65 ∷ [])) → ⊥ }
+    ensures one_set { IsPlanned h264 (Together 7 ((0x67 ∷ []) ∷ []) (0x65 ∷ [])) → ⊥ }
+    ensures past_the_limit { IsPlanned h264 (Together 6 ((0x67 ∷ []) ∷ (0x68 ∷ []) ∷ [])
+        (0x65 ∷ [])) → ⊥ }
     ensures not_read_back { CanSend h264 (Together 7 ((0x67 ∷ []) ∷ [] ∷ []) (0x65 ∷ [])) → ⊥ }
     ensures keeps_last { KeepsLast h264 (record {
       front = entries_at 7 ((0x67 ∷ []) ∷ (0x68 ∷ []) ∷ []);
@@ -270,25 +281,29 @@ pub fn items_that_can_be_sent()
     }) → ⊥ }
 {}
 
-/// A packetizer's own fragments are a rival of themselves, and so are more and smaller packets; not without a start, over
-/// the limit, or with other data.
+/// A packetizer's own fragments are a rival of themselves, and so are more and smaller packets; not
+/// without a start, over the limit, or with other data.
 pub fn rivals()
     ensures own { IsRival h264 5 (0x01 ∷ 0x02 ∷ 0x03 ∷ 0x04 ∷ 0x05 ∷ 0x06 ∷ 0x07 ∷ [])
         (packets_of_payload h264 5 (0x65 ∷ 0x01 ∷ 0x02 ∷ 0x03 ∷ 0x04 ∷ 0x05 ∷ 0x06 ∷ 0x07 ∷ [])) }
     ensures more { IsRival h264 5 (0x01 ∷ 0x02 ∷ 0x03 ∷ 0x04 ∷ 0x05 ∷ 0x06 ∷ 0x07 ∷ [])
         ((0x7c ∷ 0x85 ∷ 0x01 ∷ []) ∷ (0x7c ∷ 0xc5 ∷ []) ∷ (0x1c ∷ 0x05 ∷ 0x02 ∷ 0x03 ∷ []) ∷
         (0x7c ∷ 0x05 ∷ 0x04 ∷ 0x05 ∷ 0x06 ∷ []) ∷ (0x7c ∷ 0x05 ∷ 0x07 ∷ []) ∷ []) }
-    ensures startless { IsRival h264 5 (0x01 ∷ 0x02 ∷ []) ((0x7c ∷ 0x05 ∷ 0x01 ∷ []) ∷ (0x7c ∷ 0x45 ∷ 0x02 ∷ []) ∷ []) → ⊥ }
-    ensures over_the_limit { IsRival h264 3 (0x01 ∷ 0x02 ∷ []) ((0x7c ∷ 0x85 ∷ 0x01 ∷ 0x02 ∷ []) ∷ []) → ⊥ }
+    ensures startless { IsRival h264 5 (0x01 ∷ 0x02 ∷ [])
+        ((0x7c ∷ 0x05 ∷ 0x01 ∷ []) ∷ (0x7c ∷ 0x45 ∷ 0x02 ∷ []) ∷ []) → ⊥ }
+    ensures over_the_limit { IsRival h264 3 (0x01 ∷ 0x02 ∷ [])
+        ((0x7c ∷ 0x85 ∷ 0x01 ∷ 0x02 ∷ []) ∷ []) → ⊥ }
     ensures other_data { IsRival h264 5 (0x01 ∷ 0x02 ∷ []) ((0x7c ∷ 0x85 ∷ 0x01 ∷ []) ∷ []) → ⊥ }
 {}
 
-/// Nothing is dropped where the sets of a group fit one packet, and each other unit goes alone or in fragments.
+/// Nothing is dropped where the sets of a group fit one packet, and each other unit goes alone or
+/// in fragments.
 pub fn nothing_dropped()
     ensures holds { NothingDropped h264 (entries_at 7 (
         (0x09 ∷ []) ∷ (0x67 ∷ []) ∷ (0x68 ∷ []) ∷ (0x65 ∷ 0xaa ∷ []) ∷
         (0x61 ∷ 0x01 ∷ 0x02 ∷ 0x03 ∷ 0x04 ∷ 0x05 ∷ 0x06 ∷ 0x07 ∷ []) ∷ (0x67 ∷ []) ∷ [])) }
-    ensures sets_dropped { NothingDropped h264 (entries_at 6 ((0x67 ∷ []) ∷ (0x68 ∷ []) ∷ (0x65 ∷ 0xaa ∷ []) ∷ [])) → ⊥ }
+    ensures sets_dropped { NothingDropped h264 (entries_at 6 (
+        (0x67 ∷ []) ∷ (0x68 ∷ []) ∷ (0x65 ∷ 0xaa ∷ []) ∷ [])) → ⊥ }
     ensures unit_dropped { NothingDropped h264 (entries_at 2 ((0x65 ∷ 0xaa ∷ 0xbb ∷ []) ∷ [])) → ⊥ }
 {}
 
@@ -302,22 +317,29 @@ pub fn masks()
     ensures too_many { AreMasks h264 0 [] ((true ∷ []) ∷ []) → ⊥ }
 {}
 
-/// Packets taken one after the other: a start, one that is refused, one for which memory lacks, and the end.
+/// Packets taken one after the other: a start, one that is refused, one for which memory lacks, and
+/// the end.
 pub fn packets_taken()
     ensures { AreTaken h264 false
-        (map h264.read ((0x7c ∷ 0x85 ∷ 0x01 ∷ []) ∷ [] ∷ (0x7c ∷ 0x05 ∷ 0x02 ∷ []) ∷ (0x7c ∷ 0x45 ∷ 0x03 ∷ []) ∷ []))
+        (map h264.read (
+        (0x7c ∷ 0x85 ∷ 0x01 ∷ []) ∷ [] ∷
+        (0x7c ∷ 0x05 ∷ 0x02 ∷ []) ∷ (0x7c ∷ 0x45 ∷ 0x03 ∷ []) ∷ []))
         (Ok tt ∷ Err PacketError.ErrShortPacket ∷ Err PacketError.OutOfMemory ∷ Ok tt ∷ [])
         (0xff ∷ []) (0xff ∷ 0x00 ∷ 0x00 ∷ 0x00 ∷ 0x01 ∷ 0x65 ∷ 0x01 ∷ 0x03 ∷ [])
         CodecExtra.None (h264.extra true) None }
 {}
 
-/// A step writes what its packet brings and closes the run; where the packet is refused, or memory lacks, all stays.
+/// A step writes what its packet brings and closes the run; where the packet is refused, or memory
+/// lacks, all stays.
 pub fn steps()
     ensures end { IsStep h264 true (h264.read (0x7c ∷ 0x45 ∷ 0x03 ∷ [])) (Ok tt)
         (0xff ∷ []) (0xff ∷ 0x00 ∷ 0x00 ∷ 0x00 ∷ 0x03 ∷ 0x65 ∷ 0x01 ∷ 0x03 ∷ [])
         CodecExtra.None (h264.extra true) (Some (0x01 ∷ [])) None }
     ensures refused { IsStep h264 true (h264.read []) (Err PacketError.ErrShortPacket)
-        (0xff ∷ []) (0xff ∷ []) (h264.extra true) (h264.extra true) (Some (0x01 ∷ [])) (Some (0x01 ∷ [])) }
-    ensures no_memory { IsStep h264 true (h264.read (0x7c ∷ 0x45 ∷ 0x03 ∷ [])) (Err PacketError.OutOfMemory)
-        (0xff ∷ []) (0xff ∷ []) CodecExtra.None CodecExtra.None (Some (0x01 ∷ [])) (Some (0x01 ∷ [])) }
+        (0xff ∷ []) (0xff ∷ []) (h264.extra true) (h264.extra true)
+        (Some (0x01 ∷ [])) (Some (0x01 ∷ [])) }
+    ensures no_memory { IsStep h264 true
+        (h264.read (0x7c ∷ 0x45 ∷ 0x03 ∷ [])) (Err PacketError.OutOfMemory)
+        (0xff ∷ []) (0xff ∷ []) CodecExtra.None CodecExtra.None
+        (Some (0x01 ∷ [])) (Some (0x01 ∷ [])) }
 {}

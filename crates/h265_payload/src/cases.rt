@@ -373,11 +373,14 @@ pub fn carried_units()
         (0x66 ∷ 0x01 ∷ 0xaa ∷ []) ∷
         (0x7f ∷ 0x01 ∷ 0xaa ∷ []) ∷ [])
         ≡ true ∷ true ∷ false ∷ false ∷ false ∷ true ∷ true ∷ [] }
-    ensures forbidden { map (h265 false).carries ((0x80 ∷ 0x01 ∷ 0xaa ∷ []) ∷ (0xff ∷ 0x01 ∷ 0xaa ∷ []) ∷ [])
+    ensures forbidden { map (h265 false).carries (
+        (0x80 ∷ 0x01 ∷ 0xaa ∷ []) ∷ (0xff ∷ 0x01 ∷ 0xaa ∷ []) ∷ [])
         ≡ false ∷ false ∷ [] }
-    ensures lengths { map (h265 true).carries ([] ∷ (0x02 ∷ []) ∷ (0x02 ∷ 0x01 ∷ []) ∷ (0x02 ∷ 0x01 ∷ 0x00 ∷ []) ∷ [])
+    ensures lengths { map (h265 true).carries (
+        [] ∷ (0x02 ∷ []) ∷ (0x02 ∷ 0x01 ∷ []) ∷ (0x02 ∷ 0x01 ∷ 0x00 ∷ []) ∷ [])
         ≡ false ∷ false ∷ false ∷ true ∷ [] }
-    ensures all { AreCarried (h265 true) ((0x42 ∷ 0x01 ∷ 0x01 ∷ []) ∷ (0x26 ∷ 0x01 ∷ 0xaf ∷ []) ∷ []) }
+    ensures all { AreCarried (h265 true)
+        ((0x42 ∷ 0x01 ∷ 0x01 ∷ []) ∷ (0x26 ∷ 0x01 ∷ 0xaf ∷ []) ∷ []) }
 {}
 
 /// Only the variant of H.265 with its flag tells of a key unit.
@@ -391,14 +394,17 @@ pub fn told_of_a_key_unit()
         ≡ true ∷ false ∷ false ∷ false ∷ false ∷ [] }
 {}
 
-/// Units by their types: 32 to 34 are sets, 35 and units without a whole header are skipped; 16 to 21 are key types.
+/// Units by their types: 32 to 34 are sets, 35 and units without a whole header are skipped; 16 to
+/// 21 are key types.
 pub fn kinds_of_units()
     ensures kinds { map (h265 false).kind (
-        [] ∷ (0x40 ∷ []) ∷ (0x3e ∷ 0x01 ∷ []) ∷ (0x40 ∷ 0x01 ∷ []) ∷ (0x42 ∷ 0x01 ∷ []) ∷ (0x44 ∷ 0x01 ∷ []) ∷
+        [] ∷ (0x40 ∷ []) ∷ (0x3e ∷ 0x01 ∷ []) ∷
+        (0x40 ∷ 0x01 ∷ []) ∷ (0x42 ∷ 0x01 ∷ []) ∷ (0x44 ∷ 0x01 ∷ []) ∷
         (0x46 ∷ 0x01 ∷ []) ∷ (0x48 ∷ 0x01 ∷ []) ∷ (0x60 ∷ 0x01 ∷ []) ∷ [])
         ≡ Skipped ∷ Skipped ∷ Other ∷ Vps ∷ Sps ∷ Pps ∷ Skipped ∷ Other ∷ Other ∷ [] }
     ensures keys { map (h265 false).is_key (
-        (0x26 ∷ []) ∷ (0x1e ∷ 0x01 ∷ []) ∷ (0x20 ∷ 0x01 ∷ []) ∷ (0x2a ∷ 0x01 ∷ []) ∷ (0x2c ∷ 0x01 ∷ []) ∷ [])
+        (0x26 ∷ []) ∷ (0x1e ∷ 0x01 ∷ []) ∷ (0x20 ∷ 0x01 ∷ []) ∷ (0x2a ∷ 0x01 ∷ []) ∷
+        (0x2c ∷ 0x01 ∷ []) ∷ [])
         ≡ false ∷ false ∷ true ∷ true ∷ false ∷ [] }
 {}
 
@@ -409,11 +415,14 @@ pub fn sets_that_wait()
       sps = (0x42 ∷ 0x01 ∷ []) ∷ [];
       pps = (0x44 ∷ 0x01 ∷ []) ∷ [];
     }) }
-    ensures vps_alone { AreSets (h265 false) (record { vps = (0x40 ∷ 0x01 ∷ []) ∷ []; sps = []; pps = [] }) }
-    ensures wrong_kind { AreSets (h265 false) (record { vps = (0x42 ∷ 0x01 ∷ []) ∷ []; sps = []; pps = [] }) → ⊥ }
+    ensures vps_alone { AreSets (h265 false)
+        (record { vps = (0x40 ∷ 0x01 ∷ []) ∷ []; sps = []; pps = [] }) }
+    ensures wrong_kind { AreSets (h265 false)
+        (record { vps = (0x42 ∷ 0x01 ∷ []) ∷ []; sps = []; pps = [] }) → ⊥ }
 {}
 
-/// What is planned and can be sent: a unit alone, one in fragments, and sets in one packet, with numbers.
+/// What is planned and can be sent: a unit alone, one in fragments, and sets in one packet, with
+/// numbers.
 pub fn items_that_can_be_sent()
     ensures alone { IsPlanned (h265 true) (Alone 5 (0x02 ∷ 0x01 ∷ 0xaa ∷ []))
         × CanSend (h265 true) (Alone 5 (0x02 ∷ 0x01 ∷ 0xaa ∷ [])) }
@@ -421,13 +430,15 @@ pub fn items_that_can_be_sent()
         × CanSend (h265 true) (Alone 6 (0x02 ∷ 0x01 ∷ 0xaa ∷ 0xbb ∷ 0xcc ∷ [])) }
     ensures dropped { IsPlanned (h265 true) (Alone 5 (0x02 ∷ 0x01 ∷ 0xaa ∷ 0xbb ∷ [])) → ⊥ }
     ensures together { IsPlanned (h265 true) (
-        Together 15 ((0x42 ∷ 0x01 ∷ 0x01 ∷ []) ∷ (0x44 ∷ 0x01 ∷ 0xc1 ∷ []) ∷ []) (0x26 ∷ 0x01 ∷ 0xaf ∷ [])) }
+        Together 15 ((0x42 ∷ 0x01 ∷ 0x01 ∷ []) ∷ (0x44 ∷ 0x01 ∷ 0xc1 ∷ []) ∷ [])
+        (0x26 ∷ 0x01 ∷ 0xaf ∷ [])) }
     ensures together_sent { CanSend (h265 true) (
-        Together 15 ((0x42 ∷ 0x01 ∷ 0x01 ∷ []) ∷ (0x44 ∷ 0x01 ∷ 0xc1 ∷ []) ∷ []) (0x26 ∷ 0x01 ∷ 0xaf ∷ [])) }
+        Together 15 ((0x42 ∷ 0x01 ∷ 0x01 ∷ []) ∷ (0x44 ∷ 0x01 ∷ 0xc1 ∷ []) ∷ [])
+        (0x26 ∷ 0x01 ∷ 0xaf ∷ [])) }
 {}
 
-/// A packetizer's own fragments are a rival of themselves, with numbers and without, and so are more and smaller packets;
-/// not without a start.
+/// A packetizer's own fragments are a rival of themselves, with numbers and without, and so are
+/// more and smaller packets; not without a start.
 pub fn rivals()
     ensures own { IsRival (h265 false) 4 (0xaa ∷ 0xbb ∷ 0xcc ∷ [])
         (packets_of_payload (h265 false) 4 (0x26 ∷ 0x01 ∷ 0xaa ∷ 0xbb ∷ 0xcc ∷ [])) }
@@ -442,14 +453,18 @@ pub fn rivals()
         ((0x62 ∷ 0x01 ∷ 0x13 ∷ 0xaa ∷ []) ∷ (0x62 ∷ 0x01 ∷ 0x53 ∷ 0xbb ∷ []) ∷ []) → ⊥ }
 {}
 
-/// Nothing is dropped where sets go in one packet or each alone, and each other unit alone or in fragments.
+/// Nothing is dropped where sets go in one packet or each alone, and each other unit alone or in
+/// fragments.
 pub fn nothing_dropped()
     ensures together { NothingDropped (h265 false) (entries_at 12 (
         (0x42 ∷ 0x01 ∷ 0x01 ∷ []) ∷ (0x44 ∷ 0x01 ∷ 0xc1 ∷ []) ∷ (0x26 ∷ 0x01 ∷ 0xaf ∷ []) ∷
-        (0x02 ∷ 0x01 ∷ 0x01 ∷ 0x02 ∷ 0x03 ∷ 0x04 ∷ 0x05 ∷ 0x06 ∷ 0x07 ∷ 0x08 ∷ 0x09 ∷ 0x0a ∷ 0x0b ∷ []) ∷ [])) }
+        (0x02 ∷ 0x01 ∷ 0x01 ∷ 0x02 ∷ 0x03 ∷ 0x04 ∷ 0x05 ∷ 0x06 ∷
+        0x07 ∷ 0x08 ∷ 0x09 ∷ 0x0a ∷ 0x0b ∷ []) ∷ [])) }
     ensures each_alone { NothingDropped (h265 true) (entries_at 5 (
         (0x42 ∷ 0x01 ∷ 0x01 ∷ []) ∷ (0x44 ∷ 0x01 ∷ 0xc1 ∷ []) ∷ (0x26 ∷ 0x01 ∷ 0xaf ∷ []) ∷ [])) }
     ensures set_dropped { NothingDropped (h265 true) (entries_at 5 (
-        (0x42 ∷ 0x01 ∷ 0x01 ∷ 0x02 ∷ []) ∷ (0x44 ∷ 0x01 ∷ 0xc1 ∷ []) ∷ (0x26 ∷ 0x01 ∷ 0xaf ∷ []) ∷ [])) → ⊥ }
-    ensures unit_dropped { NothingDropped (h265 true) (entries_at 5 ((0x26 ∷ 0x01 ∷ 0xaf ∷ 0xbb ∷ []) ∷ [])) → ⊥ }
+        (0x42 ∷ 0x01 ∷ 0x01 ∷ 0x02 ∷ []) ∷ (0x44 ∷ 0x01 ∷ 0xc1 ∷ []) ∷
+        (0x26 ∷ 0x01 ∷ 0xaf ∷ []) ∷ [])) → ⊥ }
+    ensures unit_dropped { NothingDropped (h265 true)
+        (entries_at 5 ((0x26 ∷ 0x01 ∷ 0xaf ∷ 0xbb ∷ []) ∷ [])) → ⊥ }
 {}

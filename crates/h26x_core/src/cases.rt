@@ -1,4 +1,5 @@
-//! Worked cases of the definitions that no payload format enters. Each is the contract of a function without a result.
+//! Worked cases of definitions for every payload format. Each is the contract of a function
+//! without a result.
 
 ghost use Rattle.std.specs.Prelude.{◌≡◌, ℕ, ◌≤◌, true, false, List, [], ◌∷◌, map, length, Some, None, Ok, Err};
 ghost use Rattle.h26x_core.specs.Mark.{IsMark};
@@ -30,7 +31,7 @@ pub fn fragments_without_a_start()
         ≡ false ∷ false ∷ [] }
 {}
 
-/// A mark is the 01 of `00 00 01`, at the beginning of bytes and behind zeros; no other place is one.
+/// A mark is the 01 of `00 00 01`, at the beginning of bytes and behind zeros.
 pub fn marks()
     ensures first { IsMark (0x00 ∷ 0x00 ∷ 0x01 ∷ []) 2 }
     ensures behind_zeros { IsMark (0xaa ∷ 0x00 ∷ 0x00 ∷ 0x00 ∷ 0x01 ∷ 0xbb ∷ []) 4 }
@@ -38,27 +39,33 @@ pub fn marks()
     ensures no_byte { IsMark (0x00 ∷ 0x00 ∷ []) 2 → ⊥ }
 {}
 
-/// Pieces behind their lengths, an empty one too, and what is left: nothing, a lone byte, or a length past the end.
+/// Pieces behind their lengths, an empty one too, and what is left: nothing, a lone byte, or a
+/// length past the end.
 pub fn pieces()
-    ensures nothing_left { ArePieces (0x00 ∷ 0x02 ∷ 0x67 ∷ 0xaa ∷ 0x00 ∷ 0x00 ∷ []) ((0x67 ∷ 0xaa ∷ []) ∷ [] ∷ []) [] }
-    ensures byte_left { ArePieces (0x00 ∷ 0x02 ∷ 0x67 ∷ 0xaa ∷ 0x00 ∷ []) ((0x67 ∷ 0xaa ∷ []) ∷ []) (0x00 ∷ []) }
+    ensures nothing_left { ArePieces (0x00 ∷ 0x02 ∷ 0x67 ∷ 0xaa ∷ 0x00 ∷ 0x00 ∷ [])
+        ((0x67 ∷ 0xaa ∷ []) ∷ [] ∷ []) [] }
+    ensures byte_left { ArePieces (0x00 ∷ 0x02 ∷ 0x67 ∷ 0xaa ∷ 0x00 ∷ [])
+        ((0x67 ∷ 0xaa ∷ []) ∷ []) (0x00 ∷ []) }
     ensures nothing { HasNoPiece [] }
     ensures lone_byte { HasNoPiece (0x00 ∷ []) }
     ensures past_the_end { HasNoPiece (0x00 ∷ 0x02 ∷ 0x67 ∷ []) }
     ensures empty_piece { HasNoPiece (0x00 ∷ 0x00 ∷ []) → ⊥ }
 {}
 
-/// A packet that is refused has its refusal; every other one is accepted, or memory lacks, but for a unit in AVC form that
-/// is too long.
+/// A packet that is refused has its refusal; every other one is accepted, or memory lacks, but for
+/// a unit in AVC form that is too long.
 pub fn outcomes()
     ensures refused { IsOutcomeWith false None (Refused ErrShortPacket) (Err ErrShortPacket) }
     ensures accepted { IsOutcomeWith true None (Single (0x65 ∷ []) None) (Ok tt) }
     ensures no_memory { IsOutcomeWith true None (Single (0x65 ∷ []) None) (Err OutOfMemory) }
-    ensures no_refusal { IsOutcomeWith true None (Single (0x65 ∷ []) None) (Err ErrShortPacket) → ⊥ }
+    ensures no_refusal { IsOutcomeWith true None (Single (0x65 ∷ []) None)
+        (Err ErrShortPacket) → ⊥ }
     ensures too_long { (unit : List ℕ) → 4294967296 ≤ length unit →
         IsOutcomeWith true None (Single unit None) (Err AvcUnitTooLong) }
-    ensures long { (unit : List ℕ) → length unit ≡ 4294967295 → IsOutcomeWith true None (Single unit None) (Ok tt) }
-    ensures with_start_codes { (unit : List ℕ) → IsOutcomeWith false None (Single unit None) (Ok tt) }
+    ensures long { (unit : List ℕ) → length unit ≡ 4294967295 →
+        IsOutcomeWith true None (Single unit None) (Ok tt) }
+    ensures with_start_codes { (unit : List ℕ) →
+        IsOutcomeWith false None (Single unit None) (Ok tt) }
 {}
 
 /// The open run is that of the latest start, through other packets; a start that ends opens none.
@@ -69,7 +76,8 @@ pub fn open_runs()
         Fragment true false (0x65 ∷ []) None (0x02 ∷ []) ∷
         Fragment true false (0x65 ∷ []) None (0x01 ∷ []) ∷ []) (0x02 ∷ 0x03 ∷ []) }
     ensures no_data { IsOpenRun (Fragment true false (0x65 ∷ []) None [] ∷ []) [] }
-    ensures ended { (run : List ℕ) → IsOpenRun (Fragment true true (0x65 ∷ []) None (0x01 ∷ []) ∷ []) run → ⊥ }
+    ensures ended { (run : List ℕ) →
+        IsOpenRun (Fragment true true (0x65 ∷ []) None (0x01 ∷ []) ∷ []) run → ⊥ }
 {}
 
 /// A run goes from the latest start to an end, through other packets, and may be one fragment.
@@ -88,8 +96,8 @@ pub fn runs()
     ensures one { IsRun (Fragment true true (0x65 ∷ []) None (0x01 ∷ []) ∷ []) 0 0 }
 {}
 
-/// What is received, by places: units alone and in aggregates, units of runs, nothing of a fragment without its start and
-/// of a refused packet.
+/// What is received, by places: units alone and in aggregates, units of runs, nothing of a fragment
+/// without its start and of a refused packet.
 pub fn received_units()
     ensures { AreReceived (
         Fragment false true (0x65 ∷ []) None (0x01 ∷ []) ∷
@@ -99,10 +107,11 @@ pub fn received_units()
         Fragment false true (0x61 ∷ []) None (0x03 ∷ []) ∷
         Paci (0x65 ∷ []) 0 [] (0x04 ∷ []) ∷
         Single (0x66 ∷ []) None ∷ [])
-        ((0x67 ∷ []) ∷ (0x68 ∷ []) ∷ (0x61 ∷ 0x02 ∷ 0x03 ∷ []) ∷ (0x65 ∷ 0x04 ∷ []) ∷ (0x66 ∷ []) ∷ []) }
+        ((0x67 ∷ []) ∷ (0x68 ∷ []) ∷ (0x61 ∷ 0x02 ∷ 0x03 ∷ []) ∷
+        (0x65 ∷ 0x04 ∷ []) ∷ (0x66 ∷ []) ∷ []) }
 {}
 
-/// A start and an end are a rival where their data joined are the bytes and neither is over the limit.
+/// A start and an end within the limit are a rival, where their data joined are the bytes.
 pub fn a_rival_of_two()
     ensures { (f : Format) → f.read (0x01 ∷ []) ≡ Fragment true false [] None (0x0a ∷ []) →
         f.read (0x02 ∷ []) ≡ Fragment false true [] None (0x0b ∷ []) →
@@ -111,7 +120,9 @@ pub fn a_rival_of_two()
 
 /// Nothing is dropped of a group whose sets fit one packet, and of a unit that fits.
 pub fn nothing_dropped()
-    ensures { (f : Format) → f.kind (0x01 ∷ []) ≡ Sps → f.kind (0x02 ∷ []) ≡ Pps → f.kind (0x03 ∷ []) ≡ Other →
+    ensures { (f : Format) →
+        f.kind (0x01 ∷ []) ≡ Sps → f.kind (0x02 ∷ []) ≡ Pps → f.kind (0x03 ∷ []) ≡ Other →
         f.numbered ≡ false → f.sets_fit 9 ((0x01 ∷ []) ∷ (0x02 ∷ []) ∷ []) ≡ true →
-        NothingDropped f (entries_at 9 ((0x01 ∷ []) ∷ (0x02 ∷ []) ∷ (0x03 ∷ []) ∷ (0x03 ∷ []) ∷ [])) }
+        NothingDropped f (entries_at 9 (
+        (0x01 ∷ []) ∷ (0x02 ∷ []) ∷ (0x03 ∷ []) ∷ (0x03 ∷ []) ∷ [])) }
 {}

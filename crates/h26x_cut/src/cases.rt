@@ -21,17 +21,20 @@ pub fn payloads_and_units()
 
 /// A cutting by each rule: pieces and the start codes between them, empty pieces too.
 pub fn cuttings()
-    ensures all { IsCutting All (0xbb ∷ 0 ∷ 0 ∷ 1 ∷ 0xaa ∷ 0 ∷ 0 ∷ 0 ∷ 1 ∷ 0 ∷ 0 ∷ 1 ∷ 0xcc ∷ 0 ∷ [])
+    ensures all { IsCutting All
+        (0xbb ∷ 0 ∷ 0 ∷ 1 ∷ 0xaa ∷ 0 ∷ 0 ∷ 0 ∷ 1 ∷ 0 ∷ 0 ∷ 1 ∷ 0xcc ∷ 0 ∷ [])
         ((0xbb ∷ []) ∷ (0xaa ∷ []) ∷ [] ∷ (0xcc ∷ 0 ∷ []) ∷ []) }
     ensures at_most_three { IsCutting AtMostThree (0 ∷ 0 ∷ 1 ∷ 0xaa ∷ 0 ∷ 0 ∷ 0 ∷ 0 ∷ 1 ∷ 0xbb ∷ [])
         ([] ∷ (0xaa ∷ 0 ∷ []) ∷ (0xbb ∷ []) ∷ []) }
     ensures one { IsCutting All [] ([] ∷ []) }
-    ensures units { AreUnits All (0xbb ∷ 0 ∷ 0 ∷ 1 ∷ 0xaa ∷ 0 ∷ 0 ∷ 0 ∷ 1 ∷ 0 ∷ 0 ∷ 1 ∷ 0xcc ∷ 0 ∷ [])
+    ensures units { AreUnits All
+        (0xbb ∷ 0 ∷ 0 ∷ 1 ∷ 0xaa ∷ 0 ∷ 0 ∷ 0 ∷ 1 ∷ 0 ∷ 0 ∷ 1 ∷ 0xcc ∷ 0 ∷ [])
         ((0xaa ∷ []) ∷ (0xcc ∷ 0 ∷ []) ∷ []) }
     ensures place { EndsCodeAt (0xaa ∷ 0 ∷ 0 ∷ 0 ∷ 1 ∷ []) 4 }
 {}
 
-/// Under the rule of all zeros every unit but the last must end in no zero, so that units are found again.
+/// Under the rule of all zeros every unit but the last must end in no zero, so that units are found
+/// again.
 pub fn separable_units()
     ensures units { AllByRecursion IsUnit ((0xaa ∷ []) ∷ (0 ∷ 0 ∷ []) ∷ []) }
     ensures all { AreSeparable All ((0xaa ∷ []) ∷ (0 ∷ 0xbb ∷ []) ∷ (0xcc ∷ 0 ∷ 0 ∷ []) ∷ []) }
