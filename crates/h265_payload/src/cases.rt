@@ -2,10 +2,16 @@
 
 ghost use Rattle.std.specs.Prelude.{◌≡◌, true, false, [], ◌∷◌, map, replicate, Some, None, length, take};
 ghost use Rattle.std.specs.List.{range_with_len};
+ghost use Rattle.h26x_core.specs.Kind.{Skipped, Vps, Sps, Pps, Other};
 ghost use Rattle.h26x_core.specs.declared.error.PacketError.TheVariants.{ErrShortPacket, ErrH265CorruptedPacket};
 ghost use Rattle.h26x_core.specs.declared.extra.CodecExtra.TheVariants as extras;
 ghost use Rattle.h26x_core.specs.Reading.{Single, Aggregate, Refused};
 ghost use Rattle.h26x_core.specs.Calls.{call_at, packets_of, packets_of_payload};
+ghost use Rattle.h26x_core.specs.Plan.{Alone, Together};
+ghost use Rattle.h26x_core.specs.Waits.{AreSets, entries_at};
+ghost use Rattle.h26x_core.specs.Rival.{IsRival};
+ghost use Rattle.h26x_core.specs.Facts.{AreCarried, IsPlanned, CanSend};
+ghost use Rattle.h26x_core.specs.Again.{NothingDropped};
 ghost use Rattle.h26x_core.specs.Received.{received};
 ghost use Rattle.h26x_core.specs.Text.{annex_b, text};
 ghost use Rattle.h26x_core.specs.Extra.{extra_after};
@@ -354,4 +360,111 @@ pub fn detection_of_short_packets()
         (0x60 ∷ 0x01 ∷ 0x00 ∷ 0x02 ∷ 0x26 ∷ 0x01 ∷ []) ∷
         (0x60 ∷ 0x01 ∷ 0x00 ∷ 0x09 ∷ 0x26 ∷ 0x01 ∷ []) ∷ [])
         ≡ true ∷ false ∷ true ∷ false ∷ true ∷ false ∷ [] }
+{}
+
+/// Packets can carry units of three bytes with F clear and a type that is not a packet's own.
+pub fn carried_units()
+    ensures types { map (h265 false).carries (
+        (0x00 ∷ 0x01 ∷ 0xaa ∷ []) ∷
+        (0x5f ∷ 0x01 ∷ 0xaa ∷ []) ∷
+        (0x60 ∷ 0x01 ∷ 0xaa ∷ []) ∷
+        (0x62 ∷ 0x01 ∷ 0xaa ∷ []) ∷
+        (0x65 ∷ 0x01 ∷ 0xaa ∷ []) ∷
+        (0x66 ∷ 0x01 ∷ 0xaa ∷ []) ∷
+        (0x7f ∷ 0x01 ∷ 0xaa ∷ []) ∷ [])
+        ≡ true ∷ true ∷ false ∷ false ∷ false ∷ true ∷ true ∷ [] }
+    ensures forbidden { map (h265 false).carries (
+        (0x80 ∷ 0x01 ∷ 0xaa ∷ []) ∷ (0xff ∷ 0x01 ∷ 0xaa ∷ []) ∷ [])
+        ≡ false ∷ false ∷ [] }
+    ensures lengths { map (h265 true).carries (
+        [] ∷ (0x02 ∷ []) ∷ (0x02 ∷ 0x01 ∷ []) ∷ (0x02 ∷ 0x01 ∷ 0x00 ∷ []) ∷ [])
+        ≡ false ∷ false ∷ false ∷ true ∷ [] }
+    ensures all { AreCarried (h265 true)
+        ((0x42 ∷ 0x01 ∷ 0x01 ∷ []) ∷ (0x26 ∷ 0x01 ∷ 0xaf ∷ []) ∷ []) }
+{}
+
+/// Only the variant of H.265 with its flag tells of a key unit.
+pub fn told_of_a_key_unit()
+    ensures { map (h265 false).has_key (
+        extras.H265 (record { is_keyframe = true }) ∷
+        extras.H265 (record { is_keyframe = false }) ∷
+        extras.H264 (record { is_keyframe = true }) ∷
+        extras.H266 (record { is_keyframe = true }) ∷
+        extras.None ∷ [])
+        ≡ true ∷ false ∷ false ∷ false ∷ false ∷ [] }
+{}
+
+/// Units by their types: 32 to 34 are sets, 35 and units without a whole header are skipped; 16 to
+/// 21 are key types.
+pub fn kinds_of_units()
+    ensures kinds { map (h265 false).kind (
+        [] ∷ (0x40 ∷ []) ∷ (0x3e ∷ 0x01 ∷ []) ∷
+        (0x40 ∷ 0x01 ∷ []) ∷ (0x42 ∷ 0x01 ∷ []) ∷ (0x44 ∷ 0x01 ∷ []) ∷
+        (0x46 ∷ 0x01 ∷ []) ∷ (0x48 ∷ 0x01 ∷ []) ∷ (0x60 ∷ 0x01 ∷ []) ∷ [])
+        ≡ Skipped ∷ Skipped ∷ Other ∷ Vps ∷ Sps ∷ Pps ∷ Skipped ∷ Other ∷ Other ∷ [] }
+    ensures keys { map (h265 false).is_key (
+        (0x26 ∷ []) ∷ (0x1e ∷ 0x01 ∷ []) ∷ (0x20 ∷ 0x01 ∷ []) ∷ (0x2a ∷ 0x01 ∷ []) ∷
+        (0x2c ∷ 0x01 ∷ []) ∷ [])
+        ≡ false ∷ false ∷ true ∷ true ∷ false ∷ [] }
+{}
+
+/// Of each kind one set waits, or none.
+pub fn sets_that_wait()
+    ensures three { AreSets (h265 false) (record {
+      vps = (0x40 ∷ 0x01 ∷ []) ∷ [];
+      sps = (0x42 ∷ 0x01 ∷ []) ∷ [];
+      pps = (0x44 ∷ 0x01 ∷ []) ∷ [];
+    }) }
+    ensures vps_alone { AreSets (h265 false)
+        (record { vps = (0x40 ∷ 0x01 ∷ []) ∷ []; sps = []; pps = [] }) }
+    ensures wrong_kind { AreSets (h265 false)
+        (record { vps = (0x42 ∷ 0x01 ∷ []) ∷ []; sps = []; pps = [] }) → ⊥ }
+{}
+
+/// What is planned and can be sent: a unit alone, one in fragments, and sets in one packet, with
+/// numbers.
+pub fn items_that_can_be_sent()
+    ensures alone { IsPlanned (h265 true) (Alone 5 (0x02 ∷ 0x01 ∷ 0xaa ∷ []))
+        × CanSend (h265 true) (Alone 5 (0x02 ∷ 0x01 ∷ 0xaa ∷ [])) }
+    ensures in_fragments { IsPlanned (h265 true) (Alone 6 (0x02 ∷ 0x01 ∷ 0xaa ∷ 0xbb ∷ 0xcc ∷ []))
+        × CanSend (h265 true) (Alone 6 (0x02 ∷ 0x01 ∷ 0xaa ∷ 0xbb ∷ 0xcc ∷ [])) }
+    ensures dropped { IsPlanned (h265 true) (Alone 5 (0x02 ∷ 0x01 ∷ 0xaa ∷ 0xbb ∷ [])) → ⊥ }
+    ensures together { IsPlanned (h265 true) (
+        Together 15 ((0x42 ∷ 0x01 ∷ 0x01 ∷ []) ∷ (0x44 ∷ 0x01 ∷ 0xc1 ∷ []) ∷ [])
+        (0x26 ∷ 0x01 ∷ 0xaf ∷ [])) }
+    ensures together_sent { CanSend (h265 true) (
+        Together 15 ((0x42 ∷ 0x01 ∷ 0x01 ∷ []) ∷ (0x44 ∷ 0x01 ∷ 0xc1 ∷ []) ∷ [])
+        (0x26 ∷ 0x01 ∷ 0xaf ∷ [])) }
+{}
+
+/// A packetizer's own fragments are a rival of themselves, with numbers and without, and so are
+/// more and smaller packets; not without a start.
+pub fn rivals()
+    ensures own { IsRival (h265 false) 4 (0xaa ∷ 0xbb ∷ 0xcc ∷ [])
+        (packets_of_payload (h265 false) 4 (0x26 ∷ 0x01 ∷ 0xaa ∷ 0xbb ∷ 0xcc ∷ [])) }
+    ensures numbered { IsRival (h265 true) 6 (0xaa ∷ 0xbb ∷ 0xcc ∷ 0xdd ∷ 0xee ∷ [])
+        (packets_of_payload (h265 true) 6 (0x26 ∷ 0x01 ∷ 0xaa ∷ 0xbb ∷ 0xcc ∷ 0xdd ∷ 0xee ∷ [])) }
+    ensures more { IsRival (h265 true) 6 (0xaa ∷ 0xbb ∷ 0xcc ∷ 0xdd ∷ 0xee ∷ [])
+        ((0x62 ∷ 0x01 ∷ 0x93 ∷ 0x00 ∷ 0x07 ∷ 0xaa ∷ []) ∷
+        (0x62 ∷ 0x01 ∷ 0x53 ∷ 0xbb ∷ []) ∷
+        (0x62 ∷ 0x01 ∷ 0xd3 ∷ 0xff ∷ 0xff ∷ 0xcc ∷ []) ∷
+        (0x63 ∷ 0x01 ∷ 0x02 ∷ 0xdd ∷ 0xee ∷ []) ∷ []) }
+    ensures startless { IsRival (h265 false) 4 (0xaa ∷ 0xbb ∷ [])
+        ((0x62 ∷ 0x01 ∷ 0x13 ∷ 0xaa ∷ []) ∷ (0x62 ∷ 0x01 ∷ 0x53 ∷ 0xbb ∷ []) ∷ []) → ⊥ }
+{}
+
+/// Nothing is dropped where sets go in one packet or each alone, and each other unit alone or in
+/// fragments.
+pub fn nothing_dropped()
+    ensures together { NothingDropped (h265 false) (entries_at 12 (
+        (0x42 ∷ 0x01 ∷ 0x01 ∷ []) ∷ (0x44 ∷ 0x01 ∷ 0xc1 ∷ []) ∷ (0x26 ∷ 0x01 ∷ 0xaf ∷ []) ∷
+        (0x02 ∷ 0x01 ∷ 0x01 ∷ 0x02 ∷ 0x03 ∷ 0x04 ∷ 0x05 ∷ 0x06 ∷
+        0x07 ∷ 0x08 ∷ 0x09 ∷ 0x0a ∷ 0x0b ∷ []) ∷ [])) }
+    ensures each_alone { NothingDropped (h265 true) (entries_at 5 (
+        (0x42 ∷ 0x01 ∷ 0x01 ∷ []) ∷ (0x44 ∷ 0x01 ∷ 0xc1 ∷ []) ∷ (0x26 ∷ 0x01 ∷ 0xaf ∷ []) ∷ [])) }
+    ensures set_dropped { NothingDropped (h265 true) (entries_at 5 (
+        (0x42 ∷ 0x01 ∷ 0x01 ∷ 0x02 ∷ []) ∷ (0x44 ∷ 0x01 ∷ 0xc1 ∷ []) ∷
+        (0x26 ∷ 0x01 ∷ 0xaf ∷ []) ∷ [])) → ⊥ }
+    ensures unit_dropped { NothingDropped (h265 true)
+        (entries_at 5 ((0x26 ∷ 0x01 ∷ 0xaf ∷ 0xbb ∷ []) ∷ [])) → ⊥ }
 {}

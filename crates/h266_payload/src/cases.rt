@@ -2,7 +2,13 @@
 
 ghost use Rattle.std.specs.Prelude.{map, ◌≡◌, [], ◌∷◌, true, false, Some, None, length, replicate};
 ghost use Rattle.std.specs.List.{range_with_len};
+ghost use Rattle.h26x_core.specs.Kind.{Skipped, Vps, Sps, Pps, Other};
 ghost use Rattle.h26x_core.specs.Reading.{Aggregate, Refused};
+ghost use Rattle.h26x_core.specs.Plan.{Alone, Together};
+ghost use Rattle.h26x_core.specs.Waits.{AreSets, entries_at};
+ghost use Rattle.h26x_core.specs.Rival.{IsRival};
+ghost use Rattle.h26x_core.specs.Facts.{AreCarried, IsPlanned, CanSend};
+ghost use Rattle.h26x_core.specs.Again.{NothingDropped};
 ghost use Rattle.h26x_core.specs.Received.{received};
 ghost use Rattle.h26x_core.specs.Text.{annex_b};
 ghost use Rattle.h26x_core.specs.Extra.{extra_after};
@@ -277,4 +283,115 @@ pub fn detection_of_short_packets()
         (0x00 ∷ 0xe1 ∷ 0x00 ∷ 0x02 ∷ 0x00 ∷ 0x39 ∷ []) ∷
         (0x00 ∷ 0xe1 ∷ 0x00 ∷ 0x09 ∷ 0x00 ∷ 0x39 ∷ []) ∷ [])
         ≡ true ∷ false ∷ true ∷ false ∷ [] }
+{}
+
+/// Packets can carry units of three bytes with F clear and a type that is not a packet's own, Z set
+/// or clear.
+pub fn carried_units()
+    ensures types { map (h266 false).carries (
+        (0x00 ∷ 0x01 ∷ 0xaa ∷ []) ∷
+        (0x00 ∷ 0xdf ∷ 0xaa ∷ []) ∷
+        (0x00 ∷ 0xe0 ∷ 0xaa ∷ []) ∷
+        (0x00 ∷ 0xef ∷ 0xaa ∷ []) ∷
+        (0x00 ∷ 0xf0 ∷ 0xaa ∷ []) ∷
+        (0x00 ∷ 0xff ∷ 0xaa ∷ []) ∷ [])
+        ≡ true ∷ true ∷ false ∷ false ∷ true ∷ true ∷ [] }
+    ensures bits { map (h266 false).carries (
+        (0x40 ∷ 0x09 ∷ 0xaa ∷ []) ∷ (0x7f ∷ 0x09 ∷ 0xaa ∷ []) ∷ (0x80 ∷ 0x09 ∷ 0xaa ∷ []) ∷
+        (0xff ∷ 0x09 ∷ 0xaa ∷ []) ∷ [])
+        ≡ true ∷ true ∷ false ∷ false ∷ [] }
+    ensures lengths { map (h266 true).carries (
+        [] ∷ (0x00 ∷ []) ∷ (0x00 ∷ 0x09 ∷ []) ∷ (0x00 ∷ 0x09 ∷ 0x00 ∷ []) ∷ [])
+        ≡ false ∷ false ∷ false ∷ true ∷ [] }
+    ensures all { AreCarried (h266 true)
+        ((0x00 ∷ 0x79 ∷ 0xbb ∷ []) ∷ (0x40 ∷ 0x39 ∷ 0xdd ∷ []) ∷ []) }
+{}
+
+/// Only the variant of H.266 with its flag tells of a key unit.
+pub fn told_of_a_key_unit()
+    ensures { map (h266 false).has_key (
+        CodecExtra.H266 (record { is_keyframe = true }) ∷
+        CodecExtra.H266 (record { is_keyframe = false }) ∷
+        CodecExtra.H264 (record { is_keyframe = true }) ∷
+        CodecExtra.H265 (record { is_keyframe = true }) ∷
+        CodecExtra.None ∷ [])
+        ≡ true ∷ false ∷ false ∷ false ∷ false ∷ [] }
+{}
+
+/// Units by their types: 14 to 16 are sets, 20, 28, 29 and units without a whole header are
+/// skipped; 7 to 9 are key types.
+pub fn kinds_of_units()
+    ensures kinds { map (h266 false).kind (
+        [] ∷ (0x00 ∷ []) ∷ (0x00 ∷ 0x69 ∷ []) ∷ (0x00 ∷ 0x71 ∷ []) ∷ (0x00 ∷ 0x79 ∷ []) ∷
+        (0x00 ∷ 0x81 ∷ []) ∷ (0x00 ∷ 0x89 ∷ []) ∷ [])
+        ≡ Skipped ∷ Skipped ∷ Other ∷ Vps ∷ Sps ∷ Pps ∷ Other ∷ [] }
+    ensures skipped { map (h266 false).kind (
+        (0x00 ∷ 0x99 ∷ []) ∷ (0x00 ∷ 0xa1 ∷ []) ∷ (0x00 ∷ 0xa9 ∷ []) ∷
+        (0x00 ∷ 0xd9 ∷ []) ∷ (0x00 ∷ 0xe1 ∷ []) ∷ (0x00 ∷ 0xe9 ∷ []) ∷ (0x00 ∷ 0xf1 ∷ []) ∷ [])
+        ≡ Other ∷ Skipped ∷ Other ∷ Other ∷ Skipped ∷ Skipped ∷ Other ∷ [] }
+    ensures keys { map (h266 false).is_key (
+        (0x39 ∷ []) ∷ (0x00 ∷ 0x31 ∷ []) ∷ (0x00 ∷ 0x39 ∷ []) ∷ (0x00 ∷ 0x49 ∷ []) ∷
+        (0x00 ∷ 0x51 ∷ []) ∷ [])
+        ≡ false ∷ false ∷ true ∷ true ∷ false ∷ [] }
+{}
+
+/// Of each kind one set waits, or none.
+pub fn sets_that_wait()
+    ensures three { AreSets (h266 false) (record {
+      vps = (0x00 ∷ 0x71 ∷ []) ∷ [];
+      sps = (0x00 ∷ 0x79 ∷ []) ∷ [];
+      pps = (0x00 ∷ 0x81 ∷ []) ∷ [];
+    }) }
+    ensures vps_alone { AreSets (h266 false)
+        (record { vps = (0x00 ∷ 0x71 ∷ []) ∷ []; sps = []; pps = [] }) }
+    ensures wrong_kind { AreSets (h266 false)
+        (record { vps = (0x00 ∷ 0x79 ∷ []) ∷ []; sps = []; pps = [] }) → ⊥ }
+{}
+
+/// What is planned and can be sent: a unit alone, one in fragments, and sets in one packet, with
+/// numbers.
+pub fn items_that_can_be_sent()
+    ensures alone { IsPlanned (h266 true) (Alone 5 (0x00 ∷ 0x09 ∷ 0xaa ∷ []))
+        × CanSend (h266 true) (Alone 5 (0x00 ∷ 0x09 ∷ 0xaa ∷ [])) }
+    ensures in_fragments { IsPlanned (h266 true) (Alone 6 (0x00 ∷ 0x09 ∷ 0xaa ∷ 0xbb ∷ 0xcc ∷ []))
+        × CanSend (h266 true) (Alone 6 (0x00 ∷ 0x09 ∷ 0xaa ∷ 0xbb ∷ 0xcc ∷ [])) }
+    ensures dropped { IsPlanned (h266 true) (Alone 5 (0x00 ∷ 0x09 ∷ 0xaa ∷ 0xbb ∷ [])) → ⊥ }
+    ensures together { IsPlanned (h266 true) (
+        Together 14 ((0x00 ∷ 0x79 ∷ 0xbb ∷ []) ∷ (0x00 ∷ 0x81 ∷ 0xcc ∷ []) ∷ [])
+        (0x00 ∷ 0x39 ∷ 0xdd ∷ [])) }
+    ensures together_sent { CanSend (h266 true) (
+        Together 14 ((0x00 ∷ 0x79 ∷ 0xbb ∷ []) ∷ (0x00 ∷ 0x81 ∷ 0xcc ∷ []) ∷ [])
+        (0x00 ∷ 0x39 ∷ 0xdd ∷ [])) }
+{}
+
+/// A packetizer's own fragments are a rival of themselves, with numbers and without, and so are
+/// more and smaller packets; not without a start.
+pub fn rivals()
+    ensures own { IsRival (h266 false) 4 (0x01 ∷ 0x02 ∷ 0x03 ∷ [])
+        (packets_of_payload (h266 false) 4 (0x00 ∷ 0x09 ∷ 0x01 ∷ 0x02 ∷ 0x03 ∷ [])) }
+    ensures numbered { IsRival (h266 true) 6 (0x01 ∷ 0x02 ∷ 0x03 ∷ 0x04 ∷ 0x05 ∷ [])
+        (packets_of_payload (h266 true) 6 (0x00 ∷ 0x09 ∷ 0x01 ∷ 0x02 ∷ 0x03 ∷ 0x04 ∷ 0x05 ∷ [])) }
+    ensures more { IsRival (h266 true) 6 (0x01 ∷ 0x02 ∷ 0x03 ∷ 0x04 ∷ 0x05 ∷ [])
+        ((0x00 ∷ 0xe9 ∷ 0x81 ∷ 0x00 ∷ 0x07 ∷ []) ∷
+        (0x00 ∷ 0xe9 ∷ 0x41 ∷ 0x01 ∷ 0x02 ∷ []) ∷
+        (0x40 ∷ 0xe9 ∷ 0xc1 ∷ 0xff ∷ 0xff ∷ 0x03 ∷ []) ∷
+        (0x00 ∷ 0xe9 ∷ 0x02 ∷ 0x04 ∷ 0x05 ∷ []) ∷ []) }
+    ensures startless { IsRival (h266 false) 4 (0x01 ∷ 0x02 ∷ [])
+        ((0x00 ∷ 0xe9 ∷ 0x01 ∷ 0x01 ∷ []) ∷ (0x00 ∷ 0xe9 ∷ 0x41 ∷ 0x02 ∷ []) ∷ []) → ⊥ }
+{}
+
+/// Nothing is dropped where sets go in one packet or each alone, and each other unit alone or in
+/// fragments.
+pub fn nothing_dropped()
+    ensures together { NothingDropped (h266 false) (entries_at 12 (
+        (0x00 ∷ 0x79 ∷ 0xbb ∷ []) ∷ (0x00 ∷ 0x81 ∷ 0xcc ∷ []) ∷ (0x00 ∷ 0x39 ∷ 0xdd ∷ []) ∷
+        (0x00 ∷ 0x09 ∷ 0x01 ∷ 0x02 ∷ 0x03 ∷ 0x04 ∷ 0x05 ∷ 0x06 ∷
+        0x07 ∷ 0x08 ∷ 0x09 ∷ 0x0a ∷ 0x0b ∷ []) ∷ [])) }
+    ensures each_alone { NothingDropped (h266 true) (entries_at 5 (
+        (0x00 ∷ 0x79 ∷ 0xbb ∷ []) ∷ (0x00 ∷ 0x81 ∷ 0xcc ∷ []) ∷ (0x00 ∷ 0x39 ∷ 0xdd ∷ []) ∷ [])) }
+    ensures set_dropped { NothingDropped (h266 true) (entries_at 5 (
+        (0x00 ∷ 0x79 ∷ 0xbb ∷ 0xbb ∷ []) ∷ (0x00 ∷ 0x81 ∷ 0xcc ∷ []) ∷
+        (0x00 ∷ 0x39 ∷ 0xdd ∷ []) ∷ [])) → ⊥ }
+    ensures unit_dropped { NothingDropped (h266 true)
+        (entries_at 5 ((0x00 ∷ 0x39 ∷ 0xdd ∷ 0xdd ∷ []) ∷ [])) → ⊥ }
 {}

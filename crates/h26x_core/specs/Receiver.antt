@@ -1,5 +1,5 @@
 -- A depacketizer of any codec: what packets bring where it has any run open, and what stands after them.
-use Rattle.std.specs.Prelude.{◌≡◌, ℕ, Bool, false, List, [], ◌∷◌, ◌++◌, map, if◌then◌else◌, Option, Some, Result, Err, is_ok, OnOk, OnErr, IfErr, ◌⊎◌}
+use Rattle.std.specs.Prelude.{◌≡◌, ℕ, Bool, false, List, [], ◌∷◌, ◌++◌, map, if◌then◌else◌, Option, Some, None, ◌||◌, Result, Err, is_ok, OnOk, OnErr, IfErr, ◌⊎◌}
 use Rattle.std.specs.List.{list_any}
 use Rattle.h26x_core.specs.declared.extra.CodecExtra.{CodecExtra}
 use Rattle.h26x_core.specs.declared.error.PacketError.{PacketError}
@@ -27,6 +27,15 @@ pub record Receiver : Type 0 where
   pub format : Format
   pub is_avc : Bool
   pub run : Option (List ℕ)
+
+-- the run as a list, if one is open
+abbrev pub runs_of : Option (List ℕ) → List (List ℕ)
+runs_of None = []
+runs_of (Some run) = run ∷ []
+
+-- what later answers depend on: one byte for the setting, AVC form or numbers, and the data of the open run if there is one
+abbrev pub receiver_meaning : Receiver → List (List ℕ)
+receiver_meaning r = (if r.is_avc || r.format.numbered then 1 ∷ [] else 0 ∷ []) ∷ runs_of r.run
 
 -- the units that packets bring to it
 abbrev pub brought : Receiver → List (List ℕ) → List (List ℕ)

@@ -1,6 +1,7 @@
 -- A packetizer of any codec: what it sends of entries, and what it is afterwards.
-use Rattle.std.specs.Prelude.{◌≡◌, ℕ, ◌+◌, ◌%◌, ◌<◌, ◌≤◌, nat_lt, Bool, true, false, ◌||◌, if◌then◌else◌, List, [], ◌∷◌, length}
+use Rattle.std.specs.Prelude.{◌≡◌, ℕ, ◌+◌, ◌%◌, ◌<◌, ◌≤◌, nat_lt, Bool, true, false, ◌||◌, if◌then◌else◌, List, [], ◌∷◌, ◌++◌, length}
 use Rattle.std.specs.List.{flat_map, list_all}
+use Rattle.h26x_core.specs.Word.{word}
 use Rattle.h26x_core.specs.Kind.{Kind, Skipped}
 use Rattle.h26x_core.specs.Format.{Format}
 use Rattle.h26x_core.specs.Group.{Entry}
@@ -67,3 +68,16 @@ AreWithinLimits s [] = Unit {0}
 AreWithinLimits s (call ∷ calls) =
     AreWithin (limit_of_call s.format call) (packets_by s (entries_of_call s.format call))
     × AreWithinLimits (after s (entries_of_call s.format call)) calls
+
+-- what later answers depend on: the sets that wait, the counter where packets bear numbers, and the largest packet size
+-- where it limits calls
+abbrev pub sender_meaning : Sender → List (List ℕ)
+sender_meaning s =
+    (flat_map (λ set. set) s.waiting.vps ∷ flat_map (λ set. set) s.waiting.sps ∷ flat_map (λ set. set) s.waiting.pps
+    ∷ (if s.format.numbered then word s.counter else []) ∷ []) ++ (if s.format.sized then word s.largest ∷ [] else [])
+
+-- the same state, as far as the format has it
+pub record IsSameSender (a b : Sender) : Type 0 where
+  pub waiting : a.waiting ≡ b.waiting
+  pub counter : a.format.numbered ≡ true → a.counter ≡ b.counter
+  pub largest : a.format.sized ≡ true → a.largest ≡ b.largest

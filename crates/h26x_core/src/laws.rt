@@ -17,12 +17,13 @@ ghost use Rattle.h26x_core.specs.Rival.{TakesFewestFragments};
 ghost use Rattle.h26x_core.specs.Pieces.{ArePieces, HasNoPiece, pieces_of};
 ghost use Rattle.h26x_core.specs.Run.{AreReceived};
 ghost use Rattle.h26x_core.specs.Received.{open_run, IsOpenRun, units_after, received};
+ghost use Rattle.h26x_core.specs.Kind.{Skipped};
 ghost use Rattle.h26x_core.specs.Facts.{MarksFragments, NumbersAreTwoBytes, IsPayloadFormat, ExtraTells, FitsLimits, HeadersTakeRoom, ReadsWhatItWrites, CanSend, IsPlanned, KnowsKeyUnits, AreCarried, KeyUnitsAreOther, SetsLeaveRoom};
 ghost use Rattle.h26x_core.specs.Loss.{LossStaysWithin};
 ghost use Rattle.h26x_core.specs.Again.{NothingDropped, IsSteady};
 ghost use Rattle.h26x_core.specs.Detection.{AreDetected};
-ghost use Rattle.h26x_core.specs.Sender.{Sender, IsSender, planned, sent_by, packets_by, after, has_no_effect};
-ghost use Rattle.h26x_core.specs.Receiver.{Work, units_from};
+ghost use Rattle.h26x_core.specs.Sender.{Sender, IsSender, IsSameSender, planned, sent_by, packets_by, after, has_no_effect, sender_meaning};
+ghost use Rattle.h26x_core.specs.Receiver.{Receiver, Work, units_from, receiver_meaning};
 ghost use Rattle.h26x_core.specs.Ends.{SenderGoesOn, ReceiverGoesOn, CarriesWhole, LosesLittle, SendsAgain};
 
 /// A list of units is groups and a rest in one way, and `split` finds it.
@@ -172,4 +173,14 @@ pub fn what_is_left_is_brought()
 /// Payloads at one mtu, and the text of what was sent of them: they have the same packets.
 pub fn what_was_written_is_sent_again()
     ensures { (f : Format) → SendsAgain f }
+{}
+
+/// Packetizers of one format that have the same meaning are in the same state, and so are depacketizers.
+pub fn equal_meanings_are_equal_states()
+    ensures senders { (a b : Sender) → a.format ≡ b.format → a.format.kind [] ≡ Skipped → IsSender a → IsSender b →
+        sender_meaning a ≡ sender_meaning b → IsSameSender a b }
+    ensures receivers { (a b : Receiver) → a.format ≡ b.format → a.format.numbered ≡ false →
+        receiver_meaning a ≡ receiver_meaning b → a ≡ b }
+    ensures numbered { (a b : Receiver) → a.format ≡ b.format → a.is_avc ≡ false → b.is_avc ≡ false →
+        receiver_meaning a ≡ receiver_meaning b → a ≡ b }
 {}

@@ -4,6 +4,7 @@
 //! The definitions that contracts cite stand in `specs/`.
 #![tactic(auto)]
 
+pub mod cases;
 mod constants;
 mod error;
 mod extra;

@@ -1,7 +1,8 @@
 //! Worked cases of the cutting grammar, which the checker computes.
 
 ghost use Rattle.std.specs.Prelude.{◌≡◌, [], ◌∷◌};
-ghost use Rattle.h26x_cut.specs.Cutting.{units_of};
+ghost use Rattle.std.specs.List.{AllByRecursion};
+ghost use Rattle.h26x_cut.specs.Cutting.{units_of, IsCutting, AreUnits, IsUnit, AreSeparable, EndsCodeAt};
 ghost use Rattle.h26x_cut.specs.declared.ZeroRule.TheVariants.{All, AtMostThree};
 
 /// Zeros before a mark belong to the start code: all of them by one rule, three by the other.
@@ -16,4 +17,28 @@ pub fn payloads_and_units()
     ensures none { units_of All (0 ∷ 0 ∷ 1 ∷ []) ≡ [] }
     ensures dropped { units_of AtMostThree (0xbb ∷ 0 ∷ 0 ∷ 1 ∷ 0xaa ∷ []) ≡ (0xaa ∷ []) ∷ [] }
     ensures empty { units_of All (0 ∷ 0 ∷ 1 ∷ 0 ∷ 0 ∷ 1 ∷ 0xaa ∷ []) ≡ (0xaa ∷ []) ∷ [] }
+{}
+
+/// A cutting by each rule: pieces and the start codes between them, empty pieces too.
+pub fn cuttings()
+    ensures all { IsCutting All
+        (0xbb ∷ 0 ∷ 0 ∷ 1 ∷ 0xaa ∷ 0 ∷ 0 ∷ 0 ∷ 1 ∷ 0 ∷ 0 ∷ 1 ∷ 0xcc ∷ 0 ∷ [])
+        ((0xbb ∷ []) ∷ (0xaa ∷ []) ∷ [] ∷ (0xcc ∷ 0 ∷ []) ∷ []) }
+    ensures at_most_three { IsCutting AtMostThree (0 ∷ 0 ∷ 1 ∷ 0xaa ∷ 0 ∷ 0 ∷ 0 ∷ 0 ∷ 1 ∷ 0xbb ∷ [])
+        ([] ∷ (0xaa ∷ 0 ∷ []) ∷ (0xbb ∷ []) ∷ []) }
+    ensures one { IsCutting All [] ([] ∷ []) }
+    ensures units { AreUnits All
+        (0xbb ∷ 0 ∷ 0 ∷ 1 ∷ 0xaa ∷ 0 ∷ 0 ∷ 0 ∷ 1 ∷ 0 ∷ 0 ∷ 1 ∷ 0xcc ∷ 0 ∷ [])
+        ((0xaa ∷ []) ∷ (0xcc ∷ 0 ∷ []) ∷ []) }
+    ensures place { EndsCodeAt (0xaa ∷ 0 ∷ 0 ∷ 0 ∷ 1 ∷ []) 4 }
+{}
+
+/// Under the rule of all zeros every unit but the last must end in no zero, so that units are found
+/// again.
+pub fn separable_units()
+    ensures units { AllByRecursion IsUnit ((0xaa ∷ []) ∷ (0 ∷ 0 ∷ []) ∷ []) }
+    ensures all { AreSeparable All ((0xaa ∷ []) ∷ (0 ∷ 0xbb ∷ []) ∷ (0xcc ∷ 0 ∷ 0 ∷ []) ∷ []) }
+    ensures not_first { AreSeparable All ((0xaa ∷ 0 ∷ []) ∷ (0xbb ∷ []) ∷ []) → ⊥ }
+    ensures not_second { AreSeparable All ((0xaa ∷ []) ∷ (0xbb ∷ 0 ∷ []) ∷ (0xcc ∷ []) ∷ []) → ⊥ }
+    ensures at_most_three { AreSeparable AtMostThree ((0xaa ∷ 0 ∷ []) ∷ (0xbb ∷ []) ∷ []) }
 {}

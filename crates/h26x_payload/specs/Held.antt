@@ -1,7 +1,5 @@
 -- What a packetizer keeps from call to call.
-use Rattle.std.specs.Prelude.{◌≡◌, ℕ, Bool, false, if◌then◌else◌, List, [], ◌∷◌, ◌++◌, Option}
-use Rattle.std.specs.List.{flat_map}
-use Rattle.h26x_core.specs.Word.{word}
+use Rattle.std.specs.Prelude.{◌≡◌, ℕ, false, List, Option}
 use Rattle.h26x_core.specs.Format.{Format}
 use Rattle.h26x_core.specs.Group.{Entry}
 use Rattle.h26x_core.specs.Calls.{Call, first_largest, entries_of_call}
@@ -49,9 +47,3 @@ held_after f h entries = record {
   counter = (after (sender f h) entries).counter;
   largest = h.largest;
 }
-
--- the bytes of the sets that wait and of the next number, each where it is there, and of the largest packet size
-abbrev pub meaning_of : {C : Type 0} → Format → Held C → List (List ℕ)
-meaning_of f h =
-    (flat_map (λ set. set) h.waiting.vps ∷ flat_map (λ set. set) h.waiting.sps ∷ flat_map (λ set. set) h.waiting.pps
-    ∷ (if f.numbered then word h.counter else []) ∷ []) ++ (if f.sized then word h.largest ∷ [] else [])

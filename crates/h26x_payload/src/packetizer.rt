@@ -242,9 +242,10 @@ impl<C: NumberedCodec> PayloadPacketizer<C> {
 }
 
 impl<C: Codec> Packetizer for PayloadPacketizer<C> {
-    ghost use Rattle.h26x_payload.specs.Held.{meaning_of};
+    ghost use Rattle.h26x_core.specs.Sender.{sender_meaning};
+    ghost use Rattle.h26x_payload.specs.Held.{sender};
 
-    ghost meaning = { λ held. meaning_of (C.format held.codec) held };
+    ghost meaning = { λ held. sender_meaning (sender (C.format held.codec) held) };
 
     /// The packets of a payload, in order, each within the limit of the call.
     ///
