@@ -5,6 +5,7 @@ use crate::{
     H265Profile, H265ProfileTierLevel, H265Tier, H266Level, H266Profile, H266ProfileTierLevel,
     H266Tier,
 };
+use serde::{DeserializeOwned, Serialize};
 use std::alloc::Global;
 use std::collections::HashMap;
 use std::test::Fail;
@@ -207,5 +208,111 @@ fn json_of_h266(rt: HostRuntime) -> Result<(), Fail> {
     assert_eq!(rt; written.as_str(), text);
     let read: H266ProfileTierLevel = serde_json::from_str(alloc, text)?;
     assert_eq!(rt; read, value);
+    Ok(())
+}
+
+/// Whether a value is written as this text in quotes, and read from it.
+fn is_written_as<T: PartialEq + Serialize + DeserializeOwned>(
+    alloc: Global,
+    value: T,
+    name: &str,
+) -> Result<bool, Fail> {
+    let text = format!(in alloc; "\"{name}\"")?;
+    let written = serde_json::to_string(alloc, &value)?;
+    let read: T = serde_json::from_value(alloc, serde_json::Value::from_str(alloc, &text)?)?;
+    Ok(written == text && read == value)
+}
+
+#[test]
+fn names_of_h265(rt: HostRuntime) -> Result<(), Fail> {
+    for (profile, name) in [
+        (H265Profile::Main, "Main"),
+        (H265Profile::Main10, "Main10"),
+        (H265Profile::MainStillPicture, "MainStillPicture"),
+        (H265Profile::FormatRangeExtensions, "FormatRangeExtensions"),
+        (H265Profile::HighThroughput, "HighThroughput"),
+        (H265Profile::MultiviewMain, "MultiviewMain"),
+        (H265Profile::ScalableMain, "ScalableMain"),
+        (H265Profile::ThreeDMain, "ThreeDMain"),
+        (H265Profile::ScreenContentCoding, "ScreenContentCoding"),
+        (
+            H265Profile::ScreenContentCodingExtensions,
+            "ScreenContentCodingExtensions",
+        ),
+        (
+            H265Profile::HighThroughputScreenContentCoding,
+            "HighThroughputScreenContentCoding",
+        ),
+    ] {
+        assert!(rt; is_written_as(rt.alloc(), profile, name)?, "at {name}");
+    }
+    for (tier, name) in [(H265Tier::Main, "Main"), (H265Tier::High, "High")] {
+        assert!(rt; is_written_as(rt.alloc(), tier, name)?, "at {name}");
+    }
+    for (level, name) in [
+        (H265Level::Level1, "Level1"),
+        (H265Level::Level2, "Level2"),
+        (H265Level::Level2_1, "Level2_1"),
+        (H265Level::Level3, "Level3"),
+        (H265Level::Level3_1, "Level3_1"),
+        (H265Level::Level4, "Level4"),
+        (H265Level::Level4_1, "Level4_1"),
+        (H265Level::Level5, "Level5"),
+        (H265Level::Level5_1, "Level5_1"),
+        (H265Level::Level5_2, "Level5_2"),
+        (H265Level::Level6, "Level6"),
+        (H265Level::Level6_1, "Level6_1"),
+        (H265Level::Level6_2, "Level6_2"),
+    ] {
+        assert!(rt; is_written_as(rt.alloc(), level, name)?, "at {name}");
+    }
+    Ok(())
+}
+
+#[test]
+fn names_of_h266(rt: HostRuntime) -> Result<(), Fail> {
+    for (profile, name) in [
+        (H266Profile::Main10, "Main10"),
+        (H266Profile::MultilayerMain10, "MultilayerMain10"),
+        (H266Profile::Main10_444, "Main10_444"),
+        (H266Profile::MultilayerMain10_444, "MultilayerMain10_444"),
+        (H266Profile::Main10StillPicture, "Main10StillPicture"),
+        (
+            H266Profile::MultilayerMain10StillPicture,
+            "MultilayerMain10StillPicture",
+        ),
+        (
+            H266Profile::Main10_444StillPicture,
+            "Main10_444StillPicture",
+        ),
+        (
+            H266Profile::MultilayerMain10_444StillPicture,
+            "MultilayerMain10_444StillPicture",
+        ),
+    ] {
+        assert!(rt; is_written_as(rt.alloc(), profile, name)?, "at {name}");
+    }
+    for (tier, name) in [(H266Tier::Main, "Main"), (H266Tier::High, "High")] {
+        assert!(rt; is_written_as(rt.alloc(), tier, name)?, "at {name}");
+    }
+    for (level, name) in [
+        (H266Level::Level1, "Level1"),
+        (H266Level::Level2, "Level2"),
+        (H266Level::Level2_1, "Level2_1"),
+        (H266Level::Level3, "Level3"),
+        (H266Level::Level3_1, "Level3_1"),
+        (H266Level::Level4, "Level4"),
+        (H266Level::Level4_1, "Level4_1"),
+        (H266Level::Level5, "Level5"),
+        (H266Level::Level5_1, "Level5_1"),
+        (H266Level::Level5_2, "Level5_2"),
+        (H266Level::Level6, "Level6"),
+        (H266Level::Level6_1, "Level6_1"),
+        (H266Level::Level6_2, "Level6_2"),
+        (H266Level::Level6_3, "Level6_3"),
+        (H266Level::Level15_5, "Level15_5"),
+    ] {
+        assert!(rt; is_written_as(rt.alloc(), level, name)?, "at {name}");
+    }
     Ok(())
 }

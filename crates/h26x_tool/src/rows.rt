@@ -3,6 +3,7 @@
 
 use std::alloc::{AllocError, Global};
 
+mod constants;
 mod h264;
 mod memory;
 
@@ -21,4 +22,14 @@ fn bytes_of(alloc: Global, text: &str) -> Result<Vec<u8>, AllocError> {
         };
     }
     Ok(bytes)
+}
+
+/// A unit of 100,000 bytes without a zero, no two of whose fragments at 1200 are alike.
+pub(crate) fn long_unit(alloc: Global) -> Result<Vec<u8>, AllocError> {
+    let mut unit = Vec::with_capacity(alloc, 100_000)?;
+    unit.push(0x65)?;
+    for place in 1..100_000u32 {
+        unit.push((place % 251 + 1) as u8)?;
+    }
+    Ok(unit)
 }

@@ -1,4 +1,4 @@
-use super::bytes_of;
+use super::{bytes_of, long_unit};
 use h26x_core::{
     CodecExtra, Depacketizer, H264CodecExtra, H266CodecExtra, PacketError, Packetizer,
 };
@@ -185,6 +185,36 @@ fn packets_and_what_is_written(rt: HostRuntime) -> Result<(), Fail> {
             "at {packets}"
         );
         assert_eq!(rt; extra, want_extra, "at {packets}");
+    }
+    Ok(())
+}
+
+#[test]
+fn a_long_unit(rt: HostRuntime) -> Result<(), Fail> {
+    let alloc = rt.alloc();
+    let unit = long_unit(alloc)?;
+    for (mtu, count, last) in [(200_000, 1, 100_000), (1200, 84, 567)] {
+        let packets = H264Packetizer::new(alloc).packetize(mtu, &unit)?;
+        assert_eq!(rt; packets.len(), count, "at {mtu}");
+        assert_eq!(rt;
+            packets.last().map(|packet| packet.len()),
+            Some(last),
+            "at {mtu}"
+        );
+        for (is_avc, lead) in [(false, [0, 0, 0, 1]), (true, [0, 1, 0x86, 0xa0])] {
+            let mut depacketizer = H264Depacketizer::new(alloc);
+            depacketizer.is_avc = is_avc;
+            let mut out = Vec::new(alloc);
+            let mut extra = CodecExtra::None;
+            for packet in &packets {
+                depacketizer.depacketize(packet, &mut out, &mut extra)?;
+            }
+            assert!(rt;
+                out.strip_prefix(&lead) == Some(unit.as_slice()),
+                "at {mtu}"
+            );
+            assert_eq!(rt; extra, KEY, "at {mtu}");
+        }
     }
     Ok(())
 }

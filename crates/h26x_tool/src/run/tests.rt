@@ -1,6 +1,8 @@
 use super::*;
 use std::test::Fail;
 
+mod memory;
+
 fn answers(alloc: Global, input: &[u8]) -> Result<Vec<u8>, RunError> {
     let mut output = Vec::new(alloc);
     run(alloc, input, &mut output)?;
@@ -40,6 +42,79 @@ fn each_line_on_a_fresh_session(rt: HostRuntime) -> Result<(), Fail> {
         (
             "unpack 65\ncodec h264\nkey\n",
             "out 0000000165\nok\nkey none\n",
+        ),
+    ] {
+        assert_eq!(rt;
+            answers(rt.alloc(), input.as_bytes())?.as_slice(),
+            want.as_bytes(),
+            "at {input}"
+        );
+    }
+    Ok(())
+}
+
+#[test]
+fn what_a_session_keeps(rt: HostRuntime) -> Result<(), Fail> {
+    for (input, want) in [
+        // The sets that wait, until `codec`.
+        (
+            "pack 100 6701\npack 100 6802\npack 100 6503\n",
+            "done\ndone\npacket 780002670100026802\npacket 6503\ndone\n",
+        ),
+        (
+            "pack 100 6701\npack 100 6802\navc on\npack 100 6503\n",
+            "done\ndone\nok\npacket 780002670100026802\npacket 6503\ndone\n",
+        ),
+        (
+            "pack 100 6701\npack 100 6802\ncodec h264\npack 100 6503\n",
+            "done\ndone\nok\npacket 6503\ndone\n",
+        ),
+        // The run that is open.
+        (
+            "unpack 7c8501\nunpack 7c4502\n",
+            "out -\nout 00000001650102\n",
+        ),
+        (
+            "unpack 7c8501\navc on\nunpack 7c4502\n",
+            "out -\nok\nout 00000003650102\n",
+        ),
+        (
+            "avc on\nunpack 7c8501\navc off\nunpack 7c4502\n",
+            "ok\nout -\nok\nout 00000001650102\n",
+        ),
+        (
+            "unpack 7c8501\nunpack 7d\nunpack 7c4502\nkey\n",
+            "out -\nrefused NaluTypeIsNotHandled 29\nout 00000001650102\nkey true\n",
+        ),
+        (
+            "unpack 7c8501\nhello\nkey\npack 5 65\nunpack 7c4502\n",
+            "out -\nbad line\nkey none\npacket 65\ndone\nout 00000001650102\n",
+        ),
+        (
+            "unpack 7c8501\ncodec h264\nunpack 7c4502\n",
+            "out -\nok\nout -\n",
+        ),
+        // The form that units are written in.
+        (
+            "avc on\nunpack 6501\nunpack 6102\navc off\nunpack 6501\n",
+            "ok\nout 000000026501\nout 000000026102\nok\nout 000000016501\n",
+        ),
+        (
+            "avc on\navc maybe\nunpack ff\nunpack 6501\n",
+            "ok\nbad line\nrefused NaluTypeIsNotHandled 31\nout 000000026501\n",
+        ),
+        (
+            "avc on\ncodec h264\nunpack 6501\n",
+            "ok\nok\nout 000000016501\n",
+        ),
+        // What is known of keyframes.
+        (
+            "unpack 65\nunpack ff\nkey\n",
+            "out 0000000165\nrefused NaluTypeIsNotHandled 31\nkey true\n",
+        ),
+        (
+            "unpack 65\nunpack 61\navc on\nkey\nkey\n",
+            "out 0000000165\nout 0000000161\nok\nkey true\nkey true\n",
         ),
     ] {
         assert_eq!(rt;
