@@ -13,7 +13,7 @@ ghost use Rattle.h26x_core.specs.Rival.{IsRival};
 ghost use Rattle.h26x_core.specs.Received.{received};
 ghost use Rattle.h26x_core.specs.Text.{annex_b};
 ghost use Rattle.h26x_core.specs.Extra.{extra_after};
-ghost use Rattle.h26x_core.specs.Sender.{is_skipped_kind, are_skipped, sender_meaning};
+ghost use Rattle.h26x_core.specs.Sender.{is_skipped_kind, are_skipped, has_no_effect, sender_meaning};
 ghost use Rattle.h26x_core.specs.Receiver.{work_after, AreAllTaken};
 ghost use Rattle.h26x_core.specs.Facts.{AreCarried, IsPlanned, CanSend};
 ghost use Rattle.h26x_core.specs.Loss.{AreMasks};
@@ -358,4 +358,22 @@ pub fn work_after_packets()
     ensures start { work_after (work (record { is_avc = false; run = Some (0x01 ∷ []) }) (0xff ∷ []) CodecExtra.None)
         ((0x7c ∷ 0x85 ∷ 0x02 ∷ []) ∷ [])
         ≡ work (record { is_avc = false; run = Some (0x02 ∷ []) }) (0xff ∷ []) CodecExtra.None }
+{}
+
+/// A unit with F set goes in fragments too: the first alone starts it, the last alone ends it, and F is lost.
+pub fn fragments_of_a_unit_with_f()
+    ensures { packets_of_payload h264 5 (0xe5 ∷ 0x01 ∷ 0x02 ∷ 0x03 ∷ 0x04 ∷ 0x05 ∷ 0x06 ∷ [])
+        ≡ (0x7c ∷ 0x85 ∷ 0x01 ∷ 0x02 ∷ 0x03 ∷ []) ∷ (0x7c ∷ 0x45 ∷ 0x04 ∷ 0x05 ∷ 0x06 ∷ []) ∷ [] }
+{}
+
+/// Calls without effect between others change nothing: at mtu 0, of no bytes, and of a delimiter alone.
+pub fn calls_without_effect()
+    ensures left_out { packets_of h264 0 (
+        call_at 100 (0x67 ∷ 0x01 ∷ []) ∷ call_at 0 (0x65 ∷ []) ∷ call_at 100 [] ∷
+        call_at 100 (0x68 ∷ 0x02 ∷ []) ∷ call_at 100 (0x09 ∷ 0xf0 ∷ []) ∷ call_at 0 (0x67 ∷ 0xff ∷ []) ∷
+        call_at 100 (0x65 ∷ 0x03 ∷ []) ∷ [])
+        ≡ (0x78 ∷ 0x00 ∷ 0x02 ∷ 0x67 ∷ 0x01 ∷ 0x00 ∷ 0x02 ∷ 0x68 ∷ 0x02 ∷ []) ∷ (0x65 ∷ 0x03 ∷ []) ∷ [] }
+    ensures known { map (has_no_effect h264) (
+        call_at 0 (0x65 ∷ []) ∷ call_at 100 [] ∷ call_at 100 (0x09 ∷ 0xf0 ∷ []) ∷ call_at 1 (0x67 ∷ []) ∷ [])
+        ≡ true ∷ true ∷ true ∷ false ∷ [] }
 {}

@@ -12,6 +12,7 @@ ghost use Rattle.h26x_core.specs.Waits.{AreSets, entries_at};
 ghost use Rattle.h26x_core.specs.Rival.{IsRival};
 ghost use Rattle.h26x_core.specs.Facts.{AreCarried, IsPlanned, CanSend};
 ghost use Rattle.h26x_core.specs.Again.{NothingDropped};
+ghost use Rattle.h26x_core.specs.Sender.{counted_on};
 ghost use Rattle.h26x_core.specs.Received.{received};
 ghost use Rattle.h26x_core.specs.Text.{annex_b, text};
 ghost use Rattle.h26x_core.specs.Extra.{extra_after};
@@ -467,4 +468,47 @@ pub fn nothing_dropped()
         (0x26 ∷ 0x01 ∷ 0xaf ∷ []) ∷ [])) → ⊥ }
     ensures unit_dropped { NothingDropped (h265 true)
         (entries_at 5 ((0x26 ∷ 0x01 ∷ 0xaf ∷ 0xbb ∷ []) ∷ [])) → ⊥ }
+{}
+
+/// A unit with F set, and one of an aggregate's type, go in fragments too: the first alone starts it, the last alone ends it.
+pub fn fragments_of_units_that_are_not_carried()
+    ensures forbidden { packets_of_payload (h265 false) 4 (0xa6 ∷ 0x01 ∷ 0xaa ∷ 0xbb ∷ 0xcc ∷ [])
+        ≡ (0xe2 ∷ 0x01 ∷ 0x93 ∷ 0xaa ∷ []) ∷ (0xe2 ∷ 0x01 ∷ 0x13 ∷ 0xbb ∷ []) ∷ (0xe2 ∷ 0x01 ∷ 0x53 ∷ 0xcc ∷ []) ∷ [] }
+    ensures aggregate { packets_of_payload (h265 false) 4 (0x60 ∷ 0x01 ∷ 0xaa ∷ 0xbb ∷ 0xcc ∷ [])
+        ≡ (0x62 ∷ 0x01 ∷ 0xb0 ∷ 0xaa ∷ []) ∷ (0x62 ∷ 0x01 ∷ 0x30 ∷ 0xbb ∷ []) ∷ (0x62 ∷ 0x01 ∷ 0x70 ∷ 0xcc ∷ []) ∷ [] }
+{}
+
+/// The limit is the lesser of the mtu and the largest packet size as the call is made: sets of 1302 and 3 bytes go together
+/// at 1400, each alone at 1310, and the first is dropped at 1200. That of the last call counts, which brings the other unit.
+pub fn largest_packet_sizes()
+    ensures together { map length (packets_of (h265 false) 0 (
+        record { mtu = 5000; largest = 1400; payload = 0x42 ∷ 0x01 ∷ replicate 1300 0xaa } ∷
+        record { mtu = 5000; largest = 1400; payload = 0x44 ∷ 0x01 ∷ 0xc1 ∷ [] } ∷
+        record { mtu = 5000; largest = 1400; payload = 0x26 ∷ 0x01 ∷ 0xaf ∷ [] } ∷ [])) ≡ 1311 ∷ 3 ∷ [] }
+    ensures each_alone { map length (packets_of (h265 false) 0 (
+        record { mtu = 5000; largest = 1310; payload = 0x42 ∷ 0x01 ∷ replicate 1300 0xaa } ∷
+        record { mtu = 5000; largest = 1310; payload = 0x44 ∷ 0x01 ∷ 0xc1 ∷ [] } ∷
+        record { mtu = 5000; largest = 1310; payload = 0x26 ∷ 0x01 ∷ 0xaf ∷ [] } ∷ [])) ≡ 1302 ∷ 3 ∷ 3 ∷ [] }
+    ensures one_dropped { packets_of (h265 false) 0 (
+        record { mtu = 5000; largest = 1200; payload = 0x42 ∷ 0x01 ∷ replicate 1300 0xaa } ∷
+        record { mtu = 5000; largest = 1200; payload = 0x44 ∷ 0x01 ∷ 0xc1 ∷ [] } ∷
+        record { mtu = 5000; largest = 1200; payload = 0x26 ∷ 0x01 ∷ 0xaf ∷ [] } ∷ [])
+        ≡ (0x44 ∷ 0x01 ∷ 0xc1 ∷ []) ∷ (0x26 ∷ 0x01 ∷ 0xaf ∷ []) ∷ [] }
+    ensures changed { packets_of (h265 false) 0 (
+        record { mtu = 5000; largest = 1400; payload = 0x42 ∷ 0x01 ∷ replicate 1300 0xaa } ∷
+        record { mtu = 5000; largest = 1400; payload = 0x44 ∷ 0x01 ∷ 0xc1 ∷ [] } ∷
+        record { mtu = 5000; largest = 1200; payload = 0x26 ∷ 0x01 ∷ 0xaf ∷ [] } ∷ [])
+        ≡ (0x44 ∷ 0x01 ∷ 0xc1 ∷ []) ∷ (0x26 ∷ 0x01 ∷ 0xaf ∷ []) ∷ [] }
+    ensures mtu { packets_of_payload (h265 false) 4 (0x26 ∷ 0x01 ∷ 0xaa ∷ 0xbb ∷ 0xcc ∷ [])
+        ≡ packets_of (h265 false) 0 (record { mtu = 5000; largest = 4; payload = 0x26 ∷ 0x01 ∷ 0xaa ∷ 0xbb ∷ 0xcc ∷ [] } ∷ []) }
+{}
+
+/// A counter goes round behind 65535, and calls without effect leave it.
+pub fn a_counter_goes_round()
+    ensures round { packets_of (h265 true) 65535 (
+        call_at 100 (0x02 ∷ 0x01 ∷ 0xaa ∷ []) ∷ call_at 3 (0x02 ∷ 0x01 ∷ 0xaa ∷ []) ∷ call_at 100 (0x46 ∷ 0x01 ∷ []) ∷
+        call_at 100 (0x02 ∷ 0x01 ∷ 0xbb ∷ []) ∷ [])
+        ≡ (0x02 ∷ 0x01 ∷ 0xff ∷ 0xff ∷ 0xaa ∷ []) ∷ (0x02 ∷ 0x01 ∷ 0x00 ∷ 0x00 ∷ 0xbb ∷ []) ∷ [] }
+    ensures counted { counted_on true 65535 2 ≡ 1 }
+    ensures not_counted { counted_on false 0 2 ≡ 0 }
 {}
