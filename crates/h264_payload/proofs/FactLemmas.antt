@@ -1,14 +1,14 @@
 -- What the laws of every format ask of H.264 beside that it reads what it writes.
-use Rattle.std.proofs.Common.{◌≡◌, ℕ, ◌≤◌, Bool, true, false, eqb, List, [], ◌∷◌, ◌++◌, length, refl, arith, rules, length-append}
+use Rattle.std.proofs.Common.{◌≡◌, ℕ, ◌≤◌, Bool, true, false, eqb, List, [], ◌∷◌, ◌++◌, length, refl, arith, rules}
 use Rattle.std.specs.Prelude.{IsTrue, nat_le, ◌&&◌}
-use Rattle.std.specs.List.{flat_map, list_any, AllByRecursion}
+use Rattle.std.specs.List.{list_any, AllByRecursion}
 use Rattle.std.proofs.lemmas.Bool.Decides.{nat_tests}
 use Rattle.h26x_core.specs.H264Unit.{type_of, type_of_first, is_key}
 use Rattle.h26x_core.specs.Packets.{single}
-use Rattle.h26x_core.specs.Pieces.{piece}
-use Rattle.h26x_core.specs.Facts.{AreCarried, HeadersTakeRoom, MarksFragments, SetsLeaveRoom, ExtraTells, KnowsKeyUnits, KeyUnitsAreOther, IsPayloadFormat}
+use Rattle.h26x_core.specs.Facts.{AreCarried, HeadersTakeRoom, MarksFragments, ExtraTells, KnowsKeyUnits, KeyUnitsAreOther, IsPayloadFormat}
 use Rattle.h26x_core.proofs.HeaderLemmas.{start_back, end_back, type_back}
-use Rattle.h26x_core.proofs.PieceLemmas.{pieces_back}
+use Rattle.h26x_core.proofs.PieceLemmas.{pieces_back, pieces_long}
+use Rattle.h26x_core.proofs.SetsLemmas.{FitIsWithin, sets_leave_room}
 use Rattle.h264_payload.specs.H264.{h264, carries, sets_fit, fragment_header}
 use Rattle.h264_payload.specs.CodecFacts.{fits_limits, no_numbers}
 use Rattle.h264_payload.proofs.HeaderLemmas.{type_below, type_fits, indicator_type, carried_first, unit_tests}
@@ -19,14 +19,9 @@ use Rattle.h264_payload.proofs.SetLemmas.{fit_parts, none_is_empty}
 pub headers_take_room : HeadersTakeRoom h264
 headers_take_room = search rules
 
--- two sets behind their lengths take more than a fragment's header
-pub sets_leave_room : SetsLeaveRoom h264
-sets_leave_room limit [] two fit = absurd (omega arith)
-sets_leave_room limit (set ∷ []) two fit = absurd (omega arith)
-sets_leave_room limit (set ∷ other ∷ sets) two fit =
-    let h = (fit_parts limit (set ∷ other ∷ sets) fit).0 in
-    let a = length-append set (flat_map piece (other ∷ sets)) in
-    omega (arith, h, a)
+-- sets that fit are within the limit with the STAP-A's header
+fit_is_within : FitIsWithin h264
+fit_is_within limit sets some fit = let h = (fit_parts limit sets fit).0 in let l = pieces_long sets in omega (arith, h, l)
 
 -- a key unit has a whole header
 key_whole : (unit : List ℕ) → is_key unit ≡ true → nat_le 1 (length unit) ≡ true
@@ -87,7 +82,7 @@ is_payload_format = record {
   reads = reads_what_it_writes;
   limits = fits_limits;
   marks = marks_fragments;
-  sets = sets_leave_room;
+  sets = sets_leave_room h264 fit_is_within;
   extra = extra_tells;
   detects = knows_key_units;
   other = key_units_are_other;

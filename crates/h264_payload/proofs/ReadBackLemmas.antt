@@ -1,14 +1,15 @@
 -- H.264 reads what it writes.
-use Rattle.std.proofs.Common.{◌≡◌, ℕ, ◌+◌, ◌<◌, ◌≤◌, Bool, true, false, cond, List, [], ◌∷◌, ◌++◌, length, take, Option, None, refl, ap, arith}
-use Rattle.std.specs.Prelude.{IsTrue, map}
+use Rattle.std.proofs.Common.{◌≡◌, ℕ, ◌<◌, ◌≤◌, Bool, true, false, cond, List, [], ◌∷◌, ◌++◌, length, take, Option, None, refl, ap, arith}
+use Rattle.std.specs.Prelude.{IsTrue}
 use Rattle.std.proofs.lemmas.Bool.{cond_both}
 use Rattle.h26x_core.specs.H264Unit.{type_of}
-use Rattle.h26x_core.specs.Reading.{Single, Aggregate, Fragment, unnumbered}
+use Rattle.h26x_core.specs.Reading.{Single, Aggregate, Fragment}
 use Rattle.h26x_core.specs.Packets.{single}
 use Rattle.h26x_core.specs.Number.{number_borne, numbered_from}
 use Rattle.h26x_core.specs.Facts.{AreCarried, ReadsWhatItWrites}
 use Rattle.h26x_core.proofs.HeaderLemmas.{start_back, end_back, type_back}
 use Rattle.h26x_core.proofs.PieceLemmas.{pieces_back}
+use Rattle.h26x_core.proofs.SetsLemmas.{plain_numbers}
 use Rattle.h264_payload.specs.H264.{h264, read, carries, fragment_header, sets_fit}
 use Rattle.h264_payload.proofs.HeaderLemmas.{type_below, type_fits, indicator_type, indicator_bits, byte_of_parts, carried_first, unit_is_read}
 use Rattle.h264_payload.proofs.SetLemmas.{fit_parts, none_is_empty}
@@ -39,16 +40,11 @@ fragment_back n (first ∷ unit) body start end h some =
       byte_of_parts first (carried_first first unit h).0,
     ) refl
 
--- H.264's units bear no numbers
-no_numbers : (n : ℕ) (sets : List (List ℕ)) → map unnumbered sets ≡ numbered_from h264 n sets
-no_numbers n [] = refl
-no_numbers n (set ∷ sets) = ap (λ (x : List (List ℕ × Option ℕ)). (set, None) ∷ x) (no_numbers (n + 1) sets)
-
 -- a STAP-A of sets that fit it is read as these sets
 sets_back : (n limit : ℕ) (sets : List (List ℕ)) (unit : List ℕ) → sets_fit limit sets ≡ true → AreCarried h264 sets →
     read (h264.sets_packet n sets unit) ≡ Aggregate (numbered_from h264 n sets)
 sets_back n limit sets unit fit carried =
-    rw (pieces_back sets (fit_parts limit sets fit).1, none_is_empty sets carried) (ap Aggregate (no_numbers n sets))
+    rw (pieces_back sets (fit_parts limit sets fit).1, none_is_empty sets carried) (ap Aggregate (plain_numbers h264 refl n sets))
 
 -- what a packetizer of H.264 writes is read back
 pub reads_what_it_writes : ReadsWhatItWrites h264

@@ -1,18 +1,18 @@
 -- A packet has one reading.
-use Rattle.std.proofs.Common.{◌≡◌, ℕ, ◌+◌, ◌*◌, ◌≤◌, Bool, true, false, cond, List, [], ◌∷◌, ◌++◌, length, map, take, drop, Option, Some, None, refl, sym, ap, ◌∙◌, arith, length-append}
+use Rattle.std.proofs.Common.{◌≡◌, ℕ, ◌+◌, ◌*◌, ◌≤◌, Bool, true, false, cond, eqb, List, [], ◌∷◌, ◌++◌, length, map, take, drop, Option, Some, None, refl, sym, ap, ◌∙◌, arith, length-append, inl, inr}
 use Rattle.std.specs.Prelude.{nat_le, ◌&&◌}
 use Rattle.std.proofs.lemmas.List.{take_at, drop_at, length-drop, length-map}
 use Rattle.std.proofs.lemmas.Bool.Decides.{nat_tests}
 use Rattle.h26x_core.specs.Word.{field, is_set}
 use Rattle.h26x_core.specs.H265Unit.{type_of}
-use Rattle.h26x_core.specs.Reading.{Reading, Single, Aggregate, Fragment, Paci, Refused, unnumbered, single_of}
+use Rattle.h26x_core.specs.Reading.{Reading, Single, Aggregate, Paci, Refused, unnumbered, single_of}
 use Rattle.h26x_core.specs.declared.error.PacketError.TheVariants.{ErrShortPacket, ErrH265CorruptedPacket}
 use Rattle.h26x_core.specs.Pieces.{HasNoPiece, Pieces}
 use Rattle.h26x_core.proofs.PieceLemmas.{only_pieces, split_at, enough}
 use Rattle.h26x_core.proofs.SingleLemmas.{short_single, numbered_single}
-use Rattle.h265_payload.specs.H265.{read, with_type, two_or_more, aggregate_of, units_from, further_units, fragment_of, paci_of, paci_behind, paci_head}
+use Rattle.h265_payload.specs.H265.{read, two_or_more, aggregate_of, units_from, further_units, fragment_of, paci_of, paci_behind, paci_head}
 use Rattle.h265_payload.specs.Reading.{IsReading, IsWhole, IsUnitType, AreFurther, HasNoFurther, IsShort, IsCorrupted, IsUnit, IsNumberedUnit, IsShortUnit, IsAggregate, IsShortAggregate, IsNumberedAggregate, IsOneNumbered, IsNoneNumbered, IsWithoutNumber, IsFragment, IsNumberedStart, IsShortFragment, IsShortStart, IsPaci, IsShortPaci, IsPaciWithoutFields}
-use Rattle.h265_payload.proofs.HeaderLemmas.{unit_type}
+use Rattle.h265_payload.proofs.ReadBackLemmas.{some_fragment, numbered_start}
 use Rattle.h265_payload.proofs.FurtherLemmas.{only_further}
 
 -- a packet with F clear and type 48 is read as an aggregate
@@ -31,6 +31,11 @@ read_paci : (numbered : Bool) (packet : List ℕ) (high low : ℕ) (rest : List 
     read numbered packet ≡ paci_of high low rest
 read_paci numbered packet high low [] w t = let s = w.some in absurd (omega arith)
 read_paci numbered packet high low (b ∷ rest) w t = rw (w.whole, w.clear, t) refl
+
+-- a unit's type is not 48 to 50
+unit_type : (type : ℕ) → IsUnitType type → (eqb type 48 ≡ false) × (eqb type 49 ≡ false) × (eqb type 50 ≡ false)
+unit_type type (inl h) = (grind (arith, nat_tests), grind (arith, nat_tests), grind (arith, nat_tests))
+unit_type type (inr h) = (grind (arith, nat_tests), grind (arith, nat_tests), grind (arith, nat_tests))
 
 -- one of another type as a unit
 read_single : (numbered : Bool) (packet : List ℕ) (high low : ℕ) (rest : List ℕ) → IsWhole packet high low rest → IsUnitType (type_of high) →
@@ -82,29 +87,12 @@ no_units n (high ∷ low ∷ bytes) none =
       | false ↦ λ h. refl
     ] refl
 
--- a fragment that bears no number, with data and without
-some_fragment : (numbered start : Bool) (high low b : ℕ) (body : List ℕ) → (numbered && start) ≡ false → 1 ≤ length body →
-    fragment_of numbered start high low b body ≡ Fragment start (is_set b 6) (with_type high (field b 5 0) ∷ low ∷ []) None body
-some_fragment numbered start high low b [] n some = absurd (omega arith)
-some_fragment true true high low b (x ∷ body) n some = absurd cc
-some_fragment true false high low b (x ∷ body) n some = refl
-some_fragment false true high low b (x ∷ body) n some = refl
-some_fragment false false high low b (x ∷ body) n some = refl
-
 -- without data a fragment is too short
 no_fragment : (numbered start : Bool) (high low b : ℕ) → (numbered && start) ≡ false → fragment_of numbered start high low b [] ≡ Refused ErrShortPacket
 no_fragment true true high low b n = absurd cc
 no_fragment true false high low b n = refl
 no_fragment false true high low b n = refl
 no_fragment false false high low b n = refl
-
--- a start that bears a number, with data and without
-numbered_start : (numbered start : Bool) (high low b d e : ℕ) (body : List ℕ) → (numbered && start) ≡ true → 1 ≤ length body →
-    fragment_of numbered start high low b (d ∷ e ∷ body) ≡ Fragment true (is_set b 6) (with_type high (field b 5 0) ∷ low ∷ []) (Some (d * 256 + e)) body
-numbered_start numbered start high low b d e [] n some = absurd (omega arith)
-numbered_start true true high low b d e (x ∷ body) n some = refl
-numbered_start true false high low b d e (x ∷ body) n some = absurd cc
-numbered_start false start high low b d e (x ∷ body) n some = absurd cc
 
 -- a numbered start without data is too short
 short_start : (numbered start : Bool) (high low b : ℕ) (body : List ℕ) → (numbered && start) ≡ true → length body ≤ 2 →

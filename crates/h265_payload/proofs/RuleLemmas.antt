@@ -6,12 +6,13 @@ use Rattle.std.proofs.lemmas.Bool.{eqb-true}
 use Rattle.std.proofs.lemmas.Bool.Decides.{nat_tests}
 use Rattle.h26x_core.specs.Word.{field, is_set}
 use Rattle.h26x_core.specs.H265Unit.{type_of}
-use Rattle.h26x_core.specs.Reading.{Refused, unnumbered, single_of}
-use Rattle.h26x_core.specs.declared.error.PacketError.TheVariants.{ErrH265CorruptedPacket}
+use Rattle.h26x_core.specs.Reading.{unnumbered, single_of}
 use Rattle.h26x_core.specs.Pieces.{ArePieces, HasNoPiece, pieces_of}
 use Rattle.h26x_core.proofs.PieceLemmas.{pieces_are, split_at, none_past}
 use Rattle.h265_payload.specs.H265.{read, two_or_more, aggregate_of, further_units, fragment_of, paci_of, paci_behind}
 use Rattle.h265_payload.specs.Reading.{IsReading, IsWhole, IsUnitType, AreFurther, HasNoFurther, IsShort, IsCorrupted, IsUnit, IsNumberedUnit, IsShortUnit, IsAggregate, IsShortAggregate, IsNumberedAggregate, IsOneNumbered, IsNoneNumbered, IsWithoutNumber, IsFragment, IsNumberedStart, IsShortFragment, IsShortStart, IsPaci, IsShortPaci, IsPaciWithoutFields}
+use Rattle.h26x_core.proofs.TwoByteLemmas.{by_kind}
+use Rattle.h265_payload.proofs.HeaderLemmas.{two}
 use Rattle.h265_payload.proofs.FurtherLemmas.{further_are}
 
 -- a single unit
@@ -100,30 +101,18 @@ other_type t a b c = elim (nat_le t 47) as (λ x. nat_le t 47 ≡ x → IsUnitTy
   | false ↦ λ h. inr (grind (arith, nat_tests))
 ] refl
 
+-- a packet with F clear and a byte or more behind its header
+whole : (high low : ℕ) (rest : List ℕ) → 1 ≤ length rest → is_set high 7 ≡ false → IsWhole (high ∷ low ∷ rest) high low rest
+whole high low rest some clear = record { whole = refl; some = some; clear = clear }
+
 -- the reading that is computed is one by a rule
 pub has_reading : (numbered : Bool) (packet : List ℕ) → IsReading numbered packet (read numbered packet)
-has_reading numbered [] = IsShort (omega arith) refl
-has_reading numbered (high ∷ []) = IsShort (omega arith) refl
-has_reading numbered (high ∷ low ∷ []) = IsShort (omega arith) refl
-has_reading numbered (high ∷ low ∷ b ∷ rest) =
-    let packet = high ∷ low ∷ b ∷ rest in
-    let paci_or = cond (eqb (type_of high) 50) (paci_of high low (b ∷ rest)) (single_of numbered high low (b ∷ rest)) in
-    let fragment_or = cond (eqb (type_of high) 49) (fragment_of numbered (is_set b 7) high low b rest) paci_or in
-    let aggregate_or = cond (eqb (type_of high) 48) (aggregate_of numbered (b ∷ rest)) fragment_or in
-    elim (is_set high 7) as (λ f. is_set high 7 ≡ f → IsReading numbered packet (cond f (Refused ErrH265CorruptedPacket) aggregate_or)) [
-      | true ↦ λ f. IsCorrupted high low (b ∷ rest) refl (omega arith) f refl
-      | false ↦ λ f.
-          let w : IsWhole packet high low (b ∷ rest) = record { whole = refl; some = omega arith; clear = f } in
-          elim (eqb (type_of high) 48) as (λ x. eqb (type_of high) 48 ≡ x → IsReading numbered packet (cond x (aggregate_of numbered (b ∷ rest)) fragment_or)) [
-            | true ↦ λ x. aggregate_is numbered packet high low (b ∷ rest) w (eqb-true (type_of high) 48 x)
-            | false ↦ λ x. elim (eqb (type_of high) 49) as (λ y. eqb (type_of high) 49 ≡ y →
-                IsReading numbered packet (cond y (fragment_of numbered (is_set b 7) high low b rest) paci_or)) [
-                  | true ↦ λ y. fragment_is numbered (is_set b 7) packet high low b rest w (eqb-true (type_of high) 49 y) refl
-                  | false ↦ λ y. elim (eqb (type_of high) 50) as (λ z. eqb (type_of high) 50 ≡ z →
-                      IsReading numbered packet (cond z (paci_of high low (b ∷ rest)) (single_of numbered high low (b ∷ rest)))) [
-                        | true ↦ λ z. paci_is numbered packet high low (b ∷ rest) w (eqb-true (type_of high) 50 z)
-                        | false ↦ λ z. single_is numbered packet high low (b ∷ rest) w (other_type (type_of high) x y z) refl
-                      ] refl
-                ] refl
-          ] refl
-    ] refl
+has_reading numbered = by_kind numbered (two numbered) (IsReading numbered) (λ packet short. IsShort short refl)
+    (λ high low rest some f. IsCorrupted high low rest refl some f refl)
+    (λ high low rest some f type. aggregate_is numbered (high ∷ low ∷ rest) high low rest (whole high low rest some f) type)
+    (λ high low b body f type. fragment_is numbered (is_set b 7) (high ∷ low ∷ b ∷ body) high low b body (whole high low (b ∷ body) (omega arith) f) type refl)
+    (λ high low rest some f x y. elim (eqb (type_of high) 50) as (λ z. eqb (type_of high) 50 ≡ z →
+    IsReading numbered (high ∷ low ∷ rest) (cond z (paci_of high low rest) (single_of numbered high low rest))) [
+      | true ↦ λ z. paci_is numbered (high ∷ low ∷ rest) high low rest (whole high low rest some f) (eqb-true (type_of high) 50 z)
+      | false ↦ λ z. single_is numbered (high ∷ low ∷ rest) high low rest (whole high low rest some f) (other_type (type_of high) x y z) refl
+    ] refl)

@@ -1,19 +1,21 @@
 -- A packet has one reading, and it is the one computed.
-use Rattle.std.proofs.Common.{◌≡◌, ℕ, ◌+◌, ◌*◌, ◌<◌, ◌≤◌, Bool, true, false, cond, List, [], ◌∷◌, length, Option, Some, None, refl, sym, ap, ◌∙◌, inl, inr, ⊎_elim, arith}
-use Rattle.std.specs.Prelude.{◌&&◌, ◌==◌, Result, Ok, Err}
-use Rattle.std.proofs.lemmas.Bool.{eqb-true, cases_lt, and_parts}
+use Rattle.std.proofs.Common.{◌≡◌, ℕ, ◌+◌, ◌*◌, ◌<◌, ◌≤◌, Bool, true, false, List, [], ◌∷◌, length, Option, Some, None, refl, sym, ap, ◌∙◌, inl, inr, ⊎_elim, arith}
+use Rattle.std.specs.Prelude.{◌==◌, Result, Ok, Err}
+use Rattle.std.proofs.lemmas.Bool.{cases_lt, and_parts}
 use Rattle.std.proofs.lemmas.Bool.Decides.{nat_tests}
-use Rattle.h26x_core.specs.Word.{field, is_set}
+use Rattle.h26x_core.specs.Word.{is_set}
 use Rattle.h26x_core.specs.H266Unit.{type_of}
-use Rattle.h26x_core.specs.Reading.{Reading, Single, Aggregate, Fragment, Refused, single_of}
+use Rattle.h26x_core.specs.Reading.{Reading, Single, Aggregate, Refused, single_of}
 use Rattle.h26x_core.specs.declared.error.PacketError.{PacketError}
 use Rattle.h26x_core.specs.declared.error.PacketError.TheVariants.{ErrShortPacket, ErrH266CorruptedPacket}
 use Rattle.h26x_core.proofs.SingleLemmas.{short_single, numbered_single}
-use Rattle.h266_payload.specs.H266.{read, numbered_on, two_or_more, units_within, aggregate_of, fragment_of, with_type}
+use Rattle.h26x_core.proofs.TwoByteLemmas.{by_kind, aggregate_read}
+use Rattle.h266_payload.specs.H266.{read, numbered_on, two_or_more, units_within, aggregate_of, fragment_of}
 use Rattle.h266_payload.specs.Reading.{IsReading, IsWhole, IsUnitType, IsBehind, IsPlain, IsNumbered}
 use Rattle.h266_payload.specs.Reading.{IsShort, IsCorrupted, IsUnit, IsNumberedUnit, IsShortUnit}
 use Rattle.h266_payload.specs.Reading.{IsAggregate, IsShortAggregate, IsCutAggregate, IsCorruptedAggregate, IsWithoutNumber, IsFragment, IsNumberedStart, IsShortStart}
-use Rattle.h266_payload.proofs.SetsLemmas.{aggregate_read}
+use Rattle.h266_payload.proofs.HeaderLemmas.{two}
+use Rattle.h266_payload.proofs.ReadBackLemmas.{plain_fragment, numbered_start}
 use Rattle.h266_payload.proofs.WithinLemmas.{IsFound, ToTheEnd, ToACut, ToAForbidden, found_within, only_found}
 
 -- an aggregate is read as its bytes are found to be
@@ -74,30 +76,17 @@ other_type : (type : ℕ) → IsUnitType type → ((type == 28) ≡ false) × ((
 other_type type (inl below) = (grind (arith, nat_tests), grind (arith, nat_tests))
 other_type type (inr above) = (grind (arith, nat_tests), grind (arith, nat_tests))
 
+-- a packet with F clear and a byte or more behind its header
+is_whole : (high low : ℕ) (rest : List ℕ) → 1 ≤ length rest → is_set high 7 ≡ false → IsWhole (high ∷ low ∷ rest) high low rest
+is_whole high low rest some clear = record { whole = refl; some = some; clear = clear }
+
 -- what is computed is a packet's reading
 pub has_reading : (numbered : Bool) (packet : List ℕ) → IsReading numbered packet (read numbered packet)
-has_reading numbered [] = IsShort (omega arith) refl
-has_reading numbered (high ∷ []) = IsShort (omega arith) refl
-has_reading numbered (high ∷ low ∷ []) = IsShort (omega arith) refl
-has_reading numbered (high ∷ low ∷ b ∷ body) =
-    let packet = high ∷ low ∷ b ∷ body in
-    elim (is_set high 7) as (λ t. is_set high 7 ≡ t → IsReading numbered packet (cond t (Refused ErrH266CorruptedPacket)
-    (cond (type_of low == 28) (aggregate_of numbered (b ∷ body))
-    (cond (type_of low == 29) (fragment_of numbered (is_set b 7) high low b body) (single_of numbered high low (b ∷ body)))))) [
-      | true ↦ λ marked. IsCorrupted high low (b ∷ body) refl (omega arith) marked refl
-      | false ↦ λ clear.
-          let whole : IsWhole packet high low (b ∷ body) = record { whole = refl; some = omega arith; clear = clear } in
-          elim (type_of low == 28) as (λ t. (type_of low == 28) ≡ t → IsReading numbered packet (cond t (aggregate_of numbered (b ∷ body))
-          (cond (type_of low == 29) (fragment_of numbered (is_set b 7) high low b body) (single_of numbered high low (b ∷ body))))) [
-            | true ↦ λ aggregate. aggregate_is numbered high low packet (b ∷ body) whole (eqb-true (type_of low) 28 aggregate)
-            | false ↦ λ other.
-                elim (type_of low == 29) as (λ t. (type_of low == 29) ≡ t → IsReading numbered packet
-                (cond t (fragment_of numbered (is_set b 7) high low b body) (single_of numbered high low (b ∷ body)))) [
-                  | true ↦ λ fragment. fragment_is numbered high low b packet body whole (eqb-true (type_of low) 29 fragment)
-                  | false ↦ λ own. unit_is numbered high low packet (b ∷ body) whole (own_type (type_of low) other own)
-                ] refl
-          ] refl
-    ] refl
+has_reading numbered = by_kind numbered (two numbered) (IsReading numbered) (λ packet short. IsShort short refl)
+    (λ high low rest some marked. IsCorrupted high low rest refl some marked refl)
+    (λ high low rest some clear type. aggregate_is numbered high low (high ∷ low ∷ rest) rest (is_whole high low rest some clear) type)
+    (λ high low fu body clear type. fragment_is numbered high low fu (high ∷ low ∷ fu ∷ body) body (is_whole high low (fu ∷ body) (omega arith) clear) type)
+    (λ high low rest some clear x y. unit_is numbered high low (high ∷ low ∷ rest) rest (is_whole high low rest some clear) (own_type (type_of low) x y))
 
 -- two bytes or fewer are too short
 short_read : (numbered : Bool) (packet : List ℕ) → length packet ≤ 2 → read numbered packet ≡ Refused ErrShortPacket
@@ -125,7 +114,7 @@ fragment_read numbered high low fu packet body whole type = rw (whole.whole, who
 
 -- type 28 is read as an aggregate
 whole_read : (numbered : Bool) (high low : ℕ) (packet rest : List ℕ) → IsWhole packet high low rest → type_of low ≡ 28 → read numbered packet ≡ aggregate_of numbered rest
-whole_read numbered high low packet rest whole type = ap (read numbered) whole.whole ∙ aggregate_read numbered high low rest whole.some whole.clear type
+whole_read numbered high low packet rest whole type = ap (read numbered) whole.whole ∙ aggregate_read numbered (two numbered) high low rest whole.some whole.clear type
 
 -- an aggregate's units are computed from the bytes behind its number
 behind_read : (numbered : Bool) (rest bytes : List ℕ) (number : Option ℕ) → IsBehind numbered rest number bytes →
@@ -150,12 +139,6 @@ few_read : (number : Option ℕ) (units : List (List ℕ)) → length units ≤ 
 few_read number [] one = refl
 few_read number (first ∷ []) one = refl
 few_read number (first ∷ second ∷ units) one = absurd (omega arith)
-
--- a fragment without a number keeps all its bytes
-plain_fragment : (numbered : Bool) (high low fu : ℕ) (body : List ℕ) → (numbered && is_set fu 7) ≡ false →
-    fragment_of numbered (is_set fu 7) high low fu body ≡ Fragment (is_set fu 7) (is_set fu 6) (high ∷ with_type low (field fu 4 0) ∷ []) None body
-plain_fragment false high low fu body none = refl
-plain_fragment true high low fu body later = rw later refl
 
 -- a start without a whole number is too short
 short_start : (high low fu : ℕ) (body : List ℕ) → length body ≤ 1 → fragment_of true true high low fu body ≡ Refused ErrShortPacket
@@ -184,10 +167,9 @@ only_reading numbered packet reading (IsCorruptedAggregate high low h l rest byt
 only_reading numbered packet reading (IsWithoutNumber high low d whole type bears is) =
     whole_read numbered high low packet (d ∷ []) whole type ∙ rw bears (sym is)
 only_reading numbered packet reading (IsFragment high low fu body whole type none is) =
-    fragment_read numbered high low fu packet body whole type ∙ plain_fragment numbered high low fu body none ∙ sym is
+    fragment_read numbered high low fu packet body whole type ∙ plain_fragment numbered (is_set fu 7) high low fu body none ∙ sym is
 only_reading numbered packet reading (IsNumberedStart high low fu d e body whole type starts is) =
-    let both = and_parts numbered (is_set fu 7) starts in
-    fragment_read numbered high low fu packet (d ∷ e ∷ body) whole type ∙ rw (both.0, both.1) (sym is)
+    fragment_read numbered high low fu packet (d ∷ e ∷ body) whole type ∙ numbered_start numbered (is_set fu 7) high low fu d e body starts ∙ sym is
 only_reading numbered packet reading (IsShortStart high low fu body whole type starts short is) =
     let both = and_parts numbered (is_set fu 7) starts in
     fragment_read numbered high low fu packet body whole type ∙ rw (both.0, both.1) (short_start high low fu body short) ∙ sym is

@@ -12,6 +12,8 @@ pub mod RunLemmas
 pub mod ReadBackLemmas
 pub mod LossLemmas
 pub mod ExtraLemmas
+pub mod SetsLemmas
+pub mod TwoByteLemmas
 pub mod FragmentLemmas
 pub mod NumberLemmas
 pub mod DetectionLemmas

@@ -1,11 +1,11 @@
 use Rattle.h26x_core.proofs.FewestLemmas.{takes_fewest}
 use Rattle.h26x_core.proofs.LossLemmas.{items_left}
 use Rattle.h266_payload.specs.H266.{h266}
-use Rattle.h266_payload.proofs.FactLemmas.{headers_take_room, reads_what_it_writes}
+use Rattle.h266_payload.proofs.FactLemmas.{is_payload_format}
 use Rattle.h266_payload.proofs.laws.fewest_fragments_and_least_loss.Goals as goal
 
 pub returns : goal.returns
 returns c = record {
-  fewest = λ numbered. takes_fewest (h266 numbered) (headers_take_room numbered);
-  loss = λ numbered n items masks earlier send fit. items_left (h266 numbered) n items masks earlier (reads_what_it_writes numbered) send fit;
+  fewest = λ numbered. takes_fewest (h266 numbered) (is_payload_format numbered).headers;
+  loss = λ numbered n items masks earlier send fit. items_left (h266 numbered) n items masks earlier (is_payload_format numbered).reads send fit;
 }

@@ -1,0 +1,315 @@
+-- Formats whose headers have two bytes: how packets are read by their types, and which facts follow.
+use Rattle.std.proofs.Common.{◌≡◌, ℕ, ◌+◌, ◌*◌, ◌/◌, ◌%◌, ◌<◌, ◌≤◌, Bool, true, false, cond, eqb, List, [], ◌∷◌, ◌++◌, length, take, Some, None, refl, ◌∙◌, arith, length-append, eq-eqb}
+use Rattle.std.specs.Prelude.{IsTrue, ◌&&◌, ◌==◌, nat_le, take_while, if◌then◌else◌}
+use Rattle.std.specs.List.{flat_map, list_any, AllByRecursion}
+use Rattle.std.proofs.lemmas.Bool.{eqb-true}
+use Rattle.std.proofs.lemmas.Bool.Decides.{nat_tests}
+use Rattle.h26x_core.specs.declared.error.PacketError.{PacketError}
+use Rattle.h26x_core.specs.declared.error.PacketError.TheVariants.{ErrShortPacket}
+use Rattle.h26x_core.specs.Word.{is_set, flag}
+use Rattle.h26x_core.specs.Kind.{Kind, Skipped, is_other}
+use Rattle.h26x_core.specs.Reading.{Reading, Single, Aggregate, Fragment, Refused, single_of}
+use Rattle.h26x_core.specs.Format.{Format, IsLimit, number_bytes}
+use Rattle.h26x_core.specs.Packets.{single}
+use Rattle.h26x_core.specs.Number.{number_borne, numbered_from}
+use Rattle.h26x_core.specs.Pieces.{pieces_of, piece}
+use Rattle.h26x_core.specs.Facts.{AreCarried, HeadersTakeRoom, MarksFragments, KeyUnitsAreOther, NumbersAreTwoBytes, IsPayloadFormat}
+use Rattle.h26x_core.proofs.HeaderLemmas.{start_back, end_back}
+use Rattle.h26x_core.proofs.PieceLemmas.{number_back, pieces_back}
+use Rattle.h26x_core.proofs.SetsLemmas.{FitIsWithin, sets_leave_room, no_key}
+
+-- What sets such a format apart, beside how a payload is cut, its packets of sets and its extra.
+pub record TwoBytes (numbered : Bool) : Type 0 where
+  -- the type in a header, and the types of aggregates and of fragments
+  pub type_of : ℕ → ℕ → ℕ
+  pub aggregate : ℕ
+  pub fragment : ℕ
+  -- the header of a unit's fragments; the type in the byte behind it, and a unit's header with that type
+  pub mark_high : ℕ → ℕ
+  pub mark_low : ℕ → ℕ
+  pub unit_type : ℕ → ℕ
+  pub with_type : ℕ → ℕ → ℕ → List ℕ
+  -- headers of units that packets can carry, and what units of a type are
+  pub carries : ℕ → ℕ → Bool
+  pub kind : ℕ → Kind
+  pub is_key : ℕ → Bool
+  -- how packets are read behind their headers, and the error of those with F set
+  pub corrupted : PacketError
+  pub aggregate_of : List ℕ → Reading
+  pub fragment_of : Bool → ℕ → ℕ → ℕ → List ℕ → Reading
+  pub own_of : ℕ → ℕ → List ℕ → Reading
+
+-- how a packet is read
+abbrev pub read_by : (numbered : Bool) → TwoBytes numbered → List ℕ → Reading
+read_by numbered t (high ∷ low ∷ b ∷ body) =
+    if is_set high 7 then Refused t.corrupted
+    else if t.type_of high low == t.aggregate then t.aggregate_of (b ∷ body)
+    else if t.type_of high low == t.fragment then t.fragment_of (is_set b 7) high low b body
+    else t.own_of high low (b ∷ body)
+read_by numbered t packet = Refused ErrShortPacket
+
+-- a unit of three bytes or more with such a header
+abbrev pub carries_by : (numbered : Bool) → TwoBytes numbered → List ℕ → Bool
+carries_by numbered t (high ∷ low ∷ b ∷ unit) = t.carries high low
+carries_by numbered t unit = false
+
+-- what a unit is to a packetizer
+abbrev pub kind_by : (numbered : Bool) → TwoBytes numbered → List ℕ → Kind
+kind_by numbered t (high ∷ low ∷ unit) = t.kind (t.type_of high low)
+kind_by numbered t unit = Skipped
+
+-- whether it is a key unit
+abbrev pub is_key_by : (numbered : Bool) → TwoBytes numbered → List ℕ → Bool
+is_key_by numbered t (high ∷ low ∷ unit) = t.is_key (t.type_of high low)
+is_key_by numbered t unit = false
+
+-- a fragment's header
+abbrev pub fragment_header_by : (numbered : Bool) → TwoBytes numbered → List ℕ → Bool → Bool → List ℕ
+fragment_header_by numbered t (high ∷ low ∷ unit) start end =
+    t.mark_high high ∷ t.mark_low low ∷ (flag start 0x80 + flag end 0x40 + t.type_of high low) ∷ []
+fragment_header_by numbered t unit start end = []
+
+-- whether a fragment begins a key unit
+abbrev pub detects_fragment_by : (numbered : Bool) → TwoBytes numbered → List ℕ → Bool
+detects_fragment_by numbered t [] = false
+detects_fragment_by numbered t (fu ∷ body) = is_set fu 7 && t.is_key (t.unit_type fu)
+
+-- whether a packet holds or begins one
+abbrev pub detects_by : (numbered : Bool) → TwoBytes numbered → List ℕ → Bool
+detects_by numbered t (high ∷ low ∷ rest) =
+    if t.type_of high low == t.aggregate then list_any (is_key_by numbered t) (take_while (λ unit. nat_le 2 (length unit)) (pieces_of rest).whole)
+    else if t.type_of high low == t.fragment then detects_fragment_by numbered t rest
+    else t.is_key (t.type_of high low)
+detects_by numbered t packet = false
+
+-- the format, with the rest of another
+abbrev pub two_bytes : (numbered : Bool) → TwoBytes numbered → Format → Format
+two_bytes numbered t f = record f {
+  kind = kind_by numbered t;
+  is_key = is_key_by numbered t;
+  header_len = 2;
+  numbered = numbered;
+  fragment_header = fragment_header_by numbered t;
+  read = read_by numbered t;
+  carries = carries_by numbered t;
+  detects = detects_by numbered t;
+}
+
+-- a reading that is a fragment leaves room beside its data for headers and its number
+abbrev pub HasRoom : Bool → ℕ → Reading → Type 0
+HasRoom numbered n (Fragment start end head number body) = length body + (3 + cond start (cond numbered 2 0) 0) ≤ n
+HasRoom numbered n reading = Unit {0}
+
+-- the header of a carried unit has F clear and a type of its own, and is found again from a fragment's
+pub record IsCarried (numbered : Bool) (t : TwoBytes numbered) (high low : ℕ) : Type 0 where
+  pub clear : is_set high 7 ≡ false
+  pub no_aggregate : eqb (t.type_of high low) t.aggregate ≡ false
+  pub no_fragment : eqb (t.type_of high low) t.fragment ≡ false
+  pub own : (rest : List ℕ) → t.own_of high low rest ≡ single_of numbered high low rest
+  pub mark_clear : is_set (t.mark_high high) 7 ≡ false
+  pub back : t.with_type (t.mark_high high) (t.mark_low low) (t.type_of high low) ≡ high ∷ low ∷ []
+
+-- What is asked of such a format.
+pub record IsTwoBytes (numbered : Bool) (t : TwoBytes numbered) : Type 0 where
+  -- types are small, those of fragments are no aggregates', and a fragment has its unit's in its third byte
+  pub apart : eqb t.fragment t.aggregate ≡ false
+  pub type_fits : (high low : ℕ) → t.type_of high low < 64
+  pub marked : (high low : ℕ) → t.type_of (t.mark_high high) (t.mark_low low) ≡ t.fragment
+  pub type_back : (start end : Bool) (high low : ℕ) → t.unit_type (flag start 0x80 + flag end 0x40 + t.type_of high low) ≡ t.type_of high low
+  pub carried : (high low : ℕ) → t.carries high low ≡ true → IsCarried numbered t high low
+  -- key types are other units'
+  pub other : (type : ℕ) → t.is_key type ≡ true → is_other (t.kind type) ≡ true
+  -- a fragment is read by its data; where it starts with numbers, one stands before them
+  pub plain : (start : Bool) (high low fu : ℕ) (body : List ℕ) → (numbered && start) ≡ false → 1 ≤ length body →
+      t.fragment_of start high low fu body ≡ Fragment start (is_set fu 6) (t.with_type high low (t.unit_type fu)) None body
+  pub start : (start : Bool) (high low fu d e : ℕ) (body : List ℕ) → (numbered && start) ≡ true → 1 ≤ length body →
+      t.fragment_of start high low fu (d ∷ e ∷ body) ≡ Fragment true (is_set fu 6) (t.with_type high low (t.unit_type fu)) (Some (d * 256 + e)) body
+  -- a fragment leaves room for its headers and number, and no other packet is read as one
+  pub aggregate_room : (n : ℕ) (rest : List ℕ) → HasRoom numbered n (t.aggregate_of rest)
+  pub fragment_room : (start : Bool) (high low fu : ℕ) (rest : List ℕ) → HasRoom numbered (length (high ∷ low ∷ fu ∷ rest)) (t.fragment_of start high low fu rest)
+  pub own_room : (n high low : ℕ) (rest : List ℕ) → HasRoom numbered n (t.own_of high low rest)
+
+-- single units are no fragments
+pub single_room : (numbered : Bool) (n high low : ℕ) (rest : List ℕ) → HasRoom numbered n (single_of numbered high low rest)
+single_room false n high low rest = tt
+single_room true n high low [] = tt
+single_room true n high low (d ∷ []) = tt
+single_room true n high low (d ∷ e ∷ []) = tt
+single_room true n high low (d ∷ e ∷ b ∷ rest) = tt
+
+-- what holds of the reading of each kind of packet holds of every packet's
+pub by_kind : (numbered : Bool) (t : TwoBytes numbered) (P : List ℕ → Reading → Type 0) →
+    ((packet : List ℕ) → length packet ≤ 2 → P packet (Refused ErrShortPacket)) →
+    ((high low : ℕ) (rest : List ℕ) → 1 ≤ length rest → is_set high 7 ≡ true → P (high ∷ low ∷ rest) (Refused t.corrupted)) →
+    ((high low : ℕ) (rest : List ℕ) → 1 ≤ length rest → is_set high 7 ≡ false → t.type_of high low ≡ t.aggregate → P (high ∷ low ∷ rest) (t.aggregate_of rest)) →
+    ((high low fu : ℕ) (body : List ℕ) → is_set high 7 ≡ false → t.type_of high low ≡ t.fragment → P (high ∷ low ∷ fu ∷ body) (t.fragment_of (is_set fu 7) high low fu body)) →
+    ((high low : ℕ) (rest : List ℕ) → 1 ≤ length rest → is_set high 7 ≡ false → eqb (t.type_of high low) t.aggregate ≡ false → eqb (t.type_of high low) t.fragment ≡ false →
+    P (high ∷ low ∷ rest) (t.own_of high low rest)) →
+    (packet : List ℕ) → P packet (read_by numbered t packet)
+by_kind numbered t P short corrupted aggregate fragment own [] = short [] (omega arith)
+by_kind numbered t P short corrupted aggregate fragment own (high ∷ []) = short (high ∷ []) (omega arith)
+by_kind numbered t P short corrupted aggregate fragment own (high ∷ low ∷ []) = short (high ∷ low ∷ []) (omega arith)
+by_kind numbered t P short corrupted aggregate fragment own (high ∷ low ∷ b ∷ body) =
+    let Is = P (high ∷ low ∷ b ∷ body) in
+    let type = t.type_of high low in
+    let some : 1 ≤ length (b ∷ body) = omega arith in
+    let fragment_or = cond (eqb type t.fragment) (t.fragment_of (is_set b 7) high low b body) (t.own_of high low (b ∷ body)) in
+    elim (is_set high 7) as (λ f. is_set high 7 ≡ f → Is (cond f (Refused t.corrupted) (cond (eqb type t.aggregate) (t.aggregate_of (b ∷ body)) fragment_or))) [
+      | true ↦ λ f. corrupted high low (b ∷ body) some f
+      | false ↦ λ f. elim (eqb type t.aggregate) as (λ x. eqb type t.aggregate ≡ x → Is (cond x (t.aggregate_of (b ∷ body)) fragment_or)) [
+        | true ↦ λ x. aggregate high low (b ∷ body) some f (eqb-true type t.aggregate x)
+        | false ↦ λ x. elim (eqb type t.fragment) as (λ y. eqb type t.fragment ≡ y → Is (cond y (t.fragment_of (is_set b 7) high low b body) (t.own_of high low (b ∷ body)))) [
+          | true ↦ λ y. fragment high low b body f (eqb-true type t.fragment y)
+          | false ↦ λ y. own high low (b ∷ body) some f x y
+        ] refl
+      ] refl
+    ] refl
+
+-- a packet with F clear and the type of aggregates is read as one
+pub aggregate_read : (numbered : Bool) (t : TwoBytes numbered) (high low : ℕ) (rest : List ℕ) → 1 ≤ length rest → is_set high 7 ≡ false → t.type_of high low ≡ t.aggregate →
+    read_by numbered t (high ∷ low ∷ rest) ≡ t.aggregate_of rest
+aggregate_read numbered t high low [] some clear type = absurd (omega arith)
+aggregate_read numbered t high low (b ∷ rest) some clear type = rw (clear, type, eq-eqb t.aggregate t.aggregate refl) refl
+
+-- one of a carried unit's type as a single unit
+own_read : (numbered : Bool) (t : TwoBytes numbered) (high low : ℕ) (rest : List ℕ) → 1 ≤ length rest → IsCarried numbered t high low →
+    read_by numbered t (high ∷ low ∷ rest) ≡ single_of numbered high low rest
+own_read numbered t high low [] some c = absurd (omega arith)
+own_read numbered t high low (b ∷ rest) some c = rw (c.clear, c.no_aggregate, c.no_fragment) (c.own (b ∷ rest))
+
+-- a single unit is read with its number
+single_read : (numbered : Bool) (n high low b : ℕ) (unit : List ℕ) →
+    single_of numbered high low (number_bytes numbered n ++ b ∷ unit) ≡ Single (high ∷ low ∷ b ∷ unit) (if numbered then Some (n % 65536) else None)
+single_read false n high low b unit = refl
+single_read true n high low b unit = rw (number_back n) refl
+
+-- a fragment's data are read, with its number where it starts with one
+data_read : (numbered : Bool) (t : TwoBytes numbered) → IsTwoBytes numbered t → (start : Bool) (n high low fu : ℕ) (body : List ℕ) → 0 < length body →
+    t.fragment_of start high low fu ((if start then number_bytes numbered n else []) ++ body)
+    ≡ Fragment start (is_set fu 6) (t.with_type high low (t.unit_type fu)) (if start then (if numbered then Some (n % 65536) else None) else None) body
+data_read true t ok true n high low fu body some = rw (number_back n) at (ok.start true high low fu (n % 65536 / 256 % 256) (n % 65536 % 256) body refl some)
+data_read true t ok false n high low fu body some = ok.plain false high low fu body refl some
+data_read false t ok true n high low fu body some = ok.plain true high low fu body refl some
+data_read false t ok false n high low fu body some = ok.plain false high low fu body refl some
+
+module _ (numbered : Bool) (t : TwoBytes numbered) (ok : IsTwoBytes numbered t) where
+  -- what holds of every unit of three bytes or more with a carried unit's header holds of every carried unit
+  pub of_carried : (P : List ℕ → Type 0) → ((high low b : ℕ) (unit : List ℕ) → IsCarried numbered t high low → P (high ∷ low ∷ b ∷ unit)) →
+      (unit : List ℕ) → IsTrue (carries_by numbered t unit) → P unit
+  of_carried P holds [] h = let e : false ≡ true = h in absurd cc
+  of_carried P holds (high ∷ []) h = let e : false ≡ true = h in absurd cc
+  of_carried P holds (high ∷ low ∷ []) h = let e : false ≡ true = h in absurd cc
+  of_carried P holds (high ∷ low ∷ b ∷ unit) h = holds high low b unit (ok.carried high low h)
+
+  -- a carried unit has three bytes or more
+  pub carried_long : (unit : List ℕ) → IsTrue (carries_by numbered t unit) → 3 ≤ length unit
+  carried_long = of_carried (λ unit. 3 ≤ length unit) (λ high low b unit c. omega arith)
+
+  -- a key unit has a whole header
+  pub key_whole : (unit : List ℕ) → is_key_by numbered t unit ≡ true → nat_le 2 (length unit) ≡ true
+  key_whole [] e = absurd cc
+  key_whole (high ∷ []) e = absurd cc
+  key_whole (high ∷ low ∷ unit) e = grind (arith, nat_tests)
+
+  -- an aggregate of sets without numbers is not detected where none is a key unit
+  pub sets_undetected : (high low : ℕ) (sets : List (List ℕ)) → t.type_of high low ≡ t.aggregate → AllByRecursion (λ set. length set < 65536) sets →
+      AllByRecursion (λ set. is_key_by numbered t set ≡ false) sets → detects_by numbered t (high ∷ low ∷ flat_map piece sets) ≡ false
+  sets_undetected high low sets type short none =
+      rw (type, eq-eqb t.aggregate t.aggregate refl, pieces_back sets short) (no_key (is_key_by numbered t) sets none)
+
+  module _ (f : Format) where
+    -- what a fragment has beside its data takes room
+    headers_take_room : HeadersTakeRoom (two_bytes numbered t f)
+    headers_take_room packet head body start end number e = rw e at (
+        by_kind numbered t (λ p reading. HasRoom numbered (length p) reading) (λ p short. tt) (λ high low rest some set. tt)
+        (λ high low rest some clear type. ok.aggregate_room (length (high ∷ low ∷ rest)) rest)
+        (λ high low fu rest clear type. ok.fragment_room (is_set fu 7) high low fu rest)
+        (λ high low rest some clear x y. ok.own_room (length (high ∷ low ∷ rest)) high low rest) packet)
+
+    -- a unit alone is read back
+    single_back : (n : ℕ) (unit : List ℕ) → IsTrue (carries_by numbered t unit) →
+        read_by numbered t (single (two_bytes numbered t f) n unit) ≡ Single unit (number_borne (two_bytes numbered t f) n)
+    single_back n = of_carried (λ unit. read_by numbered t (single (two_bytes numbered t f) n unit) ≡ Single unit (number_borne (two_bytes numbered t f) n))
+        (λ high low b unit c. let l = length-append (number_bytes numbered n) (b ∷ unit) in
+        own_read numbered t high low (number_bytes numbered n ++ (b ∷ unit)) (omega (arith, l)) c ∙ single_read numbered n high low b unit)
+
+    -- a fragment is read back
+    fragment_back : (n : ℕ) (unit body : List ℕ) (start end : Bool) → IsTrue (carries_by numbered t unit) → 0 < length body →
+        read_by numbered t (fragment_header_by numbered t unit start end ++ ((if start then number_bytes numbered n else []) ++ body))
+        ≡ Fragment start end (take 2 unit) (if start then (if numbered then Some (n % 65536) else None) else None) body
+    fragment_back n unit body start end h some = of_carried
+        (λ unit. read_by numbered t (fragment_header_by numbered t unit start end ++ ((if start then number_bytes numbered n else []) ++ body))
+        ≡ Fragment start end (take 2 unit) (if start then (if numbered then Some (n % 65536) else None) else None) body)
+        (λ high low b unit c. let fits = ok.type_fits high low in
+        rw (c.mark_clear, ok.marked high low, ok.apart, eq-eqb t.fragment t.fragment refl, start_back start end (t.type_of high low) fits)
+        (data_read numbered t ok start n (t.mark_high high) (t.mark_low low) (flag start 0x80 + flag end 0x40 + t.type_of high low) body some
+        ∙ rw (end_back start end (t.type_of high low) fits, ok.type_back start end high low, c.back) refl))
+        unit h
+
+    -- a fragment's header has three bytes at most
+    header_long : (unit : List ℕ) (start end : Bool) → length (fragment_header_by numbered t unit start end) ≤ 3
+    header_long [] start end = omega arith
+    header_long (high ∷ []) start end = omega arith
+    header_long (high ∷ low ∷ unit) start end = omega arith
+
+    -- a fragment bears its marks in its third byte
+    marks_fragments : MarksFragments (two_bytes numbered t f)
+    marks_fragments [] behind start end header = absurd (omega arith)
+    marks_fragments (high ∷ []) behind start end header = absurd (omega arith)
+    marks_fragments (high ∷ low ∷ unit) behind start end header =
+        (start_back start end (t.type_of high low) (ok.type_fits high low), end_back start end (t.type_of high low) (ok.type_fits high low))
+
+    -- a unit alone is detected where it is a key unit
+    single_detected : (n : ℕ) (unit : List ℕ) → IsTrue (carries_by numbered t unit) → detects_by numbered t (single (two_bytes numbered t f) n unit) ≡ is_key_by numbered t unit
+    single_detected n = of_carried (λ unit. detects_by numbered t (single (two_bytes numbered t f) n unit) ≡ is_key_by numbered t unit)
+        (λ high low b unit c. rw (c.no_aggregate, c.no_fragment) refl)
+
+    -- of a key unit's fragments the start is detected
+    fragment_detected : (unit behind : List ℕ) (start end : Bool) → IsTrue (carries_by numbered t unit) →
+        detects_by numbered t (fragment_header_by numbered t unit start end ++ behind) ≡ (start && is_key_by numbered t unit)
+    fragment_detected unit behind start end h = of_carried (λ unit. detects_by numbered t (fragment_header_by numbered t unit start end ++ behind) ≡ (start && is_key_by numbered t unit))
+        (λ high low b unit c. rw (
+          ok.marked high low,
+          ok.apart,
+          eq-eqb t.fragment t.fragment refl,
+          start_back start end (t.type_of high low) (ok.type_fits high low),
+          ok.type_back start end high low,
+        ) refl) unit h
+
+    -- a key unit is no parameter set
+    key_units_are_other : KeyUnitsAreOther (two_bytes numbered t f)
+    key_units_are_other [] e = absurd cc
+    key_units_are_other (high ∷ []) e = absurd cc
+    key_units_are_other (high ∷ low ∷ unit) e = ok.other (t.type_of high low) e
+
+-- What is asked of packets of sets.
+pub record SetsAreSent (f : Format) : Type 0 where
+  -- those that fit are within the limit
+  pub within : FitIsWithin f
+  pub long : (limit n : ℕ) (sets : List (List ℕ)) (unit : List ℕ) → f.sets_fit limit sets ≡ true → length (f.sets_packet n sets unit) ≤ limit
+  -- and they are read back, and not detected
+  pub back : (n limit : ℕ) (sets : List (List ℕ)) (unit : List ℕ) → IsLimit f limit → f.sets_fit limit sets ≡ true → 2 ≤ length sets →
+      AreCarried f sets → IsTrue (f.carries unit) → f.read (f.sets_packet n sets unit) ≡ Aggregate (numbered_from f n sets)
+  pub undetected : (n limit : ℕ) (sets : List (List ℕ)) (unit : List ℕ) → f.numbered ≡ false → IsLimit f limit → f.sets_fit limit sets ≡ true →
+      AreCarried f sets → IsTrue (f.carries unit) → AllByRecursion (λ set. f.is_key set ≡ false) sets → f.detects (f.sets_packet n sets unit) ≡ false
+  pub numbers : NumbersAreTwoBytes f
+
+-- such a format meets all facts
+pub is_payload_format : (numbered : Bool) (t : TwoBytes numbered) (f : Format) → IsTwoBytes numbered t → SetsAreSent (two_bytes numbered t f) →
+    ((key : Bool) → f.has_key (f.extra key) ≡ key) → IsPayloadFormat (two_bytes numbered t f)
+is_payload_format numbered t f ok sets tells = record {
+  headers = headers_take_room numbered t ok f;
+  reads = record {
+    header = λ unit h. (let l = carried_long numbered t ok unit h in omega (arith, l));
+    single = single_back numbered t ok f;
+    fragment = fragment_back numbered t ok f;
+    sets = sets.back;
+  };
+  limits = record { header = header_long numbered t ok f; sets = sets.long };
+  marks = marks_fragments numbered t ok f;
+  sets = sets_leave_room (two_bytes numbered t f) sets.within;
+  extra = record { tells = tells; whole = key_whole numbered t ok };
+  detects = record { single = single_detected numbered t ok f; fragment = fragment_detected numbered t ok f; sets = sets.undetected };
+  other = key_units_are_other numbered t ok f;
+  numbers = sets.numbers;
+}
