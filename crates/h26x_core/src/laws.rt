@@ -1,8 +1,11 @@
 //! Laws of the definitions, for every payload format that meets the facts that they ask for. Each is
 //! the contract of a function without a result. The crates of the codecs show the facts of theirs.
 
-ghost use Rattle.std.specs.Prelude.{◌≡◌, true, ◌%◌, ◌==◌, ◌&&◌, ℕ, Bool, List, [], ◌∷◌, ◌++◌, Some, ◌+◌, ◌≤◌, false, length, IsTrue, ◌<◌, map};
+ghost use Rattle.std.specs.Prelude.{◌≡◌, true, ◌%◌, ◌==◌, ◌&&◌, ℕ, Bool, List, [], ◌∷◌, ◌++◌, Some, ◌+◌, ◌*◌, ◌≤◌, false, length, IsTrue, ◌<◌, map};
 ghost use Rattle.std.specs.List.{AllByRecursion, flat_map};
+ghost use Rattle.h26x_core.specs.Word.{field, is_set};
+ghost use Rattle.h26x_core.specs.H265Unit as h265;
+ghost use Rattle.h26x_core.specs.H266Unit as h266;
 ghost use Rattle.h26x_core.specs.Reading.{Reading, IsRead};
 ghost use Rattle.h26x_core.specs.Format.{Format, number_len, fragment_header_len};
 ghost use Rattle.h26x_core.specs.Calls.{Call, AreCalls, entries_of};
@@ -172,4 +175,21 @@ pub fn what_is_left_is_brought()
 /// Payloads at one mtu, and the text of what was sent of them: they have the same packets.
 pub fn what_was_written_is_sent_again()
     ensures { (f : Format) → SendsAgain f }
+{}
+
+/// The fields that an H.265 header's bytes bear are those of its word of two bytes (RFC 7798, 1.1.4).
+pub fn h265_header_word()
+    ensures forbidden { (high low : ℕ) → low < 256 → h265.is_forbidden high ≡ is_set (high * 256 + low) 15 }
+    ensures unit_type { (high low : ℕ) → low < 256 → h265.type_of high ≡ field (high * 256 + low) 14 9 }
+    ensures layer { (high low : ℕ) → low < 256 → h265.layer_id high low ≡ field (high * 256 + low) 8 3 }
+    ensures temporal { (high low : ℕ) → low < 256 → h265.temporal_id low ≡ field (high * 256 + low) 2 0 }
+{}
+
+/// The fields that an H.266 header's bytes bear are those of its word of two bytes (RFC 9328, 1.1.4).
+pub fn h266_header_word()
+    ensures forbidden { (high low : ℕ) → low < 256 → h266.is_forbidden high ≡ is_set (high * 256 + low) 15 }
+    ensures reserved { (high low : ℕ) → low < 256 → h266.is_reserved high ≡ is_set (high * 256 + low) 14 }
+    ensures layer { (high low : ℕ) → low < 256 → h266.layer_id high ≡ field (high * 256 + low) 13 8 }
+    ensures unit_type { (high low : ℕ) → low < 256 → h266.type_of low ≡ field (high * 256 + low) 7 3 }
+    ensures temporal { (high low : ℕ) → low < 256 → h266.temporal_id low ≡ field (high * 256 + low) 2 0 }
 {}
