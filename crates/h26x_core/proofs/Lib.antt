@@ -23,3 +23,4 @@ pub mod SenderLemmas
 pub mod ReceiverLemmas
 pub mod EndLemmas
 pub mod RunLawLemmas
+pub mod NextPlaceLemmas

@@ -1,7 +1,7 @@
 //! Laws of the definitions, for every payload format that meets the facts that they ask for. Each is
 //! the contract of a function without a result. The crates of the codecs show the facts of theirs.
 
-ghost use Rattle.std.specs.Prelude.{◌≡◌, true, ◌%◌, ◌==◌, ◌&&◌, ℕ, Bool, List, [], ◌∷◌, ◌++◌, Some, ◌+◌, ◌*◌, ◌≤◌, false, length, IsTrue, ◌<◌, map};
+ghost use Rattle.std.specs.Prelude.{◌≡◌, true, ◌%◌, ◌==◌, ◌&&◌, ℕ, Bool, List, [], ◌∷◌, ◌++◌, Some, None, ◌+◌, ◌*◌, ◌≤◌, false, length, IsTrue, ◌<◌, map};
 ghost use Rattle.std.specs.List.{AllByRecursion, flat_map};
 ghost use Rattle.h26x_core.specs.Word.{field, is_set};
 ghost use Rattle.h26x_core.specs.H265Unit as h265;
@@ -18,14 +18,14 @@ ghost use Rattle.h26x_core.specs.Limit.{ItemIsWithin};
 ghost use Rattle.h26x_core.specs.Number.{NumbersInOrder};
 ghost use Rattle.h26x_core.specs.Rival.{TakesFewestFragments};
 ghost use Rattle.h26x_core.specs.Pieces.{ArePieces, HasNoPiece, pieces_of};
-ghost use Rattle.h26x_core.specs.Run.{AreReceived};
-ghost use Rattle.h26x_core.specs.Received.{open_run, IsOpenRun, units_after, received};
+ghost use Rattle.h26x_core.specs.Run.{AreReceived, Brings};
+ghost use Rattle.h26x_core.specs.Received.{open_run, IsOpenRun, units_after, received, units_with};
 ghost use Rattle.h26x_core.specs.Facts.{MarksFragments, NumbersAreTwoBytes, IsPayloadFormat, ExtraTells, FitsLimits, HeadersTakeRoom, ReadsWhatItWrites, CanSend, IsPlanned, KnowsKeyUnits, AreCarried, KeyUnitsAreOther, SetsLeaveRoom};
 ghost use Rattle.h26x_core.specs.Loss.{LossStaysWithin};
 ghost use Rattle.h26x_core.specs.Again.{NothingDropped, IsSteady};
 ghost use Rattle.h26x_core.specs.Detection.{AreDetected};
 ghost use Rattle.h26x_core.specs.Sender.{Sender, IsSender, planned, sent_by, packets_by, after, has_no_effect};
-ghost use Rattle.h26x_core.specs.Receiver.{Work, units_from};
+ghost use Rattle.h26x_core.specs.Receiver.{Work, units_from, run_from};
 ghost use Rattle.h26x_core.specs.Ends.{SenderGoesOn, ReceiverGoesOn, CarriesWhole, LosesLittle, SendsAgain};
 
 /// A list of units is groups and a rest in one way, and `split` finds it.
@@ -192,4 +192,10 @@ pub fn h266_header_word()
     ensures layer { (high low : ℕ) → low < 256 → h266.layer_id high ≡ field (high * 256 + low) 13 8 }
     ensures unit_type { (high low : ℕ) → low < 256 → h266.type_of low ≡ field (high * 256 + low) 7 3 }
     ensures temporal { (high low : ℕ) → low < 256 → h266.temporal_id low ≡ field (high * 256 + low) 2 0 }
+{}
+
+/// What the next packet brings, where the run of those before it is open, is what its place brings.
+pub fn the_next_by_its_place()
+    ensures { (earlier : List Reading) (reading : Reading) →
+        Brings (earlier ++ reading ∷ []) (length earlier) (Some reading) (units_with (run_from None earlier) reading) }
 {}
