@@ -24,3 +24,5 @@ pub mod ReceiverLemmas
 pub mod EndLemmas
 pub mod RunLawLemmas
 pub mod NextPlaceLemmas
+pub mod SourceLemmas
+pub mod CodecLawLemmas

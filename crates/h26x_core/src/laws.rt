@@ -2,7 +2,7 @@
 //! the contract of a function without a result. The crates of the codecs show the facts of theirs.
 
 ghost use Rattle.std.specs.Prelude.{◌≡◌, true, ◌%◌, ◌==◌, ◌&&◌, ℕ, Bool, List, [], ◌∷◌, ◌++◌, Some, None, ◌+◌, ◌*◌, ◌≤◌, false, length, IsTrue, ◌<◌, map};
-ghost use Rattle.std.specs.List.{AllByRecursion, flat_map};
+ghost use Rattle.std.specs.List.{AllByRecursion, Contains, flat_map};
 ghost use Rattle.h26x_core.specs.Word.{field, is_set};
 ghost use Rattle.h26x_core.specs.H265Unit as h265;
 ghost use Rattle.h26x_core.specs.H266Unit as h266;
@@ -198,4 +198,10 @@ pub fn h266_header_word()
 pub fn the_next_by_its_place()
     ensures { (earlier : List Reading) (reading : Reading) →
         Brings (earlier ++ reading ∷ []) (length earlier) (Some reading) (units_with (run_from None earlier) reading) }
+{}
+
+/// Each unit that a packetizer sends is a set that waited or a unit that came.
+pub fn what_is_sent_came()
+    ensures { (s : Sender) (entries : List Entry) →
+        AllByRecursion (Contains (sets_waiting s.waiting ++ map (λ e. e.unit) entries)) (sent_by s entries) }
 {}
