@@ -6,7 +6,7 @@ use Rattle.std.proofs.lemmas.List.{length-take}
 use Rattle.std.proofs.lemmas.Bool.Decides.{nat_tests}
 use Rattle.h26x_core.specs.Format.{Format, number_len, fragment_header_len}
 use Rattle.h26x_core.specs.Calls.{Call, AreCalls, entries_of}
-use Rattle.h26x_core.specs.Plan.{Item, Alone, fits, is_dropped}
+use Rattle.h26x_core.specs.Plan.{Alone, fits, is_dropped}
 use Rattle.h26x_core.specs.Packets.{room, fragmented, fragment_count, fragment_part, fragment, fragments, packets_of_item}
 use Rattle.h26x_core.specs.Fragments.{AreFragments, AreMarked}
 use Rattle.h26x_core.specs.Rival.{IsRival}

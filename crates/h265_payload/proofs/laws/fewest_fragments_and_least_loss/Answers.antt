@@ -1,4 +1,5 @@
-use Rattle.h26x_core.proofs.FewestLemmas.{takes_fewest}
+use Rattle.std.proofs.Common.{arith}
+use Rattle.h26x_core.proofs.CodecLawLemmas.{long_fewest}
 use Rattle.h26x_core.proofs.LossLemmas.{items_left}
 use Rattle.h265_payload.specs.H265.{h265}
 use Rattle.h265_payload.proofs.FactLemmas.{headers_take_room, reads_what_it_writes}
@@ -6,6 +7,6 @@ use Rattle.h265_payload.proofs.laws.fewest_fragments_and_least_loss.Goals as goa
 
 pub returns : goal.returns
 returns c = record {
-  fewest = λ numbered. takes_fewest (h265 numbered) (headers_take_room numbered);
+  fewest = λ numbered limit unit rival room more. long_fewest (h265 numbered) (headers_take_room numbered) limit unit rival (record { room = omega arith; long = more });
   loss = λ numbered n items masks earlier send fit. items_left (h265 numbered) n items masks earlier (reads_what_it_writes numbered) send fit;
 }
