@@ -1,18 +1,31 @@
 //! Laws of the H.264 payload format. Each is the contract of a function without a result.
 
-ghost use Rattle.std.specs.Prelude.{◌≡◌, ◌≤◌, false, ℕ, List};
+ghost use Rattle.std.specs.Prelude.{◌≡◌, ◌+◌, ◌<◌, ◌≤◌, false, ℕ, List, [], ◌∷◌, length, drop, IsTrue};
+ghost use Rattle.std.specs.List.{AllByRecursion};
+ghost use Rattle.h26x_core.specs.Mark.{IsMark};
+ghost use Rattle.h26x_core.specs.Text.{is_not_empty, annex_b};
 ghost use Rattle.h26x_core.specs.Reading.{Reading};
-ghost use Rattle.h26x_core.specs.Plan.{is_dropped};
-ghost use Rattle.h26x_core.specs.Rival.{TakesFewestFragments};
+ghost use Rattle.h26x_core.specs.Calls.{Call, AreCalls, entries_of, packets_of};
+ghost use Rattle.h26x_core.specs.Plan.{Alone, is_dropped, sent};
+ghost use Rattle.h26x_core.specs.Packets.{packets_of_item, fragment_count, fragment, fragments};
+ghost use Rattle.h26x_core.specs.Fragments.{AreFragments, AreMarked};
+ghost use Rattle.h26x_core.specs.Rival.{IsRival};
 ghost use Rattle.h26x_core.specs.Loss.{LossStaysWithin};
-ghost use Rattle.h26x_core.specs.Facts.{IsPayloadFormat};
+ghost use Rattle.h26x_core.specs.Again.{NothingDropped};
+ghost use Rattle.h26x_core.specs.Detection.{AreDetected};
+ghost use Rattle.h26x_core.specs.Facts.{IsPayloadFormat, AreCarried};
+ghost use Rattle.h26x_core.specs.Sender.{Sender, IsSender, planned, sent_by};
+ghost use Rattle.h26x_core.specs.Ends.{calls_like};
+ghost use Rattle.h26x_cut.specs.declared.ZeroRule.TheVariants.{All};
+ghost use Rattle.h26x_cut.specs.Cutting.{IsUnit, AreSeparable};
 ghost use Rattle.h264_payload.specs.H264.{h264, read};
 ghost use Rattle.h264_payload.specs.Reading.{IsReading};
 
 /// A packet has one reading, and `read` finds it.
 pub fn one_reading()
     ensures is { (packet : List ℕ) → IsReading packet (read packet) }
-    ensures only { (packet : List ℕ) (reading : Reading) → IsReading packet reading → read packet ≡ reading }
+    ensures only { (packet : List ℕ) (reading : Reading) →
+        IsReading packet reading → read packet ≡ reading }
 {}
 
 /// The format meets the facts on which the laws of every format stand.
@@ -25,8 +38,62 @@ pub fn only_sets_are_dropped()
     ensures { (limit : ℕ) (unit : List ℕ) → 3 ≤ limit → is_dropped h264 limit unit ≡ false }
 {}
 
-/// A unit takes the fewest fragments that there could be, and a lost packet hurts no item but its own.
+/// A unit that is longer than its limit goes in fragments, from limit 3 on (RFC 6184, 5.8): two or
+/// more, the first alone with S and the last alone with E. Each but the last is as long as the
+/// limit, and none is longer.
+pub fn fragments_of_a_unit()
+    ensures are { (n limit : ℕ) (unit : List ℕ) → 3 ≤ limit →
+        limit < length unit → AreFragments h264 n limit unit }
+    ensures marked { (n limit : ℕ) (unit : List ℕ) → 3 ≤ limit →
+        limit < length unit → AreMarked h264 n limit unit }
+    ensures sent { (n limit : ℕ) (unit : List ℕ) → 3 ≤ limit →
+        limit < length unit →
+        packets_of_item h264 n (Alone limit unit) ≡ fragments h264 n limit unit }
+    ensures full { (n limit : ℕ) (unit : List ℕ) (place : ℕ) → 3 ≤ limit →
+        limit < length unit → place + 1 < fragment_count h264 limit unit →
+        length (fragment h264 n limit unit place) ≡ limit }
+    ensures within { (n limit : ℕ) (unit : List ℕ) (place : ℕ) → 3 ≤ limit →
+        limit < length unit → length (fragment h264 n limit unit place) ≤ limit }
+{}
+
+/// Such a unit takes the fewest fragments that there could be: of any packets within the limit
+/// that carry it as fragments do, the first with S, there are as many or more. And a lost packet
+/// hurts no item but its own.
 pub fn fewest_fragments_and_least_loss()
-    ensures fewest { TakesFewestFragments h264 }
+    ensures fewest { (limit : ℕ) (unit : List ℕ) (rival : List (List ℕ)) → 3 ≤ limit →
+        limit < length unit → IsRival h264 limit (drop 1 unit) rival →
+        fragment_count h264 limit unit ≤ length rival }
     ensures loss { LossStaysWithin h264 }
+{}
+
+/// Of what calls send, whichever sets wait: the packet or the first fragment of each key unit is
+/// detected, and no other packet.
+pub fn key_units_are_detected()
+    ensures { (s : Sender) (calls : List Call) → s.format ≡ h264 → IsSender s → AreCalls calls →
+        AreCarried s.format (sent_by s (entries_of s.format calls)) →
+        AreDetected s.format s.counter (planned s (entries_of s.format calls)) }
+{}
+
+/// Each unit of a payload is not empty and holds no start code (Annex B of Rec. ITU-T H.264).
+pub fn units_are_whole()
+    ensures not_empty { (payload : List ℕ) →
+        AllByRecursion (λ unit. IsTrue (is_not_empty unit)) (h264.units payload) }
+    ensures no_code { (payload : List ℕ) →
+        AllByRecursion (λ unit. (place : ℕ) → ¬ IsMark unit place) (h264.units payload) }
+{}
+
+/// The written text of units is cut into these units, where none but the last ends in a zero.
+pub fn text_is_cut_into_its_units()
+    ensures { (units : List (List ℕ)) → AllByRecursion IsUnit units → AreSeparable All units →
+        h264.units (annex_b units) ≡ units }
+{}
+
+/// Where nothing is dropped for its size, what calls like one sent makes the same packets when its
+/// written text is sent in one such call. No unit sent but the last may end in a zero.
+pub fn sent_again()
+    ensures { (call : Call) (payloads units : List (List ℕ)) →
+        NothingDropped h264 (entries_of h264 (calls_like call payloads)) →
+        units ≡ sent h264 (entries_of h264 (calls_like call payloads)) → AreSeparable All units →
+        packets_of h264 0 (record call { payload = annex_b units } ∷ [])
+        ≡ packets_of h264 0 (calls_like call payloads) }
 {}

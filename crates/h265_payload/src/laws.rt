@@ -1,18 +1,34 @@
 //! Laws of the H.265 payload format. Each is the contract of a function without a result.
 
-ghost use Rattle.std.specs.Prelude.{◌≡◌, ◌≤◌, true, false, ℕ, Bool, List};
+ghost use Rattle.std.specs.Prelude.{◌≡◌, ◌+◌, ◌<◌, ◌≤◌, true, false, ℕ, Bool, List, [], ◌∷◌, length, drop, IsTrue};
+ghost use Rattle.std.specs.List.{AllByRecursion};
+ghost use Rattle.h26x_core.specs.Mark.{IsMark};
+ghost use Rattle.h26x_core.specs.Text.{is_not_empty, annex_b};
 ghost use Rattle.h26x_core.specs.Reading.{Reading};
-ghost use Rattle.h26x_core.specs.Plan.{is_dropped};
-ghost use Rattle.h26x_core.specs.Rival.{TakesFewestFragments};
+ghost use Rattle.h26x_core.specs.Format.{number_len};
+ghost use Rattle.h26x_core.specs.Calls.{Call, AreCalls, entries_of, packets_of};
+ghost use Rattle.h26x_core.specs.Plan.{Alone, is_dropped, sent};
+ghost use Rattle.h26x_core.specs.Packets.{packets_of_item, fragment_count, fragment, fragments};
+ghost use Rattle.h26x_core.specs.Fragments.{AreFragments, AreMarked};
+ghost use Rattle.h26x_core.specs.Rival.{IsRival};
+ghost use Rattle.h26x_core.specs.Number.{NumbersInOrder};
 ghost use Rattle.h26x_core.specs.Loss.{LossStaysWithin};
-ghost use Rattle.h26x_core.specs.Facts.{IsPayloadFormat};
+ghost use Rattle.h26x_core.specs.Again.{NothingDropped};
+ghost use Rattle.h26x_core.specs.Detection.{AreDetected};
+ghost use Rattle.h26x_core.specs.Facts.{IsPayloadFormat, AreCarried};
+ghost use Rattle.h26x_core.specs.Sender.{Sender, IsSender, planned, sent_by};
+ghost use Rattle.h26x_core.specs.Ends.{calls_like};
+ghost use Rattle.h26x_cut.specs.declared.ZeroRule.TheVariants.{All};
+ghost use Rattle.h26x_cut.specs.Cutting.{IsUnit, AreSeparable};
 ghost use Rattle.h265_payload.specs.H265.{h265, read};
 ghost use Rattle.h265_payload.specs.Reading.{IsReading};
 
 /// A packet has one reading, and `read` finds it.
 pub fn one_reading()
-    ensures is { (numbered : Bool) (packet : List ℕ) → IsReading numbered packet (read numbered packet) }
-    ensures only { (numbered : Bool) (packet : List ℕ) (reading : Reading) → IsReading numbered packet reading → read numbered packet ≡ reading }
+    ensures is { (numbered : Bool) (packet : List ℕ) →
+        IsReading numbered packet (read numbered packet) }
+    ensures only { (numbered : Bool) (packet : List ℕ) (reading : Reading) →
+        IsReading numbered packet reading → read numbered packet ≡ reading }
 {}
 
 /// The format meets the facts on which the laws of every format stand.
@@ -22,12 +38,81 @@ pub fn meets_the_facts()
 
 /// From limit 4 on, 6 with numbers, only sets are dropped for size.
 pub fn only_sets_are_dropped()
-    ensures plain { (limit : ℕ) (unit : List ℕ) → 4 ≤ limit → is_dropped (h265 false) limit unit ≡ false }
-    ensures numbered { (limit : ℕ) (unit : List ℕ) → 6 ≤ limit → is_dropped (h265 true) limit unit ≡ false }
+    ensures plain { (limit : ℕ) (unit : List ℕ) → 4 ≤ limit →
+        is_dropped (h265 false) limit unit ≡ false }
+    ensures numbered { (limit : ℕ) (unit : List ℕ) → 6 ≤ limit →
+        is_dropped (h265 true) limit unit ≡ false }
 {}
 
-/// A unit takes the fewest fragments that there could be, and a lost packet hurts no item but its own.
+/// A unit that is longer, with its number, than its limit goes in fragments, from limit 4 on, 6
+/// with numbers (RFC 7798, 4.4.3): two or more, the first alone with S and the last alone with E.
+/// Each but the last is as long as the limit, and none is longer.
+pub fn fragments_of_a_unit()
+    ensures are { (numbered : Bool) (n limit : ℕ) (unit : List ℕ) →
+        number_len (h265 numbered) + 4 ≤ limit → limit < length unit + number_len (h265 numbered) →
+        AreFragments (h265 numbered) n limit unit }
+    ensures marked { (numbered : Bool) (n limit : ℕ) (unit : List ℕ) →
+        number_len (h265 numbered) + 4 ≤ limit → limit < length unit + number_len (h265 numbered) →
+        AreMarked (h265 numbered) n limit unit }
+    ensures sent { (numbered : Bool) (n limit : ℕ) (unit : List ℕ) →
+        number_len (h265 numbered) + 4 ≤ limit → limit < length unit + number_len (h265 numbered) →
+        packets_of_item (h265 numbered) n (Alone limit unit)
+        ≡ fragments (h265 numbered) n limit unit }
+    ensures full { (numbered : Bool) (n limit : ℕ) (unit : List ℕ) (place : ℕ) →
+        number_len (h265 numbered) + 4 ≤ limit → limit < length unit + number_len (h265 numbered) →
+        place + 1 < fragment_count (h265 numbered) limit unit →
+        length (fragment (h265 numbered) n limit unit place) ≡ limit }
+    ensures within { (numbered : Bool) (n limit : ℕ) (unit : List ℕ) (place : ℕ) →
+        number_len (h265 numbered) + 4 ≤ limit → limit < length unit + number_len (h265 numbered) →
+        length (fragment (h265 numbered) n limit unit place) ≤ limit }
+{}
+
+/// Such a unit takes the fewest fragments that there could be: of any packets within the limit
+/// that carry it as fragments do, the first with S, there are as many or more. And a lost packet
+/// hurts no item but its own.
 pub fn fewest_fragments_and_least_loss()
-    ensures fewest { (numbered : Bool) → TakesFewestFragments (h265 numbered) }
+    ensures fewest { (numbered : Bool) (limit : ℕ) (unit : List ℕ) (rival : List (List ℕ)) →
+        number_len (h265 numbered) + 4 ≤ limit → limit < length unit + number_len (h265 numbered) →
+        IsRival (h265 numbered) limit (drop 2 unit) rival →
+        fragment_count (h265 numbered) limit unit ≤ length rival }
     ensures loss { (numbered : Bool) → LossStaysWithin (h265 numbered) }
+{}
+
+/// Of what calls send, whichever sets wait and wherever the counter stands: numbers go on by one
+/// from unit to unit (RFC 7798, 4.5); the packet or the first fragment of each key unit is
+/// detected, and no other packet.
+pub fn numbers_and_detection()
+    ensures numbers { (numbered : Bool) (s : Sender) (calls : List Call) →
+        s.format ≡ h265 numbered → IsSender s → AreCalls calls →
+        AreCarried s.format (sent_by s (entries_of s.format calls)) →
+        NumbersInOrder s.format s.counter (planned s (entries_of s.format calls)) }
+    ensures detected { (numbered : Bool) (s : Sender) (calls : List Call) →
+        s.format ≡ h265 numbered → IsSender s → AreCalls calls →
+        AreCarried s.format (sent_by s (entries_of s.format calls)) →
+        AreDetected s.format s.counter (planned s (entries_of s.format calls)) }
+{}
+
+/// Each unit of a payload is not empty and holds no start code (Annex B of Rec. ITU-T H.265).
+pub fn units_are_whole()
+    ensures not_empty { (numbered : Bool) (payload : List ℕ) →
+        AllByRecursion (λ unit. IsTrue (is_not_empty unit)) ((h265 numbered).units payload) }
+    ensures no_code { (numbered : Bool) (payload : List ℕ) →
+        AllByRecursion (λ unit. (place : ℕ) → ¬ IsMark unit place) ((h265 numbered).units payload) }
+{}
+
+/// The written text of units is cut into these units, where none but the last ends in a zero.
+pub fn text_is_cut_into_its_units()
+    ensures { (numbered : Bool) (units : List (List ℕ)) → AllByRecursion IsUnit units →
+        AreSeparable All units → (h265 numbered).units (annex_b units) ≡ units }
+{}
+
+/// Where nothing is dropped for its size, what calls like one sent makes the same packets when its
+/// written text is sent in one such call. No unit sent but the last may end in a zero.
+pub fn sent_again()
+    ensures { (numbered : Bool) (call : Call) (payloads units : List (List ℕ)) →
+        NothingDropped (h265 numbered) (entries_of (h265 numbered) (calls_like call payloads)) →
+        units ≡ sent (h265 numbered) (entries_of (h265 numbered) (calls_like call payloads)) →
+        AreSeparable All units →
+        packets_of (h265 numbered) 0 (record call { payload = annex_b units } ∷ [])
+        ≡ packets_of (h265 numbered) 0 (calls_like call payloads) }
 {}

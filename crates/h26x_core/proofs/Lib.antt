@@ -26,3 +26,6 @@ pub mod ReceiverLemmas
 pub mod EndLemmas
 pub mod RunLawLemmas
 pub mod MeaningLemmas
+pub mod NextPlaceLemmas
+pub mod SourceLemmas
+pub mod CodecLawLemmas

@@ -1,11 +1,23 @@
 -- H.265 NAL units (RFC 7798, 1.1.4). A header has two bytes: F, type, layer and temporal id.
-use Rattle.std.specs.Prelude.{ℕ, nat_le, Bool, false, ◌&&◌, ◌==◌, if◌then◌else◌, List, ◌∷◌}
-use Rattle.h26x_core.specs.Word.{field}
+use Rattle.std.specs.Prelude.{ℕ, ◌+◌, ◌*◌, nat_le, Bool, false, ◌&&◌, ◌==◌, if◌then◌else◌, List, ◌∷◌}
+use Rattle.h26x_core.specs.Word.{field, is_set}
 use Rattle.h26x_core.specs.Kind.{Kind, Skipped, Vps, Sps, Pps, Other}
+
+-- whether the bit F is set, in a header's high byte
+abbrev pub is_forbidden : ℕ → Bool
+is_forbidden high = is_set high 7
 
 -- the type, in a header's high byte
 abbrev pub type_of : ℕ → ℕ
 type_of high = field high 6 1
+
+-- the layer, in both bytes: its highest bit is the lowest of the high byte
+abbrev pub layer_id : ℕ → ℕ → ℕ
+layer_id high low = field high 0 0 * 32 + field low 7 3
+
+-- the temporal id (one more than the sublayer), in the low byte
+abbrev pub temporal_id : ℕ → ℕ
+temporal_id low = field low 2 0
 
 -- type 35 is an access unit delimiter, 32 a VPS, 33 an SPS, 34 a PPS
 abbrev pub kind_of_type : ℕ → Kind

@@ -1,7 +1,23 @@
 -- H.266 NAL units (RFC 9328, 1.1.4). A header has two bytes: F, Z and layer; type and temporal id.
 use Rattle.std.specs.Prelude.{ℕ, nat_le, Bool, false, ◌&&◌, ◌||◌, ◌==◌, if◌then◌else◌, List, ◌∷◌}
-use Rattle.h26x_core.specs.Word.{field}
+use Rattle.h26x_core.specs.Word.{field, is_set}
 use Rattle.h26x_core.specs.Kind.{Kind, Skipped, Vps, Sps, Pps, Other}
+
+-- whether the bit F is set, in a header's high byte
+abbrev pub is_forbidden : ℕ → Bool
+is_forbidden high = is_set high 7
+
+-- whether the reserved bit Z is set, in the high byte
+abbrev pub is_reserved : ℕ → Bool
+is_reserved high = is_set high 6
+
+-- the layer, in the high byte
+abbrev pub layer_id : ℕ → ℕ
+layer_id high = field high 5 0
+
+-- the temporal id (one more than the sublayer), in the low byte
+abbrev pub temporal_id : ℕ → ℕ
+temporal_id low = field low 2 0
 
 -- the type, in a header's low byte
 abbrev pub type_of : ℕ → ℕ

@@ -1,8 +1,11 @@
 //! Laws of the definitions, for every payload format that meets the facts that they ask for. Each is
 //! the contract of a function without a result. The crates of the codecs show the facts of theirs.
 
-ghost use Rattle.std.specs.Prelude.{◌≡◌, true, ◌%◌, ◌==◌, ◌&&◌, ℕ, Bool, List, [], ◌∷◌, ◌++◌, Some, ◌+◌, ◌≤◌, false, length, IsTrue, ◌<◌, map};
-ghost use Rattle.std.specs.List.{AllByRecursion, flat_map};
+ghost use Rattle.std.specs.Prelude.{◌≡◌, true, ◌%◌, ◌==◌, ◌&&◌, ℕ, Bool, List, [], ◌∷◌, ◌++◌, Some, None, ◌+◌, ◌*◌, ◌≤◌, false, length, IsTrue, ◌<◌, map};
+ghost use Rattle.std.specs.List.{AllByRecursion, Contains, flat_map};
+ghost use Rattle.h26x_core.specs.Word.{field, is_set};
+ghost use Rattle.h26x_core.specs.H265Unit as h265;
+ghost use Rattle.h26x_core.specs.H266Unit as h266;
 ghost use Rattle.h26x_core.specs.Reading.{Reading, IsRead};
 ghost use Rattle.h26x_core.specs.Format.{Format, number_len, fragment_header_len};
 ghost use Rattle.h26x_core.specs.Calls.{Call, AreCalls, entries_of};
@@ -15,15 +18,15 @@ ghost use Rattle.h26x_core.specs.Limit.{ItemIsWithin};
 ghost use Rattle.h26x_core.specs.Number.{NumbersInOrder};
 ghost use Rattle.h26x_core.specs.Rival.{TakesFewestFragments};
 ghost use Rattle.h26x_core.specs.Pieces.{ArePieces, HasNoPiece, pieces_of};
-ghost use Rattle.h26x_core.specs.Run.{AreReceived};
-ghost use Rattle.h26x_core.specs.Received.{open_run, IsOpenRun, units_after, received};
+ghost use Rattle.h26x_core.specs.Run.{AreReceived, Brings};
+ghost use Rattle.h26x_core.specs.Received.{open_run, IsOpenRun, units_after, received, units_with};
 ghost use Rattle.h26x_core.specs.Kind.{Skipped};
 ghost use Rattle.h26x_core.specs.Facts.{MarksFragments, NumbersAreTwoBytes, IsPayloadFormat, ExtraTells, FitsLimits, HeadersTakeRoom, ReadsWhatItWrites, CanSend, IsPlanned, KnowsKeyUnits, AreCarried, KeyUnitsAreOther, SetsLeaveRoom};
 ghost use Rattle.h26x_core.specs.Loss.{LossStaysWithin};
 ghost use Rattle.h26x_core.specs.Again.{NothingDropped, IsSteady};
 ghost use Rattle.h26x_core.specs.Detection.{AreDetected};
 ghost use Rattle.h26x_core.specs.Sender.{Sender, IsSender, IsSameSender, planned, sent_by, packets_by, after, has_no_effect, sender_meaning};
-ghost use Rattle.h26x_core.specs.Receiver.{Receiver, Work, units_from, receiver_meaning};
+ghost use Rattle.h26x_core.specs.Receiver.{Receiver, Work, units_from, run_from, receiver_meaning};
 ghost use Rattle.h26x_core.specs.Ends.{SenderGoesOn, ReceiverGoesOn, CarriesWhole, LosesLittle, SendsAgain};
 
 /// A list of units is groups and a rest in one way, and `split` finds it.
@@ -183,4 +186,33 @@ pub fn equal_meanings_are_equal_states()
         receiver_meaning a ≡ receiver_meaning b → a ≡ b }
     ensures numbered { (a b : Receiver) → a.format ≡ b.format → a.is_avc ≡ false → b.is_avc ≡ false →
         receiver_meaning a ≡ receiver_meaning b → a ≡ b }
+{}
+
+/// The fields that an H.265 header's bytes bear are those of its word of two bytes (RFC 7798, 1.1.4).
+pub fn h265_header_word()
+    ensures forbidden { (high low : ℕ) → low < 256 → h265.is_forbidden high ≡ is_set (high * 256 + low) 15 }
+    ensures unit_type { (high low : ℕ) → low < 256 → h265.type_of high ≡ field (high * 256 + low) 14 9 }
+    ensures layer { (high low : ℕ) → low < 256 → h265.layer_id high low ≡ field (high * 256 + low) 8 3 }
+    ensures temporal { (high low : ℕ) → low < 256 → h265.temporal_id low ≡ field (high * 256 + low) 2 0 }
+{}
+
+/// The fields that an H.266 header's bytes bear are those of its word of two bytes (RFC 9328, 1.1.4).
+pub fn h266_header_word()
+    ensures forbidden { (high low : ℕ) → low < 256 → h266.is_forbidden high ≡ is_set (high * 256 + low) 15 }
+    ensures reserved { (high low : ℕ) → low < 256 → h266.is_reserved high ≡ is_set (high * 256 + low) 14 }
+    ensures layer { (high low : ℕ) → low < 256 → h266.layer_id high ≡ field (high * 256 + low) 13 8 }
+    ensures unit_type { (high low : ℕ) → low < 256 → h266.type_of low ≡ field (high * 256 + low) 7 3 }
+    ensures temporal { (high low : ℕ) → low < 256 → h266.temporal_id low ≡ field (high * 256 + low) 2 0 }
+{}
+
+/// What the next packet brings, where the run of those before it is open, is what its place brings.
+pub fn the_next_by_its_place()
+    ensures { (earlier : List Reading) (reading : Reading) →
+        Brings (earlier ++ reading ∷ []) (length earlier) (Some reading) (units_with (run_from None earlier) reading) }
+{}
+
+/// Each unit that a packetizer sends is a set that waited or a unit that came.
+pub fn what_is_sent_came()
+    ensures { (s : Sender) (entries : List Entry) →
+        AllByRecursion (Contains (sets_waiting s.waiting ++ map (λ e. e.unit) entries)) (sent_by s entries) }
 {}

@@ -116,3 +116,7 @@ known number flags id = option_and_then (λ l. option_and_then (λ it. at_level 
 -- what a profile-level-id says: its three bytes are the lower ones of a number
 abbrev pub profile_level : ℕ → Option (ProfileLevel H264Profile H264LevelIdc)
 profile_level value = known (value / 65536 % 256) (value / 256 % 256) (value % 256)
+
+-- what stands where a format says nothing
+abbrev pub fallback : ProfileLevel H264Profile H264LevelIdc
+fallback = record { profile = profile.Baseline; level = level.Level3_1 }

@@ -124,10 +124,10 @@ impl H264LevelIdc {
     ghost use Rattle.h26x_profile.specs.H264.{ordinal};
 
     /// The level's place among all levels, from 0.
-    pub fn ordinal(self) -> u8
+    pub fn ordinal(self) -> usize
         ensures { result ≡ ordinal self }
     {
-        self as u8
+        self as usize
     }
 }
 

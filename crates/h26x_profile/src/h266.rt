@@ -217,10 +217,10 @@ impl H266Level {
     }
 
     /// The level's place among all levels, from 0.
-    pub fn ordinal(self) -> u8
+    pub fn ordinal(self) -> usize
         ensures { result ≡ ordinal self }
     {
-        self as u8
+        self as usize
     }
 }
 
