@@ -162,14 +162,14 @@ impl Depacketizer for H264Depacketizer {
         ensures outcome { IsOutcomeAt (work self.old out.old.items codec_extra.old) packet.now result }
         ensures taken { OnOk result (work self.new out.new.items codec_extra.new
             ≡ work_after (work self.old out.old.items codec_extra.old) (packet.now ∷ [])) }
-        ensures left { OnErr result (work self.new out.new.items codec_extra.new
+        ensures kept { OnErr result (work self.new out.new.items codec_extra.new
             ≡ work self.old out.old.items codec_extra.old) }
         ensures startless { is_startless self.old.run (h264.read packet.now) ≡ true → IsOk result }
 
         ensures accepted { OnOk result (IsFrontOf out.old.items out.new.items) }
-        ensures refused_out { OnErr result (out.new.items ≡ out.old.items) }
-        ensures refused_extra { OnErr result (codec_extra.new ≡ codec_extra.old) }
-        ensures refused { OnErr result (self.new ≡ self.old) }
+        ensures kept_out { OnErr result (out.new.items ≡ out.old.items) }
+        ensures kept_extra { OnErr result (codec_extra.new ≡ codec_extra.old) }
+        ensures kept_run { OnErr result (self.new ≡ self.old) }
     {
         match read(packet)? {
             Packet::Single(unit) => {

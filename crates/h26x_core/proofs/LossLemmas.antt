@@ -10,7 +10,7 @@ use Rattle.h26x_core.specs.Format.{Format, number_len}
 use Rattle.h26x_core.specs.Plan.{Item, Alone, Together, fits, is_dropped, units_of_item}
 use Rattle.h26x_core.specs.Packets.{single, fragment, fragment_part, fragments, fragment_count, fragmented, room, packets_of_item}
 use Rattle.h26x_core.specs.Number.{number_borne, numbered_from}
-use Rattle.h26x_core.specs.Received.{continued, open_run, named_by, units_of, units_after}
+use Rattle.h26x_core.specs.Received.{continued, open_run, named_by, brought_after, units_after}
 use Rattle.h26x_core.specs.Facts.{ReadsWhatItWrites, CanSend}
 use Rattle.h26x_core.specs.Loss.{kept, last_kept, IsLeftOf, AreLeftOf, AreMasks, kept_packets, patched}
 use Rattle.h26x_core.proofs.ReadBackLemmas.{Bounds, later_read, first_read, fragments_read, place_below, bounds}
@@ -175,11 +175,11 @@ numbered_back f n (set ∷ sets) = ap (λ (x : List (List ℕ)). set ∷ x) (num
 
 -- an item of one packet is written whole, or not at all where its packet is lost
 one_packet : (f : Format) (n : ℕ) (item : Item) (packet : List ℕ) (earlier : List Reading) (mask : List Bool) →
-    packets_of_item f n item ≡ packet ∷ [] → units_of (f.read packet) earlier ≡ units_of_item item →
+    packets_of_item f n item ≡ packet ∷ [] → brought_after (f.read packet) earlier ≡ units_of_item item →
     length mask ≡ 1 → IsLeftOf f n item mask (brought f earlier (kept mask (packets_of_item f n item)))
 one_packet f n item packet earlier [] one units long = absurd (omega arith)
 one_packet f n item packet earlier (x ∷ y ∷ mask) one units long = absurd (omega arith)
-one_packet f n item packet earlier (true ∷ []) one units long = rw one (append-nil (units_of (f.read packet) earlier) ∙ units)
+one_packet f n item packet earlier (true ∷ []) one units long = rw one (append-nil (brought_after (f.read packet) earlier) ∙ units)
 one_packet f n item packet earlier (false ∷ []) one units long = rw one refl
 
 -- so is what any mask leaves of a unit that is fragmented
@@ -199,14 +199,14 @@ item_left : (f : Format) (n : ℕ) (item : Item) (earlier : List Reading) (mask 
     length mask ≡ length (packets_of_item f n item) → IsLeftOf f n item mask (brought f earlier (kept mask (packets_of_item f n item)))
 item_left f n (Together limit sets unit) earlier mask sound send long =
     one_packet f n (Together limit sets unit) (f.sets_packet n sets unit) earlier mask refl
-    (ap (λ r. units_of r earlier) (send n) ∙ numbered_back f n sets) long
+    (ap (λ r. brought_after r earlier) (send n) ∙ numbered_back f n sets) long
 item_left f n (Alone limit unit) earlier mask sound send long =
     elim (fits f limit unit) as (λ b. fits f limit unit ≡ b →
     IsLeftOf f n (Alone limit unit) mask (brought f earlier (kept mask (packets_of_item f n (Alone limit unit))))) [
       | true ↦ λ e.
           let one : packets_of_item f n (Alone limit unit) ≡ single f n unit ∷ [] = rw e refl in
           one_packet f n (Alone limit unit) (single f n unit) earlier mask one
-          (ap (λ r. units_of r earlier) (sound.single n unit send.0)) (long ∙ ap length one)
+          (ap (λ r. brought_after r earlier) (sound.single n unit send.0)) (long ∙ ap length one)
       | false ↦ λ e.
           let all : packets_of_item f n (Alone limit unit) ≡ fragments f n limit unit = rw e refl in
           let count = length-map-range_with_len (fragment f n limit unit) 0 (fragment_count f limit unit) in
@@ -223,8 +223,8 @@ units_after-append : (earlier xs ys : List Reading) → units_after earlier (xs 
 unfolding pushed
 units_after-append earlier [] ys = refl
 units_after-append earlier (x ∷ xs) ys =
-    ap (λ (us : List (List ℕ)). units_of x earlier ++ us) (units_after-append (x ∷ earlier) xs ys)
-    ∙ sym (append_assoc (units_of x earlier) (units_after (x ∷ earlier) xs) (units_after (pushed (x ∷ earlier) xs) ys))
+    ap (λ (us : List (List ℕ)). brought_after x earlier ++ us) (units_after-append (x ∷ earlier) xs ys)
+    ∙ sym (append_assoc (brought_after x earlier) (units_after (x ∷ earlier) xs) (units_after (pushed (x ∷ earlier) xs) ys))
 
 -- what is left is written as it should be, item by item, whatever came before
 pub items_left : (f : Format) (n : ℕ) (items : List Item) (masks : List (List Bool)) (earlier : List Reading) → ReadsWhatItWrites f →

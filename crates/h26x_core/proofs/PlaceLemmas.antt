@@ -8,7 +8,7 @@ use Rattle.std.proofs.lemmas.List.{append-nil, append_assoc, reverse-append, rev
 use Rattle.std.proofs.lemmas.List.Concat.{flat_map-append}
 use Rattle.std.proofs.lemmas.Option.{slice_get_within, get_or_from_slice_get}
 use Rattle.h26x_core.specs.Reading.{Reading, Single, Aggregate, Fragment, Paci, Refused, is_start, is_end, head_of, body_of}
-use Rattle.h26x_core.specs.Received.{continued, run_after, named_by, units_with, open_run, units_of, units_after, received}
+use Rattle.h26x_core.specs.Received.{continued, run_after, named_by, units_with, open_run, brought_after, units_after, received}
 use Rattle.h26x_core.specs.Run.{starts_at, ends_at, IsRun, unit_of_run, IsNamed, Brings, AreReceived}
 
 -- a run that may go on at a place: from the latest start before it, with no end since
@@ -214,7 +214,7 @@ one_brought readings place (Some (Refused error)) us vs x y = x ∙ sym y
 -- the units that readings bring, reading by reading
 abbrev parts_after : List Reading → List Reading → List (List (List ℕ))
 parts_after earlier [] = []
-parts_after earlier (r ∷ readings) = units_of r earlier ∷ parts_after (r ∷ earlier) readings
+parts_after earlier (r ∷ readings) = brought_after r earlier ∷ parts_after (r ∷ earlier) readings
 
 -- these are a part for each reading, and joined the units received
 parts_long : (earlier readings : List Reading) → length (parts_after earlier readings) ≡ length readings
@@ -224,7 +224,7 @@ parts_long earlier (r ∷ readings) = ap suc (parts_long (r ∷ earlier) reading
 -- parts joined are the parts joined one after the other
 parts_joined : (earlier readings : List Reading) → units_after earlier readings ≡ flat_map (λ part. part) (parts_after earlier readings)
 parts_joined earlier [] = refl
-parts_joined earlier (r ∷ readings) = ap (λ (x : List (List ℕ)). units_of r earlier ++ x) (parts_joined (r ∷ earlier) readings)
+parts_joined earlier (r ∷ readings) = ap (λ (x : List (List ℕ)). brought_after r earlier ++ x) (parts_joined (r ∷ earlier) readings)
 
 -- the first of what is left behind a place stands there
 at_place : (readings : List Reading) (place : ℕ) (r : Reading) (rest : List Reading) → drop place readings ≡ r ∷ rest →
@@ -243,7 +243,7 @@ parts_bring : (readings : List Reading) (place : ℕ) (earlier rest : List Readi
 parts_bring readings place earlier [] left h i part e = absurd cc
 parts_bring readings place earlier (r ∷ rest) left h zero part e =
     let at = (at_place readings place r rest left).0 in
-    let same : units_of r earlier ≡ part = cc in
+    let same : brought_after r earlier ≡ part = cc in
     let here : place + 0 ≡ place = omega arith in
     rw (here, at, ← same) (place_brings readings place r (open_run earlier) at h)
 parts_bring readings place earlier (r ∷ rest) left h (suc i) part e =

@@ -33,13 +33,13 @@ open_run [] = None
 open_run (reading ∷ earlier) = run_after (open_run earlier) reading
 
 -- the units that a reading brings after these
-abbrev pub units_of : Reading → List Reading → List (List ℕ)
-units_of reading earlier = units_with (open_run earlier) reading
+abbrev pub brought_after : Reading → List Reading → List (List ℕ)
+brought_after reading earlier = units_with (open_run earlier) reading
 
 -- the units that readings bring after others, which stand with the latest first
 abbrev pub units_after : List Reading → List Reading → List (List ℕ)
 units_after earlier [] = []
-units_after earlier (reading ∷ readings) = units_of reading earlier ++ units_after (reading ∷ earlier) readings
+units_after earlier (reading ∷ readings) = brought_after reading earlier ++ units_after (reading ∷ earlier) readings
 
 -- the units that readings bring, in order
 abbrev pub received : List Reading → List (List ℕ)

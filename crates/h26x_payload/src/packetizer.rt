@@ -255,14 +255,14 @@ impl<C: Codec> Packetizer for PayloadPacketizer<C> {
     ///
     /// `OutOfMemory` is its only error, and leaves everything.
     fn packetize(&mut self, mtu: usize, b: &[u8]) -> Result<Vec<Vec<u8>>, PacketError>
-        ensures sent { IfOk result (λ made. map (λ p. p.items) made.items
+        ensures packets { IfOk result (λ made. map (λ p. p.items) made.items
             ≡ packets_by (sender (C.format self.old.codec) self.old) (entries_with (C.format self.old.codec) self.old mtu b.now)) }
         ensures after { OnOk result (self.new
             ≡ held_after (C.format self.old.codec) self.old (entries_with (C.format self.old.codec) self.old mtu b.now)) }
         ensures within { IfOk result (λ made.
             AreWithin (limit_of_call (C.format self.old.codec) (call_of self.old mtu b.now)) (map (λ p. p.items) made.items)) }
 
-        ensures refused { OnErr result (self.new ≡ self.old) }
+        ensures kept { OnErr result (self.new ≡ self.old) }
         ensures memory { OnErr result (result ≡ Err PacketError.OutOfMemory) }
 
         // Calls without effect take no memory.
@@ -292,7 +292,7 @@ impl<C: Codec> Packetizer for PayloadPacketizer<C> {
     /// The marker bit stands on the last packet of a frame.
     fn is_marker(&mut self, data: &[u8], previous: Option<&[u8]>, last: bool) -> bool
         ensures is { result ≡ last }
-        ensures left { self.new ≡ self.old }
+        ensures kept { self.new ≡ self.old }
     {
         last
     }

@@ -2,7 +2,7 @@ use Rattle.std.proofs.Common.{refl, sym, ap, ◌∙◌}
 use Rattle.h26x_core.specs.Text.{annex_b}
 use Rattle.h26x_core.proofs.SourceLemmas.{sent_again}
 use Rattle.h26x_cut.specs.declared.ZeroRule.TheVariants.{All}
-use Rattle.h26x_cut.specs.Cutting.{IsUnit, pieces_of, units_of, units_of_pieces}
+use Rattle.h26x_cut.specs.Cutting.{IsUnit, cut_pieces, units_of, units_of_pieces}
 use Rattle.h26x_cut.proofs.CuttingLemmas.{has_cutting, cutting_is}
 use Rattle.h26x_cut.proofs.TextLemmas.{units_of_text}
 use Rattle.h26x_cut.proofs.UnitLemmas.{units_whole}
@@ -12,6 +12,6 @@ use Rattle.h264_payload.proofs.laws.sent_again.Goals as goal
 pub returns : goal.returns
 returns c = λ call payloads units kept is apart.
     sent_again h264 IsUnit
-    (λ payload. units_whole All payload (units_of All payload) (pieces_of All payload, has_cutting All payload, refl))
+    (λ payload. units_whole All payload (units_of All payload) (cut_pieces All payload, has_cutting All payload, refl))
     call payloads units kept is
     (λ each. let (pieces, cut, same) = units_of_text All units each apart in sym (same ∙ ap units_of_pieces (cutting_is All (annex_b units) pieces cut)))

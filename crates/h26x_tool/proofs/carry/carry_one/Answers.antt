@@ -17,7 +17,7 @@ returns-in_err-packets-clause-delivered c =
 pub returns-in_err-deliver-clause-whole : goal.returns-in_err-deliver-clause-whole
 returns-in_err-deliver-clause-whole c =
     let made : map (λ (p : Vec ℕ Global). p.items) c.deref.result.now ≡ packets_by (sender h264 c.args.p.now) (entries_with h264 c.args.p.now c.args.mtu c.args.payload.now)
-    = ap (map (λ (p : Vec ℕ Global). p.items)) c.deref.ensures.value ∙ c.in_ok-packets.ensures.sent in
+    = ap (map (λ (p : Vec ℕ Global). p.items)) c.deref.ensures.value ∙ c.in_ok-packets.ensures.packets in
     let (e, is, same) = err_from_is_err_and c.from_residual-in_err-deliver.result c.from_residual-in_err-deliver.ensures.1 in
     some_carried {B = Unit {0}} (sender h264 c.args.p.now) (work c.args.d.now c.args.out.now.items c.args.extra.now) (call_of c.args.p.now c.args.mtu c.args.payload.now) c.from_residual-in_err-deliver.result
     e (work c.deliver.new.d c.deliver.new.out.items c.deliver.new.extra) is (record { law = c.what_calls_send_is_carried.ensures; facts = c.meets_the_facts.ensures; is = c.is_sender.ensures.is; small = c.is_sender.ensures.is.size; same = refl })
@@ -26,13 +26,13 @@ returns-in_err-deliver-clause-whole c =
 pub returns-clause-made : goal.returns-clause-made
 returns-clause-made c =
     let made : map (λ (p : Vec ℕ Global). p.items) c.in_ok-packets.packets.items ≡ packets_by (sender h264 c.args.p.now) (entries_with h264 c.args.p.now c.args.mtu c.args.payload.now)
-    = c.in_ok-packets.ensures.sent in
+    = c.in_ok-packets.ensures.packets in
     rw c.is_empty.ensures (some_made (λ (p : Vec ℕ Global). p.items) c.in_ok-packets.packets.items _ _ (search rules) made)
 
 pub returns-clause-whole : goal.returns-clause-whole
 returns-clause-whole c =
     let made : map (λ (p : Vec ℕ Global). p.items) c.deref.result.now ≡ packets_by (sender h264 c.args.p.now) (entries_with h264 c.args.p.now c.args.mtu c.args.payload.now)
-    = ap (map (λ (p : Vec ℕ Global). p.items)) c.deref.ensures.value ∙ c.in_ok-packets.ensures.sent in
+    = ap (map (λ (p : Vec ℕ Global). p.items)) c.deref.ensures.value ∙ c.in_ok-packets.ensures.packets in
     all_carried {A = Unit {0}} {B = Unit {0}} (sender h264 c.args.p.now) (work c.args.d.now c.args.out.now.items c.args.extra.now) (call_of c.args.p.now c.args.mtu c.args.payload.now) (tt {0}) (tt {0})
     (work c.deliver.new.d c.deliver.new.out.items c.deliver.new.extra) (record { law = c.what_calls_send_is_carried.ensures; facts = c.meets_the_facts.ensures; is = c.is_sender.ensures.is; small = c.is_sender.ensures.is.size; same = refl })
     (rw (← made) c.in_ok-deliver.ensures.delivered)

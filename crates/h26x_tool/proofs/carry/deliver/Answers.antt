@@ -39,7 +39,7 @@ returns-in_err-depacketize-clause-delivered c =
     let here : c.deref.result.now ≡ get_or bytes i [] = c.deref.ensures.value ∙ ap (λ (p : Vec ℕ Global). p.items) c.packet-item.is
     ∙ sym (get_or-map (λ (p : Vec ℕ Global). p.items) c.args.packets.now i c.packet-item.result [] c.loop-packet-test.true) in
     let (e, err, same) = err_from_is_err_and c.from_residual.result c.from_residual.ensures.1 in
-    stopped w bytes i c.from_residual.result e _ within err (c.in_err-depacketize.ensures.left ∙ c.loop-packet.invariant.taken)
+    stopped w bytes i c.from_residual.result e _ within err (c.in_err-depacketize.ensures.kept ∙ c.loop-packet.invariant.taken)
     (subst (λ (x : Work). IsOutcomeAt x (get_or bytes i []) (Err e)) c.loop-packet.invariant.taken (rw (← here, same) c.in_err-depacketize.ensures.outcome))
 
 pub returns-clause-delivered : goal.returns-clause-delivered

@@ -8,8 +8,8 @@ use Rattle.h26x_payload.specs.Held.{Held, IsHeld, held, sender, call_of, entries
 use Rattle.h26x_payload.proofs.HeldLemmas.{held_more, held_same, none_made}
 use Rattle.h26x_payload.proofs.packetizer.PayloadPacketizerPacketizer.packetize.Goals as goal
 
-pub returns-clause-sent : goal.returns-clause-sent
-returns-clause-sent g c = search rules
+pub returns-clause-packets : goal.returns-clause-packets
+returns-clause-packets g c = search rules
 
 pub returns-clause-after : goal.returns-clause-after
 returns-clause-after g c = search rules
