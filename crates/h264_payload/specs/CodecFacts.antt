@@ -26,9 +26,12 @@ header_long [] start end = omega arith
 header_long (first ∷ unit) start end = omega arith
 
 -- a STAP-A of sets that fit is within the limit
-sets_within : (limit n : ℕ) (sets : List (List ℕ)) (unit : List ℕ) → sets_fit limit sets ≡ true → length (sets_packet n sets unit) ≤ limit
+sets_within : (limit n : ℕ) (sets : List (List ℕ)) (unit : List ℕ) → sets_fit limit sets ≡ true →
+    length (sets_packet n sets unit) ≤ limit
 sets_within limit n sets unit fit =
-    let h : nat_le (1 + sum_by (λ (set : List ℕ). 2 + length set) sets) limit ≡ true = (and_parts (nat_le (1 + sum_by (λ (set : List ℕ). 2 + length set) sets) limit) (list_all (λ (set : List ℕ). nat_lt (length set) 65536) sets) fit).0 in
+    let h : nat_le (1 + sum_by (λ (set : List ℕ). 2 + length set) sets) limit ≡ true =
+    (and_parts (nat_le (1 + sum_by (λ (set : List ℕ). 2 + length set) sets) limit)
+    (list_all (λ (set : List ℕ). nat_lt (length set) 65536) sets) fit).0 in
     rw (pieces_long sets) (grind (arith, nat_tests))
 
 -- headers are as long as they are counted, and STAP-As are within the limit

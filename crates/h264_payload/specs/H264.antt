@@ -19,7 +19,8 @@ reference_bits byte = field byte 6 5 * 32
 
 -- sets fit a STAP-A: its header, and each set behind a length of two bytes that holds it
 abbrev pub sets_fit : ℕ → List (List ℕ) → Bool
-sets_fit limit sets = nat_le (1 + sum_by (λ set. 2 + length set) sets) limit && list_all (λ set. nat_lt (length set) 65536) sets
+sets_fit limit sets = nat_le (1 + sum_by (λ set. 2 + length set) sets) limit
+    && list_all (λ set. nat_lt (length set) 65536) sets
 
 -- a STAP-A: F clear, the highest NRI, type 24 (5.7.1)
 abbrev pub sets_packet : ℕ → List (List ℕ) → List ℕ → List ℕ
@@ -28,14 +29,17 @@ sets_packet number sets unit = 0x78 ∷ flat_map piece sets
 -- an FU-A's indicator, with the unit's NRI, and its header: S, E and the unit's type (5.8)
 abbrev pub fragment_header : List ℕ → Bool → Bool → List ℕ
 fragment_header [] start end = []
-fragment_header (first ∷ unit) start end = (28 + reference_bits first) ∷ (flag start 0x80 + flag end 0x40 + type_of first) ∷ []
+fragment_header (first ∷ unit) start end = (28 + reference_bits first) ∷
+    (flag start 0x80 + flag end 0x40 + type_of first) ∷ []
 
 -- units, unless a length that is left over passes the bytes behind it
 abbrev pub stap_of : List (List ℕ × Option ℕ) → List ℕ → Reading
-stap_of units (high ∷ low ∷ left) = Refused (StapASizeLargerThanBuffer (high * 256 + low) (length left))
+stap_of units (high ∷ low ∷ left) = Refused (StapASizeLargerThanBuffer (high * 256 + low)
+    (length left))
 stap_of units left = Aggregate units
 
--- the units in a STAP-A behind its header, up to a length that passes the end (5.7.1); a length of 0 holds none (ours)
+-- the units in a STAP-A behind its header, up to a length that passes the end (5.7.1); a length of
+-- 0 holds none (ours)
 abbrev pub stap_units : List ℕ → List (List ℕ)
 stap_units bytes = filter is_not_empty (pieces_of bytes).whole
 
@@ -47,7 +51,8 @@ aggregate_of p = stap_of (map unnumbered (filter is_not_empty p.whole)) p.left
 abbrev pub fragment_of : ℕ → List ℕ → Reading
 fragment_of first [] = Refused ErrShortPacket
 fragment_of first (second ∷ body) =
-    Fragment (is_set second 7) (is_set second 6) ((reference_bits first + type_of second) ∷ []) None body
+    Fragment (is_set second 7) (is_set second 6) ((reference_bits first + type_of second) ∷
+    []) None body
 
 -- the same as the relation `IsReading` of the file beside this one, computed
 abbrev pub read : List ℕ → Reading

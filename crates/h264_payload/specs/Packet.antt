@@ -14,9 +14,11 @@ reading_of (p.Single unit) = Single unit.now None
 reading_of (p.Aggregate bytes len) = Aggregate (map unnumbered (stap_units bytes.now))
 reading_of (p.Fragment start end head body) = Fragment start end (head ∷ []) None body.now
 
--- no unit of a STAP-A is too long, and so many bytes they take where they are written, a usize at most
+-- no unit of a STAP-A is too long, and so many bytes they take where they are written, a usize at
+-- most
 abbrev pub IsStapOf : List ℕ → ℕ → Type 0
-IsStapOf bytes len = (list_any is_too_long (stap_units bytes) ≡ false) × (len ≡ min (written_len (stap_units bytes)) (2 ^ 64 - 1))
+IsStapOf bytes len = (list_any is_too_long (stap_units bytes) ≡ false)
+    × (len ≡ min (written_len (stap_units bytes)) (2 ^ 64 - 1))
 
 -- what is known of a packet that is not refused
 abbrev pub IsWhole : Packet → Type 0

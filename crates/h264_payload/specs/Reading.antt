@@ -13,21 +13,31 @@ pub data IsReading (packet : List ℕ) (reading : Reading) : Type 0 where
   -- an empty packet is too short
   IsEmpty : packet ≡ [] → reading ≡ Refused ErrShortPacket → IsReading packet reading
   -- types 1 to 23: the packet is the unit
-  IsUnit : (first : ℕ) (rest : List ℕ) → packet ≡ first ∷ rest → 1 ≤ type_of first → type_of first ≤ 23 →
+  IsUnit : (first : ℕ) (rest : List ℕ) → packet ≡ first ∷ rest → 1 ≤ type_of first →
+      type_of first ≤ 23 →
       reading ≡ Single packet None → IsReading packet reading
-  -- a STAP-A, type 24: pieces behind their lengths, and at most one byte more; empty pieces hold no unit
-  IsStap : (first : ℕ) (bytes left : List ℕ) (pieces : List (List ℕ)) → packet ≡ first ∷ bytes → type_of first ≡ 24 →
+  -- a STAP-A, type 24: pieces behind their lengths, and at most one byte more; empty pieces hold no
+  -- unit
+  IsStap : (first : ℕ) (bytes left : List ℕ) (pieces : List (List ℕ)) → packet ≡ first ∷ bytes →
+      type_of first ≡ 24 →
       ArePieces bytes pieces left → length left ≤ 1 →
       reading ≡ Aggregate (map unnumbered (filter is_not_empty pieces)) → IsReading packet reading
   -- a STAP-A with a length that passes its end: the length, and the bytes behind it
-  IsCutStap : (first high low : ℕ) (bytes left : List ℕ) (pieces : List (List ℕ)) → packet ≡ first ∷ bytes → type_of first ≡ 24 →
+  IsCutStap : (first high low : ℕ) (bytes left : List ℕ) (pieces : List (List ℕ)) → packet ≡ first ∷
+      bytes → type_of first ≡ 24 →
       ArePieces bytes pieces (high ∷ low ∷ left) → length left < high * 256 + low →
-      reading ≡ Refused (StapASizeLargerThanBuffer (high * 256 + low) (length left)) → IsReading packet reading
-  -- an FU-A, type 28: a second byte with S, E and the type, and data; F of the unit's header is clear
-  IsFragment : (first second : ℕ) (body : List ℕ) → packet ≡ first ∷ second ∷ body → type_of first ≡ 28 →
-      reading ≡ Fragment (is_set second 7) (is_set second 6) ((reference_bits first + type_of second) ∷ []) None body → IsReading packet reading
+      reading ≡ Refused (StapASizeLargerThanBuffer (high * 256 + low) (length left)) →
+      IsReading packet reading
+  -- an FU-A, type 28: a second byte with S, E and the type, and data; F of the unit's header is
+  -- clear
+  IsFragment : (first second : ℕ) (body : List ℕ) → packet ≡ first ∷ second ∷ body →
+      type_of first ≡ 28 →
+      reading ≡ Fragment (is_set second 7) (is_set second 6)
+      ((reference_bits first + type_of second) ∷ []) None body → IsReading packet reading
   -- an FU-A without a second byte is too short
-  IsShortFragment : (first : ℕ) → packet ≡ first ∷ [] → type_of first ≡ 28 → reading ≡ Refused ErrShortPacket → IsReading packet reading
+  IsShortFragment : (first : ℕ) → packet ≡ first ∷ [] → type_of first ≡ 28 →
+      reading ≡ Refused ErrShortPacket → IsReading packet reading
   -- every other type is not handled
-  IsOtherType : (first : ℕ) (rest : List ℕ) → packet ≡ first ∷ rest → (type_of first ≡ 0) ⊎ (23 < type_of first) → type_of first ≢ 24 → type_of first ≢ 28 →
+  IsOtherType : (first : ℕ) (rest : List ℕ) → packet ≡ first ∷ rest → (type_of first ≡ 0)
+      ⊎ (23 < type_of first) → type_of first ≢ 24 → type_of first ≢ 28 →
       reading ≡ Refused (NaluTypeIsNotHandled (type_of first)) → IsReading packet reading

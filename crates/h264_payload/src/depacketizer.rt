@@ -19,7 +19,9 @@ use h26x_core::{
     CodecExtra, Depacketizer, FU_START_BITMASK, FUA_NALU_TYPE, FUB_NALU_TYPE, NALU_TYPE_BITMASK,
     PacketError,
 };
-use h26x_payload::{Codec, Fragment, OpenRun, append_unit, out_size_hint, take_fragment, told, write_unit};
+use h26x_payload::{
+    Codec, Fragment, OpenRun, append_unit, out_size_hint, take_fragment, told, write_unit,
+};
 use std::alloc::Global;
 use std::marker::Model;
 
@@ -33,8 +35,10 @@ fn append_units(
 ) -> Result<(), PacketError>
     requires { IsStapOf bytes.now len }
     ensures outcome { (result ≡ Ok tt) ⊎ (result ≡ Err PacketError.OutOfMemory) }
-    ensures written { OnOk result (out.new.items ≡ out.old.items ++ text is_avc (stap_units bytes.now)) }
-    ensures told { OnOk result (codec_extra.new ≡ extra_after h264 codec_extra.old (stap_units bytes.now)) }
+    ensures written { OnOk result (out.new.items ≡ out.old.items
+        ++ text is_avc (stap_units bytes.now)) }
+    ensures told { OnOk result (codec_extra.new ≡ extra_after h264 codec_extra.old
+        (stap_units bytes.now)) }
     ensures kept { OnErr result (out.new.items ≡ out.old.items) }
     ensures kept_extra { OnErr result (codec_extra.new ≡ codec_extra.old) }
 {
@@ -88,7 +92,8 @@ impl H264Depacketizer {
         }
     }
 
-    /// The same depacketizer again, with its setting and its open run. `OutOfMemory` is its only error.
+    /// The same depacketizer again, with its setting and its open run. `OutOfMemory` is its only
+    /// error.
     pub fn clone(&self) -> Result<Self, PacketError>
         ensures same { IfOk result (λ it. it ≡ self.now) }
         ensures memory { OnErr result (result ≡ Err PacketError.OutOfMemory) }
@@ -110,7 +115,8 @@ impl PartialEq for H264Depacketizer {
     ghost use Rattle.std.specs.Cmp.Lexicographic.{pointwise};
     ghost use Rattle.std.proofs.Common.{rules};
 
-    ghost eq = { eq_of_both (on (λ it. it.is_avc) beq) (on (λ it. it.run) (option_eq (pointwise nat_eq))) };
+    ghost eq = { eq_of_both (on (λ it. it.is_avc) beq) (on (λ it. it.run)
+        (option_eq (pointwise nat_eq))) };
 
     ghost laws = { partial_equiv_from_equiv (Prim.search (comparing, rules)) };
 
@@ -132,20 +138,22 @@ impl Depacketizer for H264Depacketizer {
     // The setting, and the data of the open run if there is one.
     ghost meaning = { meaning_of };
 
-    /// The bytes of the packets, four more, and four for each whole 1200 of them; at most `usize::MAX`.
+    /// The bytes of the packets, four more, and four for each whole 1200 of them; at most
+    /// `usize::MAX`.
     fn out_size_hint(&self, packets_size: usize) -> Option<usize>
         ensures { result ≡ Some (size_hint packets_size) }
     {
         out_size_hint(packets_size)
     }
 
-    /// Appends the units that `packet` completes to `out`, each behind `00 00 00 01`, or in AVC form behind
-    /// its length in four bytes. `codec_extra` then tells whether one of them, or one told of before, is of
-    /// a keyframe; what another codec told is replaced. A packet that completes none leaves it.
+    /// Appends the units that `packet` completes to `out`, each behind `00 00 00 01`, or in AVC
+    /// form behind its length in four bytes. `codec_extra` then tells whether one of them, or one
+    /// told of before, is of a keyframe; what another codec told is replaced. A packet that
+    /// completes none leaves it.
     ///
-    /// A start of fragments gives up a unit that was open, and a fragment without a start before it is
-    /// accepted and completes nothing. That fragments between were lost is not noticed here: their unit is
-    /// written without their data.
+    /// A start of fragments gives up a unit that was open, and a fragment without a start before it
+    /// is accepted and completes nothing. That fragments between were lost is not noticed here:
+    /// their unit is written without their data.
     ///
     /// A refusal leaves `out`, `codec_extra` and the open unit:
     /// - `ErrShortPacket`: no byte, or an FU-A of one byte;
@@ -177,7 +185,13 @@ impl Depacketizer for H264Depacketizer {
                 *codec_extra = told(H264, *codec_extra, H264.is_key(unit));
                 Ok(())
             }
-            Packet::Aggregate(bytes, len) => append_units(self.is_avc, bytes, len, out, codec_extra),
+            Packet::Aggregate(bytes, len) => append_units(
+                self.is_avc,
+                bytes,
+                len,
+                out,
+                codec_extra,
+            ),
             Packet::Fragment {
                 start,
                 end,
@@ -185,14 +199,19 @@ impl Depacketizer for H264Depacketizer {
                 body,
             } => {
                 let head = &[head];
-                let fragment = Fragment { start, end, head, body };
+                let fragment = Fragment {
+                    start,
+                    end,
+                    head,
+                    body,
+                };
                 take_fragment(H264, self.is_avc, fragment, &mut self.run, out, codec_extra)
             }
         }
     }
 
-    /// Whether `packet` may be the first of a frame: it has two bytes or more and, where it is a fragment (FU-A or
-    /// FU-B), its S bit is set.
+    /// Whether `packet` may be the first of a frame: it has two bytes or more and, where it is a
+    /// fragment (FU-A or FU-B), its S bit is set.
     fn is_partition_head(&self, packet: &[u8]) -> bool
         ensures { result ≡ is_head packet.now }
     {

@@ -28,8 +28,8 @@ fn stap_holds(bytes: &[u8], target_nalu: u8) -> bool
     stap::units(bytes).any(|unit| unit_type(unit) == target_nalu)
 }
 
-/// Whether a packet is known to hold a unit of this type, or to be the first fragment of one. The units of
-/// a STAP-A are looked at up to a length that passes its end.
+/// Whether a packet is known to hold a unit of this type, or to be the first fragment of one. The
+/// units of a STAP-A are looked at up to a length that passes its end.
 pub fn detect_h264_nalu(payload: &[u8], target_nalu: u8) -> bool
     ensures { result ≡ detects target_nalu payload.now }
 {

@@ -1,5 +1,5 @@
-//! The H.264 payload format (RFC 6184): a packetizer, a depacketizer and the detection of keyframes,
-//! with the format's definitions and their laws.
+//! The H.264 payload format (RFC 6184): a packetizer, a depacketizer and the detection of
+//! keyframes, with the format's definitions and their laws.
 //!
 //! ```rust
 //! let mut packetizer = H264Packetizer::new(alloc);

@@ -18,7 +18,8 @@ pub enum Packet<'a> {
     /// A single NAL unit packet: the unit (RFC 6184, 5.6).
     Single(&'a [u8]),
 
-    /// A STAP-A: the bytes behind its header, and how many its units take where they are written (RFC 6184, 5.7.1).
+    /// A STAP-A: the bytes behind its header, and how many its units take where they are written
+    /// (RFC 6184, 5.7.1).
     Aggregate(&'a [u8], usize),
 
     /// An FU-A (RFC 6184, 5.8).

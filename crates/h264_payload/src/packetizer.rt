@@ -1,4 +1,5 @@
-//! RTP payloads of H.264 payloads: units alone, in fragments, and parameter sets in one packet (RFC 6184, 5 and 6.3).
+//! RTP payloads of H.264 payloads: units alone, in fragments, and parameter sets in one packet (RFC
+//! 6184, 5 and 6.3).
 
 ghost use Rattle.std.specs.Prelude.{◌≡◌, ◌+◌};
 ghost use Rattle.h26x_core.specs.Word.{flag};
@@ -20,9 +21,10 @@ pub struct H264;
 
 /// Sends the NAL units of payloads (RFC 6184, packetization mode 1).
 ///
-/// A unit that fits goes alone (5.6), a longer one in fragments (FU-A, 5.8); where a limit of 1 or 2 bytes leaves a
-/// fragment no room for data it is dropped. An SPS and a PPS wait, each the latest, and go before the next other unit:
-/// in one STAP-A (5.7.1), or where that passes the limit each alone if it fits. Access unit delimiters are not sent.
+/// A unit that fits goes alone (5.6), a longer one in fragments (FU-A, 5.8); where a limit of 1 or
+/// 2 bytes leaves a fragment no room for data it is dropped. An SPS and a PPS wait, each the
+/// latest, and go before the next other unit: in one STAP-A (5.7.1), or where that passes the limit
+/// each alone if it fits. Access unit delimiters are not sent.
 ///
 /// ```rust
 /// let mut packetizer = H264Packetizer::new(alloc);

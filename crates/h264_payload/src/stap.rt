@@ -57,10 +57,11 @@ pub fn units(bytes: &[u8]) -> StapUnits<'_>
     StapUnits { rest: bytes }
 }
 
-/// How many bytes the units of a STAP-A take where they are written, at most `usize::MAX`; one with a length that passes its
-/// end is refused.
+/// How many bytes the units of a STAP-A take where they are written, at most `usize::MAX`; one with
+/// a length that passes its end is refused.
 pub fn check_stap(bytes: &[u8]) -> Result<usize, PacketError>
-    ensures whole { IfOk result (λ len. aggregate_of (pieces_of bytes.now) ≡ Aggregate (map unnumbered (stap_units bytes.now))) }
+    ensures whole { IfOk result (λ len. aggregate_of (pieces_of bytes.now) ≡ Aggregate
+        (map unnumbered (stap_units bytes.now))) }
     ensures len { IfOk result (λ len. IsStapOf bytes.now len) }
     ensures refused { IfErr result (λ e. aggregate_of (pieces_of bytes.now) ≡ Refused e) }
 {

@@ -23,38 +23,47 @@ with_type_and_f high type = field high 7 7 * 128 + with_type high type
 abbrev pub if_numbered : Bool → ℕ → ℕ  -- a length, where packets bear numbers
 if_numbered numbered n = if numbered then n else 0
 
--- sets fit an aggregate: its header and number, and each set behind its length, from the second on behind a difference too
+-- sets fit an aggregate: its header and number, and each set behind its length, from the second on
+-- behind a difference too
 abbrev pub sets_fit : Bool → ℕ → List (List ℕ) → Bool
-sets_fit numbered limit sets = nat_le (2 + if_numbered numbered (length sets + 1) + sum_by (λ set. 2 + length set) sets) limit
+sets_fit numbered limit sets = nat_le (2 + if_numbered numbered (length sets + 1) + sum_by
+    (λ set. 2 + length set) sets) limit
 
 -- a set behind the difference of its number, less 1, from that of the set before (DOND, 4.4.2)
 abbrev pub further : Bool → List ℕ → List ℕ
 further numbered set = (if numbered then 0 ∷ [] else []) ++ piece set
 
--- an aggregate: the header of the unit behind the sets with type 48, the first set's number, the sets (4.4.2)
+-- an aggregate: the header of the unit behind the sets with type 48, the first set's number, the
+-- sets (4.4.2)
 abbrev pub sets_packet : Bool → ℕ → List (List ℕ) → List ℕ → List ℕ
 sets_packet numbered n (set ∷ sets) (high ∷ low ∷ unit) =
-    (with_type_and_f high 48 ∷ low ∷ []) ++ number_bytes numbered n ++ piece set ++ flat_map (further numbered) sets
+    (with_type_and_f high 48 ∷ low ∷ []) ++ number_bytes numbered n ++ piece set
+    ++ flat_map (further numbered) sets
 sets_packet numbered n sets unit = []
 
 -- a fragment's header: the unit's with type 49, and a byte of S, E and the unit's type (4.4.3)
 abbrev pub fragment_header : List ℕ → Bool → Bool → List ℕ
-fragment_header (high ∷ low ∷ unit) start end = with_type_and_f high 49 ∷ low ∷ (flag start 0x80 + flag end 0x40 + type_of high) ∷ []
+fragment_header (high ∷ low ∷ unit) start end = with_type_and_f high 49 ∷ low ∷
+    (flag start 0x80 + flag end 0x40 + type_of high) ∷ []
 fragment_header unit start end = []
 
--- the units of an aggregate behind the first, each behind the difference of its number and its length
+-- the units of an aggregate behind the first, each behind the difference of its number and its
+-- length
 abbrev pub further_units : ℕ → ℕ → List ℕ → List (List ℕ × Option ℕ)
 further_units zero n bytes = []
 further_units (suc most) n (difference ∷ high ∷ low ∷ bytes) =
     if nat_le (high * 256 + low) (length bytes)
-    then (take (high * 256 + low) bytes, Some ((n + difference + 1) % 65536)) ∷ further_units most ((n + difference + 1) % 65536) (drop (high * 256 + low) bytes)
+    then (take (high * 256 + low) bytes, Some ((n + difference + 1) % 65536)) ∷
+    further_units most ((n + difference + 1) % 65536) (drop (high * 256 + low) bytes)
     else []
 further_units (suc most) n bytes = []
 
-abbrev pub units_from : ℕ → List ℕ → List (List ℕ × Option ℕ)  -- the units of a numbered aggregate behind DONL
+-- the units of a numbered aggregate behind DONL
+abbrev pub units_from : ℕ → List ℕ → List (List ℕ × Option ℕ)
 units_from n (high ∷ low ∷ bytes) =
     if nat_le (high * 256 + low) (length bytes)
-    then (take (high * 256 + low) bytes, Some n) ∷ further_units (length bytes) n (drop (high * 256 + low) bytes)
+    then (take (high * 256 + low) bytes, Some n) ∷ further_units (length bytes) n
+    (drop (high * 256 + low) bytes)
     else []
 units_from n bytes = []
 
@@ -67,22 +76,29 @@ aggregate_of false bytes = two_or_more (map unnumbered (pieces_of bytes).whole)
 aggregate_of true (high ∷ low ∷ bytes) = two_or_more (units_from (high * 256 + low) bytes)
 aggregate_of true bytes = Refused ErrShortPacket
 
-abbrev pub fragment_of : Bool → Bool → ℕ → ℕ → ℕ → List ℕ → Reading  -- a fragment behind its header, by its S bit (4.4.3)
-fragment_of true true high low fu (d ∷ e ∷ b ∷ body) = Fragment true (is_set fu 6) (with_type high (field fu 5 0) ∷ low ∷ []) (Some (d * 256 + e)) (b ∷ body)
+-- a fragment behind its header, by its S bit (4.4.3)
+abbrev pub fragment_of : Bool → Bool → ℕ → ℕ → ℕ → List ℕ → Reading
+fragment_of true true high low fu (d ∷ e ∷ b ∷ body) = Fragment true (is_set fu 6)
+    (with_type high (field fu 5 0) ∷ low ∷ []) (Some (d * 256 + e)) (b ∷ body)
 fragment_of true true high low fu body = Refused ErrShortPacket
-fragment_of numbered start high low fu (b ∷ body) = Fragment start (is_set fu 6) (with_type high (field fu 5 0) ∷ low ∷ []) None (b ∷ body)
+fragment_of numbered start high low fu (b ∷ body) = Fragment start (is_set fu 6)
+    (with_type high (field fu 5 0) ∷ low ∷ []) None (b ∷ body)
 fragment_of numbered start high low fu body = Refused ErrShortPacket
 
--- the header that a PACI packet stands for: A as F, cType, and the packet's layer and temporal id (4.4.4; ours)
+-- the header that a PACI packet stands for: A as F, cType, and the packet's layer and temporal id
+-- (4.4.4; ours)
 abbrev pub paci_head : ℕ → ℕ → ℕ → List ℕ
-paci_head high low fields = (field fields 15 15 * 128 + with_type high (field fields 14 9)) ∷ low ∷ []
+paci_head high low fields = (field fields 15 15 * 128 + with_type high (field fields 14 9)) ∷ low ∷
+    []
 
 abbrev pub paci_behind : ℕ → ℕ → ℕ → List ℕ → List ℕ → Reading  -- a PACI whose extension ends here
 paci_behind high low fields extension [] = Refused ErrShortPacket
-paci_behind high low fields extension (b ∷ body) = Paci (paci_head high low fields) fields extension (b ∷ body)
+paci_behind high low fields extension (b ∷ body) = Paci (paci_head high low fields) fields extension
+    (b ∷ body)
 
 abbrev pub paci_of : ℕ → ℕ → List ℕ → Reading  -- a PACI behind its header (4.4.4)
-paci_of high low (a ∷ b ∷ bytes) = paci_behind high low (a * 256 + b) (take (field (a * 256 + b) 8 4) bytes) (drop (field (a * 256 + b) 8 4) bytes)
+paci_of high low (a ∷ b ∷ bytes) = paci_behind high low (a * 256 + b)
+    (take (field (a * 256 + b) 8 4) bytes) (drop (field (a * 256 + b) 8 4) bytes)
 paci_of high low bytes = Refused ErrShortPacket
 
 -- the same as the relation `IsReading` of the file beside this one, computed
@@ -97,21 +113,24 @@ read numbered packet = Refused ErrShortPacket
 
 -- a unit of three bytes or more with F clear and a type of its own
 abbrev pub carries : List ℕ → Bool
-carries (high ∷ low ∷ b ∷ unit) = nat_lt high 0x80 && (nat_lt (type_of high) 48 || nat_lt 50 (type_of high))
+carries (high ∷ low ∷ b ∷ unit) = nat_lt high 0x80
+    && (nat_lt (type_of high) 48 || nat_lt 50 (type_of high))
 carries unit = false
 
 abbrev pub has_key : CodecExtra → Bool  -- the H.265 variant with its flag true
 has_key (extras.H265 extra) = extra.is_keyframe
 has_key extra = false
 
--- Whether a key unit is known to stand in a packet, or to begin in it; numbers are not accounted for (the crate's rule).
+-- Whether a key unit is known to stand in a packet, or to begin in it; numbers are not accounted
+-- for (the crate's rule).
 abbrev pub detects_fragment : List ℕ → Bool
 detects_fragment [] = false
 detects_fragment (fu ∷ body) = is_set fu 7 && is_key_type (field fu 5 0)
 
 abbrev pub detects : List ℕ → Bool  -- whether a packet holds or begins a key unit
 detects (high ∷ low ∷ rest) =
-    if type_of high == 48 then list_any is_key (take_while (λ unit. nat_le 2 (length unit)) (pieces_of rest).whole)
+    if type_of high == 48 then list_any is_key (take_while (λ unit. nat_le 2 (length unit))
+    (pieces_of rest).whole)
     else if type_of high == 49 then detects_fragment rest
     else is_key_type (type_of high)
 detects packet = false

@@ -18,10 +18,12 @@ ghost use Rattle.h26x_core.specs.Text.{annex_b, text};
 ghost use Rattle.h26x_core.specs.Extra.{extra_after};
 ghost use Rattle.h265_payload.specs.H265.{h265};
 
-/// A unit of five bytes goes in three fragments at a limit of 4: the first starts it, the last ends it.
+/// A unit of five bytes goes in three fragments at a limit of 4: the first starts it, the last ends
+/// it.
 pub fn unit_in_fragments()
     ensures { packets_of_payload (h265 false) 4 (0x26 ∷ 0x01 ∷ 0xaa ∷ 0xbb ∷ 0xcc ∷ [])
-        ≡ (0x62 ∷ 0x01 ∷ 0x93 ∷ 0xaa ∷ []) ∷ (0x62 ∷ 0x01 ∷ 0x13 ∷ 0xbb ∷ []) ∷ (0x62 ∷ 0x01 ∷ 0x53 ∷ 0xcc ∷ []) ∷ [] }
+        ≡ (0x62 ∷ 0x01 ∷ 0x93 ∷ 0xaa ∷ []) ∷ (0x62 ∷ 0x01 ∷ 0x13 ∷ 0xbb ∷ []) ∷
+        (0x62 ∷ 0x01 ∷ 0x53 ∷ 0xcc ∷ []) ∷ [] }
 {}
 
 /// An mtu under 4 has no effect: nothing is sent.
@@ -32,22 +34,25 @@ pub fn small_mtu()
 /// No packet is longer than 1200 bytes, whatever the mtu.
 pub fn large_mtu()
     ensures { packets_of_payload (h265 false) 5000 (0x26 ∷ 0x01 ∷ replicate 1199 0xaa)
-        ≡ (0x62 ∷ 0x01 ∷ 0x93 ∷ replicate 1197 0xaa) ∷ (0x62 ∷ 0x01 ∷ 0x53 ∷ 0xaa ∷ 0xaa ∷ []) ∷ [] }
+        ≡ (0x62 ∷ 0x01 ∷ 0x93 ∷ replicate 1197 0xaa) ∷ (0x62 ∷ 0x01 ∷ 0x53 ∷ 0xaa ∷ 0xaa ∷ []) ∷
+        [] }
 {}
 
-/// A number counts against the limit: at 5 a unit of four bytes is dropped, since a first fragment would have no room for
-/// data, and one of three fits; at 6 the first fragment bears the number and one byte. A dropped unit takes no number.
+/// A number counts against the limit: at 5 a unit of four bytes is dropped, since a first fragment
+/// would have no room for data, and one of three fits; at 6 the first fragment bears the number and
+/// one byte. A dropped unit takes no number.
 pub fn numbers_take_room()
     ensures { packets_of (h265 true) 0 (
         call_at 5 (0x02 ∷ 0x01 ∷ 0xaa ∷ 0xbb ∷ []) ∷
         call_at 5 (0x02 ∷ 0x01 ∷ 0xaa ∷ []) ∷
         call_at 6 (0x02 ∷ 0x01 ∷ 0xaa ∷ 0xbb ∷ 0xcc ∷ []) ∷ [])
         ≡ (0x02 ∷ 0x01 ∷ 0x00 ∷ 0x00 ∷ 0xaa ∷ []) ∷
-        (0x62 ∷ 0x01 ∷ 0x81 ∷ 0x00 ∷ 0x01 ∷ 0xaa ∷ []) ∷ (0x62 ∷ 0x01 ∷ 0x41 ∷ 0xbb ∷ 0xcc ∷ []) ∷ [] }
+        (0x62 ∷ 0x01 ∷ 0x81 ∷ 0x00 ∷ 0x01 ∷ 0xaa ∷ []) ∷ (0x62 ∷ 0x01 ∷ 0x41 ∷ 0xbb ∷ 0xcc ∷ []) ∷
+        [] }
 {}
 
-/// A VPS, an SPS and a PPS before a key unit go in one aggregate where it is within the limit, and alone at one byte
-/// less; with numbers each set behind the first bears the difference 0.
+/// A VPS, an SPS and a PPS before a key unit go in one aggregate where it is within the limit, and
+/// alone at one byte less; with numbers each set behind the first bears the difference 0.
 pub fn sets_before_a_key_unit()
     ensures together { packets_of_payload (h265 false) 17 (
         0x00 ∷ 0x00 ∷ 0x01 ∷ 0x40 ∷ 0x01 ∷ 0x0c ∷
@@ -64,7 +69,8 @@ pub fn sets_before_a_key_unit()
         0x00 ∷ 0x00 ∷ 0x01 ∷ 0x42 ∷ 0x01 ∷ 0x01 ∷
         0x00 ∷ 0x00 ∷ 0x01 ∷ 0x44 ∷ 0x01 ∷ 0xc1 ∷
         0x00 ∷ 0x00 ∷ 0x01 ∷ 0x26 ∷ 0x01 ∷ 0xaf ∷ [])
-        ≡ (0x40 ∷ 0x01 ∷ 0x0c ∷ []) ∷ (0x42 ∷ 0x01 ∷ 0x01 ∷ []) ∷ (0x44 ∷ 0x01 ∷ 0xc1 ∷ []) ∷ (0x26 ∷ 0x01 ∷ 0xaf ∷ []) ∷ [] }
+        ≡ (0x40 ∷ 0x01 ∷ 0x0c ∷ []) ∷ (0x42 ∷ 0x01 ∷ 0x01 ∷ []) ∷ (0x44 ∷ 0x01 ∷ 0xc1 ∷ []) ∷
+        (0x26 ∷ 0x01 ∷ 0xaf ∷ []) ∷ [] }
     ensures numbered { packets_of_payload (h265 true) 100 (
         0x00 ∷ 0x00 ∷ 0x01 ∷ 0x40 ∷ 0x01 ∷ 0x0c ∷
         0x00 ∷ 0x00 ∷ 0x01 ∷ 0x42 ∷ 0x01 ∷ 0x01 ∷
@@ -86,14 +92,19 @@ pub fn dropped_set_takes_no_number()
         ≡ (0x44 ∷ 0x01 ∷ 0x00 ∷ 0x00 ∷ 0xc1 ∷ []) ∷ (0x26 ∷ 0x01 ∷ 0x00 ∷ 0x01 ∷ 0xaf ∷ []) ∷ [] }
 {}
 
-/// Packets that are refused as too short: an aggregate of one unit and a rest, a fragment without data, a PACI without
-/// a payload, and with numbers a unit and a start without data behind the number.
+/// Packets that are refused as too short: an aggregate of one unit and a rest, a fragment without
+/// data, a PACI without a payload, and with numbers a unit and a start without data behind the
+/// number.
 pub fn short_packets()
-    ensures aggregate { (h265 false).read (0x60 ∷ 0x01 ∷ 0x00 ∷ 0x03 ∷ 0x02 ∷ 0x01 ∷ 0xaa ∷ 0x00 ∷ 0x09 ∷ 0x02 ∷ []) ≡ Refused ErrShortPacket }
+    ensures aggregate { (h265 false).read (0x60 ∷ 0x01 ∷ 0x00 ∷ 0x03 ∷ 0x02 ∷ 0x01 ∷ 0xaa ∷ 0x00 ∷
+        0x09 ∷ 0x02 ∷ []) ≡ Refused ErrShortPacket }
     ensures fragment { (h265 false).read (0x62 ∷ 0x01 ∷ 0x93 ∷ []) ≡ Refused ErrShortPacket }
-    ensures paci { (h265 false).read (0x64 ∷ 0x01 ∷ 0x26 ∷ 0x38 ∷ 0x11 ∷ 0x22 ∷ 0x33 ∷ []) ≡ Refused ErrShortPacket }
-    ensures numbered_unit { (h265 true).read (0x02 ∷ 0x01 ∷ 0x00 ∷ 0x05 ∷ []) ≡ Refused ErrShortPacket }
-    ensures numbered_start { (h265 true).read (0x62 ∷ 0x01 ∷ 0x93 ∷ 0x00 ∷ 0x07 ∷ []) ≡ Refused ErrShortPacket }
+    ensures paci { (h265 false).read (0x64 ∷ 0x01 ∷ 0x26 ∷ 0x38 ∷ 0x11 ∷ 0x22 ∷ 0x33 ∷
+        []) ≡ Refused ErrShortPacket }
+    ensures numbered_unit { (h265 true).read (0x02 ∷ 0x01 ∷ 0x00 ∷ 0x05 ∷
+        []) ≡ Refused ErrShortPacket }
+    ensures numbered_start { (h265 true).read (0x62 ∷ 0x01 ∷ 0x93 ∷ 0x00 ∷ 0x07 ∷
+        []) ≡ Refused ErrShortPacket }
 {}
 
 /// A packet with F set is corrupted.
@@ -103,25 +114,30 @@ pub fn forbidden_bit()
 
 /// What is left behind the whole units of an aggregate is left out.
 pub fn rest_of_an_aggregate()
-    ensures { (h265 false).read (0x60 ∷ 0x01 ∷ 0x00 ∷ 0x03 ∷ 0x02 ∷ 0x01 ∷ 0xaa ∷ 0x00 ∷ 0x02 ∷ 0x02 ∷ 0x01 ∷ 0x00 ∷ 0x09 ∷ 0x02 ∷ [])
+    ensures { (h265 false).read (0x60 ∷ 0x01 ∷ 0x00 ∷ 0x03 ∷ 0x02 ∷ 0x01 ∷ 0xaa ∷ 0x00 ∷ 0x02 ∷
+        0x02 ∷ 0x01 ∷ 0x00 ∷ 0x09 ∷ 0x02 ∷ [])
         ≡ Aggregate ((0x02 ∷ 0x01 ∷ 0xaa ∷ [], None) ∷ (0x02 ∷ 0x01 ∷ [], None) ∷ []) }
 {}
 
 /// The numbers of an aggregate go round: 65535 and, with a difference of 1 and one more, 1.
 pub fn numbers_go_round()
-    ensures numbers { (h265 true).read (0x60 ∷ 0x01 ∷ 0xff ∷ 0xff ∷ 0x00 ∷ 0x02 ∷ 0x02 ∷ 0x01 ∷ 0x01 ∷ 0x00 ∷ 0x03 ∷ 0x26 ∷ 0x01 ∷ 0xaf ∷ [])
+    ensures numbers { (h265 true).read (0x60 ∷ 0x01 ∷ 0xff ∷ 0xff ∷ 0x00 ∷ 0x02 ∷ 0x02 ∷ 0x01 ∷
+        0x01 ∷ 0x00 ∷ 0x03 ∷ 0x26 ∷ 0x01 ∷ 0xaf ∷ [])
         ≡ Aggregate ((0x02 ∷ 0x01 ∷ [], Some 65535) ∷ (0x26 ∷ 0x01 ∷ 0xaf ∷ [], Some 1) ∷ []) }
     ensures key { extra_after (h265 true) extras.None (received (map (h265 true).read (
-        (0x60 ∷ 0x01 ∷ 0xff ∷ 0xff ∷ 0x00 ∷ 0x02 ∷ 0x02 ∷ 0x01 ∷ 0x01 ∷ 0x00 ∷ 0x03 ∷ 0x26 ∷ 0x01 ∷ 0xaf ∷ []) ∷ [])))
+        (0x60 ∷ 0x01 ∷ 0xff ∷ 0xff ∷ 0x00 ∷ 0x02 ∷ 0x02 ∷ 0x01 ∷ 0x01 ∷ 0x00 ∷ 0x03 ∷ 0x26 ∷ 0x01 ∷
+        0xaf ∷ []) ∷ [])))
         ≡ (h265 true).extra true }
 {}
 
-/// A PACI stands for the unit that has its cType and its payload; its extension is left out. A cType of an aggregate
-/// is a unit's type like every other.
+/// A PACI stands for the unit that has its cType and its payload; its extension is left out. A
+/// cType of an aggregate is a unit's type like every other.
 pub fn paci_stands_for_a_unit()
-    ensures extension { received (map (h265 false).read ((0x64 ∷ 0x01 ∷ 0x26 ∷ 0x38 ∷ 0x11 ∷ 0x22 ∷ 0x33 ∷ 0xaa ∷ []) ∷ []))
+    ensures extension { received (map (h265 false).read ((0x64 ∷ 0x01 ∷ 0x26 ∷ 0x38 ∷ 0x11 ∷ 0x22 ∷
+        0x33 ∷ 0xaa ∷ []) ∷ []))
         ≡ (0x26 ∷ 0x01 ∷ 0xaa ∷ []) ∷ [] }
-    ensures aggregate_type { received (map (h265 false).read ((0x64 ∷ 0x01 ∷ 0x60 ∷ 0x00 ∷ 0xaa ∷ []) ∷ [])) ≡ (0x60 ∷ 0x01 ∷ 0xaa ∷ []) ∷ [] }
+    ensures aggregate_type { received (map (h265 false).read ((0x64 ∷ 0x01 ∷ 0x60 ∷ 0x00 ∷ 0xaa ∷
+        []) ∷ [])) ≡ (0x60 ∷ 0x01 ∷ 0xaa ∷ []) ∷ [] }
     ensures no_key { extra_after (h265 false) extras.None (received (map (h265 false).read (
         (0x64 ∷ 0x01 ∷ 0x60 ∷ 0x00 ∷ 0xaa ∷ []) ∷ [])))
         ≡ (h265 false).extra false }
@@ -137,7 +153,8 @@ pub fn run_through_other_packets()
         (0x60 ∷ 0x01 ∷ 0x00 ∷ 0x03 ∷ 0x02 ∷ 0x01 ∷ 0xbb ∷ 0x00 ∷ 0x03 ∷ 0x02 ∷ 0x01 ∷ 0xcc ∷ []) ∷
         (0x64 ∷ 0x01 ∷ 0x02 ∷ 0x00 ∷ 0xdd ∷ []) ∷
         (0x62 ∷ 0x01 ∷ 0x53 ∷ 0xee ∷ []) ∷ []))
-        ≡ (0x02 ∷ 0x01 ∷ 0xbb ∷ []) ∷ (0x02 ∷ 0x01 ∷ 0xcc ∷ []) ∷ (0x02 ∷ 0x01 ∷ 0xdd ∷ []) ∷ (0x26 ∷ 0x01 ∷ 0xaa ∷ 0xee ∷ []) ∷ [] }
+        ≡ (0x02 ∷ 0x01 ∷ 0xbb ∷ []) ∷ (0x02 ∷ 0x01 ∷ 0xcc ∷ []) ∷ (0x02 ∷ 0x01 ∷ 0xdd ∷ []) ∷
+        (0x26 ∷ 0x01 ∷ 0xaa ∷ 0xee ∷ []) ∷ [] }
     ensures key { extra_after (h265 false) extras.None (received (map (h265 false).read (
         (0x62 ∷ 0x01 ∷ 0x93 ∷ 0xaa ∷ []) ∷
         (0x60 ∷ 0x01 ∷ 0x00 ∷ 0x03 ∷ 0x02 ∷ 0x01 ∷ 0xbb ∷ 0x00 ∷ 0x03 ∷ 0x02 ∷ 0x01 ∷ 0xcc ∷ []) ∷
@@ -154,30 +171,40 @@ pub fn key_unit_detected()
 
 /// How many packets a unit of eight bytes takes, at each limit up to 10.
 pub fn packets_by_limit()
-    ensures plain { map (λ mtu. length (packets_of_payload (h265 false) mtu (0x02 ∷ 0x01 ∷ 0x01 ∷ 0x02 ∷ 0x03 ∷ 0x04 ∷ 0x05 ∷ 0x06 ∷ []))) (range_with_len 0 11)
+    ensures plain { map (λ mtu. length (packets_of_payload (h265 false) mtu (0x02 ∷ 0x01 ∷ 0x01 ∷
+        0x02 ∷ 0x03 ∷ 0x04 ∷ 0x05 ∷ 0x06 ∷ []))) (range_with_len 0 11)
         ≡ 0 ∷ 0 ∷ 0 ∷ 0 ∷ 6 ∷ 3 ∷ 2 ∷ 2 ∷ 1 ∷ 1 ∷ 1 ∷ [] }
-    ensures numbered { map (λ mtu. length (packets_of_payload (h265 true) mtu (0x02 ∷ 0x01 ∷ 0x01 ∷ 0x02 ∷ 0x03 ∷ 0x04 ∷ 0x05 ∷ 0x06 ∷ []))) (range_with_len 0 11)
+    ensures numbered { map (λ mtu. length (packets_of_payload (h265 true) mtu (0x02 ∷ 0x01 ∷ 0x01 ∷
+        0x02 ∷ 0x03 ∷ 0x04 ∷ 0x05 ∷ 0x06 ∷ []))) (range_with_len 0 11)
         ≡ 0 ∷ 0 ∷ 0 ∷ 0 ∷ 0 ∷ 0 ∷ 3 ∷ 2 ∷ 2 ∷ 2 ∷ 1 ∷ [] }
 {}
 
 /// An aggregate that is cut anywhere holds fewer than two units; units may be empty.
 pub fn cut_and_empty_units()
-    ensures cut { map (λ n. (h265 false).read (take n (0x60 ∷ 0x01 ∷ 0x00 ∷ 0x03 ∷ 0x02 ∷ 0x01 ∷ 0xaa ∷ 0x00 ∷ 0x02 ∷ 0x02 ∷ 0x01 ∷ []))) (range_with_len 0 11)
+    ensures cut { map (λ n. (h265 false).read (take n (0x60 ∷ 0x01 ∷ 0x00 ∷ 0x03 ∷ 0x02 ∷ 0x01 ∷
+        0xaa ∷ 0x00 ∷ 0x02 ∷ 0x02 ∷ 0x01 ∷ []))) (range_with_len 0 11)
         ≡ replicate 11 (Refused ErrShortPacket) }
-    ensures whole { received (map (h265 false).read ((0x60 ∷ 0x01 ∷ 0x00 ∷ 0x03 ∷ 0x02 ∷ 0x01 ∷ 0xaa ∷ 0x00 ∷ 0x02 ∷ 0x02 ∷ 0x01 ∷ []) ∷ []))
+    ensures whole { received (map (h265 false).read ((0x60 ∷ 0x01 ∷ 0x00 ∷ 0x03 ∷ 0x02 ∷ 0x01 ∷
+        0xaa ∷ 0x00 ∷ 0x02 ∷ 0x02 ∷ 0x01 ∷ []) ∷ []))
         ≡ (0x02 ∷ 0x01 ∷ 0xaa ∷ []) ∷ (0x02 ∷ 0x01 ∷ []) ∷ [] }
-    ensures empty { text false (received (map (h265 false).read ((0x60 ∷ 0x01 ∷ 0x00 ∷ 0x00 ∷ 0x00 ∷ 0x00 ∷ []) ∷ [])))
+    ensures empty { text false (received (map (h265 false).read ((0x60 ∷ 0x01 ∷ 0x00 ∷ 0x00 ∷ 0x00 ∷
+        0x00 ∷ []) ∷ [])))
         ≡ 0x00 ∷ 0x00 ∷ 0x00 ∷ 0x01 ∷ 0x00 ∷ 0x00 ∷ 0x00 ∷ 0x01 ∷ [] }
-    ensures nothing_told { extra_after (h265 false) extras.None (received (map (h265 false).read ((0x60 ∷ 0x01 ∷ 0x00 ∷ 0x00 ∷ 0x00 ∷ 0x00 ∷ []) ∷ [])))
+    ensures nothing_told { extra_after (h265 false) extras.None
+        (received (map (h265 false).read ((0x60 ∷ 0x01 ∷ 0x00 ∷ 0x00 ∷ 0x00 ∷ 0x00 ∷ []) ∷ [])))
         ≡ extras.None }
-    ensures numbered { received (map (h265 true).read ((0x60 ∷ 0x01 ∷ 0x00 ∷ 0x00 ∷ 0x00 ∷ 0x00 ∷ 0x00 ∷ 0x00 ∷ 0x00 ∷ []) ∷ [])) ≡ [] ∷ [] ∷ [] }
-    ensures numbered_cut { (h265 true).read (0x60 ∷ 0x01 ∷ 0x00 ∷ 0x00 ∷ 0x00 ∷ 0x00 ∷ 0x00 ∷ 0x00 ∷ []) ≡ Refused ErrShortPacket }
+    ensures numbered { received (map (h265 true).read ((0x60 ∷ 0x01 ∷ 0x00 ∷ 0x00 ∷ 0x00 ∷ 0x00 ∷
+        0x00 ∷ 0x00 ∷ 0x00 ∷ []) ∷ [])) ≡ [] ∷ [] ∷ [] }
+    ensures numbered_cut { (h265 true).read (0x60 ∷ 0x01 ∷ 0x00 ∷ 0x00 ∷ 0x00 ∷ 0x00 ∷ 0x00 ∷ 0x00 ∷
+        []) ≡ Refused ErrShortPacket }
 {}
 
 /// A number stands behind a unit's header, and in the first fragment alone.
 pub fn numbers_of_units()
-    ensures unit { (h265 true).read (0x02 ∷ 0x01 ∷ 0x00 ∷ 0x05 ∷ 0xaa ∷ []) ≡ Single (0x02 ∷ 0x01 ∷ 0xaa ∷ []) (Some 5) }
-    ensures fragments { received (map (h265 true).read ((0x62 ∷ 0x01 ∷ 0x93 ∷ 0x00 ∷ 0x07 ∷ 0xaa ∷ []) ∷ (0x62 ∷ 0x01 ∷ 0x53 ∷ 0xbb ∷ []) ∷ []))
+    ensures unit { (h265 true).read (0x02 ∷ 0x01 ∷ 0x00 ∷ 0x05 ∷ 0xaa ∷ []) ≡ Single (0x02 ∷ 0x01 ∷
+        0xaa ∷ []) (Some 5) }
+    ensures fragments { received (map (h265 true).read ((0x62 ∷ 0x01 ∷ 0x93 ∷ 0x00 ∷ 0x07 ∷ 0xaa ∷
+        []) ∷ (0x62 ∷ 0x01 ∷ 0x53 ∷ 0xbb ∷ []) ∷ []))
         ≡ (0x26 ∷ 0x01 ∷ 0xaa ∷ 0xbb ∷ []) ∷ [] }
 {}
 
@@ -191,18 +218,21 @@ pub fn refusals_within_a_run()
         ≡ (0x26 ∷ 0x01 ∷ 0xaa ∷ 0xbb ∷ []) ∷ [] }
 {}
 
-/// Where a set was dropped for its size, what was sent is not what is sent of it again: the other set waits.
+/// Where a set was dropped for its size, what was sent is not what is sent of it again: the other
+/// set waits.
 pub fn sets_sent_again()
     ensures first { packets_of (h265 false) 0 (
         call_at 4 (0x42 ∷ 0x01 ∷ 0x01 ∷ 0x02 ∷ 0x03 ∷ []) ∷
         call_at 4 (0x44 ∷ 0x01 ∷ 0xc1 ∷ []) ∷
         call_at 4 (0x02 ∷ 0x01 ∷ 0xaa ∷ []) ∷ [])
         ≡ (0x44 ∷ 0x01 ∷ 0xc1 ∷ []) ∷ (0x02 ∷ 0x01 ∷ 0xaa ∷ []) ∷ [] }
-    ensures again { packets_of_payload (h265 false) 4 (annex_b ((0x44 ∷ 0x01 ∷ 0xc1 ∷ []) ∷ (0x02 ∷ 0x01 ∷ 0xaa ∷ []) ∷ []))
+    ensures again { packets_of_payload (h265 false) 4 (annex_b ((0x44 ∷ 0x01 ∷ 0xc1 ∷ []) ∷
+        (0x02 ∷ 0x01 ∷ 0xaa ∷ []) ∷ []))
         ≡ (0x02 ∷ 0x01 ∷ 0xaa ∷ []) ∷ [] }
 {}
 
-/// Sets go once, before the first unit that they are due for: a VPS does not go again with later sets.
+/// Sets go once, before the first unit that they are due for: a VPS does not go again with later
+/// sets.
 pub fn sets_go_once()
     ensures once { packets_of_payload (h265 false) 100 (
         0x00 ∷ 0x00 ∷ 0x01 ∷ 0x42 ∷ 0x01 ∷ 0x01 ∷
@@ -220,7 +250,8 @@ pub fn sets_go_once()
         0x00 ∷ 0x00 ∷ 0x01 ∷ 0x42 ∷ 0x01 ∷ 0x01 ∷
         0x00 ∷ 0x00 ∷ 0x01 ∷ 0x44 ∷ 0x01 ∷ 0xc1 ∷
         0x00 ∷ 0x00 ∷ 0x01 ∷ 0x26 ∷ 0x01 ∷ 0xaf ∷ [])
-        ≡ (0x60 ∷ 0x01 ∷ 0x00 ∷ 0x03 ∷ 0x40 ∷ 0x01 ∷ 0x0c ∷ 0x00 ∷ 0x03 ∷ 0x42 ∷ 0x01 ∷ 0x01 ∷ 0x00 ∷ 0x03 ∷ 0x44 ∷ 0x01 ∷ 0xc1 ∷ []) ∷
+        ≡ (0x60 ∷ 0x01 ∷ 0x00 ∷ 0x03 ∷ 0x40 ∷ 0x01 ∷ 0x0c ∷ 0x00 ∷ 0x03 ∷ 0x42 ∷ 0x01 ∷ 0x01 ∷
+        0x00 ∷ 0x03 ∷ 0x44 ∷ 0x01 ∷ 0xc1 ∷ []) ∷
         (0x26 ∷ 0x01 ∷ 0xaf ∷ []) ∷
         (0x60 ∷ 0x01 ∷ 0x00 ∷ 0x03 ∷ 0x42 ∷ 0x01 ∷ 0x01 ∷ 0x00 ∷ 0x03 ∷ 0x44 ∷ 0x01 ∷ 0xc1 ∷ []) ∷
         (0x26 ∷ 0x01 ∷ 0xaf ∷ []) ∷ [] }
@@ -243,14 +274,16 @@ pub fn one_number_a_unit()
         (0x02 ∷ 0x01 ∷ 0x00 ∷ 0x01 ∷ 0xaa ∷ []) ∷ [] }
 {}
 
-/// Numbers and differences count in an aggregate: three sets of three bytes take 21 of them, and go alone at 20.
+/// Numbers and differences count in an aggregate: three sets of three bytes take 21 of them, and go
+/// alone at 20.
 pub fn numbers_take_room_in_an_aggregate()
     ensures at_21 { packets_of_payload (h265 true) 21 (
         0x00 ∷ 0x00 ∷ 0x01 ∷ 0x40 ∷ 0x01 ∷ 0x0c ∷
         0x00 ∷ 0x00 ∷ 0x01 ∷ 0x42 ∷ 0x01 ∷ 0x01 ∷
         0x00 ∷ 0x00 ∷ 0x01 ∷ 0x44 ∷ 0x01 ∷ 0xc1 ∷
         0x00 ∷ 0x00 ∷ 0x01 ∷ 0x26 ∷ 0x01 ∷ 0xaf ∷ [])
-        ≡ (0x60 ∷ 0x01 ∷ 0x00 ∷ 0x00 ∷ 0x00 ∷ 0x03 ∷ 0x40 ∷ 0x01 ∷ 0x0c ∷ 0x00 ∷ 0x00 ∷ 0x03 ∷ 0x42 ∷ 0x01 ∷ 0x01 ∷ 0x00 ∷ 0x00 ∷ 0x03 ∷ 0x44 ∷ 0x01 ∷ 0xc1 ∷ []) ∷
+        ≡ (0x60 ∷ 0x01 ∷ 0x00 ∷ 0x00 ∷ 0x00 ∷ 0x03 ∷ 0x40 ∷ 0x01 ∷ 0x0c ∷ 0x00 ∷ 0x00 ∷ 0x03 ∷
+        0x42 ∷ 0x01 ∷ 0x01 ∷ 0x00 ∷ 0x00 ∷ 0x03 ∷ 0x44 ∷ 0x01 ∷ 0xc1 ∷ []) ∷
         (0x26 ∷ 0x01 ∷ 0x00 ∷ 0x03 ∷ 0xaf ∷ []) ∷ [] }
     ensures at_20 { packets_of_payload (h265 true) 20 (
         0x00 ∷ 0x00 ∷ 0x01 ∷ 0x40 ∷ 0x01 ∷ 0x0c ∷
@@ -272,9 +305,11 @@ pub fn units_not_sent()
         ≡ (0x02 ∷ 0x01 ∷ 0xaa ∷ []) ∷ [] }
 {}
 
-/// Packets have F, layer and temporal id of their unit, in fragments and in the aggregate before it.
+/// Packets have F, layer and temporal id of their unit, in fragments and in the aggregate before
+/// it.
 pub fn headers_of_packets()
-    ensures fragments { packets_of_payload (h265 false) 5 (0xa7 ∷ 0x0a ∷ 0xaa ∷ 0xbb ∷ 0xcc ∷ 0xdd ∷ [])
+    ensures fragments { packets_of_payload (h265 false) 5 (0xa7 ∷ 0x0a ∷ 0xaa ∷ 0xbb ∷ 0xcc ∷ 0xdd ∷
+        [])
         ≡ (0xe3 ∷ 0x0a ∷ 0x93 ∷ 0xaa ∷ 0xbb ∷ []) ∷
         (0xe3 ∷ 0x0a ∷ 0x53 ∷ 0xcc ∷ 0xdd ∷ []) ∷ [] }
     ensures aggregate { packets_of_payload (h265 false) 100 (
@@ -309,40 +344,51 @@ pub fn key_types_detected()
 
 /// A start code takes all zeros before it.
 pub fn zeros_before_a_start_code()
-    ensures { packets_of_payload (h265 false) 1200 (0x00 ∷ 0x00 ∷ 0x01 ∷ 0x00 ∷ 0x09 ∷ 0xaa ∷ 0x00 ∷ 0x00 ∷ 0x00 ∷ 0x00 ∷ 0x01 ∷ 0x00 ∷ 0x11 ∷ 0xbb ∷ []) ≡ (0x00 ∷ 0x09 ∷ 0xaa ∷ []) ∷
+    ensures { packets_of_payload (h265 false) 1200 (0x00 ∷ 0x00 ∷ 0x01 ∷ 0x00 ∷ 0x09 ∷ 0xaa ∷ 0x00 ∷
+        0x00 ∷ 0x00 ∷ 0x00 ∷ 0x01 ∷ 0x00 ∷ 0x11 ∷ 0xbb ∷ []) ≡ (0x00 ∷ 0x09 ∷ 0xaa ∷ []) ∷
         (0x00 ∷ 0x11 ∷ 0xbb ∷ []) ∷ [] }
 {}
 
 /// A PACI bears no number, and stands for a unit with its A as F, and its layer and temporal id.
 pub fn headers_of_a_paci()
-    ensures numbered { received (map (h265 true).read ((0x64 ∷ 0x01 ∷ 0x60 ∷ 0x00 ∷ 0xaa ∷ []) ∷ [])) ≡ (0x60 ∷ 0x01 ∷ 0xaa ∷ []) ∷ [] }
-    ensures header { received (map (h265 false).read ((0x65 ∷ 0x0a ∷ 0xa6 ∷ 0x00 ∷ 0xbb ∷ []) ∷ [])) ≡ (0xa7 ∷ 0x0a ∷ 0xbb ∷ []) ∷ [] }
+    ensures numbered { received (map (h265 true).read ((0x64 ∷ 0x01 ∷ 0x60 ∷ 0x00 ∷ 0xaa ∷ []) ∷
+        [])) ≡ (0x60 ∷ 0x01 ∷ 0xaa ∷ []) ∷ [] }
+    ensures header { received (map (h265 false).read ((0x65 ∷ 0x0a ∷ 0xa6 ∷ 0x00 ∷ 0xbb ∷ []) ∷ []))
+        ≡ (0xa7 ∷ 0x0a ∷ 0xbb ∷ []) ∷ [] }
 {}
 
-/// Units of every type but the delimiter's are sent, of the packets' own types too; types from 51 on are units to read.
+/// Units of every type but the delimiter's are sent, of the packets' own types too; types from 51
+/// on are units to read.
 pub fn units_of_other_types()
     ensures sent { packets_of_payload (h265 false) 100 (
         0x00 ∷ 0x00 ∷ 0x01 ∷ 0x60 ∷ 0x01 ∷ 0xaa ∷
         0x00 ∷ 0x00 ∷ 0x01 ∷ 0x4c ∷ 0x01 ∷ 0xff ∷ 0x80 ∷ [])
         ≡ (0x60 ∷ 0x01 ∷ 0xaa ∷ []) ∷
         (0x4c ∷ 0x01 ∷ 0xff ∷ 0x80 ∷ []) ∷ [] }
-    ensures read { (h265 false).read (0x66 ∷ 0x01 ∷ 0xaa ∷ []) ≡ Single (0x66 ∷ 0x01 ∷ 0xaa ∷ []) None }
+    ensures read { (h265 false).read (0x66 ∷ 0x01 ∷ 0xaa ∷ []) ≡ Single (0x66 ∷ 0x01 ∷ 0xaa ∷
+        []) None }
 {}
 
 /// Two bytes are too short, whatever they are; three with F set are corrupted.
 pub fn short_before_corrupted()
     ensures short { (h265 false).read (0x02 ∷ 0x01 ∷ []) ≡ Refused ErrShortPacket }
     ensures short_first { (h265 false).read (0xe2 ∷ 0x01 ∷ []) ≡ Refused ErrShortPacket }
-    ensures corrupted { (h265 false).read (0xe2 ∷ 0x01 ∷ 0x93 ∷ []) ≡ Refused ErrH265CorruptedPacket }
+    ensures corrupted { (h265 false).read (0xe2 ∷ 0x01 ∷ 0x93 ∷
+        []) ≡ Refused ErrH265CorruptedPacket }
 {}
 
-/// In an aggregate F of a unit is not looked at, and with numbers too a rest without a whole unit is left out; a unit of
-/// one byte is told of by nothing.
+/// In an aggregate F of a unit is not looked at, and with numbers too a rest without a whole unit
+/// is left out; a unit of one byte is told of by nothing.
 pub fn units_of_an_aggregate()
-    ensures forbidden { received (map (h265 false).read ((0x60 ∷ 0x01 ∷ 0x00 ∷ 0x02 ∷ 0x82 ∷ 0x01 ∷ 0x00 ∷ 0x02 ∷ 0x02 ∷ 0x01 ∷ []) ∷ [])) ≡ (0x82 ∷ 0x01 ∷ []) ∷
+    ensures forbidden { received (map (h265 false).read ((0x60 ∷ 0x01 ∷ 0x00 ∷ 0x02 ∷ 0x82 ∷ 0x01 ∷
+        0x00 ∷ 0x02 ∷ 0x02 ∷ 0x01 ∷ []) ∷ [])) ≡ (0x82 ∷ 0x01 ∷ []) ∷
         (0x02 ∷ 0x01 ∷ []) ∷ [] }
-    ensures rest { (h265 true).read (0x60 ∷ 0x01 ∷ 0x00 ∷ 0x05 ∷ 0x00 ∷ 0x02 ∷ 0x02 ∷ 0x01 ∷ 0x00 ∷ 0x00 ∷ 0x02 ∷ 0x04 ∷ 0x01 ∷ 0x00 ∷ 0x00 ∷ []) ≡ Aggregate ((0x02 ∷ 0x01 ∷ [], Some 5) ∷ (0x04 ∷ 0x01 ∷ [], Some 6) ∷ []) }
-    ensures one_byte { extra_after (h265 false) extras.None (received (map (h265 false).read ((0x60 ∷ 0x01 ∷ 0x00 ∷ 0x01 ∷ 0x26 ∷ 0x00 ∷ 0x01 ∷ 0x26 ∷ []) ∷ []))) ≡ extras.None }
+    ensures rest { (h265 true).read (0x60 ∷ 0x01 ∷ 0x00 ∷ 0x05 ∷ 0x00 ∷ 0x02 ∷ 0x02 ∷ 0x01 ∷ 0x00 ∷
+        0x00 ∷ 0x02 ∷ 0x04 ∷ 0x01 ∷ 0x00 ∷ 0x00 ∷ []) ≡ Aggregate ((0x02 ∷ 0x01 ∷ [], Some 5) ∷
+        (0x04 ∷ 0x01 ∷ [], Some 6) ∷ []) }
+    ensures one_byte { extra_after (h265 false) extras.None
+        (received (map (h265 false).read ((0x60 ∷ 0x01 ∷ 0x00 ∷ 0x01 ∷ 0x26 ∷ 0x00 ∷ 0x01 ∷ 0x26 ∷
+        []) ∷ []))) ≡ extras.None }
 {}
 
 /// A unit in fragments has the header of its end.
@@ -351,7 +397,8 @@ pub fn header_of_the_end()
         (0x62 ∷ 0x02 ∷ 0x41 ∷ 0xbb ∷ []) ∷ [])) ≡ (0x02 ∷ 0x02 ∷ 0xaa ∷ 0xbb ∷ []) ∷ [] }
 {}
 
-/// Detection looks no further than it needs: two bytes of a unit, three of a fragment, and lengths within an aggregate.
+/// Detection looks no further than it needs: two bytes of a unit, three of a fragment, and lengths
+/// within an aggregate.
 pub fn detection_of_short_packets()
     ensures { map (h265 false).detects (
         (0x26 ∷ 0x01 ∷ []) ∷
@@ -470,25 +517,31 @@ pub fn nothing_dropped()
         (entries_at 5 ((0x26 ∷ 0x01 ∷ 0xaf ∷ 0xbb ∷ []) ∷ [])) → ⊥ }
 {}
 
-/// A unit with F set, and one of an aggregate's type, go in fragments too: the first alone starts it, the last alone ends it.
+/// A unit with F set, and one of an aggregate's type, go in fragments too: the first alone starts
+/// it, the last alone ends it.
 pub fn fragments_of_units_that_are_not_carried()
     ensures forbidden { packets_of_payload (h265 false) 4 (0xa6 ∷ 0x01 ∷ 0xaa ∷ 0xbb ∷ 0xcc ∷ [])
-        ≡ (0xe2 ∷ 0x01 ∷ 0x93 ∷ 0xaa ∷ []) ∷ (0xe2 ∷ 0x01 ∷ 0x13 ∷ 0xbb ∷ []) ∷ (0xe2 ∷ 0x01 ∷ 0x53 ∷ 0xcc ∷ []) ∷ [] }
+        ≡ (0xe2 ∷ 0x01 ∷ 0x93 ∷ 0xaa ∷ []) ∷ (0xe2 ∷ 0x01 ∷ 0x13 ∷ 0xbb ∷ []) ∷
+        (0xe2 ∷ 0x01 ∷ 0x53 ∷ 0xcc ∷ []) ∷ [] }
     ensures aggregate { packets_of_payload (h265 false) 4 (0x60 ∷ 0x01 ∷ 0xaa ∷ 0xbb ∷ 0xcc ∷ [])
-        ≡ (0x62 ∷ 0x01 ∷ 0xb0 ∷ 0xaa ∷ []) ∷ (0x62 ∷ 0x01 ∷ 0x30 ∷ 0xbb ∷ []) ∷ (0x62 ∷ 0x01 ∷ 0x70 ∷ 0xcc ∷ []) ∷ [] }
+        ≡ (0x62 ∷ 0x01 ∷ 0xb0 ∷ 0xaa ∷ []) ∷ (0x62 ∷ 0x01 ∷ 0x30 ∷ 0xbb ∷ []) ∷
+        (0x62 ∷ 0x01 ∷ 0x70 ∷ 0xcc ∷ []) ∷ [] }
 {}
 
-/// The limit is the lesser of the mtu and the largest packet size as the call is made: sets of 1302 and 3 bytes go together
-/// at 1400, each alone at 1310, and the first is dropped at 1200. That of the last call counts, which brings the other unit.
+/// The limit is the lesser of the mtu and the largest packet size as the call is made: sets of 1302
+/// and 3 bytes go together at 1400, each alone at 1310, and the first is dropped at 1200. That of
+/// the last call counts, which brings the other unit.
 pub fn largest_packet_sizes()
     ensures together { map length (packets_of (h265 false) 0 (
         record { mtu = 5000; largest = 1400; payload = 0x42 ∷ 0x01 ∷ replicate 1300 0xaa } ∷
         record { mtu = 5000; largest = 1400; payload = 0x44 ∷ 0x01 ∷ 0xc1 ∷ [] } ∷
-        record { mtu = 5000; largest = 1400; payload = 0x26 ∷ 0x01 ∷ 0xaf ∷ [] } ∷ [])) ≡ 1311 ∷ 3 ∷ [] }
+        record { mtu = 5000; largest = 1400; payload = 0x26 ∷ 0x01 ∷ 0xaf ∷ [] } ∷ [])) ≡ 1311 ∷ 3 ∷
+        [] }
     ensures each_alone { map length (packets_of (h265 false) 0 (
         record { mtu = 5000; largest = 1310; payload = 0x42 ∷ 0x01 ∷ replicate 1300 0xaa } ∷
         record { mtu = 5000; largest = 1310; payload = 0x44 ∷ 0x01 ∷ 0xc1 ∷ [] } ∷
-        record { mtu = 5000; largest = 1310; payload = 0x26 ∷ 0x01 ∷ 0xaf ∷ [] } ∷ [])) ≡ 1302 ∷ 3 ∷ 3 ∷ [] }
+        record { mtu = 5000; largest = 1310; payload = 0x26 ∷ 0x01 ∷ 0xaf ∷ [] } ∷ [])) ≡ 1302 ∷ 3 ∷
+        3 ∷ [] }
     ensures one_dropped { packets_of (h265 false) 0 (
         record { mtu = 5000; largest = 1200; payload = 0x42 ∷ 0x01 ∷ replicate 1300 0xaa } ∷
         record { mtu = 5000; largest = 1200; payload = 0x44 ∷ 0x01 ∷ 0xc1 ∷ [] } ∷
@@ -500,13 +553,19 @@ pub fn largest_packet_sizes()
         record { mtu = 5000; largest = 1200; payload = 0x26 ∷ 0x01 ∷ 0xaf ∷ [] } ∷ [])
         ≡ (0x44 ∷ 0x01 ∷ 0xc1 ∷ []) ∷ (0x26 ∷ 0x01 ∷ 0xaf ∷ []) ∷ [] }
     ensures mtu { packets_of_payload (h265 false) 4 (0x26 ∷ 0x01 ∷ 0xaa ∷ 0xbb ∷ 0xcc ∷ [])
-        ≡ packets_of (h265 false) 0 (record { mtu = 5000; largest = 4; payload = 0x26 ∷ 0x01 ∷ 0xaa ∷ 0xbb ∷ 0xcc ∷ [] } ∷ []) }
+        ≡ packets_of (h265 false) 0 (record {
+          mtu = 5000;
+          largest = 4;
+          payload = 0x26 ∷ 0x01 ∷
+              0xaa ∷ 0xbb ∷ 0xcc ∷ [];
+        } ∷ []) }
 {}
 
 /// A counter goes round behind 65535, and calls without effect leave it.
 pub fn a_counter_goes_round()
     ensures round { packets_of (h265 true) 65535 (
-        call_at 100 (0x02 ∷ 0x01 ∷ 0xaa ∷ []) ∷ call_at 3 (0x02 ∷ 0x01 ∷ 0xaa ∷ []) ∷ call_at 100 (0x46 ∷ 0x01 ∷ []) ∷
+        call_at 100 (0x02 ∷ 0x01 ∷ 0xaa ∷ []) ∷ call_at 3 (0x02 ∷ 0x01 ∷ 0xaa ∷ []) ∷
+        call_at 100 (0x46 ∷ 0x01 ∷ []) ∷
         call_at 100 (0x02 ∷ 0x01 ∷ 0xbb ∷ []) ∷ [])
         ≡ (0x02 ∷ 0x01 ∷ 0xff ∷ 0xff ∷ 0xaa ∷ []) ∷ (0x02 ∷ 0x01 ∷ 0x00 ∷ 0x00 ∷ 0xbb ∷ []) ∷ [] }
     ensures counted { counted_on true 65535 2 ≡ 1 }

@@ -19,7 +19,8 @@ with_type low type = type * 8 + field low 2 0
 
 -- sets fit an aggregate: its header and number, and each set behind its length
 abbrev pub sets_fit : Bool → ℕ → List (List ℕ) → Bool
-sets_fit numbered limit sets = nat_le (2 + (if numbered then 2 else 0) + sum_by (λ set. 2 + length set) sets) limit
+sets_fit numbered limit sets = nat_le (2 + (if numbered then 2 else 0) + sum_by
+    (λ set. 2 + length set) sets) limit
 
 abbrev pub has_forbidden_bit : List ℕ → Bool  -- whether F is set
 has_forbidden_bit [] = false
@@ -38,15 +39,19 @@ least value [] = 0
 least value (set ∷ []) = value set
 least value (set ∷ second ∷ sets) = min (value set) (least value (second ∷ sets))
 
--- an aggregate: F where a set has it, Z 0, the lowest layer, type 28, the lowest temporal id but at least 1 (4.3.2)
+-- an aggregate: F where a set has it, Z 0, the lowest layer, type 28, the lowest temporal id but at
+-- least 1 (4.3.2)
 abbrev pub sets_packet : Bool → ℕ → List (List ℕ) → List ℕ → List ℕ
 sets_packet numbered n sets unit =
-    (((if list_any has_forbidden_bit sets then 0x80 else 0) + least layer_of sets) ∷ (28 * 8 + max 1 (least temporal_of sets)) ∷ [])
+    (((if list_any has_forbidden_bit sets then 0x80 else 0) + least layer_of sets) ∷
+    (28 * 8 + max 1 (least temporal_of sets)) ∷ [])
     ++ number_bytes numbered n ++ flat_map piece sets
 
--- a fragment's header: the unit's with type 29, and a byte of S, E, P clear and the unit's type (4.3.3)
+-- a fragment's header: the unit's with type 29, and a byte of S, E, P clear and the unit's type
+-- (4.3.3)
 abbrev pub fragment_header : List ℕ → Bool → Bool → List ℕ
-fragment_header (high ∷ low ∷ unit) start end = high ∷ with_type low 29 ∷ (flag start 0x80 + flag end 0x40 + type_of low) ∷ []
+fragment_header (high ∷ low ∷ unit) start end = high ∷ with_type low 29 ∷
+    (flag start 0x80 + flag end 0x40 + type_of low) ∷ []
 fragment_header unit start end = []
 
 -- an aggregate or a fragment, which no aggregate may hold
@@ -54,7 +59,9 @@ abbrev pub has_packet_type : List ℕ → Bool
 has_packet_type (high ∷ low ∷ unit) = (type_of low == 28) || (type_of low == 29)
 has_packet_type unit = false
 
-abbrev pub with_unit : List ℕ → Result (List (List ℕ)) PacketError → Result (List (List ℕ)) PacketError  -- one unit more before the others
+-- one unit more before the others
+abbrev pub with_unit : List ℕ → Result (List (List ℕ)) PacketError →
+    Result (List (List ℕ)) PacketError
 with_unit unit (Ok units) = Ok (unit ∷ units)
 with_unit unit (Err error) = Err error
 
@@ -64,9 +71,11 @@ units_within most [] = Ok []
 units_within zero bytes = Err ErrShortPacket
 units_within (suc most) (high ∷ []) = Err ErrShortPacket
 units_within (suc most) (high ∷ low ∷ bytes) =
-    if nat_lt (high * 256 + low) 2 || nat_lt (length bytes) (high * 256 + low) then Err ErrShortPacket
+    if nat_lt (high * 256 + low) 2 || nat_lt (length bytes) (high * 256 + low)
+    then Err ErrShortPacket
     else if has_packet_type (take (high * 256 + low) bytes) then Err ErrH266CorruptedPacket
-    else with_unit (take (high * 256 + low) bytes) (units_within most (drop (high * 256 + low) bytes))
+    else with_unit (take (high * 256 + low) bytes) (units_within most
+    (drop (high * 256 + low) bytes))
 
 -- units without numbers, or each numbered one more than the one before
 abbrev pub numbered_on : Option ℕ → List (List ℕ) → List (List ℕ × Option ℕ)
@@ -74,20 +83,26 @@ numbered_on None units = map unnumbered units
 numbered_on (Some n) [] = []
 numbered_on (Some n) (unit ∷ units) = (unit, Some n) ∷ numbered_on (Some ((n + 1) % 65536)) units
 
-abbrev pub two_or_more : Option ℕ → Result (List (List ℕ)) PacketError → Reading  -- an aggregate has two units or more
-two_or_more number (Ok (first ∷ second ∷ units)) = Aggregate (numbered_on number (first ∷ second ∷ units))
+-- an aggregate has two units or more
+abbrev pub two_or_more : Option ℕ → Result (List (List ℕ)) PacketError → Reading
+two_or_more number (Ok (first ∷ second ∷ units)) = Aggregate (numbered_on number (first ∷ second ∷
+    units))
 two_or_more number (Ok units) = Refused ErrShortPacket
 two_or_more number (Err error) = Refused error
 
 abbrev pub aggregate_of : Bool → List ℕ → Reading  -- an aggregate behind its header (4.3.2)
 aggregate_of false bytes = two_or_more None (units_within (length bytes) bytes)
-aggregate_of true (d ∷ e ∷ bytes) = two_or_more (Some (d * 256 + e)) (units_within (length bytes) bytes)
+aggregate_of true (d ∷ e ∷ bytes) = two_or_more (Some (d * 256 + e))
+    (units_within (length bytes) bytes)
 aggregate_of true bytes = Refused ErrShortPacket
 
-abbrev pub fragment_of : Bool → Bool → ℕ → ℕ → ℕ → List ℕ → Reading  -- a fragment behind its header, by its S bit (4.3.3)
-fragment_of true true high low fu (d ∷ e ∷ body) = Fragment true (is_set fu 6) (high ∷ with_type low (field fu 4 0) ∷ []) (Some (d * 256 + e)) body
+-- a fragment behind its header, by its S bit (4.3.3)
+abbrev pub fragment_of : Bool → Bool → ℕ → ℕ → ℕ → List ℕ → Reading
+fragment_of true true high low fu (d ∷ e ∷ body) = Fragment true (is_set fu 6) (high ∷
+    with_type low (field fu 4 0) ∷ []) (Some (d * 256 + e)) body
 fragment_of true true high low fu body = Refused ErrShortPacket
-fragment_of numbered start high low fu body = Fragment start (is_set fu 6) (high ∷ with_type low (field fu 4 0) ∷ []) None body
+fragment_of numbered start high low fu body = Fragment start (is_set fu 6) (high ∷
+    with_type low (field fu 4 0) ∷ []) None body
 
 -- the same as the relation `IsReading` of the file beside this one, computed
 abbrev pub read : Bool → List ℕ → Reading
@@ -100,21 +115,24 @@ read numbered packet = Refused ErrShortPacket
 
 -- a unit of three bytes or more with F clear and a type of its own; its header's bytes are bytes
 abbrev pub carries : List ℕ → Bool
-carries (high ∷ low ∷ b ∷ unit) = nat_lt high 0x80 && nat_lt low 0x100 && (nat_lt (type_of low) 28 || nat_lt 29 (type_of low))
+carries (high ∷ low ∷ b ∷ unit) = nat_lt high 0x80 && nat_lt low 0x100
+    && (nat_lt (type_of low) 28 || nat_lt 29 (type_of low))
 carries unit = false
 
 abbrev pub has_key : CodecExtra → Bool  -- the H.266 variant with its flag true
 has_key (extras.H266 extra) = extra.is_keyframe
 has_key extra = false
 
--- Whether a key unit is known to stand in a packet, or to begin in it; numbers are not accounted for (the crate's rule).
+-- Whether a key unit is known to stand in a packet, or to begin in it; numbers are not accounted
+-- for (the crate's rule).
 abbrev pub detects_fragment : List ℕ → Bool
 detects_fragment [] = false
 detects_fragment (fu ∷ body) = is_set fu 7 && is_key_type (field fu 4 0)
 
 abbrev pub detects : List ℕ → Bool  -- whether a packet holds or begins a key unit
 detects (high ∷ low ∷ rest) =
-    if type_of low == 28 then list_any is_key (take_while (λ unit. nat_le 2 (length unit)) (pieces_of rest).whole)
+    if type_of low == 28 then list_any is_key (take_while (λ unit. nat_le 2 (length unit))
+    (pieces_of rest).whole)
     else if type_of low == 29 then detects_fragment rest
     else is_key_type (type_of low)
 detects packet = false

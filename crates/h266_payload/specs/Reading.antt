@@ -23,50 +23,74 @@ abbrev pub IsAllowed : List ℕ → Type 0
 IsAllowed unit = (2 ≤ length unit) × (has_packet_type unit ≡ false)
 
 -- behind an aggregate's header: DONL, where packets bear numbers, and then its bytes
-pub data IsBehind (numbered : Bool) (rest : List ℕ) (number : Option ℕ) (bytes : List ℕ) : Type 0 where
+pub data IsBehind (numbered : Bool) (rest : List ℕ) (number : Option ℕ)
+    (bytes : List ℕ) : Type 0 where
   IsPlain : numbered ≡ false → number ≡ None → rest ≡ bytes → IsBehind numbered rest number bytes
-  IsNumbered : (d e : ℕ) → numbered ≡ true → number ≡ Some (d * 256 + e) → rest ≡ d ∷ e ∷ bytes → IsBehind numbered rest number bytes
+  IsNumbered : (d e : ℕ) → numbered ≡ true → number ≡ Some (d * 256 + e) → rest ≡ d ∷ e ∷ bytes →
+      IsBehind numbered rest number bytes
 
 -- what begins with a fault: a lone byte, a length under 2 or past the end
 pub data IsCut (left : List ℕ) : Type 0 where
   IsLoneByte : (byte : ℕ) → left ≡ byte ∷ [] → IsCut left
-  IsBadLength : (high low : ℕ) (bytes : List ℕ) → left ≡ high ∷ low ∷ bytes → (high * 256 + low < 2) ⊎ (length bytes < high * 256 + low) → IsCut left
+  IsBadLength : (high low : ℕ) (bytes : List ℕ) → left ≡ high ∷ low ∷ bytes → (high * 256 + low < 2)
+      ⊎ (length bytes < high * 256 + low) → IsCut left
 
 -- A rule for each kind of packet; each says what the whole packet is, and how it is read.
 pub data IsReading (numbered : Bool) (packet : List ℕ) (reading : Reading) : Type 0 where
   -- two bytes or fewer are too short
   IsShort : length packet ≤ 2 → reading ≡ Refused ErrShortPacket → IsReading numbered packet reading
   -- else the packet is corrupted where F is set
-  IsCorrupted : (high low : ℕ) (rest : List ℕ) → packet ≡ high ∷ low ∷ rest → 1 ≤ length rest → is_set high 7 ≡ true →
+  IsCorrupted : (high low : ℕ) (rest : List ℕ) → packet ≡ high ∷ low ∷ rest → 1 ≤ length rest →
+      is_set high 7 ≡ true →
       reading ≡ Refused ErrH266CorruptedPacket → IsReading numbered packet reading
   -- a single unit: the packet; with numbers, without DONL behind the header
-  IsUnit : (high low : ℕ) (rest : List ℕ) → IsWhole packet high low rest → IsUnitType (type_of low) → numbered ≡ false →
+  IsUnit : (high low : ℕ) (rest : List ℕ) → IsWhole packet high low rest →
+      IsUnitType (type_of low) → numbered ≡ false →
       reading ≡ Single packet None → IsReading numbered packet reading
-  IsNumberedUnit : (high low d e : ℕ) (body : List ℕ) → IsWhole packet high low (d ∷ e ∷ body) → IsUnitType (type_of low) → numbered ≡ true →
-      1 ≤ length body → reading ≡ Single (high ∷ low ∷ body) (Some (d * 256 + e)) → IsReading numbered packet reading
-  IsShortUnit : (high low : ℕ) (rest : List ℕ) → IsWhole packet high low rest → IsUnitType (type_of low) → numbered ≡ true →
+  IsNumberedUnit : (high low d e : ℕ) (body : List ℕ) → IsWhole packet high low (d ∷ e ∷ body) →
+      IsUnitType (type_of low) → numbered ≡ true →
+      1 ≤ length body → reading ≡ Single (high ∷ low ∷ body) (Some (d * 256 + e)) →
+      IsReading numbered packet reading
+  IsShortUnit : (high low : ℕ) (rest : List ℕ) → IsWhole packet high low rest →
+      IsUnitType (type_of low) → numbered ≡ true →
       length rest ≤ 2 → reading ≡ Refused ErrShortPacket → IsReading numbered packet reading
   -- an aggregate, type 28: two allowed units or more behind their lengths, up to the end
-  IsAggregate : (high low : ℕ) (rest bytes : List ℕ) (number : Option ℕ) (units : List (List ℕ)) → IsWhole packet high low rest → type_of low ≡ 28 →
-      IsBehind numbered rest number bytes → ArePieces bytes units [] → AllByRecursion IsAllowed units → 2 ≤ length units →
+  IsAggregate : (high low : ℕ) (rest bytes : List ℕ) (number : Option ℕ) (units : List (List ℕ)) →
+      IsWhole packet high low rest → type_of low ≡ 28 →
+      IsBehind numbered rest number bytes → ArePieces bytes units [] →
+      AllByRecursion IsAllowed units → 2 ≤ length units →
       reading ≡ Aggregate (numbered_on number units) → IsReading numbered packet reading
-  IsShortAggregate : (high low : ℕ) (rest bytes : List ℕ) (number : Option ℕ) (units : List (List ℕ)) → IsWhole packet high low rest → type_of low ≡ 28 →
-      IsBehind numbered rest number bytes → ArePieces bytes units [] → AllByRecursion IsAllowed units → length units ≤ 1 →
+  IsShortAggregate : (high low : ℕ) (rest bytes : List ℕ) (number : Option ℕ)
+      (units : List (List ℕ)) → IsWhole packet high low rest → type_of low ≡ 28 →
+      IsBehind numbered rest number bytes → ArePieces bytes units [] →
+      AllByRecursion IsAllowed units → length units ≤ 1 →
       reading ≡ Refused ErrShortPacket → IsReading numbered packet reading
-  -- the first fault behind allowed units decides: what is cut off is too short, a unit that is not allowed is corrupted
-  IsCutAggregate : (high low : ℕ) (rest bytes left : List ℕ) (number : Option ℕ) (units : List (List ℕ)) → IsWhole packet high low rest → type_of low ≡ 28 →
-      IsBehind numbered rest number bytes → ArePieces bytes units left → AllByRecursion IsAllowed units → IsCut left →
+  -- the first fault behind allowed units decides: what is cut off is too short, a unit that is not
+  -- allowed is corrupted
+  IsCutAggregate : (high low : ℕ) (rest bytes left : List ℕ) (number : Option ℕ)
+      (units : List (List ℕ)) → IsWhole packet high low rest → type_of low ≡ 28 →
+      IsBehind numbered rest number bytes → ArePieces bytes units left →
+      AllByRecursion IsAllowed units → IsCut left →
       reading ≡ Refused ErrShortPacket → IsReading numbered packet reading
-  IsCorruptedAggregate : (high low h l : ℕ) (rest bytes unit behind : List ℕ) (number : Option ℕ) (units : List (List ℕ)) → IsWhole packet high low rest → type_of low ≡ 28 →
-      IsBehind numbered rest number bytes → ArePieces bytes units (h ∷ l ∷ unit ++ behind) → AllByRecursion IsAllowed units → h * 256 + l ≡ length unit → has_packet_type unit ≡ true →
+  IsCorruptedAggregate : (high low h l : ℕ) (rest bytes unit behind : List ℕ) (number : Option ℕ)
+      (units : List (List ℕ)) → IsWhole packet high low rest → type_of low ≡ 28 →
+      IsBehind numbered rest number bytes → ArePieces bytes units (h ∷ l ∷ unit ++ behind) →
+      AllByRecursion IsAllowed units → h * 256 + l ≡ length unit → has_packet_type unit ≡ true →
       reading ≡ Refused ErrH266CorruptedPacket → IsReading numbered packet reading
   -- with numbers there must be room for DONL
-  IsWithoutNumber : (high low d : ℕ) → IsWhole packet high low (d ∷ []) → type_of low ≡ 28 → numbered ≡ true →
+  IsWithoutNumber : (high low d : ℕ) → IsWhole packet high low (d ∷ []) → type_of low ≡ 28 →
+      numbered ≡ true →
       reading ≡ Refused ErrShortPacket → IsReading numbered packet reading
-  -- a fragment, type 29: a byte of S, E, P and the unit's type, and data; a start with numbers has DONL before its data
-  IsFragment : (high low fu : ℕ) (body : List ℕ) → IsWhole packet high low (fu ∷ body) → type_of low ≡ 29 → (numbered && is_set fu 7) ≡ false →
-      reading ≡ Fragment (is_set fu 7) (is_set fu 6) (high ∷ with_type low (field fu 4 0) ∷ []) None body → IsReading numbered packet reading
-  IsNumberedStart : (high low fu d e : ℕ) (body : List ℕ) → IsWhole packet high low (fu ∷ d ∷ e ∷ body) → type_of low ≡ 29 → (numbered && is_set fu 7) ≡ true →
-      reading ≡ Fragment true (is_set fu 6) (high ∷ with_type low (field fu 4 0) ∷ []) (Some (d * 256 + e)) body → IsReading numbered packet reading
-  IsShortStart : (high low fu : ℕ) (body : List ℕ) → IsWhole packet high low (fu ∷ body) → type_of low ≡ 29 → (numbered && is_set fu 7) ≡ true → length body ≤ 1 →
+  -- a fragment, type 29: a byte of S, E, P and the unit's type, and data; a start with numbers has
+  -- DONL before its data
+  IsFragment : (high low fu : ℕ) (body : List ℕ) → IsWhole packet high low (fu ∷ body) →
+      type_of low ≡ 29 → (numbered && is_set fu 7) ≡ false →
+      reading ≡ Fragment (is_set fu 7) (is_set fu 6) (high ∷ with_type low (field fu 4 0) ∷
+      []) None body → IsReading numbered packet reading
+  IsNumberedStart : (high low fu d e : ℕ) (body : List ℕ) → IsWhole packet high low (fu ∷ d ∷ e ∷
+      body) → type_of low ≡ 29 → (numbered && is_set fu 7) ≡ true →
+      reading ≡ Fragment true (is_set fu 6) (high ∷ with_type low (field fu 4 0) ∷
+      []) (Some (d * 256 + e)) body → IsReading numbered packet reading
+  IsShortStart : (high low fu : ℕ) (body : List ℕ) → IsWhole packet high low (fu ∷ body) →
+      type_of low ≡ 29 → (numbered && is_set fu 7) ≡ true → length body ≤ 1 →
       reading ≡ Refused ErrShortPacket → IsReading numbered packet reading

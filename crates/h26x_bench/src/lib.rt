@@ -47,7 +47,8 @@ pub extern "C" fn h264_pack_rounds(
     bytes
 }
 
-/// Takes packets so many times, with units written in AVC form or not; the bytes written, 0 where one is refused.
+/// Takes packets so many times, with units written in AVC form or not; the bytes written, 0 where
+/// one is refused.
 fn h264_take(alloc: Global, is_avc: bool, packets: &[Vec<u8>], rounds: usize) -> usize {
     let mut depacketizer = H264Depacketizer::new(alloc);
     depacketizer.is_avc = is_avc;

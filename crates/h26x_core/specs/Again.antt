@@ -9,18 +9,23 @@ use Rattle.h26x_core.specs.Waits.{entries_at}
 
 -- an other unit is not dropped for its size
 abbrev pub KeepsUnit : Format → Entry → Type 0
-KeepsUnit f entry = IsTrue (is_other (f.kind entry.unit)) → is_dropped f entry.limit entry.unit ≡ false
+KeepsUnit f entry = IsTrue (is_other (f.kind entry.unit)) →
+    is_dropped f entry.limit entry.unit ≡ false
 
 -- no set of a group is dropped for its size
 abbrev pub KeepsSets : Format → Group → Type 0
-KeepsSets f g = flat_map units_of_item (items_of_sets f g.last.limit (sets_of f g.front) g.last.unit) ≡ sets_of f g.front
+KeepsSets f g = flat_map units_of_item (items_of_sets f g.last.limit
+    (sets_of f g.front) g.last.unit) ≡ sets_of f g.front
 
 -- nothing of these entries is dropped for its size
 pub record NothingDropped (f : Format) (entries : List Entry) : Type 0 where
   pub units : AllByRecursion (KeepsUnit f) entries
   pub sets : AllByRecursion (KeepsSets f) (split f entries).groups
 
--- The plan of what was sent is the plan that it was sent by, at one limit with nothing dropped; so what is sent is too.
+-- The plan of what was sent is the plan that it was sent by, at one limit with nothing dropped; so
+-- what is sent is too.
 pub record IsSteady (f : Format) (limit : ℕ) (units : List (List ℕ)) : Type 0 where
-  pub same_plan : plan f (entries_at limit (sent f (entries_at limit units))) ≡ plan f (entries_at limit units)
-  pub same_units : sent f (entries_at limit (sent f (entries_at limit units))) ≡ sent f (entries_at limit units)
+  pub same_plan : plan f (entries_at limit (sent f (entries_at limit units))) ≡ plan f
+      (entries_at limit units)
+  pub same_units : sent f (entries_at limit (sent f (entries_at limit units))) ≡ sent f
+      (entries_at limit units)

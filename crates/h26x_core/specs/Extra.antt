@@ -4,8 +4,9 @@ use Rattle.std.specs.List.{list_any}
 use Rattle.h26x_core.specs.declared.extra.CodecExtra.{CodecExtra}
 use Rattle.h26x_core.specs.Format.{Format}
 
--- The extra after units. Those without a whole header don't count. If none counts it is as it was, else the codec's
--- variant, whose flag is true where a key unit is among them or the extra was that variant with the flag true.
+-- The extra after units. Those without a whole header don't count. If none counts it is as it was,
+-- else the codec's variant, whose flag is true where a key unit is among them or the extra was that
+-- variant with the flag true.
 abbrev pub extra_after : Format → CodecExtra → List (List ℕ) → CodecExtra
 extra_after f extra units =
     if list_any (λ unit. nat_le f.header_len (length unit)) units

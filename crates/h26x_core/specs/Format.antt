@@ -12,7 +12,8 @@ pub record Format : Type 0 where
   -- what a unit is to a packetizer, and whether it is of a key type
   pub kind : List ℕ → Kind
   pub is_key : List ℕ → Bool
-  -- the mtu under which a call has no effect, and whether a packetizer's largest packet size limits it too
+  -- the mtu under which a call has no effect, and whether a packetizer's largest packet size limits
+  -- it too
   pub least_mtu : ℕ
   pub sized : Bool
   -- the bytes of a unit's header
@@ -24,7 +25,8 @@ pub record Format : Type 0 where
   pub sets_go_alone : Bool
   -- the packet of parameter sets before a unit, the first of them with this number
   pub sets_packet : ℕ → List (List ℕ) → List ℕ → List ℕ
-  -- what stands before a fragment's number and data: of this unit, the first or not, the last or not
+  -- what stands before a fragment's number and data: of this unit, the first or not, the last or
+  -- not
   pub fragment_header : List ℕ → Bool → Bool → List ℕ
   pub read : List ℕ → Reading
   -- whether packets can carry a unit so that it is read back

@@ -12,7 +12,8 @@ pub record Entry : Type 0 where
 -- an other unit with an SPS and a PPS before it
 abbrev pub completes : Format → List Entry → Entry → Bool
 completes f front entry =
-    is_other (f.kind entry.unit) && list_any (λ e. is_sps (f.kind e.unit)) front && list_any (λ e. is_pps (f.kind e.unit)) front
+    is_other (f.kind entry.unit) && list_any (λ e. is_sps (f.kind e.unit)) front
+    && list_any (λ e. is_pps (f.kind e.unit)) front
 
 -- a group: the shortest front of a list that ends in such a unit
 pub record Group : Type 0 where
@@ -21,13 +22,15 @@ pub record Group : Type 0 where
 
 -- no unit of the list has an SPS and a PPS before it in the list and is an other unit
 abbrev pub IsOpen : Format → List Entry → Type 0
-IsOpen f entries = (before after : List Entry) (entry : Entry) → entries ≡ before ++ entry ∷ after → completes f before entry ≡ false
+IsOpen f entries = (before after : List Entry) (entry : Entry) → entries ≡ before ++ entry ∷ after →
+    completes f before entry ≡ false
 
 -- the list is these groups, one after the other, and then a rest that has none as a front
 abbrev pub AreGroups : Format → List Entry → List Group → List Entry → Type 0
 AreGroups f entries [] rest = (entries ≡ rest) × IsOpen f rest
 AreGroups f entries (g ∷ groups) rest =
-    (later : List Entry) × (entries ≡ g.front ++ g.last ∷ later) × IsOpen f g.front × IsTrue (completes f g.front g.last) × AreGroups f later groups rest
+    (later : List Entry) × (entries ≡ g.front ++ g.last ∷ later) × IsOpen f g.front
+    × IsTrue (completes f g.front g.last) × AreGroups f later groups rest
 
 -- the same, computed: what a front and the entries after it split into
 pub record Split : Type 0 where

@@ -3,7 +3,8 @@ use Rattle.std.specs.Prelude.{ℕ, Bool, true, false, ◌||◌, ◌==◌, if◌t
 use Rattle.h26x_core.specs.Word.{field}
 use Rattle.h26x_core.specs.H264Unit.{type_of}
 
--- a packet of two bytes or more may be a frame's first; a fragment, of type 28 or 29, where its S bit is set
+-- a packet of two bytes or more may be a frame's first; a fragment, of type 28 or 29, where its S
+-- bit is set
 abbrev pub is_head : List ℕ → Bool
 is_head (first ∷ second ∷ packet) =
     if (type_of first == 28) || (type_of first == 29) then field second 7 7 == 1 else true

@@ -9,7 +9,8 @@ type_of byte = field byte 4 0
 
 -- type 9 is an access unit delimiter, 7 an SPS, 8 a PPS
 abbrev pub kind_of_type : ℕ → Kind
-kind_of_type type = if type == 9 then Skipped else if type == 7 then Sps else if type == 8 then Pps else Other
+kind_of_type type = if type == 9 then Skipped else if type == 7 then Sps else if type == 8 then Pps
+    else Other
 
 -- an empty unit is skipped
 abbrev pub kind : List ℕ → Kind

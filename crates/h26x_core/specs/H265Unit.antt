@@ -21,7 +21,8 @@ temporal_id low = field low 2 0
 
 -- type 35 is an access unit delimiter, 32 a VPS, 33 an SPS, 34 a PPS
 abbrev pub kind_of_type : ℕ → Kind
-kind_of_type type = if type == 35 then Skipped else if type == 32 then Vps else if type == 33 then Sps else if type == 34 then Pps else Other
+kind_of_type type = if type == 35 then Skipped else if type == 32 then Vps else if type == 33
+    then Sps else if type == 34 then Pps else Other
 
 -- a unit without a whole header is skipped
 abbrev pub kind : List ℕ → Kind

@@ -23,7 +23,8 @@ temporal_id low = field low 2 0
 abbrev pub type_of : ℕ → ℕ
 type_of low = field low 7 3
 
--- type 20 is an access unit delimiter, 28 and 29 are packets' own types; 14 is a VPS, 15 an SPS, 16 a PPS
+-- type 20 is an access unit delimiter, 28 and 29 are packets' own types; 14 is a VPS, 15 an SPS, 16
+-- a PPS
 abbrev pub kind_of_type : ℕ → Kind
 kind_of_type type =
     if (type == 20) || (type == 28) || (type == 29) then Skipped

@@ -1,7 +1,8 @@
 -- What a NAL unit is to a packetizer (the crate's rule).
 use Rattle.std.specs.Prelude.{Bool, true, false}
 
--- Skipped units are not sent. Parameter sets wait for the next other unit. Every other unit is sent at once.
+-- Skipped units are not sent. Parameter sets wait for the next other unit. Every other unit is sent
+-- at once.
 pub data Kind : Type 0 where
   Skipped : Kind
   Vps : Kind

@@ -15,8 +15,9 @@ is_startless run reading = false
 abbrev pub is_too_long : List ℕ → Bool
 is_too_long unit = nat_le (2 ^ 32) (length unit)
 
--- What becomes of a packet where this run is open: its refusal; in AVC form another one, where a unit that it brings
--- is too long; else it is accepted, or memory lacks, for which no clause can name the cause.
+-- What becomes of a packet where this run is open: its refusal; in AVC form another one, where a
+-- unit that it brings is too long; else it is accepted, or memory lacks, for which no clause can
+-- name the cause.
 abbrev pub IsOutcomeWith : Bool → Option (List ℕ) → Reading → Result (Unit {0}) PacketError → Type 0
 IsOutcomeWith avc run (Refused error) outcome = outcome ≡ Err error
 IsOutcomeWith avc run reading outcome =

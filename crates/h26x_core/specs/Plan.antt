@@ -16,7 +16,8 @@ fits f limit unit = nat_le (length unit + number_len f) limit
 
 -- a unit is dropped where it doesn't fit and there is no room for a fragment's data
 abbrev pub is_dropped : Format → ℕ → List ℕ → Bool
-is_dropped f limit unit = if fits f limit unit then false else nat_le limit (fragment_header_len f + number_len f)
+is_dropped f limit unit = if fits f limit unit then false
+    else nat_le limit (fragment_header_len f + number_len f)
 
 -- a unit that is sent alone, if it is not dropped
 abbrev pub items_alone : Format → ℕ → List ℕ → List Item
@@ -34,11 +35,13 @@ items_of_sets f limit sets unit =
 
 -- of a group: its other units but the last, its latest sets, and its last unit
 abbrev pub items_of_group : Format → Group → List Item
-items_of_group f g = flat_map (item_of f) g.front ++ items_of_sets f g.last.limit (sets_of f g.front) g.last.unit ++ item_of f g.last
+items_of_group f g = flat_map (item_of f) g.front ++ items_of_sets f g.last.limit
+    (sets_of f g.front) g.last.unit ++ item_of f g.last
 
 -- the groups, and then the other units of the rest
 abbrev pub plan : Format → List Entry → List Item
-plan f entries = flat_map (items_of_group f) (split f entries).groups ++ flat_map (item_of f) (split f entries).rest
+plan f entries = flat_map (items_of_group f) (split f entries).groups
+    ++ flat_map (item_of f) (split f entries).rest
 
 -- the units of an item, in order
 abbrev pub units_of_item : Item → List (List ℕ)
@@ -51,17 +54,21 @@ sent f entries = flat_map units_of_item (plan f entries)
 
 -- the last unit of a group whose sets fit one packet is sent
 abbrev pub KeepsLast : Format → Group → Type 0
-KeepsLast f g = f.sets_fit g.last.limit (sets_of f g.front) ≡ true → is_dropped f g.last.limit g.last.unit ≡ false
+KeepsLast f g = f.sets_fit g.last.limit (sets_of f g.front) ≡ true →
+    is_dropped f g.last.limit g.last.unit ≡ false
 
 -- the sets that wait, as entries
 abbrev pub waiting : Format → ℕ → List Entry → List Entry
-waiting f limit entries = map (λ unit. record { unit = unit; limit = limit }) (sets_of f (split f entries).rest)
+waiting f limit entries = map (λ unit. record { unit = unit; limit = limit })
+    (sets_of f (split f entries).rest)
 
 -- A plan may be made call by call: what went before counts by the sets that wait.
 abbrev pub PlansCallByCall : Format → Type 0
-PlansCallByCall f = (limit : ℕ) (before entries : List Entry) → plan f (before ++ entries) ≡ plan f before ++ plan f (waiting f limit before ++ entries)
+PlansCallByCall f = (limit : ℕ) (before entries : List Entry) →
+    plan f (before ++ entries) ≡ plan f before ++ plan f (waiting f limit before ++ entries)
 
 -- So do the sets that wait in the end.
 abbrev pub WaitsCallByCall : Format → Type 0
 WaitsCallByCall f = (limit : ℕ) (before entries : List Entry) →
-    sets_of f (split f (before ++ entries)).rest ≡ sets_of f (split f (waiting f limit before ++ entries)).rest
+    sets_of f (split f (before ++ entries)).rest ≡ sets_of f (split f (waiting f limit before
+    ++ entries)).rest

@@ -3,8 +3,9 @@ use Rattle.std.specs.Prelude.{ℕ, ◌+◌, ◌*◌, Bool, true, false, List, []
 use Rattle.h26x_core.specs.declared.error.PacketError.{PacketError}
 use Rattle.h26x_core.specs.declared.error.PacketError.TheVariants.{ErrShortPacket}
 
--- One unit; several; a part of one, with the header that its unit would have; an H.265 PACI with its fields
--- word and extension; or a packet that is refused. A number is a decoding order number, where there is one.
+-- One unit; several; a part of one, with the header that its unit would have; an H.265 PACI with
+-- its fields word and extension; or a packet that is refused. A number is a decoding order number,
+-- where there is one.
 pub data Reading : Type 0 where
   Single : (unit : List ℕ) (number : Option ℕ) → Reading
   Aggregate : (units : List (List ℕ × Option ℕ)) → Reading
@@ -16,7 +17,8 @@ pub data Reading : Type 0 where
 abbrev pub unnumbered : List ℕ → List ℕ × Option ℕ
 unnumbered unit = (unit, None)
 
--- a single unit behind a header of two bytes; where packets bear numbers, one stands between (RFC 7798, 4.4.1; RFC 9328, 4.3.1)
+-- a single unit behind a header of two bytes; where packets bear numbers, one stands between (RFC
+-- 7798, 4.4.1; RFC 9328, 4.3.1)
 abbrev pub single_of : Bool → ℕ → ℕ → List ℕ → Reading
 single_of false high low body = Single (high ∷ low ∷ body) None
 single_of true high low (d ∷ e ∷ b ∷ body) = Single (high ∷ low ∷ b ∷ body) (Some (d * 256 + e))

@@ -3,7 +3,8 @@ use Rattle.std.specs.Prelude.{◌≡◌, ℕ, Bool, true, false, if◌then◌els
 use Rattle.std.specs.List.{flat_map, AllByRecursion}
 use Rattle.h26x_core.specs.Reading.{Reading, Single, Aggregate, Fragment, Paci, Refused, is_start, is_end, body_of}
 
--- a run with one more fragment's data: a start begins anew, and where no run is open another fragment adds nothing
+-- a run with one more fragment's data: a start begins anew, and where no run is open another
+-- fragment adds nothing
 abbrev pub continued : Bool → Option (List ℕ) → List ℕ → Option (List ℕ)
 continued true run body = Some body
 continued false None body = None
@@ -23,7 +24,8 @@ named_by head (Some run) = (head ++ run) ∷ []
 abbrev pub units_with : Option (List ℕ) → Reading → List (List ℕ)
 units_with run (Single unit number) = unit ∷ []
 units_with run (Aggregate units) = map (λ u. u.0) units
-units_with run (Fragment start end head number body) = if end then named_by head (continued start run body) else []
+units_with run (Fragment start end head number body) = if end
+    then named_by head (continued start run body) else []
 units_with run (Paci head fields extension body) = (head ++ body) ∷ []
 units_with run (Refused error) = []
 
@@ -39,14 +41,15 @@ brought_after reading earlier = units_with (open_run earlier) reading
 -- the units that readings bring after others, which stand with the latest first
 abbrev pub units_after : List Reading → List Reading → List (List ℕ)
 units_after earlier [] = []
-units_after earlier (reading ∷ readings) = brought_after reading earlier ++ units_after (reading ∷ earlier) readings
+units_after earlier (reading ∷ readings) = brought_after reading earlier ++ units_after (reading ∷
+    earlier) readings
 
 -- the units that readings bring, in order
 abbrev pub received : List Reading → List (List ℕ)
 received readings = units_after [] readings
 
--- What a run that is open carries: the latest start, which is no end, and all since, none of which starts or ends.
--- The latest reading stands first.
+-- What a run that is open carries: the latest start, which is no end, and all since, none of which
+-- starts or ends. The latest reading stands first.
 pub record IsOpenRun (readings : List Reading) (run : List ℕ) : Type 0 where
   pub since : List Reading
   pub start : Reading

@@ -1,4 +1,5 @@
--- A depacketizer of any codec: what packets bring where it has any run open, and what stands after them.
+-- A depacketizer of any codec: what packets bring where it has any run open, and what stands after
+-- them.
 use Rattle.std.specs.Prelude.{◌≡◌, ℕ, Bool, false, List, [], ◌∷◌, ◌++◌, map, if◌then◌else◌, Option, Some, None, ◌||◌, Result, Err, is_ok, OnOk, OnErr, IfErr, ◌⊎◌}
 use Rattle.std.specs.List.{list_any}
 use Rattle.h26x_core.specs.declared.extra.CodecExtra.{CodecExtra}
@@ -15,7 +16,8 @@ use Rattle.h26x_core.specs.Loss.{kept}
 -- the units that readings bring where this run is open
 abbrev pub units_from : Option (List ℕ) → List Reading → List (List ℕ)
 units_from run [] = []
-units_from run (reading ∷ readings) = units_with run reading ++ units_from (run_after run reading) readings
+units_from run (reading ∷ readings) = units_with run reading
+    ++ units_from (run_after run reading) readings
 
 -- the run that is open after readings
 abbrev pub run_from : Option (List ℕ) → List Reading → Option (List ℕ)
@@ -33,7 +35,8 @@ abbrev pub runs_of : Option (List ℕ) → List (List ℕ)
 runs_of None = []
 runs_of (Some run) = run ∷ []
 
--- what later answers depend on: one byte for the setting, AVC form or numbers, and the data of the open run if there is one
+-- what later answers depend on: one byte for the setting, AVC form or numbers, and the data of the
+-- open run if there is one
 abbrev pub receiver_meaning : Receiver → List (List ℕ)
 receiver_meaning r = (if r.is_avc || r.format.numbered then 1 ∷ [] else 0 ∷ []) ∷ runs_of r.run
 
@@ -61,17 +64,20 @@ work_after w packets = record {
 
 -- what becomes of a packet: one outcome, and it is taken, or all is as it was
 abbrev pub IsOutcomeAt : Work → List ℕ → Result (Unit {0}) PacketError → Type 0
-IsOutcomeAt w packet outcome = IsOutcomeWith w.receiver.is_avc w.receiver.run (w.receiver.format.read packet) outcome
+IsOutcomeAt w packet outcome = IsOutcomeWith w.receiver.is_avc w.receiver.run
+    (w.receiver.format.read packet) outcome
 
 -- why packets were not taken to their end: memory lacks, or the next one is refused
 abbrev pub IsCause : Work → List (List ℕ) → PacketError → Type 0
 IsCause w left error =
     (error ≡ OutOfMemory)
-    ⊎ ((packet : List ℕ) × (later : List (List ℕ)) × (left ≡ packet ∷ later) × IsOutcomeAt w packet (Err error))
+    ⊎ ((packet : List ℕ) × (later : List (List ℕ)) × (left ≡ packet ∷ later)
+    × IsOutcomeAt w packet (Err error))
 
--- What becomes of packets that are given in order, up to the first that is refused: those of a front are taken, and all
--- of them where the answer is no refusal.
-pub record AreDelivered {A : Type 0} (w : Work) (packets : List (List ℕ)) (answer : Result A PacketError) (new : Option Work) : Type 0 where
+-- What becomes of packets that are given in order, up to the first that is refused: those of a
+-- front are taken, and all of them where the answer is no refusal.
+pub record AreDelivered {A : Type 0} (w : Work) (packets : List (List ℕ))
+    (answer : Result A PacketError) (new : Option Work) : Type 0 where
   pub taken : List (List ℕ)
   pub left : List (List ℕ)
   pub front : packets ≡ taken ++ left
@@ -87,16 +93,19 @@ AreShort units = list_any is_too_long units ≡ false
 abbrev pub accepted_of : List (List ℕ) → List (Result (Unit {0}) PacketError) → List (List ℕ)
 accepted_of packets outcomes = kept (map is_ok outcomes) packets
 
--- one outcome for each packet, by what those accepted before it left; these were accepted before the first
-abbrev pub HaveOutcomes : Work → List (List ℕ) → List (List ℕ) → List (Result (Unit {0}) PacketError) → Type 0
+-- one outcome for each packet, by what those accepted before it left; these were accepted before
+-- the first
+abbrev pub HaveOutcomes : Work → List (List ℕ) → List (List ℕ) →
+    List (Result (Unit {0}) PacketError) → Type 0
 HaveOutcomes w before [] [] = Unit {0}
 HaveOutcomes w before (packet ∷ packets) (outcome ∷ outcomes) =
     IsOutcomeAt (work_after w before) packet outcome
     × HaveOutcomes w (if is_ok outcome then before ++ packet ∷ [] else before) packets outcomes
 HaveOutcomes w before packets outcomes = ⊥
 
--- What a depacketizer has done with packets, any whatever, refused ones passed over: each has its outcome, and the
--- accepted ones were taken.
-pub record AreAllTaken (w : Work) (packets : List (List ℕ)) (outcomes : List (Result (Unit {0}) PacketError)) (new : Option Work) : Type 0 where
+-- What a depacketizer has done with packets, any whatever, refused ones passed over: each has its
+-- outcome, and the accepted ones were taken.
+pub record AreAllTaken (w : Work) (packets : List (List ℕ))
+    (outcomes : List (Result (Unit {0}) PacketError)) (new : Option Work) : Type 0 where
   pub each : HaveOutcomes w [] packets outcomes
   pub taken : new ≡ Some (work_after w (accepted_of packets outcomes))

@@ -11,16 +11,18 @@ abbrev pub FirstStarts : Format → List (List ℕ) → Type 0
 FirstStarts f [] = ⊥
 FirstStarts f (packet ∷ packets) = is_start (f.read packet) ≡ true
 
--- A rival: packets within the limit that carry these bytes as fragments do, the first with a start. It need not be
--- a list that a depacketizer could put together.
-pub record IsRival (f : Format) (limit : ℕ) (bytes : List ℕ) (packets : List (List ℕ)) : Type 0 where
-  pub within : AllByRecursion (λ packet. length packet ≤ limit) packets
-  pub each : AllByRecursion (λ packet. IsFragment (f.read packet)) packets
-  pub first : FirstStarts f packets
-  pub joined : flat_map (λ packet. body_of (f.read packet)) packets ≡ bytes
+-- A rival: packets within the limit that carry these bytes as fragments do, the first with a start.
+-- It need not be a list that a depacketizer could put together.
+pub record IsRival (f : Format) (limit : ℕ) (bytes : List ℕ) (packets : List (List ℕ)) : Type 0
+  where
+    pub within : AllByRecursion (λ packet. length packet ≤ limit) packets
+    pub each : AllByRecursion (λ packet. IsFragment (f.read packet)) packets
+    pub first : FirstStarts f packets
+    pub joined : flat_map (λ packet. body_of (f.read packet)) packets ≡ bytes
 
 -- no rival of a unit that is fragmented has fewer packets than the packetizer
 abbrev pub TakesFewestFragments : Format → Type 0
 TakesFewestFragments f = (limit : ℕ) (unit : List ℕ) (packets : List (List ℕ)) →
-    fits f limit unit ≡ false → is_dropped f limit unit ≡ false → IsRival f limit (drop f.header_len unit) packets →
+    fits f limit unit ≡ false → is_dropped f limit unit ≡ false →
+    IsRival f limit (drop f.header_len unit) packets →
     fragment_count f limit unit ≤ length packets

@@ -1,4 +1,5 @@
--- Runs of fragments, by their places in a list of packets (RFC 6184, 5.8; RFC 7798, 4.4.3; RFC 9328, 4.3.3).
+-- Runs of fragments, by their places in a list of packets (RFC 6184, 5.8; RFC 7798, 4.4.3; RFC
+-- 9328, 4.3.3).
 use Rattle.std.specs.Prelude.{◌≡◌, ℕ, ◌+◌, ◌<◌, ◌≤◌, Bool, true, false, List, [], ◌∷◌, ◌++◌, length, map, take, drop, Option, Some, ◌⊎◌, slice_get}
 use Rattle.std.specs.Option.{option_map_or}
 use Rattle.std.specs.List.{flat_map}
@@ -23,7 +24,8 @@ pub record IsRun (readings : List Reading) (first last : ℕ) : Type 0 where
 -- the unit of a run: the header of its end, and the data of its fragments
 abbrev pub unit_of_run : List Reading → ℕ → ℕ → List ℕ
 unit_of_run readings first last =
-    option_map_or head_of (slice_get readings last) [] ++ flat_map body_of (drop first (take (last + 1) readings))
+    option_map_or head_of (slice_get readings last) []
+    ++ flat_map body_of (drop first (take (last + 1) readings))
 
 -- what an end names: the unit of its run; nothing where no run ends there
 abbrev pub IsNamed : List Reading → ℕ → List (List ℕ) → Type 0
@@ -35,7 +37,8 @@ IsNamed readings last units =
 abbrev pub Brings : List Reading → ℕ → Option Reading → List (List ℕ) → Type 0
 Brings readings place (Some (Single unit number)) units = units ≡ unit ∷ []
 Brings readings place (Some (Aggregate pairs)) units = units ≡ map (λ u. u.0) pairs
-Brings readings place (Some (Fragment start true head number body)) units = IsNamed readings place units
+Brings readings place (Some (Fragment start true head number body)) units = IsNamed readings place
+    units
 Brings readings place (Some (Paci head fields extension body)) units = units ≡ (head ++ body) ∷ []
 Brings readings place reading units = units ≡ []
 
@@ -43,5 +46,6 @@ Brings readings place reading units = units ≡ []
 pub record AreReceived (readings : List Reading) (units : List (List ℕ)) : Type 0 where
   pub parts : List (List (List ℕ))
   pub long : length parts ≡ length readings
-  pub each : (place : ℕ) (part : List (List ℕ)) → slice_get parts place ≡ Some part → Brings readings place (slice_get readings place) part
+  pub each : (place : ℕ) (part : List (List ℕ)) → slice_get parts place ≡ Some part →
+      Brings readings place (slice_get readings place) part
   pub joined : units ≡ flat_map (λ part. part) parts

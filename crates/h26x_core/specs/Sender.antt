@@ -18,7 +18,8 @@ pub record Sender : Type 0 where
   pub counter : ℕ
   pub largest : ℕ
 
--- what holds of each: at most one set of a kind waits, and counter and largest size are numbers of two bytes
+-- what holds of each: at most one set of a kind waits, and counter and largest size are numbers of
+-- two bytes
 pub record IsSender (s : Sender) : Type 0 where
   pub sets : AreSets s.format s.waiting
   pub small : s.counter < 65536
@@ -69,12 +70,14 @@ AreWithinLimits s (call ∷ calls) =
     AreWithin (limit_of_call s.format call) (packets_by s (entries_of_call s.format call))
     × AreWithinLimits (after s (entries_of_call s.format call)) calls
 
--- what later answers depend on: the sets that wait, the counter where packets bear numbers, and the largest packet size
--- where it limits calls
+-- what later answers depend on: the sets that wait, the counter where packets bear numbers, and the
+-- largest packet size where it limits calls
 abbrev pub sender_meaning : Sender → List (List ℕ)
 sender_meaning s =
-    (flat_map (λ set. set) s.waiting.vps ∷ flat_map (λ set. set) s.waiting.sps ∷ flat_map (λ set. set) s.waiting.pps
-    ∷ (if s.format.numbered then word s.counter else []) ∷ []) ++ (if s.format.sized then word s.largest ∷ [] else [])
+    (flat_map (λ set. set) s.waiting.vps ∷ flat_map (λ set. set) s.waiting.sps ∷
+    flat_map (λ set. set) s.waiting.pps
+    ∷ (if s.format.numbered then word s.counter else []) ∷ []) ++ (if s.format.sized
+    then word s.largest ∷ [] else [])
 
 -- the same state, as far as the format has it
 pub record IsSameSender (a b : Sender) : Type 0 where

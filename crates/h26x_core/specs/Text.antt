@@ -8,7 +8,8 @@ abbrev pub is_not_empty : {A : Type 0} → List A → Bool
 is_not_empty [] = false
 is_not_empty (b ∷ bytes) = true
 
--- what stands before a unit that is written: a start code, or in AVC form its length (ISO/IEC 14496-15)
+-- what stands before a unit that is written: a start code, or in AVC form its length (ISO/IEC
+-- 14496-15)
 abbrev pub lead : Bool → List ℕ → List ℕ
 lead avc unit = if avc then long_word (length unit) else 0 ∷ 0 ∷ 0 ∷ 1 ∷ []
 

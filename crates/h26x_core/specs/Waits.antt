@@ -36,7 +36,8 @@ waits_after f w unit =
 
 -- what is sent when a unit comes
 abbrev pub items_now : Format → Waiting → Entry → List Item
-items_now f w e = (if are_due (f.kind e.unit) w then items_of_sets f e.limit (sets_waiting w) e.unit else []) ++ item_of f e
+items_now f w e = (if are_due (f.kind e.unit) w then items_of_sets f e.limit (sets_waiting w) e.unit
+    else []) ++ item_of f e
 
 -- the same for entries, one after the other
 abbrev pub plan_with : Format → Waiting → List Entry → List Item

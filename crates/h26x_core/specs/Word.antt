@@ -1,4 +1,5 @@
--- Header words and lengths (RFC 6184, 1.3 and 5.8; RFC 7798, 1.1.4 and 4.4; RFC 9328, 1.1.4 and 4.3).
+-- Header words and lengths (RFC 6184, 1.3 and 5.8; RFC 7798, 1.1.4 and 4.4; RFC 9328, 1.1.4 and
+-- 4.3).
 use Rattle.std.specs.Prelude.{ℕ, ◌+◌, ◌-◌, ◌/◌, ◌%◌, ◌^◌, Bool, ◌==◌, if◌then◌else◌, List, [], ◌∷◌}
 
 -- the bits `high` down to `low` of a word; bit 0 is the lowest

@@ -6,7 +6,8 @@ ghost use Rattle.h26x_core.specs.Mark.{IsMark};
 ghost use Rattle.h26x_core.specs.Pieces.{ArePieces, HasNoPiece};
 ghost use Rattle.h26x_core.specs.Reading.{Single, Aggregate, Fragment, Paci, Refused};
 ghost use Rattle.h26x_core.specs.Format.{Format};
-ghost use Rattle.h26x_core.specs.Kind.{Sps, Pps, Other};
+ghost use Rattle.h26x_core.specs.Kind.{Skipped, Vps, Sps, Pps, Other};
+ghost use Rattle.h26x_core.specs.Sender.{is_skipped_kind};
 ghost use Rattle.h26x_core.specs.Waits.{entries_at};
 ghost use Rattle.h26x_core.specs.Again.{NothingDropped};
 ghost use Rattle.h26x_core.specs.Rival.{IsRival};
@@ -125,4 +126,10 @@ pub fn nothing_dropped()
         f.numbered ≡ false → f.sets_fit 9 ((0x01 ∷ []) ∷ (0x02 ∷ []) ∷ []) ≡ true →
         NothingDropped f (entries_at 9 (
         (0x01 ∷ []) ∷ (0x02 ∷ []) ∷ (0x03 ∷ []) ∷ (0x03 ∷ []) ∷ [])) }
+{}
+
+/// Skipped units alone are skipped.
+pub fn skipped_kinds()
+    ensures { map is_skipped_kind (Skipped ∷ Vps ∷ Sps ∷ Pps ∷ Other ∷ [])
+        ≡ true ∷ false ∷ false ∷ false ∷ false ∷ [] }
 {}

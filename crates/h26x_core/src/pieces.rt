@@ -7,11 +7,16 @@ ghost use Rattle.h26x_core.specs.Pieces.{pieces_of, with_piece};
 /// The first piece of bytes and what stands behind it, or its length where that passes the end.
 pub fn first_piece(bytes: &[u8]) -> Result<(&[u8], &[u8]), usize>
     requires { 2 ≤ length bytes.now }
-    ensures whole { IfOk result (λ it. pieces_of bytes.now ≡ with_piece it.0.now (pieces_of it.1.now)) }
+    ensures whole { IfOk result (λ it. pieces_of bytes.now ≡ with_piece it.0.now
+        (pieces_of it.1.now)) }
     ensures short { IfOk result (λ it. length it.0.now < 65536) }
     ensures less { IfOk result (λ it. length it.1.now < length bytes.now) }
-    ensures none { IfErr result (λ len. pieces_of bytes.now ≡ record { whole = []; left = bytes.now }) }
-    ensures len { IfErr result (λ len. len ≡ slice_index bytes.now 0 * 256 + slice_index bytes.now 1) }
+    ensures none { IfErr result (λ len. pieces_of bytes.now ≡ record {
+      whole = [];
+      left = bytes.now;
+    }) }
+    ensures len { IfErr result (λ len. len ≡ slice_index bytes.now 0 * 256 + slice_index bytes.now
+        1) }
 {
     let len = usize::from(bytes[0]) * 256 + usize::from(bytes[1]);
     let behind = &bytes[2..];

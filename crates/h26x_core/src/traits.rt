@@ -13,8 +13,8 @@ use std::fmt;
 pub trait Packetizer: fmt::Debug + Drop {
     ghost meaning: { Self → List (List ℕ) };
 
-    /// The RTP payloads of the encoded payload `b`, made for a limit of `mtu` bytes; the contract of an implementation
-    /// says which they are.
+    /// The RTP payloads of the encoded payload `b`, made for a limit of `mtu` bytes; the contract
+    /// of an implementation says which they are.
     ///
     /// A refusal leaves the meaning.
     fn packetize(&mut self, mtu: usize, b: &[u8]) -> Result<Vec<Vec<u8>>, PacketError>

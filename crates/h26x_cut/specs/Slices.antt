@@ -12,7 +12,12 @@ units_behind rule bytes = filter is_not_empty (cut_pieces rule bytes)
 abbrev pub IsFirstCode : List ℕ → Option ℕ → Type 0
 IsFirstCode bytes None = cut_of bytes ≡ (bytes, [])
 IsFirstCode bytes (Some place) =
-    (place + 3 ≤ length bytes) × (cut_of bytes ≡ (take place bytes, (cut_of (drop (place + 3) bytes)).0 ∷ (cut_of (drop (place + 3) bytes)).1))
+    (place + 3 ≤ length bytes)
+    × (cut_of bytes ≡ (
+      take place bytes,
+      (cut_of (drop (place + 3) bytes)).0 ∷
+          (cut_of (drop (place + 3) bytes)).1,
+    ))
 
 -- the nearest zeros of a start code, and its mark
 abbrev pub code : List ℕ

@@ -7,11 +7,14 @@ ghost use Rattle.h26x_cut.specs.declared.ZeroRule.TheVariants.{All, AtMostThree}
 
 /// Zeros before a mark belong to the start code: all of them by one rule, three by the other.
 pub fn zeros_before_a_mark()
-    ensures all { units_of All (0 ∷ 0 ∷ 1 ∷ 0xaa ∷ 0 ∷ 0 ∷ 0 ∷ 0 ∷ 1 ∷ 0xbb ∷ 0 ∷ []) ≡ (0xaa ∷ []) ∷ (0xbb ∷ 0 ∷ []) ∷ [] }
-    ensures at_most_three { units_of AtMostThree (0 ∷ 0 ∷ 1 ∷ 0xaa ∷ 0 ∷ 0 ∷ 0 ∷ 0 ∷ 1 ∷ 0xbb ∷ 0 ∷ []) ≡ (0xaa ∷ 0 ∷ []) ∷ (0xbb ∷ 0 ∷ []) ∷ [] }
+    ensures all { units_of All (0 ∷ 0 ∷ 1 ∷ 0xaa ∷ 0 ∷ 0 ∷ 0 ∷ 0 ∷ 1 ∷ 0xbb ∷ 0 ∷ []) ≡ (0xaa ∷
+        []) ∷ (0xbb ∷ 0 ∷ []) ∷ [] }
+    ensures at_most_three { units_of AtMostThree (0 ∷ 0 ∷ 1 ∷ 0xaa ∷ 0 ∷ 0 ∷ 0 ∷ 0 ∷ 1 ∷ 0xbb ∷ 0 ∷
+        []) ≡ (0xaa ∷ 0 ∷ []) ∷ (0xbb ∷ 0 ∷ []) ∷ [] }
 {}
 
-/// Without a start code the payload is one unit; what stands before the first one is dropped, and so are empty units.
+/// Without a start code the payload is one unit; what stands before the first one is dropped, and
+/// so are empty units.
 pub fn payloads_and_units()
     ensures one { units_of All (0 ∷ 0 ∷ 0 ∷ []) ≡ (0 ∷ 0 ∷ 0 ∷ []) ∷ [] }
     ensures none { units_of All (0 ∷ 0 ∷ 1 ∷ []) ≡ [] }

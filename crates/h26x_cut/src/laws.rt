@@ -16,18 +16,24 @@ pub fn a_start_code_ends_at_a_mark()
 
 /// A payload has one cutting under each rule, and so one list of units.
 pub fn one_cutting()
-    ensures is { (rule : ZeroRule) (payload : List ℕ) → IsCutting rule payload (cut_pieces rule payload) }
-    ensures only { (rule : ZeroRule) (payload : List ℕ) (a b : List (List ℕ)) → IsCutting rule payload a → IsCutting rule payload b → a ≡ b }
-    ensures units { (rule : ZeroRule) (payload : List ℕ) → AreUnits rule payload (units_of rule payload) }
-    ensures only_units { (rule : ZeroRule) (payload : List ℕ) (units : List (List ℕ)) → AreUnits rule payload units → units ≡ units_of rule payload }
+    ensures is { (rule : ZeroRule) (payload : List ℕ) →
+        IsCutting rule payload (cut_pieces rule payload) }
+    ensures only { (rule : ZeroRule) (payload : List ℕ) (a b : List (List ℕ)) →
+        IsCutting rule payload a → IsCutting rule payload b → a ≡ b }
+    ensures units { (rule : ZeroRule) (payload : List ℕ) →
+        AreUnits rule payload (units_of rule payload) }
+    ensures only_units { (rule : ZeroRule) (payload : List ℕ) (units : List (List ℕ)) →
+        AreUnits rule payload units → units ≡ units_of rule payload }
 {}
 
 /// Every unit of a payload is not empty and holds no `00 00 01`.
 pub fn units_are_whole()
-    ensures { (rule : ZeroRule) (payload : List ℕ) (units : List (List ℕ)) → AreUnits rule payload units → AllByRecursion IsUnit units }
+    ensures { (rule : ZeroRule) (payload : List ℕ) (units : List (List ℕ)) →
+        AreUnits rule payload units → AllByRecursion IsUnit units }
 {}
 
 /// The written text of units is cut into these units.
 pub fn text_is_cut_into_its_units()
-    ensures { (rule : ZeroRule) (units : List (List ℕ)) → AllByRecursion IsUnit units → AreSeparable rule units → AreUnits rule (annex_b units) units }
+    ensures { (rule : ZeroRule) (units : List (List ℕ)) → AllByRecursion IsUnit units →
+        AreSeparable rule units → AreUnits rule (annex_b units) units }
 {}

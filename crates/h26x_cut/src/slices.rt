@@ -81,8 +81,8 @@ fn units_behind_code<'a>(bytes: &'a [u8], rule: ZeroRule, finder: Finder<'static
 
 /// The units of a payload, in order, as slices of it.
 ///
-/// Without a start code the whole payload is one unit. Otherwise the bytes before the first code are
-/// dropped, and a unit stands between each code and the next, the last one up to the end. Empty
+/// Without a start code the whole payload is one unit. Otherwise the bytes before the first code
+/// are dropped, and a unit stands between each code and the next, the last one up to the end. Empty
 /// units are left out. It takes no memory and refuses nothing (Annex B of the video standards).
 ///
 /// ```rust

@@ -15,8 +15,14 @@ pub record Held (C : Type 0) : Type 0 where
   pub largest : ℕ
 
 -- what is held where these sets wait
-abbrev pub held : {C : Type 0} → C → Option (List ℕ) → Option (List ℕ) → Option (List ℕ) → ℕ → ℕ → Held C
-held codec vps sps pps counter largest = record { codec = codec; waiting = waiting_of vps sps pps; counter = counter; largest = largest }
+abbrev pub held : {C : Type 0} → C → Option (List ℕ) → Option (List ℕ) → Option (List ℕ) → ℕ → ℕ →
+    Held C
+held codec vps sps pps counter largest = record {
+  codec = codec;
+  waiting = waiting_of vps sps pps;
+  counter = counter;
+  largest = largest;
+}
 
 -- the same as a packetizer of a format
 abbrev pub sender : {C : Type 0} → Format → Held C → Sender
@@ -24,7 +30,12 @@ sender f h = record { format = f; waiting = h.waiting; counter = h.counter; larg
 
 -- a new packetizer with this setting
 abbrev pub fresh_with : {C : Type 0} → C → Held C
-fresh_with codec = record { codec = codec; waiting = none_waiting; counter = 0; largest = first_largest }
+fresh_with codec = record {
+  codec = codec;
+  waiting = none_waiting;
+  counter = 0;
+  largest = first_largest;
+}
 
 -- it is a packetizer, and where packets bear no numbers its counter is 0
 pub record IsHeld (f : Format) (s : Sender) : Type 0 where

@@ -63,13 +63,15 @@ is_nothing due = false
 abbrev pub items_due : Format → ℕ → List ℕ → Due → List Item
 items_due f limit unit d.Nothing = []
 items_due f limit unit d.Unit = items_alone f limit unit
-items_due f limit unit (d.SetsAndUnit sets) = items_of_sets f limit (sets_in sets) unit ++ items_alone f limit unit
+items_due f limit unit (d.SetsAndUnit sets) = items_of_sets f limit (sets_in sets) unit
+    ++ items_alone f limit unit
 
 -- how many units items send
 abbrev pub unit_count : List Item → ℕ
 unit_count items = length (flat_map units_of_item items)
 
 -- behind some packets stand those of items, numbered on from n, and the next number is this
-pub record IsSent (f : Format) (n : ℕ) (items : List Item) (before after : List (List ℕ)) (next : ℕ) : Type 0 where
+pub record IsSent (f : Format) (n : ℕ) (items : List Item) (before after : List (List ℕ))
+    (next : ℕ) : Type 0 where
   pub made : after ≡ before ++ packets f n items
   pub number : next ≡ (n + unit_count items) % 65536

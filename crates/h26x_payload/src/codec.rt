@@ -74,7 +74,8 @@ pub trait Codec: Copy + fmt::Debug {
         unit: &[u8],
     ) -> Result<Vec<u8>, AllocError>
         requires whole { (format self).header_len ≤ length unit.now }
-        ensures { IfOk result (λ packet. packet.items ≡ (format self).sets_packet number (sets_in sets.entry) unit.now) };
+        ensures { IfOk result (λ packet. packet.items ≡ (format self).sets_packet number
+            (sets_in sets.entry) unit.now) };
 
     /// Appends the header of a fragment of this unit.
     fn push_fragment_header(
@@ -85,7 +86,8 @@ pub trait Codec: Copy + fmt::Debug {
         packet: &mut Vec<u8>,
     ) -> Result<(), AllocError>
         requires whole { (format self).header_len ≤ length unit.now }
-        ensures { OnOk result (packet.new.items ≡ packet.old.items ++ (format self).fragment_header unit.now start end) };
+        ensures { OnOk result (packet.new.items ≡ packet.old.items
+            ++ (format self).fragment_header unit.now start end) };
 
     /// Whether a unit is of a key type.
     fn is_key(self, unit: &[u8]) -> bool
@@ -106,16 +108,20 @@ pub trait Codec: Copy + fmt::Debug {
     ghost numbers: { (codec : Self) → NumbersAreTwoBytes (format codec) };
 
     // An other unit has a whole header.
-    ghost headed: { (codec : Self) (unit : List ℕ) → is_other ((format codec).kind unit) ≡ true → (format codec).header_len ≤ length unit };
+    ghost headed: { (codec : Self) (unit : List ℕ) → is_other ((format codec).kind unit) ≡ true →
+        (format codec).header_len ≤ length unit };
 
     // A header tells whether its unit is of a key type.
-    ghost keyed: { (codec : Self) (head rest : List ℕ) → length head ≡ (format codec).header_len → (format codec).is_key (head ++ rest) ≡ (format codec).is_key head };
+    ghost keyed: { (codec : Self) (head rest : List ℕ) → length head ≡ (format codec).header_len →
+        (format codec).is_key (head ++ rest) ≡ (format codec).is_key head };
 
     // No setting changes what a unit is.
-    ghost one_kind: { (codec other : Self) (unit : List ℕ) → (format codec).kind unit ≡ (format other).kind unit };
+    ghost one_kind: { (codec other : Self) (unit : List ℕ) →
+        (format codec).kind unit ≡ (format other).kind unit };
 }
 
-/// A codec whose packets can bear decoding order numbers, and whose packetizers have a largest packet size.
+/// A codec whose packets can bear decoding order numbers, and whose packetizers have a largest
+/// packet size.
 pub trait NumberedCodec: Codec {
     ghost with_numbers_of: { Self → Bool → Self };
 

@@ -13,8 +13,8 @@ pub fn told<C: Codec>(codec: C, extra: CodecExtra, key: bool) -> CodecExtra
     codec.extra(key || codec.has_key(extra))
 }
 
-/// How many bytes the units of packets of this many bytes may take: four more, and four for each whole 1200 of them; at
-/// most `usize::MAX`.
+/// How many bytes the units of packets of this many bytes may take: four more, and four for each
+/// whole 1200 of them; at most `usize::MAX`.
 pub fn out_size_hint(packets_size: usize) -> Option<usize>
     ensures { result ≡ Some (size_hint packets_size) }
 {

@@ -26,8 +26,9 @@ pub struct Fragment<'a> {
     pub body: &'a [u8],
 }
 
-/// Takes a fragment: a start begins a run anew, another is added to the open run, an end closes it and appends its unit.
-/// One that doesn't start while no run is open does nothing, and takes no memory.
+/// Takes a fragment: a start begins a run anew, another is added to the open run, an end closes it
+/// and appends its unit. One that doesn't start while no run is open does nothing, and takes no
+/// memory.
 pub fn take_fragment<C: Codec>(
     codec: C,
     is_avc: bool,
@@ -38,8 +39,10 @@ pub fn take_fragment<C: Codec>(
 ) -> Result<(), PacketError>
     requires whole { length fragment.head.now ≡ (C.format codec).header_len }
     ensures outcome { IsOutcomeWith is_avc run.old (reading_of fragment.entry) result }
-    ensures written { OnOk result (out.new.items ≡ out.old.items ++ text is_avc (units_with run.old (reading_of fragment.entry))) }
-    ensures told { OnOk result (codec_extra.new ≡ extra_after (C.format codec) codec_extra.old (units_with run.old (reading_of fragment.entry))) }
+    ensures written { OnOk result (out.new.items ≡ out.old.items
+        ++ text is_avc (units_with run.old (reading_of fragment.entry))) }
+    ensures told { OnOk result (codec_extra.new ≡ extra_after (C.format codec) codec_extra.old
+        (units_with run.old (reading_of fragment.entry))) }
     ensures run { OnOk result (run.new ≡ run_after run.old (reading_of fragment.entry)) }
     ensures kept { OnErr result (out.new.items ≡ out.old.items) }
     ensures kept_extra { OnErr result (codec_extra.new ≡ codec_extra.old) }

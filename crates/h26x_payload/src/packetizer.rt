@@ -30,8 +30,8 @@ pub struct Brought<'a> {
 
 /// Sends the units of payloads.
 ///
-/// A unit that fits goes alone, a longer one in fragments. Parameter sets wait, each the latest of its kind, and go
-/// before the next other unit once there are an SPS and a PPS.
+/// A unit that fits goes alone, a longer one in fragments. Parameter sets wait, each the latest of
+/// its kind, and go before the next other unit once there are an SPS and a PPS.
 #[derive(Debug, Drop)]
 pub struct PayloadPacketizer<C: Codec> {
     codec: C,
@@ -49,9 +49,12 @@ impl<C: Codec> Model for PayloadPacketizer<C> {
 
     ghost Value = { Held C };
 
-    ghost view = { λ a. held a.codec (option_map (λ v. v.items) a.vps) (option_map (λ v. v.items) a.sps) (option_map (λ v. v.items) a.pps) a.counter a.largest };
+    ghost view = { λ a. held a.codec (option_map (λ v. v.items) a.vps)
+        (option_map (λ v. v.items) a.sps) (option_map (λ v. v.items) a.pps) a.counter a.largest };
 
-    ghost invariant = { λ a. IsHeld (C.format a.codec) (sender (C.format a.codec) (held a.codec (option_map (λ v. v.items) a.vps) (option_map (λ v. v.items) a.sps) (option_map (λ v. v.items) a.pps) a.counter a.largest)) };
+    ghost invariant = { λ a. IsHeld (C.format a.codec) (sender (C.format a.codec)
+        (held a.codec (option_map (λ v. v.items) a.vps) (option_map (λ v. v.items) a.sps)
+        (option_map (λ v. v.items) a.pps) a.counter a.largest)) };
 }
 
 /// The latest set, if one waits.
@@ -60,7 +63,9 @@ fn newest_of<'a>(
     taken: bool,
     brought: Option<&'a [u8]>,
 ) -> Option<&'a [u8]>
-    ensures { listed (option_map (λ s. s.now) result) ≡ newest (listed (option_map (λ v. v.items) old.now)) taken (listed (option_map (λ s. s.now) brought.entry)) }
+    ensures { listed (option_map (λ s. s.now) result) ≡ newest
+        (listed (option_map (λ v. v.items) old.now)) taken
+        (listed (option_map (λ s. s.now) brought.entry)) }
 {
     match brought {
         Some(set) => Some(set),
@@ -79,7 +84,8 @@ fn newest_of<'a>(
 
 /// A copy of a set, if there is one.
 fn copied(alloc: Global, set: Option<&[u8]>) -> Result<Option<Vec<u8>>, PacketError>
-    ensures same { IfOk result (λ it. option_map (λ v. v.items) it ≡ option_map (λ s. s.now) set.entry) }
+    ensures same { IfOk result (λ it. option_map (λ v. v.items) it ≡ option_map
+        (λ s. s.now) set.entry) }
     ensures none { set.entry ≡ None → IsOk result }
     ensures memory { OnErr result (result ≡ Err PacketError.OutOfMemory) }
 {
@@ -91,7 +97,9 @@ fn copied(alloc: Global, set: Option<&[u8]>) -> Result<Option<Vec<u8>>, PacketEr
 
 /// Puts the latest set in place.
 fn replace_set(set: &mut Option<Vec<u8>>, taken: bool, brought: Option<Vec<u8>>)
-    ensures { listed (option_map (λ v. v.items) set.new) ≡ newest (listed (option_map (λ v. v.items) set.old)) taken (listed (option_map (λ v. v.items) brought)) }
+    ensures { listed (option_map (λ v. v.items) set.new) ≡ newest
+        (listed (option_map (λ v. v.items) set.old)) taken
+        (listed (option_map (λ v. v.items) brought)) }
 {
     if taken || brought.is_some() {
         *set = brought;
@@ -114,16 +122,16 @@ impl<C: Codec> PayloadPacketizer<C> {
         }
     }
 
-    /// A law of every packetizer: at most one set of each kind waits, its numbers are of two bytes, and where packets
-    /// bear none its counter stands at 0.
+    /// A law of every packetizer: at most one set of each kind waits, its numbers are of two bytes,
+    /// and where packets bear none its counter stands at 0.
     pub fn is_sender(&self)
         ensures { IsHeld (C.format self.now.codec) (sender (C.format self.now.codec) self.now) }
     {
         let _ = &self.codec;
     }
 
-    /// A packetizer with the same setting, sets that wait, next number and largest packet size. `OutOfMemory` is its
-    /// only error.
+    /// A packetizer with the same setting, sets that wait, next number and largest packet size.
+    /// `OutOfMemory` is its only error.
     pub fn clone(&self) -> Result<Self, PacketError>
         ensures same { IfOk result (λ it. it ≡ self.now) }
         ensures none { self.now.waiting ≡ none_waiting → IsOk result }
@@ -156,10 +164,15 @@ impl<C: Codec> PayloadPacketizer<C> {
 
     /// Takes the next unit of a payload, and tells what goes.
     fn take_unit<'a>(&'a self, unit: &'a [u8], brought: &mut Brought<'a>) -> Due<'a>
-        ensures sent { (limit : ℕ) → items_due (C.format self.now.codec) limit unit.now result ≡ items_now (C.format self.now.codec) (waiting_with self.now.waiting brought.old) (record { unit = unit.now; limit = limit }) }
-        ensures waits { waiting_with self.now.waiting brought.new ≡ waits_after (C.format self.now.codec) (waiting_with self.now.waiting brought.old) unit.now }
-        ensures whole { is_nothing result ≡ false → (C.format self.now.codec).header_len ≤ length unit.now }
-        ensures skipped { is_skipped_kind ((C.format self.now.codec).kind unit.now) ≡ true → (result ≡ Due.Nothing) × (brought.new ≡ brought.old) }
+        ensures sent { (limit : ℕ) → items_due (C.format self.now.codec) limit unit.now result
+            ≡ items_now (C.format self.now.codec) (waiting_with self.now.waiting brought.old)
+            (record { unit = unit.now; limit = limit }) }
+        ensures waits { waiting_with self.now.waiting brought.new ≡ waits_after
+            (C.format self.now.codec) (waiting_with self.now.waiting brought.old) unit.now }
+        ensures whole { is_nothing result ≡ false →
+            (C.format self.now.codec).header_len ≤ length unit.now }
+        ensures skipped { is_skipped_kind ((C.format self.now.codec).kind unit.now) ≡ true →
+            (result ≡ Due.Nothing) × (brought.new ≡ brought.old) }
     {
         match self.codec.kind_of(unit) {
             UnitKind::Skipped => Due::Nothing,
@@ -202,9 +215,16 @@ impl<C: Codec> PayloadPacketizer<C> {
         b: &'a [u8],
         made: &mut Vec<Vec<u8>>,
     ) -> Result<(Brought<'a>, u16), PacketError>
-        ensures sent { IfOk result (λ it. IsSent (C.format self.now.codec) self.now.counter (plan_with (C.format self.now.codec) self.now.waiting (entries_at limit ((C.format self.now.codec).units b.now))) (map (λ p. p.items) made.old.items) (map (λ p. p.items) made.new.items) it.1) }
-        ensures waits { IfOk result (λ it. waiting_with self.now.waiting it.0 ≡ waits_after_all (C.format self.now.codec) self.now.waiting (entries_at limit ((C.format self.now.codec).units b.now))) }
-        ensures skipped { are_skipped (C.format self.now.codec) ((C.format self.now.codec).units b.now) ≡ true → IfOk result (λ it. (it.0.vps ≡ None) × (it.0.sps ≡ None) × (it.0.pps ≡ None)) × IsOk result }
+        ensures sent { IfOk result (λ it. IsSent (C.format self.now.codec) self.now.counter
+            (plan_with (C.format self.now.codec) self.now.waiting
+            (entries_at limit ((C.format self.now.codec).units b.now)))
+            (map (λ p. p.items) made.old.items) (map (λ p. p.items) made.new.items) it.1) }
+        ensures waits { IfOk result (λ it. waiting_with self.now.waiting it.0 ≡ waits_after_all
+            (C.format self.now.codec) self.now.waiting
+            (entries_at limit ((C.format self.now.codec).units b.now))) }
+        ensures skipped { are_skipped (C.format self.now.codec)
+            ((C.format self.now.codec).units b.now) ≡ true → IfOk result (λ it. (it.0.vps ≡ None)
+            × (it.0.sps ≡ None) × (it.0.pps ≡ None)) × IsOk result }
         ensures memory { OnErr result (result ≡ Err PacketError.OutOfMemory) }
     {
         let mut brought = Brought {
@@ -226,13 +246,17 @@ impl<C: Codec> PayloadPacketizer<C> {
 impl<C: NumberedCodec> PayloadPacketizer<C> {
     /// Turns decoding order numbers on, which begin at 0, or off. Sets that wait stay.
     pub fn with_donl(&mut self, has_donl: bool)
-        ensures { self.new ≡ record self.old { codec = C.with_numbers_of self.old.codec has_donl; counter = 0 } }
+        ensures { self.new ≡ record self.old {
+          codec = C.with_numbers_of self.old.codec has_donl;
+          counter = 0;
+        } }
     {
         self.codec = self.codec.with_numbers(has_donl);
         self.counter = 0;
     }
 
-    /// Sets the largest packet size, in bytes: no packet of a later call is longer. It is 1200 at first.
+    /// Sets the largest packet size, in bytes: no packet of a later call is longer. It is 1200 at
+    /// first.
     pub fn with_max_packet_size(&mut self, n: u16)
         requires { 4 ≤ n }
         ensures { self.new ≡ record self.old { largest = n } }
@@ -249,25 +273,30 @@ impl<C: Codec> Packetizer for PayloadPacketizer<C> {
 
     /// The packets of a payload, in order, each within the limit of the call.
     ///
-    /// Sets that wait from earlier calls go before the first unit that makes them due. Where no fragment has room for
-    /// data a longer unit is dropped. A payload of skipped units alone, or any under the least `mtu`, has no packets,
-    /// takes no memory and changes nothing.
+    /// Sets that wait from earlier calls go before the first unit that makes them due. Where no
+    /// fragment has room for data a longer unit is dropped. A payload of skipped units alone, or
+    /// any under the least `mtu`, has no packets, takes no memory and changes nothing.
     ///
     /// `OutOfMemory` is its only error, and leaves everything.
     fn packetize(&mut self, mtu: usize, b: &[u8]) -> Result<Vec<Vec<u8>>, PacketError>
         ensures packets { IfOk result (λ made. map (λ p. p.items) made.items
-            ≡ packets_by (sender (C.format self.old.codec) self.old) (entries_with (C.format self.old.codec) self.old mtu b.now)) }
+            ≡ packets_by (sender (C.format self.old.codec) self.old)
+            (entries_with (C.format self.old.codec) self.old mtu b.now)) }
         ensures after { OnOk result (self.new
-            ≡ held_after (C.format self.old.codec) self.old (entries_with (C.format self.old.codec) self.old mtu b.now)) }
+            ≡ held_after (C.format self.old.codec) self.old
+            (entries_with (C.format self.old.codec) self.old mtu b.now)) }
         ensures within { IfOk result (λ made.
-            AreWithin (limit_of_call (C.format self.old.codec) (call_of self.old mtu b.now)) (map (λ p. p.items) made.items)) }
+            AreWithin (limit_of_call (C.format self.old.codec) (call_of self.old mtu b.now))
+            (map (λ p. p.items) made.items)) }
 
         ensures kept { OnErr result (self.new ≡ self.old) }
         ensures memory { OnErr result (result ≡ Err PacketError.OutOfMemory) }
 
         // Calls without effect take no memory.
-        ensures free { has_no_effect (C.format self.old.codec) (call_of self.old mtu b.now) ≡ true → IsOk result }
-        ensures without_effect { has_no_effect (C.format self.old.codec) (call_of self.old mtu b.now) ≡ true →
+        ensures free { has_no_effect (C.format self.old.codec) (call_of self.old mtu b.now) ≡ true →
+            IsOk result }
+        ensures without_effect { has_no_effect (C.format self.old.codec)
+            (call_of self.old mtu b.now) ≡ true →
             IfOk result (λ made. (made.items ≡ []) × (self.new ≡ self.old)) }
     {
         laws::packetizers_go_on();

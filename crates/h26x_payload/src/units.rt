@@ -53,7 +53,8 @@ fn fits_one<C: Codec>(codec: C, limit: usize, unit: &[u8]) -> bool
     unit.len() + number_len(codec) <= limit
 }
 
-/// Appends the packets of one unit: itself, or its fragments; none where no fragment has room for data.
+/// Appends the packets of one unit: itself, or its fragments; none where no fragment has room for
+/// data.
 fn append_unit<C: Codec>(
     codec: C,
     alloc: Global,
@@ -62,7 +63,9 @@ fn append_unit<C: Codec>(
     unit: &[u8],
     made: &mut Vec<Vec<u8>>,
 ) -> Result<u16, PacketError>
-    ensures sent { IfOk result (λ next. IsSent (C.format codec) number (items_alone (C.format codec) limit unit.now) (map (λ p. p.items) made.old.items) (map (λ p. p.items) made.new.items) next) }
+    ensures sent { IfOk result (λ next. IsSent (C.format codec) number
+        (items_alone (C.format codec) limit unit.now) (map (λ p. p.items) made.old.items)
+        (map (λ p. p.items) made.new.items) next) }
     ensures memory { OnErr result (result ≡ Err PacketError.OutOfMemory) }
 {
     if fits_one(codec, limit, unit) {
@@ -84,7 +87,9 @@ fn append_set<C: Codec>(
     set: Option<&[u8]>,
     made: &mut Vec<Vec<u8>>,
 ) -> Result<u16, PacketError>
-    ensures sent { IfOk result (λ next. IsSent (C.format codec) number (map (Alone limit) (filter (fits (C.format codec) limit) (listed (option_map (λ s. s.now) set.entry)))) (map (λ p. p.items) made.old.items) (map (λ p. p.items) made.new.items) next) }
+    ensures sent { IfOk result (λ next. IsSent (C.format codec) number (map (Alone limit)
+        (filter (fits (C.format codec) limit) (listed (option_map (λ s. s.now) set.entry))))
+        (map (λ p. p.items) made.old.items) (map (λ p. p.items) made.new.items) next) }
     ensures memory { OnErr result (result ≡ Err PacketError.OutOfMemory) }
 {
     match set {
@@ -107,7 +112,9 @@ fn append_sets<C: Codec>(
     made: &mut Vec<Vec<u8>>,
 ) -> Result<u16, PacketError>
     requires whole { (C.format codec).header_len ≤ length unit.now }
-    ensures sent { IfOk result (λ next. IsSent (C.format codec) number (items_of_sets (C.format codec) limit (sets_in sets.entry) unit.now) (map (λ p. p.items) made.old.items) (map (λ p. p.items) made.new.items) next) }
+    ensures sent { IfOk result (λ next. IsSent (C.format codec) number
+        (items_of_sets (C.format codec) limit (sets_in sets.entry) unit.now)
+        (map (λ p. p.items) made.old.items) (map (λ p. p.items) made.new.items) next) }
     ensures memory { OnErr result (result ≡ Err PacketError.OutOfMemory) }
 {
     if codec.sets_fit(limit, sets) {
@@ -143,7 +150,9 @@ pub(crate) fn append_due<C: Codec>(
     made: &mut Vec<Vec<u8>>,
 ) -> Result<u16, PacketError>
     requires whole { is_nothing due ≡ false → (C.format codec).header_len ≤ length unit.now }
-    ensures sent { IfOk result (λ next. IsSent (C.format codec) number (items_due (C.format codec) limit unit.now due.entry) (map (λ p. p.items) made.old.items) (map (λ p. p.items) made.new.items) next) }
+    ensures sent { IfOk result (λ next. IsSent (C.format codec) number
+        (items_due (C.format codec) limit unit.now due.entry) (map (λ p. p.items) made.old.items)
+        (map (λ p. p.items) made.new.items) next) }
     ensures nothing { due.entry ≡ Due.Nothing → IsOk result }
     ensures memory { OnErr result (result ≡ Err PacketError.OutOfMemory) }
 {

@@ -52,7 +52,10 @@ level_id level.Level5_2 = 52
 
 -- the levels, in order
 abbrev pub levels : List H264LevelIdc
-levels = level.Level1 ∷ level.Level1B ∷ level.Level1_1 ∷ level.Level1_2 ∷ level.Level1_3 ∷ level.Level2 ∷ level.Level2_1 ∷ level.Level2_2 ∷ level.Level3 ∷ level.Level3_1 ∷ level.Level3_2 ∷ level.Level4 ∷ level.Level4_1 ∷ level.Level4_2 ∷ level.Level5 ∷ level.Level5_1 ∷ level.Level5_2 ∷ []
+levels = level.Level1 ∷ level.Level1B ∷ level.Level1_1 ∷ level.Level1_2 ∷ level.Level1_3 ∷
+    level.Level2 ∷ level.Level2_1 ∷ level.Level2_2 ∷ level.Level3 ∷ level.Level3_1 ∷
+    level.Level3_2 ∷ level.Level4 ∷ level.Level4_1 ∷ level.Level4_2 ∷ level.Level5 ∷
+    level.Level5_1 ∷ level.Level5_2 ∷ []
 
 -- the level with an id
 abbrev pub level_of : ℕ → Option H264LevelIdc
@@ -98,12 +101,15 @@ abbrev pub profile_of : H264ProfileIdc → ℕ → Option H264Profile
 profile_of it flags = option_map (λ row. row.profile) (find (names it flags) rows)
 
 -- that profile at a level
-abbrev pub at_level : H264ProfileIdc → ℕ → H264LevelIdc → Option (ProfileLevel H264Profile H264LevelIdc)
+abbrev pub at_level : H264ProfileIdc → ℕ → H264LevelIdc →
+    Option (ProfileLevel H264Profile H264LevelIdc)
 at_level it flags l = option_map (λ p. record { profile = p; level = l }) (profile_of it flags)
 
--- whether three bytes name level 1b: a profile_idc of Baseline, Main or Extended, constraint_set3_flag and the id of level 1.1
+-- whether three bytes name level 1b: a profile_idc of Baseline, Main or Extended,
+-- constraint_set3_flag and the id of level 1.1
 abbrev pub is_level_1b : ℕ → ℕ → ℕ → Bool
-is_level_1b number flags id = ((number == 66) || (number == 77) || (number == 88)) && (id == 11) && (bit_of flags 4 == 1)
+is_level_1b number flags id = ((number == 66) || (number == 77) || (number == 88)) && (id == 11)
+    && (bit_of flags 4 == 1)
 
 -- the level that three bytes name
 abbrev pub level_with : ℕ → ℕ → ℕ → Option H264LevelIdc
@@ -111,7 +117,8 @@ level_with number flags id = cond (is_level_1b number flags id) (Some level.Leve
 
 -- what three bytes say, where their profile_idc, level and profile are known
 abbrev pub known : ℕ → ℕ → ℕ → Option (ProfileLevel H264Profile H264LevelIdc)
-known number flags id = option_and_then (λ l. option_and_then (λ it. at_level it flags l) (idc_of number)) (level_with number flags id)
+known number flags id = option_and_then (λ l. option_and_then (λ it. at_level it flags l)
+    (idc_of number)) (level_with number flags id)
 
 -- what a profile-level-id says: its three bytes are the lower ones of a number
 abbrev pub profile_level : ℕ → Option (ProfileLevel H264Profile H264LevelIdc)

@@ -25,7 +25,10 @@ profile_id profile.HighThroughputScreenContentCoding = 11
 
 -- the profiles, in order
 abbrev pub profiles : List H265Profile
-profiles = profile.Main ∷ profile.Main10 ∷ profile.MainStillPicture ∷ profile.FormatRangeExtensions ∷ profile.HighThroughput ∷ profile.MultiviewMain ∷ profile.ScalableMain ∷ profile.ThreeDMain ∷ profile.ScreenContentCoding ∷ profile.ScreenContentCodingExtensions ∷ profile.HighThroughputScreenContentCoding ∷ []
+profiles = profile.Main ∷ profile.Main10 ∷ profile.MainStillPicture ∷
+    profile.FormatRangeExtensions ∷ profile.HighThroughput ∷ profile.MultiviewMain ∷
+    profile.ScalableMain ∷ profile.ThreeDMain ∷ profile.ScreenContentCoding ∷
+    profile.ScreenContentCodingExtensions ∷ profile.HighThroughputScreenContentCoding ∷ []
 
 -- the flags of tiers
 abbrev pub tier_flag : H265Tier → ℕ
@@ -54,7 +57,9 @@ level_id level.Level6_2 = 186
 
 -- the levels, in order
 abbrev pub levels : List H265Level
-levels = level.Level1 ∷ level.Level2 ∷ level.Level2_1 ∷ level.Level3 ∷ level.Level3_1 ∷ level.Level4 ∷ level.Level4_1 ∷ level.Level5 ∷ level.Level5_1 ∷ level.Level5_2 ∷ level.Level6 ∷ level.Level6_1 ∷ level.Level6_2 ∷ []
+levels = level.Level1 ∷ level.Level2 ∷ level.Level2_1 ∷ level.Level3 ∷ level.Level3_1 ∷
+    level.Level4 ∷ level.Level4_1 ∷ level.Level5 ∷ level.Level5_1 ∷ level.Level5_2 ∷ level.Level6 ∷
+    level.Level6_1 ∷ level.Level6_2 ∷ []
 
 -- the profile with an id
 abbrev pub profile_of : ℕ → Option H265Profile

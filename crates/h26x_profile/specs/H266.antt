@@ -22,7 +22,10 @@ profile_id profile.MultilayerMain10_444StillPicture = 113
 
 -- the profiles, in order
 abbrev pub profiles : List H266Profile
-profiles = profile.Main10 ∷ profile.MultilayerMain10 ∷ profile.Main10_444 ∷ profile.MultilayerMain10_444 ∷ profile.Main10StillPicture ∷ profile.MultilayerMain10StillPicture ∷ profile.Main10_444StillPicture ∷ profile.MultilayerMain10_444StillPicture ∷ []
+profiles = profile.Main10 ∷ profile.MultilayerMain10 ∷ profile.Main10_444 ∷
+    profile.MultilayerMain10_444 ∷ profile.Main10StillPicture ∷
+    profile.MultilayerMain10StillPicture ∷ profile.Main10_444StillPicture ∷
+    profile.MultilayerMain10_444StillPicture ∷ []
 
 -- the flags of tiers
 abbrev pub tier_flag : H266Tier → ℕ
@@ -53,7 +56,9 @@ level_id level.Level15_5 = 255
 
 -- the levels, in order
 abbrev pub levels : List H266Level
-levels = level.Level1 ∷ level.Level2 ∷ level.Level2_1 ∷ level.Level3 ∷ level.Level3_1 ∷ level.Level4 ∷ level.Level4_1 ∷ level.Level5 ∷ level.Level5_1 ∷ level.Level5_2 ∷ level.Level6 ∷ level.Level6_1 ∷ level.Level6_2 ∷ level.Level6_3 ∷ level.Level15_5 ∷ []
+levels = level.Level1 ∷ level.Level2 ∷ level.Level2_1 ∷ level.Level3 ∷ level.Level3_1 ∷
+    level.Level4 ∷ level.Level4_1 ∷ level.Level5 ∷ level.Level5_1 ∷ level.Level5_2 ∷ level.Level6 ∷
+    level.Level6_1 ∷ level.Level6_2 ∷ level.Level6_3 ∷ level.Level15_5 ∷ []
 
 -- the profile with an id
 abbrev pub profile_of : ℕ → Option H266Profile

@@ -16,4 +16,5 @@ takes place bit = (place == 120) || ((place == 48) && (bit == 0)) || ((place == 
 
 -- whether each place of a pattern takes its bit of a byte: the first place is bit 7
 abbrev pub matches : List ℕ → ℕ → Bool
-matches pattern byte = list_all (λ i. takes (slice_index pattern i) (bit_of byte (7 - i))) (0 ∷ 1 ∷ 2 ∷ 3 ∷ 4 ∷ 5 ∷ 6 ∷ 7 ∷ [])
+matches pattern byte = list_all (λ i. takes (slice_index pattern i) (bit_of byte (7 - i))) (0 ∷ 1 ∷
+    2 ∷ 3 ∷ 4 ∷ 5 ∷ 6 ∷ 7 ∷ [])

@@ -9,6 +9,11 @@ pub record ProfileTierLevel (P T L : Type 0) : Type 0 where
   pub level : L
 
 -- all three, where each is known
-abbrev pub all_known : {P T L : Type 0} → Option P → Option T → Option L → Option (ProfileTierLevel P T L)
+abbrev pub all_known : {P T L : Type 0} → Option P → Option T → Option L →
+    Option (ProfileTierLevel P T L)
 all_known profile tier level =
-    option_and_then (λ p. option_and_then (λ t. option_and_then (λ l. Some (record { profile = p; tier = t; level = l })) level) tier) profile
+    option_and_then (λ p. option_and_then (λ t. option_and_then (λ l. Some (record {
+      profile = p;
+      tier = t;
+      level = l;
+    })) level) tier) profile

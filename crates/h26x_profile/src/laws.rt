@@ -25,7 +25,8 @@ pub fn fallback_of_h264() -> H264ProfileLevel
 
 /// At most one row of the table of H.264 profiles has a profile_idc and a byte of flags.
 pub fn one_profile_at_most()
-    ensures { (idc : H264ProfileIdc) (flags : ℕ) → flags < 256 → count_by (h264_spec.names idc flags) h264_spec.rows ≤ 1 }
+    ensures { (idc : H264ProfileIdc) (flags : ℕ) → flags < 256 →
+        count_by (h264_spec.names idc flags) h264_spec.rows ≤ 1 }
 {}
 
 /// Each value of H.264 is the one with its number.
@@ -36,14 +37,16 @@ pub fn numbers_of_h264_name_values()
 
 /// Each value of H.265 is the one with its number.
 pub fn numbers_of_h265_name_values()
-    ensures profile { (it : H265Profile) → h265_spec.profile_of (h265_spec.profile_id it) ≡ Some it }
+    ensures profile { (it : H265Profile) → h265_spec.profile_of (h265_spec.profile_id it)
+        ≡ Some it }
     ensures tier { (it : H265Tier) → h265_spec.tier_of (h265_spec.tier_flag it) ≡ Some it }
     ensures level { (it : H265Level) → h265_spec.level_of (h265_spec.level_id it) ≡ Some it }
 {}
 
 /// Each value of H.266 is the one with its number.
 pub fn numbers_of_h266_name_values()
-    ensures profile { (it : H266Profile) → h266_spec.profile_of (h266_spec.profile_id it) ≡ Some it }
+    ensures profile { (it : H266Profile) → h266_spec.profile_of (h266_spec.profile_id it)
+        ≡ Some it }
     ensures tier { (it : H266Tier) → h266_spec.tier_of (h266_spec.tier_flag it) ≡ Some it }
     ensures level { (it : H266Level) → h266_spec.level_of (h266_spec.level_id it) ≡ Some it }
 {}
@@ -55,20 +58,25 @@ pub fn no_level_id_in_both()
 
 /// Levels of H.264 are ordered by their places, and those at one place are equal.
 pub fn order_of_h264_levels()
-    ensures order { (a b : H264LevelIdc) → ⟦<H264LevelIdc as Ord>⟧.cmp a b ≡ nat_cmp (h264_spec.ordinal a) (h264_spec.ordinal b) }
+    ensures order { (a b : H264LevelIdc) →
+        ⟦<H264LevelIdc as Ord>⟧.cmp a b ≡ nat_cmp (h264_spec.ordinal a) (h264_spec.ordinal b) }
     ensures equal { (a b : H264LevelIdc) → h264_spec.ordinal a ≡ h264_spec.ordinal b → a ≡ b }
 {}
 
 /// Levels of H.265 are ordered by their places and by their ids, and those at one place are equal.
 pub fn order_of_h265_levels()
-    ensures order { (a b : H265Level) → ⟦<H265Level as Ord>⟧.cmp a b ≡ nat_cmp (h265_spec.ordinal a) (h265_spec.ordinal b) }
-    ensures ids { (a b : H265Level) → nat_cmp (h265_spec.ordinal a) (h265_spec.ordinal b) ≡ nat_cmp (h265_spec.level_id a) (h265_spec.level_id b) }
+    ensures order { (a b : H265Level) → ⟦<H265Level as Ord>⟧.cmp a b ≡ nat_cmp (h265_spec.ordinal a)
+        (h265_spec.ordinal b) }
+    ensures ids { (a b : H265Level) → nat_cmp (h265_spec.ordinal a) (h265_spec.ordinal b) ≡ nat_cmp
+        (h265_spec.level_id a) (h265_spec.level_id b) }
     ensures equal { (a b : H265Level) → h265_spec.ordinal a ≡ h265_spec.ordinal b → a ≡ b }
 {}
 
 /// Levels of H.266 are ordered by their places and by their ids, and those at one place are equal.
 pub fn order_of_h266_levels()
-    ensures order { (a b : H266Level) → ⟦<H266Level as Ord>⟧.cmp a b ≡ nat_cmp (h266_spec.ordinal a) (h266_spec.ordinal b) }
-    ensures ids { (a b : H266Level) → nat_cmp (h266_spec.ordinal a) (h266_spec.ordinal b) ≡ nat_cmp (h266_spec.level_id a) (h266_spec.level_id b) }
+    ensures order { (a b : H266Level) → ⟦<H266Level as Ord>⟧.cmp a b ≡ nat_cmp (h266_spec.ordinal a)
+        (h266_spec.ordinal b) }
+    ensures ids { (a b : H266Level) → nat_cmp (h266_spec.ordinal a) (h266_spec.ordinal b) ≡ nat_cmp
+        (h266_spec.level_id a) (h266_spec.level_id b) }
     ensures equal { (a b : H266Level) → h266_spec.ordinal a ≡ h266_spec.ordinal b → a ≡ b }
 {}

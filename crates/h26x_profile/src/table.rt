@@ -166,7 +166,8 @@ pub(crate) fn profile_of(idc: H264ProfileIdc, flags: u8) -> Option<H264Profile>
 }
 
 /// The level that three bytes name: level 1b by the id of level 1.1 with constraint_set3_flag, of a
-/// profile_idc of Baseline, Main or Extended (RFC 6184, section 8.1), and else the level with the id.
+/// profile_idc of Baseline, Main or Extended (RFC 6184, section 8.1), and else the level with the
+/// id.
 pub(crate) fn level_with(profile_idc: u8, flags: u8, level_id: u8) -> Option<H264LevelIdc>
     ensures { result ≡ spec.level_with profile_idc flags level_id }
 {

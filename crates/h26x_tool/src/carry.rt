@@ -21,7 +21,8 @@ fn deliver(
     extra: &mut CodecExtra,
 ) -> Result<(), PacketError>
     ensures kept { IsFrontOf out.old.items out.new.items }
-    ensures delivered { AreDelivered (work d.old out.old.items extra.old) (map (λ p. p.items) packets.now) result
+    ensures delivered { AreDelivered (work d.old out.old.items extra.old)
+        (map (λ p. p.items) packets.now) result
         (Some (work d.new out.new.items extra.new)) }
     ensures free { packets.now ≡ [] → IsOk result }
 {
@@ -33,8 +34,8 @@ fn deliver(
     Ok(())
 }
 
-/// Packetizes a payload and depacketizes its packets, in order, up to the first that is refused. The
-/// answer is whether there was one. The bytes that stood in `out` stay, after a refusal too.
+/// Packetizes a payload and depacketizes its packets, in order, up to the first that is refused.
+/// The answer is whether there was one. The bytes that stood in `out` stay, after a refusal too.
 pub fn carry_one(
     p: &mut H264Packetizer,
     d: &mut H264Depacketizer,
@@ -44,11 +45,14 @@ pub fn carry_one(
     extra: &mut CodecExtra,
 ) -> Result<bool, PacketError>
     ensures kept { IsFrontOf out.old.items out.new.items }
-    ensures made { IfOk result (λ made. made ≡ is_not_empty (packets_by (sender h264 p.old) (entries_with h264 p.old mtu payload.now))) }
+    ensures made { IfOk result (λ made. made ≡ is_not_empty (packets_by (sender h264 p.old)
+        (entries_with h264 p.old mtu payload.now))) }
     ensures delivered { AreDelivered (work d.old out.old.items extra.old) (packets_by (sender h264 p.old) (entries_with h264 p.old mtu payload.now)) result
         (Some (work d.new out.new.items extra.new)) }
-    ensures waits { OnOk result (p.new ≡ held_after h264 p.old (entries_with h264 p.old mtu payload.now)) }
-    ensures waits_on { OnErr result ((p.new ≡ held_after h264 p.old (entries_with h264 p.old mtu payload.now))
+    ensures waits { OnOk result (p.new ≡ held_after h264 p.old
+        (entries_with h264 p.old mtu payload.now)) }
+    ensures waits_on { OnErr result
+        ((p.new ≡ held_after h264 p.old (entries_with h264 p.old mtu payload.now))
         ⊎ ((p.new ≡ p.old) × (result ≡ Err PacketError.OutOfMemory))) }
     ensures whole { IsCarriedWhole (sender h264 p.old) (work d.old out.old.items extra.old) (call_of p.old mtu payload.now) result (work d.new out.new.items extra.new) }
 
