@@ -1,13 +1,15 @@
--- H.265 as a format whose headers have two bytes: the bytes of headers.
-use Rattle.std.proofs.Common.{◌≡◌, ℕ, ◌<◌, Bool, true, false, cond, [], ◌∷◌, refl, ap, arith}
-use Rattle.std.specs.Prelude.{◌&&◌, ◌||◌, ◌==◌, nat_lt}
+-- H.265 as a format whose headers have two bytes: headers, and fragments behind them.
+use Rattle.std.proofs.Common.{◌≡◌, ℕ, ◌+◌, ◌*◌, ◌<◌, ◌≤◌, Bool, true, false, cond, eqb, List, [], ◌∷◌, length, Some, None, refl, ap, arith}
+use Rattle.std.specs.Prelude.{◌&&◌, ◌||◌, ◌==◌, nat_le, nat_lt}
 use Rattle.std.proofs.lemmas.Bool.{and_parts}
 use Rattle.std.proofs.lemmas.Bool.Decides.{nat_tests}
 use Rattle.h26x_core.specs.declared.error.PacketError.TheVariants.{ErrH265CorruptedPacket}
 use Rattle.h26x_core.specs.Word.{field, is_set}
+use Rattle.h26x_core.specs.Kind.{is_other}
 use Rattle.h26x_core.specs.H265Unit.{type_of, kind_of_type, is_key_type}
-use Rattle.h26x_core.specs.Reading.{single_of}
-use Rattle.h26x_core.proofs.TwoByteLemmas.{TwoBytes, IsCarried}
+use Rattle.h26x_core.specs.Reading.{Fragment, single_of}
+use Rattle.h26x_core.proofs.HeaderLemmas.{six_bits_back}
+use Rattle.h26x_core.proofs.TwoByteLemmas.{TwoBytes, IsTwoBytes, IsCarried}
 use Rattle.h265_payload.specs.H265.{with_type, with_type_and_f, aggregate_of, fragment_of, paci_of}
 
 -- what sets H.265 apart: types stand in the high byte, and have six bits
@@ -55,3 +57,44 @@ carried numbered high low h =
       mark_clear = clear_as high 49 clear (omega arith);
       back = ap (λ (x : ℕ). x ∷ low ∷ []) (head_back high below);
     }
+
+-- a fragment that bears no number
+pub some_fragment : (numbered start : Bool) (high low b : ℕ) (body : List ℕ) → (numbered && start) ≡ false → 1 ≤ length body →
+    fragment_of numbered start high low b body ≡ Fragment start (is_set b 6) (with_type high (field b 5 0) ∷ low ∷ []) None body
+some_fragment numbered start high low b [] n some = absurd (omega arith)
+some_fragment true true high low b (x ∷ body) n some = absurd cc
+some_fragment true false high low b (x ∷ body) n some = refl
+some_fragment false true high low b (x ∷ body) n some = refl
+some_fragment false false high low b (x ∷ body) n some = refl
+
+-- a start that bears one
+pub numbered_start : (numbered start : Bool) (high low b d e : ℕ) (body : List ℕ) → (numbered && start) ≡ true → 1 ≤ length body →
+    fragment_of numbered start high low b (d ∷ e ∷ body) ≡ Fragment true (is_set b 6) (with_type high (field b 5 0) ∷ low ∷ []) (Some (d * 256 + e)) body
+numbered_start numbered start high low b d e [] n some = absurd (omega arith)
+numbered_start true true high low b d e (x ∷ body) n some = refl
+numbered_start true false high low b d e (x ∷ body) n some = absurd cc
+numbered_start false start high low b d e (x ∷ body) n some = absurd cc
+
+-- a key type is no parameter set's
+key_is_other : (t : ℕ) → is_key_type t ≡ true → is_other (kind_of_type t) ≡ true
+key_is_other t e =
+    let p = and_parts (nat_le 16 t) (nat_le t 21) e in
+    let upper : nat_le t 21 ≡ true = p.1 in
+    let no_35 : eqb t 35 ≡ false = grind (arith, nat_tests) in
+    let no_32 : eqb t 32 ≡ false = grind (arith, nat_tests) in
+    let no_33 : eqb t 33 ≡ false = grind (arith, nat_tests) in
+    let no_34 : eqb t 34 ≡ false = grind (arith, nat_tests) in
+    rw (no_35, no_32, no_33, no_34) refl
+
+-- H.265 is what is asked of formats whose headers have two bytes
+pub is_two_bytes : (numbered : Bool) → IsTwoBytes numbered (two numbered)
+is_two_bytes numbered = record {
+  apart = refl;
+  type_fits = λ high low. omega arith;
+  marked = λ high low. omega arith;
+  type_back = λ start end high low. six_bits_back start end (type_of high) (omega arith);
+  carried = carried numbered;
+  other = key_is_other;
+  plain = some_fragment numbered;
+  start = numbered_start numbered;
+}

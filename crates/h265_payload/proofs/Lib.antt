@@ -1,5 +1,4 @@
 pub mod HeaderLemmas
-pub mod ReadBackLemmas
 pub mod SetsLemmas
 pub mod FactLemmas
 pub mod FurtherLemmas

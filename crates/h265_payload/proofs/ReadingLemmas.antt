@@ -6,20 +6,20 @@ use Rattle.std.proofs.lemmas.Bool.Decides.{nat_tests}
 use Rattle.h26x_core.specs.Word.{field, is_set}
 use Rattle.h26x_core.specs.H265Unit.{type_of}
 use Rattle.h26x_core.specs.Reading.{Reading, Single, Aggregate, Paci, Refused, unnumbered, single_of}
-use Rattle.h26x_core.specs.declared.error.PacketError.TheVariants.{ErrShortPacket, ErrH265CorruptedPacket}
+use Rattle.h26x_core.specs.declared.error.PacketError.TheVariants.{ErrShortPacket}
 use Rattle.h26x_core.specs.Pieces.{HasNoPiece, Pieces}
 use Rattle.h26x_core.proofs.PieceLemmas.{only_pieces, split_at, enough}
+use Rattle.h26x_core.proofs.TwoByteLemmas.{short_read, marked_read, aggregate_read, own_read}
 use Rattle.h26x_core.proofs.SingleLemmas.{short_single, numbered_single}
 use Rattle.h265_payload.specs.H265.{read, two_or_more, aggregate_of, units_from, further_units, fragment_of, paci_of, paci_behind, paci_head}
 use Rattle.h265_payload.specs.Reading.{IsReading, IsWhole, IsUnitType, AreFurther, HasNoFurther, IsShort, IsCorrupted, IsUnit, IsNumberedUnit, IsShortUnit, IsAggregate, IsShortAggregate, IsNumberedAggregate, IsOneNumbered, IsNoneNumbered, IsWithoutNumber, IsFragment, IsNumberedStart, IsShortFragment, IsShortStart, IsPaci, IsShortPaci, IsPaciWithoutFields}
-use Rattle.h265_payload.proofs.ReadBackLemmas.{some_fragment, numbered_start}
+use Rattle.h265_payload.proofs.HeaderLemmas.{two, some_fragment, numbered_start}
 use Rattle.h265_payload.proofs.FurtherLemmas.{only_further}
 
 -- a packet with F clear and type 48 is read as an aggregate
 read_aggregate : (numbered : Bool) (packet : List ℕ) (high low : ℕ) (rest : List ℕ) → IsWhole packet high low rest → type_of high ≡ 48 →
     read numbered packet ≡ aggregate_of numbered rest
-read_aggregate numbered packet high low [] w t = let s = w.some in absurd (omega arith)
-read_aggregate numbered packet high low (b ∷ rest) w t = rw (w.whole, w.clear, t) refl
+read_aggregate numbered packet high low rest w t = ap (read numbered) w.whole ∙ aggregate_read numbered (two numbered) high low rest w.some w.clear t
 
 -- one of type 49 as a fragment
 read_fragment : (numbered : Bool) (packet : List ℕ) (high low b : ℕ) (rest : List ℕ) → IsWhole packet high low (b ∷ rest) → type_of high ≡ 49 →
@@ -40,20 +40,9 @@ unit_type type (inr h) = (grind (arith, nat_tests), grind (arith, nat_tests), gr
 -- one of another type as a unit
 read_single : (numbered : Bool) (packet : List ℕ) (high low : ℕ) (rest : List ℕ) → IsWhole packet high low rest → IsUnitType (type_of high) →
     read numbered packet ≡ single_of numbered high low rest
-read_single numbered packet high low [] w t = let s = w.some in absurd (omega arith)
-read_single numbered packet high low (b ∷ rest) w t = let u = unit_type (type_of high) t in rw (w.whole, w.clear, u.0, u.1, u.2) refl
-
--- a packet without a byte behind its header is too short
-read_short : (numbered : Bool) (packet : List ℕ) → length packet ≤ 2 → read numbered packet ≡ Refused ErrShortPacket
-read_short numbered [] h = refl
-read_short numbered (high ∷ []) h = refl
-read_short numbered (high ∷ low ∷ []) h = refl
-read_short numbered (high ∷ low ∷ b ∷ rest) h = absurd (omega arith)
-
--- a longer one with F set is corrupted
-read_corrupted : (numbered : Bool) (high low : ℕ) (rest : List ℕ) → 1 ≤ length rest → is_set high 7 ≡ true → read numbered (high ∷ low ∷ rest) ≡ Refused ErrH265CorruptedPacket
-read_corrupted numbered high low [] some f = absurd (omega arith)
-read_corrupted numbered high low (b ∷ rest) some f = rw f refl
+read_single numbered packet high low rest w t =
+    let u = unit_type (type_of high) t in
+    ap (read numbered) w.whole ∙ own_read numbered (two numbered) high low rest w.some w.clear u.0 u.1 ∙ rw u.2 refl
 
 -- two units or more are an aggregate, and fewer are too short
 two_read : (units : List (List ℕ × Option ℕ)) → 2 ≤ length units → two_or_more units ≡ Aggregate units
@@ -128,8 +117,8 @@ short_paci high low a b bytes short =
 
 -- a packet has no other reading than the one that is computed
 pub only_reading : (numbered : Bool) (packet : List ℕ) (reading : Reading) → IsReading numbered packet reading → read numbered packet ≡ reading
-only_reading numbered packet reading (IsShort short is) = read_short numbered packet short ∙ sym is
-only_reading numbered packet reading (IsCorrupted high low rest same some f is) = ap (read numbered) same ∙ read_corrupted numbered high low rest some f ∙ sym is
+only_reading numbered packet reading (IsShort short is) = short_read numbered (two numbered) packet short ∙ sym is
+only_reading numbered packet reading (IsCorrupted high low rest same some f is) = ap (read numbered) same ∙ marked_read numbered (two numbered) high low rest some f ∙ sym is
 only_reading numbered packet reading (IsUnit high low rest w t n is) = read_single numbered packet high low rest w t ∙ rw n (ap (λ (x : List ℕ). Single x None) (sym w.whole)) ∙ sym is
 only_reading numbered packet reading (IsNumberedUnit high low d e body w t n some is) =
     read_single numbered packet high low (d ∷ e ∷ body) w t ∙ rw n (numbered_single high low d e body some) ∙ sym is

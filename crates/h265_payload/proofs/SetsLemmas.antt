@@ -14,8 +14,7 @@ use Rattle.h26x_core.proofs.PieceLemmas.{word_back, pieces_back, enough, number_
 use Rattle.h26x_core.proofs.SetsLemmas.{room_of, room_of-cons, FitIsWithin, sets_short, plain_numbers, next_number}
 use Rattle.h26x_core.proofs.TwoByteLemmas.{IsCarried, of_carried, sets_undetected}
 use Rattle.h265_payload.specs.H265.{h265, carries, read, sets_fit, sets_packet, with_type_and_f, further, further_units, units_from, two_or_more, detects}
-use Rattle.h265_payload.proofs.HeaderLemmas.{two, clear_as}
-use Rattle.h265_payload.proofs.ReadBackLemmas.{is_two_bytes}
+use Rattle.h265_payload.proofs.HeaderLemmas.{two, is_two_bytes, clear_as}
 
 -- sets that fit an aggregate are within the limit
 fit_within : (numbered : Bool) (limit : ℕ) (sets : List (List ℕ)) → sets_fit numbered limit sets ≡ true → 2 + cond numbered (length sets + 1) 0 + room_of sets ≤ limit

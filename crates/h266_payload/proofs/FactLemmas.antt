@@ -1,19 +1,42 @@
 -- H.266 meets the facts that the laws of every format ask.
-use Rattle.std.proofs.Common.{Bool, refl}
+use Rattle.std.proofs.Common.{ℕ, Bool, List, length, refl, ap, arith}
+use Rattle.std.proofs.lemmas.Bool.{and_parts}
 use Rattle.std.proofs.Math.Nat.{mod-mod}
+use Rattle.h26x_core.specs.Word.{is_set}
+use Rattle.h26x_core.specs.Reading.{Reading}
 use Rattle.h26x_core.specs.Facts.{IsPayloadFormat}
 use Rattle.h26x_core.proofs.TwoByteLemmas as two_byte
-use Rattle.h266_payload.specs.H266.{h266}
-use Rattle.h266_payload.proofs.HeaderLemmas.{two}
-use Rattle.h266_payload.proofs.ReadBackLemmas.{is_two_bytes}
+use Rattle.h26x_core.proofs.TwoByteLemmas.{HasRoom, none_borne}
+use Rattle.h266_payload.specs.H266.{h266, read}
+use Rattle.h266_payload.specs.Reading.{IsReading, IsShort, IsCorrupted, IsUnit, IsNumberedUnit, IsShortUnit, IsAggregate, IsShortAggregate, IsCutAggregate, IsCorruptedAggregate, IsWithoutNumber, IsFragment, IsNumberedStart, IsShortStart}
+use Rattle.h266_payload.proofs.HeaderLemmas.{two, is_two_bytes}
 use Rattle.h266_payload.proofs.SetsLemmas.{fit_is_within, sets_long, sets_back, undetected}
+use Rattle.h266_payload.proofs.ReadingLemmas.{has_reading}
+
+-- a fragment has room for its headers and number beside its data
+has_room : (numbered : Bool) (packet : List ℕ) (reading : Reading) → IsReading numbered packet reading → HasRoom numbered (length packet) reading
+has_room numbered packet reading (IsFragment high low fu body w type n is) =
+    rw (is, none_borne numbered (is_set fu 7) n) (let l = ap length w.whole in omega (arith, l))
+has_room numbered packet reading (IsNumberedStart high low fu d e body w type n is) =
+    rw (is, (and_parts numbered (is_set fu 7) n).0) (let l = ap length w.whole in omega (arith, l))
+has_room numbered packet reading (IsShort short is) = rw is tt
+has_room numbered packet reading (IsCorrupted high low rest whole some marked is) = rw is tt
+has_room numbered packet reading (IsUnit high low rest w type n is) = rw is tt
+has_room numbered packet reading (IsNumberedUnit high low d e body w type n some is) = rw is tt
+has_room numbered packet reading (IsShortUnit high low rest w type n short is) = rw is tt
+has_room numbered packet reading (IsAggregate high low rest bytes number units w type behind are all two is) = rw is tt
+has_room numbered packet reading (IsShortAggregate high low rest bytes number units w type behind are all one is) = rw is tt
+has_room numbered packet reading (IsCutAggregate high low rest bytes left number units w type behind are all cut is) = rw is tt
+has_room numbered packet reading (IsCorruptedAggregate high low h l rest bytes unit after number units w type behind are all long forbidden is) = rw is tt
+has_room numbered packet reading (IsWithoutNumber high low d w type n is) = rw is tt
+has_room numbered packet reading (IsShortStart high low fu body w type n short is) = rw is tt
 
 -- the format meets all facts, with and without numbers
 pub is_payload_format : (numbered : Bool) → IsPayloadFormat (h266 numbered)
-is_payload_format numbered = two_byte.is_payload_format numbered (two numbered) (h266 numbered) (is_two_bytes numbered) (record {
+is_payload_format numbered = two_byte.is_payload_format numbered (two numbered) (is_two_bytes numbered) (h266 numbered) (record {
   within = fit_is_within numbered;
   long = sets_long numbered;
   back = λ n limit sets unit is fit many carried h. sets_back numbered n limit sets unit is fit many carried;
   undetected = λ n limit sets unit none is fit carried h each. undetected numbered n limit sets unit none is fit each;
   numbers = record { sets = λ n sets unit. rw (mod-mod n 65536) refl; none = λ none n m sets unit. rw none refl };
-}) (λ key. refl)
+}) (λ packet. has_room numbered packet (read numbered packet) (has_reading numbered packet)) (λ key. refl)

@@ -1,13 +1,15 @@
--- H.266 as a format whose headers have two bytes: the bytes of headers.
-use Rattle.std.proofs.Common.{◌≡◌, ℕ, ◌+◌, ◌*◌, ◌<◌, Bool, true, false, [], ◌∷◌, refl, ap, arith}
-use Rattle.std.specs.Prelude.{◌&&◌, ◌||◌, nat_lt, max}
+-- H.266 as a format whose headers have two bytes: headers, and fragments behind them.
+use Rattle.std.proofs.Common.{◌≡◌, ℕ, ◌+◌, ◌*◌, ◌<◌, Bool, true, false, List, [], ◌∷◌, Some, None, refl, ap, arith}
+use Rattle.std.specs.Prelude.{◌&&◌, ◌||◌, ◌==◌, nat_lt, max}
 use Rattle.std.proofs.lemmas.Bool.{and_parts}
 use Rattle.std.proofs.lemmas.Bool.Decides.{nat_tests}
 use Rattle.h26x_core.specs.declared.error.PacketError.TheVariants.{ErrH266CorruptedPacket}
 use Rattle.h26x_core.specs.Word.{field, is_set}
+use Rattle.h26x_core.specs.Kind.{is_other}
 use Rattle.h26x_core.specs.H266Unit.{type_of, kind_of_type, is_key_type}
-use Rattle.h26x_core.specs.Reading.{single_of}
-use Rattle.h26x_core.proofs.TwoByteLemmas.{TwoBytes, IsCarried}
+use Rattle.h26x_core.specs.Reading.{Fragment, single_of}
+use Rattle.h26x_core.proofs.HeaderLemmas.{type_back}
+use Rattle.h26x_core.proofs.TwoByteLemmas.{TwoBytes, IsTwoBytes, IsCarried}
 use Rattle.h266_payload.specs.H266.{with_type, aggregate_of, fragment_of}
 
 -- what sets H.266 apart: types stand in the low byte, and have five bits
@@ -55,3 +57,41 @@ carried numbered high low h =
       mark_clear = clear;
       back = ap (λ (x : ℕ). high ∷ x ∷ []) (low_back low (grind (arith, nat_tests)));
     }
+
+-- a fragment without a number keeps all its bytes
+pub plain_fragment : (numbered start : Bool) (high low fu : ℕ) (body : List ℕ) → (numbered && start) ≡ false →
+    fragment_of numbered start high low fu body ≡ Fragment start (is_set fu 6) (high ∷ with_type low (field fu 4 0) ∷ []) None body
+plain_fragment false start high low fu body none = refl
+plain_fragment true false high low fu body none = refl
+plain_fragment true true high low fu body none = absurd cc
+
+-- a start with a number keeps those behind it
+pub numbered_start : (numbered start : Bool) (high low fu d e : ℕ) (body : List ℕ) → (numbered && start) ≡ true →
+    fragment_of numbered start high low fu (d ∷ e ∷ body) ≡ Fragment true (is_set fu 6) (high ∷ with_type low (field fu 4 0) ∷ []) (Some (d * 256 + e)) body
+numbered_start true true high low fu d e body both = refl
+numbered_start true false high low fu d e body both = absurd cc
+numbered_start false start high low fu d e body both = absurd cc
+
+-- a key type is neither a parameter set's nor one that is skipped
+key_type_other : (type : ℕ) → is_key_type type ≡ true → is_other (kind_of_type type) ≡ true
+key_type_other type e =
+    let aud : (type == 20) ≡ false = grind (arith, nat_tests) in
+    let aggregate : (type == 28) ≡ false = grind (arith, nat_tests) in
+    let fragment : (type == 29) ≡ false = grind (arith, nat_tests) in
+    let vps : (type == 14) ≡ false = grind (arith, nat_tests) in
+    let sps : (type == 15) ≡ false = grind (arith, nat_tests) in
+    let pps : (type == 16) ≡ false = grind (arith, nat_tests) in
+    rw (aud, aggregate, fragment, vps, sps, pps) refl
+
+-- H.266 is what is asked of formats whose headers have two bytes
+pub is_two_bytes : (numbered : Bool) → IsTwoBytes numbered (two numbered)
+is_two_bytes numbered = record {
+  apart = refl;
+  type_fits = λ high low. omega arith;
+  marked = λ high low. omega arith;
+  type_back = λ start end high low. type_back start end (type_of low) (omega arith);
+  carried = carried numbered;
+  other = key_type_other;
+  plain = λ start high low fu body none some. plain_fragment numbered start high low fu body none;
+  start = λ start high low fu d e body both some. numbered_start numbered start high low fu d e body both;
+}

@@ -9,13 +9,12 @@ use Rattle.h26x_core.specs.Reading.{Reading, Single, Aggregate, Refused, single_
 use Rattle.h26x_core.specs.declared.error.PacketError.{PacketError}
 use Rattle.h26x_core.specs.declared.error.PacketError.TheVariants.{ErrShortPacket, ErrH266CorruptedPacket}
 use Rattle.h26x_core.proofs.SingleLemmas.{short_single, numbered_single}
-use Rattle.h26x_core.proofs.TwoByteLemmas.{by_kind, aggregate_read}
+use Rattle.h26x_core.proofs.TwoByteLemmas.{by_kind, short_read, marked_read, aggregate_read, own_read}
 use Rattle.h266_payload.specs.H266.{read, numbered_on, two_or_more, units_within, aggregate_of, fragment_of}
 use Rattle.h266_payload.specs.Reading.{IsReading, IsWhole, IsUnitType, IsBehind, IsPlain, IsNumbered}
 use Rattle.h266_payload.specs.Reading.{IsShort, IsCorrupted, IsUnit, IsNumberedUnit, IsShortUnit}
 use Rattle.h266_payload.specs.Reading.{IsAggregate, IsShortAggregate, IsCutAggregate, IsCorruptedAggregate, IsWithoutNumber, IsFragment, IsNumberedStart, IsShortStart}
-use Rattle.h266_payload.proofs.HeaderLemmas.{two}
-use Rattle.h266_payload.proofs.ReadBackLemmas.{plain_fragment, numbered_start}
+use Rattle.h266_payload.proofs.HeaderLemmas.{two, plain_fragment, numbered_start}
 use Rattle.h266_payload.proofs.WithinLemmas.{IsFound, ToTheEnd, ToACut, ToAForbidden, found_within, only_found}
 
 -- an aggregate is read as its bytes are found to be
@@ -88,24 +87,11 @@ has_reading numbered = by_kind numbered (two numbered) (IsReading numbered) (λ 
     (λ high low fu body clear type. fragment_is numbered high low fu (high ∷ low ∷ fu ∷ body) body (is_whole high low (fu ∷ body) (omega arith) clear) type)
     (λ high low rest some clear x y. unit_is numbered high low (high ∷ low ∷ rest) rest (is_whole high low rest some clear) (own_type (type_of low) x y))
 
--- two bytes or fewer are too short
-short_read : (numbered : Bool) (packet : List ℕ) → length packet ≤ 2 → read numbered packet ≡ Refused ErrShortPacket
-short_read numbered [] short = refl
-short_read numbered (high ∷ []) short = refl
-short_read numbered (high ∷ low ∷ []) short = refl
-short_read numbered (high ∷ low ∷ b ∷ body) short = absurd (omega arith)
-
--- with F set a packet is corrupted
-marked_read : (numbered : Bool) (high low : ℕ) (rest : List ℕ) → 1 ≤ length rest → is_set high 7 ≡ true → read numbered (high ∷ low ∷ rest) ≡ Refused ErrH266CorruptedPacket
-marked_read numbered high low [] some marked = absurd (omega arith)
-marked_read numbered high low (b ∷ body) some marked = rw marked refl
-
 -- a unit's own type is read as a unit alone
 unit_read : (numbered : Bool) (high low : ℕ) (packet rest : List ℕ) → IsWhole packet high low rest → IsUnitType (type_of low) → read numbered packet ≡ single_of numbered high low rest
-unit_read numbered high low packet [] whole type = let some : 1 ≤ length {A = ℕ} [] = whole.some in absurd (omega arith)
-unit_read numbered high low packet (b ∷ body) whole type =
+unit_read numbered high low packet rest whole type =
     let other = other_type (type_of low) type in
-    rw (whole.whole, whole.clear, other.0, other.1) refl
+    ap (read numbered) whole.whole ∙ own_read numbered (two numbered) high low rest whole.some whole.clear other.0 other.1
 
 -- type 29 is read as a fragment
 fragment_read : (numbered : Bool) (high low fu : ℕ) (packet body : List ℕ) → IsWhole packet high low (fu ∷ body) → type_of low ≡ 29 →
@@ -148,8 +134,8 @@ short_start high low fu (d ∷ e ∷ body) short = absurd (omega arith)
 
 -- a packet has no other reading than the one computed
 pub only_reading : (numbered : Bool) (packet : List ℕ) (reading : Reading) → IsReading numbered packet reading → read numbered packet ≡ reading
-only_reading numbered packet reading (IsShort short is) = short_read numbered packet short ∙ sym is
-only_reading numbered packet reading (IsCorrupted high low rest whole some marked is) = ap (read numbered) whole ∙ marked_read numbered high low rest some marked ∙ sym is
+only_reading numbered packet reading (IsShort short is) = short_read numbered (two numbered) packet short ∙ sym is
+only_reading numbered packet reading (IsCorrupted high low rest whole some marked is) = ap (read numbered) whole ∙ marked_read numbered (two numbered) high low rest some marked ∙ sym is
 only_reading numbered packet reading (IsUnit high low rest whole type plain is) =
     unit_read numbered high low packet rest whole type ∙ rw plain (ap (λ (unit : List ℕ). Single unit None) (sym whole.whole)) ∙ sym is
 only_reading numbered packet reading (IsNumberedUnit high low d e body whole type bears some is) =

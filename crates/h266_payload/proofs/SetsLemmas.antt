@@ -12,11 +12,10 @@ use Rattle.h26x_core.specs.Pieces.{piece}
 use Rattle.h26x_core.specs.Facts.{AreCarried}
 use Rattle.h26x_core.proofs.PieceLemmas.{word_back, number_back, pieces_long}
 use Rattle.h26x_core.proofs.SetsLemmas.{room_of, FitIsWithin, sets_short, plain_numbers, next_number}
-use Rattle.h26x_core.proofs.TwoByteLemmas.{of_carried, carried_long, aggregate_read, sets_undetected}
+use Rattle.h26x_core.proofs.TwoByteLemmas.{of_carried, header_there, aggregate_read, sets_undetected}
 use Rattle.h266_payload.specs.H266.{h266, read, carries, sets_fit, sets_packet, has_forbidden_bit, layer_of, temporal_of, least}
 use Rattle.h266_payload.specs.H266.{has_packet_type, with_unit, units_within, numbered_on, two_or_more, aggregate_of, detects}
-use Rattle.h266_payload.proofs.HeaderLemmas.{two, aggregate_type}
-use Rattle.h266_payload.proofs.ReadBackLemmas.{is_two_bytes}
+use Rattle.h266_payload.proofs.HeaderLemmas.{two, is_two_bytes, aggregate_type}
 use Rattle.h266_payload.proofs.WithinLemmas.{unit_within}
 
 -- sets that fit an aggregate are within the limit
@@ -34,7 +33,7 @@ sets_long true limit n sets unit fit = let h = pieces_long sets in let w = fit_w
 
 -- no carried unit has F set
 unmarked : (numbered : Bool) (unit : List ℕ) → IsTrue (carries unit) → has_forbidden_bit unit ≡ false
-unmarked numbered = of_carried numbered (two numbered) (is_two_bytes numbered) (λ unit. has_forbidden_bit unit ≡ false) (λ high low b unit c. c.clear)
+unmarked numbered = of_carried numbered (two numbered) (is_two_bytes numbered) _ (λ high low b unit c. c.clear)
 
 -- none of carried sets has F set
 none_marked : (numbered : Bool) (sets : List (List ℕ)) → AreCarried (h266 numbered) sets → list_any has_forbidden_bit sets ≡ false
@@ -43,7 +42,7 @@ none_marked numbered (set ∷ sets) (here, later) = rw (unmarked numbered set he
 
 -- no carried unit is an aggregate or a fragment
 allowed : (numbered : Bool) (unit : List ℕ) → IsTrue (carries unit) → has_packet_type unit ≡ false
-allowed numbered = of_carried numbered (two numbered) (is_two_bytes numbered) (λ unit. has_packet_type unit ≡ false) (λ high low b unit c. rw (c.no_aggregate, c.no_fragment) refl)
+allowed numbered = of_carried numbered (two numbered) (is_two_bytes numbered) _ (λ high low b unit c. rw (c.no_aggregate, c.no_fragment) refl)
 
 -- the least of values below a bound is below it
 least_below : (bound : ℕ) (value : List ℕ → ℕ) → 0 < bound → ((unit : List ℕ) → value unit < bound) → (sets : List (List ℕ)) → least value sets < bound
@@ -80,8 +79,8 @@ sets_within numbered zero (set ∷ sets) few short carried = absurd (omega arith
 sets_within numbered (suc most) (set ∷ sets) few (here, others) (is, later) =
     let l : length (set ++ flat_map piece sets) ≡ length set + length (flat_map piece sets) = length-append set (flat_map piece sets) in
     let whole : suc (suc (length (set ++ flat_map piece sets))) ≤ suc most = few in
-    let long = carried_long numbered (two numbered) (is_two_bytes numbered) set is in
-    unit_within most (length set / 256 % 256) (length set % 256) set (flat_map piece sets) (omega (arith, long)) (word_back (length set) here) (allowed numbered set is)
+    unit_within most (length set / 256 % 256) (length set % 256) set (flat_map piece sets)
+    (header_there numbered (two numbered) (is_two_bytes numbered) set is) (word_back (length set) here) (allowed numbered set is)
     ∙ ap (with_unit set) (sets_within numbered most sets (omega (arith, l, whole)) others later)
 
 -- units with numbers are read with those that they are sent with

@@ -2,11 +2,12 @@
 use Rattle.std.proofs.Common.{◌≡◌, ℕ, zero, suc, ◌+◌, ◌*◌, ◌<◌, ◌≤◌, true, false, cond, List, [], ◌∷◌, ◌++◌, length, take, drop, refl, sym, ap, ◌∙◌, ◌⊎◌, inl, inr, arith, length-append}
 use Rattle.std.specs.Prelude.{◌||◌, nat_lt, Result, Ok, Err}
 use Rattle.std.specs.List.{AllByRecursion}
-use Rattle.std.proofs.lemmas.List.{take_at, drop_at, length-take, length-drop, take-append-drop}
+use Rattle.std.proofs.lemmas.List.{take_at, drop_at, length-drop}
 use Rattle.std.proofs.lemmas.Bool.Decides.{nat_tests}
 use Rattle.h26x_core.specs.Pieces.{ArePieces}
 use Rattle.h26x_core.specs.declared.error.PacketError.{PacketError}
 use Rattle.h26x_core.specs.declared.error.PacketError.TheVariants.{ErrShortPacket, ErrH266CorruptedPacket}
+use Rattle.h26x_core.proofs.PieceLemmas.{split_at}
 use Rattle.h266_payload.specs.H266.{has_packet_type, with_unit, units_within}
 use Rattle.h266_payload.specs.Reading.{IsAllowed, IsCut, IsLoneByte, IsBadLength}
 
@@ -55,10 +56,6 @@ within_bounds n len h = elim (nat_lt n 2) as (λ b. nat_lt n 2 ≡ b → (b || n
   | false ↦ λ k j. (grind (arith, nat_tests), grind (arith, nat_tests))
 ] refl h
 
--- bytes are their first n, and what is behind these
-split_at : (n high low : ℕ) (bytes : List ℕ) → n ≤ length bytes → (high ∷ low ∷ bytes ≡ high ∷ low ∷ take n bytes ++ drop n bytes) × (n ≡ length (take n bytes))
-split_at n high low bytes h = (ap (λ (x : List ℕ). high ∷ low ∷ x) (sym (take-append-drop n bytes)), let e = length-take n bytes in omega (arith, e))
-
 -- what is computed is how the bytes are found to be
 pub found_within : (most : ℕ) (bytes : List ℕ) → length bytes ≤ most → IsFound bytes (units_within most bytes)
 found_within most [] few = ToTheEnd [] refl tt refl
@@ -74,12 +71,13 @@ found_within (suc most) (high ∷ low ∷ bytes) few =
       | true ↦ λ bad. ToACut (high ∷ low ∷ bytes) [] refl tt (IsBadLength high low bytes refl (out_of_bounds n (length bytes) bad)) refl
       | false ↦ λ good.
           let bounds = within_bounds n (length bytes) good in
-          let parts = split_at n high low bytes bounds.1 in
+          let parts = split_at n bytes bounds.1 in
+          let is = ap (λ (x : List ℕ). high ∷ low ∷ x) parts.0 in
           elim (has_packet_type (take n bytes)) as (λ b. has_packet_type (take n bytes) ≡ b →
           IsFound (high ∷ low ∷ bytes) (cond b (Err ErrH266CorruptedPacket) (with_unit (take n bytes) (units_within most (drop n bytes))))) [
-            | true ↦ λ forbidden. ToAForbidden high low (take n bytes) (drop n bytes) [] parts.0 tt parts.1 forbidden refl
+            | true ↦ λ forbidden. ToAForbidden high low (take n bytes) (drop n bytes) [] is tt parts.1 forbidden refl
             | false ↦ λ own. let long = bounds.0 in let same = parts.1 in
-                one_more high low (high ∷ low ∷ bytes) (take n bytes) (drop n bytes) (units_within most (drop n bytes)) parts.0 parts.1 (omega arith, own) next
+                one_more high low (high ∷ low ∷ bytes) (take n bytes) (drop n bytes) (units_within most (drop n bytes)) is parts.1 (omega arith, own) next
           ] refl
     ] refl
 

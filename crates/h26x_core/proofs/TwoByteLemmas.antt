@@ -10,10 +10,9 @@ use Rattle.h26x_core.specs.Word.{is_set, flag}
 use Rattle.h26x_core.specs.Kind.{Kind, Skipped, is_other}
 use Rattle.h26x_core.specs.Reading.{Reading, Single, Aggregate, Fragment, Refused, single_of}
 use Rattle.h26x_core.specs.Format.{Format, IsLimit, number_bytes}
-use Rattle.h26x_core.specs.Packets.{single}
 use Rattle.h26x_core.specs.Number.{number_borne, numbered_from}
 use Rattle.h26x_core.specs.Pieces.{pieces_of, piece}
-use Rattle.h26x_core.specs.Facts.{AreCarried, HeadersTakeRoom, MarksFragments, KeyUnitsAreOther, NumbersAreTwoBytes, IsPayloadFormat}
+use Rattle.h26x_core.specs.Facts.{AreCarried, ReadsWhatItWrites, MarksFragments, KnowsKeyUnits, KeyUnitsAreOther, NumbersAreTwoBytes, IsPayloadFormat}
 use Rattle.h26x_core.proofs.HeaderLemmas.{start_back, end_back}
 use Rattle.h26x_core.proofs.PieceLemmas.{number_back, pieces_back}
 use Rattle.h26x_core.proofs.SetsLemmas.{FitIsWithin, sets_leave_room, no_key}
@@ -124,18 +123,6 @@ pub record IsTwoBytes (numbered : Bool) (t : TwoBytes numbered) : Type 0 where
       t.fragment_of start high low fu body ≡ Fragment start (is_set fu 6) (t.with_type high low (t.unit_type fu)) None body
   pub start : (start : Bool) (high low fu d e : ℕ) (body : List ℕ) → (numbered && start) ≡ true → 1 ≤ length body →
       t.fragment_of start high low fu (d ∷ e ∷ body) ≡ Fragment true (is_set fu 6) (t.with_type high low (t.unit_type fu)) (Some (d * 256 + e)) body
-  -- a fragment leaves room for its headers and number, and no other packet is read as one
-  pub aggregate_room : (n : ℕ) (rest : List ℕ) → HasRoom numbered n (t.aggregate_of rest)
-  pub fragment_room : (start : Bool) (high low fu : ℕ) (rest : List ℕ) → HasRoom numbered (length (high ∷ low ∷ fu ∷ rest)) (t.fragment_of start high low fu rest)
-  pub own_room : (n high low : ℕ) (rest : List ℕ) → HasRoom numbered n (t.own_of high low rest)
-
--- single units are no fragments
-pub single_room : (numbered : Bool) (n high low : ℕ) (rest : List ℕ) → HasRoom numbered n (single_of numbered high low rest)
-single_room false n high low rest = tt
-single_room true n high low [] = tt
-single_room true n high low (d ∷ []) = tt
-single_room true n high low (d ∷ e ∷ []) = tt
-single_room true n high low (d ∷ e ∷ b ∷ rest) = tt
 
 -- what holds of the reading of each kind of packet holds of every packet's
 pub by_kind : (numbered : Bool) (t : TwoBytes numbered) (P : List ℕ → Reading → Type 0) →
@@ -165,17 +152,37 @@ by_kind numbered t P short corrupted aggregate fragment own (high ∷ low ∷ b 
       ] refl
     ] refl
 
--- a packet with F clear and the type of aggregates is read as one
-pub aggregate_read : (numbered : Bool) (t : TwoBytes numbered) (high low : ℕ) (rest : List ℕ) → 1 ≤ length rest → is_set high 7 ≡ false → t.type_of high low ≡ t.aggregate →
-    read_by numbered t (high ∷ low ∷ rest) ≡ t.aggregate_of rest
+-- a packet of two bytes or fewer is too short
+pub short_read : (numbered : Bool) (t : TwoBytes numbered) (packet : List ℕ) → length packet ≤ 2 → read_by numbered t packet ≡ Refused ErrShortPacket
+short_read numbered t [] short = refl
+short_read numbered t (high ∷ []) short = refl
+short_read numbered t (high ∷ low ∷ []) short = refl
+short_read numbered t (high ∷ low ∷ b ∷ body) short = absurd (omega arith)
+
+-- a longer one with F set is corrupted
+pub marked_read : (numbered : Bool) (t : TwoBytes numbered) (high low : ℕ) (rest : List ℕ) → 1 ≤ length rest → is_set high 7 ≡ true →
+    read_by numbered t (high ∷ low ∷ rest) ≡ Refused t.corrupted
+marked_read numbered t high low [] some marked = absurd (omega arith)
+marked_read numbered t high low (b ∷ rest) some marked = rw marked refl
+
+-- with F clear and the type of aggregates it is read as one
+pub aggregate_read : (numbered : Bool) (t : TwoBytes numbered) (high low : ℕ) (rest : List ℕ) → 1 ≤ length rest → is_set high 7 ≡ false →
+    t.type_of high low ≡ t.aggregate → read_by numbered t (high ∷ low ∷ rest) ≡ t.aggregate_of rest
 aggregate_read numbered t high low [] some clear type = absurd (omega arith)
 aggregate_read numbered t high low (b ∷ rest) some clear type = rw (clear, type, eq-eqb t.aggregate t.aggregate refl) refl
 
--- one of a carried unit's type as a single unit
-own_read : (numbered : Bool) (t : TwoBytes numbered) (high low : ℕ) (rest : List ℕ) → 1 ≤ length rest → IsCarried numbered t high low →
-    read_by numbered t (high ∷ low ∷ rest) ≡ single_of numbered high low rest
-own_read numbered t high low [] some c = absurd (omega arith)
-own_read numbered t high low (b ∷ rest) some c = rw (c.clear, c.no_aggregate, c.no_fragment) (c.own (b ∷ rest))
+-- and with a type of its own as such a packet
+pub own_read : (numbered : Bool) (t : TwoBytes numbered) (high low : ℕ) (rest : List ℕ) → 1 ≤ length rest → is_set high 7 ≡ false →
+    eqb (t.type_of high low) t.aggregate ≡ false → eqb (t.type_of high low) t.fragment ≡ false → read_by numbered t (high ∷ low ∷ rest) ≡ t.own_of high low rest
+own_read numbered t high low [] some clear x y = absurd (omega arith)
+own_read numbered t high low (b ∷ rest) some clear x y = rw (clear, x, y) refl
+
+-- a fragment that bears no number needs no room for one
+pub none_borne : (numbered start : Bool) → (numbered && start) ≡ false → ◌≡◌ {A = ℕ} (cond start (cond numbered 2 0) 0) 0
+none_borne true true both = absurd cc
+none_borne true false both = refl
+none_borne false true both = refl
+none_borne false false both = refl
 
 -- a single unit is read with its number
 single_read : (numbered : Bool) (n high low b : ℕ) (unit : List ℕ) →
@@ -192,6 +199,18 @@ data_read true t ok false n high low fu body some = ok.plain false high low fu b
 data_read false t ok true n high low fu body some = ok.plain true high low fu body refl some
 data_read false t ok false n high low fu body some = ok.plain false high low fu body refl some
 
+-- What is asked of packets of sets.
+pub record SetsAreSent (f : Format) : Type 0 where
+  -- those that fit are within the limit
+  pub within : FitIsWithin f
+  pub long : (limit n : ℕ) (sets : List (List ℕ)) (unit : List ℕ) → f.sets_fit limit sets ≡ true → length (f.sets_packet n sets unit) ≤ limit
+  -- and they are read back, and not detected
+  pub back : (n limit : ℕ) (sets : List (List ℕ)) (unit : List ℕ) → IsLimit f limit → f.sets_fit limit sets ≡ true → 2 ≤ length sets →
+      AreCarried f sets → IsTrue (f.carries unit) → f.read (f.sets_packet n sets unit) ≡ Aggregate (numbered_from f n sets)
+  pub undetected : (n limit : ℕ) (sets : List (List ℕ)) (unit : List ℕ) → f.numbered ≡ false → IsLimit f limit → f.sets_fit limit sets ≡ true →
+      AreCarried f sets → IsTrue (f.carries unit) → AllByRecursion (λ set. f.is_key set ≡ false) sets → f.detects (f.sets_packet n sets unit) ≡ false
+  pub numbers : NumbersAreTwoBytes f
+
 module _ (numbered : Bool) (t : TwoBytes numbered) (ok : IsTwoBytes numbered t) where
   -- what holds of every unit of three bytes or more with a carried unit's header holds of every carried unit
   pub of_carried : (P : List ℕ → Type 0) → ((high low b : ℕ) (unit : List ℕ) → IsCarried numbered t high low → P (high ∷ low ∷ b ∷ unit)) →
@@ -201,12 +220,12 @@ module _ (numbered : Bool) (t : TwoBytes numbered) (ok : IsTwoBytes numbered t) 
   of_carried P holds (high ∷ low ∷ []) h = let e : false ≡ true = h in absurd cc
   of_carried P holds (high ∷ low ∷ b ∷ unit) h = holds high low b unit (ok.carried high low h)
 
-  -- a carried unit has three bytes or more
-  pub carried_long : (unit : List ℕ) → IsTrue (carries_by numbered t unit) → 3 ≤ length unit
-  carried_long = of_carried (λ unit. 3 ≤ length unit) (λ high low b unit c. omega arith)
+  -- a carried unit has a whole header
+  pub header_there : (unit : List ℕ) → IsTrue (carries_by numbered t unit) → 2 ≤ length unit
+  header_there = of_carried _ (λ high low b unit c. omega arith)
 
-  -- a key unit has a whole header
-  pub key_whole : (unit : List ℕ) → is_key_by numbered t unit ≡ true → nat_le 2 (length unit) ≡ true
+  -- so has a key unit
+  key_whole : (unit : List ℕ) → is_key_by numbered t unit ≡ true → nat_le 2 (length unit) ≡ true
   key_whole [] e = absurd cc
   key_whole (high ∷ []) e = absurd cc
   key_whole (high ∷ low ∷ unit) e = grind (arith, nat_tests)
@@ -217,34 +236,23 @@ module _ (numbered : Bool) (t : TwoBytes numbered) (ok : IsTwoBytes numbered t) 
   sets_undetected high low sets type short none =
       rw (type, eq-eqb t.aggregate t.aggregate refl, pieces_back sets short) (no_key (is_key_by numbered t) sets none)
 
-  module _ (f : Format) where
-    -- what a fragment has beside its data takes room
-    headers_take_room : HeadersTakeRoom (two_bytes numbered t f)
-    headers_take_room packet head body start end number e = rw e at (
-        by_kind numbered t (λ p reading. HasRoom numbered (length p) reading) (λ p short. tt) (λ high low rest some set. tt)
-        (λ high low rest some clear type. ok.aggregate_room (length (high ∷ low ∷ rest)) rest)
-        (λ high low fu rest clear type. ok.fragment_room (is_set fu 7) high low fu rest)
-        (λ high low rest some clear x y. ok.own_room (length (high ∷ low ∷ rest)) high low rest) packet)
-
-    -- a unit alone is read back
-    single_back : (n : ℕ) (unit : List ℕ) → IsTrue (carries_by numbered t unit) →
-        read_by numbered t (single (two_bytes numbered t f) n unit) ≡ Single unit (number_borne (two_bytes numbered t f) n)
-    single_back n = of_carried (λ unit. read_by numbered t (single (two_bytes numbered t f) n unit) ≡ Single unit (number_borne (two_bytes numbered t f) n))
-        (λ high low b unit c. let l = length-append (number_bytes numbered n) (b ∷ unit) in
-        own_read numbered t high low (number_bytes numbered n ++ (b ∷ unit)) (omega (arith, l)) c ∙ single_read numbered n high low b unit)
-
-    -- a fragment is read back
-    fragment_back : (n : ℕ) (unit body : List ℕ) (start end : Bool) → IsTrue (carries_by numbered t unit) → 0 < length body →
-        read_by numbered t (fragment_header_by numbered t unit start end ++ ((if start then number_bytes numbered n else []) ++ body))
-        ≡ Fragment start end (take 2 unit) (if start then (if numbered then Some (n % 65536) else None) else None) body
-    fragment_back n unit body start end h some = of_carried
-        (λ unit. read_by numbered t (fragment_header_by numbered t unit start end ++ ((if start then number_bytes numbered n else []) ++ body))
-        ≡ Fragment start end (take 2 unit) (if start then (if numbered then Some (n % 65536) else None) else None) body)
-        (λ high low b unit c. let fits = ok.type_fits high low in
-        rw (c.mark_clear, ok.marked high low, ok.apart, eq-eqb t.fragment t.fragment refl, start_back start end (t.type_of high low) fits)
-        (data_read numbered t ok start n (t.mark_high high) (t.mark_low low) (flag start 0x80 + flag end 0x40 + t.type_of high low) body some
-        ∙ rw (end_back start end (t.type_of high low) fits, ok.type_back start end high low, c.back) refl))
-        unit h
+  module _ (f : Format) (sets : SetsAreSent (two_bytes numbered t f)) where
+    -- what is written is read back
+    reads_what_it_writes : ReadsWhatItWrites (two_bytes numbered t f)
+    reads_what_it_writes = record {
+      header = header_there;
+      single = λ n. of_carried _ (λ high low b unit c. let l = length-append (number_bytes numbered n) (b ∷ unit) in
+          own_read numbered t high low (number_bytes numbered n ++ (b ∷ unit)) (omega (arith, l)) c.clear c.no_aggregate c.no_fragment
+          ∙ c.own (number_bytes numbered n ++ (b ∷ unit)) ∙ single_read numbered n high low b unit);
+      fragment = λ n unit body start end h some. of_carried
+          (λ unit. read_by numbered t (fragment_header_by numbered t unit start end ++ ((if start then number_bytes numbered n else []) ++ body))
+          ≡ Fragment start end (take 2 unit) (if start then number_borne (two_bytes numbered t f) n else None) body)
+          (λ high low b unit c. let fits = ok.type_fits high low in
+          rw (c.mark_clear, ok.marked high low, ok.apart, eq-eqb t.fragment t.fragment refl, start_back start end (t.type_of high low) fits)
+          (data_read numbered t ok start n (t.mark_high high) (t.mark_low low) (flag start 0x80 + flag end 0x40 + t.type_of high low) body some
+          ∙ rw (end_back start end (t.type_of high low) fits, ok.type_back start end high low, c.back) refl)) unit h;
+      sets = sets.back;
+    }
 
     -- a fragment's header has three bytes at most
     header_long : (unit : List ℕ) (start end : Bool) → length (fragment_header_by numbered t unit start end) ≤ 3
@@ -259,22 +267,16 @@ module _ (numbered : Bool) (t : TwoBytes numbered) (ok : IsTwoBytes numbered t) 
     marks_fragments (high ∷ low ∷ unit) behind start end header =
         (start_back start end (t.type_of high low) (ok.type_fits high low), end_back start end (t.type_of high low) (ok.type_fits high low))
 
-    -- a unit alone is detected where it is a key unit
-    single_detected : (n : ℕ) (unit : List ℕ) → IsTrue (carries_by numbered t unit) → detects_by numbered t (single (two_bytes numbered t f) n unit) ≡ is_key_by numbered t unit
-    single_detected n = of_carried (λ unit. detects_by numbered t (single (two_bytes numbered t f) n unit) ≡ is_key_by numbered t unit)
-        (λ high low b unit c. rw (c.no_aggregate, c.no_fragment) refl)
-
-    -- of a key unit's fragments the start is detected
-    fragment_detected : (unit behind : List ℕ) (start end : Bool) → IsTrue (carries_by numbered t unit) →
-        detects_by numbered t (fragment_header_by numbered t unit start end ++ behind) ≡ (start && is_key_by numbered t unit)
-    fragment_detected unit behind start end h = of_carried (λ unit. detects_by numbered t (fragment_header_by numbered t unit start end ++ behind) ≡ (start && is_key_by numbered t unit))
-        (λ high low b unit c. rw (
-          ok.marked high low,
-          ok.apart,
-          eq-eqb t.fragment t.fragment refl,
-          start_back start end (t.type_of high low) (ok.type_fits high low),
-          ok.type_back start end high low,
-        ) refl) unit h
+    -- a unit alone is detected where it is a key unit, and of its fragments the start
+    knows_key_units : KnowsKeyUnits (two_bytes numbered t f)
+    knows_key_units = record {
+      single = λ n. of_carried _ (λ high low b unit c. rw (c.no_aggregate, c.no_fragment) refl);
+      fragment = λ unit behind start end. of_carried
+          (λ unit. detects_by numbered t (fragment_header_by numbered t unit start end ++ behind) ≡ (start && is_key_by numbered t unit))
+          (λ high low b unit c. let fits = ok.type_fits high low in
+          rw (ok.marked high low, ok.apart, eq-eqb t.fragment t.fragment refl, start_back start end (t.type_of high low) fits, ok.type_back start end high low) refl) unit;
+      sets = sets.undetected;
+    }
 
     -- a key unit is no parameter set
     key_units_are_other : KeyUnitsAreOther (two_bytes numbered t f)
@@ -282,34 +284,17 @@ module _ (numbered : Bool) (t : TwoBytes numbered) (ok : IsTwoBytes numbered t) 
     key_units_are_other (high ∷ []) e = absurd cc
     key_units_are_other (high ∷ low ∷ unit) e = ok.other (t.type_of high low) e
 
--- What is asked of packets of sets.
-pub record SetsAreSent (f : Format) : Type 0 where
-  -- those that fit are within the limit
-  pub within : FitIsWithin f
-  pub long : (limit n : ℕ) (sets : List (List ℕ)) (unit : List ℕ) → f.sets_fit limit sets ≡ true → length (f.sets_packet n sets unit) ≤ limit
-  -- and they are read back, and not detected
-  pub back : (n limit : ℕ) (sets : List (List ℕ)) (unit : List ℕ) → IsLimit f limit → f.sets_fit limit sets ≡ true → 2 ≤ length sets →
-      AreCarried f sets → IsTrue (f.carries unit) → f.read (f.sets_packet n sets unit) ≡ Aggregate (numbered_from f n sets)
-  pub undetected : (n limit : ℕ) (sets : List (List ℕ)) (unit : List ℕ) → f.numbered ≡ false → IsLimit f limit → f.sets_fit limit sets ≡ true →
-      AreCarried f sets → IsTrue (f.carries unit) → AllByRecursion (λ set. f.is_key set ≡ false) sets → f.detects (f.sets_packet n sets unit) ≡ false
-  pub numbers : NumbersAreTwoBytes f
-
--- such a format meets all facts
-pub is_payload_format : (numbered : Bool) (t : TwoBytes numbered) (f : Format) → IsTwoBytes numbered t → SetsAreSent (two_bytes numbered t f) →
-    ((key : Bool) → f.has_key (f.extra key) ≡ key) → IsPayloadFormat (two_bytes numbered t f)
-is_payload_format numbered t f ok sets tells = record {
-  headers = headers_take_room numbered t ok f;
-  reads = record {
-    header = λ unit h. (let l = carried_long numbered t ok unit h in omega (arith, l));
-    single = single_back numbered t ok f;
-    fragment = fragment_back numbered t ok f;
-    sets = sets.back;
-  };
-  limits = record { header = header_long numbered t ok f; sets = sets.long };
-  marks = marks_fragments numbered t ok f;
-  sets = sets_leave_room (two_bytes numbered t f) sets.within;
-  extra = record { tells = tells; whole = key_whole numbered t ok };
-  detects = record { single = single_detected numbered t ok f; fragment = fragment_detected numbered t ok f; sets = sets.undetected };
-  other = key_units_are_other numbered t ok f;
-  numbers = sets.numbers;
-}
+    -- such a format meets all facts
+    pub is_payload_format : ((packet : List ℕ) → HasRoom numbered (length packet) (read_by numbered t packet)) → ((key : Bool) → f.has_key (f.extra key) ≡ key) →
+        IsPayloadFormat (two_bytes numbered t f)
+    is_payload_format room tells = record {
+      headers = λ packet head body start end number e. rw e at (room packet);
+      reads = reads_what_it_writes;
+      limits = record { header = header_long; sets = sets.long };
+      marks = marks_fragments;
+      sets = sets_leave_room (two_bytes numbered t f) sets.within;
+      extra = record { tells = tells; whole = key_whole };
+      detects = knows_key_units;
+      other = key_units_are_other;
+      numbers = sets.numbers;
+    }
