@@ -12,7 +12,7 @@
 //! ```
 #![tactic(auto)]
 
-pub mod cases;
+mod cases;
 mod depacketizer;
 mod detect;
 pub mod laws;

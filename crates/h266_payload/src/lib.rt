@@ -3,5 +3,5 @@
 //! So far this crate has the format's definitions and their laws.
 #![tactic(auto)]
 
-pub mod cases;
+mod cases;
 pub mod laws;

@@ -4,7 +4,7 @@
 //! The definitions that contracts cite stand in `specs/`.
 #![tactic(auto)]
 
-pub mod cases;
+mod cases;
 mod constants;
 mod error;
 mod extra;

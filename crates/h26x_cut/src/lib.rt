@@ -1,7 +1,7 @@
 //! Start codes, and the units between them: the cutting of a payload.
 #![tactic(auto)]
 
-pub mod cases;
+mod cases;
 pub mod laws;
 mod slices;
 
