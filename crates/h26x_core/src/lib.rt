@@ -1,5 +1,6 @@
-//! What the H.264, H.265 and H.266 payload crates share: errors, what is told beside bytes,
-//! the constants of the payload formats, and the traits of packetizers and depacketizers.
+//! What the H.264, H.265 and H.266 payload crates share: errors, what is told beside bytes, the
+//! constants and header words of the payload formats, and the traits of packetizers and
+//! depacketizers.
 //!
 //! The definitions that contracts cite stand in `specs/`.
 #![tactic(auto)]
@@ -8,6 +9,8 @@ mod cases;
 mod constants;
 mod error;
 mod extra;
+mod h265_words;
+mod h266_words;
 pub mod laws;
 mod pieces;
 mod traits;
@@ -20,5 +23,7 @@ pub use constants::{
 };
 pub use error::PacketError;
 pub use extra::{CodecExtra, H264CodecExtra, H265CodecExtra, H266CodecExtra};
+pub use h265_words::{H265FragmentationUnitHeader, H265NALUHeader, H265TSCI};
+pub use h266_words::{H266FragmentationUnitHeader, H266NALUHeader};
 pub use pieces::first_piece;
 pub use traits::{Depacketizer, Packetizer};

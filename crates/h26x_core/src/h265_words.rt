@@ -1,0 +1,194 @@
+//! The header words of H.265 and of its packets (RFC 7798).
+
+ghost use Rattle.std.specs.Prelude.{◌≡◌, false, nat_lt, ◌<◌, ◌+◌, ◌*◌, ◌==◌, ◌||◌};
+ghost use Rattle.h26x_core.specs.Word.{field, is_set, flag};
+ghost use Rattle.h26x_core.specs.H265Unit.{type_of, is_key_type};
+
+#[cfg(test)]
+mod tests;
+
+/// The type of an aggregation packet (RFC 7798, 4.4.2).
+const AGGREGATION_PACKET: u8 = 48;
+
+/// The type of a fragmentation unit (RFC 7798, 4.4.3).
+const FRAGMENTATION_UNIT: u8 = 49;
+
+/// The type of a PACI packet (RFC 7798, 4.4.4).
+const PACI_PACKET: u8 = 50;
+
+/// The header of a NAL unit or of a packet: F, type, layer and temporal id (RFC 7798, 1.1.4).
+#[derive(Debug, Clone, Copy, Default, PartialEq, Eq)]
+pub struct H265NALUHeader(pub u16);
+
+impl H265NALUHeader {
+    /// The header of these two bytes, in the order in which they are sent (RFC 7798, 1.1.4).
+    pub fn new(high_byte: u8, low_byte: u8) -> Self
+        ensures word { result.0 ≡ high_byte * 256 + low_byte }
+        ensures f { is_set result.0 15 ≡ is_set high_byte 7 }
+        ensures nalu_type { field result.0 14 9 ≡ type_of high_byte }
+    {
+        H265NALUHeader(u16::from(high_byte) << 8 | u16::from(low_byte))
+    }
+
+    /// The header with this type, layer and temporal id, and F clear (RFC 7798, 1.1.4).
+    pub fn new_with_type(nalu_type: u8, layer_id: u8, tid: u8) -> Self
+        requires type_in { nalu_type < 64 }
+        requires layer_in { layer_id < 64 }
+        requires tid_in { tid < 8 }
+        ensures word { result.0 ≡ nalu_type * 512 + layer_id * 8 + tid }
+        ensures f { is_set result.0 15 ≡ false }
+        ensures nalu_type { field result.0 14 9 ≡ nalu_type }
+        ensures layer_id { field result.0 8 3 ≡ layer_id }
+        ensures tid { field result.0 2 0 ≡ tid }
+    {
+        H265NALUHeader((u16::from(nalu_type) << 9) + (u16::from(layer_id) << 3) + u16::from(tid))
+    }
+
+    /// F, the forbidden bit; where it is set, the syntax is violated (RFC 7798, 1.1.4).
+    pub fn f(&self) -> bool
+        ensures { result ≡ is_set self.now.0 15 }
+    {
+        self.0 >> 15 != 0
+    }
+
+    /// The type, 0 to 63 (RFC 7798, 1.1.4).
+    pub fn nalu_type(&self) -> u8
+        ensures { result ≡ field self.now.0 14 9 }
+    {
+        (self.0 >> 9 & 0x3f) as u8
+    }
+
+    /// The layer, 0 to 63 (RFC 7798, 1.1.4).
+    pub fn layer_id(&self) -> u8
+        ensures { result ≡ field self.now.0 8 3 }
+    {
+        (self.0 >> 3 & 0x3f) as u8
+    }
+
+    /// The temporal id plus 1, 0 to 7; 0 is forbidden (RFC 7798, 1.1.4).
+    pub fn tid(&self) -> u8
+        ensures { result ≡ field self.now.0 2 0 }
+    {
+        (self.0 & 0x07) as u8
+    }
+
+    /// Whether the type is one of a coded slice, below 32 (RFC 7798, 1.1.4).
+    pub fn is_type_vcl_unit(&self) -> bool
+        ensures { result ≡ nat_lt (field self.now.0 14 9) 32 }
+    {
+        self.nalu_type() < 32
+    }
+
+    /// Whether this is the header of an aggregation packet, type 48 (RFC 7798, 4.4.2).
+    pub fn is_aggregation_packet(&self) -> bool
+        ensures { result ≡ (field self.now.0 14 9 == 48) }
+    {
+        self.nalu_type() == AGGREGATION_PACKET
+    }
+
+    /// Whether this is the header of a fragmentation unit, type 49 (RFC 7798, 4.4.3).
+    pub fn is_fragmentation_unit(&self) -> bool
+        ensures { result ≡ (field self.now.0 14 9 == 49) }
+    {
+        self.nalu_type() == FRAGMENTATION_UNIT
+    }
+
+    /// Whether this is the header of a PACI packet, type 50 (RFC 7798, 4.4.4).
+    pub fn is_paci_packet(&self) -> bool
+        ensures { result ≡ (field self.now.0 14 9 == 50) }
+    {
+        self.nalu_type() == PACI_PACKET
+    }
+
+    /// Whether the type is one of a slice of an IDR picture, 19 or 20 (RFC 7798, 1.1.4).
+    pub fn is_idr_picture(&self) -> bool
+        ensures { result ≡ ((field self.now.0 14 9 == 19) || (field self.now.0 14 9 == 20)) }
+    {
+        matches!(self.nalu_type(), 19 | 20)
+    }
+
+    /// Whether the type is one of a slice of an IRAP picture, 16 to 21 (RFC 7798, 1.1.4).
+    pub fn is_irap(&self) -> bool
+        ensures { result ≡ is_key_type (field self.now.0 14 9) }
+    {
+        matches!(self.nalu_type(), 16..=21)
+    }
+}
+
+/// The byte behind the header of a fragmentation unit: S, E and the unit's type (RFC 7798, 4.4.3).
+#[derive(Debug, Clone, Copy, Default, PartialEq, Eq)]
+pub struct H265FragmentationUnitHeader(pub u8);
+
+impl H265FragmentationUnitHeader {
+    /// The byte with these marks and the low six bits of the type (RFC 7798, 4.4.3).
+    pub fn new(s: bool, e: bool, fu_type: u8) -> Self
+        ensures { result.0 ≡ flag s 0x80 + flag e 0x40 + field fu_type 5 0 }
+    {
+        let start = if s { 0x80 } else { 0 };
+        let end = if e { 0x40 } else { 0 };
+        H265FragmentationUnitHeader(start + end + (fu_type & 0x3f))
+    }
+
+    /// Whether this is the first fragment of its unit (RFC 7798, 4.4.3).
+    pub fn s(&self) -> bool
+        ensures { result ≡ is_set self.now.0 7 }
+    {
+        self.0 >> 7 != 0
+    }
+
+    /// Whether this is the last fragment of its unit (RFC 7798, 4.4.3).
+    pub fn e(&self) -> bool
+        ensures { result ≡ is_set self.now.0 6 }
+    {
+        self.0 >> 6 & 1 != 0
+    }
+
+    /// The type of the unit, 0 to 63 (RFC 7798, 4.4.3).
+    pub fn fu_type(&self) -> u8
+        ensures { result ≡ field self.now.0 5 0 }
+    {
+        self.0 & 0x3f
+    }
+}
+
+/// Temporal scalability control information, three bytes that a PACI packet may bear: bits 31 to 8
+/// of the word (RFC 7798, 4.5).
+#[derive(Debug, Clone, Copy, Default, PartialEq, Eq)]
+pub struct H265TSCI(pub u32);
+
+impl H265TSCI {
+    /// TL0PICIDX, which counts the pictures of temporal layer 0, modulo 256 (RFC 7798, 4.5).
+    pub fn tl0picidx(&self) -> u8
+        ensures { result ≡ field self.now.0 31 24 }
+    {
+        (self.0 >> 24) as u8
+    }
+
+    /// IrapPicID, which counts IRAP pictures, modulo 256 (RFC 7798, 4.5).
+    pub fn irap_pic_id(&self) -> u8
+        ensures { result ≡ field self.now.0 23 16 }
+    {
+        (self.0 >> 16 & 0xff) as u8
+    }
+
+    /// S, which marks the first slice of a picture (RFC 7798, 4.5).
+    pub fn s(&self) -> bool
+        ensures { result ≡ is_set self.now.0 15 }
+    {
+        self.0 >> 15 & 1 != 0
+    }
+
+    /// E, which marks the last slice of a picture (RFC 7798, 4.5).
+    pub fn e(&self) -> bool
+        ensures { result ≡ is_set self.now.0 14 }
+    {
+        self.0 >> 14 & 1 != 0
+    }
+
+    /// RES, six reserved bits (RFC 7798, 4.5).
+    pub fn res(&self) -> u8
+        ensures { result ≡ field self.now.0 13 8 }
+    {
+        (self.0 >> 8 & 0x3f) as u8
+    }
+}

@@ -1,0 +1,127 @@
+use super::*;
+
+#[test]
+fn fields_of_headers(rt: HostRuntime) {
+    for ((high, low), f, nalu_type, layer_id, tid) in [
+        ((0x26, 0x01), false, 19, 0, 1),
+        ((0x64, 0x01), false, 50, 0, 1),
+        ((0x80, 0x00), true, 0, 0, 0),
+        ((0x7e, 0x00), false, 63, 0, 0),
+        ((0x01, 0x00), false, 0, 32, 0),
+        ((0x00, 0x0a), false, 0, 1, 2),
+        ((0xff, 0xff), true, 63, 63, 7),
+    ] {
+        let header = H265NALUHeader::new(high, low);
+        assert_eq!(rt; header.f(), f, "at {header:?}");
+        assert_eq!(rt; header.nalu_type(), nalu_type, "at {header:?}");
+        assert_eq!(rt; header.layer_id(), layer_id, "at {header:?}");
+        assert_eq!(rt; header.tid(), tid, "at {header:?}");
+    }
+}
+
+#[test]
+fn headers_by_their_fields(rt: HostRuntime) {
+    for (nalu_type, layer_id, tid, word) in [
+        (50, 0, 1, 0x6401),
+        (19, 0, 1, 0x2601),
+        (48, 32, 2, 0x6102),
+        (63, 63, 7, 0x7fff),
+    ] {
+        let header = H265NALUHeader::new_with_type(nalu_type, layer_id, tid);
+        assert_eq!(rt; header, H265NALUHeader(word), "at type {nalu_type}");
+    }
+}
+
+#[test]
+fn types(rt: HostRuntime) {
+    for (nalu_type, vcl, idr, irap) in [
+        (1, true, false, false),
+        (15, true, false, false),
+        (16, true, false, true),
+        (18, true, false, true),
+        (19, true, true, true),
+        (20, true, true, true),
+        (21, true, false, true),
+        (22, true, false, false),
+        (31, true, false, false),
+        (32, false, false, false),
+        (51, false, false, false),
+    ] {
+        let header = H265NALUHeader::new_with_type(nalu_type, 0, 1);
+        assert_eq!(rt; header.is_type_vcl_unit(), vcl, "at type {nalu_type}");
+        assert_eq!(rt; header.is_idr_picture(), idr, "at type {nalu_type}");
+        assert_eq!(rt; header.is_irap(), irap, "at type {nalu_type}");
+    }
+    for (nalu_type, aggregation, fragmentation, paci) in [
+        (47, false, false, false),
+        (48, true, false, false),
+        (49, false, true, false),
+        (50, false, false, true),
+        (51, false, false, false),
+    ] {
+        let header = H265NALUHeader::new_with_type(nalu_type, 0, 1);
+        assert_eq!(rt;
+            header.is_aggregation_packet(),
+            aggregation,
+            "at type {nalu_type}"
+        );
+        assert_eq!(rt;
+            header.is_fragmentation_unit(),
+            fragmentation,
+            "at type {nalu_type}"
+        );
+        assert_eq!(rt; header.is_paci_packet(), paci, "at type {nalu_type}");
+    }
+}
+
+#[test]
+fn fragment_headers(rt: HostRuntime) {
+    for (s, e, fu_type, word) in [
+        (true, false, 19, 0x93),
+        (false, false, 19, 0x13),
+        (false, true, 19, 0x53),
+        (true, false, 32, 0xa0),
+    ] {
+        let header = H265FragmentationUnitHeader::new(s, e, fu_type);
+        assert_eq!(rt; header, H265FragmentationUnitHeader(word), "at {word}");
+        assert_eq!(rt; header.s(), s, "at {word}");
+        assert_eq!(rt; header.e(), e, "at {word}");
+        assert_eq!(rt; header.fu_type(), fu_type, "at {word}");
+    }
+    let masked = H265FragmentationUnitHeader::new(false, false, 0xc1);
+    assert_eq!(rt; masked, H265FragmentationUnitHeader(0x01));
+}
+
+#[test]
+fn control_information(rt: HostRuntime) {
+    for (word, tl0picidx, irap_pic_id, s, e, res) in [
+        (0x11223300, 0x11, 0x22, false, false, 0x33),
+        (0x00008000, 0, 0, true, false, 0),
+        (0x00004000, 0, 0, false, true, 0),
+        (0x000000ff, 0, 0, false, false, 0),
+        (0xffffffff, 0xff, 0xff, true, true, 0x3f),
+    ] {
+        let tsci = H265TSCI(word);
+        assert_eq!(rt; tsci.tl0picidx(), tl0picidx, "at {word}");
+        assert_eq!(rt; tsci.irap_pic_id(), irap_pic_id, "at {word}");
+        assert_eq!(rt; tsci.s(), s, "at {word}");
+        assert_eq!(rt; tsci.e(), e, "at {word}");
+        assert_eq!(rt; tsci.res(), res, "at {word}");
+    }
+}
+
+#[test]
+fn defaults_and_equality(rt: HostRuntime) {
+    assert_eq!(rt; H265NALUHeader::default(), H265NALUHeader(0));
+    assert_eq!(rt;
+        H265FragmentationUnitHeader::default(),
+        H265FragmentationUnitHeader(0)
+    );
+    assert_eq!(rt; H265TSCI::default(), H265TSCI(0));
+    assert_ne!(rt; H265NALUHeader(0x6401), H265NALUHeader(0x6402));
+    assert_ne!(rt;
+        H265FragmentationUnitHeader(0x93),
+        H265FragmentationUnitHeader(0x13)
+    );
+    assert_ne!(rt; H265TSCI(0x11223300), H265TSCI(0x11223301));
+}

@@ -1,0 +1,146 @@
+//! The header words of H.266 and of its packets (RFC 9328).
+
+ghost use Rattle.std.specs.Prelude.{◌≡◌, ◌+◌, ◌*◌, ◌==◌, false};
+ghost use Rattle.h26x_core.specs.Word.{field, is_set, flag};
+ghost use Rattle.h26x_core.specs.H266Unit.{type_of, is_key_type};
+
+#[cfg(test)]
+mod tests;
+
+/// The type of an aggregation packet (RFC 9328, 4.3.2).
+const AGGREGATION_PACKET: u8 = 28;
+
+/// The type of a fragmentation unit (RFC 9328, 4.3.3).
+const FRAGMENTATION_UNIT: u8 = 29;
+
+/// The header of a NAL unit or of a packet: F, Z, layer, type and temporal id (RFC 9328, 1.1.4).
+#[derive(Debug, Clone, Copy, Default, PartialEq, Eq)]
+pub struct H266NALUHeader(pub u16);
+
+impl H266NALUHeader {
+    /// The header of these two bytes, in the order in which they are sent (RFC 9328, 1.1.4).
+    pub fn new(high_byte: u8, low_byte: u8) -> Self
+        ensures word { result.0 ≡ high_byte * 256 + low_byte }
+        ensures f { is_set result.0 15 ≡ is_set high_byte 7 }
+        ensures nalu_type { field result.0 7 3 ≡ type_of low_byte }
+    {
+        H266NALUHeader(u16::from(high_byte) << 8 | u16::from(low_byte))
+    }
+
+    /// The header with the low five bits of the type, six of the layer and three of the temporal
+    /// id; F and Z are clear (RFC 9328, 1.1.4).
+    pub fn new_with_type(typ: u8, layer_id: u8, tid: u8) -> Self
+        ensures word { result.0 ≡ field layer_id 5 0 * 256 + field typ 4 0 * 8 + field tid 2 0 }
+        ensures f { is_set result.0 15 ≡ false }
+        ensures z { is_set result.0 14 ≡ false }
+        ensures layer_id { field result.0 13 8 ≡ field layer_id 5 0 }
+        ensures nalu_type { field result.0 7 3 ≡ field typ 4 0 }
+        ensures tid { field result.0 2 0 ≡ field tid 2 0 }
+    {
+        let layer = u16::from(layer_id & 0x3f) << 8;
+        let nalu_type = u16::from(typ & 0x1f) << 3;
+        H266NALUHeader(layer + nalu_type + u16::from(tid & 0x07))
+    }
+
+    /// F, the forbidden bit; where it is set, the syntax is violated (RFC 9328, 1.1.4).
+    pub fn f(&self) -> bool
+        ensures { result ≡ is_set self.now.0 15 }
+    {
+        self.0 >> 15 != 0
+    }
+
+    /// Z, a reserved bit (RFC 9328, 1.1.4).
+    pub fn z(&self) -> bool
+        ensures { result ≡ is_set self.now.0 14 }
+    {
+        self.0 >> 14 & 1 != 0
+    }
+
+    /// The layer, 0 to 63 (RFC 9328, 1.1.4).
+    pub fn layer_id(&self) -> u8
+        ensures { result ≡ field self.now.0 13 8 }
+    {
+        (self.0 >> 8 & 0x3f) as u8
+    }
+
+    /// The type, 0 to 31 (RFC 9328, 1.1.4).
+    pub fn nalu_type(&self) -> u8
+        ensures { result ≡ field self.now.0 7 3 }
+    {
+        (self.0 >> 3 & 0x1f) as u8
+    }
+
+    /// The temporal id plus 1, 0 to 7; 0 is forbidden (RFC 9328, 1.1.4).
+    pub fn tid(&self) -> u8
+        ensures { result ≡ field self.now.0 2 0 }
+    {
+        (self.0 & 0x07) as u8
+    }
+
+    /// Whether the type is one of a slice of an IDR or CRA picture, 7 to 9 (RFC 9328, 1.1.4).
+    pub fn is_irap(&self) -> bool
+        ensures { result ≡ is_key_type (field self.now.0 7 3) }
+    {
+        matches!(self.nalu_type(), 7..=9)
+    }
+
+    /// Whether this is the header of an aggregation packet, type 28 (RFC 9328, 4.3.2).
+    pub fn is_aggregation_packet(&self) -> bool
+        ensures { result ≡ (field self.now.0 7 3 == 28) }
+    {
+        self.nalu_type() == AGGREGATION_PACKET
+    }
+
+    /// Whether this is the header of a fragmentation unit, type 29 (RFC 9328, 4.3.3).
+    pub fn is_fragmentation_unit(&self) -> bool
+        ensures { result ≡ (field self.now.0 7 3 == 29) }
+    {
+        self.nalu_type() == FRAGMENTATION_UNIT
+    }
+}
+
+/// The byte behind the header of a fragmentation unit: S, E, P and the unit's type (RFC 9328,
+/// 4.3.3).
+#[derive(Debug, Clone, Copy, Default, PartialEq, Eq)]
+pub struct H266FragmentationUnitHeader(pub u8);
+
+impl H266FragmentationUnitHeader {
+    /// The byte with these marks and the low five bits of the type (RFC 9328, 4.3.3).
+    pub fn new(start: bool, end: bool, last_of_picture: bool, fu_type: u8) -> Self
+        ensures { result.0 ≡
+            flag start 0x80 + flag end 0x40 + flag last_of_picture 0x20 + field fu_type 4 0 }
+    {
+        let s = if start { 0x80 } else { 0 };
+        let e = if end { 0x40 } else { 0 };
+        let p = if last_of_picture { 0x20 } else { 0 };
+        H266FragmentationUnitHeader(s + e + p + (fu_type & 0x1f))
+    }
+
+    /// Whether this is the first fragment of its unit (RFC 9328, 4.3.3).
+    pub fn s(&self) -> bool
+        ensures { result ≡ is_set self.now.0 7 }
+    {
+        self.0 >> 7 != 0
+    }
+
+    /// Whether this is the last fragment of its unit (RFC 9328, 4.3.3).
+    pub fn e(&self) -> bool
+        ensures { result ≡ is_set self.now.0 6 }
+    {
+        self.0 >> 6 & 1 != 0
+    }
+
+    /// Whether this is the last fragment of the last slice of a picture (RFC 9328, 4.3.3).
+    pub fn p(&self) -> bool
+        ensures { result ≡ is_set self.now.0 5 }
+    {
+        self.0 >> 5 & 1 != 0
+    }
+
+    /// The type of the unit, 0 to 31 (RFC 9328, 4.3.3).
+    pub fn fu_type(&self) -> u8
+        ensures { result ≡ field self.now.0 4 0 }
+    {
+        self.0 & 0x1f
+    }
+}

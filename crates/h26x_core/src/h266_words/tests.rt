@@ -1,0 +1,98 @@
+use super::*;
+
+#[test]
+fn fields_of_headers(rt: HostRuntime) {
+    for ((high, low), f, z, layer_id, nalu_type, tid) in [
+        ((0x05, 0x39), false, false, 5, 7, 1),
+        ((0x80, 0x00), true, false, 0, 0, 0),
+        ((0x40, 0x00), false, true, 0, 0, 0),
+        ((0x3f, 0x00), false, false, 63, 0, 0),
+        ((0x00, 0xf8), false, false, 0, 31, 0),
+        ((0x00, 0x07), false, false, 0, 0, 7),
+        ((0xff, 0xff), true, true, 63, 31, 7),
+    ] {
+        let header = H266NALUHeader::new(high, low);
+        assert_eq!(rt; header.f(), f, "at {header:?}");
+        assert_eq!(rt; header.z(), z, "at {header:?}");
+        assert_eq!(rt; header.layer_id(), layer_id, "at {header:?}");
+        assert_eq!(rt; header.nalu_type(), nalu_type, "at {header:?}");
+        assert_eq!(rt; header.tid(), tid, "at {header:?}");
+    }
+}
+
+#[test]
+fn headers_by_their_fields(rt: HostRuntime) {
+    for (typ, layer_id, tid, word) in [
+        (7, 5, 1, 0x0539),
+        (28, 0, 1, 0x00e1),
+        (29, 63, 7, 0x3fef),
+        (31, 0, 0, 0x00f8),
+        (0x20, 0x40, 0x08, 0x0000),
+        (0xff, 0xff, 0xff, 0x3fff),
+    ] {
+        let header = H266NALUHeader::new_with_type(typ, layer_id, tid);
+        assert_eq!(rt; header, H266NALUHeader(word), "at type {typ}");
+    }
+}
+
+#[test]
+fn types(rt: HostRuntime) {
+    for (typ, irap, aggregation, fragmentation) in [
+        (6, false, false, false),
+        (7, true, false, false),
+        (8, true, false, false),
+        (9, true, false, false),
+        (10, false, false, false),
+        (27, false, false, false),
+        (28, false, true, false),
+        (29, false, false, true),
+        (30, false, false, false),
+    ] {
+        let header = H266NALUHeader::new_with_type(typ, 0, 1);
+        assert_eq!(rt; header.is_irap(), irap, "at type {typ}");
+        assert_eq!(rt;
+            header.is_aggregation_packet(),
+            aggregation,
+            "at type {typ}"
+        );
+        assert_eq!(rt;
+            header.is_fragmentation_unit(),
+            fragmentation,
+            "at type {typ}"
+        );
+    }
+}
+
+#[test]
+fn fragment_headers(rt: HostRuntime) {
+    for (s, e, p, fu_type, word) in [
+        (true, false, false, 31, 0x9f),
+        (false, false, true, 7, 0x27),
+        (false, true, true, 0, 0x60),
+        (false, true, false, 7, 0x47),
+        (false, false, false, 16, 0x10),
+    ] {
+        let header = H266FragmentationUnitHeader::new(s, e, p, fu_type);
+        assert_eq!(rt; header, H266FragmentationUnitHeader(word), "at {word}");
+        assert_eq!(rt; header.s(), s, "at {word}");
+        assert_eq!(rt; header.e(), e, "at {word}");
+        assert_eq!(rt; header.p(), p, "at {word}");
+        assert_eq!(rt; header.fu_type(), fu_type, "at {word}");
+    }
+    let masked = H266FragmentationUnitHeader::new(false, false, false, 0xe1);
+    assert_eq!(rt; masked, H266FragmentationUnitHeader(0x01));
+}
+
+#[test]
+fn defaults_and_equality(rt: HostRuntime) {
+    assert_eq!(rt; H266NALUHeader::default(), H266NALUHeader(0));
+    assert_eq!(rt;
+        H266FragmentationUnitHeader::default(),
+        H266FragmentationUnitHeader(0)
+    );
+    assert_ne!(rt; H266NALUHeader(0x0539), H266NALUHeader(0x4539));
+    assert_ne!(rt;
+        H266FragmentationUnitHeader(0x27),
+        H266FragmentationUnitHeader(0x07)
+    );
+}
