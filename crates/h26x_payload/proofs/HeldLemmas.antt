@@ -1,12 +1,11 @@
 -- What a packetizer keeps. The laws that this stands on come as arguments.
-use Rattle.std.proofs.Common.{◌≡◌, ℕ, Bool, true, false, cond, List, [], ◌∷◌, ◌++◌, map, sym, ap, subst, ◌∙◌, refl}
-use Rattle.std.specs.List.{flat_map}
+use Rattle.std.proofs.Common.{◌≡◌, ℕ, Bool, true, List, [], ◌∷◌, map, sym, ap, ◌∙◌, refl}
 use Rattle.h26x_core.specs.Format.{Format}
 use Rattle.h26x_core.specs.Group.{Entry}
 use Rattle.h26x_core.specs.Kind.{Kind, is_vps, is_sps, is_pps}
 use Rattle.h26x_core.specs.Packets.{packets}
 use Rattle.h26x_core.specs.Waits.{Waiting, IsOneSet, NoSet, OneSet, AreSets}
-use Rattle.h26x_core.specs.Sender.{Sender, planned, packets_by, after, has_no_effect}
+use Rattle.h26x_core.specs.Sender.{Sender, packets_by, after, has_no_effect}
 use Rattle.h26x_core.specs.Ends.{SenderGoesOn}
 use Rattle.h26x_payload.specs.Held.{Held, IsHeld, sender, call_of, entries_with, held_after}
 

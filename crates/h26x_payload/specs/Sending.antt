@@ -1,5 +1,5 @@
 -- What a packetizer does with the sets that wait, and what it sends, for every format.
-use Rattle.std.specs.Prelude.{◌≡◌, ℕ, ◌+◌, ◌%◌, Bool, true, false, if◌then◌else◌, List, [], ◌∷◌, ◌++◌, length, Option, Some, None}
+use Rattle.std.specs.Prelude.{◌≡◌, ℕ, ◌+◌, ◌%◌, Bool, true, false, if◌then◌else◌, List, [], ◌∷◌, ◌++◌, length, Option, Some, None, map, Vec}
 use Rattle.std.specs.List.{flat_map}
 use Rattle.std.specs.Option.{option_map}
 use Rattle.h26x_core.specs.Kind.{Kind, Skipped, Vps, Sps, Pps, Other}
@@ -14,6 +14,10 @@ use Rattle.h26x_payload.specs.declared.units.Due.{Due}
 use Rattle.h26x_payload.specs.declared.units.Due.TheVariants as d
 use Rattle.h26x_payload.specs.declared.codec.UnitKind.{UnitKind}
 use Rattle.h26x_payload.specs.declared.codec.UnitKind.TheVariants as k
+
+-- the bytes of each packet of a list
+abbrev pub contents : {A : Type 0} → List (Vec ℕ A) → List (List ℕ)
+contents packets = map (λ p. p.items) packets
 
 -- a set that may be there, as a list
 abbrev pub listed : Option (List ℕ) → List (List ℕ)

@@ -6,7 +6,7 @@ ghost use Rattle.h26x_core.specs.Limit.{AreWithin};
 ghost use Rattle.h26x_core.specs.Calls.{limit_at, limit_of_call};
 ghost use Rattle.h26x_core.specs.Waits.{waits_after, items_now, plan_with, waits_after_all, entries_at, none_waiting};
 ghost use Rattle.h26x_core.specs.Sender.{packets_by, is_skipped_kind, are_skipped, has_no_effect};
-ghost use Rattle.h26x_payload.specs.Sending.{IsSent, listed, newest, waiting_with, items_due, is_nothing};
+ghost use Rattle.h26x_payload.specs.Sending.{contents, IsSent, listed, newest, waiting_with, items_due, is_nothing};
 ghost use Rattle.h26x_payload.specs.Held.{IsHeld, sender, fresh_with, call_of, entries_with, held_after};
 
 use crate::codec::{Codec, NumberedCodec, UnitKind};
@@ -218,7 +218,7 @@ impl<C: Codec> PayloadPacketizer<C> {
         ensures sent { IfOk result (λ it. IsSent (C.format self.now.codec) self.now.counter
             (plan_with (C.format self.now.codec) self.now.waiting
             (entries_at limit ((C.format self.now.codec).units b.now)))
-            (map (λ p. p.items) made.old.items) (map (λ p. p.items) made.new.items) it.1) }
+            (contents made.old.items) (contents made.new.items) it.1) }
         ensures waits { IfOk result (λ it. waiting_with self.now.waiting it.0 ≡ waits_after_all
             (C.format self.now.codec) self.now.waiting
             (entries_at limit ((C.format self.now.codec).units b.now))) }
@@ -279,7 +279,7 @@ impl<C: Codec> Packetizer for PayloadPacketizer<C> {
     ///
     /// `OutOfMemory` is its only error, and leaves everything.
     fn packetize(&mut self, mtu: usize, b: &[u8]) -> Result<Vec<Vec<u8>>, PacketError>
-        ensures packets { IfOk result (λ made. map (λ p. p.items) made.items
+        ensures packets { IfOk result (λ made. contents made.items
             ≡ packets_by (sender (C.format self.old.codec) self.old)
             (entries_with (C.format self.old.codec) self.old mtu b.now)) }
         ensures after { OnOk result (self.new
@@ -287,7 +287,7 @@ impl<C: Codec> Packetizer for PayloadPacketizer<C> {
             (entries_with (C.format self.old.codec) self.old mtu b.now)) }
         ensures within { IfOk result (λ made.
             AreWithin (limit_of_call (C.format self.old.codec) (call_of self.old mtu b.now))
-            (map (λ p. p.items) made.items)) }
+            (contents made.items)) }
 
         ensures kept { OnErr result (self.new ≡ self.old) }
         ensures memory { OnErr result (result ≡ Err PacketError.OutOfMemory) }

@@ -4,7 +4,7 @@ ghost use Rattle.std.specs.Prelude.{◌≡◌, ◌≤◌, ◌++◌, ◌∷◌, [
 ghost use Rattle.std.specs.Option.{option_map};
 ghost use Rattle.h26x_core.specs.Plan.{Alone, fits, items_alone, items_of_sets};
 ghost use Rattle.h26x_core.specs.Packets.{single};
-ghost use Rattle.h26x_payload.specs.Sending.{IsSent, listed, sets_in, is_nothing, items_due};
+ghost use Rattle.h26x_payload.specs.Sending.{contents, IsSent, listed, sets_in, is_nothing, items_due};
 
 use crate::codec::Codec;
 use crate::fragments::{append_fragments, borne, number_len};
@@ -64,8 +64,8 @@ fn append_unit<C: Codec>(
     made: &mut Vec<Vec<u8>>,
 ) -> Result<u16, PacketError>
     ensures sent { IfOk result (λ next. IsSent (C.format codec) number
-        (items_alone (C.format codec) limit unit.now) (map (λ p. p.items) made.old.items)
-        (map (λ p. p.items) made.new.items) next) }
+        (items_alone (C.format codec) limit unit.now) (contents made.old.items)
+        (contents made.new.items) next) }
     ensures memory { OnErr result (result ≡ Err PacketError.OutOfMemory) }
 {
     if fits_one(codec, limit, unit) {
@@ -89,7 +89,7 @@ fn append_set<C: Codec>(
 ) -> Result<u16, PacketError>
     ensures sent { IfOk result (λ next. IsSent (C.format codec) number (map (Alone limit)
         (filter (fits (C.format codec) limit) (listed (option_map (λ s. s.now) set.entry))))
-        (map (λ p. p.items) made.old.items) (map (λ p. p.items) made.new.items) next) }
+        (contents made.old.items) (contents made.new.items) next) }
     ensures memory { OnErr result (result ≡ Err PacketError.OutOfMemory) }
 {
     match set {
@@ -114,7 +114,7 @@ fn append_sets<C: Codec>(
     requires whole { (C.format codec).header_len ≤ length unit.now }
     ensures sent { IfOk result (λ next. IsSent (C.format codec) number
         (items_of_sets (C.format codec) limit (sets_in sets.entry) unit.now)
-        (map (λ p. p.items) made.old.items) (map (λ p. p.items) made.new.items) next) }
+        (contents made.old.items) (contents made.new.items) next) }
     ensures memory { OnErr result (result ≡ Err PacketError.OutOfMemory) }
 {
     if codec.sets_fit(limit, sets) {
@@ -151,8 +151,8 @@ pub(crate) fn append_due<C: Codec>(
 ) -> Result<u16, PacketError>
     requires whole { is_nothing due ≡ false → (C.format codec).header_len ≤ length unit.now }
     ensures sent { IfOk result (λ next. IsSent (C.format codec) number
-        (items_due (C.format codec) limit unit.now due.entry) (map (λ p. p.items) made.old.items)
-        (map (λ p. p.items) made.new.items) next) }
+        (items_due (C.format codec) limit unit.now due.entry) (contents made.old.items)
+        (contents made.new.items) next) }
     ensures nothing { due.entry ≡ Due.Nothing → IsOk result }
     ensures memory { OnErr result (result ≡ Err PacketError.OutOfMemory) }
 {

@@ -7,6 +7,7 @@ ghost use Rattle.h26x_core.specs.Sender.{packets_by, has_no_effect};
 ghost use Rattle.h26x_core.specs.Receiver.{AreDelivered};
 ghost use Rattle.h264_payload.specs.H264.{h264};
 ghost use Rattle.h264_payload.specs.Depacketizer.{work};
+ghost use Rattle.h26x_payload.specs.Sending.{contents};
 ghost use Rattle.h26x_payload.specs.Held.{sender, call_of, entries_with, held_after};
 ghost use Rattle.h26x_tool.specs.Carry.{IsCarriedWhole};
 
@@ -22,7 +23,7 @@ fn deliver(
 ) -> Result<(), PacketError>
     ensures kept { IsFrontOf out.old.items out.new.items }
     ensures delivered { AreDelivered (work d.old out.old.items extra.old)
-        (map (λ p. p.items) packets.now) result
+        (contents packets.now) result
         (Some (work d.new out.new.items extra.new)) }
     ensures free { packets.now ≡ [] → IsOk result }
 {

@@ -1,4 +1,4 @@
-use Rattle.std.proofs.Common.{rules, ap, map, ◌≡◌, ◌∷◌, [], ◌∙◌, Vec, Global, ℕ, ◌<◌, ◌%◌, arith}
+use Rattle.std.proofs.Common.{rules, ap, map, ◌≡◌, ◌∷◌, [], ◌∙◌, Vec, Global, ℕ, arith}
 use Rattle.h26x_payload.proofs.SendLemmas.{sends_unit, sends_end, waits_more, skipped_more}
 use Rattle.h26x_payload.specs.Sending.{IsSent, items_due, waiting_with}
 use Rattle.h26x_payload.specs.Held.{Held}
