@@ -1,16 +1,16 @@
 -- H.265 meets the facts that the laws of every format ask.
-use Rattle.std.proofs.Common.{◌≡◌, ℕ, ◌%◌, Bool, List, [], ◌∷◌, length, refl, ap, arith}
+use Rattle.std.proofs.Common.{ℕ, Bool, List, length, refl, ap, arith}
 use Rattle.std.proofs.lemmas.Bool.{and_parts}
-use Rattle.std.proofs.Math.Nat.{mod-mod}
 use Rattle.h26x_core.specs.Word.{is_set}
 use Rattle.h26x_core.specs.Reading.{Reading}
 use Rattle.h26x_core.specs.Facts.{IsPayloadFormat}
 use Rattle.h26x_core.proofs.TwoByteLemmas as two_byte
 use Rattle.h26x_core.proofs.TwoByteLemmas.{HasRoom, none_borne}
-use Rattle.h265_payload.specs.H265.{h265, read, sets_packet}
+use Rattle.h265_payload.specs.CodecFacts.{fits_limits, aggregate_numbers}
+use Rattle.h265_payload.specs.H265.{h265, read}
 use Rattle.h265_payload.specs.Reading.{IsReading, IsShort, IsCorrupted, IsUnit, IsNumberedUnit, IsShortUnit, IsAggregate, IsShortAggregate, IsNumberedAggregate, IsOneNumbered, IsNoneNumbered, IsWithoutNumber, IsFragment, IsNumberedStart, IsShortFragment, IsShortStart, IsPaci, IsShortPaci, IsPaciWithoutFields}
 use Rattle.h265_payload.proofs.HeaderLemmas.{two, is_two_bytes}
-use Rattle.h265_payload.proofs.SetsLemmas.{fit_is_within, sets_within, sets_back, undetected}
+use Rattle.h265_payload.proofs.SetsLemmas.{fit_is_within, sets_back, undetected}
 use Rattle.h265_payload.proofs.RuleLemmas.{has_reading}
 
 -- a fragment has room for its headers and number beside its data
@@ -36,19 +36,12 @@ has_room numbered packet reading (IsPaci high low a b extension body w type long
 has_room numbered packet reading (IsShortPaci high low a b bytes w type short is) = rw is tt
 has_room numbered packet reading (IsPaciWithoutFields high low a w type is) = rw is tt
 
--- a number counts by its two bytes
-two_number_bytes : (numbered : Bool) (n : ℕ) (sets : List (List ℕ)) (unit : List ℕ) → sets_packet numbered (n % 65536) sets unit ≡ sets_packet numbered n sets unit
-two_number_bytes numbered n [] unit = refl
-two_number_bytes numbered n (set ∷ sets) [] = refl
-two_number_bytes numbered n (set ∷ sets) (high ∷ []) = refl
-two_number_bytes numbered n (set ∷ sets) (high ∷ low ∷ unit) = rw (mod-mod n 65536) refl
-
 -- the format meets all facts, with and without numbers
 pub is_payload_format : (numbered : Bool) → IsPayloadFormat (h265 numbered)
 is_payload_format numbered = two_byte.is_payload_format numbered (two numbered) (is_two_bytes numbered) (h265 numbered) (record {
   within = fit_is_within numbered;
-  long = sets_within numbered;
+  long = (fits_limits numbered).sets;
   back = λ n limit sets unit is fit many carried h. sets_back numbered n limit sets unit is fit many h;
   undetected = λ n limit sets unit none is fit carried h all. undetected numbered n limit sets unit none is fit h all;
-  numbers = record { sets = two_number_bytes numbered; none = λ none n m sets unit. rw none refl };
+  numbers = aggregate_numbers numbered;
 }) (λ packet. has_room numbered packet (read numbered packet) (has_reading numbered packet)) (λ key. refl)

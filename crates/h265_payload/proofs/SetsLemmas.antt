@@ -1,4 +1,4 @@
--- Aggregates of parameter sets: how long they are, that they are read back, and that they are not detected.
+-- Aggregates of parameter sets: that they are read back, and that they are not detected.
 use Rattle.std.proofs.Common.{◌≡◌, ℕ, zero, suc, ◌+◌, ◌*◌, ◌/◌, ◌%◌, ◌<◌, ◌≤◌, Bool, true, false, cond, List, [], ◌∷◌, ◌++◌, length, Option, Some, refl, ap, arith, length-append}
 use Rattle.std.specs.Prelude.{IsTrue}
 use Rattle.std.specs.List.{flat_map, AllByRecursion}
@@ -11,40 +11,16 @@ use Rattle.h26x_core.specs.Format.{IsLimit}
 use Rattle.h26x_core.specs.Number.{numbered_from}
 use Rattle.h26x_core.specs.Pieces.{piece}
 use Rattle.h26x_core.proofs.PieceLemmas.{word_back, pieces_back, enough, number_back}
-use Rattle.h26x_core.proofs.SetsLemmas.{room_of, room_of-cons, FitIsWithin, sets_short, plain_numbers, next_number}
+use Rattle.h26x_core.proofs.SetsLemmas.{FitIsWithin, sets_short, plain_numbers, next_number}
 use Rattle.h26x_core.proofs.TwoByteLemmas.{IsCarried, of_carried, sets_undetected}
+use Rattle.h265_payload.specs.CodecFacts.{fit_within, further_long}
 use Rattle.h265_payload.specs.H265.{h265, carries, read, sets_fit, sets_packet, with_type_and_f, further, further_units, units_from, two_or_more, detects}
 use Rattle.h265_payload.proofs.HeaderLemmas.{two, is_two_bytes, clear_as}
-
--- sets that fit an aggregate are within the limit
-fit_within : (numbered : Bool) (limit : ℕ) (sets : List (List ℕ)) → sets_fit numbered limit sets ≡ true → 2 + cond numbered (length sets + 1) 0 + room_of sets ≤ limit
-fit_within numbered limit sets h = grind (arith, nat_tests)
 
 -- the number of a first set takes no more
 pub fit_is_within : (numbered : Bool) → FitIsWithin (h265 numbered)
 fit_is_within true limit sets some fit = let w = fit_within true limit sets fit in omega (arith, w)
 fit_is_within false limit sets some fit = let w = fit_within false limit sets fit in omega (arith, w)
-
--- the further sets take one byte more each where they bear numbers
-pub further_long : (numbered : Bool) (sets : List (List ℕ)) → length (flat_map (further numbered) sets) ≡ cond numbered (length sets) 0 + room_of sets
-further_long true [] = omega arith
-further_long false [] = omega arith
-further_long true (set ∷ sets) =
-    let h = further_long true sets in let l = length-append set (flat_map (further true) sets) in let s = room_of-cons set sets in omega (arith, h, l, s)
-further_long false (set ∷ sets) =
-    let h = further_long false sets in let l = length-append set (flat_map (further false) sets) in let s = room_of-cons set sets in omega (arith, h, l, s)
-
--- an aggregate of sets that fit is within the limit
-pub sets_within : (numbered : Bool) (limit n : ℕ) (sets : List (List ℕ)) (unit : List ℕ) → sets_fit numbered limit sets ≡ true → length (sets_packet numbered n sets unit) ≤ limit
-sets_within numbered limit n [] unit fit = omega arith
-sets_within numbered limit n (set ∷ sets) [] fit = omega arith
-sets_within numbered limit n (set ∷ sets) (high ∷ []) fit = omega arith
-sets_within true limit n (set ∷ sets) (high ∷ low ∷ unit) fit =
-    let w = fit_within true limit (set ∷ sets) fit in
-    let h = further_long true sets in let l = length-append set (flat_map (further true) sets) in let s = room_of-cons set sets in omega (arith, w, h, l, s)
-sets_within false limit n (set ∷ sets) (high ∷ low ∷ unit) fit =
-    let w = fit_within false limit (set ∷ sets) fit in
-    let h = further_long false sets in let l = length-append set (flat_map (further false) sets) in let s = room_of-cons set sets in omega (arith, w, h, l, s)
 
 -- sets behind their differences are read with the numbers that they were sent with
 further_back : (most n : ℕ) (sets : List (List ℕ)) → length sets ≤ most → AllByRecursion (λ set. length set < 65536) sets →

@@ -1,2 +1,3 @@
 pub mod H265
 pub mod Reading
+pub mod CodecFacts

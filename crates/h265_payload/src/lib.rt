@@ -1,7 +1,13 @@
-//! The H.265 payload format (RFC 7798).
+//! The H.265 payload format (RFC 7798): a packetizer, with the format's definitions and their laws.
 //!
-//! So far this crate has the format's definitions and their laws.
+//! ```rust
+//! let mut packetizer = H265Packetizer::new(alloc);
+//! let packets = packetizer.packetize(1200, &frame)?;
+//! ```
 #![tactic(auto)]
 
 mod cases;
 pub mod laws;
+mod packetizer;
+
+pub use packetizer::{H265, H265Packetizer};

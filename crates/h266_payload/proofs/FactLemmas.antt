@@ -1,16 +1,16 @@
 -- H.266 meets the facts that the laws of every format ask.
 use Rattle.std.proofs.Common.{ℕ, Bool, List, length, refl, ap, arith}
 use Rattle.std.proofs.lemmas.Bool.{and_parts}
-use Rattle.std.proofs.Math.Nat.{mod-mod}
 use Rattle.h26x_core.specs.Word.{is_set}
 use Rattle.h26x_core.specs.Reading.{Reading}
 use Rattle.h26x_core.specs.Facts.{IsPayloadFormat}
 use Rattle.h26x_core.proofs.TwoByteLemmas as two_byte
 use Rattle.h26x_core.proofs.TwoByteLemmas.{HasRoom, none_borne}
+use Rattle.h266_payload.specs.CodecFacts.{fits_limits, aggregate_numbers}
 use Rattle.h266_payload.specs.H266.{h266, read}
 use Rattle.h266_payload.specs.Reading.{IsReading, IsShort, IsCorrupted, IsUnit, IsNumberedUnit, IsShortUnit, IsAggregate, IsShortAggregate, IsCutAggregate, IsCorruptedAggregate, IsWithoutNumber, IsFragment, IsNumberedStart, IsShortStart}
 use Rattle.h266_payload.proofs.HeaderLemmas.{two, is_two_bytes}
-use Rattle.h266_payload.proofs.SetsLemmas.{fit_is_within, sets_long, sets_back, undetected}
+use Rattle.h266_payload.proofs.SetsLemmas.{fit_is_within, sets_back, undetected}
 use Rattle.h266_payload.proofs.ReadingLemmas.{has_reading}
 
 -- a fragment has room for its headers and number beside its data
@@ -35,8 +35,8 @@ has_room numbered packet reading (IsShortStart high low fu body w type n short i
 pub is_payload_format : (numbered : Bool) → IsPayloadFormat (h266 numbered)
 is_payload_format numbered = two_byte.is_payload_format numbered (two numbered) (is_two_bytes numbered) (h266 numbered) (record {
   within = fit_is_within numbered;
-  long = sets_long numbered;
+  long = (fits_limits numbered).sets;
   back = λ n limit sets unit is fit many carried h. sets_back numbered n limit sets unit is fit many carried;
   undetected = λ n limit sets unit none is fit carried h each. undetected numbered n limit sets unit none is fit each;
-  numbers = record { sets = λ n sets unit. rw (mod-mod n 65536) refl; none = λ none n m sets unit. rw none refl };
+  numbers = aggregate_numbers numbered;
 }) (λ packet. has_room numbered packet (read numbered packet) (has_reading numbered packet)) (λ key. refl)

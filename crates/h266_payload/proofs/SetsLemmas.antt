@@ -1,4 +1,4 @@
--- Aggregates of sets: how long they are, that they are read back, and that they are not detected.
+-- Aggregates of sets: that they are read back, and that they are not detected.
 use Rattle.std.proofs.Common.{◌≡◌, ℕ, zero, suc, ◌+◌, ◌*◌, ◌/◌, ◌%◌, ◌<◌, ◌≤◌, Bool, true, false, cond, List, [], ◌∷◌, ◌++◌, length, Option, Some, None, refl, ap, ◌∙◌, arith, length-append}
 use Rattle.std.specs.Prelude.{IsTrue, max, Ok}
 use Rattle.std.specs.List.{flat_map, list_any, AllByRecursion}
@@ -13,23 +13,15 @@ use Rattle.h26x_core.specs.Facts.{AreCarried}
 use Rattle.h26x_core.proofs.PieceLemmas.{word_back, number_back, pieces_long}
 use Rattle.h26x_core.proofs.SetsLemmas.{room_of, FitIsWithin, sets_short, plain_numbers, next_number}
 use Rattle.h26x_core.proofs.TwoByteLemmas.{of_carried, header_there, aggregate_read, sets_undetected}
+use Rattle.h266_payload.specs.CodecFacts.{fit_within}
 use Rattle.h266_payload.specs.H266.{h266, read, carries, sets_fit, sets_packet, has_forbidden_bit, layer_of, temporal_of, least}
 use Rattle.h266_payload.specs.H266.{has_packet_type, with_unit, units_within, numbered_on, two_or_more, aggregate_of, detects}
 use Rattle.h266_payload.proofs.HeaderLemmas.{two, is_two_bytes, aggregate_type}
 use Rattle.h266_payload.proofs.WithinLemmas.{unit_within}
 
 -- sets that fit an aggregate are within the limit
-fit_within : (numbered : Bool) (limit : ℕ) (sets : List (List ℕ)) → sets_fit numbered limit sets ≡ true → 2 + cond numbered 2 0 + room_of sets ≤ limit
-fit_within numbered limit sets fit = grind (arith, nat_tests)
-
--- so they are as every format's
 pub fit_is_within : (numbered : Bool) → FitIsWithin (h266 numbered)
 fit_is_within numbered limit sets some fit = fit_within numbered limit sets fit
-
--- and so is the aggregate
-pub sets_long : (numbered : Bool) (limit n : ℕ) (sets : List (List ℕ)) (unit : List ℕ) → sets_fit numbered limit sets ≡ true → length (sets_packet numbered n sets unit) ≤ limit
-sets_long false limit n sets unit fit = let h = pieces_long sets in let w = fit_within false limit sets fit in omega (arith, h, w)
-sets_long true limit n sets unit fit = let h = pieces_long sets in let w = fit_within true limit sets fit in omega (arith, h, w)
 
 -- no carried unit has F set
 unmarked : (numbered : Bool) (unit : List ℕ) → IsTrue (carries unit) → has_forbidden_bit unit ≡ false

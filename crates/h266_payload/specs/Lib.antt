@@ -1,2 +1,3 @@
 pub mod H266
 pub mod Reading
+pub mod CodecFacts

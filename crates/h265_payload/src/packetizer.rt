@@ -1,0 +1,203 @@
+//! RTP payloads of H.265 payloads: units alone, in fragments, and parameter sets in one packet (RFC
+//! 7798, 4.4 and 4.5).
+
+ghost use Rattle.std.specs.Prelude.{◌≡◌, ◌+◌, ◌<◌};
+ghost use Rattle.h26x_core.specs.Word.{flag};
+ghost use Rattle.h26x_core.specs.H265Unit.{type_of};
+ghost use Rattle.h265_payload.specs.H265.{with_type_and_f};
+
+use h26x_core::{CodecExtra, FU_END_BITMASK, FU_START_BITMASK, H265CodecExtra};
+use h26x_cut::{UnitSlices, ZeroRule};
+use h26x_payload::{Codec, NumberedCodec, PayloadPacketizer, Sets, UnitKind};
+use std::alloc::{AllocError, Global};
+
+/// The types of the slices of IRAP pictures, the first and the last.
+const FIRST_KEY_TYPE: u8 = 16;
+const LAST_KEY_TYPE: u8 = 21;
+
+/// The types of parameter sets.
+const VPS_TYPE: u8 = 32;
+const SPS_TYPE: u8 = 33;
+const PPS_TYPE: u8 = 34;
+
+/// The type of an access unit delimiter.
+const AUD_TYPE: u8 = 35;
+
+/// The type of an aggregate.
+const AGGREGATE_TYPE: u8 = 48;
+
+/// The type of a fragment.
+const FRAGMENT_TYPE: u8 = 49;
+
+/// H.265, and whether packets bear decoding order numbers.
+#[derive(Debug, Clone, Copy)]
+pub struct H265 {
+    numbered: bool,
+}
+
+/// Sends the NAL units of payloads (RFC 7798).
+///
+/// A unit that fits goes alone (4.4.1), a longer one in fragments (4.4.3); where the limit leaves a
+/// fragment no room for data it is dropped. A VPS, an SPS and a PPS wait, each the latest, and go
+/// before the next other unit once there are an SPS and a PPS: in one aggregate (4.4.2), or where
+/// that passes the limit each alone if it fits. Access unit delimiters are not sent.
+///
+/// With `with_donl` each unit bears its decoding order number (4.5), which counts against the
+/// limit: DONL in single packets, aggregates and first fragments, and a DOND of 0 from an
+/// aggregate's second set on. The limit of a call is the lesser of its `mtu` and the largest packet
+/// size, 1200 unless `with_max_packet_size` sets another; an `mtu` under 4 has no effect.
+///
+/// ```rust
+/// let mut packetizer = H265Packetizer::new(alloc);
+/// packetizer.with_max_packet_size(1400);
+/// for packet in &packetizer.packetize(1400, &frame)? {
+///     send(packet);
+/// }
+/// ```
+pub type H265Packetizer = PayloadPacketizer<H265>;
+
+/// The type of a unit, by the first byte of its header.
+fn nalu_type(high: u8) -> u8
+    ensures { result ≡ type_of high }
+{
+    high >> 1 & 0x3f
+}
+
+/// The first byte of a header with another type: F and the layer's highest bit are kept.
+fn with_type(high: u8, nalu_type: u8) -> u8
+    requires { nalu_type < 64 }
+    ensures { result ≡ with_type_and_f high nalu_type }
+{
+    (high >> 7) * 128 + nalu_type * 2 + (high & 1)
+}
+
+/// The FU header: S, E and the unit's type.
+fn header_of(high: u8, start: bool, end: bool) -> u8
+    ensures { result ≡ flag start 0x80 + flag end 0x40 + type_of high }
+{
+    let start_bit = if start { FU_START_BITMASK } else { 0 };
+    let end_bit = if end { FU_END_BITMASK } else { 0 };
+    start_bit + end_bit + nalu_type(high)
+}
+
+impl Codec for H265 {
+    ghost use Rattle.h265_payload.specs.H265.{h265};
+    ghost use Rattle.h265_payload.specs.CodecFacts.{has_header, header_tells, fits_limits, aggregate_numbers};
+    ghost use Rattle.std.specs.Prelude.{refl, false};
+
+    ghost format = { λ codec. h265 codec.numbered };
+
+    ghost fresh = { record { numbered = false } };
+
+    fn new() -> Self {
+        H265 { numbered: false }
+    }
+
+    fn header_len(self) -> usize {
+        2
+    }
+
+    fn is_numbered(self) -> bool {
+        self.numbered
+    }
+
+    fn least_mtu(self) -> usize {
+        4
+    }
+
+    fn is_sized(self) -> bool {
+        true
+    }
+
+    fn kind_of(self, unit: &[u8]) -> UnitKind {
+        if unit.len() < 2 {
+            return UnitKind::Skipped;
+        }
+        match nalu_type(unit[0]) {
+            AUD_TYPE => UnitKind::Skipped,
+            VPS_TYPE => UnitKind::Vps,
+            SPS_TYPE => UnitKind::Sps,
+            PPS_TYPE => UnitKind::Pps,
+            _ => UnitKind::Other,
+        }
+    }
+
+    fn units_in(self, payload: &[u8]) -> UnitSlices<'_> {
+        h26x_cut::units(payload, ZeroRule::All)
+    }
+
+    fn sets_fit(self, limit: usize, sets: Sets<'_>) -> bool {
+        // DONL, and a DOND for each set but the first.
+        let numbers = if self.numbered { sets.count() + 1 } else { 0 };
+        2 + u128::from(numbers) + sets.size() <= limit as u128
+    }
+
+    fn sets_go_alone(self) -> bool {
+        true
+    }
+
+    fn sets_packet(
+        self,
+        alloc: Global,
+        number: u16,
+        sets: Sets<'_>,
+        unit: &[u8],
+    ) -> Result<Vec<u8>, AllocError> {
+        let mut packet = Vec::with_capacity(alloc, sets.capacity())?;
+        packet.extend_from_slice(&[with_type(unit[0], AGGREGATE_TYPE), unit[1]])?;
+        if self.numbered {
+            packet.extend_from_slice(&number.to_be_bytes())?;
+            sets.push(&[0], &mut packet)?;
+        } else {
+            sets.push(&[], &mut packet)?;
+        }
+        Ok(packet)
+    }
+
+    fn push_fragment_header(
+        self,
+        unit: &[u8],
+        start: bool,
+        end: bool,
+        packet: &mut Vec<u8>,
+    ) -> Result<(), AllocError> {
+        packet.extend_from_slice(&[
+            with_type(unit[0], FRAGMENT_TYPE),
+            unit[1],
+            header_of(unit[0], start, end),
+        ])
+    }
+
+    fn is_key(self, unit: &[u8]) -> bool {
+        unit.len() >= 2 && matches!(nalu_type(unit[0]), FIRST_KEY_TYPE..=LAST_KEY_TYPE)
+    }
+
+    fn extra(self, key: bool) -> CodecExtra {
+        CodecExtra::H265(H265CodecExtra { is_keyframe: key })
+    }
+
+    fn has_key(self, extra: CodecExtra) -> bool {
+        matches!(
+            extra,
+            CodecExtra::H265(H265CodecExtra { is_keyframe: true })
+        )
+    }
+
+    ghost fits = { λ codec. fits_limits codec.numbered };
+
+    ghost numbers = { λ codec. aggregate_numbers codec.numbered };
+
+    ghost headed = { λ codec unit is. has_header unit is };
+
+    ghost keyed = { λ codec head rest two. header_tells head rest two };
+
+    ghost one_kind = { λ codec other unit. refl };
+}
+
+impl NumberedCodec for H265 {
+    ghost with_numbers_of = { λ codec numbered. record codec { numbered = numbered } };
+
+    fn with_numbers(self, numbered: bool) -> Self {
+        H265 { numbered }
+    }
+}

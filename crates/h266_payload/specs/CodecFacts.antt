@@ -1,0 +1,53 @@
+-- What a packetizer asks of H.266's format.
+use Rattle.std.specs.Prelude.{◌≡◌, ℕ, ◌+◌, ◌≤◌, Bool, true, false, List, [], ◌∷◌, ◌++◌, length, refl}
+use Rattle.std.proofs.Common.{arith, cond}
+use Rattle.std.proofs.lemmas.Bool.Decides.{nat_tests}
+use Rattle.std.proofs.Math.Nat.{mod-mod}
+use Rattle.h26x_core.specs.Kind.{is_other}
+use Rattle.h26x_core.specs.H266Unit.{kind, is_key}
+use Rattle.h26x_core.specs.Facts.{FitsLimits, NumbersAreTwoBytes}
+use Rattle.h26x_core.proofs.PieceLemmas.{pieces_long}
+use Rattle.h26x_core.proofs.SetsLemmas.{room_of}
+use Rattle.h266_payload.specs.H266.{h266, fragment_header, sets_fit, sets_packet}
+
+-- an other unit has a whole header
+pub has_header : (unit : List ℕ) → is_other (kind unit) ≡ true → 2 ≤ length unit
+has_header [] is = absurd cc
+has_header (high ∷ []) is = absurd cc
+has_header (high ∷ low ∷ unit) is = omega arith
+
+-- a header tells whether its unit is a key unit
+pub header_tells : (head rest : List ℕ) → length head ≡ 2 → is_key (head ++ rest) ≡ is_key head
+header_tells [] rest two = absurd (omega arith)
+header_tells (high ∷ []) rest two = absurd (omega arith)
+header_tells (high ∷ low ∷ head) rest two = refl
+
+-- a fragment's header has three bytes at most
+header_long : (unit : List ℕ) (start end : Bool) → length (fragment_header unit start end) ≤ 3
+header_long [] start end = omega arith
+header_long (high ∷ []) start end = omega arith
+header_long (high ∷ low ∷ unit) start end = omega arith
+
+-- sets that fit an aggregate are within the limit
+pub fit_within : (numbered : Bool) (limit : ℕ) (sets : List (List ℕ)) →
+    sets_fit numbered limit sets ≡ true → 2 + cond numbered 2 0 + room_of sets ≤ limit
+fit_within numbered limit sets fit = grind (arith, nat_tests)
+
+-- and so is the aggregate
+sets_within : (numbered : Bool) (limit n : ℕ) (sets : List (List ℕ)) (unit : List ℕ) →
+    sets_fit numbered limit sets ≡ true → length (sets_packet numbered n sets unit) ≤ limit
+sets_within false limit n sets unit fit =
+    let h = pieces_long sets in let w = fit_within false limit sets fit in omega (arith, h, w)
+sets_within true limit n sets unit fit =
+    let h = pieces_long sets in let w = fit_within true limit sets fit in omega (arith, h, w)
+
+-- headers are as long as they are counted, and aggregates are within the limit
+pub fits_limits : (numbered : Bool) → FitsLimits (h266 numbered)
+fits_limits numbered = record { header = header_long; sets = sets_within numbered }
+
+-- an aggregate bears a number in two bytes, or none
+pub aggregate_numbers : (numbered : Bool) → NumbersAreTwoBytes (h266 numbered)
+aggregate_numbers numbered = record {
+  sets = λ n sets unit. rw (mod-mod n 65536) refl;
+  none = λ none n m sets unit. rw none refl;
+}

@@ -1,0 +1,250 @@
+//! RTP payloads of H.266 payloads: units alone, in fragments, and parameter sets in one packet (RFC
+//! 9328, 4.3 and 4.4).
+
+ghost use Rattle.std.specs.Prelude.{◌≡◌, ◌+◌, ◌*◌, ◌<◌, max, if◌then◌else◌};
+ghost use Rattle.std.specs.List.{list_any};
+ghost use Rattle.h26x_core.specs.Word.{flag};
+ghost use Rattle.h26x_core.specs.H266Unit.{type_of};
+ghost use Rattle.h26x_payload.specs.Sending.{sets_in};
+ghost use Rattle.h266_payload.specs.H266 as spec;
+
+use h26x_core::{CodecExtra, FU_END_BITMASK, FU_START_BITMASK, H266CodecExtra};
+use h26x_cut::{UnitSlices, ZeroRule};
+use h26x_payload::{Codec, NumberedCodec, PayloadPacketizer, Sets, UnitKind};
+use std::alloc::{AllocError, Global};
+
+/// The types of the slices of IDR and CRA pictures, the first and the last.
+const FIRST_KEY_TYPE: u8 = 7;
+const LAST_KEY_TYPE: u8 = 9;
+
+/// The types of parameter sets.
+const VPS_TYPE: u8 = 14;
+const SPS_TYPE: u8 = 15;
+const PPS_TYPE: u8 = 16;
+
+/// The type of an access unit delimiter.
+const AUD_TYPE: u8 = 20;
+
+/// The type of an aggregate.
+const AGGREGATE_TYPE: u8 = 28;
+
+/// The type of a fragment.
+const FRAGMENT_TYPE: u8 = 29;
+
+/// H.266, and whether packets bear decoding order numbers.
+#[derive(Debug, Clone, Copy)]
+pub struct H266 {
+    numbered: bool,
+}
+
+/// Sends the NAL units of payloads (RFC 9328).
+///
+/// A unit that fits goes alone (4.3.1), a longer one in fragments (4.3.3); where the limit leaves a
+/// fragment no room for data it is dropped. A VPS, an SPS and a PPS wait, each the latest, and go
+/// before the next other unit once there are an SPS and a PPS: in one aggregate (4.3.2), or where
+/// that passes the limit each alone if it fits. Access unit delimiters, and units of the types of
+/// aggregates and fragments, are not sent.
+///
+/// With `with_donl` each unit bears its decoding order number (4.4), which counts against the
+/// limit: DONL in single packets, aggregates and first fragments. The limit of a call is the lesser
+/// of its `mtu` and the largest packet size, 1200 unless `with_max_packet_size` sets another; an
+/// `mtu` under 4 has no effect.
+///
+/// ```rust
+/// let mut packetizer = H266Packetizer::new(alloc);
+/// packetizer.with_max_packet_size(1400);
+/// for packet in &packetizer.packetize(1400, &frame)? {
+///     send(packet);
+/// }
+/// ```
+pub type H266Packetizer = PayloadPacketizer<H266>;
+
+/// The type of a unit, by the second byte of its header.
+fn nalu_type(low: u8) -> u8
+    ensures { result ≡ type_of low }
+{
+    low >> 3
+}
+
+/// The second byte of a header with another type: the temporal id is kept.
+fn with_type(low: u8, nalu_type: u8) -> u8
+    requires { nalu_type < 32 }
+    ensures { result ≡ spec.with_type low nalu_type }
+{
+    nalu_type * 8 + (low & 7)
+}
+
+/// The FU header: S, E, P clear and the unit's type.
+fn header_of(low: u8, start: bool, end: bool) -> u8
+    ensures { result ≡ flag start 0x80 + flag end 0x40 + type_of low }
+{
+    let start_bit = if start { FU_START_BITMASK } else { 0 };
+    let end_bit = if end { FU_END_BITMASK } else { 0 };
+    start_bit + end_bit + nalu_type(low)
+}
+
+/// Whether F is set.
+fn is_forbidden(unit: &[u8]) -> bool
+    ensures { result ≡ spec.has_forbidden_bit unit.now }
+{
+    !unit.is_empty() && unit[0] >> 7 == 1
+}
+
+/// The layer of a unit.
+fn layer(unit: &[u8]) -> u8
+    ensures { result ≡ spec.layer_of unit.now }
+{
+    if unit.is_empty() { 0 } else { unit[0] & 0x3f }
+}
+
+/// The temporal id of a unit.
+fn temporal(unit: &[u8]) -> u8
+    ensures { result ≡ spec.temporal_of unit.now }
+{
+    if unit.len() < 2 { 0 } else { unit[1] & 7 }
+}
+
+/// The first byte of an aggregate: F where a set has it, Z clear, the lowest layer.
+fn aggregate_high(sets: Sets<'_>) -> u8
+    ensures { result ≡ (if list_any spec.has_forbidden_bit (sets_in sets.entry) then 0x80 else 0)
+        + spec.least spec.layer_of (sets_in sets.entry) }
+{
+    let mut forbidden = is_forbidden(sets.sps) || is_forbidden(sets.pps);
+    let mut lowest = layer(sets.sps).min(layer(sets.pps));
+    if let Some(vps) = sets.vps {
+        forbidden = is_forbidden(vps) || forbidden;
+        lowest = layer(vps).min(lowest);
+    }
+    let forbidden_bit = if forbidden { 0x80 } else { 0 };
+    forbidden_bit + lowest
+}
+
+/// The second byte of an aggregate: its type, and the lowest temporal id but at least 1.
+fn aggregate_low(sets: Sets<'_>) -> u8
+    ensures { result ≡ 28 * 8 + max 1 (spec.least spec.temporal_of (sets_in sets.entry)) }
+{
+    let mut lowest = temporal(sets.sps).min(temporal(sets.pps));
+    if let Some(vps) = sets.vps {
+        lowest = temporal(vps).min(lowest);
+    }
+    AGGREGATE_TYPE * 8 + lowest.max(1)
+}
+
+impl Codec for H266 {
+    ghost use Rattle.h266_payload.specs.H266.{h266};
+    ghost use Rattle.h266_payload.specs.CodecFacts.{has_header, header_tells, fits_limits, aggregate_numbers};
+    ghost use Rattle.std.specs.Prelude.{refl, false};
+
+    ghost format = { λ codec. h266 codec.numbered };
+
+    ghost fresh = { record { numbered = false } };
+
+    fn new() -> Self {
+        H266 { numbered: false }
+    }
+
+    fn header_len(self) -> usize {
+        2
+    }
+
+    fn is_numbered(self) -> bool {
+        self.numbered
+    }
+
+    fn least_mtu(self) -> usize {
+        4
+    }
+
+    fn is_sized(self) -> bool {
+        true
+    }
+
+    fn kind_of(self, unit: &[u8]) -> UnitKind {
+        if unit.len() < 2 {
+            return UnitKind::Skipped;
+        }
+        match nalu_type(unit[1]) {
+            AUD_TYPE | AGGREGATE_TYPE | FRAGMENT_TYPE => UnitKind::Skipped,
+            VPS_TYPE => UnitKind::Vps,
+            SPS_TYPE => UnitKind::Sps,
+            PPS_TYPE => UnitKind::Pps,
+            _ => UnitKind::Other,
+        }
+    }
+
+    fn units_in(self, payload: &[u8]) -> UnitSlices<'_> {
+        h26x_cut::units(payload, ZeroRule::AtMostThree)
+    }
+
+    fn sets_fit(self, limit: usize, sets: Sets<'_>) -> bool {
+        let number = if self.numbered { 2 } else { 0 };
+        2 + number + sets.size() <= limit as u128
+    }
+
+    fn sets_go_alone(self) -> bool {
+        true
+    }
+
+    fn sets_packet(
+        self,
+        alloc: Global,
+        number: u16,
+        sets: Sets<'_>,
+        _unit: &[u8],
+    ) -> Result<Vec<u8>, AllocError> {
+        let mut packet = Vec::with_capacity(alloc, sets.capacity())?;
+        packet.extend_from_slice(&[aggregate_high(sets), aggregate_low(sets)])?;
+        if self.numbered {
+            packet.extend_from_slice(&number.to_be_bytes())?;
+        }
+        sets.push(&[], &mut packet)?;
+        Ok(packet)
+    }
+
+    fn push_fragment_header(
+        self,
+        unit: &[u8],
+        start: bool,
+        end: bool,
+        packet: &mut Vec<u8>,
+    ) -> Result<(), AllocError> {
+        packet.extend_from_slice(&[
+            unit[0],
+            with_type(unit[1], FRAGMENT_TYPE),
+            header_of(unit[1], start, end),
+        ])
+    }
+
+    fn is_key(self, unit: &[u8]) -> bool {
+        unit.len() >= 2 && matches!(nalu_type(unit[1]), FIRST_KEY_TYPE..=LAST_KEY_TYPE)
+    }
+
+    fn extra(self, key: bool) -> CodecExtra {
+        CodecExtra::H266(H266CodecExtra { is_keyframe: key })
+    }
+
+    fn has_key(self, extra: CodecExtra) -> bool {
+        matches!(
+            extra,
+            CodecExtra::H266(H266CodecExtra { is_keyframe: true })
+        )
+    }
+
+    ghost fits = { λ codec. fits_limits codec.numbered };
+
+    ghost numbers = { λ codec. aggregate_numbers codec.numbered };
+
+    ghost headed = { λ codec unit is. has_header unit is };
+
+    ghost keyed = { λ codec head rest two. header_tells head rest two };
+
+    ghost one_kind = { λ codec other unit. refl };
+}
+
+impl NumberedCodec for H266 {
+    ghost with_numbers_of = { λ codec numbered. record codec { numbered = numbered } };
+
+    fn with_numbers(self, numbered: bool) -> Self {
+        H266 { numbered }
+    }
+}
