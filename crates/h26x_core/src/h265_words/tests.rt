@@ -21,14 +21,13 @@ fn fields_of_headers(rt: HostRuntime) {
 
 #[test]
 fn headers_by_their_fields(rt: HostRuntime) {
-    for (nalu_type, layer_id, tid, word) in [
-        (50, 0, 1, 0x6401),
-        (19, 0, 1, 0x2601),
-        (48, 32, 2, 0x6102),
-        (63, 63, 7, 0x7fff),
+    for (header, word) in [
+        (H265NALUHeader::new_with_type(50, 0, 1), 0x6401),
+        (H265NALUHeader::new_with_type(19, 0, 1), 0x2601),
+        (H265NALUHeader::new_with_type(48, 32, 2), 0x6102),
+        (H265NALUHeader::new_with_type(63, 63, 7), 0x7fff),
     ] {
-        let header = H265NALUHeader::new_with_type(nalu_type, layer_id, tid);
-        assert_eq!(rt; header, H265NALUHeader(word), "at type {nalu_type}");
+        assert_eq!(rt; header, H265NALUHeader(word));
     }
 }
 
@@ -47,7 +46,7 @@ fn types(rt: HostRuntime) {
         (32, false, false, false),
         (51, false, false, false),
     ] {
-        let header = H265NALUHeader::new_with_type(nalu_type, 0, 1);
+        let header = H265NALUHeader(nalu_type << 9);
         assert_eq!(rt; header.is_type_vcl_unit(), vcl, "at type {nalu_type}");
         assert_eq!(rt; header.is_idr_picture(), idr, "at type {nalu_type}");
         assert_eq!(rt; header.is_irap(), irap, "at type {nalu_type}");
@@ -59,7 +58,7 @@ fn types(rt: HostRuntime) {
         (50, false, false, true),
         (51, false, false, false),
     ] {
-        let header = H265NALUHeader::new_with_type(nalu_type, 0, 1);
+        let header = H265NALUHeader(nalu_type << 9);
         assert_eq!(rt;
             header.is_aggregation_packet(),
             aggregation,
