@@ -10,8 +10,8 @@ use Rattle.h26x_core.specs.Format.{IsLimit}
 use Rattle.h26x_core.specs.Number.{numbered_from}
 use Rattle.h26x_core.specs.Pieces.{piece}
 use Rattle.h26x_core.specs.Facts.{AreCarried}
-use Rattle.h26x_core.proofs.PieceLemmas.{word_back, number_back, pieces_long}
-use Rattle.h26x_core.proofs.SetsLemmas.{room_of, FitIsWithin, sets_short, plain_numbers, next_number}
+use Rattle.h26x_core.proofs.PieceLemmas.{word_back, number_back}
+use Rattle.h26x_core.proofs.SetsLemmas.{FitIsWithin, sets_short, plain_numbers, next_number}
 use Rattle.h26x_core.proofs.TwoByteLemmas.{of_carried, header_there, aggregate_read, sets_undetected}
 use Rattle.h266_payload.specs.CodecFacts.{fit_within}
 use Rattle.h266_payload.specs.H266.{h266, read, carries, sets_fit, sets_packet, has_forbidden_bit, layer_of, temporal_of, least}
