@@ -20,7 +20,7 @@ fn payloads_and_their_packets(rt: HostRuntime) -> Result<(), Fail> {
     let none: &[&[u8]] = &[];
     let new = Some(false);
     let numbered = Some(true);
-    // Whether a new packetizer takes the call, and with numbers or without; the mtu, the payload and
+    // Whether a new packetizer takes the call, with numbers or without; the mtu, the payload and
     // its packets.
     let table: [(Option<bool>, usize, &[u8], &[&[u8]]); 20] = [
         (

@@ -12,7 +12,7 @@ fn payloads_and_their_packets(rt: HostRuntime) -> Result<(), Fail> {
     let none: &[&[u8]] = &[];
     let new = Some(false);
     let numbered = Some(true);
-    // Whether a new packetizer takes the call, and with numbers or without; the mtu, the payload and
+    // Whether a new packetizer takes the call, with numbers or without; the mtu, the payload and
     // its packets.
     let table: [(Option<bool>, usize, &[u8], &[&[u8]]); 13] = [
         (new, 3, &[0, 9, 0xaa], none),
@@ -134,7 +134,7 @@ fn packets_by_limit(rt: HostRuntime) -> Result<(), Fail> {
 
 #[test]
 fn long_units_and_largest_packet_sizes(rt: HostRuntime) -> Result<(), Fail> {
-    // The types and lengths of units, the largest size, the mtu, how many packets go, and the length
+    // Types and lengths of units, the largest size, the mtu, how many packets go, and the length
     // of the first and the last and what they begin with.
     let table: [(
         &[(u8, usize)],
