@@ -11,13 +11,19 @@ use h26x_cut::{UnitSlices, ZeroRule};
 use h26x_payload::{Codec, NumberedCodec, PayloadPacketizer, Sets, UnitKind};
 use std::alloc::{AllocError, Global};
 
-/// The types of the slices of IRAP pictures, the first and the last.
+/// The first type of slices of IRAP pictures.
 const FIRST_KEY_TYPE: u8 = 16;
+
+/// The last of them.
 const LAST_KEY_TYPE: u8 = 21;
 
-/// The types of parameter sets.
+/// The type of a VPS.
 const VPS_TYPE: u8 = 32;
+
+/// The type of an SPS.
 const SPS_TYPE: u8 = 33;
+
+/// The type of a PPS.
 const PPS_TYPE: u8 = 34;
 
 /// The type of an access unit delimiter.
@@ -201,3 +207,6 @@ impl NumberedCodec for H265 {
         H265 { numbered }
     }
 }
+
+#[cfg(test)]
+mod tests;

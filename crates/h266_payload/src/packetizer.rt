@@ -13,13 +13,19 @@ use h26x_cut::{UnitSlices, ZeroRule};
 use h26x_payload::{Codec, NumberedCodec, PayloadPacketizer, Sets, UnitKind};
 use std::alloc::{AllocError, Global};
 
-/// The types of the slices of IDR and CRA pictures, the first and the last.
+/// The first type of slices of IDR and CRA pictures.
 const FIRST_KEY_TYPE: u8 = 7;
+
+/// The last of them.
 const LAST_KEY_TYPE: u8 = 9;
 
-/// The types of parameter sets.
+/// The type of a VPS.
 const VPS_TYPE: u8 = 14;
+
+/// The type of an SPS.
 const SPS_TYPE: u8 = 15;
+
+/// The type of a PPS.
 const PPS_TYPE: u8 = 16;
 
 /// The type of an access unit delimiter.
@@ -248,3 +254,6 @@ impl NumberedCodec for H266 {
         H266 { numbered }
     }
 }
+
+#[cfg(test)]
+mod tests;
