@@ -79,7 +79,7 @@ pub fn fewest_fragments_and_least_loss()
 {}
 
 /// Of what calls send, whichever sets wait and wherever the counter stands: numbers go on by one
-/// from unit to unit (RFC 7798, 4.5); the packet or the first fragment of each key unit is
+/// from unit to unit (RFC 7798, 4.6); the packet or the first fragment of each key unit is
 /// detected, and no other packet.
 pub fn numbers_and_detection()
     ensures numbers { (numbered : Bool) (s : Sender) (calls : List Call) →

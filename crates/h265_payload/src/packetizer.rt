@@ -1,5 +1,5 @@
 //! RTP payloads of H.265 payloads: units alone, in fragments, and parameter sets in one packet (RFC
-//! 7798, 4.4 and 4.5).
+//! 7798, 4.4 and 4.6).
 
 ghost use Rattle.std.specs.Prelude.{◌≡◌, ◌+◌, ◌<◌};
 ghost use Rattle.h26x_core.specs.Word.{flag};
@@ -48,7 +48,7 @@ pub struct H265 {
 /// before the next other unit once there are an SPS and a PPS: in one aggregate (4.4.2), or where
 /// that passes the limit each alone if it fits. Access unit delimiters are not sent.
 ///
-/// With `with_donl` each unit bears its decoding order number (4.5), which counts against the
+/// With `with_donl` each unit bears its decoding order number (4.6), which counts against the
 /// limit: DONL in single packets, aggregates and first fragments, and a DOND of 0 from an
 /// aggregate's second set on. The limit of a call is the lesser of its `mtu` and the largest packet
 /// size, 1200 unless `with_max_packet_size` sets another; an `mtu` under 4 has no effect.

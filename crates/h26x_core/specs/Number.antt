@@ -1,4 +1,4 @@
--- Decoding order numbers (RFC 7798, 4.4 and 4.5; RFC 9328, 4.3 and 4.4).
+-- Decoding order numbers (RFC 7798, 4.4 and 4.6; RFC 9328, 4.3 and 4.4).
 use Rattle.std.specs.Prelude.{◌≡◌, ℕ, ◌+◌, ◌%◌, true, if◌then◌else◌, List, [], ◌∷◌, length, map, Option, Some, None}
 use Rattle.std.specs.List.{flat_map, range_with_len}
 use Rattle.h26x_core.specs.Reading.{Reading, Single, Aggregate, Fragment}

@@ -15,10 +15,15 @@ use std::fmt;
 /// What a unit is to a packetizer.
 #[derive(Clone, Copy)]
 pub enum UnitKind {
+    /// Not sent, such as an access unit delimiter.
     Skipped,
+    /// A video parameter set, which waits.
     Vps,
+    /// A sequence parameter set, which waits.
     Sps,
+    /// A picture parameter set, which waits.
     Pps,
+    /// Every other unit: it is sent at once, behind the sets that are due.
     Other,
 }
 

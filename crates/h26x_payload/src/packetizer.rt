@@ -255,8 +255,8 @@ impl<C: NumberedCodec> PayloadPacketizer<C> {
         self.counter = 0;
     }
 
-    /// Sets the largest packet size, in bytes: no packet of a later call is longer. It is 1200 at
-    /// first.
+    /// Sets the largest packet size, in bytes, 4 or more: no packet of a later call is longer. It
+    /// is 1200 at first.
     pub fn with_max_packet_size(&mut self, n: u16)
         requires { 4 ≤ n }
         ensures { self.new ≡ record self.old { largest = n } }
