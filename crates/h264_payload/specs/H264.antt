@@ -97,7 +97,6 @@ h264 = record {
   header_len = 1;
   numbered = false;
   sets_fit = sets_fit;
-  sets_go_alone = true;
   sets_packet = sets_packet;
   fragment_header = fragment_header;
   read = read;

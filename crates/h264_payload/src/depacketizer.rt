@@ -93,10 +93,11 @@ impl H264Depacketizer {
     }
 
     /// The same depacketizer again, with its setting and its open run. `OutOfMemory` is its only
-    /// error.
+    /// error, and with no run open it takes no memory.
     pub fn clone(&self) -> Result<Self, PacketError>
         ensures same { IfOk result (λ it. it ≡ self.now) }
         ensures memory { OnErr result (result ≡ Err PacketError.OutOfMemory) }
+        ensures free { self.now.run ≡ None → IsOk result }
     {
         Ok(H264Depacketizer {
             is_avc: self.is_avc,
@@ -167,7 +168,8 @@ impl Depacketizer for H264Depacketizer {
         out: &mut Vec<u8>,
         codec_extra: &mut CodecExtra,
     ) -> Result<(), PacketError>
-        ensures outcome { IsOutcomeAt (work self.old out.old.items codec_extra.old) packet.now result }
+        ensures outcome {
+            IsOutcomeAt (work self.old out.old.items codec_extra.old) packet.now result }
         ensures taken { OnOk result (work self.new out.new.items codec_extra.new
             ≡ work_after (work self.old out.old.items codec_extra.old) (packet.now ∷ [])) }
         ensures kept { OnErr result (work self.new out.new.items codec_extra.new

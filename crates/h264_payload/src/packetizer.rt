@@ -99,10 +99,6 @@ impl Codec for H264 {
         STAPA_HEADER_SIZE as u128 + sets.size() <= limit as u128 && sets.are_short()
     }
 
-    fn sets_go_alone(self) -> bool {
-        true
-    }
-
     fn sets_packet(
         self,
         alloc: Global,

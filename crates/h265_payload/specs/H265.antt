@@ -145,7 +145,6 @@ h265 numbered = record {
   header_len = 2;
   numbered = numbered;
   sets_fit = sets_fit numbered;
-  sets_go_alone = true;
   sets_packet = sets_packet numbered;
   fragment_header = fragment_header;
   read = read numbered;

@@ -1,21 +1,15 @@
 //! RTP payloads of H.265 payloads: units alone, in fragments, and parameter sets in one packet (RFC
 //! 7798, 4.4 and 4.6).
 
-ghost use Rattle.std.specs.Prelude.{◌≡◌, ◌+◌, ◌<◌};
-ghost use Rattle.h26x_core.specs.Word.{flag};
+ghost use Rattle.std.specs.Prelude.{◌≡◌, ◌<◌, ◌≤◌, length, slice_index};
+ghost use Rattle.h26x_core.specs.Word.{field};
 ghost use Rattle.h26x_core.specs.H265Unit.{type_of};
 ghost use Rattle.h265_payload.specs.H265.{with_type_and_f};
 
-use h26x_core::{CodecExtra, FU_END_BITMASK, FU_START_BITMASK, H265CodecExtra};
+use h26x_core::{CodecExtra, H265CodecExtra, H265FragmentationUnitHeader, H265NALUHeader};
 use h26x_cut::{UnitSlices, ZeroRule};
 use h26x_payload::{Codec, NumberedCodec, PayloadPacketizer, Sets, UnitKind};
 use std::alloc::{AllocError, Global};
-
-/// The first type of slices of IRAP pictures.
-const FIRST_KEY_TYPE: u8 = 16;
-
-/// The last of them.
-const LAST_KEY_TYPE: u8 = 21;
 
 /// The type of a VPS.
 const VPS_TYPE: u8 = 32;
@@ -62,11 +56,12 @@ pub struct H265 {
 /// ```
 pub type H265Packetizer = PayloadPacketizer<H265>;
 
-/// The type of a unit, by the first byte of its header.
-fn nalu_type(high: u8) -> u8
-    ensures { result ≡ type_of high }
+/// The header of a unit.
+fn header_of(unit: &[u8]) -> H265NALUHeader
+    requires { 2 ≤ length unit.now }
+    ensures { field result.0 14 9 ≡ type_of (slice_index unit.now 0) }
 {
-    high >> 1 & 0x3f
+    H265NALUHeader::new(unit[0], unit[1])
 }
 
 /// The first byte of a header with another type: F and the layer's highest bit are kept.
@@ -75,15 +70,6 @@ fn with_type(high: u8, nalu_type: u8) -> u8
     ensures { result ≡ with_type_and_f high nalu_type }
 {
     (high >> 7) * 128 + nalu_type * 2 + (high & 1)
-}
-
-/// The FU header: S, E and the unit's type.
-fn header_of(high: u8, start: bool, end: bool) -> u8
-    ensures { result ≡ flag start 0x80 + flag end 0x40 + type_of high }
-{
-    let start_bit = if start { FU_START_BITMASK } else { 0 };
-    let end_bit = if end { FU_END_BITMASK } else { 0 };
-    start_bit + end_bit + nalu_type(high)
 }
 
 impl Codec for H265 {
@@ -119,7 +105,7 @@ impl Codec for H265 {
         if unit.len() < 2 {
             return UnitKind::Skipped;
         }
-        match nalu_type(unit[0]) {
+        match header_of(unit).nalu_type() {
             AUD_TYPE => UnitKind::Skipped,
             VPS_TYPE => UnitKind::Vps,
             SPS_TYPE => UnitKind::Sps,
@@ -136,10 +122,6 @@ impl Codec for H265 {
         // DONL, and a DOND for each set but the first.
         let numbers = if self.numbered { sets.count() + 1 } else { 0 };
         2 + u128::from(numbers) + sets.size() <= limit as u128
-    }
-
-    fn sets_go_alone(self) -> bool {
-        true
     }
 
     fn sets_packet(
@@ -167,15 +149,12 @@ impl Codec for H265 {
         end: bool,
         packet: &mut Vec<u8>,
     ) -> Result<(), AllocError> {
-        packet.extend_from_slice(&[
-            with_type(unit[0], FRAGMENT_TYPE),
-            unit[1],
-            header_of(unit[0], start, end),
-        ])
+        let marks = H265FragmentationUnitHeader::new(start, end, header_of(unit).nalu_type());
+        packet.extend_from_slice(&[with_type(unit[0], FRAGMENT_TYPE), unit[1], marks.0])
     }
 
     fn is_key(self, unit: &[u8]) -> bool {
-        unit.len() >= 2 && matches!(nalu_type(unit[0]), FIRST_KEY_TYPE..=LAST_KEY_TYPE)
+        unit.len() >= 2 && header_of(unit).is_irap()
     }
 
     fn extra(self, key: bool) -> CodecExtra {

@@ -318,7 +318,8 @@ pub fn short_numbered_packets()
 /// units.
 pub fn short_before_corrupted()
     ensures short { (h266 false).read (0x00 ∷ 0x09 ∷ []) ≡ Refused PacketError.ErrShortPacket }
-    ensures short_first { (h266 false).read (0x80 ∷ 0x01 ∷ []) ≡ Refused PacketError.ErrShortPacket }
+    ensures short_first { (h266 false).read (0x80 ∷ 0x01 ∷
+        []) ≡ Refused PacketError.ErrShortPacket }
     ensures corrupted { (h266 false).read (0x80 ∷ 0x09 ∷ 0xaa ∷
         []) ≡ Refused PacketError.ErrH266CorruptedPacket }
     ensures sent { packets_of_payload (h266 false) 100 (0x00 ∷ 0xf1 ∷ 0xaa ∷ []) ≡ (0x00 ∷ 0xf1 ∷

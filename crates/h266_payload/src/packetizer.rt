@@ -1,23 +1,17 @@
 //! RTP payloads of H.266 payloads: units alone, in fragments, and parameter sets in one packet (RFC
 //! 9328, 4.3 and 4.4).
 
-ghost use Rattle.std.specs.Prelude.{◌≡◌, ◌+◌, ◌*◌, ◌<◌, max, if◌then◌else◌};
+ghost use Rattle.std.specs.Prelude.{◌≡◌, ◌+◌, ◌*◌, ◌<◌, ◌≤◌, max, if◌then◌else◌, length, slice_index};
 ghost use Rattle.std.specs.List.{list_any};
-ghost use Rattle.h26x_core.specs.Word.{flag};
+ghost use Rattle.h26x_core.specs.Word.{field};
 ghost use Rattle.h26x_core.specs.H266Unit.{type_of};
 ghost use Rattle.h26x_payload.specs.Sending.{sets_in};
 ghost use Rattle.h266_payload.specs.H266 as spec;
 
-use h26x_core::{CodecExtra, FU_END_BITMASK, FU_START_BITMASK, H266CodecExtra};
+use h26x_core::{CodecExtra, H266CodecExtra, H266FragmentationUnitHeader, H266NALUHeader};
 use h26x_cut::{UnitSlices, ZeroRule};
 use h26x_payload::{Codec, NumberedCodec, PayloadPacketizer, Sets, UnitKind};
 use std::alloc::{AllocError, Global};
-
-/// The first type of slices of IDR and CRA pictures.
-const FIRST_KEY_TYPE: u8 = 7;
-
-/// The last of them.
-const LAST_KEY_TYPE: u8 = 9;
 
 /// The type of a VPS.
 const VPS_TYPE: u8 = 14;
@@ -65,11 +59,12 @@ pub struct H266 {
 /// ```
 pub type H266Packetizer = PayloadPacketizer<H266>;
 
-/// The type of a unit, by the second byte of its header.
-fn nalu_type(low: u8) -> u8
-    ensures { result ≡ type_of low }
+/// The header of a unit.
+fn header_of(unit: &[u8]) -> H266NALUHeader
+    requires { 2 ≤ length unit.now }
+    ensures { field result.0 7 3 ≡ type_of (slice_index unit.now 1) }
 {
-    low >> 3
+    H266NALUHeader::new(unit[0], unit[1])
 }
 
 /// The second byte of a header with another type: the temporal id is kept.
@@ -78,15 +73,6 @@ fn with_type(low: u8, nalu_type: u8) -> u8
     ensures { result ≡ spec.with_type low nalu_type }
 {
     nalu_type * 8 + (low & 7)
-}
-
-/// The FU header: S, E, P clear and the unit's type.
-fn header_of(low: u8, start: bool, end: bool) -> u8
-    ensures { result ≡ flag start 0x80 + flag end 0x40 + type_of low }
-{
-    let start_bit = if start { FU_START_BITMASK } else { 0 };
-    let end_bit = if end { FU_END_BITMASK } else { 0 };
-    start_bit + end_bit + nalu_type(low)
 }
 
 /// Whether F is set.
@@ -169,7 +155,7 @@ impl Codec for H266 {
         if unit.len() < 2 {
             return UnitKind::Skipped;
         }
-        match nalu_type(unit[1]) {
+        match header_of(unit).nalu_type() {
             AUD_TYPE | AGGREGATE_TYPE | FRAGMENT_TYPE => UnitKind::Skipped,
             VPS_TYPE => UnitKind::Vps,
             SPS_TYPE => UnitKind::Sps,
@@ -185,10 +171,6 @@ impl Codec for H266 {
     fn sets_fit(self, limit: usize, sets: Sets<'_>) -> bool {
         let number = if self.numbered { 2 } else { 0 };
         2 + number + sets.size() <= limit as u128
-    }
-
-    fn sets_go_alone(self) -> bool {
-        true
     }
 
     fn sets_packet(
@@ -214,15 +196,13 @@ impl Codec for H266 {
         end: bool,
         packet: &mut Vec<u8>,
     ) -> Result<(), AllocError> {
-        packet.extend_from_slice(&[
-            unit[0],
-            with_type(unit[1], FRAGMENT_TYPE),
-            header_of(unit[1], start, end),
-        ])
+        let nalu_type = header_of(unit).nalu_type();
+        let marks = H266FragmentationUnitHeader::new(start, end, false, nalu_type);
+        packet.extend_from_slice(&[unit[0], with_type(unit[1], FRAGMENT_TYPE), marks.0])
     }
 
     fn is_key(self, unit: &[u8]) -> bool {
-        unit.len() >= 2 && matches!(nalu_type(unit[1]), FIRST_KEY_TYPE..=LAST_KEY_TYPE)
+        unit.len() >= 2 && header_of(unit).is_irap()
     }
 
     fn extra(self, key: bool) -> CodecExtra {

@@ -86,12 +86,9 @@ each_alone limit (set ∷ sets) = (refl, each_alone limit sets)
 -- sets that are due
 sets_limit : (f : Format) (limit : ℕ) (sets : List (List ℕ)) (unit : List ℕ) → HaveLimit limit (items_of_sets f limit sets unit)
 sets_limit f limit sets unit = elim (f.sets_fit limit sets) as (λ b.
-    HaveLimit limit (cond b (Together limit sets unit ∷ []) (cond f.sets_go_alone (map (Alone limit) (filter (fits f limit) sets)) []))) [
+    HaveLimit limit (cond b (Together limit sets unit ∷ []) (map (Alone limit) (filter (fits f limit) sets)))) [
       | true ↦ (refl, tt)
-      | false ↦ elim f.sets_go_alone as (λ b. HaveLimit limit (cond b (map (Alone limit) (filter (fits f limit) sets)) [])) [
-        | true ↦ each_alone limit (filter (fits f limit) sets)
-        | false ↦ tt
-      ]
+      | false ↦ each_alone limit (filter (fits f limit) sets)
     ]
 
 -- an entry's unit

@@ -104,12 +104,9 @@ sets_within : (f : Format) → FitsLimits f → (limit : ℕ) (sets : List (List
 sets_within f ok limit sets unit =
     let alone = map (Alone limit) (filter (fits f limit) sets) in
     elim (f.sets_fit limit sets) as (λ b. f.sets_fit limit sets ≡ b →
-    AllByRecursion (ItemIsWithin f) (cond b (Together limit sets unit ∷ []) (cond f.sets_go_alone alone []))) [
+    AllByRecursion (ItemIsWithin f) (cond b (Together limit sets unit ∷ []) alone)) [
       | true ↦ λ h. ((λ n. (ok.sets limit n sets unit h, tt)), tt)
-      | false ↦ λ h. elim f.sets_go_alone as (λ g. AllByRecursion (ItemIsWithin f) (cond g alone [])) [
-        | true ↦ sets_alone f ok limit sets
-        | false ↦ tt
-      ]
+      | false ↦ λ h. sets_alone f ok limit sets
     ] refl
 
 -- so are those of a group

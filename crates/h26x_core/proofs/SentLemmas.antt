@@ -168,17 +168,12 @@ sets_planned : (f : Format) → SetsLeaveRoom f → KeyUnitsAreOther f → (fron
 sets_planned f roomy keys front e is done h end =
     let sets = sets_of f front in
     elim (f.sets_fit e.limit sets) as (λ b. f.sets_fit e.limit sets ≡ b →
-    AllByRecursion (ItemIsCarried f) (cond b (Together e.limit sets e.unit ∷ []) (cond f.sets_go_alone (map (Alone e.limit) (filter (fits f e.limit) sets)) [])) →
-    AllByRecursion (IsPlanned f) (cond b (Together e.limit sets e.unit ∷ []) (cond f.sets_go_alone (map (Alone e.limit) (filter (fits f e.limit) sets)) []))) [
+    AllByRecursion (ItemIsCarried f) (cond b (Together e.limit sets e.unit ∷ []) (map (Alone e.limit) (filter (fits f e.limit) sets))) →
+    AllByRecursion (IsPlanned f) (cond b (Together e.limit sets e.unit ∷ []) (map (Alone e.limit) (filter (fits f e.limit) sets)))) [
       | true ↦ λ fit carried.
           let unit = sent_is_carried f e (ends_group f front e done).0 (end_kept f roomy front e done fit) end in
           ((is, fit, two_wait f front e done, carried.0, unit, waiting_no_key f keys front), tt)
-      | false ↦ λ _ carried. elim f.sets_go_alone as (λ g.
-          AllByRecursion (ItemIsCarried f) (cond g (map (Alone e.limit) (filter (fits f e.limit) sets)) []) →
-          AllByRecursion (IsPlanned f) (cond g (map (Alone e.limit) (filter (fits f e.limit) sets)) [])) [
-            | true ↦ fitting_planned f e.limit sets
-            | false ↦ λ _. tt
-          ] carried
+      | false ↦ λ _. fitting_planned f e.limit sets
     ] refl h
 
 -- what is planned behind a front, of entries with limits of calls, if it is carried

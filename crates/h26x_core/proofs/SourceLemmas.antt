@@ -71,12 +71,9 @@ each_alone P limit goes (set ∷ sets) (here, later) = elim (goes set) as (λ b.
 -- of sets that are due
 due_sets : (f : Format) (P : List ℕ → Type 0) (limit : ℕ) (sets : List (List ℕ)) (unit : List ℕ) → AllByRecursion P sets → OfItems P (items_of_sets f limit sets unit)
 due_sets f P limit sets unit h = elim (f.sets_fit limit sets) as (λ b.
-    OfItems P (cond b (Together limit sets unit ∷ []) (cond f.sets_go_alone (map (Alone limit) (filter (fits f limit) sets)) []))) [
+    OfItems P (cond b (Together limit sets unit ∷ []) (map (Alone limit) (filter (fits f limit) sets)))) [
       | true ↦ (h, tt)
-      | false ↦ elim f.sets_go_alone as (λ b. OfItems P (cond b (map (Alone limit) (filter (fits f limit) sets)) [])) [
-        | true ↦ each_alone P limit (fits f limit) sets h
-        | false ↦ tt
-      ]
+      | false ↦ each_alone P limit (fits f limit) sets h
     ]
 
 -- of an entry's unit

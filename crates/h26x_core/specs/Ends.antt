@@ -1,12 +1,11 @@
 -- The laws of the two ends, each as one record: what whole runs need of them.
 use Rattle.std.specs.Prelude.{◌≡◌, ℕ, ◌≤◌, true, Bool, List, [], ◌∷◌, ◌++◌, map, None, ◌⊎◌}
-use Rattle.std.specs.List.{flat_map}
-use Rattle.std.specs.List.{AllByRecursion}
+use Rattle.std.specs.List.{flat_map, AllByRecursion}
 use Rattle.h26x_core.specs.declared.error.PacketError.{PacketError}
 use Rattle.h26x_core.specs.declared.error.PacketError.TheVariants.{AvcUnitTooLong, OutOfMemory}
 use Rattle.h26x_core.specs.Reading.{IsRead}
 use Rattle.h26x_core.specs.Group.{Entry}
-use Rattle.h26x_core.specs.Calls.{Call, entries_of_call, entries_of}
+use Rattle.h26x_core.specs.Calls.{Call, entries_of_call, entries_of, packets_of}
 use Rattle.h26x_core.specs.Number.{NumbersInOrder}
 use Rattle.h26x_core.specs.Received.{received}
 use Rattle.h26x_core.specs.Detection.{AreDetected}
@@ -14,7 +13,6 @@ use Rattle.h26x_core.specs.Format.{Format}
 use Rattle.h26x_core.specs.Text.{annex_b}
 use Rattle.h26x_core.specs.Plan.{sent}
 use Rattle.h26x_core.specs.Again.{NothingDropped}
-use Rattle.h26x_core.specs.Calls.{packets_of}
 use Rattle.h26x_core.specs.Loss.{kept, AreMasks, AreLeftOf, kept_packets}
 use Rattle.h26x_core.specs.Sender.{Sender, IsSender, planned, sent_by, packets_by, after, has_no_effect, AreWithinLimits}
 use Rattle.h26x_core.specs.Receiver.{Work, brought, work_after, IsCause, AreShort}

@@ -20,9 +20,8 @@ pub record Format : Type 0 where
   pub header_len : ℕ
   -- whether packets bear decoding order numbers
   pub numbered : Bool
-  -- whether parameter sets fit one packet, and whether they go alone where they don't
+  -- whether parameter sets fit one packet
   pub sets_fit : ℕ → List (List ℕ) → Bool
-  pub sets_go_alone : Bool
   -- the packet of parameter sets before a unit, the first of them with this number
   pub sets_packet : ℕ → List (List ℕ) → List ℕ → List ℕ
   -- what stands before a fragment's number and data: of this unit, the first or not, the last or

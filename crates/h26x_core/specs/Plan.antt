@@ -27,11 +27,11 @@ items_alone f limit unit = if is_dropped f limit unit then [] else Alone limit u
 abbrev pub item_of : Format → Entry → List Item
 item_of f e = if is_other (f.kind e.unit) then items_alone f e.limit e.unit else []
 
--- sets are sent in one packet where they fit it; else each alone, or none
+-- sets are sent in one packet where they fit it, else each that fits alone
 abbrev pub items_of_sets : Format → ℕ → List (List ℕ) → List ℕ → List Item
 items_of_sets f limit sets unit =
     if f.sets_fit limit sets then Together limit sets unit ∷ []
-    else (if f.sets_go_alone then map (Alone limit) (filter (fits f limit) sets) else [])
+    else map (Alone limit) (filter (fits f limit) sets)
 
 -- of a group: its other units but the last, its latest sets, and its last unit
 abbrev pub items_of_group : Format → Group → List Item

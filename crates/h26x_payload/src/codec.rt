@@ -66,10 +66,6 @@ pub trait Codec: Copy + fmt::Debug {
     fn sets_fit(self, limit: usize, sets: Sets<'_>) -> bool
         ensures { result ≡ (format self).sets_fit limit (sets_in sets.entry) };
 
-    /// Whether sets that don't fit one packet go alone.
-    fn sets_go_alone(self) -> bool
-        ensures { result ≡ (format self).sets_go_alone };
-
     /// The packet of sets before a unit.
     fn sets_packet(
         self,

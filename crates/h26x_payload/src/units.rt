@@ -101,7 +101,7 @@ fn append_set<C: Codec>(
     }
 }
 
-/// Appends the packets of sets: one if they fit it, else each that fits alone, or none.
+/// Appends the packets of sets: one if they fit it, else each that fits alone.
 fn append_sets<C: Codec>(
     codec: C,
     alloc: Global,
@@ -120,9 +120,6 @@ fn append_sets<C: Codec>(
     if codec.sets_fit(limit, sets) {
         made.push(codec.sets_packet(alloc, number, sets, unit)?)?;
         return Ok(number.wrapping_add(sets.count()));
-    }
-    if !codec.sets_go_alone() {
-        return Ok(number);
     }
     let second = append_set(codec, alloc, limit, number, sets.vps, made)?;
     let third = append_set(codec, alloc, limit, second, Some(sets.sps), made)?;

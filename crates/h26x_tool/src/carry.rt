@@ -48,14 +48,16 @@ pub fn carry_one(
     ensures kept { IsFrontOf out.old.items out.new.items }
     ensures made { IfOk result (λ made. made ≡ is_not_empty (packets_by (sender h264 p.old)
         (entries_with h264 p.old mtu payload.now))) }
-    ensures delivered { AreDelivered (work d.old out.old.items extra.old) (packets_by (sender h264 p.old) (entries_with h264 p.old mtu payload.now)) result
+    ensures delivered { AreDelivered (work d.old out.old.items extra.old)
+        (packets_by (sender h264 p.old) (entries_with h264 p.old mtu payload.now)) result
         (Some (work d.new out.new.items extra.new)) }
     ensures waits { OnOk result (p.new ≡ held_after h264 p.old
         (entries_with h264 p.old mtu payload.now)) }
     ensures waits_on { OnErr result
         ((p.new ≡ held_after h264 p.old (entries_with h264 p.old mtu payload.now))
         ⊎ ((p.new ≡ p.old) × (result ≡ Err PacketError.OutOfMemory))) }
-    ensures whole { IsCarriedWhole (sender h264 p.old) (work d.old out.old.items extra.old) (call_of p.old mtu payload.now) result (work d.new out.new.items extra.new) }
+    ensures whole { IsCarriedWhole (sender h264 p.old) (work d.old out.old.items extra.old)
+        (call_of p.old mtu payload.now) result (work d.new out.new.items extra.new) }
 
     // A call without effect takes no memory.
     ensures free { has_no_effect h264 (call_of p.old mtu payload.now) ≡ true → IsOk result }
