@@ -1,3 +1,4 @@
 pub mod H265
 pub mod Reading
 pub mod CodecFacts
+pub mod Payload
