@@ -1,0 +1,83 @@
+//! The units of an aggregate, as slices of it (RFC 6184, 5.7.1; RFC 7798, 4.4.2; RFC 9328, 4.3.2).
+
+ghost use Rattle.std.specs.Prelude.{◌≡◌, ◌⊎◌, ◌++◌, ◌-◌, ◌^◌, ◌<◌, ◌&&◌, nat_le, min, false, ℕ, List, [], ◌∷◌, length, take_while, None, Ok, Err, OnOk, OnErr, IfSome};
+ghost use Rattle.std.specs.List.{list_any};
+ghost use Rattle.h26x_core.specs.Text.{text};
+ghost use Rattle.h26x_core.specs.Extra.{extra_after};
+ghost use Rattle.h26x_core.specs.Outcome.{is_too_long};
+ghost use Rattle.h26x_core.specs.Pieces.{pieces_of};
+ghost use Rattle.h26x_payload.specs.Run.{written_len};
+
+use crate::codec::Codec;
+use crate::extra::told;
+use crate::text::write_unit;
+use h26x_core::{CodecExtra, PacketError, first_piece};
+
+/// A codec's aggregates: how units stand behind each other.
+pub trait Aggregate: Codec {
+    ghost units: { Self → List ℕ → List (List ℕ) };
+
+    /// The first unit of bytes, and what stands behind it.
+    fn first_unit(self, bytes: &[u8]) -> Option<(&[u8], &[u8])>
+        ensures first { IfSome result (λ it. units self bytes.now ≡ it.0.now ∷
+            units self it.1.now) }
+        ensures less { IfSome result (λ it. length it.1.now < length bytes.now) }
+        ensures none { result ≡ None → units self bytes.now ≡ [] };
+}
+
+/// Appends the units of an aggregate, which take so many bytes, and tells of them.
+pub fn append_units<A: Aggregate>(
+    codec: A,
+    is_avc: bool,
+    bytes: &[u8],
+    len: usize,
+    out: &mut Vec<u8>,
+    codec_extra: &mut CodecExtra,
+) -> Result<(), PacketError>
+    requires short { (is_avc && list_any is_too_long (A.units codec bytes.now)) ≡ false }
+    requires room { len ≡ min (written_len (A.units codec bytes.now)) (2 ^ 64 - 1) }
+    ensures outcome { (result ≡ Ok tt) ⊎ (result ≡ Err PacketError.OutOfMemory) }
+    ensures written { OnOk result (out.new.items ≡ out.old.items
+        ++ text is_avc (A.units codec bytes.now)) }
+    ensures told { OnOk result (codec_extra.new ≡ extra_after (A.format codec) codec_extra.old
+        (A.units codec bytes.now)) }
+    ensures kept { OnErr result (out.new.items ≡ out.old.items) }
+    ensures kept_extra { OnErr result (codec_extra.new ≡ codec_extra.old) }
+{
+    out.reserve(len)?;
+    let mut counts = false;
+    let mut key = false;
+    let mut rest = bytes;
+    while let Some((unit, behind)) = codec.first_unit(rest) {
+        counts |= unit.len() >= codec.header_len();
+        key |= codec.is_key(unit);
+        write_unit(is_avc, unit, out);
+        rest = behind;
+    }
+    if counts {
+        *codec_extra = told(codec, *codec_extra, key);
+    }
+    Ok(())
+}
+
+/// Whether a key unit stands in bytes behind its length, before the first unit that is not whole or
+/// that has no whole header.
+pub fn holds_key<C: Codec>(codec: C, bytes: &[u8]) -> bool
+    ensures { result ≡ list_any (C.format codec).is_key
+        (take_while (λ unit. nat_le (C.format codec).header_len (length unit))
+        (pieces_of bytes.now).whole) }
+{
+    let mut rest = bytes;
+    while rest.len() >= 2 {
+        match first_piece(rest) {
+            Ok((unit, behind)) if unit.len() >= codec.header_len() => {
+                if codec.is_key(unit) {
+                    return true;
+                }
+                rest = behind;
+            }
+            _ => return false,
+        }
+    }
+    false
+}
