@@ -1,21 +1,17 @@
 -- What a STAP-A brings to a depacketizer.
-use Rattle.std.proofs.Common.{◌≡◌, ℕ, Bool, true, false, List, [], ◌∷◌, ◌++◌, Option, refl, sym, ap, ◌∙◌, map, Result, Ok, Err, OnOk, ◌⊎◌, ◌+◌, ◌<◌, length, arith}
-use Rattle.std.specs.Prelude.{nat_le, filter}
+use Rattle.std.proofs.Common.{◌≡◌, ℕ, Bool, false, List, [], ◌∷◌, ◌++◌, Option, refl, sym, ap, ◌∙◌, map, Result, Ok, Err, OnOk, ◌⊎◌}
 use Rattle.std.specs.List.{list_any}
 use Rattle.std.proofs.lemmas.Bool.{and_right}
-use Rattle.std.proofs.lemmas.Bool.Decides.{nat_tests}
-use Rattle.std.proofs.lemmas.List.Sums.{sum_by-cons}
 use Rattle.h26x_core.specs.declared.error.PacketError.{PacketError}
 use Rattle.h26x_core.specs.declared.error.PacketError.TheVariants.{OutOfMemory}
 use Rattle.h26x_core.specs.declared.extra.CodecExtra.{CodecExtra}
-use Rattle.h26x_core.specs.Text.{is_not_empty, text}
+use Rattle.h26x_core.specs.Text.{text}
 use Rattle.h26x_core.specs.Reading.{Reading, Aggregate, unnumbered}
 use Rattle.h26x_core.specs.Received.{units_with}
 use Rattle.h26x_core.specs.Extra.{extra_after}
 use Rattle.h26x_core.specs.Outcome.{is_too_long, IsOutcomeWith}
 use Rattle.h26x_core.specs.Receiver.{Work, work_after}
 use Rattle.h26x_core.proofs.ReceiverLemmas.{with_run, after_one}
-use Rattle.h26x_payload.specs.Run.{written_len}
 
 -- numbers put beside units and left out again
 pub units_only : (units : List (List ℕ)) → map (λ (u : List ℕ × Option ℕ). u.0) (map unnumbered units) ≡ units
@@ -38,18 +34,3 @@ stap_taken w packet units (Ok v) out extra is written told =
     after_one w packet w.receiver.run out extra (rw is refl)
     (written ∙ ap (λ (us : List (List ℕ)). w.out ++ text w.receiver.is_avc us) brings)
     (told ∙ ap (extra_after w.receiver.format w.extra) brings)
-
--- the units of a STAP-A are not empty: where bytes are written for them there is a unit
-pub some_written : (pieces : List (List ℕ)) → 0 < written_len (filter is_not_empty pieces) → list_any (λ unit. nat_le 1 (length unit)) (filter is_not_empty pieces) ≡ true
-some_written [] some = absurd (omega arith)
-some_written ([] ∷ pieces) some = some_written pieces some
-some_written ((byte ∷ bytes) ∷ pieces) some = let one : nat_le 1 (length (byte ∷ bytes)) ≡ true = grind (arith, nat_tests) in rw one refl
-
--- and else there is none
-pub none_written : (pieces : List (List ℕ)) → written_len (filter is_not_empty pieces) ≡ 0 → list_any (λ unit. nat_le 1 (length unit)) (filter is_not_empty pieces) ≡ false
-none_written [] none = refl
-none_written ([] ∷ pieces) none = none_written pieces none
-none_written ((byte ∷ bytes) ∷ pieces) none =
-    let sum : written_len (filter is_not_empty ((byte ∷ bytes) ∷ pieces)) ≡ (4 + length (byte ∷ bytes)) + written_len (filter is_not_empty pieces) =
-    sum_by-cons (λ (unit : List ℕ). 4 + length unit) (byte ∷ bytes) (filter is_not_empty pieces) in
-    absurd (omega (arith, sum))

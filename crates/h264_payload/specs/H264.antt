@@ -1,5 +1,5 @@
 -- The payload format of H.264 (RFC 6184).
-use Rattle.std.specs.Prelude.{ℕ, ◌+◌, ◌*◌, nat_le, nat_lt, Bool, true, false, ◌&&◌, ◌==◌, if◌then◌else◌, List, [], ◌∷◌, length, map, filter, Option, None}
+use Rattle.std.specs.Prelude.{ℕ, ◌+◌, ◌*◌, nat_le, nat_lt, Bool, false, ◌&&◌, ◌==◌, if◌then◌else◌, List, [], ◌∷◌, length, map, filter, Option, None}
 use Rattle.std.specs.List.{flat_map, list_all, list_any, sum_by}
 use Rattle.h26x_core.specs.declared.extra.CodecExtra.{CodecExtra}
 use Rattle.h26x_core.specs.declared.extra.CodecExtra.TheVariants as extras

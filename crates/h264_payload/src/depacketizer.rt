@@ -14,45 +14,15 @@ ghost use Rattle.h264_payload.specs.Depacketizer.{work};
 
 use crate::packet::{Packet, read};
 use crate::packetizer::H264;
-use crate::stap;
 use h26x_core::{
     CodecExtra, Depacketizer, FU_START_BITMASK, FUA_NALU_TYPE, FUB_NALU_TYPE, NALU_TYPE_BITMASK,
     PacketError,
 };
 use h26x_payload::{
-    Codec, Fragment, OpenRun, append_unit, out_size_hint, take_fragment, told, write_unit,
+    Codec, Fragment, OpenRun, append_unit, append_units, out_size_hint, take_fragment, told,
 };
 use std::alloc::Global;
 use std::marker::Model;
-
-/// Appends the units of a STAP-A, which take so many bytes.
-fn append_units(
-    is_avc: bool,
-    bytes: &[u8],
-    len: usize,
-    out: &mut Vec<u8>,
-    codec_extra: &mut CodecExtra,
-) -> Result<(), PacketError>
-    requires { IsStapOf bytes.now len }
-    ensures outcome { (result ≡ Ok tt) ⊎ (result ≡ Err PacketError.OutOfMemory) }
-    ensures written { OnOk result (out.new.items ≡ out.old.items
-        ++ text is_avc (stap_units bytes.now)) }
-    ensures told { OnOk result (codec_extra.new ≡ extra_after h264 codec_extra.old
-        (stap_units bytes.now)) }
-    ensures kept { OnErr result (out.new.items ≡ out.old.items) }
-    ensures kept_extra { OnErr result (codec_extra.new ≡ codec_extra.old) }
-{
-    out.reserve(len)?;
-    let mut key = false;
-    for unit in stap::units(bytes) {
-        key |= H264.is_key(unit);
-        write_unit(is_avc, unit, out);
-    }
-    if len > 0 {
-        *codec_extra = told(H264, *codec_extra, key);
-    }
-    Ok(())
-}
 
 /// Writes the units of packets, each behind a start code, or in AVC form behind its length.
 ///
@@ -168,8 +138,7 @@ impl Depacketizer for H264Depacketizer {
         out: &mut Vec<u8>,
         codec_extra: &mut CodecExtra,
     ) -> Result<(), PacketError>
-        ensures outcome {
-            IsOutcomeAt (work self.old out.old.items codec_extra.old) packet.now result }
+        ensures outcome { IsOutcomeAt (work self.old out.old.items codec_extra.old) packet.now result }
         ensures taken { OnOk result (work self.new out.new.items codec_extra.new
             ≡ work_after (work self.old out.old.items codec_extra.old) (packet.now ∷ [])) }
         ensures kept { OnErr result (work self.new out.new.items codec_extra.new
@@ -187,13 +156,9 @@ impl Depacketizer for H264Depacketizer {
                 *codec_extra = told(H264, *codec_extra, H264.is_key(unit));
                 Ok(())
             }
-            Packet::Aggregate(bytes, len) => append_units(
-                self.is_avc,
-                bytes,
-                len,
-                out,
-                codec_extra,
-            ),
+            Packet::Aggregate(bytes, len) => {
+                append_units(H264, self.is_avc, bytes, len, out, codec_extra)
+            }
             Packet::Fragment {
                 start,
                 end,

@@ -5,11 +5,12 @@ ghost use Rattle.std.specs.List.{list_any};
 ghost use Rattle.h26x_core.specs.H264Unit.{type_of_first};
 ghost use Rattle.h264_payload.specs.H264.{detects, stap_units};
 
-use crate::stap;
+use crate::packetizer::H264;
 use h26x_core::{
     FU_START_BITMASK, FUA_HEADER_SIZE, FUA_NALU_TYPE, IDR_NALU_TYPE, NALU_TYPE_BITMASK,
     STAPA_HEADER_SIZE, STAPA_NALU_TYPE,
 };
+use h26x_payload::Aggregate;
 
 /// The type of a unit (RFC 6184, 1.3); 0 where it is empty.
 fn unit_type(unit: &[u8]) -> u8
@@ -25,7 +26,14 @@ fn unit_type(unit: &[u8]) -> u8
 fn stap_holds(bytes: &[u8], target_nalu: u8) -> bool
     ensures { result ≡ list_any (λ unit. type_of_first unit == target_nalu) (stap_units bytes.now) }
 {
-    stap::units(bytes).any(|unit| unit_type(unit) == target_nalu)
+    let mut rest = bytes;
+    while let Some((unit, behind)) = H264.first_unit(rest) {
+        if unit_type(unit) == target_nalu {
+            return true;
+        }
+        rest = behind;
+    }
+    false
 }
 
 /// Whether a packet is known to hold a unit of this type, or to be the first fragment of one. The

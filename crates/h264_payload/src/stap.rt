@@ -1,60 +1,36 @@
 //! The units of a STAP-A (RFC 6184, 5.7.1).
 
 ghost use Rattle.std.specs.Prelude.{◌≡◌, map, IfOk, IfErr};
-ghost use Rattle.std.specs.Iterator.{YieldsFirstBy, item_count};
 ghost use Rattle.h26x_core.specs.Pieces.{pieces_of};
 ghost use Rattle.h26x_core.specs.Reading.{Aggregate, Refused, unnumbered};
 ghost use Rattle.h264_payload.specs.H264.{aggregate_of, stap_units};
 ghost use Rattle.h264_payload.specs.Packet.{IsStapOf};
 
+use crate::packetizer::H264;
 use h26x_core::{PacketError, STAPA_NALU_LENGTH_SIZE, first_piece};
-use h26x_payload::LEAD_SIZE;
-use std::marker::Model;
+use h26x_payload::{Aggregate, LEAD_SIZE};
 
-/// The units of a STAP-A, as slices of it: empty ones are skipped, and they end where a length
-/// passes the end.
-#[derive(Drop)]
-pub struct StapUnits<'a> {
-    rest: &'a [u8],
-}
-
-impl<'a> Model for StapUnits<'a> {
-    ghost use Rattle.std.specs.Prelude.{List, ℕ};
+impl Aggregate for H264 {
     ghost use Rattle.h264_payload.specs.H264.{stap_units};
 
-    ghost Value = { List (List ℕ) };
+    // Empty units are skipped, and units end where a length passes the end.
+    ghost units = { λ codec. stap_units };
 
-    ghost view = { λ a. stap_units a.rest.now };
-}
-
-impl<'a> Iterator for StapUnits<'a> {
-    type Item = &'a [u8];
-
-    ghost next_gives = { YieldsFirstBy (λ unit. unit.now) (λ s. s) };
-
-    ghost remaining = { item_count (λ s. s) };
-
-    fn next(&mut self) -> Option<&'a [u8]> {
-        while self.rest.len() >= STAPA_NALU_LENGTH_SIZE {
-            match first_piece(self.rest) {
-                Ok((unit, rest)) => {
-                    self.rest = rest;
+    fn first_unit(self, bytes: &[u8]) -> Option<(&[u8], &[u8])> {
+        let mut rest = bytes;
+        while rest.len() >= STAPA_NALU_LENGTH_SIZE {
+            match first_piece(rest) {
+                Ok((unit, behind)) => {
                     if !unit.is_empty() {
-                        return Some(unit);
+                        return Some((unit, behind));
                     }
+                    rest = behind;
                 }
                 Err(_) => return None,
             }
         }
         None
     }
-}
-
-/// The units behind a STAP-A's header.
-pub fn units(bytes: &[u8]) -> StapUnits<'_>
-    ensures { result ≡ stap_units bytes.now }
-{
-    StapUnits { rest: bytes }
 }
 
 /// How many bytes the units of a STAP-A take where they are written, at most `usize::MAX`; one with
