@@ -1,9 +1,19 @@
--- Units of an aggregate, one after the other.
-use Rattle.std.proofs.Common.{◌≡◌, ℕ, Bool, true, false, List, ◌∷◌, refl, sym, ap, ◌∙◌}
-use Rattle.std.specs.Prelude.{take_while}
+-- Units of an aggregate, one after the other, and what they bring to a depacketizer.
+use Rattle.std.proofs.Common.{◌≡◌, ℕ, Bool, true, false, List, [], ◌∷◌, ◌++◌, map, Option, Result, Ok, Err, OnOk, ◌⊎◌, refl, sym, ap, ◌∙◌}
+use Rattle.std.specs.Prelude.{take_while, ◌&&◌}
 use Rattle.std.specs.List.{list_any}
 use Rattle.std.proofs.lemmas.List.Sums.{take_while-cons}
+use Rattle.h26x_core.specs.declared.error.PacketError.{PacketError}
+use Rattle.h26x_core.specs.declared.error.PacketError.TheVariants.{OutOfMemory}
+use Rattle.h26x_core.specs.declared.extra.CodecExtra.{CodecExtra}
+use Rattle.h26x_core.specs.Text.{text}
+use Rattle.h26x_core.specs.Reading.{Reading, Aggregate}
+use Rattle.h26x_core.specs.Received.{units_with}
+use Rattle.h26x_core.specs.Extra.{extra_after}
+use Rattle.h26x_core.specs.Outcome.{is_too_long, IsOutcomeWith}
+use Rattle.h26x_core.specs.Receiver.{Work, work_after}
 use Rattle.h26x_core.specs.Pieces.{Pieces, with_piece}
+use Rattle.h26x_core.proofs.ReceiverLemmas.{with_run, after_one}
 
 -- a long unit without the property is passed over
 pub passed_over : (has long : List ℕ → Bool) (unit : List ℕ) (pieces behind : Pieces) (answer : Bool) → pieces ≡ with_piece unit behind → long unit ≡ true → has unit ≡ false →
@@ -12,3 +22,20 @@ passed_over has long unit pieces behind answer same is other h =
     let kept : take_while long (unit ∷ behind.whole) ≡ unit ∷ take_while long behind.whole = take_while-cons long unit behind.whole ∙ rw is refl in
     let passed : list_any has (unit ∷ take_while long behind.whole) ≡ list_any has (take_while long behind.whole) = rw other refl in
     sym (ap (list_any has) kept ∙ passed) ∙ sym (ap (λ (p : Pieces). list_any has (take_while long p.whole)) same) ∙ h
+
+-- an aggregate none of whose units is too long is accepted, or memory lacks
+pub aggregate_outcome : (avc : Bool) (run : Option (List ℕ)) (reading : Reading) (pairs : List (List ℕ × Option ℕ)) (units : List (List ℕ)) (outcome : Result (Unit {0}) PacketError) →
+    reading ≡ Aggregate pairs → map (λ (u : List ℕ × Option ℕ). u.0) pairs ≡ units → (avc && list_any is_too_long units) ≡ false → (outcome ≡ Ok tt) ⊎ (outcome ≡ Err OutOfMemory) → IsOutcomeWith avc run reading outcome
+aggregate_outcome avc run reading pairs units outcome is same short either = rw (is, same, short) either
+
+-- and what stands then, where its units are written and told
+pub aggregate_taken : (w : Work) (packet : List ℕ) (pairs : List (List ℕ × Option ℕ)) (units : List (List ℕ)) (outcome : Result (Unit {0}) PacketError) (out : List ℕ) (extra : CodecExtra) →
+    w.receiver.format.read packet ≡ Aggregate pairs → map (λ (u : List ℕ × Option ℕ). u.0) pairs ≡ units →
+    OnOk outcome (out ≡ w.out ++ text w.receiver.is_avc units) → OnOk outcome (extra ≡ extra_after w.receiver.format w.extra units) →
+    OnOk outcome (with_run w w.receiver.run out extra ≡ work_after w (packet ∷ []))
+aggregate_taken w packet pairs units (Err e) out extra is same written told = tt
+aggregate_taken w packet pairs units (Ok v) out extra is same written told =
+    let brings : units ≡ units_with w.receiver.run (w.receiver.format.read packet) = rw is (sym same) in
+    after_one w packet w.receiver.run out extra (rw is refl)
+    (written ∙ ap (λ (us : List (List ℕ)). w.out ++ text w.receiver.is_avc us) brings)
+    (told ∙ ap (extra_after w.receiver.format w.extra) brings)
