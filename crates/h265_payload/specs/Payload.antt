@@ -1,6 +1,7 @@
 -- What an accepted H.265 packet is shown as: its words, and its bytes at their places (RFC 7798,
 -- 4.4). What has DONL was read where packets bear numbers, or was marked so.
-use Rattle.std.specs.Prelude.{ℕ, Bool, List, Option}
+use Rattle.std.specs.Prelude.{ℕ, ◌+◌, ◌*◌, Bool, false, if◌then◌else◌, List, [], ◌∷◌, ◌++◌, map, Option, Some, None}
+use Rattle.h26x_core.specs.Word.{is_set}
 
 -- a single NAL unit packet (4.4.1): what stands behind the header and DONL
 pub record SinglePacket : Type 0 where
@@ -40,3 +41,51 @@ pub record PaciPacket : Type 0 where
   pub fields : ℕ
   pub phes : List ℕ
   pub payload : List ℕ
+
+-- a single NAL unit packet of nothing
+abbrev pub empty_single : SinglePacket
+empty_single = record { header = 0; donl = None; payload = []; has_donl = false }
+
+-- a fragmentation unit of nothing
+abbrev pub empty_fragmentation : FragmentationPacket
+empty_fragmentation = record {
+  header = 0;
+  fu_header = 0;
+  donl = None;
+  payload = [];
+  has_donl = false;
+}
+
+-- a first unit of no byte
+abbrev pub empty_first : FirstUnit
+empty_first = record { donl = None; nal_unit = [] }
+
+-- a further unit of no byte
+abbrev pub empty_other : OtherUnit
+empty_other = record { dond = None; nal_unit = [] }
+
+-- an aggregation packet of no unit
+abbrev pub empty_aggregation : AggregationPacket
+empty_aggregation = record { first = None; others = []; has_donl = false }
+
+-- a PACI packet of nothing
+abbrev pub empty_paci : PaciPacket
+empty_paci = record { header = 0; fields = 0; phes = []; payload = [] }
+
+-- the first unit of an aggregation packet, where there is one
+abbrev pub first_shown : Option FirstUnit → List (List ℕ)
+first_shown None = []
+first_shown (Some unit) = unit.nal_unit ∷ []
+
+-- all units of an aggregation packet: the first, and then the others
+abbrev pub units_shown : AggregationPacket → List (List ℕ)
+units_shown p = first_shown p.first ++ map (λ unit. unit.nal_unit) p.others
+
+-- TSCI in an extension's first three bytes: bits 31 to 8 of a word (4.5)
+abbrev pub tsci_in : List ℕ → Option ℕ
+tsci_in (a ∷ b ∷ c ∷ phes) = Some (a * 16777216 + b * 65536 + c * 256)
+tsci_in phes = None
+
+-- TSCI, which a packet bears where F0 is set and its extension has three bytes or more (4.5)
+abbrev pub tsci_shown : PaciPacket → Option ℕ
+tsci_shown p = if is_set p.fields 3 then tsci_in p.phes else None

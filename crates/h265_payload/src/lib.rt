@@ -9,5 +9,10 @@
 mod cases;
 pub mod laws;
 mod packetizer;
+mod payload;
 
 pub use packetizer::{H265, H265Packetizer};
+pub use payload::{
+    H265AggregationPacket, H265AggregationUnit, H265AggregationUnitFirst,
+    H265FragmentationUnitPacket, H265PACIPacket, H265Payload, H265SingleNALUnitPacket,
+};

@@ -1,0 +1,51 @@
+//! Packets as a depacketizer shows them (RFC 7798, 4.4).
+
+ghost use Rattle.std.specs.Prelude.{◌≡◌};
+ghost use Rattle.h265_payload.specs.Payload.{empty_single};
+
+mod aggregation;
+mod first_unit;
+mod fragmentation;
+mod other_unit;
+mod paci;
+mod single;
+
+pub use aggregation::H265AggregationPacket;
+pub use first_unit::H265AggregationUnitFirst;
+pub use fragmentation::H265FragmentationUnitPacket;
+pub use other_unit::H265AggregationUnit;
+pub use paci::H265PACIPacket;
+pub use single::H265SingleNALUnitPacket;
+use std::alloc::Global;
+
+/// A packet that was read.
+#[derive(Debug, Drop)]
+pub enum H265Payload {
+    /// A single NAL unit packet (RFC 7798, 4.4.1).
+    H265SingleNALUnitPacket(H265SingleNALUnitPacket),
+    /// A fragmentation unit (RFC 7798, 4.4.3).
+    H265FragmentationUnitPacket(H265FragmentationUnitPacket),
+    /// An aggregation packet (RFC 7798, 4.4.2).
+    H265AggregationPacket(H265AggregationPacket),
+    /// A PACI packet (RFC 7798, 4.4.4).
+    H265PACIPacket(H265PACIPacket),
+}
+
+impl H265Payload {
+    /// The empty single NAL unit packet. It takes no memory.
+    pub fn empty(alloc: Global) -> Self
+        ensures { result ≡ H265Payload.H265SingleNALUnitPacket empty_single }
+    {
+        H265Payload::H265SingleNALUnitPacket(H265SingleNALUnitPacket::empty(alloc))
+    }
+
+    /// The buffer of the packet's data, to be used again, or of an aggregation packet's first unit.
+    pub(crate) fn into_buffer(self) -> Option<Vec<u8>> {
+        match self {
+            H265Payload::H265SingleNALUnitPacket(packet) => Some(packet.into_buffer()),
+            H265Payload::H265FragmentationUnitPacket(packet) => Some(packet.into_buffer()),
+            H265Payload::H265AggregationPacket(packet) => packet.into_buffer(),
+            H265Payload::H265PACIPacket(packet) => Some(packet.into_buffer()),
+        }
+    }
+}

@@ -1,0 +1,72 @@
+//! The first unit of an aggregation packet (RFC 7798, 4.4.2).
+
+ghost use Rattle.std.specs.Prelude.{◌≡◌, ◌<◌, length};
+ghost use Rattle.h265_payload.specs.Payload.{empty_first};
+
+use std::alloc::Global;
+use std::marker::Model;
+
+/// The first unit of an aggregation packet (RFC 7798, 4.4.2), and DONL where it was read.
+#[derive(Debug, Drop)]
+pub struct H265AggregationUnitFirst {
+    donl: Option<u16>,
+    nal_unit: Vec<u8>,
+}
+
+impl Model for H265AggregationUnitFirst {
+    ghost use Rattle.std.specs.Prelude.{◌<◌, length};
+    ghost use Rattle.h265_payload.specs.Payload.{FirstUnit};
+
+    ghost Value = { FirstUnit };
+
+    ghost view = { λ a. record { donl = a.donl; nal_unit = a.nal_unit.items } };
+
+    ghost invariant = { λ a. length a.nal_unit.items < 65536 };
+}
+
+impl H265AggregationUnitFirst {
+    /// The unit of these parts.
+    pub(crate) fn of(donl: Option<u16>, nal_unit: Vec<u8>) -> Self
+        requires { length nal_unit.items < 65536 }
+        ensures { result ≡ record { donl = donl; nal_unit = nal_unit.items } }
+    {
+        H265AggregationUnitFirst { donl, nal_unit }
+    }
+
+    /// A unit of no byte, without DONL. It takes no memory.
+    pub fn empty(alloc: Global) -> Self
+        ensures { result ≡ empty_first }
+    {
+        H265AggregationUnitFirst {
+            donl: None,
+            nal_unit: Vec::new(alloc),
+        }
+    }
+
+    /// DONL, the low 16 bits of the unit's decoding order number, where it was read (RFC 7798,
+    /// 4.4.2).
+    pub fn donl(&self) -> Option<u16>
+        ensures { result ≡ self.now.donl }
+    {
+        self.donl
+    }
+
+    /// How many bytes the unit has, its header among them (RFC 7798, 4.4.2).
+    pub fn nalu_size(&self) -> u16
+        ensures { result ≡ length self.now.nal_unit }
+    {
+        self.nal_unit.len() as u16
+    }
+
+    /// The unit with its header.
+    pub fn nal_unit(&self) -> &[u8]
+        ensures { result.now ≡ self.now.nal_unit }
+    {
+        self.nal_unit.as_slice()
+    }
+
+    /// The buffer of the unit, to be used again.
+    pub(crate) fn into_buffer(self) -> Vec<u8> {
+        self.nal_unit
+    }
+}

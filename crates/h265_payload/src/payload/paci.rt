@@ -1,0 +1,155 @@
+//! PACI packets (RFC 7798, 4.4.4).
+
+ghost use Rattle.std.specs.Prelude.{◌≡◌, ◌≤◌, length, take, drop};
+ghost use Rattle.std.specs.Option.{option_map};
+ghost use Rattle.h26x_core.specs.Word.{field, is_set};
+ghost use Rattle.h265_payload.specs.Payload.{empty_paci, tsci_shown};
+
+use h26x_core::{H265NALUHeader, H265TSCI};
+use std::alloc::Global;
+use std::marker::Model;
+
+/// A PACI packet (RFC 7798, 4.4.4): its header, the word of its fields, the extension of its
+/// header (PHES), and what stands behind that.
+#[derive(Debug, Drop)]
+pub struct H265PACIPacket {
+    header: H265NALUHeader,
+    fields: u16,
+    /// The extension, as long as the fields tell, and then the payload.
+    bytes: Vec<u8>,
+}
+
+impl Model for H265PACIPacket {
+    ghost use Rattle.std.specs.Prelude.{◌≤◌, length, take, drop};
+    ghost use Rattle.h26x_core.specs.Word.{field};
+    ghost use Rattle.h265_payload.specs.Payload.{PaciPacket};
+
+    ghost Value = { PaciPacket };
+
+    ghost view = { λ a. record {
+      header = a.header.0;
+      fields = a.fields;
+      phes = take (field a.fields 8 4) a.bytes.items;
+      payload = drop (field a.fields 8 4) a.bytes.items;
+    } };
+
+    ghost invariant = { λ a. field a.fields 8 4 ≤ length a.bytes.items };
+}
+
+impl H265PACIPacket {
+    /// The packet of this header, this word of fields, and its extension and payload, one behind
+    /// the other.
+    pub(crate) fn of(header: H265NALUHeader, fields: u16, bytes: Vec<u8>) -> Self
+        requires { field fields 8 4 ≤ length bytes.items }
+        ensures { result ≡ record {
+          header = header.0;
+          fields = fields;
+          phes = take (field fields 8 4) bytes.items;
+          payload = drop (field fields 8 4) bytes.items;
+        } }
+    {
+        H265PACIPacket {
+            header,
+            fields,
+            bytes,
+        }
+    }
+
+    /// A packet whose header and fields are 0, without extension or payload. It takes no memory.
+    pub fn empty(alloc: Global) -> Self
+        ensures { result ≡ empty_paci }
+    {
+        H265PACIPacket {
+            header: H265NALUHeader(0),
+            fields: 0,
+            bytes: Vec::new(alloc),
+        }
+    }
+
+    /// The packet's header, of type 50 in a packet that was read (RFC 7798, 4.4.4).
+    pub fn payload_header(&self) -> H265NALUHeader
+        ensures { result.0 ≡ self.now.header }
+    {
+        self.header
+    }
+
+    /// A, the bit F of the unit within (RFC 7798, 4.4.4).
+    pub fn a(&self) -> bool
+        ensures { result ≡ is_set self.now.fields 15 }
+    {
+        self.fields >> 15 != 0
+    }
+
+    /// cType, the type of the unit within, 0 to 63 (RFC 7798, 4.4.4).
+    pub fn ctype(&self) -> u8
+        ensures { result ≡ field self.now.fields 14 9 }
+    {
+        (self.fields >> 9 & 0x3f) as u8
+    }
+
+    /// PHSsize, how many bytes the extension has, 0 to 31 (RFC 7798, 4.4.4).
+    pub fn phs_size(&self) -> u8
+        ensures { result ≡ field self.now.fields 8 4 }
+    {
+        (self.fields >> 4 & 0x1f) as u8
+    }
+
+    /// F0, which tells that the extension holds TSCI (RFC 7798, 4.4.4 and 4.5).
+    pub fn f0(&self) -> bool
+        ensures { result ≡ is_set self.now.fields 3 }
+    {
+        self.fields >> 3 & 1 != 0
+    }
+
+    /// F1, which is reserved (RFC 7798, 4.4.4).
+    pub fn f1(&self) -> bool
+        ensures { result ≡ is_set self.now.fields 2 }
+    {
+        self.fields >> 2 & 1 != 0
+    }
+
+    /// F2, which is reserved (RFC 7798, 4.4.4).
+    pub fn f2(&self) -> bool
+        ensures { result ≡ is_set self.now.fields 1 }
+    {
+        self.fields >> 1 & 1 != 0
+    }
+
+    /// Y, which is reserved (RFC 7798, 4.4.4).
+    pub fn y(&self) -> bool
+        ensures { result ≡ is_set self.now.fields 0 }
+    {
+        self.fields & 1 != 0
+    }
+
+    /// PHES, the extension of the header: as many bytes as PHSsize says (RFC 7798, 4.4.4).
+    pub fn phes(&self) -> &[u8]
+        ensures bytes { result.now ≡ self.now.phes }
+        ensures size { length result.now ≡ field self.now.fields 8 4 }
+    {
+        &self.bytes[..usize::from(self.phs_size())]
+    }
+
+    /// What stands behind the extension: the unit within, without its header (RFC 7798, 4.4.4).
+    pub fn payload(&self) -> &[u8]
+        ensures { result.now ≡ self.now.payload }
+    {
+        &self.bytes[usize::from(self.phs_size())..]
+    }
+
+    /// TSCI, where F0 is set and the extension has three bytes or more: its first three bytes, at
+    /// bits 31 to 8 of the word (RFC 7798, 4.5).
+    pub fn tsci(&self) -> Option<H265TSCI>
+        ensures { option_map (λ tsci. tsci.0) result ≡ tsci_shown self.now }
+    {
+        match self.phes() {
+            [a, b, c, ..] if self.f0() => Some(H265TSCI(u32::from_be_bytes([*a, *b, *c, 0]))),
+            _ => None,
+        }
+    }
+
+    /// The buffer of the extension and the payload, to be used again.
+    pub(crate) fn into_buffer(self) -> Vec<u8> {
+        self.bytes
+    }
+}
