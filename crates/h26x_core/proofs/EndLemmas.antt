@@ -20,7 +20,7 @@ use Rattle.h26x_core.specs.Received.{run_after, units_with}
 use Rattle.h26x_core.specs.Outcome.{is_too_long, IsOutcomeWith}
 use Rattle.h26x_core.specs.Facts.{FitsLimits, NumbersAreTwoBytes, IsPayloadFormat, AreCarried}
 use Rattle.h26x_core.specs.Sender.{Sender, IsSender, planned, sent_by, packets_by, counted_on, after, is_skipped_kind, has_no_effect, AreWithinLimits}
-use Rattle.h26x_core.specs.Receiver.{Receiver, Work, units_from, run_from, brought, work_after, IsCause, AreShort}
+use Rattle.h26x_core.specs.Receiver.{Receiver, Work, units_from, run_from, brought, work_after, IsCause}
 use Rattle.h26x_core.specs.Ends.{SenderGoesOn, ReceiverGoesOn, CarriesWhole}
 use Rattle.h26x_core.proofs.LimitLemmas.{all_both}
 use Rattle.h26x_core.proofs.NumberLemmas.{numbers_are}

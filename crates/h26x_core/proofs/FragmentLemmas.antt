@@ -9,7 +9,7 @@ use Rattle.std.proofs.lemmas.Bool.Decides.{nat_tests}
 use Rattle.h26x_core.specs.Reading.{Fragment}
 use Rattle.h26x_core.specs.Format.{Format, number, number_len}
 use Rattle.h26x_core.specs.Plan.{fits, is_dropped}
-use Rattle.h26x_core.specs.Packets.{fragment_count, fragmented, fragment_part, room, fragment}
+use Rattle.h26x_core.specs.Packets.{fragment_count, fragmented, fragment_part, room}
 use Rattle.h26x_core.specs.Number.{number_borne}
 use Rattle.h26x_core.specs.Facts.{ReadsWhatItWrites, MarksFragments}
 use Rattle.h26x_core.specs.Fragments.{fragment_data, AreFragments, ReadsFragments, AreMarked}

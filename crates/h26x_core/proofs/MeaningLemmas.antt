@@ -1,12 +1,12 @@
 -- Equal meanings are equal states.
-use Rattle.std.proofs.Common.{◌≡◌, ℕ, ◌/◌, ◌%◌, ◌<◌, Bool, true, false, cond, List, [], ◌∷◌, ◌++◌, Option, None, Some, refl, sym, ap, ◌∙◌, arith}
+use Rattle.std.proofs.Common.{◌≡◌, ℕ, ◌/◌, ◌%◌, ◌<◌, Bool, true, false, cond, List, [], ◌∷◌, Option, None, Some, refl, sym, ap, ◌∙◌, arith}
 use Rattle.std.specs.Prelude.{◌||◌}
 use Rattle.std.specs.List.{flat_map}
 use Rattle.std.proofs.lemmas.List.{append-nil}
 use Rattle.h26x_core.specs.Word.{word}
 use Rattle.h26x_core.specs.Kind.{Kind, Skipped, is_vps, is_sps, is_pps}
 use Rattle.h26x_core.specs.Format.{Format}
-use Rattle.h26x_core.specs.Waits.{Waiting, IsOneSet, NoSet, OneSet, AreSets}
+use Rattle.h26x_core.specs.Waits.{IsOneSet, NoSet, OneSet, AreSets}
 use Rattle.h26x_core.specs.Sender.{Sender, IsSender, IsSameSender, sender_meaning}
 use Rattle.h26x_core.specs.Receiver.{Receiver, runs_of, receiver_meaning}
 

@@ -1,0 +1,97 @@
+-- What `payload` shows of an accepted packet: its words, and its bytes at their places (RFC 7798,
+-- 4.4).
+use Rattle.std.specs.Prelude.{ℕ, zero, suc, ◌+◌, ◌*◌, nat_le, Bool, true, false, ◌&&◌, ◌==◌, if◌then◌else◌, List, [], ◌∷◌, length, map, take, drop, Option, Some, None}
+use Rattle.h26x_core.specs.Word.{field, is_set}
+use Rattle.h26x_core.specs.H265Unit.{type_of}
+use Rattle.h26x_core.specs.Pieces.{pieces_of}
+use Rattle.h265_payload.specs.Payload.{FirstUnit, OtherUnit, AggregationPacket, units_shown, empty_single}
+use Rattle.h265_payload.specs.declared.payload.H265Payload.{H265Payload}
+use Rattle.h265_payload.specs.declared.payload.H265Payload.TheVariants as p
+
+-- a number in two bytes, where there is one (DONL)
+abbrev pub donl_of : Bool → List ℕ → Option ℕ
+donl_of true (d ∷ e ∷ bytes) = Some (d * 256 + e)
+donl_of numbered bytes = None
+
+-- what stands behind it
+abbrev pub behind_donl : Bool → List ℕ → List ℕ
+behind_donl numbered bytes = if numbered then drop 2 bytes else bytes
+
+-- a single NAL unit packet: DONL behind the header, and then the rest (4.4.1)
+abbrev pub shown_single : Bool → ℕ → List ℕ → H265Payload
+shown_single numbered header rest = p.H265SingleNALUnitPacket (record {
+  header = header;
+  donl = donl_of numbered rest;
+  payload = behind_donl numbered rest;
+  has_donl = numbered;
+})
+
+-- a fragmentation unit: the byte behind the header, DONL behind that where it starts a unit, and
+-- then the data (4.4.3)
+abbrev pub shown_fragment : Bool → ℕ → List ℕ → H265Payload
+shown_fragment numbered header [] = p.H265SingleNALUnitPacket empty_single
+shown_fragment numbered header (fu ∷ rest) = p.H265FragmentationUnitPacket (record {
+  header = header;
+  fu_header = fu;
+  donl = donl_of (numbered && is_set fu 7) rest;
+  payload = behind_donl (numbered && is_set fu 7) rest;
+  has_donl = numbered;
+})
+
+-- units that each stand behind the difference of their number (DOND) and their length (4.4.2)
+abbrev pub apart_within : ℕ → List ℕ → List OtherUnit
+apart_within zero bytes = []
+apart_within (suc most) (difference ∷ high ∷ low ∷ bytes) =
+    if nat_le (high * 256 + low) (length bytes)
+    then (record { dond = Some difference; nal_unit = take (high * 256 + low) bytes }) ∷
+    apart_within most (drop (high * 256 + low) bytes)
+    else []
+apart_within (suc most) bytes = []
+
+-- a unit that stands behind its length alone
+abbrev pub without_dond : List ℕ → OtherUnit
+without_dond unit = record { dond = None; nal_unit = unit }
+
+-- the units of an aggregate behind the first, up to one that is not whole
+abbrev pub others_of : Bool → List ℕ → List OtherUnit
+others_of false bytes = map without_dond (pieces_of bytes).whole
+others_of true bytes = apart_within (length bytes) bytes
+
+-- the units of an aggregate behind DONL: the first behind its length, and the others
+abbrev pub aggregate_behind : Bool → Option ℕ → List ℕ → AggregationPacket
+aggregate_behind numbered donl (high ∷ low ∷ bytes) = record {
+  first = Some (record { donl = donl; nal_unit = take (high * 256 + low) bytes });
+  others = others_of numbered (drop (high * 256 + low) bytes);
+  has_donl = numbered;
+}
+aggregate_behind numbered donl bytes = record { first = None; others = []; has_donl = numbered }
+
+-- an aggregation packet: DONL behind the header, and then the units (4.4.2)
+abbrev pub aggregate_shown : Bool → List ℕ → AggregationPacket
+aggregate_shown numbered rest = aggregate_behind numbered (donl_of numbered rest)
+    (behind_donl numbered rest)
+
+-- a PACI packet: its fields word behind the header, the extension that this word counts, and then
+-- the payload (4.4.4)
+abbrev pub shown_paci : ℕ → List ℕ → H265Payload
+shown_paci header (a ∷ b ∷ rest) = p.H265PACIPacket (record {
+  header = header;
+  fields = a * 256 + b;
+  phes = take (field (a * 256 + b) 8 4) rest;
+  payload = drop (field (a * 256 + b) 8 4) rest;
+})
+shown_paci header rest = p.H265SingleNALUnitPacket empty_single
+
+-- an accepted packet, by its type
+abbrev pub shown : Bool → List ℕ → H265Payload
+shown numbered (high ∷ low ∷ rest) =
+    if type_of high == 48 then p.H265AggregationPacket (aggregate_shown numbered rest)
+    else if type_of high == 49 then shown_fragment numbered (high * 256 + low) rest
+    else if type_of high == 50 then shown_paci (high * 256 + low) rest
+    else shown_single numbered (high * 256 + low) rest
+shown numbered packet = p.H265SingleNALUnitPacket empty_single
+
+-- the units that an aggregate shows; none of another packet
+abbrev pub units_of_aggregate : H265Payload → List (List ℕ)
+units_of_aggregate (p.H265AggregationPacket packet) = units_shown packet
+units_of_aggregate payload = []
