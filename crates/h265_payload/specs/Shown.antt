@@ -4,7 +4,7 @@ use Rattle.std.specs.Prelude.{ℕ, zero, suc, ◌+◌, ◌*◌, nat_le, Bool, tr
 use Rattle.h26x_core.specs.Word.{field, is_set}
 use Rattle.h26x_core.specs.H265Unit.{type_of}
 use Rattle.h26x_core.specs.Pieces.{pieces_of}
-use Rattle.h265_payload.specs.Payload.{FirstUnit, OtherUnit, AggregationPacket, units_shown, empty_single}
+use Rattle.h265_payload.specs.Payload.{OtherUnit, AggregationPacket, units_shown, empty_single}
 use Rattle.h265_payload.specs.declared.payload.H265Payload.{H265Payload}
 use Rattle.h265_payload.specs.declared.payload.H265Payload.TheVariants as p
 

@@ -6,6 +6,7 @@
 //! ```
 #![tactic(auto)]
 
+mod aggregate;
 mod cases;
 pub mod laws;
 mod packetizer;

@@ -15,13 +15,24 @@ use Rattle.h26x_core.specs.Receiver.{Work, work_after}
 use Rattle.h26x_core.specs.Pieces.{Pieces, with_piece}
 use Rattle.h26x_core.proofs.ReceiverLemmas.{with_run, after_one}
 
--- a long unit without the property is passed over
+-- a long unit is the first that is looked at
+first_kept : (long : List ℕ → Bool) (unit : List ℕ) (pieces behind : Pieces) → pieces ≡ with_piece unit behind → long unit ≡ true →
+    take_while long pieces.whole ≡ unit ∷ take_while long behind.whole
+first_kept long unit pieces behind same is = ap (λ (p : Pieces). take_while long p.whole) same ∙ take_while-cons long unit behind.whole ∙ rw is refl
+
+-- one without the property is passed over
 pub passed_over : (has long : List ℕ → Bool) (unit : List ℕ) (pieces behind : Pieces) (answer : Bool) → pieces ≡ with_piece unit behind → long unit ≡ true → has unit ≡ false →
     list_any has (take_while long pieces.whole) ≡ answer → list_any has (take_while long behind.whole) ≡ answer
 passed_over has long unit pieces behind answer same is other h =
-    let kept : take_while long (unit ∷ behind.whole) ≡ unit ∷ take_while long behind.whole = take_while-cons long unit behind.whole ∙ rw is refl in
     let passed : list_any has (unit ∷ take_while long behind.whole) ≡ list_any has (take_while long behind.whole) = rw other refl in
-    sym (ap (list_any has) kept ∙ passed) ∙ sym (ap (λ (p : Pieces). list_any has (take_while long p.whole)) same) ∙ h
+    sym (ap (list_any has) (first_kept long unit pieces behind same is) ∙ passed) ∙ h
+
+-- one with it is found
+pub found_first : (has long : List ℕ → Bool) (unit : List ℕ) (pieces behind : Pieces) (answer : Bool) → pieces ≡ with_piece unit behind → long unit ≡ true → has unit ≡ true →
+    list_any has (take_while long pieces.whole) ≡ answer → true ≡ answer
+found_first has long unit pieces behind answer same is this h =
+    let found : list_any has (unit ∷ take_while long behind.whole) ≡ true = rw this refl in
+    sym (ap (list_any has) (first_kept long unit pieces behind same is) ∙ found) ∙ h
 
 -- an aggregate none of whose units is too long is accepted, or memory lacks
 pub aggregate_outcome : (avc : Bool) (run : Option (List ℕ)) (reading : Reading) (pairs : List (List ℕ × Option ℕ)) (units : List (List ℕ)) (outcome : Result (Unit {0}) PacketError) →

@@ -1,0 +1,74 @@
+//! The units of an aggregation packet, as slices of it (RFC 7798, 4.4.2).
+
+ghost use Rattle.std.specs.Prelude.{◌≡◌, ◌<◌, ◌∷◌, [], true, false, length, None, IfSome};
+ghost use Rattle.h265_payload.specs.Shown.{others_of};
+
+use h26x_core::first_piece;
+
+/// A unit behind its length, and with decoding order numbers behind DOND too.
+#[derive(Clone, Copy)]
+pub struct Other<'a> {
+    /// The difference of its number from the one before, less 1.
+    pub dond: Option<u8>,
+    /// The unit.
+    pub unit: &'a [u8],
+    /// What stands behind it.
+    pub behind: &'a [u8],
+}
+
+/// The first of units that each stand behind DOND and their length.
+fn first_apart(bytes: &[u8]) -> Option<Other<'_>>
+    ensures first { IfSome result (λ it. others_of true bytes.now ≡
+        (record { dond = it.dond; nal_unit = it.unit.now }) ∷ others_of true it.behind.now) }
+    ensures short { IfSome result (λ it. length it.unit.now < 65536) }
+    ensures less { IfSome result (λ it. length it.behind.now < length bytes.now) }
+    ensures none { result ≡ None → others_of true bytes.now ≡ [] }
+{
+    if bytes.len() < 3 {
+        return None;
+    }
+    match first_piece(&bytes[1..]) {
+        Ok((unit, behind)) => Some(Other {
+            dond: Some(bytes[0]),
+            unit,
+            behind,
+        }),
+        Err(_) => None,
+    }
+}
+
+/// The first of units that each stand behind their length alone.
+fn first_behind(bytes: &[u8]) -> Option<Other<'_>>
+    ensures first { IfSome result (λ it. others_of false bytes.now ≡
+        (record { dond = it.dond; nal_unit = it.unit.now }) ∷ others_of false it.behind.now) }
+    ensures short { IfSome result (λ it. length it.unit.now < 65536) }
+    ensures less { IfSome result (λ it. length it.behind.now < length bytes.now) }
+    ensures none { result ≡ None → others_of false bytes.now ≡ [] }
+{
+    if bytes.len() < 2 {
+        return None;
+    }
+    match first_piece(bytes) {
+        Ok((unit, behind)) => Some(Other {
+            dond: None,
+            unit,
+            behind,
+        }),
+        Err(_) => None,
+    }
+}
+
+/// The first unit of these bytes.
+pub fn first_other(is_numbered: bool, bytes: &[u8]) -> Option<Other<'_>>
+    ensures first { IfSome result (λ it. others_of is_numbered bytes.now ≡
+        (record { dond = it.dond; nal_unit = it.unit.now }) ∷ others_of is_numbered it.behind.now) }
+    ensures short { IfSome result (λ it. length it.unit.now < 65536) }
+    ensures less { IfSome result (λ it. length it.behind.now < length bytes.now) }
+    ensures none { result ≡ None → others_of is_numbered bytes.now ≡ [] }
+{
+    if is_numbered {
+        first_apart(bytes)
+    } else {
+        first_behind(bytes)
+    }
+}
