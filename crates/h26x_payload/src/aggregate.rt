@@ -10,7 +10,7 @@ ghost use Rattle.h26x_payload.specs.Run.{written_len};
 
 use crate::codec::Codec;
 use crate::extra::told;
-use crate::text::write_unit;
+use crate::text::{LEAD_SIZE, write_unit};
 use h26x_core::{CodecExtra, PacketError, first_piece};
 
 /// A codec's aggregates: how units stand behind each other.
@@ -23,6 +23,19 @@ pub trait Aggregate: Codec {
             units self it.1.now) }
         ensures less { IfSome result (λ it. length it.1.now < length bytes.now) }
         ensures none { result ≡ None → units self bytes.now ≡ [] };
+}
+
+/// How many bytes the units of an aggregate take where they are written, at most `usize::MAX`.
+pub fn written_size<A: Aggregate>(codec: A, bytes: &[u8]) -> usize
+    ensures { result ≡ min (written_len (A.units codec bytes.now)) (2 ^ 64 - 1) }
+{
+    let mut size: usize = 0;
+    let mut rest = bytes;
+    while let Some((unit, behind)) = codec.first_unit(rest) {
+        size = size.saturating_add(unit.len().saturating_add(LEAD_SIZE));
+        rest = behind;
+    }
+    size
 }
 
 /// Appends the units of an aggregate, which take so many bytes, and tells of them.
