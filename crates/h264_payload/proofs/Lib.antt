@@ -3,4 +3,3 @@ pub mod SetLemmas
 pub mod ReadBackLemmas
 pub mod FactLemmas
 pub mod ReadingLemmas
-pub mod StapLemmas

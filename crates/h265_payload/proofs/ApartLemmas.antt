@@ -7,7 +7,7 @@ use Rattle.h265_payload.specs.Payload.{OtherUnit}
 use Rattle.h265_payload.specs.Shown.{apart_within, others_of}
 
 -- allowing more units than there are bytes changes nothing
-apart_enough : (m k : ℕ) (bytes : List ℕ) → length bytes ≤ m → length bytes ≤ k → apart_within m bytes ≡ apart_within k bytes
+pub apart_enough : (m k : ℕ) (bytes : List ℕ) → length bytes ≤ m → length bytes ≤ k → apart_within m bytes ≡ apart_within k bytes
 apart_enough zero zero bytes a b = refl
 apart_enough zero (suc k) [] a b = refl
 apart_enough zero (suc k) (x ∷ bytes) a b = absurd (omega arith)

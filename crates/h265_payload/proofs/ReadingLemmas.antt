@@ -17,7 +17,7 @@ use Rattle.h265_payload.proofs.HeaderLemmas.{two, some_fragment, numbered_start}
 use Rattle.h265_payload.proofs.FurtherLemmas.{only_further}
 
 -- a packet with F clear and type 48 is read as an aggregate
-read_aggregate : (numbered : Bool) (packet : List ℕ) (high low : ℕ) (rest : List ℕ) → IsWhole packet high low rest → type_of high ≡ 48 →
+pub read_aggregate : (numbered : Bool) (packet : List ℕ) (high low : ℕ) (rest : List ℕ) → IsWhole packet high low rest → type_of high ≡ 48 →
     read numbered packet ≡ aggregate_of numbered rest
 read_aggregate numbered packet high low rest w t = ap (read numbered) w.whole ∙ aggregate_read numbered (two numbered) high low rest w.some w.clear t
 
@@ -27,7 +27,7 @@ read_fragment : (numbered : Bool) (packet : List ℕ) (high low b : ℕ) (rest :
 read_fragment numbered packet high low b rest w t = rw (w.whole, w.clear, t) refl
 
 -- one of type 50 as a PACI
-read_paci : (numbered : Bool) (packet : List ℕ) (high low : ℕ) (rest : List ℕ) → IsWhole packet high low rest → type_of high ≡ 50 →
+pub read_paci : (numbered : Bool) (packet : List ℕ) (high low : ℕ) (rest : List ℕ) → IsWhole packet high low rest → type_of high ≡ 50 →
     read numbered packet ≡ paci_of high low rest
 read_paci numbered packet high low [] w t = let s = w.some in absurd (omega arith)
 read_paci numbered packet high low (b ∷ rest) w t = rw (w.whole, w.clear, t) refl
@@ -45,13 +45,13 @@ read_single numbered packet high low rest w t =
     ap (read numbered) w.whole ∙ own_read numbered (two numbered) high low rest w.some w.clear u.0 u.1 ∙ rw u.2 refl
 
 -- two units or more are an aggregate, and fewer are too short
-two_read : (units : List (List ℕ × Option ℕ)) → 2 ≤ length units → two_or_more units ≡ Aggregate units
+pub two_read : (units : List (List ℕ × Option ℕ)) → 2 ≤ length units → two_or_more units ≡ Aggregate units
 two_read [] two = absurd (omega arith)
 two_read (first ∷ []) two = absurd (omega arith)
 two_read (first ∷ second ∷ units) two = refl
 
 -- one unit alone is too short
-one_read : (units : List (List ℕ × Option ℕ)) → length units ≤ 1 → two_or_more units ≡ Refused ErrShortPacket
+pub one_read : (units : List (List ℕ × Option ℕ)) → length units ≤ 1 → two_or_more units ≡ Refused ErrShortPacket
 one_read [] one = refl
 one_read (first ∷ []) one = refl
 one_read (first ∷ second ∷ units) one = absurd (omega arith)

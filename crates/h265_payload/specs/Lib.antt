@@ -3,3 +3,4 @@ pub mod Reading
 pub mod CodecFacts
 pub mod Payload
 pub mod Shown
+pub mod Packet

@@ -95,3 +95,8 @@ shown numbered packet = p.H265SingleNALUnitPacket empty_single
 abbrev pub units_of_aggregate : H265Payload → List (List ℕ)
 units_of_aggregate (p.H265AggregationPacket packet) = units_shown packet
 units_of_aggregate payload = []
+
+-- the units of an aggregate: the first behind DONL's second byte, as the others stand behind DOND,
+-- where packets bear numbers
+abbrev pub units_in : Bool → List ℕ → List (List ℕ)
+units_in numbered bytes = map (λ other. other.nal_unit) (others_of numbered bytes)

@@ -1,9 +1,12 @@
 //! The units of an aggregation packet, as slices of it (RFC 7798, 4.4.2).
 
-ghost use Rattle.std.specs.Prelude.{◌≡◌, ◌<◌, ◌∷◌, [], true, false, length, None, IfSome};
-ghost use Rattle.h265_payload.specs.Shown.{others_of};
+ghost use Rattle.std.specs.Prelude.{◌≡◌, ◌-◌, ◌^◌, ◌<◌, ◌≤◌, ◌∷◌, [], true, false, min, length, None, IfSome, IfOk, IfErr};
+ghost use Rattle.h26x_payload.specs.Run.{written_len};
+ghost use Rattle.h265_payload.specs.Shown.{others_of, units_in};
 
-use h26x_core::first_piece;
+use crate::packetizer::H265;
+use h26x_core::{PacketError, first_piece};
+use h26x_payload::{Aggregate, written_size};
 
 /// A unit behind its length, and with decoding order numbers behind DOND too.
 #[derive(Clone, Copy)]
@@ -71,4 +74,40 @@ pub fn first_other(is_numbered: bool, bytes: &[u8]) -> Option<Other<'_>>
     } else {
         first_behind(bytes)
     }
+}
+
+impl Aggregate for H265 {
+    ghost use Rattle.h265_payload.specs.Shown.{units_in};
+
+    // Of an aggregate with numbers, the bytes from DONL's second on, which stands where the others
+    // have DOND.
+    ghost units = { λ codec. units_in codec.numbered };
+
+    fn first_unit(self, bytes: &[u8]) -> Option<(&[u8], &[u8])> {
+        match first_other(self.numbered, bytes) {
+            Some(it) => Some((it.unit, it.behind)),
+            None => None,
+        }
+    }
+}
+
+/// How many bytes the units of an aggregate take where they are written, at most `usize::MAX`;
+/// fewer than two are refused.
+pub fn check_aggregate(is_numbered: bool, bytes: &[u8]) -> Result<usize, PacketError>
+    ensures whole { IfOk result (λ len. 2 ≤ length (others_of is_numbered bytes.now)) }
+    ensures len { IfOk result (λ len. len ≡ min (written_len (units_in is_numbered bytes.now))
+        (2 ^ 64 - 1)) }
+    ensures short { IfErr result (λ e. length (others_of is_numbered bytes.now) < 2) }
+    ensures error { IfErr result (λ e. e ≡ PacketError.ErrShortPacket) }
+{
+    let Some(first) = first_other(is_numbered, bytes) else {
+        return Err(PacketError::ErrShortPacket);
+    };
+    if first_other(is_numbered, first.behind).is_none() {
+        return Err(PacketError::ErrShortPacket);
+    }
+    let codec = H265 {
+        numbered: is_numbered,
+    };
+    Ok(written_size(codec, bytes))
 }

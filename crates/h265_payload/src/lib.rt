@@ -8,7 +8,9 @@
 
 mod aggregate;
 mod cases;
+mod header;
 pub mod laws;
+mod packet;
 mod packetizer;
 mod payload;
 

@@ -6,6 +6,7 @@ ghost use Rattle.h26x_core.specs.Word.{field};
 ghost use Rattle.h26x_core.specs.H265Unit.{type_of};
 ghost use Rattle.h265_payload.specs.H265.{with_type_and_f};
 
+use crate::header::high_byte;
 use h26x_core::{CodecExtra, H265CodecExtra, H265FragmentationUnitHeader, H265NALUHeader};
 use h26x_cut::{UnitSlices, ZeroRule};
 use h26x_payload::{Codec, NumberedCodec, PayloadPacketizer, Sets, UnitKind};
@@ -32,7 +33,7 @@ const FRAGMENT_TYPE: u8 = 49;
 /// H.265, and whether packets bear decoding order numbers.
 #[derive(Debug, Clone, Copy)]
 pub struct H265 {
-    numbered: bool,
+    pub(crate) numbered: bool,
 }
 
 /// Sends the NAL units of payloads (RFC 7798).
@@ -64,12 +65,12 @@ fn header_of(unit: &[u8]) -> H265NALUHeader
     H265NALUHeader::new(unit[0], unit[1])
 }
 
-/// The first byte of a header with another type: F and the layer's highest bit are kept.
+/// The first byte of this unit's header with another type: F and the layer's highest bit are kept.
 fn with_type(high: u8, nalu_type: u8) -> u8
     requires { nalu_type < 64 }
     ensures { result ≡ with_type_and_f high nalu_type }
 {
-    (high >> 7) * 128 + nalu_type * 2 + (high & 1)
+    high_byte(high >> 7, nalu_type, high)
 }
 
 impl Codec for H265 {

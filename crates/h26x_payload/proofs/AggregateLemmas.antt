@@ -7,7 +7,7 @@ use Rattle.h26x_core.specs.declared.error.PacketError.{PacketError}
 use Rattle.h26x_core.specs.declared.error.PacketError.TheVariants.{OutOfMemory}
 use Rattle.h26x_core.specs.declared.extra.CodecExtra.{CodecExtra}
 use Rattle.h26x_core.specs.Text.{text}
-use Rattle.h26x_core.specs.Reading.{Reading, Aggregate}
+use Rattle.h26x_core.specs.Reading.{Reading, Aggregate, unnumbered}
 use Rattle.h26x_core.specs.Received.{units_with}
 use Rattle.h26x_core.specs.Extra.{extra_after}
 use Rattle.h26x_core.specs.Outcome.{is_too_long, IsOutcomeWith}
@@ -50,3 +50,8 @@ aggregate_taken w packet pairs units (Ok v) out extra is same written told =
     after_one w packet w.receiver.run out extra (rw is refl)
     (written ∙ ap (λ (us : List (List ℕ)). w.out ++ text w.receiver.is_avc us) brings)
     (told ∙ ap (extra_after w.receiver.format w.extra) brings)
+
+-- numbers put beside units and left out again
+pub units_only : (units : List (List ℕ)) → map (λ (u : List ℕ × Option ℕ). u.0) (map unnumbered units) ≡ units
+units_only [] = refl
+units_only (unit ∷ units) = ap (λ (x : List (List ℕ)). unit ∷ x) (units_only units)

@@ -4,11 +4,10 @@ use Rattle.std.proofs.lemmas.Bool.{and_right}
 use Rattle.h26x_core.specs.Text.{text}
 use Rattle.h26x_core.specs.Reading.{Aggregate, unnumbered}
 use Rattle.h26x_core.specs.Outcome.{is_too_long}
-use Rattle.h26x_payload.proofs.AggregateLemmas.{aggregate_outcome, aggregate_taken}
+use Rattle.h26x_payload.proofs.AggregateLemmas.{aggregate_outcome, aggregate_taken, units_only}
 use Rattle.h264_payload.specs.H264.{h264, stap_units}
 use Rattle.h264_payload.specs.Packet.{reading_of}
 use Rattle.h264_payload.specs.Depacketizer.{work}
-use Rattle.h264_payload.proofs.StapLemmas.{units_only}
 use Rattle.h264_payload.proofs.depacketizer.H264DepacketizerDepacketizer.depacketize.Goals as goal
 
 -- how the packet is read
