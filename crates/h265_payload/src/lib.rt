@@ -13,6 +13,7 @@ pub mod laws;
 mod packet;
 mod packetizer;
 mod payload;
+mod show;
 
 pub use packetizer::{H265, H265Packetizer};
 pub use payload::{
