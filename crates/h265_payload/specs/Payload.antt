@@ -1,6 +1,9 @@
 -- What an accepted H.265 packet is shown as: its words, and its bytes at their places (RFC 7798,
 -- 4.4). What has DONL was read where packets bear numbers, or was marked so.
-use Rattle.std.specs.Prelude.{ℕ, ◌+◌, ◌*◌, Bool, false, if◌then◌else◌, List, [], ◌∷◌, ◌++◌, map, Option, Some, None}
+use Rattle.std.specs.Prelude.{ℕ, nat_eq, ◌+◌, ◌*◌, Bool, false, if◌then◌else◌, List, [], ◌∷◌, ◌++◌, map, Option, Some, None}
+use Rattle.std.specs.Ordering.{eq_of_both, on}
+use Rattle.std.specs.Option.{option_eq}
+use Rattle.std.specs.Cmp.Lexicographic.{pointwise}
 use Rattle.h26x_core.specs.Word.{is_set}
 
 -- a single NAL unit packet (4.4.1): what stands behind the header and DONL
@@ -89,3 +92,13 @@ tsci_in phes = None
 -- TSCI, which a packet bears where F0 is set and its extension has three bytes or more (4.5)
 abbrev pub tsci_shown : PaciPacket → Option ℕ
 tsci_shown p = if is_set p.fields 3 then tsci_in p.phes else None
+
+-- whether two first units are the same: their numbers and their bytes
+abbrev pub first_eq : FirstUnit → FirstUnit → Bool
+first_eq = eq_of_both (on (λ it. it.donl) (option_eq nat_eq)) (on (λ it. it.nal_unit)
+    (pointwise nat_eq))
+
+-- whether two further units are
+abbrev pub other_eq : OtherUnit → OtherUnit → Bool
+other_eq = eq_of_both (on (λ it. it.dond) (option_eq nat_eq)) (on (λ it. it.nal_unit)
+    (pointwise nat_eq))

@@ -1,11 +1,11 @@
 //! PACI packets (RFC 7798, 4.4.4).
 
-ghost use Rattle.std.specs.Prelude.{◌≡◌, ◌≤◌, length, take, drop};
+ghost use Rattle.std.specs.Prelude.{◌≡◌, ◌≤◌, length, take, drop, IfOk, OnErr, Err};
 ghost use Rattle.std.specs.Option.{option_map};
 ghost use Rattle.h26x_core.specs.Word.{field, is_set};
 ghost use Rattle.h265_payload.specs.Payload.{empty_paci, tsci_shown};
 
-use h26x_core::{H265NALUHeader, H265TSCI};
+use h26x_core::{H265NALUHeader, H265TSCI, PacketError};
 use std::alloc::Global;
 use std::marker::Model;
 
@@ -148,8 +148,47 @@ impl H265PACIPacket {
         }
     }
 
+    /// The same packet again. `OutOfMemory` is its only error.
+    pub fn clone(&self, alloc: Global) -> Result<Self, PacketError>
+        ensures same { IfOk result (λ it. it ≡ self.now) }
+        ensures memory { OnErr result (result ≡ Err PacketError.OutOfMemory) }
+    {
+        Ok(H265PACIPacket {
+            header: self.header,
+            fields: self.fields,
+            bytes: self.bytes.to_vec(alloc)?,
+        })
+    }
+
     /// The buffer of the extension and the payload, to be used again.
     pub(crate) fn into_buffer(self) -> Vec<u8> {
         self.bytes
     }
+}
+
+impl PartialEq for H265PACIPacket {
+    ghost use Rattle.std.specs.Prelude.{nat_eq};
+    ghost use Rattle.std.specs.Ordering.{eq_of_both, on};
+    ghost use Rattle.std.specs.Cmp.Lexicographic.{pointwise};
+    ghost use Rattle.std.specs.Cmp.{partial_equiv_from_equiv};
+    ghost use Rattle.std.specs.Cmp.Rules.{comparing};
+    ghost use Rattle.std.proofs.Common.{rules};
+
+    ghost eq = { eq_of_both (on (λ it. it.header) nat_eq) (eq_of_both (on (λ it. it.fields) nat_eq) (eq_of_both (on (λ it. it.phes) (pointwise nat_eq)) (on (λ it. it.payload) (pointwise nat_eq)))) };
+
+    ghost laws = { partial_equiv_from_equiv (Prim.search (comparing, rules)) };
+
+    fn eq(&self, other: &Self) -> bool {
+        self.header == other.header
+            && self.fields == other.fields
+            && self.phes() == other.phes()
+            && self.payload() == other.payload()
+    }
+}
+
+impl Eq for H265PACIPacket {
+    ghost use Rattle.std.specs.Cmp.Rules.{comparing};
+    ghost use Rattle.std.proofs.Common.{rules};
+
+    ghost laws = { Prim.search (comparing, rules) };
 }
