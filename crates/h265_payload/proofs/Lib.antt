@@ -4,3 +4,4 @@ pub mod FactLemmas
 pub mod FurtherLemmas
 pub mod ReadingLemmas
 pub mod RuleLemmas
+pub mod PaciLemmas

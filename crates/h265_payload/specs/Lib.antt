@@ -2,3 +2,4 @@ pub mod H265
 pub mod Reading
 pub mod CodecFacts
 pub mod Payload
+pub mod Paci

@@ -8,6 +8,7 @@ mod first_unit;
 mod fragmentation;
 mod other_unit;
 mod paci;
+mod paci_packing;
 mod single;
 
 pub use aggregation::H265AggregationPacket;
