@@ -1,5 +1,5 @@
 -- A PACI packet that was packed is read as it was.
-use Rattle.std.proofs.Common.{◌≡◌, ℕ, ◌+◌, ◌*◌, ◌/◌, ◌%◌, ◌<◌, ◌≤◌, Bool, true, false, eqb, List, [], ◌∷◌, length, refl, ap, arith}
+use Rattle.std.proofs.Common.{◌≡◌, ℕ, ◌+◌, ◌*◌, ◌/◌, ◌%◌, ◌<◌, ◌≤◌, Bool, true, false, cond, eqb, List, [], ◌∷◌, length, None, refl, ap, arith}
 use Rattle.std.specs.Prelude.{nat_le}
 use Rattle.std.proofs.lemmas.Bool.Decides.{nat_tests}
 use Rattle.h26x_core.specs.Word.{field, is_set, flag}
@@ -7,6 +7,7 @@ use Rattle.h26x_core.specs.H265Unit.{is_forbidden, type_of}
 use Rattle.h26x_core.specs.Reading.{Paci}
 use Rattle.h265_payload.specs.H265.{with_type, read, paci_head}
 use Rattle.h265_payload.specs.Paci.{paci_fields, paci_packet}
+use Rattle.h265_payload.specs.Payload.{PaciPacket, tsci_in, tsci_shown}
 use Rattle.h265_payload.specs.Reading.{IsPaci}
 use Rattle.h265_payload.proofs.ReadingLemmas.{only_reading}
 
@@ -73,3 +74,14 @@ read_back numbered high low body phes byte some within =
     (IsPaci (with_type high 50) low (paci_fields high phes / 256 % 256) (paci_fields high phes % 256) phes body
     (record { whole = refl; some = omega arith; clear = grind (arith, nat_tests) }) (omega arith) (rw w f.phs_size) some
     (rw w (rw (head_back high low phes byte within) refl)))
+
+-- an extension of fewer than three bytes holds no TSCI
+tsci_within : (phes : List ℕ) → cond (nat_le 3 (length phes)) (tsci_in phes) None ≡ tsci_in phes
+tsci_within [] = refl
+tsci_within (a ∷ []) = refl
+tsci_within (a ∷ b ∷ []) = refl
+tsci_within (a ∷ b ∷ c ∷ phes) = let long : nat_le 3 (length (a ∷ b ∷ c ∷ phes)) ≡ true = grind (arith, nat_tests) in rw long refl
+
+-- TSCI is shown where the extension holds it
+pub tsci_back : (high : ℕ) (p : PaciPacket) → length p.phes ≤ 31 → p.fields ≡ paci_fields high p.phes → tsci_shown p ≡ tsci_in p.phes
+tsci_back high p within same = rw (same, f0_back high p.phes within) (tsci_within p.phes)

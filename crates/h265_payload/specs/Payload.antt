@@ -84,9 +84,13 @@ first_shown (Some unit) = unit.nal_unit ∷ []
 abbrev pub units_shown : AggregationPacket → List (List ℕ)
 units_shown p = first_shown p.first ++ map (λ unit. unit.nal_unit) p.others
 
--- TSCI in an extension's first three bytes: bits 31 to 8 of a word (4.5)
+-- TSCI of three bytes: bits 31 to 8 of a word (4.5)
+abbrev pub tsci_word : ℕ → ℕ → ℕ → ℕ
+tsci_word a b c = a * 16777216 + b * 65536 + c * 256
+
+-- TSCI in an extension's first three bytes
 abbrev pub tsci_in : List ℕ → Option ℕ
-tsci_in (a ∷ b ∷ c ∷ phes) = Some (a * 16777216 + b * 65536 + c * 256)
+tsci_in (a ∷ b ∷ c ∷ phes) = Some (tsci_word a b c)
 tsci_in phes = None
 
 -- TSCI, which a packet bears where F0 is set and its extension has three bytes or more (4.5)

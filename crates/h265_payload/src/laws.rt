@@ -25,6 +25,7 @@ ghost use Rattle.h26x_cut.specs.Cutting.{IsUnit, AreSeparable};
 ghost use Rattle.h265_payload.specs.H265.{h265, read};
 ghost use Rattle.h265_payload.specs.Reading.{IsReading};
 ghost use Rattle.h265_payload.specs.Paci.{paci_fields, paci_packet};
+ghost use Rattle.h265_payload.specs.Payload.{PaciPacket, tsci_word, tsci_in, tsci_shown};
 
 /// A packet has one reading, and `read` finds it.
 pub fn one_reading()
@@ -138,4 +139,16 @@ pub fn paci_is_read_back()
         is_set (paci_fields high phes) 3 ≡ nat_le 3 (length phes) }
     ensures others { (high : ℕ) (phes : List ℕ) → length phes ≤ 31 →
         field (paci_fields high phes) 2 0 ≡ 0 }
+{}
+
+/// Of a packet with such fields TSCI is shown where its extension has three bytes or more (RFC
+/// 7798, 4.5): TL0PICIDX is the first of them, IrapPicID the second, and S, E and RES are the third.
+pub fn tsci_is_read_back()
+    ensures tsci { (high : ℕ) (p : PaciPacket) → length p.phes ≤ 31 →
+        p.fields ≡ paci_fields high p.phes → tsci_shown p ≡ tsci_in p.phes }
+    ensures tl0picidx { (a b c : ℕ) → a < 256 → b < 256 → c < 256 →
+        field (tsci_word a b c) 31 24 ≡ a }
+    ensures irap_pic_id { (a b c : ℕ) → b < 256 → c < 256 → field (tsci_word a b c) 23 16 ≡ b }
+    ensures third { (a b c : ℕ) → c < 256 → field (tsci_word a b c) 15 8 ≡ c }
+    ensures low { (a b c : ℕ) → field (tsci_word a b c) 7 0 ≡ 0 }
 {}

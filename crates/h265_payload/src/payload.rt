@@ -4,6 +4,7 @@ ghost use Rattle.std.specs.Prelude.{◌≡◌, IfOk, OnErr, Err};
 ghost use Rattle.h265_payload.specs.Payload.{empty_single};
 
 mod aggregation;
+mod cases;
 mod first_unit;
 mod fragmentation;
 mod other_unit;
@@ -72,3 +73,6 @@ impl H265Payload {
         }
     }
 }
+
+#[cfg(test)]
+mod tests;
