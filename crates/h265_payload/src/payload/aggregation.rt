@@ -134,16 +134,12 @@ impl H265AggregationPacket {
 }
 
 impl PartialEq for H265AggregationPacket {
-    ghost use Rattle.std.specs.Bool.{beq};
-    ghost use Rattle.std.specs.Ordering.{eq_of_both, on};
-    ghost use Rattle.std.specs.Option.{option_eq};
-    ghost use Rattle.std.specs.Cmp.Lexicographic.{pointwise};
-    ghost use Rattle.h265_payload.specs.Payload.{first_eq, other_eq};
+    ghost use Rattle.h265_payload.specs.Payload.{aggregation_eq};
     ghost use Rattle.std.specs.Cmp.{partial_equiv_from_equiv};
     ghost use Rattle.std.specs.Cmp.Rules.{comparing};
     ghost use Rattle.std.proofs.Common.{rules};
 
-    ghost eq = { eq_of_both (on (λ it. it.first) (option_eq first_eq)) (eq_of_both (on (λ it. it.others) (pointwise other_eq)) (on (λ it. it.has_donl) beq)) };
+    ghost eq = { aggregation_eq };
 
     ghost laws = { partial_equiv_from_equiv (Prim.search (comparing, rules) depth 9) };
 

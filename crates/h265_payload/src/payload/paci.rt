@@ -206,14 +206,12 @@ impl H265PACIPacket {
 }
 
 impl PartialEq for H265PACIPacket {
-    ghost use Rattle.std.specs.Prelude.{nat_eq};
-    ghost use Rattle.std.specs.Ordering.{eq_of_both, on};
-    ghost use Rattle.std.specs.Cmp.Lexicographic.{pointwise};
+    ghost use Rattle.h265_payload.specs.Payload.{paci_eq};
     ghost use Rattle.std.specs.Cmp.{partial_equiv_from_equiv};
     ghost use Rattle.std.specs.Cmp.Rules.{comparing};
     ghost use Rattle.std.proofs.Common.{rules};
 
-    ghost eq = { eq_of_both (on (λ it. it.header) nat_eq) (eq_of_both (on (λ it. it.fields) nat_eq) (eq_of_both (on (λ it. it.phes) (pointwise nat_eq)) (on (λ it. it.payload) (pointwise nat_eq)))) };
+    ghost eq = { paci_eq };
 
     ghost laws = { partial_equiv_from_equiv (Prim.search (comparing, rules)) };
 

@@ -115,16 +115,12 @@ impl H265SingleNALUnitPacket {
 }
 
 impl PartialEq for H265SingleNALUnitPacket {
-    ghost use Rattle.std.specs.Prelude.{nat_eq};
-    ghost use Rattle.std.specs.Bool.{beq};
-    ghost use Rattle.std.specs.Ordering.{eq_of_both, on};
-    ghost use Rattle.std.specs.Option.{option_eq};
-    ghost use Rattle.std.specs.Cmp.Lexicographic.{pointwise};
+    ghost use Rattle.h265_payload.specs.Payload.{single_eq};
     ghost use Rattle.std.specs.Cmp.{partial_equiv_from_equiv};
     ghost use Rattle.std.specs.Cmp.Rules.{comparing};
     ghost use Rattle.std.proofs.Common.{rules};
 
-    ghost eq = { eq_of_both (on (λ it. it.header) nat_eq) (eq_of_both (on (λ it. it.donl) (option_eq nat_eq)) (eq_of_both (on (λ it. it.payload) (pointwise nat_eq)) (on (λ it. it.has_donl) beq))) };
+    ghost eq = { single_eq };
 
     ghost laws = { partial_equiv_from_equiv (Prim.search (comparing, rules)) };
 
