@@ -6,3 +6,4 @@ pub mod ReadingLemmas
 pub mod RuleLemmas
 pub mod ApartLemmas
 pub mod AggregateLemmas
+pub mod PaciLemmas

@@ -4,3 +4,4 @@ pub mod CodecFacts
 pub mod Payload
 pub mod Shown
 pub mod Packet
+pub mod Paci

@@ -1,6 +1,10 @@
 -- What an accepted H.265 packet is shown as: its words, and its bytes at their places (RFC 7798,
 -- 4.4). What has DONL was read where packets bear numbers, or was marked so.
-use Rattle.std.specs.Prelude.{ℕ, ◌+◌, ◌*◌, Bool, false, if◌then◌else◌, List, [], ◌∷◌, ◌++◌, map, Option, Some, None}
+use Rattle.std.specs.Prelude.{ℕ, nat_eq, ◌+◌, ◌*◌, Bool, false, if◌then◌else◌, List, [], ◌∷◌, ◌++◌, map, Option, Some, None}
+use Rattle.std.specs.Bool.{beq}
+use Rattle.std.specs.Ordering.{eq_of_both, on}
+use Rattle.std.specs.Option.{option_eq}
+use Rattle.std.specs.Cmp.Lexicographic.{pointwise}
 use Rattle.h26x_core.specs.Word.{is_set}
 
 -- a single NAL unit packet (4.4.1): what stands behind the header and DONL
@@ -81,11 +85,49 @@ first_shown (Some unit) = unit.nal_unit ∷ []
 abbrev pub units_shown : AggregationPacket → List (List ℕ)
 units_shown p = first_shown p.first ++ map (λ unit. unit.nal_unit) p.others
 
--- TSCI in an extension's first three bytes: bits 31 to 8 of a word (4.5)
+-- TSCI of three bytes: bits 31 to 8 of a word (4.5)
+abbrev pub tsci_word : ℕ → ℕ → ℕ → ℕ
+tsci_word a b c = a * 16777216 + b * 65536 + c * 256
+
+-- TSCI in an extension's first three bytes
 abbrev pub tsci_in : List ℕ → Option ℕ
-tsci_in (a ∷ b ∷ c ∷ phes) = Some (a * 16777216 + b * 65536 + c * 256)
+tsci_in (a ∷ b ∷ c ∷ phes) = Some (tsci_word a b c)
 tsci_in phes = None
 
 -- TSCI, which a packet bears where F0 is set and its extension has three bytes or more (4.5)
 abbrev pub tsci_shown : PaciPacket → Option ℕ
 tsci_shown p = if is_set p.fields 3 then tsci_in p.phes else None
+
+-- Equality: packets are equal where all that they show is, and their marks are.
+
+-- of single NAL unit packets
+abbrev pub single_eq : SinglePacket → SinglePacket → Bool
+single_eq = eq_of_both (on (λ it. it.header) nat_eq) (eq_of_both (on (λ it. it.donl)
+    (option_eq nat_eq)) (eq_of_both (on (λ it. it.payload) (pointwise nat_eq)) (on
+    (λ it. it.has_donl) beq)))
+
+-- of fragmentation units
+abbrev pub fragmentation_eq : FragmentationPacket → FragmentationPacket → Bool
+fragmentation_eq = eq_of_both (on (λ it. it.header) nat_eq) (eq_of_both (on (λ it. it.fu_header)
+    nat_eq) (eq_of_both (on (λ it. it.donl) (option_eq nat_eq)) (eq_of_both (on (λ it. it.payload)
+    (pointwise nat_eq)) (on (λ it. it.has_donl) beq))))
+
+-- of first units
+abbrev pub first_eq : FirstUnit → FirstUnit → Bool
+first_eq = eq_of_both (on (λ it. it.donl) (option_eq nat_eq)) (on (λ it. it.nal_unit)
+    (pointwise nat_eq))
+
+-- of further units
+abbrev pub other_eq : OtherUnit → OtherUnit → Bool
+other_eq = eq_of_both (on (λ it. it.dond) (option_eq nat_eq)) (on (λ it. it.nal_unit)
+    (pointwise nat_eq))
+
+-- of aggregation packets
+abbrev pub aggregation_eq : AggregationPacket → AggregationPacket → Bool
+aggregation_eq = eq_of_both (on (λ it. it.first) (option_eq first_eq)) (eq_of_both (on
+    (λ it. it.others) (pointwise other_eq)) (on (λ it. it.has_donl) beq))
+
+-- of PACI packets
+abbrev pub paci_eq : PaciPacket → PaciPacket → Bool
+paci_eq = eq_of_both (on (λ it. it.header) nat_eq) (eq_of_both (on (λ it. it.fields) nat_eq)
+    (eq_of_both (on (λ it. it.phes) (pointwise nat_eq)) (on (λ it. it.payload) (pointwise nat_eq))))

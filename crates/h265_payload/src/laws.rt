@@ -1,10 +1,12 @@
 //! Laws of the H.265 payload format. Each is the contract of a function without a result.
 
-ghost use Rattle.std.specs.Prelude.{◌≡◌, ◌+◌, ◌<◌, ◌≤◌, true, false, ℕ, Bool, List, [], ◌∷◌, length, drop, IsTrue};
+ghost use Rattle.std.specs.Prelude.{◌≡◌, ◌+◌, ◌<◌, ◌≤◌, nat_le, true, false, ℕ, Bool, List, [], ◌∷◌, length, drop, IsTrue};
 ghost use Rattle.std.specs.List.{AllByRecursion};
+ghost use Rattle.h26x_core.specs.Word.{field, is_set};
+ghost use Rattle.h26x_core.specs.H265Unit.{is_forbidden, type_of};
 ghost use Rattle.h26x_core.specs.Mark.{IsMark};
 ghost use Rattle.h26x_core.specs.Text.{is_not_empty, annex_b};
-ghost use Rattle.h26x_core.specs.Reading.{Reading};
+ghost use Rattle.h26x_core.specs.Reading.{Reading, Paci};
 ghost use Rattle.h26x_core.specs.Format.{number_len};
 ghost use Rattle.h26x_core.specs.Calls.{Call, AreCalls, entries_of, packets_of};
 ghost use Rattle.h26x_core.specs.Plan.{Alone, is_dropped, sent};
@@ -22,6 +24,8 @@ ghost use Rattle.h26x_cut.specs.declared.ZeroRule.TheVariants.{All};
 ghost use Rattle.h26x_cut.specs.Cutting.{IsUnit, AreSeparable};
 ghost use Rattle.h265_payload.specs.H265.{h265, read};
 ghost use Rattle.h265_payload.specs.Reading.{IsReading};
+ghost use Rattle.h265_payload.specs.Paci.{paci_fields, paci_packet};
+ghost use Rattle.h265_payload.specs.Payload.{PaciPacket, tsci_word, tsci_in, tsci_shown};
 
 /// A packet has one reading, and `read` finds it.
 pub fn one_reading()
@@ -115,4 +119,36 @@ pub fn sent_again()
         AreSeparable All units →
         packets_of (h265 numbered) 0 (record call { payload = annex_b units } ∷ [])
         ≡ packets_of (h265 numbered) 0 (calls_like call payloads) }
+{}
+
+/// The PACI packet of a unit of three bytes or more, whatever its type and its F, and of an
+/// extension of at most 31 bytes is read as them (RFC 7798, 4.4.4), with and without numbers. Its
+/// fields are those of the unit and the extension.
+pub fn paci_is_read_back()
+    ensures back { (numbered : Bool) (high low : ℕ) (body phes : List ℕ) → high < 256 →
+        1 ≤ length body → length phes ≤ 31 →
+        read numbered (paci_packet (high ∷ low ∷ body) phes)
+        ≡ Paci (high ∷ low ∷ []) (paci_fields high phes) phes body }
+    ensures a { (high : ℕ) (phes : List ℕ) → length phes ≤ 31 →
+        is_set (paci_fields high phes) 15 ≡ is_forbidden high }
+    ensures ctype { (high : ℕ) (phes : List ℕ) → length phes ≤ 31 →
+        field (paci_fields high phes) 14 9 ≡ type_of high }
+    ensures phs_size { (high : ℕ) (phes : List ℕ) → length phes ≤ 31 →
+        field (paci_fields high phes) 8 4 ≡ length phes }
+    ensures f0 { (high : ℕ) (phes : List ℕ) → length phes ≤ 31 →
+        is_set (paci_fields high phes) 3 ≡ nat_le 3 (length phes) }
+    ensures others { (high : ℕ) (phes : List ℕ) → length phes ≤ 31 →
+        field (paci_fields high phes) 2 0 ≡ 0 }
+{}
+
+/// Of a packet with such fields TSCI is shown where its extension has three bytes or more (RFC
+/// 7798, 4.5): TL0PICIDX is the first of them, IrapPicID the second, and S, E and RES are the third.
+pub fn tsci_is_read_back()
+    ensures tsci { (high : ℕ) (p : PaciPacket) → length p.phes ≤ 31 →
+        p.fields ≡ paci_fields high p.phes → tsci_shown p ≡ tsci_in p.phes }
+    ensures tl0picidx { (a b c : ℕ) → a < 256 → b < 256 → c < 256 →
+        field (tsci_word a b c) 31 24 ≡ a }
+    ensures irap_pic_id { (a b c : ℕ) → b < 256 → c < 256 → field (tsci_word a b c) 23 16 ≡ b }
+    ensures third { (a b c : ℕ) → c < 256 → field (tsci_word a b c) 15 8 ≡ c }
+    ensures low { (a b c : ℕ) → field (tsci_word a b c) 7 0 ≡ 0 }
 {}

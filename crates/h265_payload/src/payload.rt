@@ -1,25 +1,28 @@
 //! Packets as a depacketizer shows them (RFC 7798, 4.4).
 
-ghost use Rattle.std.specs.Prelude.{◌≡◌};
+ghost use Rattle.std.specs.Prelude.{◌≡◌, IfOk, OnErr, Err};
 ghost use Rattle.h265_payload.specs.Payload.{empty_single};
 
 mod aggregation;
+mod cases;
 mod first_unit;
 mod fragmentation;
 mod other_unit;
 mod paci;
+mod paci_packing;
 mod single;
 
 pub use aggregation::H265AggregationPacket;
 pub use first_unit::H265AggregationUnitFirst;
 pub use fragmentation::H265FragmentationUnitPacket;
+use h26x_core::PacketError;
 pub use other_unit::H265AggregationUnit;
 pub use paci::H265PACIPacket;
 pub use single::H265SingleNALUnitPacket;
 use std::alloc::Global;
 
 /// A packet that was read.
-#[derive(Debug, Drop)]
+#[derive(Debug, Drop, PartialEq, Eq)]
 pub enum H265Payload {
     /// A single NAL unit packet (RFC 7798, 4.4.1).
     H265SingleNALUnitPacket(H265SingleNALUnitPacket),
@@ -39,6 +42,27 @@ impl H265Payload {
         H265Payload::H265SingleNALUnitPacket(H265SingleNALUnitPacket::empty(alloc))
     }
 
+    /// The same packet again. `OutOfMemory` is its only error.
+    pub fn clone(&self, alloc: Global) -> Result<Self, PacketError>
+        ensures same { IfOk result (λ it. it ≡ self.now) }
+        ensures memory { OnErr result (result ≡ Err PacketError.OutOfMemory) }
+    {
+        Ok(match self {
+            H265Payload::H265SingleNALUnitPacket(packet) => {
+                H265Payload::H265SingleNALUnitPacket(packet.clone(alloc)?)
+            }
+            H265Payload::H265FragmentationUnitPacket(packet) => {
+                H265Payload::H265FragmentationUnitPacket(packet.clone(alloc)?)
+            }
+            H265Payload::H265AggregationPacket(packet) => {
+                H265Payload::H265AggregationPacket(packet.clone(alloc)?)
+            }
+            H265Payload::H265PACIPacket(packet) => {
+                H265Payload::H265PACIPacket(packet.clone(alloc)?)
+            }
+        })
+    }
+
     /// The buffer of the packet's data, to be used again, or of an aggregation packet's first unit.
     pub(crate) fn into_buffer(self) -> Option<Vec<u8>> {
         match self {
@@ -49,3 +73,6 @@ impl H265Payload {
         }
     }
 }
+
+#[cfg(test)]
+mod tests;

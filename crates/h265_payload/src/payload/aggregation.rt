@@ -10,6 +10,21 @@ use h26x_core::PacketError;
 use std::alloc::Global;
 use std::marker::Model;
 
+/// These units again.
+fn clone_units(
+    alloc: Global,
+    units: &[H265AggregationUnit],
+) -> Result<Vec<H265AggregationUnit>, PacketError>
+    ensures same { IfOk result (λ clones. clones.items ≡ units.now) }
+    ensures memory { OnErr result (result ≡ Err PacketError.OutOfMemory) }
+{
+    let mut clones = Vec::with_capacity(alloc, units.len())?;
+    for unit in units {
+        clones.push(unit.clone(alloc)?).unwrap();
+    }
+    Ok(clones)
+}
+
 /// An aggregation packet (RFC 7798, 4.4.2): its first unit, and the others in order.
 #[derive(Debug, Drop)]
 pub struct H265AggregationPacket {
@@ -96,8 +111,46 @@ impl H265AggregationPacket {
         Ok(units)
     }
 
+    /// The same packet again. `OutOfMemory` is its only error.
+    pub fn clone(&self, alloc: Global) -> Result<Self, PacketError>
+        ensures same { IfOk result (λ it. it ≡ self.now) }
+        ensures memory { OnErr result (result ≡ Err PacketError.OutOfMemory) }
+    {
+        let first = match &self.first {
+            Some(unit) => Some(unit.clone(alloc)?),
+            None => None,
+        };
+        Ok(H265AggregationPacket {
+            first,
+            others: clone_units(alloc, &self.others)?,
+            has_donl: self.has_donl,
+        })
+    }
+
     /// The buffer of the first unit, to be used again.
     pub(crate) fn into_buffer(self) -> Option<Vec<u8>> {
         self.first.map(H265AggregationUnitFirst::into_buffer)
     }
+}
+
+impl PartialEq for H265AggregationPacket {
+    ghost use Rattle.h265_payload.specs.Payload.{aggregation_eq};
+    ghost use Rattle.std.specs.Cmp.{partial_equiv_from_equiv};
+    ghost use Rattle.std.specs.Cmp.Rules.{comparing};
+    ghost use Rattle.std.proofs.Common.{rules};
+
+    ghost eq = { aggregation_eq };
+
+    ghost laws = { partial_equiv_from_equiv (Prim.search (comparing, rules) depth 9) };
+
+    fn eq(&self, other: &Self) -> bool {
+        self.first == other.first && self.others == other.others && self.has_donl == other.has_donl
+    }
+}
+
+impl Eq for H265AggregationPacket {
+    ghost use Rattle.std.specs.Cmp.Rules.{comparing};
+    ghost use Rattle.std.proofs.Common.{rules};
+
+    ghost laws = { Prim.search (comparing, rules) depth 9 };
 }

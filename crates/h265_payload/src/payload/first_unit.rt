@@ -1,8 +1,9 @@
 //! The first unit of an aggregation packet (RFC 7798, 4.4.2).
 
-ghost use Rattle.std.specs.Prelude.{◌≡◌, ◌<◌, length};
+ghost use Rattle.std.specs.Prelude.{◌≡◌, ◌<◌, length, IfOk, OnErr, Err};
 ghost use Rattle.h265_payload.specs.Payload.{empty_first};
 
+use h26x_core::PacketError;
 use std::alloc::Global;
 use std::marker::Model;
 
@@ -65,8 +66,41 @@ impl H265AggregationUnitFirst {
         self.nal_unit.as_slice()
     }
 
+    /// The same unit again. `OutOfMemory` is its only error.
+    pub fn clone(&self, alloc: Global) -> Result<Self, PacketError>
+        ensures same { IfOk result (λ it. it ≡ self.now) }
+        ensures memory { OnErr result (result ≡ Err PacketError.OutOfMemory) }
+    {
+        Ok(H265AggregationUnitFirst {
+            donl: self.donl,
+            nal_unit: self.nal_unit.to_vec(alloc)?,
+        })
+    }
+
     /// The buffer of the unit, to be used again.
     pub(crate) fn into_buffer(self) -> Vec<u8> {
         self.nal_unit
     }
+}
+
+impl PartialEq for H265AggregationUnitFirst {
+    ghost use Rattle.h265_payload.specs.Payload.{first_eq};
+    ghost use Rattle.std.specs.Cmp.{partial_equiv_from_equiv};
+    ghost use Rattle.std.specs.Cmp.Rules.{comparing};
+    ghost use Rattle.std.proofs.Common.{rules};
+
+    ghost eq = { first_eq };
+
+    ghost laws = { partial_equiv_from_equiv (Prim.search (comparing, rules)) };
+
+    fn eq(&self, other: &Self) -> bool {
+        self.donl == other.donl && self.nal_unit == other.nal_unit
+    }
+}
+
+impl Eq for H265AggregationUnitFirst {
+    ghost use Rattle.std.specs.Cmp.Rules.{comparing};
+    ghost use Rattle.std.proofs.Common.{rules};
+
+    ghost laws = { Prim.search (comparing, rules) };
 }

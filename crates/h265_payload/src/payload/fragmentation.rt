@@ -1,9 +1,9 @@
 //! Fragmentation units (RFC 7798, 4.4.3).
 
-ghost use Rattle.std.specs.Prelude.{◌≡◌};
+ghost use Rattle.std.specs.Prelude.{◌≡◌, IfOk, OnErr, Err};
 ghost use Rattle.h265_payload.specs.Payload.{empty_fragmentation};
 
-use h26x_core::{H265FragmentationUnitHeader, H265NALUHeader};
+use h26x_core::{H265FragmentationUnitHeader, H265NALUHeader, PacketError};
 use std::alloc::Global;
 use std::marker::Model;
 
@@ -108,8 +108,48 @@ impl H265FragmentationUnitPacket {
         self.payload.as_slice()
     }
 
+    /// The same packet again. `OutOfMemory` is its only error.
+    pub fn clone(&self, alloc: Global) -> Result<Self, PacketError>
+        ensures same { IfOk result (λ it. it ≡ self.now) }
+        ensures memory { OnErr result (result ≡ Err PacketError.OutOfMemory) }
+    {
+        Ok(H265FragmentationUnitPacket {
+            header: self.header,
+            fu_header: self.fu_header,
+            donl: self.donl,
+            payload: self.payload.to_vec(alloc)?,
+            has_donl: self.has_donl,
+        })
+    }
+
     /// The buffer of the data, to be used again.
     pub(crate) fn into_buffer(self) -> Vec<u8> {
         self.payload
     }
+}
+
+impl PartialEq for H265FragmentationUnitPacket {
+    ghost use Rattle.h265_payload.specs.Payload.{fragmentation_eq};
+    ghost use Rattle.std.specs.Cmp.{partial_equiv_from_equiv};
+    ghost use Rattle.std.specs.Cmp.Rules.{comparing};
+    ghost use Rattle.std.proofs.Common.{rules};
+
+    ghost eq = { fragmentation_eq };
+
+    ghost laws = { partial_equiv_from_equiv (Prim.search (comparing, rules) depth 9) };
+
+    fn eq(&self, other: &Self) -> bool {
+        self.header == other.header
+            && self.fu_header == other.fu_header
+            && self.donl == other.donl
+            && self.payload == other.payload
+            && self.has_donl == other.has_donl
+    }
+}
+
+impl Eq for H265FragmentationUnitPacket {
+    ghost use Rattle.std.specs.Cmp.Rules.{comparing};
+    ghost use Rattle.std.proofs.Common.{rules};
+
+    ghost laws = { Prim.search (comparing, rules) depth 9 };
 }

@@ -1,8 +1,9 @@
 //! A unit of an aggregation packet behind the first (RFC 7798, 4.4.2).
 
-ghost use Rattle.std.specs.Prelude.{◌≡◌, ◌<◌, length};
+ghost use Rattle.std.specs.Prelude.{◌≡◌, ◌<◌, length, IfOk, OnErr, Err};
 ghost use Rattle.h265_payload.specs.Payload.{empty_other};
 
+use h26x_core::PacketError;
 use std::alloc::Global;
 use std::marker::Model;
 
@@ -64,4 +65,37 @@ impl H265AggregationUnit {
     {
         self.nal_unit.as_slice()
     }
+
+    /// The same unit again. `OutOfMemory` is its only error.
+    pub fn clone(&self, alloc: Global) -> Result<Self, PacketError>
+        ensures same { IfOk result (λ it. it ≡ self.now) }
+        ensures memory { OnErr result (result ≡ Err PacketError.OutOfMemory) }
+    {
+        Ok(H265AggregationUnit {
+            dond: self.dond,
+            nal_unit: self.nal_unit.to_vec(alloc)?,
+        })
+    }
+}
+
+impl PartialEq for H265AggregationUnit {
+    ghost use Rattle.h265_payload.specs.Payload.{other_eq};
+    ghost use Rattle.std.specs.Cmp.{partial_equiv_from_equiv};
+    ghost use Rattle.std.specs.Cmp.Rules.{comparing};
+    ghost use Rattle.std.proofs.Common.{rules};
+
+    ghost eq = { other_eq };
+
+    ghost laws = { partial_equiv_from_equiv (Prim.search (comparing, rules)) };
+
+    fn eq(&self, other: &Self) -> bool {
+        self.dond == other.dond && self.nal_unit == other.nal_unit
+    }
+}
+
+impl Eq for H265AggregationUnit {
+    ghost use Rattle.std.specs.Cmp.Rules.{comparing};
+    ghost use Rattle.std.proofs.Common.{rules};
+
+    ghost laws = { Prim.search (comparing, rules) };
 }

@@ -1,13 +1,18 @@
 //! PACI packets (RFC 7798, 4.4.4).
 
-ghost use Rattle.std.specs.Prelude.{◌≡◌, ◌≤◌, length, take, drop};
+ghost use Rattle.std.specs.Prelude.{◌≡◌, ◌<◌, ◌≤◌, length, take, drop, IfOk, OnOk, OnErr, Err};
 ghost use Rattle.std.specs.Option.{option_map};
 ghost use Rattle.h26x_core.specs.Word.{field, is_set};
 ghost use Rattle.h265_payload.specs.Payload.{empty_paci, tsci_shown};
+ghost use Rattle.h265_payload.specs.Paci.{paci_packet};
 
-use h26x_core::{H265NALUHeader, H265TSCI};
+use super::paci_packing::packet_of;
+use h26x_core::{H265NALUHeader, H265TSCI, PacketError};
 use std::alloc::Global;
 use std::marker::Model;
+
+/// The most bytes that an extension has, since PHSsize has five bits (RFC 7798, 4.4.4).
+const MAX_PHES_SIZE: usize = 31;
 
 /// A PACI packet (RFC 7798, 4.4.4): its header, the word of its fields, the extension of its
 /// header (PHES), and what stands behind that.
@@ -64,6 +69,40 @@ impl H265PACIPacket {
             fields: 0,
             bytes: Vec::new(alloc),
         }
+    }
+
+    /// The PACI packet of a NAL unit and an extension (RFC 7798, 4.4.4): a header of type 50 with
+    /// the unit's layer and temporal id and F clear; A as the unit's F, cType as its type, PHSsize,
+    /// and F0 set where the extension has three bytes or more, which are then TSCI (4.5); the
+    /// extension; the unit without its header. `buf` then holds the same bytes and nothing else.
+    ///
+    /// The unit has two bytes or more. A refusal leaves `buf`:
+    /// - `ErrH265PACIPHESTooLong`: the extension has over 31 bytes;
+    /// - `OutOfMemory`.
+    pub fn packetize(
+        alloc: Global,
+        inner_nalu: &[u8],
+        phes: &[u8],
+        buf: &mut Vec<u8>,
+    ) -> Result<Vec<u8>, PacketError>
+        requires { 2 ≤ length inner_nalu.now }
+        ensures packed { IfOk result (λ packet. packet.items
+            ≡ paci_packet inner_nalu.now phes.now) }
+        ensures buf { OnOk result (buf.new.items ≡ paci_packet inner_nalu.now phes.now) }
+        ensures too_long { 31 < length phes.now →
+            result ≡ Err PacketError.ErrH265PACIPHESTooLong }
+        ensures memory { length phes.now ≤ 31 →
+            OnErr result (result ≡ Err PacketError.OutOfMemory) }
+        ensures kept { OnErr result (buf.new.items ≡ buf.old.items) }
+    {
+        if phes.len() > MAX_PHES_SIZE {
+            return Err(PacketError::ErrH265PACIPHESTooLong);
+        }
+        let packet = packet_of(alloc, inner_nalu, phes)?;
+        buf.reserve(packet.len().saturating_sub(buf.len()))?;
+        buf.clear();
+        buf.extend_from_slice(&packet).unwrap();
+        Ok(packet)
     }
 
     /// The packet's header, of type 50 in a packet that was read (RFC 7798, 4.4.4).
@@ -148,8 +187,45 @@ impl H265PACIPacket {
         }
     }
 
+    /// The same packet again. `OutOfMemory` is its only error.
+    pub fn clone(&self, alloc: Global) -> Result<Self, PacketError>
+        ensures same { IfOk result (λ it. it ≡ self.now) }
+        ensures memory { OnErr result (result ≡ Err PacketError.OutOfMemory) }
+    {
+        Ok(H265PACIPacket {
+            header: self.header,
+            fields: self.fields,
+            bytes: self.bytes.to_vec(alloc)?,
+        })
+    }
+
     /// The buffer of the extension and the payload, to be used again.
     pub(crate) fn into_buffer(self) -> Vec<u8> {
         self.bytes
     }
+}
+
+impl PartialEq for H265PACIPacket {
+    ghost use Rattle.h265_payload.specs.Payload.{paci_eq};
+    ghost use Rattle.std.specs.Cmp.{partial_equiv_from_equiv};
+    ghost use Rattle.std.specs.Cmp.Rules.{comparing};
+    ghost use Rattle.std.proofs.Common.{rules};
+
+    ghost eq = { paci_eq };
+
+    ghost laws = { partial_equiv_from_equiv (Prim.search (comparing, rules)) };
+
+    fn eq(&self, other: &Self) -> bool {
+        self.header == other.header
+            && self.fields == other.fields
+            && self.phes() == other.phes()
+            && self.payload() == other.payload()
+    }
+}
+
+impl Eq for H265PACIPacket {
+    ghost use Rattle.std.specs.Cmp.Rules.{comparing};
+    ghost use Rattle.std.proofs.Common.{rules};
+
+    ghost laws = { Prim.search (comparing, rules) };
 }

@@ -1,9 +1,9 @@
 //! Single NAL unit packets (RFC 7798, 4.4.1).
 
-ghost use Rattle.std.specs.Prelude.{◌≡◌};
+ghost use Rattle.std.specs.Prelude.{◌≡◌, IfOk, OnErr, Err};
 ghost use Rattle.h265_payload.specs.Payload.{empty_single};
 
-use h26x_core::H265NALUHeader;
+use h26x_core::{H265NALUHeader, PacketError};
 use std::alloc::Global;
 use std::marker::Model;
 
@@ -95,8 +95,46 @@ impl H265SingleNALUnitPacket {
         self.payload.as_slice()
     }
 
+    /// The same packet again. `OutOfMemory` is its only error.
+    pub fn clone(&self, alloc: Global) -> Result<Self, PacketError>
+        ensures same { IfOk result (λ it. it ≡ self.now) }
+        ensures memory { OnErr result (result ≡ Err PacketError.OutOfMemory) }
+    {
+        Ok(H265SingleNALUnitPacket {
+            header: self.header,
+            donl: self.donl,
+            payload: self.payload.to_vec(alloc)?,
+            has_donl: self.has_donl,
+        })
+    }
+
     /// The buffer of the payload, to be used again.
     pub(crate) fn into_buffer(self) -> Vec<u8> {
         self.payload
     }
+}
+
+impl PartialEq for H265SingleNALUnitPacket {
+    ghost use Rattle.h265_payload.specs.Payload.{single_eq};
+    ghost use Rattle.std.specs.Cmp.{partial_equiv_from_equiv};
+    ghost use Rattle.std.specs.Cmp.Rules.{comparing};
+    ghost use Rattle.std.proofs.Common.{rules};
+
+    ghost eq = { single_eq };
+
+    ghost laws = { partial_equiv_from_equiv (Prim.search (comparing, rules)) };
+
+    fn eq(&self, other: &Self) -> bool {
+        self.header == other.header
+            && self.donl == other.donl
+            && self.payload == other.payload
+            && self.has_donl == other.has_donl
+    }
+}
+
+impl Eq for H265SingleNALUnitPacket {
+    ghost use Rattle.std.specs.Cmp.Rules.{comparing};
+    ghost use Rattle.std.proofs.Common.{rules};
+
+    ghost laws = { Prim.search (comparing, rules) };
 }
