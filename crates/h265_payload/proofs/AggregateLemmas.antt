@@ -9,27 +9,30 @@ use Rattle.h26x_core.specs.declared.error.PacketError.TheVariants.{ErrShortPacke
 use Rattle.h26x_core.specs.Reading.{Aggregate, Paci, Refused, unnumbered}
 use Rattle.h26x_core.specs.Pieces.{Pieces, pieces_of, pieces_within, with_piece}
 use Rattle.h26x_core.proofs.PieceLemmas.{pieces_next}
-use Rattle.h26x_payload.proofs.AggregateLemmas.{units_only}
+use Rattle.h26x_core.specs.Received.{units_with}
 use Rattle.h265_payload.specs.H265.{read, units_from, further_units, paci_behind, paci_head}
 use Rattle.h265_payload.specs.Reading.{IsWhole}
-use Rattle.h265_payload.specs.Payload.{OtherUnit}
-use Rattle.h265_payload.specs.Shown.{aggregate_behind, aggregate_shown, apart_within, others_of, without_dond, units_in, shown}
-use Rattle.h265_payload.specs.Packet.{aggregate_with}
+use Rattle.h265_payload.specs.Payload.{OtherUnit, units_shown}
+use Rattle.h265_payload.specs.Shown.{aggregate_behind, aggregate_shown, apart_within, others_of, without_dond, next_number, numbered_on, units_numbered, units_of_aggregate, is_aggregate, shown}
+use Rattle.h265_payload.specs.Packet.{aggregate_with, reading_of, shown_by}
+use Rattle.h265_payload.specs.declared.packet.Packet.{Packet}
+use Rattle.h265_payload.specs.declared.packet.Packet.TheVariants as p
 use Rattle.h265_payload.specs.declared.payload.H265Payload.TheVariants.{H265AggregationPacket}
 use Rattle.h265_payload.proofs.ReadingLemmas.{read_aggregate, read_paci, two_read, one_read}
 use Rattle.h265_payload.proofs.ApartLemmas.{apart_enough}
 
--- a unit of an aggregate without its number
-abbrev unit_of : List ℕ × Option ℕ → List ℕ
-unit_of pair = pair.0
+-- units without differences bear no numbers
+none_numbered : (units : List (List ℕ)) → map unnumbered units ≡ numbered_on None (map without_dond units)
+none_numbered [] = refl
+none_numbered (unit ∷ units) = ap (λ (x : List (List ℕ × Option ℕ)). (unit, None) ∷ x) (none_numbered units)
 
--- differences put beside units and left out again
-without_and_back : (units : List (List ℕ)) → map (λ (other : OtherUnit). other.nal_unit) (map without_dond units) ≡ units
-without_and_back [] = refl
-without_and_back (unit ∷ units) = ap (λ (x : List (List ℕ)). unit ∷ x) (without_and_back units)
+-- nor does the first of them
+plain_units : (units : List (List ℕ)) → map unnumbered units ≡ units_numbered (aggregate_with false None (map without_dond units))
+plain_units [] = refl
+plain_units (unit ∷ units) = ap (λ (x : List (List ℕ × Option ℕ)). (unit, None) ∷ x) (none_numbered units)
 
 -- the units behind the first are the same by their numbers and by their differences
-further_apart : (most n : ℕ) (bytes : List ℕ) → map unit_of (further_units most n bytes) ≡ map (λ (other : OtherUnit). other.nal_unit) (apart_within most bytes)
+further_apart : (most n : ℕ) (bytes : List ℕ) → further_units most n bytes ≡ numbered_on (Some n) (apart_within most bytes)
 further_apart zero n bytes = refl
 further_apart (suc most) n [] = refl
 further_apart (suc most) n (x ∷ []) = refl
@@ -37,26 +40,53 @@ further_apart (suc most) n (x ∷ y ∷ []) = refl
 further_apart (suc most) n (difference ∷ high ∷ low ∷ bytes) =
     let k = high * 256 + low in
     let m = (n + difference + 1) % 65536 in
-    elim (nat_le k (length bytes)) as (λ b. map unit_of (cond b ((take k bytes, Some m) ∷ further_units most m (drop k bytes)) [])
-    ≡ map (λ (other : OtherUnit). other.nal_unit) (cond b ((record { dond = Some difference; nal_unit = take k bytes }) ∷ apart_within most (drop k bytes)) [])) [
-      | true ↦ ap (λ (x : List (List ℕ)). take k bytes ∷ x) (further_apart most m (drop k bytes))
+    elim (nat_le k (length bytes)) as (λ b. cond b ((take k bytes, Some m) ∷ further_units most m (drop k bytes)) []
+    ≡ numbered_on (Some n) (cond b ((record { dond = Some difference; nal_unit = take k bytes }) ∷ apart_within most (drop k bytes)) [])) [
+      | true ↦ ap (λ (x : List (List ℕ × Option ℕ)). (take k bytes, Some m) ∷ x) (further_apart most m (drop k bytes))
       | false ↦ refl
     ]
 
 -- all units of an aggregate with numbers, behind DONL or from its second byte on
-all_apart : (n e : ℕ) (bytes : List ℕ) → map unit_of (units_from n bytes) ≡ units_in true (e ∷ bytes)
+all_apart : (n e : ℕ) (bytes : List ℕ) → units_from n bytes ≡ units_numbered (aggregate_with true (Some n) (others_of true (e ∷ bytes)))
 all_apart n e [] = refl
 all_apart n e (x ∷ []) = refl
 all_apart n e (high ∷ low ∷ bytes) =
     let k = high * 256 + low in
     let len = length-drop k bytes in
     let same = further_apart (length bytes) n (drop k bytes)
-        ∙ ap (map (λ (other : OtherUnit). other.nal_unit)) (apart_enough (length bytes) (suc (suc (length bytes))) (drop k bytes) (omega (arith, len)) (omega (arith, len))) in
-    elim (nat_le k (length bytes)) as (λ b. map unit_of (cond b ((take k bytes, Some n) ∷ further_units (length bytes) n (drop k bytes)) [])
-    ≡ map (λ (other : OtherUnit). other.nal_unit) (cond b ((record { dond = Some e; nal_unit = take k bytes }) ∷ apart_within (suc (suc (length bytes))) (drop k bytes)) [])) [
-      | true ↦ ap (λ (x : List (List ℕ)). take k bytes ∷ x) same
+    ∙ ap (numbered_on (Some n)) (apart_enough (length bytes) (suc (suc (length bytes))) (drop k bytes) (omega (arith, len)) (omega (arith, len))) in
+    elim (nat_le k (length bytes)) as (λ b. cond b ((take k bytes, Some n) ∷ further_units (length bytes) n (drop k bytes)) []
+    ≡ units_numbered (aggregate_with true (Some n) (cond b ((record { dond = Some e; nal_unit = take k bytes }) ∷ apart_within (suc (suc (length bytes))) (drop k bytes)) []))) [
+      | true ↦ ap (λ (x : List (List ℕ × Option ℕ)). (take k bytes, Some n) ∷ x) same
       | false ↦ refl
     ]
+
+-- numbers left out again
+numbers_out : (number : Option ℕ) (others : List OtherUnit) → map (λ (u : List ℕ × Option ℕ). u.0) (numbered_on number others) ≡ map (λ (other : OtherUnit). other.nal_unit) others
+numbers_out number [] = refl
+numbers_out None (other ∷ others) = ap (λ (x : List (List ℕ)). other.nal_unit ∷ x) (numbers_out None others)
+numbers_out (Some n) (other ∷ others) = ap (λ (x : List (List ℕ)). other.nal_unit ∷ x) (numbers_out (next_number n other.dond) others)
+
+-- of all units of an aggregate
+pub units_without : (numbered : Bool) (donl : Option ℕ) (others : List OtherUnit) →
+    map (λ (u : List ℕ × Option ℕ). u.0) (units_numbered (aggregate_with numbered donl others)) ≡ map (λ (other : OtherUnit). other.nal_unit) others
+units_without numbered donl [] = refl
+units_without numbered donl (other ∷ others) = ap (λ (x : List (List ℕ)). other.nal_unit ∷ x) (numbers_out donl others)
+
+-- these are the units that it shows
+pub units_shown_so : (numbered : Bool) (donl : Option ℕ) (others : List OtherUnit) → units_shown (aggregate_with numbered donl others) ≡ map (λ (other : OtherUnit). other.nal_unit) others
+units_shown_so numbered donl [] = refl
+units_shown_so numbered donl (other ∷ others) = refl
+
+-- what an aggregate brings is what it shows
+pub shown_units : (numbered : Bool) (parts : Packet) (run : Option (List ℕ)) → is_aggregate (shown_by numbered parts) ≡ true →
+    units_with run (reading_of numbered parts) ≡ units_of_aggregate (shown_by numbered parts)
+shown_units numbered (p.Single unit) run is = absurd cc
+shown_units numbered (p.NumberedSingle head donl body) run is = absurd cc
+shown_units numbered (p.Aggregate donl bytes len) run is =
+    units_without numbered donl (others_of numbered bytes.now) ∙ sym (units_shown_so numbered donl (others_of numbered bytes.now))
+shown_units numbered (p.Fragment header marks head donl body) run is = absurd cc
+shown_units numbered (p.Paci header fields head bytes) run is = absurd cc
 
 -- the first unit and the others are those that stand behind the header, without numbers
 plain_walk : (rest : List ℕ) → 2 ≤ length (others_of false rest) → aggregate_with false None (others_of false rest) ≡ aggregate_behind false None rest
@@ -92,7 +122,7 @@ shown_so numbered high low rest kind = rw kind refl
 
 -- with F clear, and without numbers, it is read as one where it has two units or more
 pub plain_accepted : (packet bytes : List ℕ) → 3 ≤ length packet → is_set (slice_index packet 0) 7 ≡ false → type_of (slice_index packet 0) ≡ 48 → bytes ≡ drop 2 packet →
-    2 ≤ length (others_of false bytes) → (pairs : List (List ℕ × Option ℕ)) × (read false packet ≡ Aggregate pairs) × (map (λ (u : List ℕ × Option ℕ). u.0) pairs ≡ units_in false bytes)
+    2 ≤ length (others_of false bytes) → read false packet ≡ Aggregate (units_numbered (aggregate_with false None (others_of false bytes)))
 plain_accepted [] bytes long clear kind same two = absurd (omega arith)
 plain_accepted (x ∷ []) bytes long clear kind same two = absurd (omega arith)
 plain_accepted (high ∷ low ∷ rest) bytes long clear kind same two =
@@ -100,9 +130,8 @@ plain_accepted (high ∷ low ∷ rest) bytes long clear kind same two =
     let w : IsWhole (high ∷ low ∷ rest) high low rest = record { whole = refl; some = omega arith; clear = clear } in
     let others : 2 ≤ length (map without_dond pieces) = rw same at two in
     let a = length-map pieces without_dond in let b = length-map pieces unnumbered in
-    (map unnumbered pieces,
-    read_aggregate false (high ∷ low ∷ rest) high low rest w kind ∙ two_read (map unnumbered pieces) (omega (arith, a, b)),
-    units_only pieces ∙ sym (without_and_back pieces) ∙ ap (units_in false) (sym same))
+    read_aggregate false (high ∷ low ∷ rest) high low rest w kind ∙ two_read (map unnumbered pieces) (omega (arith, a, b)) ∙ ap Aggregate (plain_units pieces)
+    ∙ ap (λ (b : List ℕ). Aggregate (units_numbered (aggregate_with false None (others_of false b)))) (sym same)
 
 -- and is shown as one
 pub plain_shown : (packet bytes : List ℕ) → 3 ≤ length packet → type_of (slice_index packet 0) ≡ 48 → bytes ≡ drop 2 packet →
@@ -113,22 +142,30 @@ plain_shown (high ∷ low ∷ rest) bytes long kind same two =
     ap (λ (b : List ℕ). H265AggregationPacket (aggregate_with false None (others_of false b))) same
     ∙ ap H265AggregationPacket (plain_walk rest (rw same at two)) ∙ sym (shown_so false high low rest kind)
 
+-- all units of an aggregate with numbers are as many as are found one by one
+as_many : (n e : ℕ) (rest : List ℕ) → length (units_from n rest) ≡ length (others_of true (e ∷ rest))
+as_many n e rest =
+    let others = others_of true (e ∷ rest) in
+    let numbered = units_numbered (aggregate_with true (Some n) others) in
+    let a = length-map others (λ (other : OtherUnit). other.nal_unit) in let b = length-map numbered (λ (u : List ℕ × Option ℕ). u.0) in
+    ap length (all_apart n e rest) ∙ sym b ∙ ap length (units_without true (Some n) others) ∙ a
+
 -- with numbers it is read as one where it has two units or more behind DONL
-pub numbered_accepted : (packet bytes : List ℕ) → 4 ≤ length packet → is_set (slice_index packet 0) 7 ≡ false → type_of (slice_index packet 0) ≡ 48 → bytes ≡ drop 3 packet →
-    2 ≤ length (others_of true bytes) → (pairs : List (List ℕ × Option ℕ)) × (read true packet ≡ Aggregate pairs) × (map (λ (u : List ℕ × Option ℕ). u.0) pairs ≡ units_in true bytes)
-numbered_accepted [] bytes long clear kind same two = absurd (omega arith)
-numbered_accepted (x ∷ []) bytes long clear kind same two = absurd (omega arith)
-numbered_accepted (x ∷ y ∷ []) bytes long clear kind same two = absurd (omega arith)
-numbered_accepted (x ∷ y ∷ z ∷ []) bytes long clear kind same two = absurd (omega arith)
-numbered_accepted (high ∷ low ∷ d ∷ e ∷ rest) bytes long clear kind same two =
+pub numbered_accepted : (packet bytes : List ℕ) (donl : ℕ) → 4 ≤ length packet → is_set (slice_index packet 0) 7 ≡ false → type_of (slice_index packet 0) ≡ 48 → bytes ≡ drop 3 packet →
+    donl ≡ slice_index packet 2 * 256 + slice_index packet 3 → 2 ≤ length (others_of true bytes) →
+    read true packet ≡ Aggregate (units_numbered (aggregate_with true (Some donl) (others_of true bytes)))
+numbered_accepted [] bytes donl long clear kind same number two = absurd (omega arith)
+numbered_accepted (x ∷ []) bytes donl long clear kind same number two = absurd (omega arith)
+numbered_accepted (x ∷ y ∷ []) bytes donl long clear kind same number two = absurd (omega arith)
+numbered_accepted (x ∷ y ∷ z ∷ []) bytes donl long clear kind same number two = absurd (omega arith)
+numbered_accepted (high ∷ low ∷ d ∷ e ∷ rest) bytes donl long clear kind same number two =
     let pairs = units_from (d * 256 + e) rest in
     let w : IsWhole (high ∷ low ∷ d ∷ e ∷ rest) high low (d ∷ e ∷ rest) = record { whole = refl; some = omega arith; clear = clear } in
     let others : 2 ≤ length (others_of true (e ∷ rest)) = rw same at two in
-    let a = length-map (others_of true (e ∷ rest)) (λ (other : OtherUnit). other.nal_unit) in let b = length-map pairs unit_of in
-    let c = ap length (all_apart (d * 256 + e) e rest) in
-    (pairs,
-    read_aggregate true (high ∷ low ∷ d ∷ e ∷ rest) high low (d ∷ e ∷ rest) w kind ∙ two_read pairs (omega (arith, a, b, c)),
-    all_apart (d * 256 + e) e rest ∙ ap (units_in true) (sym same))
+    let c = as_many (d * 256 + e) e rest in
+    read_aggregate true (high ∷ low ∷ d ∷ e ∷ rest) high low (d ∷ e ∷ rest) w kind ∙ two_read pairs (omega (arith, c)) ∙ ap Aggregate (all_apart (d * 256 + e) e rest)
+    ∙ ap (λ (n : ℕ). Aggregate (units_numbered (aggregate_with true (Some n) (others_of true (e ∷ rest))))) (sym number)
+    ∙ ap (λ (b : List ℕ). Aggregate (units_numbered (aggregate_with true (Some donl) (others_of true b)))) (sym same)
 
 -- with fewer it is too short
 pub numbered_short : (packet bytes : List ℕ) → 4 ≤ length packet → is_set (slice_index packet 0) 7 ≡ false → type_of (slice_index packet 0) ≡ 48 → bytes ≡ drop 3 packet →
@@ -141,9 +178,8 @@ numbered_short (high ∷ low ∷ d ∷ e ∷ rest) bytes long clear kind same fe
     let pairs = units_from (d * 256 + e) rest in
     let w : IsWhole (high ∷ low ∷ d ∷ e ∷ rest) high low (d ∷ e ∷ rest) = record { whole = refl; some = omega arith; clear = clear } in
     let others : length (others_of true (e ∷ rest)) < 2 = rw same at few in
-    let a = length-map (others_of true (e ∷ rest)) (λ (other : OtherUnit). other.nal_unit) in let b = length-map pairs unit_of in
-    let c = ap length (all_apart (d * 256 + e) e rest) in
-    read_aggregate true (high ∷ low ∷ d ∷ e ∷ rest) high low (d ∷ e ∷ rest) w kind ∙ one_read pairs (omega (arith, a, b, c))
+    let c = as_many (d * 256 + e) e rest in
+    read_aggregate true (high ∷ low ∷ d ∷ e ∷ rest) high low (d ∷ e ∷ rest) w kind ∙ one_read pairs (omega (arith, c))
 
 -- and is shown as one
 pub numbered_shown : (packet bytes : List ℕ) (donl : ℕ) → 4 ≤ length packet → type_of (slice_index packet 0) ≡ 48 → bytes ≡ drop 3 packet → donl ≡ slice_index packet 2 * 256 + slice_index packet 3 →

@@ -5,3 +5,6 @@ pub mod Payload
 pub mod Shown
 pub mod Packet
 pub mod Paci
+pub mod Frame
+pub mod Depacketizer
+pub mod Equality

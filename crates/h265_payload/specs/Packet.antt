@@ -1,27 +1,14 @@
 -- What the parts of an H.265 packet stand for: how it is read, and what is shown of it.
-use Rattle.std.specs.Prelude.{◌≡◌, ℕ, ◌+◌, ◌-◌, ◌*◌, ◌≤◌, ◌^◌, min, Bool, true, false, List, [], ◌∷◌, ◌++◌, length, map, take, drop, Option, Some, None, slice_index}
+use Rattle.std.specs.Prelude.{◌≡◌, ℕ, ◌+◌, ◌-◌, ◌*◌, ◌≤◌, ◌^◌, min, Bool, true, false, List, [], ◌∷◌, ◌++◌, length, take, drop, Option, Some, None, slice_index}
 use Rattle.h26x_core.specs.Word.{field, is_set}
 use Rattle.h26x_core.specs.Reading.{Reading, Single, Aggregate, Fragment, Paci}
 use Rattle.h26x_payload.specs.Run.{written_len}
 use Rattle.h265_payload.specs.Payload.{OtherUnit, AggregationPacket}
-use Rattle.h265_payload.specs.Shown.{others_of, units_in}
+use Rattle.h265_payload.specs.Shown.{others_of, units_in, units_numbered}
 use Rattle.h265_payload.specs.declared.packet.Packet.{Packet}
 use Rattle.h265_payload.specs.declared.packet.Packet.TheVariants as p
 use Rattle.h265_payload.specs.declared.payload.H265Payload.{H265Payload}
 use Rattle.h265_payload.specs.declared.payload.H265Payload.TheVariants as s
-
--- how a packet of these parts is read
-abbrev pub IsReadBy : Bool → Packet → Reading → Type 0
-IsReadBy numbered (p.Single unit) reading = reading ≡ Single unit.now None
-IsReadBy numbered (p.NumberedSingle head donl body) reading = reading ≡ Single (head.now
-    ++ body.now) (Some donl)
-IsReadBy numbered (p.Aggregate donl bytes len) reading = (pairs : List (List ℕ × Option ℕ))
-    × (reading ≡ Aggregate pairs) × (map (λ u. u.0) pairs ≡ units_in numbered bytes.now)
-IsReadBy numbered (p.Fragment header marks head donl body) reading =
-    reading ≡ Fragment (is_set marks.0 7) (is_set marks.0 6) head donl body.now
-IsReadBy numbered (p.Paci header fields head bytes) reading =
-    reading ≡ Paci head fields (take (field fields 8 4) bytes.now)
-    (drop (field fields 8 4) bytes.now)
 
 -- an aggregate of these units
 abbrev pub aggregate_with : Bool → Option ℕ → List OtherUnit → AggregationPacket
@@ -31,6 +18,17 @@ aggregate_with numbered donl (unit ∷ units) = record {
   others = units;
   has_donl = numbered;
 }
+
+-- how a packet of these parts is read
+abbrev pub reading_of : Bool → Packet → Reading
+reading_of numbered (p.Single unit) = Single unit.now None
+reading_of numbered (p.NumberedSingle head donl body) = Single (head.now ++ body.now) (Some donl)
+reading_of numbered (p.Aggregate donl bytes len) = Aggregate (units_numbered
+    (aggregate_with numbered donl (others_of numbered bytes.now)))
+reading_of numbered (p.Fragment header marks head donl body) =
+    Fragment (is_set marks.0 7) (is_set marks.0 6) head donl body.now
+reading_of numbered (p.Paci header fields head bytes) = Paci head fields
+    (take (field fields 8 4) bytes.now) (drop (field fields 8 4) bytes.now)
 
 -- the word of a header's two bytes
 abbrev pub header_word : List ℕ → ℕ

@@ -1,6 +1,7 @@
 -- What `payload` shows of an accepted packet: its words, and its bytes at their places (RFC 7798,
 -- 4.4).
-use Rattle.std.specs.Prelude.{ℕ, zero, suc, ◌+◌, ◌*◌, nat_le, Bool, true, false, ◌&&◌, ◌==◌, if◌then◌else◌, List, [], ◌∷◌, length, map, take, drop, Option, Some, None}
+use Rattle.std.specs.Prelude.{ℕ, zero, suc, ◌+◌, ◌*◌, ◌%◌, nat_le, Bool, true, false, ◌&&◌, ◌==◌, if◌then◌else◌, List, [], ◌∷◌, length, map, take, drop, Option, Some, None}
+use Rattle.std.specs.Option.{option_map_or}
 use Rattle.h26x_core.specs.Word.{field, is_set}
 use Rattle.h26x_core.specs.H265Unit.{type_of}
 use Rattle.h26x_core.specs.Pieces.{pieces_of}
@@ -96,7 +97,29 @@ abbrev pub units_of_aggregate : H265Payload → List (List ℕ)
 units_of_aggregate (p.H265AggregationPacket packet) = units_shown packet
 units_of_aggregate payload = []
 
+-- the number behind this one, by its difference (DOND, 4.4.2)
+abbrev pub next_number : ℕ → Option ℕ → Option ℕ
+next_number n None = None
+next_number n (Some difference) = Some ((n + difference + 1) % 65536)
+
+-- units behind another, each numbered by its difference: one more than that from the number before
+abbrev pub numbered_on : Option ℕ → List OtherUnit → List (List ℕ × Option ℕ)
+numbered_on number [] = []
+numbered_on None (other ∷ others) = (other.nal_unit, None) ∷ numbered_on None others
+numbered_on (Some n) (other ∷ others) = (other.nal_unit, next_number n other.dond) ∷
+    numbered_on (next_number n other.dond) others
+
+-- the units of an aggregate with their numbers: the first has DONL
+abbrev pub units_numbered : AggregationPacket → List (List ℕ × Option ℕ)
+units_numbered packet = option_map_or (λ first. (first.nal_unit, first.donl) ∷
+    numbered_on first.donl packet.others) packet.first []
+
 -- the units of an aggregate: the first behind DONL's second byte, as the others stand behind DOND,
 -- where packets bear numbers
 abbrev pub units_in : Bool → List ℕ → List (List ℕ)
 units_in numbered bytes = map (λ other. other.nal_unit) (others_of numbered bytes)
+
+-- whether it is an aggregate
+abbrev pub is_aggregate : H265Payload → Bool
+is_aggregate (p.H265AggregationPacket packet) = true
+is_aggregate payload = false

@@ -8,6 +8,8 @@
 
 mod aggregate;
 mod cases;
+mod depacketizer;
+mod detect;
 mod header;
 pub mod laws;
 mod packet;
@@ -15,6 +17,9 @@ mod packetizer;
 mod payload;
 mod show;
 
+pub use depacketizer::H265Depacketizer;
+pub use detect::detect_h265_keyframe;
+pub use h26x_core::ANNEXB_NALUSTART_CODE;
 pub use packetizer::{H265, H265Packetizer};
 pub use payload::{
     H265AggregationPacket, H265AggregationUnit, H265AggregationUnitFirst,

@@ -6,7 +6,7 @@ ghost use Rattle.h26x_core.specs.H265Unit.{type_of};
 ghost use Rattle.h26x_core.specs.Reading.{Refused};
 ghost use Rattle.h265_payload.specs.H265.{h265};
 ghost use Rattle.h265_payload.specs.Reading.{IsUnitType};
-ghost use Rattle.h265_payload.specs.Packet.{IsReadBy, IsWhole, shown_by};
+ghost use Rattle.h265_payload.specs.Packet.{IsWhole, reading_of, shown_by};
 ghost use Rattle.h265_payload.specs.Shown.{shown};
 
 use crate::aggregate::check_aggregate;
@@ -69,8 +69,8 @@ pub enum Packet<'a> {
 /// Reads a packet. Two bytes or fewer are too short, and F is clear in every other; types 48, 49
 /// and 50 are an aggregate, a fragment and a PACI packet, and all others are units.
 pub fn read(is_numbered: bool, packet: &[u8]) -> Result<Packet<'_>, PacketError>
-    ensures accepted { IfOk result (λ it. IsReadBy is_numbered it
-        ((h265 is_numbered).read packet.now)) }
+    ensures accepted { IfOk result (λ it. (h265 is_numbered).read packet.now
+        ≡ reading_of is_numbered it) }
     ensures shows { IfOk result (λ it. shown_by is_numbered it ≡ shown is_numbered packet.now) }
     ensures whole { IfOk result (λ it. IsWhole is_numbered it) }
     ensures refused { IfErr result (λ e. (h265 is_numbered).read packet.now ≡ Refused e) }
@@ -98,8 +98,8 @@ fn read_single(is_numbered: bool, packet: &[u8]) -> Result<Packet<'_>, PacketErr
     requires long { 3 ≤ length packet.now }
     requires clear { is_set (slice_index packet.now 0) 7 ≡ false }
     requires own { IsUnitType (type_of (slice_index packet.now 0)) }
-    ensures accepted { IfOk result (λ it. IsReadBy is_numbered it
-        ((h265 is_numbered).read packet.now)) }
+    ensures accepted { IfOk result (λ it. (h265 is_numbered).read packet.now
+        ≡ reading_of is_numbered it) }
     ensures shows { IfOk result (λ it. shown_by is_numbered it ≡ shown is_numbered packet.now) }
     ensures whole { IfOk result (λ it. IsWhole is_numbered it) }
     ensures refused { IfErr result (λ e. (h265 is_numbered).read packet.now ≡ Refused e) }
@@ -122,8 +122,8 @@ fn read_aggregate(is_numbered: bool, packet: &[u8]) -> Result<Packet<'_>, Packet
     requires long { 3 ≤ length packet.now }
     requires clear { is_set (slice_index packet.now 0) 7 ≡ false }
     requires kind { type_of (slice_index packet.now 0) ≡ 48 }
-    ensures accepted { IfOk result (λ it. IsReadBy is_numbered it
-        ((h265 is_numbered).read packet.now)) }
+    ensures accepted { IfOk result (λ it. (h265 is_numbered).read packet.now
+        ≡ reading_of is_numbered it) }
     ensures shows { IfOk result (λ it. shown_by is_numbered it ≡ shown is_numbered packet.now) }
     ensures whole { IfOk result (λ it. IsWhole is_numbered it) }
     ensures refused { IfErr result (λ e. (h265 is_numbered).read packet.now ≡ Refused e) }
@@ -140,7 +140,7 @@ fn read_plain_aggregate(packet: &[u8]) -> Result<Packet<'_>, PacketError>
     requires long { 3 ≤ length packet.now }
     requires clear { is_set (slice_index packet.now 0) 7 ≡ false }
     requires kind { type_of (slice_index packet.now 0) ≡ 48 }
-    ensures accepted { IfOk result (λ it. IsReadBy false it ((h265 false).read packet.now)) }
+    ensures accepted { IfOk result (λ it. (h265 false).read packet.now ≡ reading_of false it) }
     ensures shows { IfOk result (λ it. shown_by false it ≡ shown false packet.now) }
     ensures whole { IfOk result (λ it. IsWhole false it) }
     ensures refused { IfErr result (λ e. (h265 false).read packet.now ≡ Refused e) }
@@ -159,7 +159,7 @@ fn read_numbered_aggregate(packet: &[u8]) -> Result<Packet<'_>, PacketError>
     requires long { 3 ≤ length packet.now }
     requires clear { is_set (slice_index packet.now 0) 7 ≡ false }
     requires kind { type_of (slice_index packet.now 0) ≡ 48 }
-    ensures accepted { IfOk result (λ it. IsReadBy true it ((h265 true).read packet.now)) }
+    ensures accepted { IfOk result (λ it. (h265 true).read packet.now ≡ reading_of true it) }
     ensures shows { IfOk result (λ it. shown_by true it ≡ shown true packet.now) }
     ensures whole { IfOk result (λ it. IsWhole true it) }
     ensures refused { IfErr result (λ e. (h265 true).read packet.now ≡ Refused e) }
@@ -186,8 +186,8 @@ fn read_fragment(
     requires clear { is_set (slice_index packet.now 0) 7 ≡ false }
     requires kind { type_of (slice_index packet.now 0) ≡ 49 }
     requires word { header.0 ≡ slice_index packet.now 0 * 256 + slice_index packet.now 1 }
-    ensures accepted { IfOk result (λ it. IsReadBy is_numbered it
-        ((h265 is_numbered).read packet.now)) }
+    ensures accepted { IfOk result (λ it. (h265 is_numbered).read packet.now
+        ≡ reading_of is_numbered it) }
     ensures shows { IfOk result (λ it. shown_by is_numbered it ≡ shown is_numbered packet.now) }
     ensures whole { IfOk result (λ it. IsWhole is_numbered it) }
     ensures refused { IfErr result (λ e. (h265 is_numbered).read packet.now ≡ Refused e) }
@@ -228,8 +228,8 @@ fn read_paci(
     requires clear { is_set (slice_index packet.now 0) 7 ≡ false }
     requires kind { type_of (slice_index packet.now 0) ≡ 50 }
     requires word { header.0 ≡ slice_index packet.now 0 * 256 + slice_index packet.now 1 }
-    ensures accepted { IfOk result (λ it. IsReadBy is_numbered it
-        ((h265 is_numbered).read packet.now)) }
+    ensures accepted { IfOk result (λ it. (h265 is_numbered).read packet.now
+        ≡ reading_of is_numbered it) }
     ensures shows { IfOk result (λ it. shown_by is_numbered it ≡ shown is_numbered packet.now) }
     ensures whole { IfOk result (λ it. IsWhole is_numbered it) }
     ensures refused { IfErr result (λ e. (h265 is_numbered).read packet.now ≡ Refused e) }

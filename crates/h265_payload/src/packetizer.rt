@@ -57,8 +57,8 @@ pub struct H265 {
 /// ```
 pub type H265Packetizer = PayloadPacketizer<H265>;
 
-/// The header of a unit.
-fn header_of(unit: &[u8]) -> H265NALUHeader
+/// The header of a unit or of a packet.
+pub(crate) fn header_of(unit: &[u8]) -> H265NALUHeader
     requires { 2 ≤ length unit.now }
     ensures { field result.0 14 9 ≡ type_of (slice_index unit.now 0) }
 {

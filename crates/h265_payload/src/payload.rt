@@ -22,7 +22,7 @@ pub use single::H265SingleNALUnitPacket;
 use std::alloc::Global;
 
 /// A packet that was read.
-#[derive(Debug, Drop, PartialEq, Eq)]
+#[derive(Debug, Drop)]
 pub enum H265Payload {
     /// A single NAL unit packet (RFC 7798, 4.4.1).
     H265SingleNALUnitPacket(H265SingleNALUnitPacket),
@@ -72,6 +72,38 @@ impl H265Payload {
             H265Payload::H265PACIPacket(packet) => Some(packet.into_buffer()),
         }
     }
+}
+
+impl PartialEq for H265Payload {
+    ghost use Rattle.h265_payload.specs.Equality.{payload_eq, payload_equiv};
+    ghost use Rattle.std.specs.Cmp.{partial_equiv_from_equiv};
+
+    ghost eq = { payload_eq };
+
+    ghost laws = { partial_equiv_from_equiv payload_equiv };
+
+    fn eq(&self, other: &Self) -> bool {
+        match (self, other) {
+            (
+                H265Payload::H265SingleNALUnitPacket(one),
+                H265Payload::H265SingleNALUnitPacket(two),
+            ) => one == two,
+            (
+                H265Payload::H265FragmentationUnitPacket(one),
+                H265Payload::H265FragmentationUnitPacket(two),
+            ) => one == two,
+            (H265Payload::H265AggregationPacket(one), H265Payload::H265AggregationPacket(two)) =>
+                one == two,
+            (H265Payload::H265PACIPacket(one), H265Payload::H265PACIPacket(two)) => one == two,
+            _ => false,
+        }
+    }
+}
+
+impl Eq for H265Payload {
+    ghost use Rattle.h265_payload.specs.Equality.{payload_equiv};
+
+    ghost laws = { payload_equiv };
 }
 
 #[cfg(test)]

@@ -16,7 +16,8 @@ pub returns-clause-accepted : goal.returns-clause-accepted
 returns-clause-accepted c =
     let all = take_all (length c.args.packet.now - 3) (drop 3 c.args.packet.now) (simp length-drop (omega arith)) in
     let long : 4 ≤ length c.args.packet.now = grind (arith, nat_tests, c.if-packet-lt4.false) in
-    numbered_accepted c.args.packet.now _ long c.requires.clear c.requires.kind all c.in_ok-len.ensures.whole
+    let word : c.from_be_bytes.result ≡ slice_index c.args.packet.now 2 * 256 + slice_index c.args.packet.now 3 = search rules in
+    numbered_accepted c.args.packet.now _ _ long c.requires.clear c.requires.kind all word c.in_ok-len.ensures.whole
 
 pub returns-clause-shows : goal.returns-clause-shows
 returns-clause-shows c =

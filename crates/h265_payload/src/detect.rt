@@ -1,0 +1,46 @@
+//! Whether a packet is known to hold a key unit, or to begin one (str0m's rule).
+
+ghost use Rattle.std.specs.Prelude.{◌≡◌};
+ghost use Rattle.h265_payload.specs.H265.{detects, detects_fragment};
+
+use crate::packetizer::{H265, header_of};
+use h26x_core::{H265FragmentationUnitHeader, H265NALUHeader};
+use h26x_payload::{Codec, holds_key};
+
+/// Whether what stands behind a fragment's header begins a key unit (RFC 7798, 4.4.3).
+fn begins_key(rest: &[u8]) -> bool
+    ensures { result ≡ detects_fragment rest.now }
+{
+    if rest.is_empty() {
+        return false;
+    }
+    let marks = H265FragmentationUnitHeader(rest[0]);
+    marks.s() && H265NALUHeader::new_with_type(marks.fu_type(), 0, 0).is_irap()
+}
+
+/// Whether a packet is known to hold a slice of an IRAP picture, or to be the first fragment of one
+/// (RFC 7798, 4.4).
+///
+/// F is not looked at, and no decoding order number is expected. The units of an aggregate are
+/// looked at up to one that has no whole header or passes the end.
+///
+/// ```rust
+/// assert!(detect_h265_keyframe(&[0x26, 0x01, 0xaf]));
+/// assert!(!detect_h265_keyframe(&[0x02, 0x01, 0xaf]));
+/// ```
+pub fn detect_h265_keyframe(payload: &[u8]) -> bool
+    ensures { result ≡ detects payload.now }
+{
+    if payload.len() < 2 {
+        return false;
+    }
+    let header = header_of(payload);
+    let rest = &payload[2..];
+    if header.is_aggregation_packet() {
+        holds_key(H265::new(), rest)
+    } else if header.is_fragmentation_unit() {
+        begins_key(rest)
+    } else {
+        header.is_irap()
+    }
+}
