@@ -336,3 +336,6 @@ impl Depacketizer for H265Depacketizer {
         ends_frame(is_fragment(packet), marker, packet)
     }
 }
+
+#[cfg(test)]
+mod tests;
