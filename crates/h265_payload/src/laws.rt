@@ -142,7 +142,7 @@ pub fn paci_is_read_back()
 {}
 
 /// Of a packet with such fields TSCI is shown where its extension has three bytes or more (RFC
-/// 7798, 4.5): TL0PICIDX is the first of them, IrapPicID the second, and S, E and RES are the third.
+/// 7798, 4.5): TL0PICIDX is the first of them, IrapPicID the second; S, E and RES are the third.
 pub fn tsci_is_read_back()
     ensures tsci { (high : ℕ) (p : PaciPacket) → length p.phes ≤ 31 →
         p.fields ≡ paci_fields high p.phes → tsci_shown p ≡ tsci_in p.phes }
