@@ -1,3 +1,4 @@
 pub mod H266
 pub mod Reading
 pub mod CodecFacts
+pub mod Packet

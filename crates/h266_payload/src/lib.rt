@@ -6,8 +6,10 @@
 //! ```
 #![tactic(auto)]
 
+mod aggregate;
 mod cases;
 pub mod laws;
+mod packet;
 mod packetizer;
 
 pub use packetizer::{H266, H266Packetizer};
