@@ -15,9 +15,11 @@
 mod aggregate;
 mod cases;
 mod depacketizer;
+mod detect;
 pub mod laws;
 mod packet;
 mod packetizer;
 
 pub use depacketizer::H266Depacketizer;
+pub use detect::detect_h266_keyframe;
 pub use packetizer::{H266, H266Packetizer};
