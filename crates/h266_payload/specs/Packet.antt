@@ -1,5 +1,5 @@
 -- What the parts of an H.266 packet stand for.
-use Rattle.std.specs.Prelude.{◌≡◌, ℕ, ◌+◌, ◌*◌, ◌-◌, ◌^◌, min, Bool, true, false, List, ◌∷◌, ◌++◌, length, Option, Some, None, Result}
+use Rattle.std.specs.Prelude.{◌≡◌, ℕ, ◌+◌, ◌*◌, ◌-◌, ◌≤◌, ◌^◌, min, Bool, true, false, List, ◌∷◌, ◌++◌, length, Option, Some, None, Result}
 use Rattle.h26x_core.specs.declared.error.PacketError.{PacketError}
 use Rattle.h26x_core.specs.Pieces.{pieces_of}
 use Rattle.h26x_core.specs.Reading.{Reading, Single, Aggregate, Fragment}
@@ -24,9 +24,10 @@ judged bytes = units_within (length bytes) bytes
 
 -- what a packet that was read is to a depacketizer
 abbrev pub reading_of : Packet → Reading
-reading_of (p.Single head number body) = Single (head.now ++ body.now) number
-reading_of (p.Aggregate number bytes len) = Aggregate (numbered_on number (aggregate_units bytes.now))
-reading_of (p.Fragment start end head number body) = Fragment start end head number body.now
+reading_of (p.Single unit) = Single unit.now None
+reading_of (p.NumberedSingle head donl body) = Single (head.now ++ body.now) (Some donl)
+reading_of (p.Aggregate donl bytes len) = Aggregate (numbered_on donl (aggregate_units bytes.now))
+reading_of (p.Fragment start end head donl body) = Fragment start end head donl body.now
 
 -- how many bytes the units of an aggregate take where they are written, a usize at most
 abbrev pub units_len : List ℕ → ℕ
@@ -34,6 +35,7 @@ units_len bytes = min (written_len (aggregate_units bytes)) (2 ^ 64 - 1)
 
 -- what is known of a packet that is not refused
 abbrev pub IsChecked : Packet → Type 0
-IsChecked (p.Single head number body) = length head.now ≡ 2
-IsChecked (p.Aggregate number bytes len) = len ≡ units_len bytes.now
-IsChecked (p.Fragment start end head number body) = length head ≡ 2
+IsChecked (p.Single unit) = 3 ≤ length unit.now
+IsChecked (p.NumberedSingle head donl body) = length head.now ≡ 2
+IsChecked (p.Aggregate donl bytes len) = len ≡ units_len bytes.now
+IsChecked (p.Fragment start end head donl body) = length head ≡ 2

@@ -14,7 +14,7 @@ use crate::packet::{PACKET_HEADER_SIZE, Packet, read};
 use crate::packetizer::{H266, header_of};
 use h26x_core::{CodecExtra, Depacketizer, PacketError};
 use h26x_payload::{
-    Codec, Fragment, NumberedCodec, OpenRun, append_parts, append_units, ends_frame,
+    Codec, Fragment, NumberedCodec, OpenRun, append_parts, append_unit, append_units, ends_frame,
     may_begin_frame, out_size_hint, take_fragment, told,
 };
 use std::alloc::Global;
@@ -123,7 +123,12 @@ impl Depacketizer for H266Depacketizer {
         ensures kept_run { OnErr result (self.new ≡ self.old) }
     {
         match read(self.codec.is_numbered(), packet)? {
-            Packet::Single { head, body, .. } => {
+            Packet::Single(unit) => {
+                append_unit(false, unit, out)?;
+                *codec_extra = told(self.codec, *codec_extra, self.codec.is_key(unit));
+                Ok(())
+            }
+            Packet::NumberedSingle { head, body, .. } => {
                 append_parts(false, head, &[], body, out)?;
                 *codec_extra = told(self.codec, *codec_extra, self.codec.is_key(head));
                 Ok(())

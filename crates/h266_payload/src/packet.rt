@@ -14,25 +14,33 @@ use h26x_core::{H266FragmentationUnitHeader, PacketError};
 /// The bytes of a packet's header.
 pub const PACKET_HEADER_SIZE: usize = 2;
 
+/// The bytes of a packet's header with DONL behind it.
+const NUMBERED_HEADER_SIZE: usize = 4;
+
 /// The bytes before a fragment's DONL and data: the packet's header, and a byte of S, E, P and the
 /// unit's type.
 const FRAGMENT_HEADER_SIZE: usize = 3;
 
-/// What a packet is, with slices of it. A number is its DONL, where it bears one.
+/// What a packet is, with slices of it.
 #[derive(Clone, Copy)]
 pub enum Packet<'a> {
-    /// A single NAL unit packet (RFC 9328, 4.3.1).
-    Single {
-        /// The unit's header.
+    /// A single NAL unit packet without a number: the unit (RFC 9328, 4.3.1).
+    Single(&'a [u8]),
+
+    /// One with a number between the unit's header and what is behind it.
+    NumberedSingle {
+        /// The header of the unit.
         head: &'a [u8],
-        number: Option<u16>,
-        /// What stands behind the header in the unit.
+        /// The unit's number.
+        donl: u16,
+        /// The unit without its header.
         body: &'a [u8],
     },
 
     /// An aggregation packet (RFC 9328, 4.3.2).
     Aggregate {
-        number: Option<u16>,
+        /// The number of the first unit.
+        donl: Option<u16>,
         /// The units behind their lengths.
         bytes: &'a [u8],
         /// How many bytes the units take where they are written.
@@ -47,33 +55,34 @@ pub enum Packet<'a> {
         end: bool,
         /// The header of the unit that the fragment ends, if it ends one.
         head: [u8; 2],
-        number: Option<u16>,
-        /// The unit's data.
+        /// The number of the unit that it starts.
+        donl: Option<u16>,
+        /// The data.
         body: &'a [u8],
     },
 }
 
 /// DONL and what stands behind it, if it is there; where none is borne, no number and all bytes.
-fn take_number(numbered: bool, bytes: &[u8]) -> Result<(Option<u16>, &[u8]), PacketError>
-    ensures there { IfOk result (λ it. split_number numbered bytes.now ≡ Some (it.0, it.1.now)) }
-    ensures none { IfErr result (λ e. split_number numbered bytes.now ≡ None) }
+fn take_number(is_numbered: bool, bytes: &[u8]) -> Result<(Option<u16>, &[u8]), PacketError>
+    ensures there { IfOk result (λ it. split_number is_numbered bytes.now ≡ Some (it.0, it.1.now)) }
+    ensures none { IfErr result (λ e. split_number is_numbered bytes.now ≡ None) }
     ensures short { IfErr result (λ e. e ≡ PacketError.ErrShortPacket) }
 {
-    if !numbered {
+    if !is_numbered {
         return Ok((None, bytes));
     }
     if bytes.len() < 2 {
         return Err(PacketError::ErrShortPacket);
     }
-    let number = u16::from_be_bytes([bytes[0], bytes[1]]);
-    Ok((Some(number), &bytes[2..]))
+    let donl = u16::from_be_bytes([bytes[0], bytes[1]]);
+    Ok((Some(donl), &bytes[2..]))
 }
 
 /// Reads a packet: a type that is neither an aggregate's nor a fragment's is a unit's own.
-pub fn read(numbered: bool, packet: &[u8]) -> Result<Packet<'_>, PacketError>
-    ensures accepted { IfOk result (λ it. (h266 numbered).read packet.now ≡ reading_of it) }
+pub fn read(is_numbered: bool, packet: &[u8]) -> Result<Packet<'_>, PacketError>
+    ensures accepted { IfOk result (λ it. (h266 is_numbered).read packet.now ≡ reading_of it) }
     ensures checked { IfOk result (λ it. IsChecked it) }
-    ensures refused { IfErr result (λ e. (h266 numbered).read packet.now ≡ Refused e) }
+    ensures refused { IfErr result (λ e. (h266 is_numbered).read packet.now ≡ Refused e) }
 {
     if packet.len() <= PACKET_HEADER_SIZE {
         return Err(PacketError::ErrShortPacket);
@@ -83,62 +92,67 @@ pub fn read(numbered: bool, packet: &[u8]) -> Result<Packet<'_>, PacketError>
         return Err(PacketError::ErrH266CorruptedPacket);
     }
     if header.is_aggregation_packet() {
-        read_aggregate(numbered, packet)
+        read_aggregate(is_numbered, packet)
     } else if header.is_fragmentation_unit() {
-        read_fragment(numbered, packet)
+        read_fragment(is_numbered, packet)
     } else {
-        read_single(numbered, packet)
+        read_single(is_numbered, packet)
     }
 }
 
 /// Reads a single NAL unit packet.
-fn read_single(numbered: bool, packet: &[u8]) -> Result<Packet<'_>, PacketError>
+fn read_single(is_numbered: bool, packet: &[u8]) -> Result<Packet<'_>, PacketError>
     requires long { 3 ≤ length packet.now }
     requires clear { is_set (slice_index packet.now 0) 7 ≡ false }
     requires own { has_packet_type packet.now ≡ false }
-    ensures accepted { IfOk result (λ it. (h266 numbered).read packet.now ≡ reading_of it) }
+    ensures accepted { IfOk result (λ it. (h266 is_numbered).read packet.now ≡ reading_of it) }
     ensures checked { IfOk result (λ it. IsChecked it) }
-    ensures refused { IfErr result (λ e. (h266 numbered).read packet.now ≡ Refused e) }
+    ensures refused { IfErr result (λ e. (h266 is_numbered).read packet.now ≡ Refused e) }
 {
-    let (head, rest) = packet.split_at(PACKET_HEADER_SIZE);
-    let (number, body) = take_number(numbered, rest)?;
-    if body.is_empty() {
+    if !is_numbered {
+        return Ok(Packet::Single(packet));
+    }
+    if packet.len() < NUMBERED_HEADER_SIZE + 1 {
         return Err(PacketError::ErrShortPacket);
     }
-    Ok(Packet::Single { head, number, body })
+    Ok(Packet::NumberedSingle {
+        head: &packet[..PACKET_HEADER_SIZE],
+        donl: u16::from_be_bytes([packet[2], packet[3]]),
+        body: &packet[NUMBERED_HEADER_SIZE..],
+    })
 }
 
 /// Reads an aggregation packet.
-fn read_aggregate(numbered: bool, packet: &[u8]) -> Result<Packet<'_>, PacketError>
+fn read_aggregate(is_numbered: bool, packet: &[u8]) -> Result<Packet<'_>, PacketError>
     requires long { 3 ≤ length packet.now }
     requires clear { is_set (slice_index packet.now 0) 7 ≡ false }
     requires nalu_type { type_of (slice_index packet.now 1) ≡ 28 }
-    ensures accepted { IfOk result (λ it. (h266 numbered).read packet.now ≡ reading_of it) }
+    ensures accepted { IfOk result (λ it. (h266 is_numbered).read packet.now ≡ reading_of it) }
     ensures checked { IfOk result (λ it. IsChecked it) }
-    ensures refused { IfErr result (λ e. (h266 numbered).read packet.now ≡ Refused e) }
+    ensures refused { IfErr result (λ e. (h266 is_numbered).read packet.now ≡ Refused e) }
 {
-    let (number, bytes) = take_number(numbered, &packet[PACKET_HEADER_SIZE..])?;
+    let (donl, bytes) = take_number(is_numbered, &packet[PACKET_HEADER_SIZE..])?;
     let len = check_aggregate(bytes)?;
-    Ok(Packet::Aggregate { number, bytes, len })
+    Ok(Packet::Aggregate { donl, bytes, len })
 }
 
 /// Reads a fragmentation unit; where packets bear numbers, a start bears one.
-fn read_fragment(numbered: bool, packet: &[u8]) -> Result<Packet<'_>, PacketError>
+fn read_fragment(is_numbered: bool, packet: &[u8]) -> Result<Packet<'_>, PacketError>
     requires long { 3 ≤ length packet.now }
     requires clear { is_set (slice_index packet.now 0) 7 ≡ false }
     requires nalu_type { type_of (slice_index packet.now 1) ≡ 29 }
-    ensures accepted { IfOk result (λ it. (h266 numbered).read packet.now ≡ reading_of it) }
+    ensures accepted { IfOk result (λ it. (h266 is_numbered).read packet.now ≡ reading_of it) }
     ensures checked { IfOk result (λ it. IsChecked it) }
-    ensures refused { IfErr result (λ e. (h266 numbered).read packet.now ≡ Refused e) }
+    ensures refused { IfErr result (λ e. (h266 is_numbered).read packet.now ≡ Refused e) }
 {
     let fu = H266FragmentationUnitHeader(packet[PACKET_HEADER_SIZE]);
     let rest = &packet[FRAGMENT_HEADER_SIZE..];
-    let (number, body) = take_number(numbered && fu.s(), rest)?;
+    let (donl, body) = take_number(is_numbered && fu.s(), rest)?;
     Ok(Packet::Fragment {
         start: fu.s(),
         end: fu.e(),
         head: [packet[0], with_type(packet[1], fu.fu_type())],
-        number,
+        donl,
         body,
     })
 }

@@ -11,7 +11,7 @@ use Rattle.h266_payload.proofs.depacketizer.H266DepacketizerDepacketizer.depacke
 pub returns-in-Aggregate-clause-taken : goal.returns-in-Aggregate-clause-taken
 returns-in-Aggregate-clause-taken c =
     let units = aggregate_units c.in-Aggregate.bytes.now in
-    let number = c.in-Aggregate.number in
+    let number = c.in-Aggregate.donl in
     let reads : (h266 c.args.self.now.is_numbered).read c.args.packet.now ≡ Aggregate (numbered_on number units) = search rules in
     let written : OnOk c.append_units.result (c.append_units.new.out.items ≡ c.args.out.now.items ++ text false units) = search rules in
     aggregate_taken (work c.args.self.now c.args.out.now.items c.args.codec_extra.now) c.args.packet.now (numbered_on number units) units c.append_units.result
