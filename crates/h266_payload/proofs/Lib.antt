@@ -3,3 +3,4 @@ pub mod WithinLemmas
 pub mod SetsLemmas
 pub mod FactLemmas
 pub mod ReadingLemmas
+pub mod JudgedLemmas

@@ -1,13 +1,25 @@
-//! The H.266 payload format (RFC 9328): a packetizer, with the format's definitions and their laws.
+//! The H.266 payload format (RFC 9328): a packetizer, a depacketizer and the detection of
+//! keyframes, with the format's definitions and their laws.
 //!
 //! ```rust
 //! let mut packetizer = H266Packetizer::new(alloc);
 //! let packets = packetizer.packetize(1200, &frame)?;
+//!
+//! let mut depacketizer = H266Depacketizer::new(alloc);
+//! for packet in &packets {
+//!     depacketizer.depacketize(packet, &mut out, &mut extra)?;
+//! }
 //! ```
 #![tactic(auto)]
 
+mod aggregate;
 mod cases;
+mod depacketizer;
+mod detect;
 pub mod laws;
+mod packet;
 mod packetizer;
 
+pub use depacketizer::H266Depacketizer;
+pub use detect::detect_h266_keyframe;
 pub use packetizer::{H266, H266Packetizer};

@@ -3,7 +3,7 @@
 
 ghost use Rattle.std.specs.Prelude.{◌≡◌, ◌+◌, ◌*◌, ◌<◌, ◌≤◌, max, if◌then◌else◌, length, slice_index};
 ghost use Rattle.std.specs.List.{list_any};
-ghost use Rattle.h26x_core.specs.Word.{field};
+ghost use Rattle.h26x_core.specs.Word.{field, is_set};
 ghost use Rattle.h26x_core.specs.H266Unit.{type_of};
 ghost use Rattle.h26x_payload.specs.Sending.{sets_in};
 ghost use Rattle.h266_payload.specs.H266 as spec;
@@ -59,16 +59,17 @@ pub struct H266 {
 /// ```
 pub type H266Packetizer = PayloadPacketizer<H266>;
 
-/// The header of a unit.
-fn header_of(unit: &[u8]) -> H266NALUHeader
+/// The header of a unit or of a packet.
+pub(crate) fn header_of(unit: &[u8]) -> H266NALUHeader
     requires { 2 ≤ length unit.now }
-    ensures { field result.0 7 3 ≡ type_of (slice_index unit.now 1) }
+    ensures f { is_set result.0 15 ≡ is_set (slice_index unit.now 0) 7 }
+    ensures nalu_type { field result.0 7 3 ≡ type_of (slice_index unit.now 1) }
 {
     H266NALUHeader::new(unit[0], unit[1])
 }
 
 /// The second byte of a header with another type: the temporal id is kept.
-fn with_type(low: u8, nalu_type: u8) -> u8
+pub(crate) fn with_type(low: u8, nalu_type: u8) -> u8
     requires { nalu_type < 32 }
     ensures { result ≡ spec.with_type low nalu_type }
 {

@@ -1,0 +1,18 @@
+use Rattle.std.proofs.Common.{◌≡◌, ◌+◌, ◌-◌, ◌≤◌, ◌^◌, min, length}
+use Rattle.h26x_payload.specs.Run.{written_len}
+use Rattle.h266_payload.specs.Packet.{aggregate_units, judged}
+use Rattle.h266_payload.proofs.JudgedLemmas.{fault_of}
+use Rattle.h266_payload.proofs.aggregate.check_aggregate.Given as goal
+
+-- no unit before here is a fault; they and their length are counted
+abbrev pub invariant-loop-rest : goal.invariant-loop-rest
+invariant-loop-rest l = record {
+  fault : fault_of (judged l.rest) ≡ fault_of (judged l.bytes);
+  units : l.count + length (aggregate_units l.rest) ≡ length (aggregate_units l.bytes);
+  long : l.count + length l.rest ≤ length l.bytes;
+  whole : min (l.len + written_len (aggregate_units l.rest)) (2 ^ 64 - 1) ≡ min (written_len (aggregate_units l.bytes)) (2 ^ 64 - 1);
+  fits : l.len ≤ 2 ^ 64 - 1;
+}
+
+abbrev pub decreases-loop-rest : goal.decreases-loop-rest
+decreases-loop-rest l = length l.rest
