@@ -4,6 +4,8 @@
 use h26x_core::{CodecExtra, Depacketizer, Packetizer};
 use h26x_cut::{ZeroRule, units};
 use h264_payload::{H264Depacketizer, H264Packetizer};
+use h265_payload::{H265Depacketizer, H265Packetizer};
+use h266_payload::{H266Depacketizer, H266Packetizer};
 use std::alloc::Global;
 
 /// The bytes in all units of a payload.
@@ -28,14 +30,7 @@ pub extern "C" fn h26x_units_at_most_three(payload: &[u8]) -> usize {
 }
 
 /// Packetizes a payload so many times; the bytes of all packets.
-#[unsafe(no_mangle)]
-pub extern "C" fn h264_pack_rounds(
-    alloc: Global,
-    limit: usize,
-    payload: &[u8],
-    rounds: usize,
-) -> usize {
-    let mut packetizer = H264Packetizer::new(alloc);
+fn pack<P: Packetizer>(mut packetizer: P, limit: usize, payload: &[u8], rounds: usize) -> usize {
     let mut bytes: usize = 0;
     for _ in 0..rounds {
         if let Ok(packets) = packetizer.packetize(limit, payload) {
@@ -47,11 +42,13 @@ pub extern "C" fn h264_pack_rounds(
     bytes
 }
 
-/// Takes packets so many times, with units written in AVC form or not; the bytes written, 0 where
-/// one is refused.
-fn h264_take(alloc: Global, is_avc: bool, packets: &[Vec<u8>], rounds: usize) -> usize {
-    let mut depacketizer = H264Depacketizer::new(alloc);
-    depacketizer.is_avc = is_avc;
+/// Takes packets so many times; the bytes written, 0 where one is refused.
+fn take<D: Depacketizer>(
+    alloc: Global,
+    mut depacketizer: D,
+    packets: &[Vec<u8>],
+    rounds: usize,
+) -> usize {
     let mut out = Vec::new(alloc);
     let mut extra = CodecExtra::None;
     let mut bytes: usize = 0;
@@ -71,38 +68,24 @@ fn h264_take(alloc: Global, is_avc: bool, packets: &[Vec<u8>], rounds: usize) ->
 }
 
 /// Takes the packets of a payload so many times; the bytes written.
-#[unsafe(no_mangle)]
-pub extern "C" fn h264_take_rounds(
+fn pack_and_take<P: Packetizer, D: Depacketizer>(
     alloc: Global,
+    mut packetizer: P,
+    depacketizer: D,
     limit: usize,
     payload: &[u8],
     rounds: usize,
 ) -> usize {
-    match H264Packetizer::new(alloc).packetize(limit, payload) {
-        Ok(packets) => h264_take(alloc, false, &packets, rounds),
-        Err(_) => 0,
-    }
-}
-
-/// The same with units written in AVC form.
-#[unsafe(no_mangle)]
-pub extern "C" fn h264_take_avc_rounds(
-    alloc: Global,
-    limit: usize,
-    payload: &[u8],
-    rounds: usize,
-) -> usize {
-    match H264Packetizer::new(alloc).packetize(limit, payload) {
-        Ok(packets) => h264_take(alloc, true, &packets, rounds),
+    match packetizer.packetize(limit, payload) {
+        Ok(packets) => take(alloc, depacketizer, &packets, rounds),
         Err(_) => 0,
     }
 }
 
 /// Takes one packet so many times; the bytes written.
-#[unsafe(no_mangle)]
-pub extern "C" fn h264_take_packet_rounds(
+fn take_packet<D: Depacketizer>(
     alloc: Global,
-    _limit: usize,
+    depacketizer: D,
     packet: &[u8],
     rounds: usize,
 ) -> usize {
@@ -111,7 +94,203 @@ pub extern "C" fn h264_take_packet_rounds(
         return 0;
     };
     match packets.push(packet) {
-        Ok(()) => h264_take(alloc, false, &packets, rounds),
+        Ok(()) => take(alloc, depacketizer, &packets, rounds),
         Err(_) => 0,
     }
+}
+
+fn h264_avc(alloc: Global) -> H264Depacketizer {
+    let mut depacketizer = H264Depacketizer::new(alloc);
+    depacketizer.is_avc = true;
+    depacketizer
+}
+
+fn h265_pack_with_numbers(alloc: Global) -> H265Packetizer {
+    let mut packetizer = H265Packetizer::new(alloc);
+    packetizer.with_donl(true);
+    packetizer
+}
+
+fn h265_take_with_numbers(alloc: Global) -> H265Depacketizer {
+    let mut depacketizer = H265Depacketizer::new(alloc);
+    depacketizer.with_donl(true);
+    depacketizer
+}
+
+/// Packetizes H.264 so many times; the bytes of all packets.
+#[unsafe(no_mangle)]
+pub extern "C" fn h264_pack_rounds(
+    alloc: Global,
+    limit: usize,
+    payload: &[u8],
+    rounds: usize,
+) -> usize {
+    pack(H264Packetizer::new(alloc), limit, payload, rounds)
+}
+
+/// Takes the packets of H.264 so many times; the bytes written.
+#[unsafe(no_mangle)]
+pub extern "C" fn h264_take_rounds(
+    alloc: Global,
+    limit: usize,
+    payload: &[u8],
+    rounds: usize,
+) -> usize {
+    pack_and_take(
+        alloc,
+        H264Packetizer::new(alloc),
+        H264Depacketizer::new(alloc),
+        limit,
+        payload,
+        rounds,
+    )
+}
+
+/// Takes one packet of H.264 so many times; the bytes written.
+#[unsafe(no_mangle)]
+pub extern "C" fn h264_take_packet_rounds(
+    alloc: Global,
+    _limit: usize,
+    payload: &[u8],
+    rounds: usize,
+) -> usize {
+    take_packet(alloc, H264Depacketizer::new(alloc), payload, rounds)
+}
+
+/// Takes the packets of H.264 so many times, in AVC form; the bytes written.
+#[unsafe(no_mangle)]
+pub extern "C" fn h264_take_avc_rounds(
+    alloc: Global,
+    limit: usize,
+    payload: &[u8],
+    rounds: usize,
+) -> usize {
+    pack_and_take(
+        alloc,
+        H264Packetizer::new(alloc),
+        h264_avc(alloc),
+        limit,
+        payload,
+        rounds,
+    )
+}
+
+/// Packetizes H.265 so many times; the bytes of all packets.
+#[unsafe(no_mangle)]
+pub extern "C" fn h265_pack_rounds(
+    alloc: Global,
+    limit: usize,
+    payload: &[u8],
+    rounds: usize,
+) -> usize {
+    pack(H265Packetizer::new(alloc), limit, payload, rounds)
+}
+
+/// Takes the packets of H.265 so many times; the bytes written.
+#[unsafe(no_mangle)]
+pub extern "C" fn h265_take_rounds(
+    alloc: Global,
+    limit: usize,
+    payload: &[u8],
+    rounds: usize,
+) -> usize {
+    pack_and_take(
+        alloc,
+        H265Packetizer::new(alloc),
+        H265Depacketizer::new(alloc),
+        limit,
+        payload,
+        rounds,
+    )
+}
+
+/// Takes one packet of H.265 so many times; the bytes written.
+#[unsafe(no_mangle)]
+pub extern "C" fn h265_take_packet_rounds(
+    alloc: Global,
+    _limit: usize,
+    payload: &[u8],
+    rounds: usize,
+) -> usize {
+    take_packet(alloc, H265Depacketizer::new(alloc), payload, rounds)
+}
+
+/// Packetizes H.265 with numbers so many times; the bytes of all packets.
+#[unsafe(no_mangle)]
+pub extern "C" fn h265_numbered_pack_rounds(
+    alloc: Global,
+    limit: usize,
+    payload: &[u8],
+    rounds: usize,
+) -> usize {
+    pack(h265_pack_with_numbers(alloc), limit, payload, rounds)
+}
+
+/// Takes the packets of H.265 with numbers so many times; the bytes written.
+#[unsafe(no_mangle)]
+pub extern "C" fn h265_numbered_take_rounds(
+    alloc: Global,
+    limit: usize,
+    payload: &[u8],
+    rounds: usize,
+) -> usize {
+    pack_and_take(
+        alloc,
+        h265_pack_with_numbers(alloc),
+        h265_take_with_numbers(alloc),
+        limit,
+        payload,
+        rounds,
+    )
+}
+
+/// Takes one packet of H.265 with numbers so many times; the bytes written.
+#[unsafe(no_mangle)]
+pub extern "C" fn h265_numbered_take_packet_rounds(
+    alloc: Global,
+    _limit: usize,
+    payload: &[u8],
+    rounds: usize,
+) -> usize {
+    take_packet(alloc, h265_take_with_numbers(alloc), payload, rounds)
+}
+
+/// Packetizes H.266 so many times; the bytes of all packets.
+#[unsafe(no_mangle)]
+pub extern "C" fn h266_pack_rounds(
+    alloc: Global,
+    limit: usize,
+    payload: &[u8],
+    rounds: usize,
+) -> usize {
+    pack(H266Packetizer::new(alloc), limit, payload, rounds)
+}
+
+/// Takes the packets of H.266 so many times; the bytes written.
+#[unsafe(no_mangle)]
+pub extern "C" fn h266_take_rounds(
+    alloc: Global,
+    limit: usize,
+    payload: &[u8],
+    rounds: usize,
+) -> usize {
+    pack_and_take(
+        alloc,
+        H266Packetizer::new(alloc),
+        H266Depacketizer::new(alloc),
+        limit,
+        payload,
+        rounds,
+    )
+}
+
+/// Takes one packet of H.266 so many times; the bytes written.
+#[unsafe(no_mangle)]
+pub extern "C" fn h266_take_packet_rounds(
+    alloc: Global,
+    _limit: usize,
+    payload: &[u8],
+    rounds: usize,
+) -> usize {
+    take_packet(alloc, H266Depacketizer::new(alloc), payload, rounds)
 }
