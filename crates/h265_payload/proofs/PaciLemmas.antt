@@ -1,6 +1,7 @@
 -- A PACI packet that was packed is read as it was.
 use Rattle.std.proofs.Common.{◌≡◌, ℕ, ◌+◌, ◌*◌, ◌/◌, ◌%◌, ◌<◌, ◌≤◌, Bool, true, false, cond, eqb, List, [], ◌∷◌, length, None, refl, ap, arith}
 use Rattle.std.specs.Prelude.{nat_le}
+use Rattle.std.proofs.lemmas.List.{take_at, drop_at}
 use Rattle.std.proofs.lemmas.Bool.Decides.{nat_tests}
 use Rattle.h26x_core.specs.Word.{field, is_set, flag}
 use Rattle.h26x_core.specs.H265Unit.{is_forbidden, type_of}
@@ -9,6 +10,8 @@ use Rattle.h265_payload.specs.H265.{with_type, read, paci_head}
 use Rattle.h265_payload.specs.Paci.{paci_fields, paci_packet}
 use Rattle.h265_payload.specs.Payload.{PaciPacket, tsci_in, tsci_shown}
 use Rattle.h265_payload.specs.Reading.{IsPaci}
+use Rattle.h265_payload.specs.Shown.{shown}
+use Rattle.h265_payload.specs.declared.payload.H265Payload.TheVariants.{H265PACIPacket}
 use Rattle.h265_payload.proofs.ReadingLemmas.{only_reading}
 
 -- the fields of a word: A, the type, the extension's length, F0, and three bits that are clear
@@ -74,6 +77,15 @@ read_back numbered high low body phes byte some within =
     (IsPaci (with_type high 50) low (paci_fields high phes / 256 % 256) (paci_fields high phes % 256) phes body
     (record { whole = refl; some = omega arith; clear = grind (arith, nat_tests) }) (omega arith) (rw w f.phs_size) some
     (rw w (rw (head_back high low phes byte within) refl)))
+
+-- and is shown as it was packed
+pub shown_back : (numbered : Bool) (high low : ℕ) (body phes : List ℕ) → length phes ≤ 31 →
+    shown numbered (paci_packet (high ∷ low ∷ body) phes)
+    ≡ H265PACIPacket (record { header = with_type high 50 * 256 + low; fields = paci_fields high phes; phes = phes; payload = body })
+shown_back numbered high low body phes within =
+    let f = fields_are high phes within in
+    let kind : type_of (with_type high 50) ≡ 50 = omega arith in
+    rw (kind, word_back (paci_fields high phes) f.two_bytes, f.phs_size, take_at phes body (length phes) refl, drop_at phes body (length phes) refl) refl
 
 -- an extension of fewer than three bytes holds no TSCI
 tsci_within : (phes : List ℕ) → cond (nat_le 3 (length phes)) (tsci_in phes) None ≡ tsci_in phes

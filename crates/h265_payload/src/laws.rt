@@ -1,6 +1,6 @@
 //! Laws of the H.265 payload format. Each is the contract of a function without a result.
 
-ghost use Rattle.std.specs.Prelude.{◌≡◌, ◌+◌, ◌<◌, ◌≤◌, nat_le, true, false, ℕ, Bool, List, [], ◌∷◌, length, drop, IsTrue};
+ghost use Rattle.std.specs.Prelude.{◌≡◌, ◌+◌, ◌*◌, ◌<◌, ◌≤◌, nat_le, true, false, ℕ, Bool, List, [], ◌∷◌, length, drop, IsTrue};
 ghost use Rattle.std.specs.List.{AllByRecursion};
 ghost use Rattle.h26x_core.specs.Word.{field, is_set};
 ghost use Rattle.h26x_core.specs.H265Unit.{is_forbidden, type_of};
@@ -22,8 +22,10 @@ ghost use Rattle.h26x_core.specs.Sender.{Sender, IsSender, planned, sent_by};
 ghost use Rattle.h26x_core.specs.Ends.{calls_like};
 ghost use Rattle.h26x_cut.specs.declared.ZeroRule.TheVariants.{All};
 ghost use Rattle.h26x_cut.specs.Cutting.{IsUnit, AreSeparable};
-ghost use Rattle.h265_payload.specs.H265.{h265, read};
+ghost use Rattle.h265_payload.specs.H265.{h265, read, with_type};
 ghost use Rattle.h265_payload.specs.Reading.{IsReading};
+ghost use Rattle.h265_payload.specs.Shown.{shown};
+ghost use Rattle.h265_payload.specs.declared.payload.H265Payload.TheVariants as p;
 ghost use Rattle.h265_payload.specs.Paci.{paci_fields, paci_packet};
 ghost use Rattle.h265_payload.specs.Payload.{PaciPacket, tsci_word, tsci_in, tsci_shown};
 
@@ -122,13 +124,20 @@ pub fn sent_again()
 {}
 
 /// The PACI packet of a unit of three bytes or more, whatever its type and its F, and of an
-/// extension of at most 31 bytes is read as them (RFC 7798, 4.4.4), with and without numbers. Its
-/// fields are those of the unit and the extension.
+/// extension of at most 31 bytes is read as them (RFC 7798, 4.4.4), with and without numbers, and
+/// shown as it was packed. Its fields are those of the unit and the extension.
 pub fn paci_is_read_back()
     ensures back { (numbered : Bool) (high low : ℕ) (body phes : List ℕ) → high < 256 →
         1 ≤ length body → length phes ≤ 31 →
         read numbered (paci_packet (high ∷ low ∷ body) phes)
         ≡ Paci (high ∷ low ∷ []) (paci_fields high phes) phes body }
+    ensures shows { (numbered : Bool) (high low : ℕ) (body phes : List ℕ) → length phes ≤ 31 →
+        shown numbered (paci_packet (high ∷ low ∷ body) phes) ≡ p.H265PACIPacket (record {
+      header = with_type high 50 * 256 + low;
+      fields = paci_fields high phes;
+      phes = phes;
+      payload = body;
+    }) }
     ensures a { (high : ℕ) (phes : List ℕ) → length phes ≤ 31 →
         is_set (paci_fields high phes) 15 ≡ is_forbidden high }
     ensures ctype { (high : ℕ) (phes : List ℕ) → length phes ≤ 31 →

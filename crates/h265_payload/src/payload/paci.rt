@@ -7,6 +7,7 @@ ghost use Rattle.h265_payload.specs.Payload.{empty_paci, tsci_shown};
 ghost use Rattle.h265_payload.specs.Paci.{paci_packet};
 
 use super::paci_packing::packet_of;
+use crate::header::{paci_size, paci_type};
 use h26x_core::{H265NALUHeader, H265TSCI, PacketError};
 use std::alloc::Global;
 use std::marker::Model;
@@ -123,14 +124,14 @@ impl H265PACIPacket {
     pub fn ctype(&self) -> u8
         ensures { result ≡ field self.now.fields 14 9 }
     {
-        (self.fields >> 9 & 0x3f) as u8
+        paci_type(self.fields)
     }
 
     /// PHSsize, how many bytes the extension has, 0 to 31 (RFC 7798, 4.4.4).
     pub fn phs_size(&self) -> u8
         ensures { result ≡ field self.now.fields 8 4 }
     {
-        (self.fields >> 4 & 0x1f) as u8
+        paci_size(self.fields)
     }
 
     /// F0, which tells that the extension holds TSCI (RFC 7798, 4.4.4 and 4.5).

@@ -3,6 +3,7 @@
 ghost use Rattle.std.specs.Prelude.{◌≡◌, ◌≤◌, length, slice_index, IfOk};
 ghost use Rattle.h265_payload.specs.Paci.{paci_fields, paci_packet};
 
+use crate::header::high_byte;
 use h26x_core::H265NALUHeader;
 use std::alloc::{AllocError, Global};
 
@@ -39,7 +40,7 @@ pub fn packet_of(alloc: Global, unit: &[u8], phes: &[u8]) -> Result<Vec<u8>, All
 {
     let len = unit.len().saturating_add(FIELDS_SIZE + phes.len());
     let mut packet = Vec::with_capacity(alloc, len)?;
-    packet.extend_from_slice(&[PACI_TYPE * 2 + (unit[0] & 1), unit[1]])?;
+    packet.extend_from_slice(&[high_byte(0, PACI_TYPE, unit[0]), unit[1]])?;
     packet.extend_from_slice(&fields_of(unit, phes).to_be_bytes())?;
     packet.extend_from_slice(phes)?;
     packet.extend_from_slice(&unit[HEADER_SIZE..])?;
