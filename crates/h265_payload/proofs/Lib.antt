@@ -5,3 +5,4 @@ pub mod FurtherLemmas
 pub mod ReadingLemmas
 pub mod RuleLemmas
 pub mod PaciLemmas
+pub mod EqualityLemmas
