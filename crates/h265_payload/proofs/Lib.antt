@@ -7,3 +7,4 @@ pub mod RuleLemmas
 pub mod ApartLemmas
 pub mod AggregateLemmas
 pub mod PaciLemmas
+pub mod EqualityLemmas

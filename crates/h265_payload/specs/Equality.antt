@@ -6,7 +6,7 @@ use Rattle.std.specs.Cmp.{IsEquivalence, and_equiv, on_equiv}
 use Rattle.std.specs.Cmp.Rules.{comparing}
 use Rattle.std.specs.Cmp.Lexicographic.{options_equiv}
 use Rattle.std.proofs.Common.{rules}
-use Rattle.h265_payload.specs.Payload.{SinglePacket, FragmentationPacket, AggregationPacket, PaciPacket, single_eq, fragmentation_eq, aggregation_eq, paci_eq}
+use Rattle.h265_payload.specs.Payload.{SinglePacket, FragmentationPacket, AggregationPacket, PaciPacket, single_eq, fragmentation_eq, first_eq, other_eq, aggregation_eq, paci_eq}
 use Rattle.h265_payload.specs.declared.payload.H265Payload.{H265Payload}
 use Rattle.h265_payload.specs.declared.payload.H265Payload.TheVariants as p
 
@@ -34,16 +34,22 @@ payload_eq = eq_of_both (on as_single (option_eq single_eq)) (eq_of_both (on as_
     as_paci (option_eq paci_eq))))
 
 -- each is an equivalence
-single_equiv : IsEquivalence single_eq
+pub single_equiv : IsEquivalence single_eq
 single_equiv = search (comparing, rules) depth 9
 
-fragmentation_equiv : IsEquivalence fragmentation_eq
+pub fragmentation_equiv : IsEquivalence fragmentation_eq
 fragmentation_equiv = search (comparing, rules) depth 9
 
-aggregation_equiv : IsEquivalence aggregation_eq
+pub aggregation_equiv : IsEquivalence aggregation_eq
 aggregation_equiv = search (comparing, rules) depth 9
 
-paci_equiv : IsEquivalence paci_eq
+pub first_equiv : IsEquivalence first_eq
+first_equiv = search (comparing, rules) depth 9
+
+pub other_equiv : IsEquivalence other_eq
+other_equiv = search (comparing, rules) depth 9
+
+pub paci_equiv : IsEquivalence paci_eq
 paci_equiv = search (comparing, rules) depth 9
 
 pub payload_equiv : IsEquivalence payload_eq

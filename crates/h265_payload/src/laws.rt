@@ -1,6 +1,6 @@
 //! Laws of the H.265 payload format. Each is the contract of a function without a result.
 
-ghost use Rattle.std.specs.Prelude.{◌≡◌, ◌+◌, ◌*◌, ◌<◌, ◌≤◌, nat_le, true, false, ℕ, Bool, List, [], ◌∷◌, length, drop, IsTrue};
+ghost use Rattle.std.specs.Prelude.{◌≡◌, ◌↔◌, ◌+◌, ◌*◌, ◌<◌, ◌≤◌, nat_le, true, false, ℕ, Bool, List, [], ◌∷◌, length, drop, IsTrue};
 ghost use Rattle.std.specs.List.{AllByRecursion};
 ghost use Rattle.h26x_core.specs.Word.{field, is_set};
 ghost use Rattle.h26x_core.specs.H265Unit.{is_forbidden, type_of};
@@ -25,9 +25,13 @@ ghost use Rattle.h26x_cut.specs.Cutting.{IsUnit, AreSeparable};
 ghost use Rattle.h265_payload.specs.H265.{h265, read, with_type};
 ghost use Rattle.h265_payload.specs.Reading.{IsReading};
 ghost use Rattle.h265_payload.specs.Shown.{shown};
+ghost use Rattle.h265_payload.specs.Equality.{payload_eq};
+ghost use Rattle.h265_payload.specs.declared.payload.H265Payload.{H265Payload};
 ghost use Rattle.h265_payload.specs.declared.payload.H265Payload.TheVariants as p;
 ghost use Rattle.h265_payload.specs.Paci.{paci_fields, paci_packet};
 ghost use Rattle.h265_payload.specs.Payload.{PaciPacket, tsci_word, tsci_in, tsci_shown};
+ghost use Rattle.h265_payload.specs.Payload.{SinglePacket, FragmentationPacket, FirstUnit, OtherUnit, AggregationPacket};
+ghost use Rattle.h265_payload.specs.Payload.{single_eq, fragmentation_eq, first_eq, other_eq, aggregation_eq, paci_eq};
 
 /// A packet has one reading, and `read` finds it.
 pub fn one_reading()
@@ -160,4 +164,16 @@ pub fn tsci_is_read_back()
     ensures irap_pic_id { (a b c : ℕ) → b < 256 → c < 256 → field (tsci_word a b c) 23 16 ≡ b }
     ensures third { (a b c : ℕ) → c < 256 → field (tsci_word a b c) 15 8 ≡ c }
     ensures low { (a b c : ℕ) → field (tsci_word a b c) 7 0 ≡ 0 }
+{}
+
+/// What is shown is equal where it is the same, its marks too, and nowhere else.
+pub fn equal_packets_are_the_same()
+    ensures payload { (a b : H265Payload) → (payload_eq a b ≡ true) ↔ (a ≡ b) }
+    ensures single { (a b : SinglePacket) → (single_eq a b ≡ true) ↔ (a ≡ b) }
+    ensures fragmentation { (a b : FragmentationPacket) →
+        (fragmentation_eq a b ≡ true) ↔ (a ≡ b) }
+    ensures first { (a b : FirstUnit) → (first_eq a b ≡ true) ↔ (a ≡ b) }
+    ensures other { (a b : OtherUnit) → (other_eq a b ≡ true) ↔ (a ≡ b) }
+    ensures aggregation { (a b : AggregationPacket) → (aggregation_eq a b ≡ true) ↔ (a ≡ b) }
+    ensures paci { (a b : PaciPacket) → (paci_eq a b ≡ true) ↔ (a ≡ b) }
 {}
