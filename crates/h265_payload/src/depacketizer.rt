@@ -63,22 +63,15 @@ fn take(
             *codec_extra = told(codec, *codec_extra, codec.is_key(unit));
             Ok(())
         }
-        Packet::NumberedSingle {
-            head,
-            donl: _,
-            body,
-        } => take_unit(codec, head, body, out, codec_extra),
-        Packet::Aggregate {
-            donl: _,
-            bytes,
-            len,
-        } => append_units(codec, false, bytes, len, out, codec_extra),
+        Packet::NumberedSingle { head, body, .. } => take_unit(codec, head, body, out, codec_extra),
+        Packet::Aggregate { bytes, len, .. } => {
+            append_units(codec, false, bytes, len, out, codec_extra)
+        }
         Packet::Fragment {
-            header: _,
             marks,
             head,
-            donl: _,
             body,
+            ..
         } => {
             let fragment = Fragment {
                 start: marks.s(),
@@ -89,10 +82,10 @@ fn take(
             take_fragment(codec, false, fragment, run, out, codec_extra)
         }
         Packet::Paci {
-            header: _,
             fields,
             head,
             bytes,
+            ..
         } => {
             let body = &bytes[usize::from(paci_size(fields))..];
             take_unit(codec, &head, body, out, codec_extra)

@@ -137,11 +137,11 @@ pub fn paci_is_read_back()
         ≡ Paci (high ∷ low ∷ []) (paci_fields high phes) phes body }
     ensures shows { (numbered : Bool) (high low : ℕ) (body phes : List ℕ) → length phes ≤ 31 →
         shown numbered (paci_packet (high ∷ low ∷ body) phes) ≡ p.H265PACIPacket (record {
-      header = with_type high 50 * 256 + low;
-      fields = paci_fields high phes;
-      phes = phes;
-      payload = body;
-    }) }
+          header = with_type high 50 * 256 + low;
+          fields = paci_fields high phes;
+          phes = phes;
+          payload = body;
+        }) }
     ensures a { (high : ℕ) (phes : List ℕ) → length phes ≤ 31 →
         is_set (paci_fields high phes) 15 ≡ is_forbidden high }
     ensures ctype { (high : ℕ) (phes : List ℕ) → length phes ≤ 31 →

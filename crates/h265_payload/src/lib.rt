@@ -1,8 +1,15 @@
-//! The H.265 payload format (RFC 7798): a packetizer, with the format's definitions and their laws.
+//! The H.265 payload format (RFC 7798): a packetizer, a depacketizer that shows the packet that it
+//! accepted last, PACI packets and the detection of keyframes, with the format's definitions and
+//! their laws.
 //!
 //! ```rust
 //! let mut packetizer = H265Packetizer::new(alloc);
 //! let packets = packetizer.packetize(1200, &frame)?;
+//!
+//! let mut depacketizer = H265Depacketizer::new(alloc);
+//! for packet in &packets {
+//!     depacketizer.depacketize(packet, &mut out, &mut extra)?;
+//! }
 //! ```
 #![tactic(auto)]
 

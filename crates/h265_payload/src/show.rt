@@ -36,20 +36,16 @@ pub fn show(
             let shown = H265SingleNALUnitPacket::of(header, Some(donl), payload, true);
             Ok(H265Payload::H265SingleNALUnitPacket(shown))
         }
-        Packet::Aggregate {
-            donl,
-            bytes,
-            len: _,
-        } => {
+        Packet::Aggregate { donl, bytes, .. } => {
             let shown = show_aggregate(alloc, is_numbered, donl, bytes, buffer)?;
             Ok(H265Payload::H265AggregationPacket(shown))
         }
         Packet::Fragment {
             header,
             marks,
-            head: _,
             donl,
             body,
+            ..
         } => {
             let payload = filled(buffer, body)?;
             let shown = H265FragmentationUnitPacket::of(header, marks, donl, payload, is_numbered);
@@ -58,8 +54,8 @@ pub fn show(
         Packet::Paci {
             header,
             fields,
-            head: _,
             bytes,
+            ..
         } => {
             let shown = H265PACIPacket::of(header, fields, filled(buffer, bytes)?);
             Ok(H265Payload::H265PACIPacket(shown))
