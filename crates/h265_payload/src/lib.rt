@@ -32,3 +32,6 @@ pub use payload::{
     H265AggregationPacket, H265AggregationUnit, H265AggregationUnitFirst,
     H265FragmentationUnitPacket, H265PACIPacket, H265Payload, H265SingleNALUnitPacket,
 };
+
+#[cfg(test)]
+mod memory;
