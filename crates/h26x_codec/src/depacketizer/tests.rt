@@ -1,3 +1,5 @@
+ghost use Rattle.std.specs.Prelude.{[]};
+
 use super::*;
 use h26x_core::{ANNEXB_NALUSTART_CODE, H264CodecExtra, H265CodecExtra, H266CodecExtra};
 use std::test::Fail;
@@ -33,10 +35,6 @@ impl Depacketizer for PlainDepacketizer {
     fn is_partition_tail(&self, marker: bool, _packet: &[u8]) -> bool {
         marker
     }
-}
-
-fn boxed(alloc: Global) -> Result<CodecDepacketizer, Fail> {
-    Ok(CodecDepacketizer::Boxed(Box::new(alloc, PlainDepacketizer)?))
 }
 
 const CODECS: [Codec; 3] = [Codec::H264, Codec::H265, Codec::H266];
@@ -175,7 +173,7 @@ fn heads_and_tails(rt: HostRuntime) -> Result<(), Fail> {
 
 #[test]
 fn a_depacketizer_in_a_box(rt: HostRuntime) -> Result<(), Fail> {
-    let mut depacketizer = boxed(rt.alloc())?;
+    let mut depacketizer = CodecDepacketizer::Boxed(Box::new(rt.alloc(), PlainDepacketizer)?);
     let mut out = vec![in rt.alloc(); 9]?;
     let mut extra = key_of(Codec::H265);
     depacketizer.depacketize(&[1, 2], &mut out, &mut extra)?;
@@ -192,7 +190,8 @@ fn a_depacketizer_in_a_box(rt: HostRuntime) -> Result<(), Fail> {
 
 #[test]
 fn debug_text(rt: HostRuntime) -> Result<(), Fail> {
-    let text = format!(in rt.alloc(); "{:?}", boxed(rt.alloc())?)?;
+    let depacketizer = CodecDepacketizer::Boxed(Box::new(rt.alloc(), PlainDepacketizer)?);
+    let text = format!(in rt.alloc(); "{depacketizer:?}")?;
     assert_eq!(rt; text.as_str(), "Boxed");
     for (codec, front) in [
         (Codec::H264, "H264("),

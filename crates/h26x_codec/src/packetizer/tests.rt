@@ -1,3 +1,5 @@
+ghost use Rattle.std.specs.Prelude.{[]};
+
 use super::*;
 use std::test::Fail;
 
@@ -21,10 +23,6 @@ impl Packetizer for PlainPacketizer {
     fn is_marker(&mut self, _data: &[u8], _previous: Option<&[u8]>, last: bool) -> bool {
         last
     }
-}
-
-fn boxed(alloc: Global) -> Result<CodecPacketizer, Fail> {
-    Ok(CodecPacketizer::Boxed(Box::new(alloc, PlainPacketizer { alloc })?))
 }
 
 /// A payload of one unit of H.265 or H.266.
@@ -61,76 +59,9 @@ fn numbers_by_the_session_description(rt: HostRuntime) -> Result<(), Fail> {
 }
 
 #[test]
-fn largest_packet_sizes(rt: HostRuntime) -> Result<(), Fail> {
-    let payload = [2, 1, 1, 2, 3, 4, 5, 6];
-    // The codec, and how many packets the payload has where the largest size is 4, at a limit of
-    // 100 and of 3.
-    for (codec, counts) in [
-        (Codec::H264, [1, 7]),
-        (Codec::H265, [6, 0]),
-        (Codec::H266, [6, 0]),
-    ] {
-        let mut packetizer = CodecPacketizer::new(rt.alloc(), codec);
-        packetizer.with_max_packet_size(4);
-        assert_eq!(rt;
-            packetizer.packetize(100, &payload)?.len(),
-            counts[0],
-            "{codec:?}"
-        );
-        assert_eq!(rt;
-            packetizer.packetize(3, &payload)?.len(),
-            counts[1],
-            "{codec:?}"
-        );
-    }
-    let mut packetizer = boxed(rt.alloc())?;
-    packetizer.with_max_packet_size(4);
-    packetizer.configure_for(Some(1));
-    assert_eq!(rt;
-        packetizer.packetize(3, &payload)?[0].as_slice(),
-        payload.as_slice()
-    );
-    Ok(())
-}
-
-#[test]
-fn each_call_reaches_its_codec(rt: HostRuntime) -> Result<(), Fail> {
-    // Five bytes in fragments, of H.264 at a limit of 3 and of the others at 4.
-    let payload = [0x26, 1, 0xaa, 0xbb, 0xcc];
-    let table: [(Codec, usize, &[u8], &[u8]); 3] = [
-        (Codec::H264, 3, &[0x3c, 0x86, 1], &[0x3c, 0x46, 0xcc]),
-        (
-            Codec::H265,
-            4,
-            &[0x62, 1, 0x93, 0xaa],
-            &[0x62, 1, 0x53, 0xcc],
-        ),
-        (
-            Codec::H266,
-            4,
-            &[0x26, 0xe9, 0x80, 0xaa],
-            &[0x26, 0xe9, 0x40, 0xcc],
-        ),
-    ];
-    for (codec, mtu, first, last) in table {
-        let mut packetizer = CodecPacketizer::new(rt.alloc(), codec);
-        let packets = packetizer.packetize(mtu, &payload)?;
-        assert_eq!(rt; packets[0].as_slice(), first, "{codec:?}");
-        assert_eq!(rt; packets[packets.len() - 1].as_slice(), last, "{codec:?}");
-        assert!(rt; packetizer.is_marker(&payload, None, true), "{codec:?}");
-        assert!(rt;
-            !packetizer.is_marker(&payload, Some(&payload), false),
-            "{codec:?}"
-        );
-        assert!(rt; !packetizer.marks_talkspurt(), "{codec:?}");
-        assert!(rt; packetizer.nackable(), "{codec:?}");
-    }
-    Ok(())
-}
-
-#[test]
 fn a_packetizer_in_a_box(rt: HostRuntime) -> Result<(), Fail> {
-    let mut packetizer = boxed(rt.alloc())?;
+    let plain = PlainPacketizer { alloc: rt.alloc() };
+    let mut packetizer = CodecPacketizer::Boxed(Box::new(rt.alloc(), plain)?);
     let packets = packetizer.packetize(0, &UNIT)?;
     assert_eq!(rt; packets.len(), 1);
     assert_eq!(rt; packets[0].as_slice(), UNIT.as_slice());
@@ -144,7 +75,9 @@ fn a_packetizer_in_a_box(rt: HostRuntime) -> Result<(), Fail> {
 
 #[test]
 fn debug_text(rt: HostRuntime) -> Result<(), Fail> {
-    let text = format!(in rt.alloc(); "{:?}", boxed(rt.alloc())?)?;
+    let plain = PlainPacketizer { alloc: rt.alloc() };
+    let packetizer = CodecPacketizer::Boxed(Box::new(rt.alloc(), plain)?);
+    let text = format!(in rt.alloc(); "{packetizer:?}")?;
     assert_eq!(rt; text.as_str(), "Boxed");
     for (codec, front) in [
         (Codec::H264, "H264("),
