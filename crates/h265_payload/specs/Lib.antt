@@ -8,3 +8,4 @@ pub mod Paci
 pub mod Frame
 pub mod Depacketizer
 pub mod Equality
+pub mod Setting

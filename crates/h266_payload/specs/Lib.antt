@@ -4,3 +4,4 @@ pub mod CodecFacts
 pub mod Frame
 pub mod Packet
 pub mod Depacketizer
+pub mod Setting

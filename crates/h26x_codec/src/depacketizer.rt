@@ -1,0 +1,194 @@
+//! A depacketizer of any codec, or a caller's own.
+
+ghost use Rattle.std.specs.Prelude.{◌≡◌, [], ◌∷◌, true, Some, OnOk, OnErr, IsOk};
+ghost use Rattle.h26x_core.specs.Facts.{IsPayloadFormat};
+ghost use Rattle.h26x_core.specs.Front.{IsFrontOf};
+ghost use Rattle.h26x_core.specs.Hint.{size_hint};
+ghost use Rattle.h26x_core.specs.Outcome.{is_startless};
+ghost use Rattle.h26x_core.specs.Receiver.{Receiver, Work, work_after, IsOutcomeAt};
+ghost use Rattle.h26x_core.specs.H264Frame as h264_frame;
+ghost use Rattle.h264_payload.specs.Depacketizer as h264_end;
+ghost use Rattle.h265_payload.specs.Depacketizer as h265_end;
+ghost use Rattle.h265_payload.specs.Frame as h265_frame;
+ghost use Rattle.h265_payload.specs.Shown.{shown};
+ghost use Rattle.h266_payload.specs.Depacketizer as h266_end;
+ghost use Rattle.h266_payload.specs.Frame as h266_frame;
+ghost use Rattle.h26x_codec.specs.Codec.{format_of, receiver_of, codec_received, fresh_receiver, work_of, payload_of};
+ghost use Rattle.h26x_codec.specs.declared.depacketizer.CodecDepacketizer.TheVariants as d;
+
+use crate::codec::Codec;
+use h26x_core::{CodecExtra, Depacketizer, PacketError};
+use h264_payload::H264Depacketizer;
+use h265_payload::H265Depacketizer;
+use h266_payload::H266Depacketizer;
+use std::alloc::Global;
+use std::fmt;
+
+/// A depacketizer of one of the codecs, or a caller's own in a box.
+///
+/// Every call goes to the depacketizer that it holds.
+///
+/// ```rust
+/// let mut depacketizer = CodecDepacketizer::new(alloc, Codec::H266);
+/// let mut extra = CodecExtra::None;
+/// for packet in &packets {
+///     depacketizer.depacketize(packet, &mut out, &mut extra)?;
+/// }
+/// ```
+#[derive(Drop)]
+pub enum CodecDepacketizer {
+    /// Receives H.264 (RFC 6184).
+    H264(H264Depacketizer),
+    /// Receives H.265 (RFC 7798).
+    H265(H265Depacketizer),
+    /// Receives H.266 (RFC 9328).
+    H266(H266Depacketizer),
+    /// A caller's own depacketizer. Nothing is known of it but the laws of [`Depacketizer`].
+    Boxed(Box<dyn Depacketizer>),
+}
+
+impl fmt::Debug for CodecDepacketizer {
+    /// The depacketizer of a codec behind its codec's name; of one in a box only `Boxed`.
+    fn fmt<W: fmt::Write>(&self, f: &mut fmt::Formatter<W>) -> fmt::Result {
+        match self {
+            CodecDepacketizer::H264(it) => write!(f, "H264({it:?})"),
+            CodecDepacketizer::H265(it) => write!(f, "H265({it:?})"),
+            CodecDepacketizer::H266(it) => write!(f, "H266({it:?})"),
+            CodecDepacketizer::Boxed(_) => write!(f, "Boxed"),
+        }
+    }
+}
+
+impl CodecDepacketizer {
+    /// A depacketizer of a codec that reads packets without decoding order numbers, writes start
+    /// codes and has no run open. Its memory comes from `alloc`; none is taken here.
+    pub fn new(alloc: Global, codec: Codec) -> Self
+        ensures codec { codec_received result ≡ Some codec }
+        ensures fresh { receiver_of result ≡ Some (fresh_receiver (format_of codec)) }
+    {
+        match codec {
+            Codec::H264 => CodecDepacketizer::H264(H264Depacketizer::new(alloc)),
+            Codec::H265 => CodecDepacketizer::H265(H265Depacketizer::new(alloc)),
+            Codec::H266 => CodecDepacketizer::H266(H266Depacketizer::new(alloc)),
+        }
+    }
+
+    /// A law of every depacketizer of a codec: its format meets the facts on which the laws of
+    /// every format stand.
+    pub fn is_receiver(&self)
+        ensures { (r : Receiver) → receiver_of self.now ≡ Some r → IsPayloadFormat r.format }
+    {
+        match self {
+            CodecDepacketizer::H264(_) => h264_payload::laws::meets_the_facts(),
+            CodecDepacketizer::H265(_) => h265_payload::laws::meets_the_facts(),
+            CodecDepacketizer::H266(_) => h266_payload::laws::meets_the_facts(),
+            CodecDepacketizer::Boxed(_) => {}
+        }
+    }
+}
+
+impl Depacketizer for CodecDepacketizer {
+    // What the later answers of the depacketizer that it holds depend on.
+    ghost meaning = { elim [
+      | d.H264 it ↦ h264_end.meaning_of it
+      | d.H265 it ↦ h265_end.meaning_of it
+      | d.H266 it ↦ h266_end.meaning_of it
+      | d.Boxed it ↦ (Depacketizer-box it).Depacketizer.meaning it.value
+    ] };
+
+    /// How many bytes the units of packets of this many bytes may take when they are written. Of a
+    /// codec: these bytes, four more, and four for each whole 1200 of them; at most `usize::MAX`.
+    fn out_size_hint(&self, packets_size: usize) -> Option<usize>
+        ensures { (r : Receiver) → receiver_of self.now ≡ Some r →
+            result ≡ Some (size_hint packets_size) }
+    {
+        match self {
+            CodecDepacketizer::H264(it) => it.out_size_hint(packets_size),
+            CodecDepacketizer::H265(it) => it.out_size_hint(packets_size),
+            CodecDepacketizer::H266(it) => it.out_size_hint(packets_size),
+            CodecDepacketizer::Boxed(it) => it.out_size_hint(packets_size),
+        }
+    }
+
+    /// Appends the units that `packet` completes to `out`, and tells of them in `codec_extra`, as
+    /// the depacketizer that it holds does. One of H.265 then shows the packet.
+    ///
+    /// A refusal leaves `out`, `codec_extra` and what later answers depend on, and of H.265 what is
+    /// shown; the errors are those of the depacketizer that it holds.
+    fn depacketize(
+        &mut self,
+        packet: &[u8],
+        out: &mut Vec<u8>,
+        codec_extra: &mut CodecExtra,
+    ) -> Result<(), PacketError>
+        ensures outcome { (w : Work) → work_of self.old out.old.items codec_extra.old ≡ Some w →
+            IsOutcomeAt w packet.now result }
+        ensures taken { (w : Work) → work_of self.old out.old.items codec_extra.old ≡ Some w →
+            OnOk result (work_of self.new out.new.items codec_extra.new
+            ≡ Some (work_after w (packet.now ∷ []))) }
+        ensures kept { (r : Receiver) → receiver_of self.old ≡ Some r →
+            OnErr result (self.new ≡ self.old) }
+        ensures codec { codec_received self.new ≡ codec_received self.old }
+        ensures shows { (it : h265_end.Depacketizer) → self.old ≡ d.H265 it →
+            OnOk result (payload_of self.new ≡ Some (shown it.is_numbered packet.now)) }
+
+        // Such a packet of H.264 or H.266 takes no memory.
+        ensures startless_h264 { (it : h264_end.Depacketizer) → self.old ≡ d.H264 it →
+            is_startless it.run ((h264_end.receiver it).format.read packet.now) ≡ true →
+            IsOk result }
+        ensures startless_h266 { (it : h266_end.Depacketizer) → self.old ≡ d.H266 it →
+            is_startless it.run ((h266_end.receiver it).format.read packet.now) ≡ true →
+            IsOk result }
+
+        // A depacketizer in a box too.
+        ensures accepted { OnOk result (IsFrontOf out.old.items out.new.items) }
+        ensures kept_out { OnErr result (out.new.items ≡ out.old.items) }
+        ensures kept_extra { OnErr result (codec_extra.new ≡ codec_extra.old) }
+        ensures kept_meaning { OnErr result (⟦<CodecDepacketizer as Depacketizer>⟧.meaning self.new
+            ≡ ⟦<CodecDepacketizer as Depacketizer>⟧.meaning self.old) }
+    {
+        match self {
+            CodecDepacketizer::H264(it) => it.depacketize(packet, out, codec_extra),
+            CodecDepacketizer::H265(it) => it.depacketize(packet, out, codec_extra),
+            CodecDepacketizer::H266(it) => it.depacketize(packet, out, codec_extra),
+            CodecDepacketizer::Boxed(it) => it.depacketize(packet, out, codec_extra),
+        }
+    }
+
+    /// Whether `packet` may be the first of a frame, as the depacketizer that it holds says.
+    fn is_partition_head(&self, packet: &[u8]) -> bool
+        ensures h264 { (it : h264_end.Depacketizer) → self.now ≡ d.H264 it →
+            result ≡ h264_frame.is_head packet.now }
+        ensures h265 { (it : h265_end.Depacketizer) → self.now ≡ d.H265 it →
+            result ≡ h265_frame.is_head packet.now }
+        ensures h266 { (it : h266_end.Depacketizer) → self.now ≡ d.H266 it →
+            result ≡ h266_frame.is_head packet.now }
+    {
+        match self {
+            CodecDepacketizer::H264(it) => it.is_partition_head(packet),
+            CodecDepacketizer::H265(it) => it.is_partition_head(packet),
+            CodecDepacketizer::H266(it) => it.is_partition_head(packet),
+            CodecDepacketizer::Boxed(it) => it.is_partition_head(packet),
+        }
+    }
+
+    /// Whether `packet` is the last of a frame, with the marker bit of its RTP packet given, as the
+    /// depacketizer that it holds says.
+    fn is_partition_tail(&self, marker: bool, packet: &[u8]) -> bool
+        ensures h264 { (it : h264_end.Depacketizer) → self.now ≡ d.H264 it → result ≡ marker }
+        ensures h265 { (it : h265_end.Depacketizer) → self.now ≡ d.H265 it →
+            result ≡ h265_frame.is_tail marker packet.now }
+        ensures h266 { (it : h266_end.Depacketizer) → self.now ≡ d.H266 it →
+            result ≡ h266_frame.is_tail marker packet.now }
+    {
+        match self {
+            CodecDepacketizer::H264(it) => it.is_partition_tail(marker, packet),
+            CodecDepacketizer::H265(it) => it.is_partition_tail(marker, packet),
+            CodecDepacketizer::H266(it) => it.is_partition_tail(marker, packet),
+            CodecDepacketizer::Boxed(it) => it.is_partition_tail(marker, packet),
+        }
+    }
+}
+
+#[cfg(test)]
+mod tests;

@@ -1,0 +1,206 @@
+ghost use Rattle.std.specs.Prelude.{[]};
+
+use super::*;
+use h26x_core::{ANNEXB_NALUSTART_CODE, H264CodecExtra, H265CodecExtra, H266CodecExtra};
+use std::test::Fail;
+
+/// Appends packets as they are. An empty one is too short.
+#[derive(Debug, Drop)]
+struct PlainDepacketizer;
+
+impl Depacketizer for PlainDepacketizer {
+    ghost meaning = { λ it. [] };
+
+    fn out_size_hint(&self, packets_size: usize) -> Option<usize> {
+        Some(packets_size)
+    }
+
+    fn depacketize(
+        &mut self,
+        packet: &[u8],
+        out: &mut Vec<u8>,
+        _codec_extra: &mut CodecExtra,
+    ) -> Result<(), PacketError> {
+        if packet.is_empty() {
+            return Err(PacketError::ErrShortPacket);
+        }
+        out.extend_from_slice(packet)?;
+        Ok(())
+    }
+
+    fn is_partition_head(&self, _packet: &[u8]) -> bool {
+        true
+    }
+
+    fn is_partition_tail(&self, marker: bool, _packet: &[u8]) -> bool {
+        marker
+    }
+}
+
+const CODECS: [Codec; 3] = [Codec::H264, Codec::H265, Codec::H266];
+
+/// What is told of a keyframe.
+fn key_of(codec: Codec) -> CodecExtra {
+    match codec {
+        Codec::H264 => CodecExtra::H264(H264CodecExtra { is_keyframe: true }),
+        Codec::H265 => CodecExtra::H265(H265CodecExtra { is_keyframe: true }),
+        Codec::H266 => CodecExtra::H266(H266CodecExtra { is_keyframe: true }),
+    }
+}
+
+#[test]
+fn each_packet_reaches_its_codec(rt: HostRuntime) -> Result<(), Fail> {
+    // A key unit of each codec, in one packet and in two fragments.
+    let table: [(Codec, &[u8], &[&[u8]]); 3] = [
+        (
+            Codec::H264,
+            &[0x65, 1, 2],
+            &[&[0x7c, 0x85, 1], &[0x7c, 0x45, 2]],
+        ),
+        (
+            Codec::H265,
+            &[0x26, 1, 1, 2],
+            &[&[0x62, 1, 0x93, 1], &[0x62, 1, 0x53, 2]],
+        ),
+        (
+            Codec::H266,
+            &[0, 0x39, 1, 2],
+            &[&[0, 0xe9, 0x87, 1], &[0, 0xe9, 0x47, 2]],
+        ),
+    ];
+    for (codec, unit, fragments) in table {
+        let mut depacketizer = CodecDepacketizer::new(rt.alloc(), codec);
+        let mut out = Vec::new(rt.alloc());
+        let mut extra = CodecExtra::None;
+        depacketizer.depacketize(unit, &mut out, &mut extra)?;
+        assert_eq!(rt; extra, key_of(codec), "{codec:?}");
+        let mut want = ANNEXB_NALUSTART_CODE.to_vec(rt.alloc())?;
+        want.extend_from_slice(unit)?;
+        assert_eq!(rt; out, want, "{codec:?}");
+        let mut out = Vec::new(rt.alloc());
+        for fragment in fragments {
+            depacketizer.depacketize(fragment, &mut out, &mut extra)?;
+        }
+        assert_eq!(rt; out, want, "{codec:?}");
+        let hint = depacketizer.out_size_hint(2400);
+        assert_eq!(rt; hint, Some(2412), "{codec:?}");
+        let refused = depacketizer.depacketize(&[], &mut out, &mut extra);
+        assert_eq!(rt; refused, Err(PacketError::ErrShortPacket), "{codec:?}");
+        assert_eq!(rt; out, want, "{codec:?}");
+        assert_eq!(rt; extra, key_of(codec), "{codec:?}");
+    }
+    Ok(())
+}
+
+#[test]
+fn heads_and_tails(rt: HostRuntime) -> Result<(), Fail> {
+    // A packet, and for each codec whether it is a head, and whether it is a tail without the
+    // marker bit and with it.
+    let table: [(&[u8], [[bool; 3]; 3]); 6] = [
+        (
+            &[0x7c, 0x05, 1],
+            [
+                [false, false, true],
+                [true, false, true],
+                [true, false, true],
+            ],
+        ),
+        (
+            &[0x7c, 0x85, 1],
+            [
+                [true, false, true],
+                [true, false, true],
+                [true, false, true],
+            ],
+        ),
+        (
+            &[0x62, 1, 0x53, 2],
+            [
+                [true, false, true],
+                [false, true, true],
+                [true, false, true],
+            ],
+        ),
+        (
+            &[0x62, 1, 0x93, 2],
+            [
+                [true, false, true],
+                [true, false, false],
+                [true, false, true],
+            ],
+        ),
+        (
+            &[0, 0xe9, 0x47, 2],
+            [
+                [true, false, true],
+                [true, false, true],
+                [false, true, true],
+            ],
+        ),
+        (
+            &[1],
+            [
+                [false, false, true],
+                [false, false, false],
+                [false, false, false],
+            ],
+        ),
+    ];
+    for (packet, want) in table {
+        for place in 0..3 {
+            let depacketizer = CodecDepacketizer::new(rt.alloc(), CODECS[place]);
+            let [head, unmarked, marked] = want[place];
+            let codec = CODECS[place];
+            assert_eq!(rt;
+                depacketizer.is_partition_head(packet),
+                head,
+                "{codec:?} {packet:?}"
+            );
+            assert_eq!(rt;
+                depacketizer.is_partition_tail(false, packet),
+                unmarked,
+                "{codec:?} {packet:?}"
+            );
+            assert_eq!(rt;
+                depacketizer.is_partition_tail(true, packet),
+                marked,
+                "{codec:?} {packet:?}"
+            );
+        }
+    }
+    Ok(())
+}
+
+#[test]
+fn a_depacketizer_in_a_box(rt: HostRuntime) -> Result<(), Fail> {
+    let mut depacketizer = CodecDepacketizer::Boxed(Box::new(rt.alloc(), PlainDepacketizer)?);
+    let mut out = vec![in rt.alloc(); 9]?;
+    let mut extra = key_of(Codec::H265);
+    depacketizer.depacketize(&[1, 2], &mut out, &mut extra)?;
+    let refused = depacketizer.depacketize(&[], &mut out, &mut extra);
+    assert_eq!(rt; refused, Err(PacketError::ErrShortPacket));
+    assert_eq!(rt; out.as_slice(), [9, 1, 2].as_slice());
+    assert_eq!(rt; extra, key_of(Codec::H265));
+    assert_eq!(rt; depacketizer.out_size_hint(2400), Some(2400));
+    assert!(rt; depacketizer.is_partition_head(&[]));
+    assert!(rt; depacketizer.is_partition_tail(true, &[]));
+    assert!(rt; !depacketizer.is_partition_tail(false, &[]));
+    Ok(())
+}
+
+#[test]
+fn debug_text(rt: HostRuntime) -> Result<(), Fail> {
+    let depacketizer = CodecDepacketizer::Boxed(Box::new(rt.alloc(), PlainDepacketizer)?);
+    let text = format!(in rt.alloc(); "{depacketizer:?}")?;
+    assert_eq!(rt; text.as_str(), "Boxed");
+    for (codec, front) in [
+        (Codec::H264, "H264("),
+        (Codec::H265, "H265("),
+        (Codec::H266, "H266("),
+    ] {
+        let depacketizer = CodecDepacketizer::new(rt.alloc(), codec);
+        let text = format!(in rt.alloc(); "{depacketizer:?}")?;
+        assert!(rt; text.starts_with(front), "{text}");
+    }
+    Ok(())
+}

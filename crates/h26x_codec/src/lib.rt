@@ -1,0 +1,21 @@
+//! The packetizers and depacketizers of all codecs behind one type each, with a caller's own.
+//!
+//! ```rust
+//! let mut packetizer = CodecPacketizer::new(alloc, Codec::H265);
+//! packetizer.configure_for(sprop_max_don_diff);
+//! let packets = packetizer.packetize(1200, &frame)?;
+//!
+//! let mut depacketizer = CodecDepacketizer::new(alloc, Codec::H264);
+//! for packet in &packets {
+//!     depacketizer.depacketize(packet, &mut out, &mut extra)?;
+//! }
+//! ```
+#![tactic(auto)]
+
+mod codec;
+mod depacketizer;
+mod packetizer;
+
+pub use codec::Codec;
+pub use depacketizer::CodecDepacketizer;
+pub use packetizer::CodecPacketizer;

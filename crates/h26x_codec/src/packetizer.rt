@@ -1,0 +1,221 @@
+//! A packetizer of any codec, or a caller's own.
+
+ghost use Rattle.std.specs.Prelude.{◌≡◌, ◌≤◌, [], true, Some, None, Err, IfOk, OnOk, OnErr, IsOk};
+ghost use Rattle.h26x_core.specs.Facts.{IsPayloadFormat};
+ghost use Rattle.h26x_core.specs.Limit.{AreWithin};
+ghost use Rattle.h26x_core.specs.Calls.{limit_of_call, entries_of_call};
+ghost use Rattle.h26x_core.specs.Sender.{Sender, IsSender, packets_by, after, has_no_effect};
+ghost use Rattle.h26x_payload.specs.Sending.{contents};
+ghost use Rattle.h26x_codec.specs.Codec.{format_of, sender_of, codec_of, fresh_sender, call_by, configured, with_largest};
+ghost use Rattle.h26x_codec.specs.declared.packetizer.CodecPacketizer.TheVariants as p;
+ghost use Rattle.h264_payload.specs.H264.{h264};
+ghost use Rattle.h265_payload.specs.Setting as h265_setting;
+ghost use Rattle.h266_payload.specs.Setting as h266_setting;
+ghost use Rattle.h26x_payload.specs.Held.{sender};
+ghost use Rattle.h26x_core.specs.Sender.{sender_meaning};
+
+use crate::codec::Codec;
+use h26x_core::{PacketError, Packetizer};
+use h264_payload::H264Packetizer;
+use h265_payload::H265Packetizer;
+use h266_payload::H266Packetizer;
+use std::alloc::Global;
+use std::fmt;
+
+/// A packetizer of one of the codecs, or a caller's own in a box.
+///
+/// Every call goes to the packetizer that it holds.
+///
+/// ```rust
+/// let mut packetizer = CodecPacketizer::new(alloc, Codec::H265);
+/// packetizer.configure_for(sprop_max_don_diff);
+/// for packet in &packetizer.packetize(1200, &frame)? {
+///     send(packet);
+/// }
+/// ```
+#[derive(Drop)]
+pub enum CodecPacketizer {
+    /// Sends H.264 (RFC 6184).
+    H264(H264Packetizer),
+    /// Sends H.265 (RFC 7798).
+    H265(H265Packetizer),
+    /// Sends H.266 (RFC 9328).
+    H266(H266Packetizer),
+    /// A caller's own packetizer. Nothing is known of it but the laws of [`Packetizer`].
+    Boxed(Box<dyn Packetizer>),
+}
+
+impl fmt::Debug for CodecPacketizer {
+    /// The packetizer of a codec behind its codec's name; of one in a box only `Boxed`.
+    fn fmt<W: fmt::Write>(&self, f: &mut fmt::Formatter<W>) -> fmt::Result {
+        match self {
+            CodecPacketizer::H264(it) => write!(f, "H264({it:?})"),
+            CodecPacketizer::H265(it) => write!(f, "H265({it:?})"),
+            CodecPacketizer::H266(it) => write!(f, "H266({it:?})"),
+            CodecPacketizer::Boxed(_) => write!(f, "Boxed"),
+        }
+    }
+}
+
+impl CodecPacketizer {
+    /// A packetizer of a codec for which nothing waits, without decoding order numbers, and with
+    /// 1200 bytes as the largest packet size. Its memory comes from `alloc`; none is taken here.
+    pub fn new(alloc: Global, codec: Codec) -> Self
+        ensures codec { codec_of result ≡ Some codec }
+        ensures fresh { sender_of result ≡ Some (fresh_sender (format_of codec)) }
+    {
+        match codec {
+            Codec::H264 => CodecPacketizer::H264(H264Packetizer::new(alloc)),
+            Codec::H265 => CodecPacketizer::H265(H265Packetizer::new(alloc)),
+            Codec::H266 => CodecPacketizer::H266(H266Packetizer::new(alloc)),
+        }
+    }
+
+    /// Sets numbers up by `sprop-max-don-diff` of a session description, the greatest distance
+    /// between decoding and sending order (RFC 7798, 7.1; RFC 9328, 7.2).
+    ///
+    /// Where it is over 0, units of H.265 and H.266 bear decoding order numbers from then on, which
+    /// begin at 0, and sets that wait stay. None and 0 change nothing, and neither does any value
+    /// for H.264 or a packetizer in a box. It takes no memory.
+    pub fn configure_for(&mut self, sprop_max_don_diff: Option<u32>)
+        ensures { self.new ≡ configured sprop_max_don_diff self.old }
+    {
+        if sprop_max_don_diff.unwrap_or(0) == 0 {
+            return;
+        }
+        match self {
+            CodecPacketizer::H265(it) => it.with_donl(true),
+            CodecPacketizer::H266(it) => it.with_donl(true),
+            CodecPacketizer::H264(_) | CodecPacketizer::Boxed(_) => {}
+        }
+    }
+
+    /// Sets the largest packet size of H.265 and H.266, in bytes, 4 or more: no packet of a later
+    /// call is longer. For H.264 and a packetizer in a box it changes nothing. It takes no memory.
+    pub fn with_max_packet_size(&mut self, n: u16)
+        requires { 4 ≤ n }
+        ensures { self.new ≡ with_largest n self.old }
+    {
+        match self {
+            CodecPacketizer::H265(it) => it.with_max_packet_size(n),
+            CodecPacketizer::H266(it) => it.with_max_packet_size(n),
+            CodecPacketizer::H264(_) | CodecPacketizer::Boxed(_) => {}
+        }
+    }
+
+    /// A law of every packetizer of a codec: at most one set of each kind waits, its counter and
+    /// its largest packet size are numbers of two bytes, and its format meets the facts on which
+    /// the laws of every format stand.
+    pub fn is_sender(&self)
+        ensures sender { (s : Sender) → sender_of self.now ≡ Some s → IsSender s }
+        ensures format { (s : Sender) → sender_of self.now ≡ Some s → IsPayloadFormat s.format }
+    {
+        match self {
+            CodecPacketizer::H264(it) => {
+                it.is_sender();
+                h264_payload::laws::meets_the_facts();
+            }
+            CodecPacketizer::H265(it) => {
+                it.is_sender();
+                h265_payload::laws::meets_the_facts();
+            }
+            CodecPacketizer::H266(it) => {
+                it.is_sender();
+                h266_payload::laws::meets_the_facts();
+            }
+            CodecPacketizer::Boxed(_) => {}
+        }
+    }
+}
+
+impl Packetizer for CodecPacketizer {
+    // What the later answers of the packetizer that it holds depend on.
+    ghost meaning = { elim [
+      | p.H264 it ↦ sender_meaning (sender h264 it)
+      | p.H265 it ↦ sender_meaning (sender (h265_setting.format_with it.codec) it)
+      | p.H266 it ↦ sender_meaning (sender (h266_setting.format_with it.codec) it)
+      | p.Boxed it ↦ (Packetizer-box it).Packetizer.meaning it.value
+    ] };
+
+    /// The packets of a payload, in order, as the packetizer that it holds makes them.
+    ///
+    /// Of a codec: each is within the limit of the call, the lesser of `mtu` and for H.265 and
+    /// H.266 the largest packet size. `OutOfMemory` is the only error, and leaves everything.
+    fn packetize(&mut self, mtu: usize, b: &[u8]) -> Result<Vec<Vec<u8>>, PacketError>
+        ensures packets { (s : Sender) → sender_of self.old ≡ Some s →
+            IfOk result (λ made. contents made.items
+            ≡ packets_by s (entries_of_call s.format (call_by s mtu b.now))) }
+        ensures after { (s : Sender) → sender_of self.old ≡ Some s →
+            OnOk result (sender_of self.new
+            ≡ Some (after s (entries_of_call s.format (call_by s mtu b.now)))) }
+        ensures within { (s : Sender) → sender_of self.old ≡ Some s →
+            IfOk result (λ made. AreWithin (limit_of_call s.format (call_by s mtu b.now))
+            (contents made.items)) }
+        ensures codec { codec_of self.new ≡ codec_of self.old }
+
+        ensures kept { (s : Sender) → sender_of self.old ≡ Some s →
+            OnErr result (self.new ≡ self.old) }
+        ensures memory { (s : Sender) → sender_of self.old ≡ Some s →
+            OnErr result (result ≡ Err PacketError.OutOfMemory) }
+
+        // Calls without effect take no memory.
+        ensures free { (s : Sender) → sender_of self.old ≡ Some s →
+            has_no_effect s.format (call_by s mtu b.now) ≡ true → IsOk result }
+        ensures without_effect { (s : Sender) → sender_of self.old ≡ Some s →
+            has_no_effect s.format (call_by s mtu b.now) ≡ true →
+            IfOk result (λ made. (made.items ≡ []) × (self.new ≡ self.old)) }
+
+        // A packetizer in a box too.
+        ensures refused { OnErr result (⟦<CodecPacketizer as Packetizer>⟧.meaning self.new
+            ≡ ⟦<CodecPacketizer as Packetizer>⟧.meaning self.old) }
+    {
+        match self {
+            CodecPacketizer::H264(it) => it.packetize(mtu, b),
+            CodecPacketizer::H265(it) => it.packetize(mtu, b),
+            CodecPacketizer::H266(it) => it.packetize(mtu, b),
+            CodecPacketizer::Boxed(it) => it.packetize(mtu, b),
+        }
+    }
+
+    /// Whether a packet bears the marker bit, as the packetizer that it holds says. Of a codec: the
+    /// last packet of a frame.
+    fn is_marker(&mut self, data: &[u8], previous: Option<&[u8]>, last: bool) -> bool
+        ensures is { (s : Sender) → sender_of self.old ≡ Some s → result ≡ last }
+        ensures kept { (s : Sender) → sender_of self.old ≡ Some s → self.new ≡ self.old }
+        ensures codec { codec_of self.new ≡ codec_of self.old }
+
+        // A packetizer in a box too.
+        ensures kept_meaning { ⟦<CodecPacketizer as Packetizer>⟧.meaning self.new
+            ≡ ⟦<CodecPacketizer as Packetizer>⟧.meaning self.old }
+    {
+        match self {
+            CodecPacketizer::H264(it) => it.is_marker(data, previous, last),
+            CodecPacketizer::H265(it) => it.is_marker(data, previous, last),
+            CodecPacketizer::H266(it) => it.is_marker(data, previous, last),
+            CodecPacketizer::Boxed(it) => it.is_marker(data, previous, last),
+        }
+    }
+
+    /// Whether the marker bit marks the start of a talkspurt. It does so for no video codec.
+    fn marks_talkspurt(&self) -> bool {
+        match self {
+            CodecPacketizer::H264(it) => it.marks_talkspurt(),
+            CodecPacketizer::H265(it) => it.marks_talkspurt(),
+            CodecPacketizer::H266(it) => it.marks_talkspurt(),
+            CodecPacketizer::Boxed(it) => it.marks_talkspurt(),
+        }
+    }
+
+    /// Whether a receiver may ask for a lost packet again.
+    fn nackable(&self) -> bool {
+        match self {
+            CodecPacketizer::H264(it) => it.nackable(),
+            CodecPacketizer::H265(it) => it.nackable(),
+            CodecPacketizer::H266(it) => it.nackable(),
+            CodecPacketizer::Boxed(it) => it.nackable(),
+        }
+    }
+}
+
+#[cfg(test)]
+mod tests;
