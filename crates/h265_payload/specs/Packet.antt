@@ -66,11 +66,11 @@ shown_by numbered (p.Paci header fields head bytes) = s.H265PACIPacket (record {
 
 -- what is known of a packet that is not refused; its units take so many bytes where they are
 -- written, a usize at most
-abbrev pub IsWhole : Bool → Packet → Type 0
-IsWhole numbered (p.Single unit) = 3 ≤ length unit.now
-IsWhole numbered (p.NumberedSingle head donl body) = length head.now ≡ 2
-IsWhole numbered (p.Aggregate donl bytes len) = (2 ≤ length (others_of numbered bytes.now))
+abbrev pub IsChecked : Bool → Packet → Type 0
+IsChecked numbered (p.Single unit) = 3 ≤ length unit.now
+IsChecked numbered (p.NumberedSingle head donl body) = length head.now ≡ 2
+IsChecked numbered (p.Aggregate donl bytes len) = (2 ≤ length (others_of numbered bytes.now))
     × (len ≡ min (written_len (units_in numbered bytes.now)) (2 ^ 64 - 1))
-IsWhole numbered (p.Fragment header marks head donl body) = length head ≡ 2
-IsWhole numbered (p.Paci header fields head bytes) = (field fields 8 4 ≤ length bytes.now)
+IsChecked numbered (p.Fragment header marks head donl body) = length head ≡ 2
+IsChecked numbered (p.Paci header fields head bytes) = (field fields 8 4 ≤ length bytes.now)
     × (length head ≡ 2)

@@ -12,7 +12,7 @@ ghost use Rattle.h265_payload.specs.H265.{h265};
 ghost use Rattle.h265_payload.specs.Frame.{is_head, is_tail};
 ghost use Rattle.h265_payload.specs.Frame as frame;
 ghost use Rattle.h265_payload.specs.Payload.{empty_single};
-ghost use Rattle.h265_payload.specs.Packet.{IsWhole, reading_of, shown_by};
+ghost use Rattle.h265_payload.specs.Packet.{IsChecked, reading_of, shown_by};
 ghost use Rattle.h265_payload.specs.Shown.{shown, is_aggregate, units_of_aggregate};
 ghost use Rattle.h265_payload.specs.Depacketizer.{work};
 
@@ -45,7 +45,7 @@ fn take(
     out: &mut Vec<u8>,
     codec_extra: &mut CodecExtra,
 ) -> Result<(), PacketError>
-    requires { IsWhole codec.numbered packet }
+    requires { IsChecked codec.numbered packet }
     ensures outcome { IsOutcomeWith false run.old (reading_of codec.numbered packet.entry) result }
     ensures written { OnOk result (out.new.items ≡ out.old.items
         ++ text false (units_with run.old (reading_of codec.numbered packet.entry))) }
@@ -200,7 +200,7 @@ impl H265Depacketizer {
 
     /// What is to be shown of a packet, in the spare buffer.
     fn to_show(&mut self, packet: Packet<'_>) -> Result<H265Payload, AllocError>
-        requires { IsWhole self.old.is_numbered packet }
+        requires { IsChecked self.old.is_numbered packet }
         ensures shown { IfOk result (λ it. it ≡ shown_by self.old.is_numbered packet.entry) }
         ensures kept { self.new ≡ self.old }
     {

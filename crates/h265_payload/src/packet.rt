@@ -6,7 +6,7 @@ ghost use Rattle.h26x_core.specs.H265Unit.{type_of};
 ghost use Rattle.h26x_core.specs.Reading.{Refused};
 ghost use Rattle.h265_payload.specs.H265.{h265};
 ghost use Rattle.h265_payload.specs.Reading.{IsUnitType};
-ghost use Rattle.h265_payload.specs.Packet.{IsWhole, reading_of, shown_by};
+ghost use Rattle.h265_payload.specs.Packet.{IsChecked, reading_of, shown_by};
 ghost use Rattle.h265_payload.specs.Shown.{shown};
 
 use crate::aggregate::check_aggregate;
@@ -72,7 +72,7 @@ pub fn read(is_numbered: bool, packet: &[u8]) -> Result<Packet<'_>, PacketError>
     ensures accepted { IfOk result (λ it. (h265 is_numbered).read packet.now
         ≡ reading_of is_numbered it) }
     ensures shows { IfOk result (λ it. shown_by is_numbered it ≡ shown is_numbered packet.now) }
-    ensures whole { IfOk result (λ it. IsWhole is_numbered it) }
+    ensures checked { IfOk result (λ it. IsChecked is_numbered it) }
     ensures refused { IfErr result (λ e. (h265 is_numbered).read packet.now ≡ Refused e) }
 {
     if packet.len() < 3 {
@@ -101,7 +101,7 @@ fn read_single(is_numbered: bool, packet: &[u8]) -> Result<Packet<'_>, PacketErr
     ensures accepted { IfOk result (λ it. (h265 is_numbered).read packet.now
         ≡ reading_of is_numbered it) }
     ensures shows { IfOk result (λ it. shown_by is_numbered it ≡ shown is_numbered packet.now) }
-    ensures whole { IfOk result (λ it. IsWhole is_numbered it) }
+    ensures checked { IfOk result (λ it. IsChecked is_numbered it) }
     ensures refused { IfErr result (λ e. (h265 is_numbered).read packet.now ≡ Refused e) }
 {
     if !is_numbered {
@@ -125,7 +125,7 @@ fn read_aggregate(is_numbered: bool, packet: &[u8]) -> Result<Packet<'_>, Packet
     ensures accepted { IfOk result (λ it. (h265 is_numbered).read packet.now
         ≡ reading_of is_numbered it) }
     ensures shows { IfOk result (λ it. shown_by is_numbered it ≡ shown is_numbered packet.now) }
-    ensures whole { IfOk result (λ it. IsWhole is_numbered it) }
+    ensures checked { IfOk result (λ it. IsChecked is_numbered it) }
     ensures refused { IfErr result (λ e. (h265 is_numbered).read packet.now ≡ Refused e) }
 {
     if is_numbered {
@@ -142,7 +142,7 @@ fn read_plain_aggregate(packet: &[u8]) -> Result<Packet<'_>, PacketError>
     requires kind { type_of (slice_index packet.now 0) ≡ 48 }
     ensures accepted { IfOk result (λ it. (h265 false).read packet.now ≡ reading_of false it) }
     ensures shows { IfOk result (λ it. shown_by false it ≡ shown false packet.now) }
-    ensures whole { IfOk result (λ it. IsWhole false it) }
+    ensures checked { IfOk result (λ it. IsChecked false it) }
     ensures refused { IfErr result (λ e. (h265 false).read packet.now ≡ Refused e) }
 {
     let bytes = &packet[2..];
@@ -161,7 +161,7 @@ fn read_numbered_aggregate(packet: &[u8]) -> Result<Packet<'_>, PacketError>
     requires kind { type_of (slice_index packet.now 0) ≡ 48 }
     ensures accepted { IfOk result (λ it. (h265 true).read packet.now ≡ reading_of true it) }
     ensures shows { IfOk result (λ it. shown_by true it ≡ shown true packet.now) }
-    ensures whole { IfOk result (λ it. IsWhole true it) }
+    ensures checked { IfOk result (λ it. IsChecked true it) }
     ensures refused { IfErr result (λ e. (h265 true).read packet.now ≡ Refused e) }
 {
     if packet.len() < 4 {
@@ -189,7 +189,7 @@ fn read_fragment(
     ensures accepted { IfOk result (λ it. (h265 is_numbered).read packet.now
         ≡ reading_of is_numbered it) }
     ensures shows { IfOk result (λ it. shown_by is_numbered it ≡ shown is_numbered packet.now) }
-    ensures whole { IfOk result (λ it. IsWhole is_numbered it) }
+    ensures checked { IfOk result (λ it. IsChecked is_numbered it) }
     ensures refused { IfErr result (λ e. (h265 is_numbered).read packet.now ≡ Refused e) }
 {
     let marks = H265FragmentationUnitHeader(packet[2]);
@@ -231,7 +231,7 @@ fn read_paci(
     ensures accepted { IfOk result (λ it. (h265 is_numbered).read packet.now
         ≡ reading_of is_numbered it) }
     ensures shows { IfOk result (λ it. shown_by is_numbered it ≡ shown is_numbered packet.now) }
-    ensures whole { IfOk result (λ it. IsWhole is_numbered it) }
+    ensures checked { IfOk result (λ it. IsChecked is_numbered it) }
     ensures refused { IfErr result (λ e. (h265 is_numbered).read packet.now ≡ Refused e) }
 {
     if packet.len() < 4 {

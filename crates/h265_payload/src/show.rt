@@ -1,7 +1,7 @@
 //! What `payload` shows of a packet.
 
 ghost use Rattle.std.specs.Prelude.{◌≡◌, IfOk};
-ghost use Rattle.h265_payload.specs.Packet.{IsWhole, shown_by, aggregate_with};
+ghost use Rattle.h265_payload.specs.Packet.{IsChecked, shown_by, aggregate_with};
 ghost use Rattle.h265_payload.specs.Shown.{others_of};
 
 use crate::aggregate::first_other;
@@ -20,7 +20,7 @@ pub fn show(
     packet: Packet<'_>,
     buffer: Vec<u8>,
 ) -> Result<H265Payload, AllocError>
-    requires { IsWhole is_numbered packet }
+    requires { IsChecked is_numbered packet }
     ensures { IfOk result (λ it. it ≡ shown_by is_numbered packet.entry) }
 {
     match packet {

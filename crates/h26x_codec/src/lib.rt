@@ -2,10 +2,9 @@
 //!
 //! ```rust
 //! let mut packetizer = CodecPacketizer::new(alloc, Codec::H265);
-//! packetizer.configure_for(sprop_max_don_diff);
 //! let packets = packetizer.packetize(1200, &frame)?;
 //!
-//! let mut depacketizer = CodecDepacketizer::new(alloc, Codec::H264);
+//! let mut depacketizer = CodecDepacketizer::new(alloc, Codec::H265);
 //! for packet in &packets {
 //!     depacketizer.depacketize(packet, &mut out, &mut extra)?;
 //! }
