@@ -30,7 +30,7 @@ key_whole (first ∷ unit) e = grind (arith, nat_tests)
 
 -- the extra tells what it was made from
 pub extra_tells : ExtraTells h264
-extra_tells = record { tells = λ key. refl; whole = key_whole }
+extra_tells = record { tells = λ key. refl; none = refl; whole = key_whole }
 
 -- a unit alone is detected where it is a key unit
 single_detected : (n : ℕ) (unit : List ℕ) → IsTrue (carries unit) → h264.detects (single h264 n unit) ≡ is_key unit

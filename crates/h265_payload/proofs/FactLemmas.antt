@@ -44,4 +44,4 @@ is_payload_format numbered = two_byte.is_payload_format numbered (two numbered) 
   back = λ n limit sets unit is fit many carried h. sets_back numbered n limit sets unit is fit many h;
   undetected = λ n limit sets unit none is fit carried h all. undetected numbered n limit sets unit none is fit h all;
   numbers = aggregate_numbers numbered;
-}) (λ packet. has_room numbered packet (read numbered packet) (has_reading numbered packet)) (λ key. refl)
+}) (λ packet. has_room numbered packet (read numbered packet) (has_reading numbered packet)) (λ key. refl) refl

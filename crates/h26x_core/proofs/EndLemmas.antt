@@ -26,6 +26,7 @@ use Rattle.h26x_core.proofs.LimitLemmas.{all_both}
 use Rattle.h26x_core.proofs.NumberLemmas.{numbers_are}
 use Rattle.h26x_core.proofs.DetectionLemmas.{are_detected}
 use Rattle.h26x_core.proofs.AcceptedLemmas.{all_read}
+use Rattle.h26x_core.proofs.ExtraLemmas.{first_is_told}
 use Rattle.h26x_core.proofs.SentLemmas.{all_parts, all_received, can_send, entries_of_calls}
 use Rattle.std.proofs.lemmas.List.Concat.{flat_map-append}
 use Rattle.h26x_core.proofs.SenderLemmas.{plan_with-append, sent_by-append, packets_by-append, after-append, still_sender, sender_plans, sender_within}
@@ -232,6 +233,7 @@ carries_whole s w calls ok is small same carried =
       received = all;
       numbers = numbers_are f ok.reads s.counter items send;
       detected = are_detected f ok.detects ok.reads s.counter items plans;
+      told = first_is_told f ok.extra ok.reads.header (sent_by s entries) carried;
       read = read;
       refused = λ short taken left error front cause. ⊎_elim
           (λ (memory : error ≡ OutOfMemory). memory)

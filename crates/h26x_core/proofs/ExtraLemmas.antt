@@ -1,13 +1,16 @@
 -- The extra after units and then others.
-use Rattle.std.proofs.Common.{◌≡◌, ℕ, Bool, true, false, cond, List, [], ◌∷◌, ◌++◌, refl, ap, ◌∙◌, length}
+use Rattle.std.proofs.Common.{◌≡◌, ℕ, Bool, true, false, cond, List, [], ◌∷◌, ◌++◌, refl, ap, ◌∙◌, ◌≤◌, length, arith}
 use Rattle.std.specs.Prelude.{◌||◌, nat_le}
+use Rattle.std.specs.Prelude.{IsTrue}
 use Rattle.std.specs.List.{list_any}
 use Rattle.std.proofs.Math.Bool.{or-false}
 use Rattle.std.proofs.lemmas.List.Folds.{list_any-append}
+use Rattle.std.proofs.lemmas.Bool.Decides.{nat_tests}
 use Rattle.h26x_core.specs.declared.extra.CodecExtra.{CodecExtra}
+use Rattle.h26x_core.specs.declared.extra.CodecExtra.TheVariants as extras
 use Rattle.h26x_core.specs.Format.{Format}
-use Rattle.h26x_core.specs.Extra.{extra_after}
-use Rattle.h26x_core.specs.Facts.{ExtraTells}
+use Rattle.h26x_core.specs.Extra.{extra_after, first_told}
+use Rattle.h26x_core.specs.Facts.{AreCarried, ExtraTells}
 
 -- whether one of three tests holds, in two orders of them
 told_more : (a b c : Bool) → (a || (b || c)) ≡ ((b || a) || c)
@@ -54,3 +57,12 @@ extra_more f tells extra us vs =
     rw (list_any-append is_whole us vs, list_any-append f.is_key us vs)
     (extra_joined f extra tells.tells (list_any is_whole us) (list_any is_whole vs) (list_any f.is_key us) (list_any f.is_key vs)
     (keys_whole f tells us) (keys_whole f tells vs))
+
+-- of units that have whole headers, where nothing was told before
+pub first_is_told : (f : Format) → ExtraTells f → ((unit : List ℕ) → IsTrue (f.carries unit) → f.header_len ≤ length unit) →
+    (units : List (List ℕ)) → AreCarried f units → extra_after f extras.None units ≡ first_told f units
+first_is_told f tells header [] carried = refl
+first_is_told f tells header (unit ∷ units) (is, carried) =
+    let long = header unit is in
+    let whole : nat_le f.header_len (length unit) ≡ true = grind (arith, nat_tests, long) in
+    rw (whole, tells.none, or-false (list_any f.is_key (unit ∷ units))) refl

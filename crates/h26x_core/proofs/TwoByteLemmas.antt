@@ -6,6 +6,7 @@ use Rattle.std.proofs.lemmas.Bool.{eqb-true}
 use Rattle.std.proofs.lemmas.Bool.Decides.{nat_tests}
 use Rattle.h26x_core.specs.declared.error.PacketError.{PacketError}
 use Rattle.h26x_core.specs.declared.error.PacketError.TheVariants.{ErrShortPacket}
+use Rattle.h26x_core.specs.declared.extra.CodecExtra.TheVariants as extras
 use Rattle.h26x_core.specs.Word.{is_set, flag}
 use Rattle.h26x_core.specs.Kind.{Kind, Skipped, is_other}
 use Rattle.h26x_core.specs.Reading.{Reading, Single, Aggregate, Fragment, Refused, single_of}
@@ -285,15 +286,15 @@ module _ (numbered : Bool) (t : TwoBytes numbered) (ok : IsTwoBytes numbered t) 
     key_units_are_other (high ∷ low ∷ unit) e = ok.other (t.type_of high low) e
 
     -- such a format meets all facts
-    pub is_payload_format : ((packet : List ℕ) → HasRoom numbered (length packet) (read_by numbered t packet)) → ((key : Bool) → f.has_key (f.extra key) ≡ key) →
+    pub is_payload_format : ((packet : List ℕ) → HasRoom numbered (length packet) (read_by numbered t packet)) → ((key : Bool) → f.has_key (f.extra key) ≡ key) → f.has_key extras.None ≡ false →
         IsPayloadFormat (two_bytes numbered t f)
-    is_payload_format room tells = record {
+    is_payload_format room tells none = record {
       headers = λ packet head body start end number e. rw e at (room packet);
       reads = reads_what_it_writes;
       limits = record { header = header_long; sets = sets.long };
       marks = marks_fragments;
       sets = sets_leave_room (two_bytes numbered t f) sets.within;
-      extra = record { tells = tells; whole = key_whole };
+      extra = record { tells = tells; none = none; whole = key_whole };
       detects = knows_key_units;
       other = key_units_are_other;
       numbers = sets.numbers;

@@ -3,12 +3,14 @@ use Rattle.std.specs.Prelude.{◌≡◌, ℕ, ◌≤◌, true, Bool, List, [], �
 use Rattle.std.specs.List.{flat_map, AllByRecursion}
 use Rattle.h26x_core.specs.declared.error.PacketError.{PacketError}
 use Rattle.h26x_core.specs.declared.error.PacketError.TheVariants.{AvcUnitTooLong, OutOfMemory}
+use Rattle.h26x_core.specs.declared.extra.CodecExtra.TheVariants as extras
 use Rattle.h26x_core.specs.Reading.{IsRead}
 use Rattle.h26x_core.specs.Group.{Entry}
 use Rattle.h26x_core.specs.Calls.{Call, entries_of_call, entries_of, packets_of}
 use Rattle.h26x_core.specs.Number.{NumbersInOrder}
 use Rattle.h26x_core.specs.Received.{received}
 use Rattle.h26x_core.specs.Detection.{AreDetected}
+use Rattle.h26x_core.specs.Extra.{extra_after, first_told}
 use Rattle.h26x_core.specs.Format.{Format}
 use Rattle.h26x_core.specs.Text.{annex_b}
 use Rattle.h26x_core.specs.Plan.{sent}
@@ -39,14 +41,17 @@ pub record ReceiverGoesOn (w : Work) : Type 0 where
       brought w.receiver packets ≡ received (map w.receiver.format.read packets)
 
 -- Where the units that calls send can be carried, all of them are received whatever run was open;
--- their numbers are in order; key units are detected; a packet is refused for want of memory or, in
--- AVC form, for a unit too long for a length of four bytes; and where there is none such, for want
--- of memory alone.
+-- their numbers are in order; key units are detected; where nothing was told before, what is told of
+-- them is whether a key unit is among them; a packet is refused for want of memory or, in AVC form,
+-- for a unit too long for a length of four bytes; and where there is none such, for want of memory
+-- alone.
 pub record CarriesWhole (s : Sender) (w : Work) (calls : List Call) : Type 0 where
   pub received : brought w.receiver (packets_by s (entries_of s.format calls)) ≡ sent_by s
       (entries_of s.format calls)
   pub numbers : NumbersInOrder s.format s.counter (planned s (entries_of s.format calls))
   pub detected : AreDetected s.format s.counter (planned s (entries_of s.format calls))
+  pub told : extra_after s.format extras.None (sent_by s (entries_of s.format calls))
+      ≡ first_told s.format (sent_by s (entries_of s.format calls))
   pub read : AllByRecursion (λ packet. IsRead (s.format.read packet))
       (packets_by s (entries_of s.format calls))
   pub refused : (w.receiver.is_avc ≡ true → AreShort (sent_by s (entries_of s.format calls))) →

@@ -1,7 +1,8 @@
 -- What is told of the units that were written (the crate's rule).
-use Rattle.std.specs.Prelude.{ℕ, nat_le, ◌||◌, if◌then◌else◌, List, length}
+use Rattle.std.specs.Prelude.{ℕ, nat_le, ◌||◌, if◌then◌else◌, List, [], ◌∷◌, length}
 use Rattle.std.specs.List.{list_any}
 use Rattle.h26x_core.specs.declared.extra.CodecExtra.{CodecExtra}
+use Rattle.h26x_core.specs.declared.extra.CodecExtra.TheVariants as extras
 use Rattle.h26x_core.specs.Format.{Format}
 
 -- The extra after units. Those without a whole header don't count. If none counts it is as it was,
@@ -12,3 +13,9 @@ extra_after f extra units =
     if list_any (λ unit. nat_le f.header_len (length unit)) units
     then f.extra (list_any f.is_key units || f.has_key extra)
     else extra
+
+-- What is told of units where nothing was told before: nothing of no units, else the codec's
+-- variant, whose flag is true where a key unit is among them.
+abbrev pub first_told : Format → List (List ℕ) → CodecExtra
+first_told f [] = extras.None
+first_told f (unit ∷ units) = f.extra (list_any f.is_key (unit ∷ units))

@@ -1,6 +1,7 @@
 -- What the laws ask of a payload format. Each codec's format is proved to meet these facts.
 use Rattle.std.specs.Prelude.{◌≡◌, ℕ, ◌+◌, ◌%◌, ◌<◌, ◌≤◌, nat_le, Bool, true, false, ◌&&◌, if◌then◌else◌, List, [], ◌++◌, length, take, Option, None, IsTrue}
 use Rattle.std.specs.List.{AllByRecursion}
+use Rattle.h26x_core.specs.declared.extra.CodecExtra.TheVariants as extras
 use Rattle.h26x_core.specs.Kind.{is_other}
 use Rattle.h26x_core.specs.Reading.{Single, Aggregate, Fragment}
 use Rattle.h26x_core.specs.Format.{Format, IsLimit, bears_start, bears_end, number, number_len, fragment_header_len}
@@ -51,9 +52,10 @@ abbrev pub SetsLeaveRoom : Format → Type 0
 SetsLeaveRoom f = (limit : ℕ) (sets : List (List ℕ)) → 2 ≤ length sets →
     f.sets_fit limit sets ≡ true → fragment_header_len f + number_len f < limit
 
--- the extra tells what it was made from, and a key unit has a whole header
+-- the extra tells what it was made from, and nothing at first; and a key unit has a whole header
 pub record ExtraTells (f : Format) : Type 0 where
   pub tells : (key : Bool) → f.has_key (f.extra key) ≡ key
+  pub none : f.has_key extras.None ≡ false
   pub whole : (unit : List ℕ) → f.is_key unit ≡ true → nat_le f.header_len (length unit) ≡ true
 
 -- a packet made tells whether it holds or begins a key unit; packets of sets do so where they bear
