@@ -1,10 +1,11 @@
 -- Runs go on from packet to packet and from call to call. The laws that this stands on come as arguments.
-use Rattle.std.proofs.Common.{◌≡◌, ℕ, ◌+◌, ◌<◌, ◌≤◌, Bool, true, false, cond, List, [], ◌∷◌, ◌++◌, length, map, take, drop, get_or, Option, None, Some, Result, Ok, Err, refl, sym, ap, ◌∙◌, inl, inr, subst, append_assoc, arith, Vec, Global}
-use Rattle.std.specs.Prelude.{IfOk, IfErr}
+use Rattle.std.proofs.Common.{◌≡◌, ℕ, ◌+◌, ◌<◌, ◌≤◌, Bool, true, false, cond, List, [], ◌∷◌, ◌++◌, length, map, take, drop, get_or, Option, None, Some, Result, Ok, Err, refl, sym, ap, ◌∙◌, inl, inr, subst, append_assoc, Vec, Global}
+use Rattle.std.specs.Prelude.{IfOk, IfErr, ◌⊎◌, slice_get}
 use Rattle.std.specs.Option.{option_map, option_map_or}
 use Rattle.std.specs.List.{flat_map}
-use Rattle.std.proofs.lemmas.List.{append-nil, length-map, get_or-map, take_all, take-append-drop, drop_more}
+use Rattle.std.proofs.lemmas.List.{append-nil, take_all, take-append-drop, drop_more}
 use Rattle.std.proofs.lemmas.List.Concat.{flat_map-append}
+use Rattle.std.proofs.lemmas.Option.{slice_get-map, slice_get_read}
 use Rattle.std.proofs.lemmas.Grind.{take_at_read}
 use Rattle.h26x_core.specs.declared.extra.CodecExtra.{CodecExtra}
 use Rattle.h26x_core.specs.declared.extra.CodecExtra.TheVariants as extras
@@ -26,7 +27,7 @@ use Rattle.h26x_core.specs.Sender.{Sender, planned, sent_by, packets_by, after, 
 use Rattle.h26x_core.specs.Receiver.{Receiver, Work, brought, work_after, IsOutcomeAt, IsCause}
 use Rattle.h26x_core.specs.Ends.{SenderGoesOn, ReceiverGoesOn, CarriesWhole}
 use Rattle.h26x_codec.specs.Codec.{at_work, call_by}
-use Rattle.h26x_codec.specs.Runs.{entries_made, sent_of, AreMade, AreSent, IsSentCall, AreTaken, IsLeftOver, IsStopped, IsStoppedRun, AreWritten, IsFresh, AreCarriedWhole, calls_by}
+use Rattle.h26x_codec.specs.Runs.{entries_made, sent_of, AreMade, AreSent, IsSentCall, AreTaken, IsLeftOver, IsUnbegun, IsStoppedIn, IsStopped, AreWritten, IsFresh, AreCarriedWhole, calls_by}
 
 -- a beginning of a beginning is one of the whole
 pub still_front : (a b whole : List ℕ) → IsFrontOf a b → IsFrontOf b whole → IsFrontOf a whole
@@ -92,68 +93,63 @@ none_taken w packets new law is some = record {
 }
 
 -- a call more that is marked
-kept_more : {A : Type 0} (mask : List Bool) (xs : List A) (m : Bool) (d : A) → length mask < length xs →
-    kept (mask ++ m ∷ []) xs ≡ kept mask xs ++ cond m (get_or xs (length mask) d ∷ []) []
-kept_more mask [] m d within = absurd (omega arith)
-kept_more [] (x ∷ xs) true d within = refl
-kept_more [] (x ∷ xs) false d within = refl
-kept_more (true ∷ mask) (x ∷ xs) m d within = ap (λ ys. x ∷ ys) (kept_more mask xs m d (omega arith))
-kept_more (false ∷ mask) (x ∷ xs) m d within = kept_more mask xs m d (omega arith)
+kept_more : {A : Type 0} (mask : List Bool) (xs : List A) (m : Bool) (x : A) → slice_get xs (length mask) ≡ Some x →
+    kept (mask ++ m ∷ []) xs ≡ kept mask xs ++ cond m (x ∷ []) []
+kept_more mask [] m x is = absurd cc
+kept_more [] (y ∷ xs) true x is =
+    let same : y ≡ x = let both : Some y ≡ Some x = is in cc in
+    ap (λ z. z ∷ []) same
+kept_more [] (y ∷ xs) false x is = refl
+kept_more (true ∷ mask) (y ∷ xs) m x is = ap (λ ys. y ∷ ys) (kept_more mask xs m x is)
+kept_more (false ∷ mask) (y ∷ xs) m x is = kept_more mask xs m x is
 
 -- the mark of a call without effect
-made_more : (f : Format) (made : List Bool) (calls : List Call) (m : Bool) (d : Call) → length made < length calls → AreMade f made calls →
-    (has_no_effect f (get_or calls (length made) d) ≡ true → m ≡ true) → AreMade f (made ++ m ∷ []) calls
-made_more f made [] m d within are here = absurd (omega arith)
-made_more f [] (call ∷ calls) m d within are here = (here, tt)
-made_more f (x ∷ made) (call ∷ calls) m d within are here = (are.0, made_more f made calls m d (omega arith) are.1 here)
+made_more : (f : Format) (made : List Bool) (calls : List Call) (m : Bool) (call : Call) → slice_get calls (length made) ≡ Some call → AreMade f made calls →
+    (has_no_effect f call ≡ true → m ≡ true) → AreMade f (made ++ m ∷ []) calls
+made_more f made [] m call is are here = absurd cc
+made_more f [] (first ∷ calls) m call is are here =
+    let same : first ≡ call = let both : Some first ≡ Some call = is in cc in
+    (rw same here, tt)
+made_more f (x ∷ made) (first ∷ calls) m call is are here = (are.0, made_more f made calls m call is are.1 here)
 
 -- the entries with those of a call that was made
-entries_more : (f : Format) (made : List Bool) (calls : List Call) (d : Call) → length made < length calls →
-    entries_made f (made ++ true ∷ []) calls ≡ entries_made f made calls ++ entries_of_call f (get_or calls (length made) d)
-entries_more f made calls d within =
-    let call = get_or calls (length made) d in
-    ap (entries_of f) (kept_more made calls true d within)
+entries_more : (f : Format) (made : List Bool) (calls : List Call) (call : Call) → slice_get calls (length made) ≡ Some call →
+    entries_made f (made ++ true ∷ []) calls ≡ entries_made f made calls ++ entries_of_call f call
+entries_more f made calls call is =
+    ap (entries_of f) (kept_more made calls true call is)
     ∙ flat_map-append (entries_of_call f) (kept made calls) (call ∷ [])
     ∙ ap (λ (x : List Entry). entries_made f made calls ++ x) (append-nil (entries_of_call f call))
 
 -- the entries with a call that was not made
-entries_same : (f : Format) (made : List Bool) (calls : List Call) (d : Call) → length made < length calls →
+entries_same : (f : Format) (made : List Bool) (calls : List Call) (call : Call) → slice_get calls (length made) ≡ Some call →
     entries_made f (made ++ false ∷ []) calls ≡ entries_made f made calls
-entries_same f made calls d within = ap (entries_of f) (kept_more made calls false d within ∙ append-nil (kept made calls))
-
--- a call that stands at a place of a run
-pub record IsNext (made : List Bool) (calls : List Call) (call : Call) : Type 0 where
-  pub within : length made < length calls
-  pub is : get_or calls (length made) call ≡ call
+entries_same f made calls call is = ap (entries_of f) (kept_more made calls false call is ∙ append-nil (kept made calls))
 
 -- the call at a place, of calls as a run is given them
 pub next_call : (s : Sender) (calls : List (ℕ × Vec ℕ Global)) (made : List Bool) (i : ℕ) (x : ℕ × Vec ℕ Global) (call : Call) →
-    i < length calls → length made ≡ i → call_by s (get_or calls i x).0 (get_or calls i x).1.items ≡ call → IsNext made (calls_by s calls) call
-next_call s calls made i x call within at is = record {
-  within = rw (at, length-map) within;
-  is = ap (λ (k : ℕ). get_or (calls_by s calls) k call) at ∙ get_or-map (λ (c : ℕ × Vec ℕ Global). call_by s c.0 c.1.items) calls i x call within ∙ is;
-}
+    i < length calls → length made ≡ i → x ≡ get_or calls i x → call_by s x.0 x.1.items ≡ call → slice_get (calls_by s calls) (length made) ≡ Some call
+next_call s calls made i x call within at is same =
+    let as_call = λ (c : ℕ × Vec ℕ Global). call_by s c.0 c.1.items in
+    ap (slice_get (calls_by s calls)) at ∙ slice_get-map as_call calls i ∙ ap (option_map as_call) (slice_get_read calls (length calls) i x refl within is) ∙ ap Some same
 
 -- a call more
 pub sent_more : (s : Sender) (calls : List Call) (made : List Bool) (m : Bool) (call : Call) (packets new : List (List ℕ)) (before sender : Option Sender) →
-    SenderGoesOn s → IsNext made calls call → AreSent s calls made packets before →
+    SenderGoesOn s → slice_get calls (length made) ≡ Some call → AreSent s calls made packets before →
     IsSentCall (after s (entries_made s.format made calls)) call (Ok m) packets new sender →
     AreSent s calls (made ++ m ∷ []) new sender
 sent_more s calls made true call packets new before sender goes next are (more_packets, stands) =
     let es = entries_made s.format made calls in
-    let more : entries_made s.format (made ++ true ∷ []) calls ≡ es ++ entries_of_call s.format call =
-    entries_more s.format made calls call next.within ∙ ap (λ (c : Call). es ++ entries_of_call s.format c) next.is in
+    let more : entries_made s.format (made ++ true ∷ []) calls ≡ es ++ entries_of_call s.format call = entries_more s.format made calls call next in
     record {
-      marks = made_more s.format made calls true call next.within are.marks (λ none. refl);
+      marks = made_more s.format made calls true call next are.marks (λ none. refl);
       packets_are = more_packets ∙ ap (λ (x : List (List ℕ)). x ++ packets_by (after s es) (entries_of_call s.format call)) are.packets_are
           ∙ sym (goes.packets es (entries_of_call s.format call)) ∙ ap (packets_by s) (sym more);
       stands = stands ∙ ap Some (sym (goes.later es (entries_of_call s.format call)) ∙ ap (after s) (sym more));
     }
 sent_more s calls made false call packets new before sender goes next are (effect, same_packets, stands) =
-    let same = entries_same s.format made calls call next.within in
-    let at : has_no_effect s.format (get_or calls (length made) call) ≡ false = ap (has_no_effect s.format) next.is ∙ effect in
+    let same = entries_same s.format made calls call next in
     record {
-      marks = made_more s.format made calls false call next.within are.marks (λ none. absurd cc);
+      marks = made_more s.format made calls false call next are.marks (λ none. absurd cc);
       packets_are = same_packets ∙ are.packets_are ∙ ap (packets_by s) (sym same);
       stands = stands ∙ ap (λ (x : List Entry). Some (after s x)) (sym same);
     }
@@ -166,30 +162,28 @@ taken_more w packets new work takes (more, is, taken) =
 
 -- a call one of whose packets is left
 pub run_stopped : (s : Sender) (w : Work) (calls : List Call) (made : List Bool) (call : Call) (packets : List (List ℕ)) (e : PacketError) (before sender : Option Sender) (work : Option Work) →
-    SenderGoesOn s → ReceiverGoesOn w → IsNext made calls call → AreSent s calls made packets before →
+    SenderGoesOn s → ReceiverGoesOn w → slice_get calls (length made) ≡ Some call → AreSent s calls made packets before →
     sender ≡ Some (after (after s (entries_made s.format made calls)) (entries_of_call s.format call)) →
     IsLeftOver (work_after w packets) (packets_by (after s (entries_made s.format made calls)) (entries_of_call s.format call)) e work →
-    IsStopped s w calls e sender work
+    IsStoppedIn s w calls e sender work
 run_stopped s w calls made call packets e before sender work goes takes next are stands over =
     let es = entries_made s.format made calls in
     let del = over.delivered in
-    let more : entries_made s.format (made ++ true ∷ []) calls ≡ es ++ entries_of_call s.format call =
-    entries_more s.format made calls call next.within ∙ ap (λ (c : Call). es ++ entries_of_call s.format c) next.is in
+    let more : entries_made s.format (made ++ true ∷ []) calls ≡ es ++ entries_of_call s.format call = entries_more s.format made calls call next in
+    let so_far : work_after (work_after w packets) del.taken ≡ work_after w (packets_by s es ++ del.taken) =
+    takes.more packets del.taken ∙ ap (λ (x : List (List ℕ)). work_after w (x ++ del.taken)) are.packets_are in
     record {
-      made = made ++ true ∷ [];
-      marks = made_more s.format made calls true call next.within are.marks (λ none. refl);
+      made = made;
+      call = call;
+      marks = are.marks;
+      place = next;
       stands = stands ∙ ap Some (sym (goes.later es (entries_of_call s.format call)) ∙ ap (after s) (sym more));
-      delivered = record {
-        taken = packets ++ del.taken;
-        left = del.left;
-        front = ap (packets_by s) more ∙ goes.packets es (entries_of_call s.format call)
-            ∙ ap (λ (x : List (List ℕ)). x ++ packets_by (after s es) (entries_of_call s.format call)) (sym are.packets_are)
-            ∙ ap (λ (x : List (List ℕ)). packets ++ x) del.front ∙ sym (append_assoc packets del.taken del.left);
-        work = del.work ∙ ap Some (takes.more packets del.taken);
-        all = tt;
-        cause = subst (λ (x : Work). IsCause x del.left e) (takes.more packets del.taken) del.cause;
-      };
-      some = λ none. absurd (over.some none);
+      taken = del.taken;
+      left = del.left;
+      own = del.front;
+      some = over.some;
+      front = del.work ∙ ap Some so_far;
+      cause = subst (λ (x : Work). IsCause x del.left e) so_far del.cause;
     }
 
 -- what follows of an answer that is no refusal
@@ -223,12 +217,17 @@ written_of o new extra w packets units is brings =
     let parts = work_parts o new extra (work_after w packets) is in
     rw (← brings) (parts.is_out, parts.is_extra)
 
--- a run that ended in a refusal ended for want of memory where all it sent is carried
-pub stopped_run : (s : Sender) (w : Work) (calls : List Call) (e : PacketError) (sender : Option Sender) (work : Option Work) →
+-- a run that stopped lacked memory where all it sent is carried
+pub stopped_run : (s : Sender) (w : Work) (calls : List Call) (e : PacketError) (sender : Option Sender) (work : Option Work) → SenderGoesOn s →
     ((made : List Bool) → w.receiver.format ≡ s.format → AreCarried s.format (sent_of s made calls) → CarriesWhole s w (kept made calls)) →
-    IsStopped s w calls e sender work → IsStoppedRun s w calls e sender work
-stopped_run s w calls e sender work law it =
-    (it, λ same carried short. (law it.made same carried).refused short it.delivered.taken it.delivered.left e it.delivered.front it.delivered.cause)
+    (IsUnbegun s w e sender work ⊎ IsStoppedIn s w calls e sender work) → IsStopped s w calls e sender work
+stopped_run s w calls e sender work goes law (inl it) = inl it
+stopped_run s w calls e sender work goes law (inr it) =
+    let es = entries_made s.format it.made calls in
+    let front : packets_by s (entries_made s.format (it.made ++ true ∷ []) calls) ≡ (packets_by s es ++ it.taken) ++ it.left =
+    ap (packets_by s) (entries_more s.format it.made calls it.call it.place) ∙ goes.packets es (entries_of_call s.format it.call)
+    ∙ ap (λ (x : List (List ℕ)). packets_by s es ++ x) it.own ∙ sym (append_assoc (packets_by s es) it.taken it.left) in
+    inr (it, λ same carried short. (law (it.made ++ true ∷ []) same carried).refused short (packets_by s es ++ it.taken) it.left e front it.cause)
 
 -- what a fresh pair is known by
 pub record IsFreshPair (s : Sender) (r : Receiver) (extra : CodecExtra) : Type 0 where
