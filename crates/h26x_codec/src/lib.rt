@@ -16,9 +16,11 @@ mod codec;
 mod depacketizer;
 mod packetizer;
 mod runs;
+mod take;
 
 pub use carried::{Carried, Marks, Packets};
 pub use codec::Codec;
 pub use depacketizer::CodecDepacketizer;
 pub use packetizer::CodecPacketizer;
 pub use runs::carry;
+pub use take::take_all;
