@@ -2,7 +2,7 @@
 use Rattle.std.proofs.Common.{◌≡◌, ℕ, ◌+◌, ◌<◌, ◌≤◌, Bool, true, false, cond, List, [], ◌∷◌, ◌++◌, length, map, take, drop, get_or, Option, None, Some, Result, Ok, Err, refl, sym, ap, ◌∙◌, inl, inr, subst, append_assoc, Vec, Global}
 use Rattle.std.specs.Prelude.{IfOk, IfErr, ◌⊎◌, slice_get}
 use Rattle.std.specs.Option.{option_map, option_map_or}
-use Rattle.std.specs.List.{flat_map}
+use Rattle.std.specs.List.{flat_map, AllByRecursion}
 use Rattle.std.proofs.lemmas.List.{append-nil, take_all, take-append-drop, drop_more}
 use Rattle.std.proofs.lemmas.List.Concat.{flat_map-append}
 use Rattle.std.proofs.lemmas.Option.{slice_get-map, slice_get_read}
@@ -12,6 +12,8 @@ use Rattle.h26x_core.specs.declared.extra.CodecExtra.TheVariants as extras
 use Rattle.h26x_core.specs.declared.error.PacketError.{PacketError}
 use Rattle.h26x_core.specs.declared.error.PacketError.TheVariants.{OutOfMemory}
 use Rattle.h26x_core.specs.Front.{IsFrontOf}
+use Rattle.h26x_core.specs.Reading.{Reading, Single, Aggregate, Fragment, Paci, Refused, IsRead}
+use Rattle.h26x_core.specs.Outcome.{IsOutcomeWith}
 use Rattle.h26x_core.specs.Format.{Format}
 use Rattle.h26x_core.specs.Group.{Entry}
 use Rattle.h26x_core.specs.Calls.{Call, AreCalls, entries_of_call, entries_of}
@@ -26,6 +28,7 @@ use Rattle.h26x_core.specs.Packets.{packets}
 use Rattle.h26x_core.specs.Sender.{Sender, planned, sent_by, packets_by, after, has_no_effect}
 use Rattle.h26x_core.specs.Receiver.{Receiver, Work, brought, work_after, IsOutcomeAt, IsCause}
 use Rattle.h26x_core.specs.Ends.{SenderGoesOn, ReceiverGoesOn, CarriesWhole}
+use Rattle.h26x_core.proofs.LimitLemmas.{all_both}
 use Rattle.h26x_codec.specs.Codec.{at_work, call_by}
 use Rattle.h26x_codec.specs.Runs.{entries_made, sent_of, AreMade, AreSent, IsSentCall, AreTaken, IsLeftOver, IsUnbegun, IsStoppedIn, IsStopped, AreWritten, IsFresh, AreCarriedWhole, calls_by}
 
@@ -59,6 +62,22 @@ pub one_more : (w : Work) (packets : List (List ℕ)) (i : ℕ) (new : Option Wo
 one_more w packets i new law within taken =
     taken ∙ ap Some (law.more (take i packets) (get_or packets i [] ∷ []) ∙ ap (work_after w) (sym (take_at_read packets i [] within).1))
 
+-- what is accepted is not refused for what it is
+accepted_read : (avc : Bool) (run : Option (List ℕ)) (reading : Reading) → IsOutcomeWith avc run reading (Ok tt) → IsRead reading
+accepted_read avc run (Refused e) is = absurd cc
+accepted_read avc run (Single unit number) is = tt
+accepted_read avc run (Aggregate units) is = tt
+accepted_read avc run (Fragment start end head number body) is = tt
+accepted_read avc run (Paci head fields extension body) is = tt
+
+-- nor is one packet more
+pub read_more : (w : Work) (packets : List (List ℕ)) (i : ℕ) → i < length packets →
+    AllByRecursion (λ packet. IsRead (w.receiver.format.read packet)) (take i packets) → IsOutcomeAt (work_after w (take i packets)) (get_or packets i []) (Ok tt) →
+    AllByRecursion (λ packet. IsRead (w.receiver.format.read packet)) (take (i + 1) packets)
+read_more w packets i within so_far outcome =
+    let packet = get_or packets i [] in
+    rw ((take_at_read packets i [] within).1) (all_both (λ p. IsRead (w.receiver.format.read p)) (take i packets) (packet ∷ []) so_far (accepted_read w.receiver.is_avc (work_after w (take i packets)).receiver.run (w.receiver.format.read packet) outcome, tt))
+
 -- all packets were taken where the last of them was
 pub finished : (w : Work) (packets : List (List ℕ)) (i : ℕ) (new : Option Work) → length packets ≤ i → new ≡ Some (work_after w (take i packets)) →
     new ≡ Some (work_after w packets)
@@ -66,9 +85,9 @@ finished w packets i new past is = is ∙ ap (λ (x : List (List ℕ)). Some (wo
 
 -- where one is refused those before it were taken, and it is left
 pub stopped : (w : Work) (packets : List (List ℕ)) (i : ℕ) (e : PacketError) (new : Option Work) →
-    i < length packets → new ≡ Some (work_after w (take i packets)) → IsOutcomeAt (work_after w (take i packets)) (get_or packets i []) (Err e) →
-    IsLeftOver w packets e new
-stopped w packets i e new within left outcome = record {
+    i < length packets → new ≡ Some (work_after w (take i packets)) → AllByRecursion (λ packet. IsRead (w.receiver.format.read packet)) (take i packets) →
+    IsOutcomeAt (work_after w (take i packets)) (get_or packets i []) (Err e) → IsLeftOver w packets e new
+stopped w packets i e new within left read outcome = record {
   delivered = record {
     taken = take i packets;
     left = drop i packets;
@@ -77,6 +96,7 @@ stopped w packets i e new within left outcome = record {
     all = tt;
     cause = inr (get_or packets i [], drop (i + 1) packets, drop_more packets i [] within, outcome);
   };
+  read = read;
   some = λ none. let more = drop_more packets i [] within in cc;
 }
 
@@ -89,6 +109,7 @@ none_mapped f (x ∷ xs) is = absurd cc
 pub none_taken : (w : Work) (packets : List (List ℕ)) (new : Option Work) → ReceiverGoesOn w → new ≡ Some w → (packets ≡ [] → ⊥) → IsLeftOver w packets OutOfMemory new
 none_taken w packets new law is some = record {
   delivered = record { taken = []; left = packets; front = refl; work = is ∙ ap Some (sym law.none); all = tt; cause = inl refl };
+  read = tt;
   some = some;
 }
 
@@ -201,6 +222,11 @@ pub if_both : {T E : Type 0} {P Q R : T → Type 0} (r : Result T E) → ((x : T
 if_both (Ok x) f p q = f x p q
 if_both (Err e) f p q = p
 
+-- what follows of three
+pub if_three : {T E : Type 0} {P Q R S : T → Type 0} (r : Result T E) → ((x : T) → P x → Q x → R x → S x) → IfOk r P → IfOk r Q → IfOk r R → IfOk r S
+if_three (Ok x) f p q t = f x p q t
+if_three (Err e) f p q t = p
+
 -- the calls of a packetizer bear its largest size
 pub calls_small : (s : Sender) → s.largest ≤ 65535 → (made : List Bool) (calls : List (ℕ × Vec ℕ Global)) → AreCalls (kept made (calls_by s calls))
 calls_small s small [] calls = tt
@@ -229,6 +255,16 @@ stopped_run s w calls e sender work goes law (inr it) =
     ∙ ap (λ (x : List (List ℕ)). packets_by s es ++ x) it.own ∙ sym (append_assoc (packets_by s es) it.taken it.left) in
     inr (it, λ same carried short. (law (it.made ++ true ∷ []) same carried).refused short (packets_by s es ++ it.taken) it.left e front it.cause)
 
+-- what a fresh packetizer plans is the plan of all
+pub fresh_plan : (s : Sender) (entries : List Entry) → IsFresh s → plan s.format entries ≡ plan_with s.format none_waiting entries → planned s entries ≡ plan s.format entries
+fresh_plan s entries fresh planned_is = ap (λ (x : Waiting). plan_with s.format x entries) fresh.0 ∙ sym planned_is
+
+-- so are its packets
+pub fresh_packets : (s : Sender) (entries : List Entry) → IsFresh s → plan s.format entries ≡ plan_with s.format none_waiting entries →
+    packets_by s entries ≡ packets s.format 0 (plan s.format entries)
+fresh_packets s entries fresh planned_is =
+    ap (λ (n : ℕ). packets s.format n (planned s entries)) fresh.1 ∙ ap (packets s.format 0) (fresh_plan s entries fresh planned_is)
+
 -- what a fresh pair is known by
 pub record IsFreshPair (s : Sender) (r : Receiver) (extra : CodecExtra) : Type 0 where
   pub fresh : IsFresh s
@@ -246,10 +282,9 @@ pub of_fresh : (s : Sender) (w : Work) (calls : List Call) (made : List (List �
 of_fresh s w calls made new told pair goes fewest planned_is law is whole =
     let f = s.format in
     let entries = entries_of f calls in
-    let same_plan : planned s entries ≡ plan f entries = ap (λ (x : Waiting). plan_with f x entries) pair.fresh.0 ∙ sym planned_is in
-    let units : sent f entries ≡ sent_by s entries = ap (flat_map units_of_item) (sym same_plan) in
+    let units : sent f entries ≡ sent_by s entries = ap (flat_map units_of_item) (sym (fresh_plan s entries pair.fresh planned_is)) in
     record {
-      packets_are = is ∙ ap (λ (n : ℕ). packets f n (planned s entries)) pair.fresh.1 ∙ ap (packets f 0) same_plan;
+      packets_are = is ∙ fresh_packets s entries pair.fresh planned_is;
       within = goes.within calls;
       fewest = fewest;
       written = λ carried. (whole (subst (AreCarried f) units carried)).0 ∙ ap (λ (us : List (List ℕ)). w.out ++ text w.receiver.is_avc us) (sym units);

@@ -1,9 +1,11 @@
 -- What a run does: calls of a packetizer, and their packets through a depacketizer.
 use Rattle.std.specs.Prelude.{◌≡◌, ℕ, Bool, true, false, List, [], ◌∷◌, ◌++◌, length, map, Option, Some, Result, Ok, Err, Vec, ◌⊎◌, slice_get}
 use Rattle.std.specs.Global.{Global}
+use Rattle.std.specs.List.{AllByRecursion}
 use Rattle.h26x_core.specs.declared.extra.CodecExtra.{CodecExtra}
 use Rattle.h26x_core.specs.declared.error.PacketError.{PacketError}
 use Rattle.h26x_core.specs.declared.error.PacketError.TheVariants.{OutOfMemory}
+use Rattle.h26x_core.specs.Reading.{IsRead}
 use Rattle.h26x_core.specs.Format.{Format}
 use Rattle.h26x_core.specs.Group.{Entry}
 use Rattle.h26x_core.specs.Calls.{Call, entries_of_call, entries_of, packets_of}
@@ -62,10 +64,12 @@ abbrev pub AreTaken : Work → List (List ℕ) → List (List ℕ) → Option Wo
 AreTaken w packets new work =
     (more : List (List ℕ)) × (new ≡ packets ++ more) × (work ≡ Some (work_after w more))
 
--- A delivery that stopped: a front of the packets was taken, and some are left.
+-- A delivery that stopped: a front of the packets was taken, none of which is refused for what it
+-- is, and some are left.
 pub record IsLeftOver (w : Work) (packets : List (List ℕ)) (error : PacketError)
     (new : Option Work) : Type 0 where
   pub delivered : AreDelivered {A = Bool} w packets (Err error) new
+  pub read : AllByRecursion (λ packet. IsRead (w.receiver.format.read packet)) delivered.taken
   pub some : delivered.left ≡ [] → ⊥
 
 -- a run for whose marks there was no room: nothing was done
