@@ -3,6 +3,8 @@ use h26x_core::{H265FragmentationUnitHeader, H265NALUHeader, H265TSCI, PacketErr
 use std::alloc::Global;
 use std::test::Fail;
 
+mod memory;
+
 /// A buffer of these bytes.
 fn bytes(alloc: Global, bytes: &[u8]) -> Result<Vec<u8>, PacketError> {
     Ok(bytes.to_vec(alloc)?)
@@ -72,127 +74,124 @@ fn paci(alloc: Global) -> Result<H265PACIPacket, PacketError> {
 }
 
 #[test]
-fn empty_packets(rt: HostRuntime) -> Result<(), Fail> {
-    let single = H265SingleNALUnitPacket::empty(rt.alloc());
-    assert_eq!(rt; single.payload_header(), H265NALUHeader(0));
-    assert_eq!(rt; single.donl(), None);
-    assert_eq!(rt; single.payload().is_empty(), true);
-    let fragment = H265FragmentationUnitPacket::empty(rt.alloc());
-    assert_eq!(rt; fragment.payload_header(), H265NALUHeader(0));
-    assert_eq!(rt; fragment.fu_header(), H265FragmentationUnitHeader(0));
-    assert_eq!(rt; fragment.donl(), None);
-    assert_eq!(rt; fragment.payload().is_empty(), true);
-    let first = H265AggregationUnitFirst::empty(rt.alloc());
-    assert_eq!(rt; first.donl(), None);
-    assert_eq!(rt; first.nalu_size(), 0);
-    assert_eq!(rt; first.nal_unit().is_empty(), true);
-    let other = H265AggregationUnit::empty(rt.alloc());
-    assert_eq!(rt; other.dond(), None);
-    assert_eq!(rt; other.nalu_size(), 0);
-    assert_eq!(rt; other.nal_unit().is_empty(), true);
-    let aggregate = H265AggregationPacket::empty(rt.alloc());
-    assert_eq!(rt; aggregate.first_unit().is_none(), true);
-    assert_eq!(rt; aggregate.other_units().is_empty(), true);
-    assert_eq!(rt; aggregate.nal_units(rt.alloc())?.is_empty(), true);
-    let paci = H265PACIPacket::empty(rt.alloc());
-    assert_eq!(rt; paci.payload_header(), H265NALUHeader(0));
-    assert_eq!(rt; paci.phs_size(), 0);
-    assert_eq!(rt; paci.phes().is_empty(), true);
-    assert_eq!(rt; paci.payload().is_empty(), true);
-    assert_eq!(rt; paci.tsci(), None);
+fn an_empty_payload(rt: HostRuntime) {
+    let packet = H265SingleNALUnitPacket::empty(rt.alloc());
+    assert!(rt; H265Payload::empty(rt.alloc()) == H265Payload::H265SingleNALUnitPacket(packet));
+}
+
+#[test]
+fn no_units_of_an_empty_aggregate(rt: HostRuntime) -> Result<(), Fail> {
+    let packet = H265AggregationPacket::empty(rt.alloc());
+    assert!(rt; packet.nal_units(rt.alloc())?.is_empty());
+    Ok(())
+}
+
+#[test]
+fn parts_of_a_single_packet(rt: HostRuntime) -> Result<(), Fail> {
+    let packet = single(rt.alloc(), Some(7))?;
     assert_eq!(rt;
-        H265Payload::empty(rt.alloc()) == H265Payload::H265SingleNALUnitPacket(single),
-        true
+        (packet.payload_header().0, packet.donl(), packet.payload()),
+        (0x2601, Some(7), [0xaa, 0xbb].as_slice())
     );
     Ok(())
 }
 
 #[test]
-fn parts_of_packets(rt: HostRuntime) -> Result<(), Fail> {
-    let single = single(rt.alloc(), Some(7))?;
-    assert_eq!(rt; single.payload_header(), H265NALUHeader(0x2601));
-    assert_eq!(rt; single.donl(), Some(7));
-    assert_eq!(rt; single.payload(), [0xaa, 0xbb].as_slice());
-    let fragment = fragment(rt.alloc(), Some(0xffff))?;
-    assert_eq!(rt; fragment.payload_header(), H265NALUHeader(0x6201));
-    assert_eq!(rt; fragment.fu_header().s(), true);
-    assert_eq!(rt; fragment.fu_header().e(), false);
-    assert_eq!(rt; fragment.fu_header().fu_type(), 19);
-    assert_eq!(rt; fragment.donl(), Some(0xffff));
-    assert_eq!(rt; fragment.payload(), [0xaa].as_slice());
+fn parts_of_a_fragment(rt: HostRuntime) -> Result<(), Fail> {
+    let packet = fragment(rt.alloc(), Some(0xffff))?;
+    assert_eq!(rt;
+        (packet.payload_header().0, packet.donl(), packet.payload()),
+        (0x6201, Some(0xffff), [0xaa].as_slice())
+    );
+    let marks = packet.fu_header();
+    assert_eq!(rt; (marks.s(), marks.e(), marks.fu_type()), (true, false, 19));
     Ok(())
 }
+
+/// The units of the aggregate.
+const UNITS: [&[u8]; 3] = [
+    &[0x40, 0x01, 0x0c],
+    &[0x42, 0x01],
+    &[0x44, 0x01, 0xc1, 0x72],
+];
 
 #[test]
 fn units_of_an_aggregate(rt: HostRuntime) -> Result<(), Fail> {
     let packet = aggregate(rt.alloc())?;
-    let units: [&[u8]; 3] = [
-        &[0x40, 0x01, 0x0c],
-        &[0x42, 0x01],
-        &[0x44, 0x01, 0xc1, 0x72],
-    ];
-    assert_eq!(rt; packet.nal_units(rt.alloc())?.as_slice(), units.as_slice());
-    if let Some(first) = packet.first_unit() {
-        assert_eq!(rt; first.donl(), Some(7));
-        assert_eq!(rt; first.nalu_size(), 3);
-        assert_eq!(rt; first.nal_unit(), units[0]);
-    }
-    assert_eq!(rt; packet.first_unit().is_some(), true);
-    let others = packet.other_units();
-    assert_eq!(rt; others.len(), 2);
-    if let [sps, pps] = others {
-        assert_eq!(rt; sps.dond(), Some(0));
-        assert_eq!(rt; sps.nalu_size(), 2);
-        assert_eq!(rt; sps.nal_unit(), units[1]);
-        assert_eq!(rt; pps.dond(), Some(255));
-        assert_eq!(rt; pps.nalu_size(), 4);
-        assert_eq!(rt; pps.nal_unit(), units[2]);
+    assert_eq!(rt; packet.nal_units(rt.alloc())?.as_slice(), UNITS.as_slice());
+    Ok(())
+}
+
+#[test]
+fn a_first_unit(rt: HostRuntime) -> Result<(), Fail> {
+    let packet = aggregate(rt.alloc())?;
+    let Some(first) = packet.first_unit() else {
+        return Err(Fail::from("no first unit"));
+    };
+    assert_eq!(rt;
+        (first.donl(), first.nalu_size(), first.nal_unit()),
+        (Some(7), 3, UNITS[0])
+    );
+    Ok(())
+}
+
+#[test]
+fn further_units(rt: HostRuntime) -> Result<(), Fail> {
+    let packet = aggregate(rt.alloc())?;
+    let [sps, pps] = packet.other_units() else {
+        return Err(Fail::from("not two further units"));
+    };
+    for (unit, dond, size, bytes) in [(sps, 0, 2, UNITS[1]), (pps, 255, 4, UNITS[2])] {
+        assert_eq!(rt;
+            (unit.dond(), unit.nalu_size(), unit.nal_unit()),
+            (Some(dond), size, bytes)
+        );
     }
     Ok(())
 }
 
 #[test]
 fn fields_of_a_paci(rt: HostRuntime) -> Result<(), Fail> {
-    // The word of the fields, and A, cType, PHSsize, F0, F1, F2 and Y.
-    for (fields, a, ctype, phs_size, flags) in [
-        (0x2638, false, 19, 3, [true, false, false, false]),
-        (0x8000, true, 0, 0, [false, false, false, false]),
-        (0x7e00, false, 63, 0, [false, false, false, false]),
-        (0x01f0, false, 0, 31, [false, false, false, false]),
-        (0x0004, false, 0, 0, [false, true, false, false]),
-        (0x0002, false, 0, 0, [false, false, true, false]),
-        (0x0001, false, 0, 0, [false, false, false, true]),
-        (0xffff, true, 63, 31, [true, true, true, true]),
+    // The word of the fields; A, F0, F1, F2 and Y; cType and PHSsize.
+    for (fields, flags, ctype, phs_size) in [
+        (0x2638, [false, true, false, false, false], 19, 3),
+        (0x8000, [true, false, false, false, false], 0, 0),
+        (0x7e00, [false, false, false, false, false], 63, 0),
+        (0x01f0, [false, false, false, false, false], 0, 31),
+        (0x0004, [false, false, true, false, false], 0, 0),
+        (0x0002, [false, false, false, true, false], 0, 0),
+        (0x0001, [false, false, false, false, true], 0, 0),
+        (0xffff, [true, true, true, true, true], 63, 31),
     ] {
         let packet = paci_of(rt.alloc(), fields, &TSCI_AND_PAYLOAD)?;
         assert_eq!(rt;
-            packet.payload_header(),
-            H265NALUHeader(0x6401),
-            "at {fields}"
-        );
-        assert_eq!(rt; packet.a(), a, "at {fields}");
-        assert_eq!(rt; packet.ctype(), ctype, "at {fields}");
-        assert_eq!(rt; packet.phs_size(), phs_size, "at {fields}");
-        assert_eq!(rt;
-            [packet.f0(), packet.f1(), packet.f2(), packet.y()],
+            [
+                packet.a(),
+                packet.f0(),
+                packet.f1(),
+                packet.f2(),
+                packet.y()
+            ],
             flags,
             "at {fields}"
         );
-        assert_eq!(rt; packet.phes().len(), usize::from(phs_size), "at {fields}");
         assert_eq!(rt;
-            packet.payload().len(),
-            32 - usize::from(phs_size),
+            (packet.payload_header().0, packet.ctype(), packet.phs_size()),
+            (0x6401, ctype, phs_size),
+            "at {fields}"
+        );
+        let end = usize::from(phs_size);
+        assert_eq!(rt;
+            (Some(packet.phes()), Some(packet.payload())),
+            (TSCI_AND_PAYLOAD.get(..end), TSCI_AND_PAYLOAD.get(end..)),
             "at {fields}"
         );
     }
-    let packet = paci(rt.alloc())?;
-    assert_eq!(rt; packet.phes(), [0x11, 0x22, 0x33].as_slice());
-    assert_eq!(rt; packet.payload(), &TSCI_AND_PAYLOAD[3..]);
     Ok(())
 }
 
 #[test]
-fn tsci_of_a_paci(rt: HostRuntime) -> Result<(), Fail> {
+fn extensions_with_tsci(rt: HostRuntime) -> Result<(), Fail> {
     for (fields, want) in [
         (0x2638, Some(H265TSCI(0x1122_3300))),
         (0x2648, Some(H265TSCI(0x1122_3300))),
@@ -203,13 +202,19 @@ fn tsci_of_a_paci(rt: HostRuntime) -> Result<(), Fail> {
         let packet = paci_of(rt.alloc(), fields, &TSCI_AND_PAYLOAD)?;
         assert_eq!(rt; packet.tsci(), want, "at {fields}");
     }
-    if let Some(tsci) = paci(rt.alloc())?.tsci() {
-        assert_eq!(rt; tsci.tl0picidx(), 0x11);
-        assert_eq!(rt; tsci.irap_pic_id(), 0x22);
-        assert_eq!(rt; tsci.s(), false);
-        assert_eq!(rt; tsci.e(), false);
-        assert_eq!(rt; tsci.res(), 0x33);
-    }
+    Ok(())
+}
+
+#[test]
+fn parts_of_tsci(rt: HostRuntime) -> Result<(), Fail> {
+    let Some(tsci) = paci(rt.alloc())?.tsci() else {
+        return Err(Fail::from("no TSCI"));
+    };
+    assert_eq!(rt;
+        (tsci.tl0picidx(), tsci.irap_pic_id(), tsci.res()),
+        (0x11, 0x22, 0x33)
+    );
+    assert_eq!(rt; (tsci.s(), tsci.e()), (false, false));
     Ok(())
 }
 
@@ -251,73 +256,70 @@ fn an_extension_too_long(rt: HostRuntime) -> Result<(), Fail> {
 }
 
 #[test]
-fn packets_are_equal_by_value(rt: HostRuntime) -> Result<(), Fail> {
+fn equal_single_packets(rt: HostRuntime) -> Result<(), Fail> {
     let mut packet = single(rt.alloc(), None)?;
-    assert_eq!(rt; packet == single(rt.alloc(), Some(0))?, false);
-    assert_eq!(rt; packet == single(rt.alloc(), None)?, true);
-    packet.with_donl(false);
-    assert_eq!(rt; packet == single(rt.alloc(), None)?, false);
-    packet.with_donl(true);
-    assert_eq!(rt; packet == single(rt.alloc(), None)?, true);
-    assert_eq!(rt; packet == H265SingleNALUnitPacket::empty(rt.alloc()), false);
-
-    let mut packet = fragment(rt.alloc(), None)?;
-    assert_eq!(rt; packet == fragment(rt.alloc(), Some(0))?, false);
-    assert_eq!(rt; packet == fragment(rt.alloc(), None)?, true);
-    packet.with_donl(false);
-    assert_eq!(rt; packet == fragment(rt.alloc(), None)?, false);
-    assert_eq!(rt;
-        packet == H265FragmentationUnitPacket::empty(rt.alloc()),
-        false
-    );
-
-    let mut packet = aggregate(rt.alloc())?;
-    assert_eq!(rt; packet == aggregate(rt.alloc())?, true);
-    packet.with_donl(false);
-    assert_eq!(rt; packet == aggregate(rt.alloc())?, false);
-    assert_eq!(rt; packet == H265AggregationPacket::empty(rt.alloc()), false);
-
-    let sps = other(rt.alloc(), 0, &[0x42, 0x01])?;
-    assert_eq!(rt; sps == other(rt.alloc(), 0, &[0x42, 0x01])?, true);
-    assert_eq!(rt; sps == other(rt.alloc(), 1, &[0x42, 0x01])?, false);
-    assert_eq!(rt; sps == other(rt.alloc(), 0, &[0x42, 0x02])?, false);
-    let vps = first(rt.alloc(), 0, &[0x40, 0x01])?;
-    assert_eq!(rt; vps == first(rt.alloc(), 0, &[0x40, 0x01])?, true);
-    assert_eq!(rt; vps == first(rt.alloc(), 1, &[0x40, 0x01])?, false);
-    assert_eq!(rt; vps == first(rt.alloc(), 0, &[0x40, 0x02])?, false);
-
-    let packet = paci(rt.alloc())?;
-    assert_eq!(rt; packet == paci(rt.alloc())?, true);
-    let short = paci_of(rt.alloc(), 0x2628, &TSCI_AND_PAYLOAD)?;
-    assert_eq!(rt; packet == short, false);
-    assert_eq!(rt;
-        H265Payload::H265PACIPacket(packet) == H265Payload::empty(rt.alloc()),
-        false
-    );
+    for (mark, donl, is_equal) in [
+        (true, Some(0), false),
+        (true, None, true),
+        (false, None, false),
+        (true, None, true),
+    ] {
+        packet.with_donl(mark);
+        let other = single(rt.alloc(), donl)?;
+        assert_eq!(rt; packet == other, is_equal, "marked {mark}, with {donl:?}");
+    }
+    assert!(rt; packet != H265SingleNALUnitPacket::empty(rt.alloc()));
     Ok(())
 }
 
 #[test]
-fn clones_are_equal(rt: HostRuntime) -> Result<(), Fail> {
-    for payload in [
-        H265Payload::H265SingleNALUnitPacket(single(rt.alloc(), Some(7))?),
-        H265Payload::H265FragmentationUnitPacket(fragment(rt.alloc(), Some(7))?),
-        H265Payload::H265AggregationPacket(aggregate(rt.alloc())?),
-        H265Payload::H265AggregationPacket(H265AggregationPacket::empty(rt.alloc())),
-        H265Payload::H265PACIPacket(paci(rt.alloc())?),
-        H265Payload::empty(rt.alloc()),
+fn equal_fragments(rt: HostRuntime) -> Result<(), Fail> {
+    let mut packet = fragment(rt.alloc(), None)?;
+    for (mark, donl, is_equal) in [
+        (true, Some(0), false),
+        (true, None, true),
+        (false, None, false),
     ] {
-        let clone = payload.clone(rt.alloc())?;
-        assert_eq!(rt; clone == payload, true, "of {payload:?}");
-        drop(clone.into_buffer());
+        packet.with_donl(mark);
+        let other = fragment(rt.alloc(), donl)?;
+        assert_eq!(rt; packet == other, is_equal, "marked {mark}, with {donl:?}");
     }
-    let packet = aggregate(rt.alloc())?;
-    if let Some(first) = packet.first_unit() {
-        assert_eq!(rt; first.clone(rt.alloc())? == *first, true);
+    assert!(rt; packet != H265FragmentationUnitPacket::empty(rt.alloc()));
+    Ok(())
+}
+
+#[test]
+fn equal_aggregates(rt: HostRuntime) -> Result<(), Fail> {
+    let mut packet = aggregate(rt.alloc())?;
+    for mark in [true, false] {
+        packet.with_donl(mark);
+        assert_eq!(rt; packet == aggregate(rt.alloc())?, mark);
     }
-    for unit in packet.other_units() {
-        assert_eq!(rt; unit.clone(rt.alloc())? == *unit, true);
+    assert!(rt; packet != H265AggregationPacket::empty(rt.alloc()));
+    Ok(())
+}
+
+#[test]
+fn equal_units_of_aggregates(rt: HostRuntime) -> Result<(), Fail> {
+    let vps = first(rt.alloc(), 0, &[0x40, 0x01])?;
+    let sps = other(rt.alloc(), 0, &[0x42, 0x01])?;
+    for (number, last, is_equal) in [(0_u8, 0x01, true), (1, 0x01, false), (0, 0x02, false)] {
+        let unit = first(rt.alloc(), u16::from(number), &[0x40, last])?;
+        assert_eq!(rt; vps == unit, is_equal, "a first of {number}, {last}");
+        let unit = other(rt.alloc(), number, &[0x42, last])?;
+        assert_eq!(rt; sps == unit, is_equal, "a further of {number}, {last}");
     }
+    Ok(())
+}
+
+#[test]
+fn equal_pacis(rt: HostRuntime) -> Result<(), Fail> {
+    let packet = paci(rt.alloc())?;
+    for (fields, is_equal) in [(0x2638, true), (0x2628, false)] {
+        let other = paci_of(rt.alloc(), fields, &TSCI_AND_PAYLOAD)?;
+        assert_eq!(rt; packet == other, is_equal, "at {fields}");
+    }
+    assert!(rt; H265Payload::H265PACIPacket(packet) != H265Payload::empty(rt.alloc()));
     Ok(())
 }
 
