@@ -11,10 +11,14 @@
 //! ```
 #![tactic(auto)]
 
+mod carried;
 mod codec;
 mod depacketizer;
 mod packetizer;
+mod runs;
 
+pub use carried::{Carried, Marks, Packets};
 pub use codec::Codec;
 pub use depacketizer::CodecDepacketizer;
 pub use packetizer::CodecPacketizer;
+pub use runs::carry;

@@ -1,0 +1,262 @@
+-- Runs go on from packet to packet and from call to call. The laws that this stands on come as arguments.
+use Rattle.std.proofs.Common.{◌≡◌, ℕ, ◌+◌, ◌<◌, ◌≤◌, Bool, true, false, cond, List, [], ◌∷◌, ◌++◌, length, map, take, drop, get_or, Option, None, Some, Result, Ok, Err, refl, sym, ap, ◌∙◌, inl, inr, subst, append_assoc, arith, Vec, Global}
+use Rattle.std.specs.Prelude.{IfOk, IfErr}
+use Rattle.std.specs.Option.{option_map, option_map_or}
+use Rattle.std.specs.List.{flat_map}
+use Rattle.std.proofs.lemmas.List.{append-nil, length-map, get_or-map, take_all, take-append-drop, drop_more}
+use Rattle.std.proofs.lemmas.List.Concat.{flat_map-append}
+use Rattle.std.proofs.lemmas.Grind.{take_at_read}
+use Rattle.h26x_core.specs.declared.extra.CodecExtra.{CodecExtra}
+use Rattle.h26x_core.specs.declared.extra.CodecExtra.TheVariants as extras
+use Rattle.h26x_core.specs.declared.error.PacketError.{PacketError}
+use Rattle.h26x_core.specs.declared.error.PacketError.TheVariants.{OutOfMemory}
+use Rattle.h26x_core.specs.Front.{IsFrontOf}
+use Rattle.h26x_core.specs.Format.{Format}
+use Rattle.h26x_core.specs.Group.{Entry}
+use Rattle.h26x_core.specs.Calls.{Call, AreCalls, entries_of_call, entries_of}
+use Rattle.h26x_core.specs.Loss.{kept}
+use Rattle.h26x_core.specs.Facts.{AreCarried}
+use Rattle.h26x_core.specs.Rival.{TakesFewestFragments}
+use Rattle.h26x_core.specs.Text.{text}
+use Rattle.h26x_core.specs.Extra.{extra_after, first_told}
+use Rattle.h26x_core.specs.Plan.{units_of_item, plan, sent}
+use Rattle.h26x_core.specs.Waits.{Waiting, none_waiting, plan_with}
+use Rattle.h26x_core.specs.Packets.{packets}
+use Rattle.h26x_core.specs.Sender.{Sender, planned, sent_by, packets_by, after, has_no_effect}
+use Rattle.h26x_core.specs.Receiver.{Receiver, Work, brought, work_after, IsOutcomeAt, IsCause}
+use Rattle.h26x_core.specs.Ends.{SenderGoesOn, ReceiverGoesOn, CarriesWhole}
+use Rattle.h26x_codec.specs.Codec.{at_work, call_by}
+use Rattle.h26x_codec.specs.Runs.{entries_made, sent_of, AreMade, AreSent, IsSentCall, AreTaken, IsLeftOver, IsStopped, IsStoppedRun, AreWritten, IsFresh, AreCarriedWhole, calls_by}
+
+-- a beginning of a beginning is one of the whole
+pub still_front : (a b whole : List ℕ) → IsFrontOf a b → IsFrontOf b whole → IsFrontOf a whole
+still_front a b whole (x, is) (y, more) = (x ++ y, more ∙ ap (λ (l : List ℕ). l ++ y) is ∙ append_assoc a x y)
+
+-- what a depacketizer works on names the depacketizer, what was written, and what is told
+pub record AreParts (o : Option Receiver) (out : List ℕ) (extra : CodecExtra) (w : Work) : Type 0 where
+  pub is_receiver : o ≡ Some w.receiver
+  pub is_out : out ≡ w.out
+  pub is_extra : extra ≡ w.extra
+
+-- so it does
+pub work_parts : (o : Option Receiver) (out : List ℕ) (extra : CodecExtra) (w : Work) → option_map (λ r. at_work r out extra) o ≡ Some w → AreParts o out extra w
+work_parts None out extra w is = absurd cc
+work_parts (Some r) out extra w is = record {
+  is_receiver = ap Some (ap (λ (x : Option Work). option_map_or (λ y. y.receiver) x r) is);
+  is_out = ap (λ (x : Option Work). option_map_or (λ y. y.out) x out) is;
+  is_extra = ap (λ (x : Option Work). option_map_or (λ y. y.extra) x extra) is;
+}
+
+-- a depacketizer that is left as it was, with what was written and told
+pub same_work : (o new : Option Receiver) (out new_out : List ℕ) (extra new_extra : CodecExtra) → new ≡ o → new_out ≡ out → new_extra ≡ extra →
+    option_map (λ r. at_work r new_out new_extra) new ≡ option_map (λ r. at_work r out extra) o
+same_work o new out new_out extra new_extra same written told = rw (same, written, told) refl
+
+-- one packet more is taken
+pub one_more : (w : Work) (packets : List (List ℕ)) (i : ℕ) (new : Option Work) → ReceiverGoesOn w → i < length packets →
+    new ≡ Some (work_after (work_after w (take i packets)) (get_or packets i [] ∷ [])) → new ≡ Some (work_after w (take (i + 1) packets))
+one_more w packets i new law within taken =
+    taken ∙ ap Some (law.more (take i packets) (get_or packets i [] ∷ []) ∙ ap (work_after w) (sym (take_at_read packets i [] within).1))
+
+-- all packets were taken where the last of them was
+pub finished : (w : Work) (packets : List (List ℕ)) (i : ℕ) (new : Option Work) → length packets ≤ i → new ≡ Some (work_after w (take i packets)) →
+    new ≡ Some (work_after w packets)
+finished w packets i new past is = is ∙ ap (λ (x : List (List ℕ)). Some (work_after w x)) (take_all i packets past)
+
+-- where one is refused those before it were taken, and it is left
+pub stopped : (w : Work) (packets : List (List ℕ)) (i : ℕ) (e : PacketError) (new : Option Work) →
+    i < length packets → new ≡ Some (work_after w (take i packets)) → IsOutcomeAt (work_after w (take i packets)) (get_or packets i []) (Err e) →
+    IsLeftOver w packets e new
+stopped w packets i e new within left outcome = record {
+  delivered = record {
+    taken = take i packets;
+    left = drop i packets;
+    front = sym (take-append-drop i packets);
+    work = left;
+    all = tt;
+    cause = inr (get_or packets i [], drop (i + 1) packets, drop_more packets i [] within, outcome);
+  };
+  some = λ none. let more = drop_more packets i [] within in cc;
+}
+
+-- a list that gives none has none
+pub none_mapped : {A B : Type 0} (f : A → B) (xs : List A) → map f xs ≡ [] → length xs ≡ 0
+none_mapped f [] is = refl
+none_mapped f (x ∷ xs) is = absurd cc
+
+-- where memory lacks before the first none is taken
+pub none_taken : (w : Work) (packets : List (List ℕ)) (new : Option Work) → ReceiverGoesOn w → new ≡ Some w → (packets ≡ [] → ⊥) → IsLeftOver w packets OutOfMemory new
+none_taken w packets new law is some = record {
+  delivered = record { taken = []; left = packets; front = refl; work = is ∙ ap Some (sym law.none); all = tt; cause = inl refl };
+  some = some;
+}
+
+-- a call more that is marked
+kept_more : {A : Type 0} (mask : List Bool) (xs : List A) (m : Bool) (d : A) → length mask < length xs →
+    kept (mask ++ m ∷ []) xs ≡ kept mask xs ++ cond m (get_or xs (length mask) d ∷ []) []
+kept_more mask [] m d within = absurd (omega arith)
+kept_more [] (x ∷ xs) true d within = refl
+kept_more [] (x ∷ xs) false d within = refl
+kept_more (true ∷ mask) (x ∷ xs) m d within = ap (λ ys. x ∷ ys) (kept_more mask xs m d (omega arith))
+kept_more (false ∷ mask) (x ∷ xs) m d within = kept_more mask xs m d (omega arith)
+
+-- the mark of a call without effect
+made_more : (f : Format) (made : List Bool) (calls : List Call) (m : Bool) (d : Call) → length made < length calls → AreMade f made calls →
+    (has_no_effect f (get_or calls (length made) d) ≡ true → m ≡ true) → AreMade f (made ++ m ∷ []) calls
+made_more f made [] m d within are here = absurd (omega arith)
+made_more f [] (call ∷ calls) m d within are here = (here, tt)
+made_more f (x ∷ made) (call ∷ calls) m d within are here = (are.0, made_more f made calls m d (omega arith) are.1 here)
+
+-- the entries with those of a call that was made
+entries_more : (f : Format) (made : List Bool) (calls : List Call) (d : Call) → length made < length calls →
+    entries_made f (made ++ true ∷ []) calls ≡ entries_made f made calls ++ entries_of_call f (get_or calls (length made) d)
+entries_more f made calls d within =
+    let call = get_or calls (length made) d in
+    ap (entries_of f) (kept_more made calls true d within)
+    ∙ flat_map-append (entries_of_call f) (kept made calls) (call ∷ [])
+    ∙ ap (λ (x : List Entry). entries_made f made calls ++ x) (append-nil (entries_of_call f call))
+
+-- the entries with a call that was not made
+entries_same : (f : Format) (made : List Bool) (calls : List Call) (d : Call) → length made < length calls →
+    entries_made f (made ++ false ∷ []) calls ≡ entries_made f made calls
+entries_same f made calls d within = ap (entries_of f) (kept_more made calls false d within ∙ append-nil (kept made calls))
+
+-- a call that stands at a place of a run
+pub record IsNext (made : List Bool) (calls : List Call) (call : Call) : Type 0 where
+  pub within : length made < length calls
+  pub is : get_or calls (length made) call ≡ call
+
+-- the call at a place, of calls as a run is given them
+pub next_call : (s : Sender) (calls : List (ℕ × Vec ℕ Global)) (made : List Bool) (i : ℕ) (x : ℕ × Vec ℕ Global) (call : Call) →
+    i < length calls → length made ≡ i → call_by s (get_or calls i x).0 (get_or calls i x).1.items ≡ call → IsNext made (calls_by s calls) call
+next_call s calls made i x call within at is = record {
+  within = rw (at, length-map) within;
+  is = ap (λ (k : ℕ). get_or (calls_by s calls) k call) at ∙ get_or-map (λ (c : ℕ × Vec ℕ Global). call_by s c.0 c.1.items) calls i x call within ∙ is;
+}
+
+-- a call more
+pub sent_more : (s : Sender) (calls : List Call) (made : List Bool) (m : Bool) (call : Call) (packets new : List (List ℕ)) (before sender : Option Sender) →
+    SenderGoesOn s → IsNext made calls call → AreSent s calls made packets before →
+    IsSentCall (after s (entries_made s.format made calls)) call (Ok m) packets new sender →
+    AreSent s calls (made ++ m ∷ []) new sender
+sent_more s calls made true call packets new before sender goes next are (more_packets, stands) =
+    let es = entries_made s.format made calls in
+    let more : entries_made s.format (made ++ true ∷ []) calls ≡ es ++ entries_of_call s.format call =
+    entries_more s.format made calls call next.within ∙ ap (λ (c : Call). es ++ entries_of_call s.format c) next.is in
+    record {
+      marks = made_more s.format made calls true call next.within are.marks (λ none. refl);
+      packets_are = more_packets ∙ ap (λ (x : List (List ℕ)). x ++ packets_by (after s es) (entries_of_call s.format call)) are.packets_are
+          ∙ sym (goes.packets es (entries_of_call s.format call)) ∙ ap (packets_by s) (sym more);
+      stands = stands ∙ ap Some (sym (goes.later es (entries_of_call s.format call)) ∙ ap (after s) (sym more));
+    }
+sent_more s calls made false call packets new before sender goes next are (effect, same_packets, stands) =
+    let same = entries_same s.format made calls call next.within in
+    let at : has_no_effect s.format (get_or calls (length made) call) ≡ false = ap (has_no_effect s.format) next.is ∙ effect in
+    record {
+      marks = made_more s.format made calls false call next.within are.marks (λ none. absurd cc);
+      packets_are = same_packets ∙ are.packets_are ∙ ap (packets_by s) (sym same);
+      stands = stands ∙ ap (λ (x : List Entry). Some (after s x)) (sym same);
+    }
+
+-- packets more that were taken
+pub taken_more : (w : Work) (packets new : List (List ℕ)) (work : Option Work) → ReceiverGoesOn w →
+    AreTaken (work_after w packets) packets new work → work ≡ Some (work_after w new)
+taken_more w packets new work takes (more, is, taken) =
+    taken ∙ ap Some (takes.more packets more) ∙ ap (λ (x : List (List ℕ)). Some (work_after w x)) (sym is)
+
+-- a call one of whose packets is left
+pub run_stopped : (s : Sender) (w : Work) (calls : List Call) (made : List Bool) (call : Call) (packets : List (List ℕ)) (e : PacketError) (before sender : Option Sender) (work : Option Work) →
+    SenderGoesOn s → ReceiverGoesOn w → IsNext made calls call → AreSent s calls made packets before →
+    sender ≡ Some (after (after s (entries_made s.format made calls)) (entries_of_call s.format call)) →
+    IsLeftOver (work_after w packets) (packets_by (after s (entries_made s.format made calls)) (entries_of_call s.format call)) e work →
+    IsStopped s w calls e sender work
+run_stopped s w calls made call packets e before sender work goes takes next are stands over =
+    let es = entries_made s.format made calls in
+    let del = over.delivered in
+    let more : entries_made s.format (made ++ true ∷ []) calls ≡ es ++ entries_of_call s.format call =
+    entries_more s.format made calls call next.within ∙ ap (λ (c : Call). es ++ entries_of_call s.format c) next.is in
+    record {
+      made = made ++ true ∷ [];
+      marks = made_more s.format made calls true call next.within are.marks (λ none. refl);
+      stands = stands ∙ ap Some (sym (goes.later es (entries_of_call s.format call)) ∙ ap (after s) (sym more));
+      delivered = record {
+        taken = packets ++ del.taken;
+        left = del.left;
+        front = ap (packets_by s) more ∙ goes.packets es (entries_of_call s.format call)
+            ∙ ap (λ (x : List (List ℕ)). x ++ packets_by (after s es) (entries_of_call s.format call)) (sym are.packets_are)
+            ∙ ap (λ (x : List (List ℕ)). packets ++ x) del.front ∙ sym (append_assoc packets del.taken del.left);
+        work = del.work ∙ ap Some (takes.more packets del.taken);
+        all = tt;
+        cause = subst (λ (x : Work). IsCause x del.left e) (takes.more packets del.taken) del.cause;
+      };
+      some = λ none. absurd (over.some none);
+    }
+
+-- what follows of an answer that is no refusal
+pub if_ok : {T E : Type 0} {P Q : T → Type 0} (r : Result T E) → ((x : T) → P x → Q x) → IfOk r P → IfOk r Q
+if_ok (Ok x) f p = f x p
+if_ok (Err e) f p = p
+
+-- what follows of a refusal
+pub if_err : {T E : Type 0} {P Q : E → Type 0} (r : Result T E) → ((x : E) → P x → Q x) → IfErr r P → IfErr r Q
+if_err (Ok x) f p = p
+if_err (Err e) f p = f e p
+
+-- what follows of two facts of an answer that is no refusal
+pub if_both : {T E : Type 0} {P Q R : T → Type 0} (r : Result T E) → ((x : T) → P x → Q x → R x) → IfOk r P → IfOk r Q → IfOk r R
+if_both (Ok x) f p q = f x p q
+if_both (Err e) f p q = p
+
+-- the calls of a packetizer bear its largest size
+pub calls_small : (s : Sender) → s.largest ≤ 65535 → (made : List Bool) (calls : List (ℕ × Vec ℕ Global)) → AreCalls (kept made (calls_by s calls))
+calls_small s small [] calls = tt
+calls_small s small (true ∷ made) [] = tt
+calls_small s small (false ∷ made) [] = tt
+calls_small s small (true ∷ made) (call ∷ calls) = (small, calls_small s small made calls)
+calls_small s small (false ∷ made) (call ∷ calls) = calls_small s small made calls
+
+-- what is written by packets that bring these units
+pub written_of : (o : Option Receiver) (new : List ℕ) (extra : CodecExtra) (w : Work) (packets units : List (List ℕ)) →
+    option_map (λ r. at_work r new extra) o ≡ Some (work_after w packets) → brought w.receiver packets ≡ units →
+    AreWritten w.receiver units w.out new w.extra extra
+written_of o new extra w packets units is brings =
+    let parts = work_parts o new extra (work_after w packets) is in
+    rw (← brings) (parts.is_out, parts.is_extra)
+
+-- a run that ended in a refusal ended for want of memory where all it sent is carried
+pub stopped_run : (s : Sender) (w : Work) (calls : List Call) (e : PacketError) (sender : Option Sender) (work : Option Work) →
+    ((made : List Bool) → w.receiver.format ≡ s.format → AreCarried s.format (sent_of s made calls) → CarriesWhole s w (kept made calls)) →
+    IsStopped s w calls e sender work → IsStoppedRun s w calls e sender work
+stopped_run s w calls e sender work law it =
+    (it, λ same carried short. (law it.made same carried).refused short it.delivered.taken it.delivered.left e it.delivered.front it.delivered.cause)
+
+-- what a fresh pair is known by
+pub record IsFreshPair (s : Sender) (r : Receiver) (extra : CodecExtra) : Type 0 where
+  pub fresh : IsFresh s
+  pub same : r.format ≡ s.format
+  pub untold : extra ≡ extras.None
+
+-- of a fresh pair, by the plan of all entries
+pub of_fresh : (s : Sender) (w : Work) (calls : List Call) (made : List (List ℕ)) (new : List ℕ) (told : CodecExtra) →
+    IsFreshPair s w.receiver w.extra → SenderGoesOn s → TakesFewestFragments s.format →
+    plan s.format (entries_of s.format calls) ≡ plan_with s.format none_waiting (entries_of s.format calls) →
+    (AreCarried s.format (sent_by s (entries_of s.format calls)) → CarriesWhole s w calls) →
+    made ≡ packets_by s (entries_of s.format calls) →
+    (AreCarried s.format (sent_by s (entries_of s.format calls)) → AreWritten w.receiver (sent_by s (entries_of s.format calls)) w.out new w.extra told) →
+    AreCarriedWhole s w.receiver.is_avc calls made w.out new told
+of_fresh s w calls made new told pair goes fewest planned_is law is whole =
+    let f = s.format in
+    let entries = entries_of f calls in
+    let same_plan : planned s entries ≡ plan f entries = ap (λ (x : Waiting). plan_with f x entries) pair.fresh.0 ∙ sym planned_is in
+    let units : sent f entries ≡ sent_by s entries = ap (flat_map units_of_item) (sym same_plan) in
+    record {
+      packets_are = is ∙ ap (λ (n : ℕ). packets f n (planned s entries)) pair.fresh.1 ∙ ap (packets f 0) same_plan;
+      within = goes.within calls;
+      fewest = fewest;
+      written = λ carried. (whole (subst (AreCarried f) units carried)).0 ∙ ap (λ (us : List (List ℕ)). w.out ++ text w.receiver.is_avc us) (sym units);
+      tells = λ carried. (whole (subst (AreCarried f) units carried)).1
+          ∙ ap (λ (g : Format). extra_after g w.extra (sent_by s entries)) pair.same
+          ∙ ap (λ (x : CodecExtra). extra_after f x (sent_by s entries)) pair.untold
+          ∙ (law (subst (AreCarried f) units carried)).told
+          ∙ ap (first_told f) (sym units);
+    }

@@ -1,0 +1,212 @@
+//! Whole runs: calls of a packetizer, and their packets through a depacketizer.
+
+ghost use Rattle.std.specs.Prelude.{◌≡◌, IfOk, IfErr, length, map, Some, None};
+ghost use Rattle.h26x_core.specs.Calls.{entries_of_call};
+ghost use Rattle.h26x_core.specs.Loss.{kept};
+ghost use Rattle.h26x_core.specs.Front.{IsFrontOf};
+ghost use Rattle.h26x_core.specs.Facts.{AreCarried};
+ghost use Rattle.h26x_core.specs.Number.{NumbersInOrder};
+ghost use Rattle.h26x_core.specs.Detection.{AreDetected};
+ghost use Rattle.h26x_core.specs.Received.{received};
+ghost use Rattle.h26x_core.specs.Rival.{TakesFewestFragments};
+ghost use Rattle.h26x_core.specs.declared.extra.CodecExtra.TheVariants as extras;
+ghost use Rattle.h26x_core.specs.Sender.{Sender, planned, packets_by, after, AreWithinLimits};
+ghost use Rattle.h26x_core.specs.Receiver.{Receiver, Work, work_after};
+ghost use Rattle.h26x_payload.specs.Sending.{contents};
+ghost use Rattle.h26x_codec.specs.Codec.{sender_of, receiver_of, at_work, work_of, call_by};
+ghost use Rattle.h26x_codec.specs.Runs.{AreSent, IsSentCall, AreTaken, IsLeftOver, IsStopped, IsStoppedRun, AreMade, AreWritten, IsFresh, AreCarriedWhole, calls_by, entries_made, sent_of};
+
+use crate::carried::{Carried, Marks, Packets};
+use crate::depacketizer::CodecDepacketizer;
+use crate::packetizer::CodecPacketizer;
+use h26x_core::{CodecExtra, Depacketizer, PacketError, Packetizer, laws};
+use std::alloc::Global;
+
+/// Gives packets to a depacketizer in order, up to the first that is refused.
+pub(crate) fn deliver(
+    d: &mut CodecDepacketizer,
+    packets: &[Vec<u8>],
+    out: &mut Vec<u8>,
+    extra: &mut CodecExtra,
+) -> Result<(), PacketError>
+    ensures taken { (w : Work) → work_of d.old out.old.items extra.old ≡ Some w →
+        IfOk result (λ done. work_of d.new out.new.items extra.new
+        ≡ Some (work_after w (contents packets.now))) }
+    ensures stopped { (w : Work) → work_of d.old out.old.items extra.old ≡ Some w →
+        IfErr result (λ error. IsLeftOver w (contents packets.now) error
+        (work_of d.new out.new.items extra.new)) }
+    ensures kept { IsFrontOf out.old.items out.new.items }
+{
+    d.is_receiver();
+    laws::depacketizers_go_on();
+    for packet in packets {
+        d.depacketize(packet, out, extra)?;
+    }
+    Ok(())
+}
+
+/// One call through both ends. The answer is whether it was made; its packets come behind `packets`
+/// once all of them were taken.
+fn carry_call(
+    p: &mut CodecPacketizer,
+    d: &mut CodecDepacketizer,
+    mtu: usize,
+    payload: &[u8],
+    packets: &mut Vec<Vec<u8>>,
+    out: &mut Vec<u8>,
+    extra: &mut CodecExtra,
+) -> Result<bool, PacketError>
+    ensures sent { (s : Sender) → sender_of p.old ≡ Some s →
+        IsSentCall s (call_by s mtu payload.now) result (contents packets.old.items)
+        (contents packets.new.items) (sender_of p.new) }
+    ensures taken { (w : Work) → work_of d.old out.old.items extra.old ≡ Some w →
+        IfOk result (λ made. AreTaken w (contents packets.old.items) (contents packets.new.items)
+        (work_of d.new out.new.items extra.new)) }
+    ensures stopped { (s : Sender) (w : Work) → sender_of p.old ≡ Some s →
+        work_of d.old out.old.items extra.old ≡ Some w →
+        IfErr result (λ error. IsLeftOver w
+        (packets_by s (entries_of_call s.format (call_by s mtu payload.now))) error
+        (work_of d.new out.new.items extra.new)) }
+    ensures kept { IsFrontOf out.old.items out.new.items }
+{
+    d.is_receiver();
+    laws::depacketizers_go_on();
+    match p.packetize(mtu, payload) {
+        Ok(mut made) => {
+            packets.reserve(made.len())?;
+            deliver(d, &made, out, extra)?;
+            packets.append(&mut made).unwrap();
+            Ok(true)
+        }
+        Err(_) => Ok(false),
+    }
+}
+
+/// Calls through both ends, one after the other, up to the first packet that is refused.
+fn run_calls(
+    alloc: Global,
+    p: &mut CodecPacketizer,
+    d: &mut CodecDepacketizer,
+    calls: &[(usize, Vec<u8>)],
+    out: &mut Vec<u8>,
+    extra: &mut CodecExtra,
+) -> Result<Carried, PacketError>
+    ensures each { IfOk result (λ carried. length carried.made ≡ length calls.now) }
+    ensures sent { (s : Sender) → sender_of p.old ≡ Some s →
+        IfOk result (λ carried. AreSent s (calls_by s calls.now) carried.made carried.packets
+        (sender_of p.new)) }
+    ensures taken { (w : Work) → work_of d.old out.old.items extra.old ≡ Some w →
+        IfOk result (λ carried. work_of d.new out.new.items extra.new
+        ≡ Some (work_after w carried.packets)) }
+    ensures stopped { (s : Sender) (w : Work) → sender_of p.old ≡ Some s →
+        work_of d.old out.old.items extra.old ≡ Some w →
+        IfErr result (λ error. IsStopped s w (calls_by s calls.now) error (sender_of p.new)
+        (work_of d.new out.new.items extra.new)) }
+    ensures kept { IsFrontOf out.old.items out.new.items }
+{
+    p.is_sender();
+    d.is_receiver();
+    laws::packetizers_go_on();
+    laws::depacketizers_go_on();
+    let mut packets = Vec::new(alloc);
+    let mut made = Vec::with_capacity(alloc, calls.len())?;
+    for (mtu, payload) in calls {
+        let was_made = carry_call(p, d, *mtu, payload, &mut packets, out, extra)?;
+        made.push(was_made).unwrap();
+    }
+    Ok(Carried {
+        packets: Packets::from_vec(packets),
+        made: Marks::from_vec(made),
+    })
+}
+
+/// Gives calls to a packetizer, each its `mtu` in bytes and its payload, and the packets of each to
+/// a depacketizer, before the next call.
+///
+/// A call for which memory lacks is marked as not made, and the run goes on. The first packet that
+/// is refused ends it with its error. Room for the marks is taken first, and room for the packets
+/// of a call before any of them is given on; where there is none the error is `OutOfMemory`. After
+/// any error `out` and `extra` are what a front of the packets brought, `d` stands behind that front
+/// and `p` behind the calls made.
+///
+/// ```rust
+/// let mut p = CodecPacketizer::new(alloc, Codec::H264);
+/// let mut d = CodecDepacketizer::new(alloc, Codec::H264);
+/// let carried = carry(alloc, &mut p, &mut d, &[(1200, frame)], &mut out, &mut extra)?;
+/// ```
+pub fn carry(
+    alloc: Global,
+    p: &mut CodecPacketizer,
+    d: &mut CodecDepacketizer,
+    calls: &[(usize, Vec<u8>)],
+    out: &mut Vec<u8>,
+    extra: &mut CodecExtra,
+) -> Result<Carried, PacketError>
+    // What is made, whatever waited and wherever the counter stood: one mark a call, true for each
+    // without effect; the packets of the plan of the sets that waited and the made calls' units,
+    // numbered on; each within its call's limit; and what waits afterwards.
+    ensures each { IfOk result (λ carried. length carried.made ≡ length calls.now) }
+    ensures made { (s : Sender) → sender_of p.old ≡ Some s →
+        IfOk result (λ carried. AreMade s.format carried.made (calls_by s calls.now)) }
+    ensures packets { (s : Sender) → sender_of p.old ≡ Some s →
+        IfOk result (λ carried. carried.packets
+        ≡ packets_by s (entries_made s.format carried.made (calls_by s calls.now))) }
+    ensures within { (s : Sender) → sender_of p.old ≡ Some s →
+        IfOk result (λ carried. AreWithinLimits s (kept carried.made (calls_by s calls.now))) }
+    ensures waits { (s : Sender) → sender_of p.old ≡ Some s →
+        IfOk result (λ carried. sender_of p.new
+        ≡ Some (after s (entries_made s.format carried.made (calls_by s calls.now)))) }
+
+    // A unit that is fragmented takes the fewest fragments that any rival could.
+    ensures fewest { (s : Sender) → sender_of p.old ≡ Some s → TakesFewestFragments s.format }
+
+    // Where packets can carry each unit sent, whatever run was open: what is sent is written, and
+    // nothing else; its numbers are in order; its key units are detected.
+    ensures whole { (s : Sender) (r : Receiver) → sender_of p.old ≡ Some s →
+        receiver_of d.old ≡ Some r → r.format ≡ s.format →
+        IfOk result (λ carried. AreCarried s.format (sent_of s carried.made (calls_by s calls.now)) →
+        AreWritten r (sent_of s carried.made (calls_by s calls.now)) out.old.items out.new.items
+        extra.old extra.new) }
+    ensures numbers { (s : Sender) → sender_of p.old ≡ Some s →
+        IfOk result (λ carried. AreCarried s.format (sent_of s carried.made (calls_by s calls.now)) →
+        NumbersInOrder s.format s.counter
+        (planned s (entries_made s.format carried.made (calls_by s calls.now)))) }
+    ensures detected { (s : Sender) → sender_of p.old ≡ Some s →
+        IfOk result (λ carried. AreCarried s.format (sent_of s carried.made (calls_by s calls.now)) →
+        AreDetected s.format s.counter
+        (planned s (entries_made s.format carried.made (calls_by s calls.now)))) }
+
+    // Whatever the packets are: all of them were taken; where no run was open what is received of
+    // them is written.
+    ensures taken { (r : Receiver) → receiver_of d.old ≡ Some r →
+        IfOk result (λ carried. work_of d.new out.new.items extra.new
+        ≡ Some (work_after (at_work r out.old.items extra.old) carried.packets)) }
+    ensures any { (r : Receiver) → receiver_of d.old ≡ Some r → r.run ≡ None →
+        IfOk result (λ carried. AreWritten r (received (map r.format.read carried.packets))
+        out.old.items out.new.items extra.old extra.new) }
+
+    // After a refusal: what a front of the packets wrote, and why it stopped there.
+    ensures stopped { (s : Sender) (r : Receiver) → sender_of p.old ≡ Some s →
+        receiver_of d.old ≡ Some r →
+        IfErr result (λ error. IsStoppedRun s (at_work r out.old.items extra.old)
+        (calls_by s calls.now) error (sender_of p.new)
+        (work_of d.new out.new.items extra.new)) }
+    ensures kept { IsFrontOf out.old.items out.new.items }
+
+    // The headline, for a fresh pair.
+    ensures headline { (s : Sender) (r : Receiver) → sender_of p.old ≡ Some s →
+        receiver_of d.old ≡ Some r → IsFresh s → r.run ≡ None → r.format ≡ s.format →
+        extra.old ≡ extras.None →
+        IfOk result (λ carried. AreCarriedWhole s r.is_avc
+        (kept carried.made (calls_by s calls.now)) carried.packets out.old.items out.new.items
+        extra.new) }
+{
+    p.is_sender();
+    d.is_receiver();
+    laws::packetizers_go_on();
+    laws::depacketizers_go_on();
+    laws::what_calls_send_is_carried();
+    laws::plans_unit_by_unit();
+    laws::fewest_fragments();
+    run_calls(alloc, p, d, calls, out, extra)
+}
