@@ -12,12 +12,12 @@ use Rattle.h26x_core.proofs.PieceLemmas.{pieces_next}
 use Rattle.h26x_core.specs.Received.{units_with}
 use Rattle.h265_payload.specs.H265.{read, units_from, further_units, paci_behind, paci_head}
 use Rattle.h265_payload.specs.Reading.{IsWhole}
-use Rattle.h265_payload.specs.Payload.{OtherUnit, units_shown}
+use Rattle.h265_packets.specs.Payload.{OtherUnit, units_shown}
 use Rattle.h265_payload.specs.Shown.{aggregate_behind, aggregate_shown, apart_within, others_of, without_dond, next_number, numbered_on, units_numbered, units_of_aggregate, is_aggregate, shown}
 use Rattle.h265_payload.specs.Packet.{aggregate_with, reading_of, shown_by}
 use Rattle.h265_payload.specs.declared.packet.Packet.{Packet}
 use Rattle.h265_payload.specs.declared.packet.Packet.TheVariants as p
-use Rattle.h265_payload.specs.declared.payload.H265Payload.TheVariants.{H265AggregationPacket}
+use Rattle.h265_packets.specs.declared.payload.H265Payload.TheVariants.{H265AggregationPacket}
 use Rattle.h265_payload.proofs.ReadingLemmas.{read_aggregate, read_paci, two_read, one_read}
 use Rattle.h265_payload.proofs.ApartLemmas.{apart_enough}
 

@@ -3,7 +3,7 @@ use Rattle.std.proofs.Common.{◌≡◌, ℕ, zero, suc, ◌+◌, ◌*◌, ◌�
 use Rattle.std.specs.Prelude.{nat_le, slice_index}
 use Rattle.std.proofs.lemmas.List.{take_at, drop_at, length-drop}
 use Rattle.h26x_core.proofs.PieceLemmas.{enough}
-use Rattle.h265_payload.specs.Payload.{OtherUnit}
+use Rattle.h265_packets.specs.Payload.{OtherUnit}
 use Rattle.h265_payload.specs.Shown.{apart_within, others_of}
 
 -- allowing more units than there are bytes changes nothing

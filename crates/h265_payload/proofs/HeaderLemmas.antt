@@ -10,7 +10,8 @@ use Rattle.h26x_core.specs.H265Unit.{type_of, kind_of_type, is_key_type}
 use Rattle.h26x_core.specs.Reading.{Fragment, single_of}
 use Rattle.h26x_core.proofs.HeaderLemmas.{six_bits_back}
 use Rattle.h26x_core.proofs.TwoByteLemmas.{TwoBytes, IsTwoBytes, IsCarried}
-use Rattle.h265_payload.specs.H265.{with_type, with_type_and_f, aggregate_of, fragment_of, paci_of}
+use Rattle.h265_packets.specs.Header.{with_type}
+use Rattle.h265_payload.specs.H265.{with_type_and_f, aggregate_of, fragment_of, paci_of}
 
 -- what sets H.265 apart: types stand in the high byte, and have six bits
 abbrev pub two : (numbered : Bool) → TwoBytes numbered

@@ -7,4 +7,3 @@ pub mod RuleLemmas
 pub mod ApartLemmas
 pub mod AggregateLemmas
 pub mod PaciLemmas
-pub mod EqualityLemmas

@@ -3,7 +3,7 @@ use Rattle.std.specs.Prelude.{ℕ, Bool, false, List, Option}
 use Rattle.h26x_core.specs.declared.extra.CodecExtra.{CodecExtra}
 use Rattle.h26x_core.specs.Receiver.{Receiver, Work, receiver_meaning}
 use Rattle.h265_payload.specs.H265.{h265}
-use Rattle.h265_payload.specs.declared.payload.H265Payload.{H265Payload}
+use Rattle.h265_packets.specs.declared.payload.H265Payload.{H265Payload}
 
 -- whether packets bear decoding order numbers, the data of its open run, and what it shows of the
 -- packet that it accepted last

@@ -11,12 +11,9 @@ use Rattle.h26x_core.specs.H265Unit.{type_of, kind, is_key, is_key_type}
 use Rattle.h26x_core.specs.Reading.{Reading, Aggregate, Fragment, Paci, Refused, unnumbered, single_of}
 use Rattle.h26x_core.specs.Format.{Format, number_bytes}
 use Rattle.h26x_core.specs.Pieces.{pieces_of, piece}
+use Rattle.h265_packets.specs.Header.{with_type}
 
--- the high byte of a header with another type: F clear, the layer's highest bit kept
-abbrev pub with_type : ℕ → ℕ → ℕ
-with_type high type = type * 2 + field high 0 0
-
--- the same with F kept
+-- the high byte of a header with another type, F and the layer's highest bit kept
 abbrev pub with_type_and_f : ℕ → ℕ → ℕ
 with_type_and_f high type = field high 7 7 * 128 + with_type high type
 

@@ -1,11 +1,8 @@
 pub mod H265
 pub mod Reading
 pub mod CodecFacts
-pub mod Payload
 pub mod Shown
 pub mod Packet
-pub mod Paci
 pub mod Frame
 pub mod Depacketizer
-pub mod Equality
 pub mod Setting

@@ -3,12 +3,12 @@ use Rattle.std.specs.Prelude.{◌≡◌, ℕ, ◌+◌, ◌-◌, ◌*◌, ◌≤�
 use Rattle.h26x_core.specs.Word.{field, is_set}
 use Rattle.h26x_core.specs.Reading.{Reading, Single, Aggregate, Fragment, Paci}
 use Rattle.h26x_payload.specs.Run.{written_len}
-use Rattle.h265_payload.specs.Payload.{OtherUnit, AggregationPacket}
+use Rattle.h265_packets.specs.Payload.{OtherUnit, AggregationPacket}
 use Rattle.h265_payload.specs.Shown.{others_of, units_in, units_numbered}
 use Rattle.h265_payload.specs.declared.packet.Packet.{Packet}
 use Rattle.h265_payload.specs.declared.packet.Packet.TheVariants as p
-use Rattle.h265_payload.specs.declared.payload.H265Payload.{H265Payload}
-use Rattle.h265_payload.specs.declared.payload.H265Payload.TheVariants as s
+use Rattle.h265_packets.specs.declared.payload.H265Payload.{H265Payload}
+use Rattle.h265_packets.specs.declared.payload.H265Payload.TheVariants as s
 
 -- an aggregate of these units
 abbrev pub aggregate_with : Bool → Option ℕ → List OtherUnit → AggregationPacket

@@ -5,7 +5,8 @@ use Rattle.h26x_core.specs.Word.{field, is_set}
 use Rattle.h26x_core.specs.H265Unit.{type_of}
 use Rattle.h26x_core.specs.Reading.{Reading, Single, Aggregate, Fragment, Paci, Refused, unnumbered}
 use Rattle.h26x_core.specs.Pieces.{ArePieces, HasNoPiece}
-use Rattle.h265_payload.specs.H265.{with_type, paci_head}
+use Rattle.h265_packets.specs.Header.{with_type}
+use Rattle.h265_payload.specs.H265.{paci_head}
 
 -- a header with F clear, and one byte or more behind it
 pub record IsWhole (packet : List ℕ) (high low : ℕ) (rest : List ℕ) : Type 0 where

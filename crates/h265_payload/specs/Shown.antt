@@ -5,9 +5,9 @@ use Rattle.std.specs.Option.{option_map_or}
 use Rattle.h26x_core.specs.Word.{field, is_set}
 use Rattle.h26x_core.specs.H265Unit.{type_of}
 use Rattle.h26x_core.specs.Pieces.{pieces_of}
-use Rattle.h265_payload.specs.Payload.{OtherUnit, AggregationPacket, units_shown, empty_single}
-use Rattle.h265_payload.specs.declared.payload.H265Payload.{H265Payload}
-use Rattle.h265_payload.specs.declared.payload.H265Payload.TheVariants as p
+use Rattle.h265_packets.specs.Payload.{OtherUnit, AggregationPacket, units_shown, empty_single}
+use Rattle.h265_packets.specs.declared.payload.H265Payload.{H265Payload}
+use Rattle.h265_packets.specs.declared.payload.H265Payload.TheVariants as p
 
 -- a number in two bytes, where there is one (DONL)
 abbrev pub donl_of : Bool → List ℕ → Option ℕ

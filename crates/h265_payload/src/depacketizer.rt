@@ -11,21 +11,21 @@ ghost use Rattle.h26x_core.specs.Receiver.{work_after, IsOutcomeAt};
 ghost use Rattle.h265_payload.specs.H265.{h265};
 ghost use Rattle.h265_payload.specs.Frame.{is_head, is_tail};
 ghost use Rattle.h265_payload.specs.Frame as frame;
-ghost use Rattle.h265_payload.specs.Payload.{empty_single};
+ghost use Rattle.h265_packets.specs.Payload.{empty_single};
 ghost use Rattle.h265_payload.specs.Packet.{IsChecked, reading_of, shown_by};
 ghost use Rattle.h265_payload.specs.Shown.{shown, is_aggregate, units_of_aggregate};
 ghost use Rattle.h265_payload.specs.Depacketizer.{work};
 
-use crate::header::paci_size;
 use crate::packet::{Packet, read};
 use crate::packetizer::{H265, header_of};
-use crate::payload::H265Payload;
 use crate::show::show;
 use h26x_core::{CodecExtra, Depacketizer, PacketError};
 use h26x_payload::{
     Codec, Fragment, NumberedCodec, OpenRun, append_parts, append_unit, append_units, ends_frame,
     may_begin_frame, out_size_hint, take_fragment, told,
 };
+use h265_packets::H265Payload;
+use h265_packets::header::paci_size;
 use std::alloc::{AllocError, Global};
 use std::marker::Model;
 use std::mem;
@@ -225,7 +225,7 @@ impl PartialEq for H265Depacketizer {
     ghost use Rattle.std.specs.Bool.{beq};
     ghost use Rattle.std.specs.Ordering.{eq_of_both, on};
     ghost use Rattle.std.specs.Option.{option_eq};
-    ghost use Rattle.h265_payload.specs.Equality.{payload_eq, payload_equiv};
+    ghost use Rattle.h265_packets.specs.Equality.{payload_eq, payload_equiv};
     ghost use Rattle.std.specs.Cmp.{partial_equiv_from_equiv};
     ghost use Rattle.std.specs.Cmp.Rules.{comparing};
     ghost use Rattle.std.specs.Cmp.Lexicographic.{pointwise};
@@ -244,7 +244,7 @@ impl PartialEq for H265Depacketizer {
 }
 
 impl Eq for H265Depacketizer {
-    ghost use Rattle.h265_payload.specs.Equality.{payload_equiv};
+    ghost use Rattle.h265_packets.specs.Equality.{payload_equiv};
     ghost use Rattle.std.specs.Cmp.Rules.{comparing};
     ghost use Rattle.std.proofs.Common.{rules};
 

@@ -22,16 +22,14 @@ ghost use Rattle.h26x_core.specs.Sender.{Sender, IsSender, planned, sent_by};
 ghost use Rattle.h26x_core.specs.Ends.{calls_like};
 ghost use Rattle.h26x_cut.specs.declared.ZeroRule.TheVariants.{All};
 ghost use Rattle.h26x_cut.specs.Cutting.{IsUnit, AreSeparable};
-ghost use Rattle.h265_payload.specs.H265.{h265, read, with_type};
+ghost use Rattle.h265_payload.specs.H265.{h265, read};
 ghost use Rattle.h265_payload.specs.Reading.{IsReading};
 ghost use Rattle.h265_payload.specs.Shown.{shown};
-ghost use Rattle.h265_payload.specs.Equality.{payload_eq};
-ghost use Rattle.h265_payload.specs.declared.payload.H265Payload.{H265Payload};
-ghost use Rattle.h265_payload.specs.declared.payload.H265Payload.TheVariants as p;
-ghost use Rattle.h265_payload.specs.Paci.{paci_fields, paci_packet};
-ghost use Rattle.h265_payload.specs.Payload.{PaciPacket, tsci_word, tsci_in, tsci_shown};
-ghost use Rattle.h265_payload.specs.Payload.{SinglePacket, FragmentationPacket, FirstUnit, OtherUnit, AggregationPacket};
-ghost use Rattle.h265_payload.specs.Payload.{single_eq, fragmentation_eq, first_eq, other_eq, aggregation_eq, paci_eq};
+ghost use Rattle.h265_packets.specs.Header.{with_type};
+ghost use Rattle.h265_packets.specs.Paci.{paci_fields, paci_packet};
+ghost use Rattle.h265_packets.specs.declared.payload.H265Payload.TheVariants as p;
+
+pub use h265_packets::laws::{equal_packets_are_the_same, tsci_is_read_back};
 
 /// A packet has one reading, and `read` finds it.
 pub fn one_reading()
@@ -152,28 +150,4 @@ pub fn paci_is_read_back()
         is_set (paci_fields high phes) 3 ≡ nat_le 3 (length phes) }
     ensures others { (high : ℕ) (phes : List ℕ) → length phes ≤ 31 →
         field (paci_fields high phes) 2 0 ≡ 0 }
-{}
-
-/// Of a packet with such fields TSCI is shown where its extension has three bytes or more (RFC
-/// 7798, 4.5): TL0PICIDX is the first of them, IrapPicID the second; S, E and RES are the third.
-pub fn tsci_is_read_back()
-    ensures tsci { (high : ℕ) (p : PaciPacket) → length p.phes ≤ 31 →
-        p.fields ≡ paci_fields high p.phes → tsci_shown p ≡ tsci_in p.phes }
-    ensures tl0picidx { (a b c : ℕ) → a < 256 → b < 256 → c < 256 →
-        field (tsci_word a b c) 31 24 ≡ a }
-    ensures irap_pic_id { (a b c : ℕ) → b < 256 → c < 256 → field (tsci_word a b c) 23 16 ≡ b }
-    ensures third { (a b c : ℕ) → c < 256 → field (tsci_word a b c) 15 8 ≡ c }
-    ensures low { (a b c : ℕ) → field (tsci_word a b c) 7 0 ≡ 0 }
-{}
-
-/// What is shown is equal where it is the same, its marks too, and nowhere else.
-pub fn equal_packets_are_the_same()
-    ensures payload { (a b : H265Payload) → (payload_eq a b ≡ true) ↔ (a ≡ b) }
-    ensures single { (a b : SinglePacket) → (single_eq a b ≡ true) ↔ (a ≡ b) }
-    ensures fragmentation { (a b : FragmentationPacket) →
-        (fragmentation_eq a b ≡ true) ↔ (a ≡ b) }
-    ensures first { (a b : FirstUnit) → (first_eq a b ≡ true) ↔ (a ≡ b) }
-    ensures other { (a b : OtherUnit) → (other_eq a b ≡ true) ↔ (a ≡ b) }
-    ensures aggregation { (a b : AggregationPacket) → (aggregation_eq a b ≡ true) ↔ (a ≡ b) }
-    ensures paci { (a b : PaciPacket) → (paci_eq a b ≡ true) ↔ (a ≡ b) }
 {}

@@ -17,21 +17,19 @@ mod aggregate;
 mod cases;
 mod depacketizer;
 mod detect;
-mod header;
 pub mod laws;
 mod packet;
 mod packetizer;
-mod payload;
 mod show;
 
 pub use depacketizer::H265Depacketizer;
 pub use detect::detect_h265_keyframe;
 pub use h26x_core::ANNEXB_NALUSTART_CODE;
-pub use packetizer::{H265, H265Packetizer};
-pub use payload::{
+pub use h265_packets::{
     H265AggregationPacket, H265AggregationUnit, H265AggregationUnitFirst,
     H265FragmentationUnitPacket, H265PACIPacket, H265Payload, H265SingleNALUnitPacket,
 };
+pub use packetizer::{H265, H265Packetizer};
 
 #[cfg(test)]
 mod memory;

@@ -4,15 +4,8 @@
 //! refused in turn; run as they are, nothing is refused. A test whose name ends in `_at_once` makes
 //! no call again: it passes as soon as none of its requests is refused, which tells where to stop.
 
-use crate::{
-    H265AggregationPacket, H265AggregationUnit, H265AggregationUnitFirst, H265Depacketizer,
-    H265FragmentationUnitPacket, H265PACIPacket, H265Packetizer, H265Payload,
-    H265SingleNALUnitPacket, detect_h265_keyframe,
-};
-use h26x_core::{
-    CodecExtra, Depacketizer, H265CodecExtra, H265FragmentationUnitHeader, H265NALUHeader,
-    H265TSCI, PacketError, Packetizer,
-};
+use crate::{H265Depacketizer, H265Packetizer, H265Payload, detect_h265_keyframe};
+use h26x_core::{CodecExtra, Depacketizer, H265CodecExtra, PacketError, Packetizer};
 use std::alloc::Global;
 use std::process::Abort;
 use std::test::Fail;
@@ -97,33 +90,57 @@ fn send(
     Ok(())
 }
 
+/// A depacketizer, and what it wrote and told.
+#[derive(Drop)]
+struct Receiver {
+    depacketizer: H265Depacketizer,
+    out: Vec<u8>,
+    told: CodecExtra,
+}
+
+/// A new depacketizer, with numbers or without, behind a byte that was written.
+fn new_receiver(alloc: Global, tries: Tries, is_numbered: bool) -> Result<Receiver, PacketError> {
+    let mut depacketizer = H265Depacketizer::new(alloc);
+    depacketizer.with_donl(is_numbered);
+    Ok(Receiver {
+        depacketizer,
+        out: buffer_of(alloc, tries, &[0x11])?,
+        told: CodecExtra::None,
+    })
+}
+
+fn copy_of(depacketizer: &H265Depacketizer, tries: Tries) -> Result<H265Depacketizer, PacketError> {
+    made(tries, || depacketizer.clone())
+}
+
 /// Depacketizes; a refusal leaves what was written, told and shown, and the open run.
 fn take(
     rt: &impl Abort,
     alloc: Global,
-    depacketizer: &mut H265Depacketizer,
     tries: Tries,
+    it: &mut Receiver,
     packet: &[u8],
-    out: &mut Vec<u8>,
-    extra: &mut CodecExtra,
 ) -> Result<(), PacketError> {
-    let before = copy_of(depacketizer, tries)?;
-    let written = buffer_of(alloc, tries, out)?;
-    let told = *extra;
-    match depacketizer.depacketize(packet, out, extra) {
+    let before = copy_of(&it.depacketizer, tries)?;
+    let written = buffer_of(alloc, tries, &it.out)?;
+    let told = it.told;
+    match it
+        .depacketizer
+        .depacketize(packet, &mut it.out, &mut it.told)
+    {
         Err(PacketError::OutOfMemory) if tries == Tries::Twice => {
-            assert!(rt; *depacketizer == before);
-            assert!(rt; depacketizer.payload() == before.payload());
-            assert_eq!(rt; *out, written);
-            assert_eq!(rt; *extra, told);
-            depacketizer.depacketize(packet, out, extra)
+            assert!(rt; it.depacketizer == before);
+            assert_eq!(rt; (it.out.as_slice(), it.told), (written.as_slice(), told));
+            it.depacketizer
+                .depacketize(packet, &mut it.out, &mut it.told)
         }
         answer => answer,
     }
 }
 
-fn copy_of(depacketizer: &H265Depacketizer, tries: Tries) -> Result<H265Depacketizer, PacketError> {
-    made(tries, || depacketizer.clone())
+/// Compares what was written and told.
+fn has_taken(rt: &impl Abort, it: &Receiver, want: &[u8], is_keyframe: bool) {
+    assert_eq!(rt; (it.out.as_slice(), it.told), (want, key(is_keyframe)));
 }
 
 /// Sends a unit alone and one in fragments, with numbers.
@@ -215,24 +232,13 @@ fn receive_fragments(rt: &impl Abort, alloc: Global, tries: Tries) -> Result<(),
     want[47..147].fill(0xbb);
     want[147..].fill(0xcc);
 
-    let mut depacketizer = H265Depacketizer::new(alloc);
-    let mut out = buffer_of(alloc, tries, &[0x11])?;
-    let mut extra = CodecExtra::None;
+    let mut it = new_receiver(alloc, tries, false)?;
     let packets: [&[u8]; 3] = [&start, &middle, &end];
     for packet in packets {
-        take(
-            rt,
-            alloc,
-            &mut depacketizer,
-            tries,
-            packet,
-            &mut out,
-            &mut extra,
-        )?;
+        take(rt, alloc, tries, &mut it, packet)?;
     }
-    assert_eq!(rt; out.as_slice(), want.as_slice());
-    assert_eq!(rt; extra, key(true));
-    let H265Payload::H265FragmentationUnitPacket(shown) = depacketizer.payload() else {
+    has_taken(rt, &it, &want, true);
+    let H265Payload::H265FragmentationUnitPacket(shown) = it.depacketizer.payload() else {
         return Err(Fail::from("another packet is shown"));
     };
     assert_eq!(rt; shown.payload(), &end[3..]);
@@ -251,24 +257,15 @@ fn fragments_at_once(rt: HostRuntime) -> Result<(), Fail> {
 
 /// Takes an aggregate, and asks for its units.
 fn receive_aggregate(rt: &impl Abort, alloc: Global, tries: Tries) -> Result<(), Fail> {
-    let mut depacketizer = H265Depacketizer::new(alloc);
-    let mut out = buffer_of(alloc, tries, &[0x11])?;
-    let mut extra = CodecExtra::None;
-    take(
+    let mut it = new_receiver(alloc, tries, false)?;
+    take(rt, alloc, tries, &mut it, &AGGREGATE)?;
+    has_taken(
         rt,
-        alloc,
-        &mut depacketizer,
-        tries,
-        &AGGREGATE,
-        &mut out,
-        &mut extra,
-    )?;
-    assert_eq!(rt;
-        out.as_slice(),
-        [0x11, 0, 0, 0, 1, 2, 1, 0xaa, 0, 0, 0, 1, 2, 1].as_slice()
+        &it,
+        &[0x11, 0, 0, 0, 1, 2, 1, 0xaa, 0, 0, 0, 1, 2, 1],
+        false,
     );
-    assert_eq!(rt; extra, key(false));
-    let H265Payload::H265AggregationPacket(shown) = depacketizer.payload() else {
+    let H265Payload::H265AggregationPacket(shown) = it.depacketizer.payload() else {
         return Err(Fail::from("another packet is shown"));
     };
     let units = made(tries, || shown.nal_units(alloc))?;
@@ -294,24 +291,9 @@ fn receive_units(rt: &impl Abort, alloc: Global, tries: Tries) -> Result<(), Fai
         (true, &[0x26, 1, 0, 5, 0xaf], 0xaf),
     ];
     for (is_numbered, packet, last) in table {
-        let mut depacketizer = H265Depacketizer::new(alloc);
-        depacketizer.with_donl(is_numbered);
-        let mut out = buffer_of(alloc, tries, &[0x11])?;
-        let mut extra = CodecExtra::None;
-        take(
-            rt,
-            alloc,
-            &mut depacketizer,
-            tries,
-            packet,
-            &mut out,
-            &mut extra,
-        )?;
-        assert_eq!(rt;
-            out.as_slice(),
-            [0x11, 0, 0, 0, 1, 0x26, 1, last].as_slice()
-        );
-        assert_eq!(rt; extra, key(true));
+        let mut it = new_receiver(alloc, tries, is_numbered)?;
+        take(rt, alloc, tries, &mut it, packet)?;
+        has_taken(rt, &it, &[0x11, 0, 0, 0, 1, 0x26, 1, last], true);
     }
     Ok(())
 }
@@ -324,33 +306,6 @@ fn units_taken_again(rt: HostRuntime) -> Result<(), Fail> {
 #[test]
 fn units_at_once(rt: HostRuntime) -> Result<(), Fail> {
     receive_units(&rt, rt.alloc(), Tries::Once)
-}
-
-/// Packs a PACI packet; a refusal leaves the buffer.
-fn pack(rt: &impl Abort, alloc: Global, tries: Tries) -> Result<(), Fail> {
-    let unit = [0x26, 1, 0xaa];
-    let phes = [0x11, 0x22, 0x33];
-    let mut buf = buffer_of(alloc, tries, &[1, 2])?;
-    let packet = match H265PACIPacket::packetize(alloc, &unit, &phes, &mut buf) {
-        Err(PacketError::OutOfMemory) if tries == Tries::Twice => {
-            assert_eq!(rt; buf.as_slice(), [1, 2].as_slice());
-            H265PACIPacket::packetize(alloc, &unit, &phes, &mut buf)?
-        }
-        answer => answer?,
-    };
-    assert_eq!(rt; packet.as_slice(), PACI.as_slice());
-    assert_eq!(rt; buf.as_slice(), PACI.as_slice());
-    Ok(())
-}
-
-#[test]
-fn pacis_packed_again(rt: HostRuntime) -> Result<(), Fail> {
-    pack(&rt, rt.alloc(), Tries::Twice)
-}
-
-#[test]
-fn pacis_at_once(rt: HostRuntime) -> Result<(), Fail> {
-    pack(&rt, rt.alloc(), Tries::Once)
 }
 
 fn packetizer_copy_of(
@@ -382,34 +337,13 @@ fn packetizers_at_once(rt: HostRuntime) -> Result<(), Fail> {
 
 /// Copies a depacketizer with an open run, which the copy then ends.
 fn copy_depacketizer(rt: &impl Abort, alloc: Global, tries: Tries) -> Result<(), Fail> {
-    let mut depacketizer = H265Depacketizer::new(alloc);
-    let mut out = Vec::new(alloc);
-    let mut extra = CodecExtra::None;
-    take(
-        rt,
-        alloc,
-        &mut depacketizer,
-        tries,
-        &[0x62, 1, 0x93, 0xaa],
-        &mut out,
-        &mut extra,
-    )?;
-    let mut copy = copy_of(&depacketizer, tries)?;
-    assert!(rt; copy == depacketizer);
-    take(
-        rt,
-        alloc,
-        &mut copy,
-        tries,
-        &[0x62, 1, 0x53, 0xbb],
-        &mut out,
-        &mut extra,
-    )?;
-    assert_eq!(rt;
-        out.as_slice(),
-        [0, 0, 0, 1, 0x26, 1, 0xaa, 0xbb].as_slice()
-    );
-    assert_eq!(rt; extra, key(true));
+    let mut it = new_receiver(alloc, tries, false)?;
+    take(rt, alloc, tries, &mut it, &[0x62, 1, 0x93, 0xaa])?;
+    let copy = copy_of(&it.depacketizer, tries)?;
+    assert!(rt; copy == it.depacketizer);
+    it.depacketizer = copy;
+    take(rt, alloc, tries, &mut it, &[0x62, 1, 0x53, 0xbb])?;
+    has_taken(rt, &it, &[0x11, 0, 0, 0, 1, 0x26, 1, 0xaa, 0xbb], true);
     Ok(())
 }
 
@@ -421,87 +355,6 @@ fn depacketizers_copied_again(rt: HostRuntime) -> Result<(), Fail> {
 #[test]
 fn depacketizers_at_once(rt: HostRuntime) -> Result<(), Fail> {
     copy_depacketizer(&rt, rt.alloc(), Tries::Once)
-}
-
-/// Copies a packet as it is shown, and its parts.
-fn copy_packet(
-    rt: &impl Abort,
-    alloc: Global,
-    tries: Tries,
-    payload: &H265Payload,
-) -> Result<(), PacketError> {
-    assert!(rt; made(tries, || payload.clone(alloc))? == *payload);
-    match payload {
-        H265Payload::H265SingleNALUnitPacket(packet) => {
-            assert!(rt; made(tries, || packet.clone(alloc))? == *packet);
-        }
-        H265Payload::H265FragmentationUnitPacket(packet) => {
-            assert!(rt; made(tries, || packet.clone(alloc))? == *packet);
-        }
-        H265Payload::H265AggregationPacket(packet) => {
-            assert!(rt; made(tries, || packet.clone(alloc))? == *packet);
-            if let Some(first) = packet.first_unit() {
-                assert!(rt; made(tries, || first.clone(alloc))? == *first);
-            }
-            for unit in packet.other_units() {
-                assert!(rt; made(tries, || unit.clone(alloc))? == *unit);
-            }
-        }
-        H265Payload::H265PACIPacket(packet) => {
-            assert!(rt; made(tries, || packet.clone(alloc))? == *packet);
-        }
-    }
-    Ok(())
-}
-
-/// Takes packets, each by a depacketizer of its own, and copies what is shown.
-fn copy_shown(rt: &impl Abort, alloc: Global, tries: Tries, packets: &[&[u8]]) -> Result<(), Fail> {
-    for packet in packets {
-        let mut depacketizer = H265Depacketizer::new(alloc);
-        let mut out = Vec::new(alloc);
-        let mut extra = CodecExtra::None;
-        take(
-            rt,
-            alloc,
-            &mut depacketizer,
-            tries,
-            packet,
-            &mut out,
-            &mut extra,
-        )?;
-        copy_packet(rt, alloc, tries, depacketizer.payload())?;
-    }
-    Ok(())
-}
-
-/// Copies a single packet, a fragment and a PACI packet.
-fn copy_packets(rt: &impl Abort, alloc: Global, tries: Tries) -> Result<(), Fail> {
-    copy_shown(
-        rt,
-        alloc,
-        tries,
-        &[&[2, 1, 0xaa], &[0x62, 1, 0x93, 0xaa], &PACI],
-    )
-}
-
-#[test]
-fn packets_copied_again(rt: HostRuntime) -> Result<(), Fail> {
-    copy_packets(&rt, rt.alloc(), Tries::Twice)
-}
-
-#[test]
-fn packet_copies_at_once(rt: HostRuntime) -> Result<(), Fail> {
-    copy_packets(&rt, rt.alloc(), Tries::Once)
-}
-
-#[test]
-fn aggregates_copied_again(rt: HostRuntime) -> Result<(), Fail> {
-    copy_shown(&rt, rt.alloc(), Tries::Twice, &[&AGGREGATE])
-}
-
-#[test]
-fn aggregate_copies_at_once(rt: HostRuntime) -> Result<(), Fail> {
-    copy_shown(&rt, rt.alloc(), Tries::Once, &[&AGGREGATE])
 }
 
 #[test]
@@ -521,18 +374,16 @@ fn sending_that_takes_no_memory(rt: HostRuntime) -> Result<(), Fail> {
         }
     }
     assert!(rt; packetizer.clone()?.is_marker(&[2], None, true));
-    assert!(rt; !packetizer.marks_talkspurt());
-    assert!(rt; packetizer.nackable());
-    assert_eq!(rt;
-        H265PACIPacket::packetize(
-            rt.alloc(),
-            &[0x26, 1, 0xaa],
-            &[0xbb; 32],
-            &mut Vec::new(rt.alloc())
-        ),
-        Err(PacketError::ErrH265PACIPHESTooLong)
-    );
     Ok(())
+}
+
+#[test]
+fn flags_that_take_no_memory(rt: HostRuntime) {
+    let packetizer = H265Packetizer::new(rt.alloc());
+    assert_eq!(rt;
+        (packetizer.marks_talkspurt(), packetizer.nackable()),
+        (false, true)
+    );
 }
 
 #[test]
@@ -563,52 +414,24 @@ fn receiving_that_takes_no_memory(rt: HostRuntime) {
             "at {packet:?}"
         );
     }
-    assert!(rt; out.is_empty());
-    assert_eq!(rt; extra, CodecExtra::None);
+    assert_eq!(rt; (out.len(), extra), (0, CodecExtra::None));
     assert!(rt; *depacketizer.payload() == H265Payload::empty(rt.alloc()));
-    assert_eq!(rt; depacketizer.out_size_hint(1200), Some(1208));
-    assert!(rt; depacketizer.is_partition_head(&[2, 1]));
-    assert!(rt; depacketizer.is_partition_tail(true, &[2, 1]));
+}
+
+#[test]
+fn hints_that_take_no_memory(rt: HostRuntime) {
+    let depacketizer = H265Depacketizer::new(rt.alloc());
+    assert_eq!(rt;
+        (
+            depacketizer.out_size_hint(1200),
+            depacketizer.is_partition_head(&[2, 1]),
+            depacketizer.is_partition_tail(true, &[2, 1])
+        ),
+        (Some(1208), true, true)
+    );
+}
+
+#[test]
+fn detection_that_takes_no_memory(rt: HostRuntime) {
     assert!(rt; detect_h265_keyframe(&[0x60, 1, 0, 2, 2, 1, 0, 2, 0x26, 1]));
-}
-
-#[test]
-fn empty_packets_that_take_no_memory(rt: HostRuntime) {
-    let mut single = H265SingleNALUnitPacket::empty(rt.alloc());
-    single.with_donl(true);
-    assert_eq!(rt; single.payload_header(), H265NALUHeader(0));
-    assert!(rt; single.donl().is_none() && single.payload().is_empty());
-    let mut fragment = H265FragmentationUnitPacket::empty(rt.alloc());
-    fragment.with_donl(true);
-    assert_eq!(rt; fragment.payload_header(), H265NALUHeader(0));
-    assert_eq!(rt; fragment.fu_header(), H265FragmentationUnitHeader(0));
-    assert!(rt; fragment.donl().is_none() && fragment.payload().is_empty());
-    let mut aggregate = H265AggregationPacket::empty(rt.alloc());
-    aggregate.with_donl(true);
-    assert!(rt; aggregate.first_unit().is_none() && aggregate.other_units().is_empty());
-    let first = H265AggregationUnitFirst::empty(rt.alloc());
-    assert!(rt; first.donl().is_none() && first.nalu_size() == 0 && first.nal_unit().is_empty());
-    let other = H265AggregationUnit::empty(rt.alloc());
-    assert!(rt; other.dond().is_none() && other.nalu_size() == 0 && other.nal_unit().is_empty());
-    let paci = H265PACIPacket::empty(rt.alloc());
-    assert_eq!(rt; paci.payload_header(), H265NALUHeader(0));
-    assert!(rt; !paci.a() && paci.ctype() == 0 && paci.phs_size() == 0);
-    assert!(rt; !paci.f0() && !paci.f1() && !paci.f2() && !paci.y());
-    assert!(rt; paci.phes().is_empty() && paci.payload().is_empty() && paci.tsci().is_none());
-}
-
-#[test]
-fn headers_that_take_no_memory(rt: HostRuntime) {
-    let header = H265NALUHeader::new(0x26, 1);
-    assert_eq!(rt; header, H265NALUHeader::new_with_type(19, 0, 1));
-    assert!(rt; !header.f() && header.nalu_type() == 19);
-    assert!(rt; header.layer_id() == 0 && header.tid() == 1);
-    assert!(rt; header.is_type_vcl_unit() && header.is_idr_picture() && header.is_irap());
-    assert!(rt; !header.is_aggregation_packet() && !header.is_fragmentation_unit());
-    assert!(rt; !header.is_paci_packet());
-    let marks = H265FragmentationUnitHeader::new(true, false, 19);
-    assert!(rt; marks.s() && !marks.e() && marks.fu_type() == 19);
-    let tsci = H265TSCI(0x1122_3300);
-    assert!(rt; tsci.tl0picidx() == 0x11 && tsci.irap_pic_id() == 0x22);
-    assert!(rt; !tsci.s() && !tsci.e() && tsci.res() == 0x33);
 }

@@ -10,8 +10,8 @@ ghost use Rattle.h265_payload.specs.Packet.{IsChecked, reading_of, shown_by};
 ghost use Rattle.h265_payload.specs.Shown.{shown};
 
 use crate::aggregate::check_aggregate;
-use crate::header::{high_byte, paci_f, paci_size, paci_type};
 use h26x_core::{H265FragmentationUnitHeader, H265NALUHeader, PacketError};
+use h265_packets::header::{high_byte, paci_f, paci_size, paci_type};
 
 /// What a packet is, with slices of it.
 #[derive(Clone, Copy)]

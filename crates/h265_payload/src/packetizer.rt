@@ -6,10 +6,10 @@ ghost use Rattle.h26x_core.specs.Word.{field};
 ghost use Rattle.h26x_core.specs.H265Unit.{type_of};
 ghost use Rattle.h265_payload.specs.H265.{with_type_and_f};
 
-use crate::header::high_byte;
 use h26x_core::{CodecExtra, H265CodecExtra, H265FragmentationUnitHeader, H265NALUHeader};
 use h26x_cut::{UnitSlices, ZeroRule};
 use h26x_payload::{Codec, NumberedCodec, PayloadPacketizer, Sets, UnitKind};
+use h265_packets::header::high_byte;
 use std::alloc::{AllocError, Global};
 
 /// The type of a VPS.

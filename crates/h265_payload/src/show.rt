@@ -4,13 +4,15 @@ ghost use Rattle.std.specs.Prelude.{◌≡◌, IfOk};
 ghost use Rattle.h265_payload.specs.Packet.{IsChecked, shown_by, aggregate_with};
 ghost use Rattle.h265_payload.specs.Shown.{others_of};
 
+mod cases;
+
 use crate::aggregate::first_other;
 use crate::packet::Packet;
-use crate::payload::{
+use h26x_core::H265NALUHeader;
+use h265_packets::{
     H265AggregationPacket, H265AggregationUnit, H265AggregationUnitFirst,
     H265FragmentationUnitPacket, H265PACIPacket, H265Payload, H265SingleNALUnitPacket,
 };
-use h26x_core::H265NALUHeader;
 use std::alloc::{AllocError, Global};
 
 /// What is shown of a packet; its data, or those of its first unit, stand in this buffer.

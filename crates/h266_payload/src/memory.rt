@@ -90,26 +90,49 @@ fn send(
     Ok(())
 }
 
+/// A depacketizer, and what it wrote and told.
+#[derive(Drop)]
+struct Receiver {
+    depacketizer: H266Depacketizer,
+    out: Vec<u8>,
+    told: CodecExtra,
+}
+
+/// A new depacketizer behind a byte that was written.
+fn new_receiver(alloc: Global, tries: Tries) -> Result<Receiver, PacketError> {
+    Ok(Receiver {
+        depacketizer: H266Depacketizer::new(alloc),
+        out: buffer_of(alloc, tries, &[0x11])?,
+        told: CodecExtra::None,
+    })
+}
+
 /// Depacketizes; a refusal leaves what was written and told.
 fn take(
     rt: &impl Abort,
     alloc: Global,
-    depacketizer: &mut H266Depacketizer,
     tries: Tries,
+    it: &mut Receiver,
     packet: &[u8],
-    out: &mut Vec<u8>,
-    extra: &mut CodecExtra,
 ) -> Result<(), PacketError> {
-    let written = buffer_of(alloc, tries, out)?;
-    let told = *extra;
-    match depacketizer.depacketize(packet, out, extra) {
+    let written = buffer_of(alloc, tries, &it.out)?;
+    let told = it.told;
+    match it
+        .depacketizer
+        .depacketize(packet, &mut it.out, &mut it.told)
+    {
         Err(PacketError::OutOfMemory) if tries == Tries::Twice => {
-            assert_eq!(rt; *out, written);
-            assert_eq!(rt; *extra, told);
-            depacketizer.depacketize(packet, out, extra)
+            assert_eq!(rt; (it.out.as_slice(), it.told), (written.as_slice(), told));
+            it.depacketizer
+                .depacketize(packet, &mut it.out, &mut it.told)
         }
         answer => answer,
     }
+}
+
+/// Compares what was written and told.
+fn has_taken(rt: &impl Abort, it: &Receiver, want: &[u8], is_keyframe: bool) {
+    assert_eq!(rt; (it.out.as_slice(), it.told), (want, key(is_keyframe)));
 }
 
 /// Sends sets and a unit: of one layer and of several, and with numbers.
@@ -159,23 +182,12 @@ fn receive_fragments(rt: &impl Abort, alloc: Global, tries: Tries) -> Result<(),
     want[47..147].fill(0xbb);
     want[147..].fill(0xcc);
 
-    let mut depacketizer = H266Depacketizer::new(alloc);
-    let mut out = buffer_of(alloc, tries, &[0x11])?;
-    let mut extra = CodecExtra::None;
+    let mut it = new_receiver(alloc, tries)?;
     let packets: [&[u8]; 3] = [&start, &middle, &end];
     for packet in packets {
-        take(
-            rt,
-            alloc,
-            &mut depacketizer,
-            tries,
-            packet,
-            &mut out,
-            &mut extra,
-        )?;
+        take(rt, alloc, tries, &mut it, packet)?;
     }
-    assert_eq!(rt; out.as_slice(), want.as_slice());
-    assert_eq!(rt; extra, key(true));
+    has_taken(rt, &it, &want, true);
     Ok(())
 }
 
@@ -191,26 +203,12 @@ fn fragments_at_once(rt: HostRuntime) -> Result<(), Fail> {
 
 /// Takes an aggregate.
 fn receive_aggregate(rt: &impl Abort, alloc: Global, tries: Tries) -> Result<(), Fail> {
-    let mut depacketizer = H266Depacketizer::new(alloc);
-    let mut out = buffer_of(alloc, tries, &[0x11])?;
-    let mut extra = CodecExtra::None;
-    take(
-        rt,
-        alloc,
-        &mut depacketizer,
-        tries,
-        &AGGREGATE,
-        &mut out,
-        &mut extra,
-    )?;
-    assert_eq!(rt;
-        out.as_slice(),
-        [
-            0x11, 0, 0, 0, 1, 0, 0x71, 0xaa, 0, 0, 0, 1, 0, 0x79, 0xbb, 0, 0, 0, 1, 0, 0x81, 0xcc,
-        ]
-        .as_slice()
-    );
-    assert_eq!(rt; extra, key(false));
+    let mut it = new_receiver(alloc, tries)?;
+    take(rt, alloc, tries, &mut it, &AGGREGATE)?;
+    let want = [
+        0x11, 0, 0, 0, 1, 0, 0x71, 0xaa, 0, 0, 0, 1, 0, 0x79, 0xbb, 0, 0, 0, 1, 0, 0x81, 0xcc,
+    ];
+    has_taken(rt, &it, &want, false);
     Ok(())
 }
 
@@ -268,9 +266,16 @@ fn sending_that_takes_no_memory(rt: HostRuntime) -> Result<(), Fail> {
         }
     }
     assert!(rt; packetizer.clone()?.is_marker(&[0], None, true));
-    assert!(rt; !packetizer.marks_talkspurt());
-    assert!(rt; packetizer.nackable());
     Ok(())
+}
+
+#[test]
+fn flags_that_take_no_memory(rt: HostRuntime) {
+    let packetizer = H266Packetizer::new(rt.alloc());
+    assert_eq!(rt;
+        (packetizer.marks_talkspurt(), packetizer.nackable()),
+        (false, true)
+    );
 }
 
 #[test]
@@ -305,11 +310,24 @@ fn receiving_that_takes_no_memory(rt: HostRuntime) {
             "at {packet:?}"
         );
     }
-    assert!(rt; out.is_empty());
-    assert_eq!(rt; extra, CodecExtra::None);
-    assert_eq!(rt; depacketizer.out_size_hint(1200), Some(1208));
-    assert!(rt; depacketizer.is_partition_head(&[0, 9]));
-    assert!(rt; depacketizer.is_partition_tail(true, &[0, 9]));
+    assert_eq!(rt; (out.len(), extra), (0, CodecExtra::None));
+}
+
+#[test]
+fn hints_that_take_no_memory(rt: HostRuntime) {
+    let depacketizer = H266Depacketizer::new(rt.alloc());
+    assert_eq!(rt;
+        (
+            depacketizer.out_size_hint(1200),
+            depacketizer.is_partition_head(&[0, 9]),
+            depacketizer.is_partition_tail(true, &[0, 9])
+        ),
+        (Some(1208), true, true)
+    );
+}
+
+#[test]
+fn detection_that_takes_no_memory(rt: HostRuntime) {
     assert!(rt; detect_h266_keyframe(&[0, 0xe1, 0, 2, 0, 9, 0, 2, 0, 0x39]));
 }
 
@@ -317,9 +335,33 @@ fn receiving_that_takes_no_memory(rt: HostRuntime) {
 fn headers_that_take_no_memory(rt: HostRuntime) {
     let header = H266NALUHeader::new(0, 0x39);
     assert_eq!(rt; header, H266NALUHeader::new_with_type(7, 0, 1));
-    assert!(rt; !header.f() && !header.z() && header.nalu_type() == 7);
-    assert!(rt; header.layer_id() == 0 && header.tid() == 1 && header.is_irap());
-    assert!(rt; !header.is_aggregation_packet() && !header.is_fragmentation_unit());
+    assert_eq!(rt;
+        (header.nalu_type(), header.layer_id(), header.tid()),
+        (7, 0, 1)
+    );
+}
+
+#[test]
+fn kinds_of_units_that_take_no_memory(rt: HostRuntime) {
+    let header = H266NALUHeader::new(0, 0x39);
+    assert_eq!(rt;
+        [header.f(), header.z(), header.is_irap()],
+        [false, false, true]
+    );
+    assert_eq!(rt;
+        (
+            header.is_aggregation_packet(),
+            header.is_fragmentation_unit()
+        ),
+        (false, false)
+    );
+}
+
+#[test]
+fn marks_that_take_no_memory(rt: HostRuntime) {
     let marks = H266FragmentationUnitHeader::new(true, false, false, 7);
-    assert!(rt; marks.s() && !marks.e() && !marks.p() && marks.fu_type() == 7);
+    assert_eq!(rt;
+        ([marks.s(), marks.e(), marks.p()], marks.fu_type()),
+        ([true, false, false], 7)
+    );
 }

@@ -13,7 +13,7 @@ use Rattle.h264_payload.specs.Depacketizer as h264_end
 use Rattle.h265_payload.specs.H265.{h265}
 use Rattle.h265_payload.specs.Setting as h265_setting
 use Rattle.h265_payload.specs.Depacketizer as h265_end
-use Rattle.h265_payload.specs.declared.payload.H265Payload.{H265Payload}
+use Rattle.h265_packets.specs.declared.payload.H265Payload.{H265Payload}
 use Rattle.h266_payload.specs.H266.{h266}
 use Rattle.h266_payload.specs.Setting as h266_setting
 use Rattle.h266_payload.specs.Depacketizer as h266_end

@@ -1,6 +1,7 @@
 use super::*;
 use crate::packetizer::H265Packetizer;
-use h26x_core::{H265CodecExtra, H265NALUHeader, Packetizer};
+use h26x_core::{H265CodecExtra, Packetizer};
+use std::process::Abort;
 use std::test::Fail;
 
 fn key(is_keyframe: bool) -> CodecExtra {
@@ -12,6 +13,29 @@ fn fresh(alloc: Global, is_numbered: bool) -> H265Depacketizer {
     let mut depacketizer = H265Depacketizer::new(alloc);
     depacketizer.with_donl(is_numbered);
     depacketizer
+}
+
+/// A depacketizer, and what it wrote and told.
+#[derive(Drop)]
+struct Taken {
+    depacketizer: H265Depacketizer,
+    out: Vec<u8>,
+    told: CodecExtra,
+}
+
+/// Takes packets by a new depacketizer, with numbers or without.
+fn take(alloc: Global, is_numbered: bool, packets: &[&[u8]]) -> Result<Taken, PacketError> {
+    let mut depacketizer = fresh(alloc, is_numbered);
+    let mut out = Vec::new(alloc);
+    let mut told = CodecExtra::None;
+    for packet in packets {
+        depacketizer.depacketize(packet, &mut out, &mut told)?;
+    }
+    Ok(Taken {
+        depacketizer,
+        out,
+        told,
+    })
 }
 
 #[test]
@@ -86,12 +110,12 @@ fn one_packet(rt: HostRuntime) -> Result<(), Fail> {
             key(false),
         ),
     ] {
-        let mut d = fresh(rt.alloc(), is_numbered);
-        let mut out = Vec::new(rt.alloc());
-        let mut told = CodecExtra::None;
-        d.depacketize(packet, &mut out, &mut told)?;
-        assert_eq!(rt; out.as_slice(), want, "at {packet:?}");
-        assert_eq!(rt; told, extra, "at {packet:?}");
+        let taken = take(rt.alloc(), is_numbered, &[packet])?;
+        assert_eq!(rt;
+            (taken.out.as_slice(), taken.told),
+            (want, extra),
+            "at {packet:?}"
+        );
     }
     Ok(())
 }
@@ -146,77 +170,84 @@ fn refused_packets(rt: HostRuntime) -> Result<(), Fail> {
         let mut out = Vec::new(rt.alloc());
         out.push(0x11)?;
         let mut told = key(true);
+        let answer = d.depacketize(packet, &mut out, &mut told);
         assert_eq!(rt;
-            d.depacketize(packet, &mut out, &mut told),
-            Err(error),
+            (answer, out.as_slice(), told),
+            (Err(error), [0x11].as_slice(), key(true)),
             "at {packet:?}"
         );
-        assert_eq!(rt; out.as_slice(), [0x11].as_slice(), "at {packet:?}");
-        assert_eq!(rt; told, key(true), "at {packet:?}");
-        assert_eq!(rt; d == fresh(rt.alloc(), is_numbered), true, "at {packet:?}");
+        assert!(rt; d == fresh(rt.alloc(), is_numbered), "at {packet:?}");
     }
+    Ok(())
+}
+
+/// Takes an aggregate of two units behind a front of it of this length, which is refused.
+fn take_behind_a_front(rt: &impl Abort, alloc: Global, len: usize) -> Result<(), Fail> {
+    let packet = [
+        0x60, 0x01, 0x00, 0x03, 0x02, 0x01, 0xaa, 0x00, 0x02, 0x02, 0x01,
+    ];
+    let mut d = H265Depacketizer::new(alloc);
+    let mut out = Vec::new(alloc);
+    let mut told = CodecExtra::None;
+    let answer = d.depacketize(packet.get(..len).unwrap_or(&[]), &mut out, &mut told);
+    assert_eq!(rt;
+        (answer, out.len()),
+        (Err(PacketError::ErrShortPacket), 0),
+        "at {len}"
+    );
+    d.depacketize(&packet, &mut out, &mut told)?;
+    assert_eq!(rt;
+        out.as_slice(),
+        [0, 0, 0, 1, 0x02, 0x01, 0xaa, 0, 0, 0, 1, 0x02, 0x01].as_slice(),
+        "at {len}"
+    );
     Ok(())
 }
 
 #[test]
 fn fronts_of_an_aggregate(rt: HostRuntime) -> Result<(), Fail> {
-    let packet = [
-        0x60, 0x01, 0x00, 0x03, 0x02, 0x01, 0xaa, 0x00, 0x02, 0x02, 0x01,
-    ];
-    for len in 0..packet.len() {
-        let mut d = H265Depacketizer::new(rt.alloc());
-        let mut out = Vec::new(rt.alloc());
-        let mut told = CodecExtra::None;
-        assert_eq!(rt;
-            d.depacketize(&packet[..len], &mut out, &mut told),
-            Err(PacketError::ErrShortPacket),
-            "at {len}"
-        );
-        assert_eq!(rt; out.len(), 0, "at {len}");
-        d.depacketize(&packet, &mut out, &mut told)?;
-        assert_eq!(rt;
-            out.as_slice(),
-            [0, 0, 0, 1, 0x02, 0x01, 0xaa, 0, 0, 0, 1, 0x02, 0x01].as_slice(),
-            "at {len}"
-        );
+    for len in 0..11 {
+        take_behind_a_front(&rt, rt.alloc(), len)?;
     }
     Ok(())
 }
 
 #[test]
 fn a_run_through_other_packets(rt: HostRuntime) -> Result<(), Fail> {
-    let mut d = H265Depacketizer::new(rt.alloc());
-    let mut out = Vec::new(rt.alloc());
-    let mut told = CodecExtra::None;
-    for packet in [
-        [0x62, 0x01, 0x93, 0xaa].as_slice(),
+    let packets: [&[u8]; 4] = [
+        &[0x62, 0x01, 0x93, 0xaa],
         &[
             0x60, 0x01, 0x00, 0x03, 0x02, 0x01, 0xbb, 0x00, 0x03, 0x02, 0x01, 0xcc,
         ],
         &[0x64, 0x01, 0x02, 0x00, 0xdd],
         &[0x62, 0x01, 0x53, 0xee],
-    ] {
-        d.depacketize(packet, &mut out, &mut told)?;
-    }
+    ];
+    let want = [
+        0, 0, 0, 1, 0x02, 0x01, 0xbb, 0, 0, 0, 1, 0x02, 0x01, 0xcc, 0, 0, 0, 1, 0x02, 0x01, 0xdd,
+        0, 0, 0, 1, 0x26, 0x01, 0xaa, 0xee,
+    ];
+    let taken = take(rt.alloc(), false, &packets)?;
     assert_eq!(rt;
-        out.as_slice(),
-        [
-            0, 0, 0, 1, 0x02, 0x01, 0xbb, 0, 0, 0, 1, 0x02, 0x01, 0xcc, 0, 0, 0, 1, 0x02, 0x01,
-            0xdd, 0, 0, 0, 1, 0x26, 0x01, 0xaa, 0xee,
-        ]
-        .as_slice()
+        (taken.out.as_slice(), taken.told),
+        (want.as_slice(), key(true))
     );
-    assert_eq!(rt; told, key(true));
     Ok(())
 }
 
+/// The start of a unit of type 19, its end, and its end where numbers are not looked for.
+const START: [u8; 4] = [0x62, 0x01, 0x93, 0xaa];
+
+const NUMBERED_START: [u8; 6] = [0x62, 0x01, 0x93, 0x00, 0x07, 0xaa];
+
+const END: [u8; 4] = [0x62, 0x01, 0x53, 0xbb];
+
+/// The unit as it is written.
+const WRITTEN: [u8; 8] = [0, 0, 0, 1, 0x26, 0x01, 0xaa, 0xbb];
+
 #[test]
 fn refusals_within_a_run(rt: HostRuntime) -> Result<(), Fail> {
-    let mut d = H265Depacketizer::new(rt.alloc());
-    let mut out = Vec::new(rt.alloc());
-    let mut told = CodecExtra::None;
-    d.depacketize(&[0x62, 0x01, 0x93, 0xaa], &mut out, &mut told)?;
-    let before = d.clone()?;
+    let mut taken = take(rt.alloc(), false, &[&START])?;
+    let before = taken.depacketizer.clone()?;
     for (packet, error) in [
         ([0x62, 0x01, 0x93].as_slice(), PacketError::ErrShortPacket),
         (
@@ -224,37 +255,46 @@ fn refusals_within_a_run(rt: HostRuntime) -> Result<(), Fail> {
             PacketError::ErrH265CorruptedPacket,
         ),
     ] {
-        assert_eq!(rt; d.depacketize(packet, &mut out, &mut told), Err(error));
-        assert_eq!(rt; d.payload() == before.payload(), true);
-        assert_eq!(rt; d == before, true);
+        let answer = taken
+            .depacketizer
+            .depacketize(packet, &mut taken.out, &mut taken.told);
+        assert_eq!(rt; answer, Err(error));
+        assert!(rt; taken.depacketizer == before);
     }
-    d.depacketize(&[0x62, 0x01, 0x53, 0xbb], &mut out, &mut told)?;
-    assert_eq!(rt;
-        out.as_slice(),
-        [0, 0, 0, 1, 0x26, 0x01, 0xaa, 0xbb].as_slice()
-    );
-    assert_eq!(rt; d == before, false);
+    Ok(())
+}
+
+#[test]
+fn a_run_goes_on_behind_refusals(rt: HostRuntime) -> Result<(), Fail> {
+    let mut taken = take(rt.alloc(), false, &[&START])?;
+    let before = taken.depacketizer.clone()?;
+    for packet in [[0x62, 0x01, 0x93].as_slice(), &[0xe2, 0x01, 0x93, 0xaa]] {
+        let _refusal = taken
+            .depacketizer
+            .depacketize(packet, &mut taken.out, &mut taken.told);
+    }
+    taken
+        .depacketizer
+        .depacketize(&END, &mut taken.out, &mut taken.told)?;
+    assert_eq!(rt; taken.out.as_slice(), WRITTEN.as_slice());
+    assert!(rt; taken.depacketizer != before);
     Ok(())
 }
 
 #[test]
 fn a_setting_changed_within_a_run(rt: HostRuntime) -> Result<(), Fail> {
-    let mut d = fresh(rt.alloc(), true);
-    let mut out = Vec::new(rt.alloc());
-    let mut told = CodecExtra::None;
-    d.depacketize(&[0x62, 0x01, 0x93, 0x00, 0x07, 0xaa], &mut out, &mut told)?;
-    d.with_donl(false);
-    d.depacketize(&[0x62, 0x01, 0x53, 0xbb], &mut out, &mut told)?;
-    assert_eq!(rt;
-        out.as_slice(),
-        [0, 0, 0, 1, 0x26, 0x01, 0xaa, 0xbb].as_slice()
-    );
-    assert_eq!(rt; d == H265Depacketizer::new(rt.alloc()), false);
+    let mut taken = take(rt.alloc(), true, &[&NUMBERED_START])?;
+    taken.depacketizer.with_donl(false);
+    taken
+        .depacketizer
+        .depacketize(&END, &mut taken.out, &mut taken.told)?;
+    assert_eq!(rt; taken.out.as_slice(), WRITTEN.as_slice());
+    assert!(rt; taken.depacketizer != H265Depacketizer::new(rt.alloc()));
     Ok(())
 }
 
 #[test]
-fn single_packets_shown(rt: HostRuntime) -> Result<(), Fail> {
+fn nothing_shown_of_a_refused_packet(rt: HostRuntime) {
     let mut d = fresh(rt.alloc(), true);
     let mut out = Vec::new(rt.alloc());
     let mut told = CodecExtra::None;
@@ -262,113 +302,143 @@ fn single_packets_shown(rt: HostRuntime) -> Result<(), Fail> {
         d.depacketize(&[0x02, 0x01, 0x00, 0x05], &mut out, &mut told),
         Err(PacketError::ErrShortPacket)
     );
-    assert_eq!(rt; *d.payload() == H265Payload::empty(rt.alloc()), true);
-    d.depacketize(&[0x02, 0x01, 0x00, 0x05, 0xaa], &mut out, &mut told)?;
-    let H265Payload::H265SingleNALUnitPacket(single) = d.payload() else {
-        return Err(Fail::from(PacketError::ErrShortPacket));
+    assert!(rt; *d.payload() == H265Payload::empty(rt.alloc()));
+}
+
+/// Tells that another packet is shown than was sent.
+fn another_shown() -> Fail {
+    Fail::from("another packet is shown")
+}
+
+#[test]
+fn single_packets_shown(rt: HostRuntime) -> Result<(), Fail> {
+    let taken = take(rt.alloc(), true, &[&[0x02, 0x01, 0x00, 0x05, 0xaa]])?;
+    let H265Payload::H265SingleNALUnitPacket(single) = taken.depacketizer.payload() else {
+        return Err(another_shown());
     };
-    assert_eq!(rt; single.payload_header(), H265NALUHeader(0x0201));
-    assert_eq!(rt; single.donl(), Some(5));
-    assert_eq!(rt; single.payload(), [0xaa].as_slice());
+    assert_eq!(rt;
+        (single.payload_header().0, single.donl(), single.payload()),
+        (0x0201, Some(5), [0xaa].as_slice())
+    );
+    Ok(())
+}
+
+/// Takes fragments with numbers; the last shows this byte of marks, this number and this byte.
+fn show_fragment(
+    rt: &impl Abort,
+    alloc: Global,
+    packets: &[&[u8]],
+    marks: u8,
+    donl: Option<u16>,
+    payload: u8,
+) -> Result<(), Fail> {
+    let taken = take(alloc, true, packets)?;
+    let H265Payload::H265FragmentationUnitPacket(fragment) = taken.depacketizer.payload() else {
+        return Err(another_shown());
+    };
+    assert_eq!(rt;
+        (
+            fragment.payload_header().0,
+            fragment.fu_header().0,
+            fragment.donl()
+        ),
+        (0x6201, marks, donl)
+    );
+    assert_eq!(rt; fragment.payload(), [payload].as_slice());
     Ok(())
 }
 
 #[test]
 fn fragments_shown(rt: HostRuntime) -> Result<(), Fail> {
-    let mut d = fresh(rt.alloc(), true);
-    let mut out = Vec::new(rt.alloc());
-    let mut told = CodecExtra::None;
-    for (packet, marks, donl, payload) in [
-        (
-            [0x62, 0x01, 0x93, 0x00, 0x07, 0xaa].as_slice(),
-            0x93,
-            Some(7),
-            [0xaa].as_slice(),
-        ),
-        (&[0x62, 0x01, 0x53, 0xbb], 0x53, None, &[0xbb]),
-    ] {
-        d.depacketize(packet, &mut out, &mut told)?;
-        let H265Payload::H265FragmentationUnitPacket(fragment) = d.payload() else {
-            return Err(Fail::from(PacketError::ErrShortPacket));
-        };
-        assert_eq!(rt; fragment.payload_header(), H265NALUHeader(0x6201));
-        assert_eq!(rt; fragment.fu_header().0, marks);
-        assert_eq!(rt; fragment.donl(), donl);
-        assert_eq!(rt; fragment.payload(), payload);
-    }
+    show_fragment(&rt, rt.alloc(), &[&NUMBERED_START], 0x93, Some(7), 0xaa)?;
+    show_fragment(&rt, rt.alloc(), &[&NUMBERED_START, &END], 0x53, None, 0xbb)
+}
+
+#[test]
+fn fragments_with_numbers(rt: HostRuntime) -> Result<(), Fail> {
+    let taken = take(rt.alloc(), true, &[&NUMBERED_START, &END])?;
     assert_eq!(rt;
-        out.as_slice(),
-        [0, 0, 0, 1, 0x26, 0x01, 0xaa, 0xbb].as_slice()
+        (taken.out.as_slice(), taken.told),
+        (WRITTEN.as_slice(), key(true))
     );
-    assert_eq!(rt; told, key(true));
+    Ok(())
+}
+
+/// The first unit of an aggregate behind DONL 65535, and one behind DOND 1.
+const NUMBERED_AGGREGATE: [u8; 14] = [
+    0x60, 0x01, 0xff, 0xff, 0x00, 0x02, 0x02, 0x01, 0x01, 0x00, 0x03, 0x26, 0x01, 0xaf,
+];
+
+#[test]
+fn first_units_shown(rt: HostRuntime) -> Result<(), Fail> {
+    let taken = take(rt.alloc(), true, &[&NUMBERED_AGGREGATE])?;
+    let H265Payload::H265AggregationPacket(aggregate) = taken.depacketizer.payload() else {
+        return Err(another_shown());
+    };
+    let Some(first) = aggregate.first_unit() else {
+        return Err(another_shown());
+    };
+    assert_eq!(rt;
+        (first.donl(), first.nalu_size(), first.nal_unit()),
+        (Some(65535), 2, [0x02, 0x01].as_slice())
+    );
     Ok(())
 }
 
 #[test]
-fn aggregates_shown(rt: HostRuntime) -> Result<(), Fail> {
-    let mut d = fresh(rt.alloc(), true);
-    let mut out = Vec::new(rt.alloc());
-    let mut told = CodecExtra::None;
-    d.depacketize(
-        &[
-            0x60, 0x01, 0xff, 0xff, 0x00, 0x02, 0x02, 0x01, 0x01, 0x00, 0x03, 0x26, 0x01, 0xaf,
-        ],
-        &mut out,
-        &mut told,
-    )?;
-    let H265Payload::H265AggregationPacket(aggregate) = d.payload() else {
-        return Err(Fail::from(PacketError::ErrShortPacket));
+fn further_units_shown(rt: HostRuntime) -> Result<(), Fail> {
+    let taken = take(rt.alloc(), true, &[&NUMBERED_AGGREGATE])?;
+    let H265Payload::H265AggregationPacket(aggregate) = taken.depacketizer.payload() else {
+        return Err(another_shown());
     };
-    let Some(first) = aggregate.first_unit() else {
-        return Err(Fail::from(PacketError::ErrShortPacket));
+    let [other] = aggregate.other_units() else {
+        return Err(another_shown());
     };
-    assert_eq!(rt; first.donl(), Some(65535));
-    assert_eq!(rt; first.nalu_size(), 2);
-    assert_eq!(rt; first.nal_unit(), [0x02, 0x01].as_slice());
-    let others = aggregate.other_units();
-    assert_eq!(rt; others.len(), 1);
-    assert_eq!(rt; others[0].dond(), Some(1));
-    assert_eq!(rt; others[0].nalu_size(), 3);
-    assert_eq!(rt; others[0].nal_unit(), [0x26, 0x01, 0xaf].as_slice());
+    assert_eq!(rt;
+        (other.dond(), other.nalu_size(), other.nal_unit()),
+        (Some(1), 3, [0x26, 0x01, 0xaf].as_slice())
+    );
+    Ok(())
+}
 
-    let mut d = H265Depacketizer::new(rt.alloc());
-    d.depacketize(&[0x60, 0x01, 0, 0, 0, 0], &mut out, &mut told)?;
-    let H265Payload::H265AggregationPacket(aggregate) = d.payload() else {
-        return Err(Fail::from(PacketError::ErrShortPacket));
+#[test]
+fn units_without_a_byte_shown(rt: HostRuntime) -> Result<(), Fail> {
+    let taken = take(rt.alloc(), false, &[&[0x60, 0x01, 0, 0, 0, 0]])?;
+    let H265Payload::H265AggregationPacket(aggregate) = taken.depacketizer.payload() else {
+        return Err(another_shown());
     };
-    let units = aggregate.nal_units(rt.alloc())?;
-    assert_eq!(rt; units.len(), 2);
-    assert_eq!(rt; units[0].len(), 0);
-    assert_eq!(rt; units[1].len(), 0);
+    let none: &[u8] = &[];
+    assert_eq!(rt;
+        aggregate.nal_units(rt.alloc())?.as_slice(),
+        [none, none].as_slice()
+    );
     Ok(())
 }
 
 #[test]
 fn paci_packets_shown(rt: HostRuntime) -> Result<(), Fail> {
-    let mut d = H265Depacketizer::new(rt.alloc());
-    let mut out = Vec::new(rt.alloc());
-    let mut told = CodecExtra::None;
-    d.depacketize(
-        &[0x64, 0x01, 0x26, 0x38, 0x11, 0x22, 0x33, 0xaa],
-        &mut out,
-        &mut told,
-    )?;
-    let H265Payload::H265PACIPacket(paci) = d.payload() else {
-        return Err(Fail::from(PacketError::ErrShortPacket));
+    let packet = [0x64, 0x01, 0x26, 0x38, 0x11, 0x22, 0x33, 0xaa];
+    let taken = take(rt.alloc(), false, &[&packet])?;
+    let H265Payload::H265PACIPacket(paci) = taken.depacketizer.payload() else {
+        return Err(another_shown());
     };
-    assert_eq!(rt; paci.payload_header(), H265NALUHeader(0x6401));
-    assert_eq!(rt; paci.ctype(), 19);
-    assert_eq!(rt; paci.phes(), [0x11, 0x22, 0x33].as_slice());
-    assert_eq!(rt; paci.payload(), [0xaa].as_slice());
-    let Some(tsci) = paci.tsci() else {
-        return Err(Fail::from(PacketError::ErrShortPacket));
-    };
-    assert_eq!(rt; tsci.0, 0x1122_3300);
+    assert_eq!(rt;
+        (
+            paci.payload_header().0,
+            paci.ctype(),
+            paci.tsci().map(|tsci| tsci.0)
+        ),
+        (0x6401, 19, Some(0x1122_3300))
+    );
+    assert_eq!(rt;
+        (paci.phes(), paci.payload()),
+        ([0x11, 0x22, 0x33].as_slice(), [0xaa].as_slice())
+    );
     Ok(())
 }
 
 #[test]
-fn heads_tails_and_hints(rt: HostRuntime) -> Result<(), Fail> {
+fn heads(rt: HostRuntime) {
     let d = H265Depacketizer::new(rt.alloc());
     for (packet, is_head) in [
         ([0x80, 0x01].as_slice(), true),
@@ -382,6 +452,11 @@ fn heads_tails_and_hints(rt: HostRuntime) -> Result<(), Fail> {
     ] {
         assert_eq!(rt; d.is_partition_head(packet), is_head, "at {packet:?}");
     }
+}
+
+#[test]
+fn tails(rt: HostRuntime) {
+    let d = H265Depacketizer::new(rt.alloc());
     for (marker, packet, is_tail) in [
         (true, [0x62, 0x01, 0x13, 0xaa].as_slice(), false),
         (false, &[0x62, 0x01, 0x53], true),
@@ -396,10 +471,14 @@ fn heads_tails_and_hints(rt: HostRuntime) -> Result<(), Fail> {
             "at {packet:?}"
         );
     }
+}
+
+#[test]
+fn hints(rt: HostRuntime) {
+    let d = H265Depacketizer::new(rt.alloc());
     for (size, hint) in [(0, 4), (1199, 1203), (1200, 1208), (usize::MAX, usize::MAX)] {
         assert_eq!(rt; d.out_size_hint(size), Some(hint));
     }
-    Ok(())
 }
 
 #[test]
@@ -417,17 +496,11 @@ fn a_bare_header_is_sent_and_refused(rt: HostRuntime) -> Result<(), Fail> {
 
 #[test]
 fn a_clone_goes_on(rt: HostRuntime) -> Result<(), Fail> {
-    let mut d = fresh(rt.alloc(), true);
-    let mut out = Vec::new(rt.alloc());
-    let mut told = CodecExtra::None;
-    d.depacketize(&[0x62, 0x01, 0x93, 0x00, 0x07, 0xaa], &mut out, &mut told)?;
-    let mut other = d.clone()?;
-    assert_eq!(rt; d == other, true);
-    other.depacketize(&[0x62, 0x01, 0x53, 0xbb], &mut out, &mut told)?;
-    assert_eq!(rt;
-        out.as_slice(),
-        [0, 0, 0, 1, 0x26, 0x01, 0xaa, 0xbb].as_slice()
-    );
-    assert_eq!(rt; d == other, false);
+    let mut taken = take(rt.alloc(), true, &[&NUMBERED_START])?;
+    let mut other = taken.depacketizer.clone()?;
+    assert!(rt; taken.depacketizer == other);
+    other.depacketize(&END, &mut taken.out, &mut taken.told)?;
+    assert_eq!(rt; taken.out.as_slice(), WRITTEN.as_slice());
+    assert!(rt; taken.depacketizer != other);
     Ok(())
 }

@@ -12,6 +12,20 @@ fn key(is_keyframe: bool) -> CodecExtra {
     CodecExtra::H266(H266CodecExtra { is_keyframe })
 }
 
+/// What a new depacketizer writes and tells of one packet, with numbers or without.
+fn take(
+    alloc: Global,
+    is_numbered: bool,
+    packet: &[u8],
+) -> Result<(Vec<u8>, CodecExtra), PacketError> {
+    let mut d = H266Depacketizer::new(alloc);
+    d.with_donl(is_numbered);
+    let mut out = Vec::new(alloc);
+    let mut told = CodecExtra::None;
+    d.depacketize(packet, &mut out, &mut told)?;
+    Ok((out, told))
+}
+
 #[test]
 fn one_packet(rt: HostRuntime) -> Result<(), Fail> {
     for (packet, want, extra) in [
@@ -61,12 +75,8 @@ fn one_packet(rt: HostRuntime) -> Result<(), Fail> {
         ),
         (&[0x00, 0xe9, 0x40, 0xaa, 0xbb], &[], CodecExtra::None),
     ] {
-        let mut d = H266Depacketizer::new(rt.alloc());
-        let mut out = Vec::new(rt.alloc());
-        let mut told = CodecExtra::None;
-        d.depacketize(packet, &mut out, &mut told)?;
-        assert_eq!(rt; out.as_slice(), want, "at {packet:?}");
-        assert_eq!(rt; told, extra, "at {packet:?}");
+        let (out, told) = take(rt.alloc(), false, packet)?;
+        assert_eq!(rt; (out.as_slice(), told), (want, extra), "at {packet:?}");
     }
     Ok(())
 }
@@ -89,13 +99,8 @@ fn one_packet_with_numbers(rt: HostRuntime) -> Result<(), Fail> {
             key(false),
         ),
     ] {
-        let mut d = H266Depacketizer::new(rt.alloc());
-        d.with_donl(true);
-        let mut out = Vec::new(rt.alloc());
-        let mut told = CodecExtra::None;
-        d.depacketize(packet, &mut out, &mut told)?;
-        assert_eq!(rt; out.as_slice(), want, "at {packet:?}");
-        assert_eq!(rt; told, extra, "at {packet:?}");
+        let (out, told) = take(rt.alloc(), true, packet)?;
+        assert_eq!(rt; (out.as_slice(), told), (want, extra), "at {packet:?}");
     }
     Ok(())
 }
@@ -152,13 +157,12 @@ fn refused_packets(rt: HostRuntime) -> Result<(), Fail> {
         let mut out = Vec::new(rt.alloc());
         out.push(0x11)?;
         let mut told = key(true);
+        let answer = d.depacketize(packet, &mut out, &mut told);
         assert_eq!(rt;
-            d.depacketize(packet, &mut out, &mut told),
-            Err(error),
+            (answer, out.as_slice(), told),
+            (Err(error), [0x11].as_slice(), key(true)),
             "at {packet:?}"
         );
-        assert_eq!(rt; out.as_slice(), [0x11].as_slice(), "at {packet:?}");
-        assert_eq!(rt; told, key(true), "at {packet:?}");
     }
     Ok(())
 }
@@ -183,10 +187,12 @@ fn refusals_within_a_run(rt: HostRuntime) -> Result<(), Fail> {
         );
     }
     assert_eq!(rt;
-        out.as_slice(),
-        [0x00, 0x00, 0x00, 0x01, 0x00, 0x39, 0xaa, 0xbb].as_slice()
+        (out.as_slice(), told),
+        (
+            [0x00, 0x00, 0x00, 0x01, 0x00, 0x39, 0xaa, 0xbb].as_slice(),
+            key(true)
+        )
     );
-    assert_eq!(rt; told, key(true));
     Ok(())
 }
 
@@ -199,10 +205,12 @@ fn a_run_stays_open(rt: HostRuntime) -> Result<(), Fail> {
     d.with_donl(true);
     d.depacketize(&[0x00, 0xe9, 0x41, 0xbb], &mut out, &mut told)?;
     assert_eq!(rt;
-        out.as_slice(),
-        [0x00, 0x00, 0x00, 0x01, 0x00, 0x09, 0xaa, 0xbb].as_slice()
+        (out.as_slice(), told),
+        (
+            [0x00, 0x00, 0x00, 0x01, 0x00, 0x09, 0xaa, 0xbb].as_slice(),
+            key(false)
+        )
     );
-    assert_eq!(rt; told, key(false));
     Ok(())
 }
 

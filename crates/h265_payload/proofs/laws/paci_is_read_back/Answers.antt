@@ -1,4 +1,5 @@
-use Rattle.h265_payload.proofs.PaciLemmas.{read_back, shown_back, fields_are, a_back, f0_back}
+use Rattle.h265_packets.proofs.PaciLemmas.{fields_are, a_back, f0_back}
+use Rattle.h265_payload.proofs.PaciLemmas.{read_back, shown_back}
 use Rattle.h265_payload.proofs.laws.paci_is_read_back.Goals as goal
 
 pub returns : goal.returns

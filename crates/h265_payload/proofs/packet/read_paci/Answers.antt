@@ -2,7 +2,7 @@ use Rattle.std.proofs.Common.{rules, ◌≡◌, ◌+◌, ◌*◌, ◌-◌, ◌<�
 use Rattle.std.specs.Prelude.{slice_index}
 use Rattle.std.proofs.lemmas.List.{length-drop, take_all}
 use Rattle.h26x_core.specs.Word.{field}
-use Rattle.h265_payload.specs.H265.{with_type}
+use Rattle.h265_packets.specs.Header.{with_type}
 use Rattle.h265_payload.proofs.AggregateLemmas.{paci_accepted}
 use Rattle.h265_payload.proofs.packet.read_paci.Goals as goal
 

@@ -1,0 +1,2 @@
+pub mod PaciLemmas
+pub mod EqualityLemmas

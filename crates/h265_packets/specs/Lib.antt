@@ -1,0 +1,4 @@
+pub mod Header
+pub mod Payload
+pub mod Paci
+pub mod Equality

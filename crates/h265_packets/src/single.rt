@@ -1,0 +1,135 @@
+//! Single NAL unit packets (RFC 7798, 4.4.1).
+
+ghost use Rattle.std.specs.Prelude.{◌≡◌, IfOk, OnErr, Err};
+ghost use Rattle.h265_packets.specs.Payload.{empty_single};
+
+use h26x_core::{H265NALUHeader, PacketError};
+use std::alloc::Global;
+use std::marker::Model;
+
+/// A single NAL unit packet (RFC 7798, 4.4.1): the unit's header, DONL where it was read, and what
+/// stands behind them.
+#[derive(Debug, Drop)]
+pub struct H265SingleNALUnitPacket {
+    header: H265NALUHeader,
+    donl: Option<u16>,
+    payload: Vec<u8>,
+    has_donl: bool,
+}
+
+impl Model for H265SingleNALUnitPacket {
+    ghost use Rattle.h265_packets.specs.Payload.{SinglePacket};
+
+    ghost Value = { SinglePacket };
+
+    ghost view = { λ a. record {
+      header = a.header.0;
+      donl = a.donl;
+      payload = a.payload.items;
+      has_donl = a.has_donl;
+    } };
+}
+
+impl H265SingleNALUnitPacket {
+    /// The packet of these parts. `has_donl` is the mark that `with_donl` sets.
+    pub fn of(header: H265NALUHeader, donl: Option<u16>, payload: Vec<u8>, has_donl: bool) -> Self
+        ensures { result ≡ record {
+          header = header.0;
+          donl = donl;
+          payload = payload.items;
+          has_donl = has_donl;
+        } }
+    {
+        H265SingleNALUnitPacket {
+            header,
+            donl,
+            payload,
+            has_donl,
+        }
+    }
+
+    /// A packet whose header is 0, without DONL or payload, and not marked. It takes no memory.
+    pub fn empty(alloc: Global) -> Self
+        ensures { result ≡ empty_single }
+    {
+        H265SingleNALUnitPacket {
+            header: H265NALUHeader(0),
+            donl: None,
+            payload: Vec::new(alloc),
+            has_donl: false,
+        }
+    }
+
+    /// Marks the packet as one with DONL, or as one without. Equality alone tells the mark; the
+    /// parts stay as they are.
+    pub fn with_donl(&mut self, value: bool)
+        ensures { self.new ≡ record self.old { has_donl = value } }
+    {
+        self.has_donl = value;
+    }
+
+    /// The header (RFC 7798, 1.1.4), which is the unit's own.
+    pub fn payload_header(&self) -> H265NALUHeader
+        ensures { result.0 ≡ self.now.header }
+    {
+        self.header
+    }
+
+    /// DONL, the low 16 bits of the unit's decoding order number, where it was read (RFC 7798,
+    /// 4.4.1).
+    pub fn donl(&self) -> Option<u16>
+        ensures { result ≡ self.now.donl }
+    {
+        self.donl
+    }
+
+    /// The unit without its header.
+    pub fn payload(&self) -> &[u8]
+        ensures { result.now ≡ self.now.payload }
+    {
+        self.payload.as_slice()
+    }
+
+    /// The same packet again. `OutOfMemory` is its only error.
+    pub fn clone(&self, alloc: Global) -> Result<Self, PacketError>
+        ensures same { IfOk result (λ it. it ≡ self.now) }
+        ensures memory { OnErr result (result ≡ Err PacketError.OutOfMemory) }
+    {
+        Ok(H265SingleNALUnitPacket {
+            header: self.header,
+            donl: self.donl,
+            payload: self.payload.to_vec(alloc)?,
+            has_donl: self.has_donl,
+        })
+    }
+
+    /// The buffer of the payload, to be used again.
+    pub fn into_buffer(self) -> Vec<u8> {
+        self.payload
+    }
+}
+
+impl PartialEq for H265SingleNALUnitPacket {
+    ghost use Rattle.h265_packets.specs.Payload.{single_eq};
+    ghost use Rattle.std.specs.Cmp.{partial_equiv_from_equiv};
+    ghost use Rattle.std.specs.Cmp.Rules.{comparing};
+    ghost use Rattle.std.proofs.Common.{rules};
+
+    ghost eq = { single_eq };
+
+    ghost laws = { partial_equiv_from_equiv (Prim.search (comparing, rules)) };
+
+    fn eq(&self, other: &Self) -> bool {
+        self.header == other.header
+            && self.donl == other.donl
+            && self.payload == other.payload
+            && self.has_donl == other.has_donl
+    }
+}
+
+impl Eq for H265SingleNALUnitPacket {
+    ghost use Rattle.std.specs.Cmp.Rules.{comparing};
+    ghost use Rattle.std.proofs.Common.{rules};
+
+    ghost laws = { Prim.search (comparing, rules) };
+}
