@@ -28,7 +28,6 @@ use Rattle.h26x_core.specs.Packets.{packets}
 use Rattle.h26x_core.specs.Sender.{Sender, planned, sent_by, packets_by, after, has_no_effect}
 use Rattle.h26x_core.specs.Receiver.{Receiver, Work, brought, work_after, IsOutcomeAt, IsCause}
 use Rattle.h26x_core.specs.Ends.{SenderGoesOn, ReceiverGoesOn, CarriesWhole}
-use Rattle.h26x_core.proofs.LimitLemmas.{all_both}
 use Rattle.h26x_codec.specs.Codec.{at_work, call_by}
 use Rattle.h26x_codec.specs.Runs.{entries_made, sent_of, AreMade, AreSent, IsSentCall, AreTaken, IsLeftOver, IsUnbegun, IsStoppedIn, IsStopped, AreWritten, IsFresh, AreCarriedWhole, calls_by}
 
@@ -70,13 +69,18 @@ accepted_read avc run (Aggregate units) is = tt
 accepted_read avc run (Fragment start end head number body) is = tt
 accepted_read avc run (Paci head fields extension body) is = tt
 
+-- what holds of each holds with one more
+all_with : {A : Type 0} (P : A → Type 0) (xs : List A) (x : A) → AllByRecursion P xs → P x → AllByRecursion P (xs ++ x ∷ [])
+all_with P [] x each here = (here, tt)
+all_with P (y ∷ xs) x (first, each) here = (first, all_with P xs x each here)
+
 -- nor is one packet more
 pub read_more : (w : Work) (packets : List (List ℕ)) (i : ℕ) → i < length packets →
     AllByRecursion (λ packet. IsRead (w.receiver.format.read packet)) (take i packets) → IsOutcomeAt (work_after w (take i packets)) (get_or packets i []) (Ok tt) →
     AllByRecursion (λ packet. IsRead (w.receiver.format.read packet)) (take (i + 1) packets)
 read_more w packets i within so_far outcome =
     let packet = get_or packets i [] in
-    rw ((take_at_read packets i [] within).1) (all_both (λ p. IsRead (w.receiver.format.read p)) (take i packets) (packet ∷ []) so_far (accepted_read w.receiver.is_avc (work_after w (take i packets)).receiver.run (w.receiver.format.read packet) outcome, tt))
+    rw ((take_at_read packets i [] within).1) (all_with (λ p. IsRead (w.receiver.format.read p)) (take i packets) packet so_far (accepted_read w.receiver.is_avc (work_after w (take i packets)).receiver.run (w.receiver.format.read packet) outcome))
 
 -- all packets were taken where the last of them was
 pub finished : (w : Work) (packets : List (List ℕ)) (i : ℕ) (new : Option Work) → length packets ≤ i → new ≡ Some (work_after w (take i packets)) →
