@@ -4,10 +4,12 @@
 use std::alloc::{AllocError, Global};
 use std::test::Fail;
 
+mod again;
 mod carry;
 mod constants;
 mod h264;
 mod memory;
+mod take;
 
 /// Bytes by two digits each; spaces may stand between them.
 fn bytes_of(alloc: Global, text: &str) -> Result<Vec<u8>, AllocError> {
@@ -34,6 +36,15 @@ pub(crate) fn calls_of(alloc: Global, text: &str) -> Result<Vec<(usize, Vec<u8>)
         calls.push((limit.parse::<usize>()?, bytes_of(alloc, payload)?))?;
     }
     Ok(calls)
+}
+
+/// Lists of bytes with a space between each two, `-` for none, as in `6501 - 41`.
+fn list_of(alloc: Global, text: &str) -> Result<Vec<Vec<u8>>, Fail> {
+    let mut list = Vec::new(alloc);
+    for word in text.split(' ').filter(|word| !word.is_empty()) {
+        list.push(bytes_of(alloc, word)?)?;
+    }
+    Ok(list)
 }
 
 /// A unit of 100,000 bytes without a zero, no two of whose fragments at 1200 are alike.
