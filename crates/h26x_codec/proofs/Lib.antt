@@ -1,2 +1,4 @@
+pub mod AgainLemmas
 pub mod RunLemmas
 pub mod StateLemmas
+pub mod TakeLemmas

@@ -1,16 +1,19 @@
 -- Runs go on from packet to packet and from call to call. The laws that this stands on come as arguments.
-use Rattle.std.proofs.Common.{◌≡◌, ℕ, ◌+◌, ◌<◌, ◌≤◌, Bool, true, false, cond, List, [], ◌∷◌, ◌++◌, length, map, take, drop, get_or, Option, None, Some, Result, Ok, Err, refl, sym, ap, ◌∙◌, inl, inr, subst, append_assoc, arith, Vec, Global}
-use Rattle.std.specs.Prelude.{IfOk, IfErr}
+use Rattle.std.proofs.Common.{◌≡◌, ℕ, ◌+◌, ◌<◌, ◌≤◌, Bool, true, false, cond, List, [], ◌∷◌, ◌++◌, length, map, take, drop, get_or, Option, None, Some, Result, Ok, Err, refl, sym, ap, ◌∙◌, inl, inr, subst, append_assoc, Vec, Global}
+use Rattle.std.specs.Prelude.{IfOk, IfErr, ◌⊎◌, slice_get}
 use Rattle.std.specs.Option.{option_map, option_map_or}
-use Rattle.std.specs.List.{flat_map}
-use Rattle.std.proofs.lemmas.List.{append-nil, length-map, get_or-map, take_all, take-append-drop, drop_more}
+use Rattle.std.specs.List.{flat_map, AllByRecursion}
+use Rattle.std.proofs.lemmas.List.{append-nil, take_all, take-append-drop, drop_more}
 use Rattle.std.proofs.lemmas.List.Concat.{flat_map-append}
+use Rattle.std.proofs.lemmas.Option.{slice_get-map, slice_get_read}
 use Rattle.std.proofs.lemmas.Grind.{take_at_read}
 use Rattle.h26x_core.specs.declared.extra.CodecExtra.{CodecExtra}
 use Rattle.h26x_core.specs.declared.extra.CodecExtra.TheVariants as extras
 use Rattle.h26x_core.specs.declared.error.PacketError.{PacketError}
 use Rattle.h26x_core.specs.declared.error.PacketError.TheVariants.{OutOfMemory}
 use Rattle.h26x_core.specs.Front.{IsFrontOf}
+use Rattle.h26x_core.specs.Reading.{Reading, Single, Aggregate, Fragment, Paci, Refused, IsRead}
+use Rattle.h26x_core.specs.Outcome.{IsOutcomeWith}
 use Rattle.h26x_core.specs.Format.{Format}
 use Rattle.h26x_core.specs.Group.{Entry}
 use Rattle.h26x_core.specs.Calls.{Call, AreCalls, entries_of_call, entries_of}
@@ -26,7 +29,7 @@ use Rattle.h26x_core.specs.Sender.{Sender, planned, sent_by, packets_by, after, 
 use Rattle.h26x_core.specs.Receiver.{Receiver, Work, brought, work_after, IsOutcomeAt, IsCause}
 use Rattle.h26x_core.specs.Ends.{SenderGoesOn, ReceiverGoesOn, CarriesWhole}
 use Rattle.h26x_codec.specs.Codec.{at_work, call_by}
-use Rattle.h26x_codec.specs.Runs.{entries_made, sent_of, AreMade, AreSent, IsSentCall, AreTaken, IsLeftOver, IsStopped, IsStoppedRun, AreWritten, IsFresh, AreCarriedWhole, calls_by}
+use Rattle.h26x_codec.specs.Runs.{entries_made, sent_of, AreMade, AreSent, IsSentCall, AreTaken, IsLeftOver, IsUnbegun, IsStoppedIn, IsStopped, AreWritten, IsFresh, AreCarriedWhole, calls_by}
 
 -- a beginning of a beginning is one of the whole
 pub still_front : (a b whole : List ℕ) → IsFrontOf a b → IsFrontOf b whole → IsFrontOf a whole
@@ -58,6 +61,27 @@ pub one_more : (w : Work) (packets : List (List ℕ)) (i : ℕ) (new : Option Wo
 one_more w packets i new law within taken =
     taken ∙ ap Some (law.more (take i packets) (get_or packets i [] ∷ []) ∙ ap (work_after w) (sym (take_at_read packets i [] within).1))
 
+-- what is accepted is not refused for what it is
+accepted_read : (avc : Bool) (run : Option (List ℕ)) (reading : Reading) → IsOutcomeWith avc run reading (Ok tt) → IsRead reading
+accepted_read avc run (Refused e) is = absurd cc
+accepted_read avc run (Single unit number) is = tt
+accepted_read avc run (Aggregate units) is = tt
+accepted_read avc run (Fragment start end head number body) is = tt
+accepted_read avc run (Paci head fields extension body) is = tt
+
+-- what holds of each holds with one more
+all_with : {A : Type 0} (P : A → Type 0) (xs : List A) (x : A) → AllByRecursion P xs → P x → AllByRecursion P (xs ++ x ∷ [])
+all_with P [] x each here = (here, tt)
+all_with P (y ∷ xs) x (first, each) here = (first, all_with P xs x each here)
+
+-- nor is one packet more
+pub read_more : (w : Work) (packets : List (List ℕ)) (i : ℕ) → i < length packets →
+    AllByRecursion (λ packet. IsRead (w.receiver.format.read packet)) (take i packets) → IsOutcomeAt (work_after w (take i packets)) (get_or packets i []) (Ok tt) →
+    AllByRecursion (λ packet. IsRead (w.receiver.format.read packet)) (take (i + 1) packets)
+read_more w packets i within so_far outcome =
+    let packet = get_or packets i [] in
+    rw ((take_at_read packets i [] within).1) (all_with (λ p. IsRead (w.receiver.format.read p)) (take i packets) packet so_far (accepted_read w.receiver.is_avc (work_after w (take i packets)).receiver.run (w.receiver.format.read packet) outcome))
+
 -- all packets were taken where the last of them was
 pub finished : (w : Work) (packets : List (List ℕ)) (i : ℕ) (new : Option Work) → length packets ≤ i → new ≡ Some (work_after w (take i packets)) →
     new ≡ Some (work_after w packets)
@@ -65,9 +89,9 @@ finished w packets i new past is = is ∙ ap (λ (x : List (List ℕ)). Some (wo
 
 -- where one is refused those before it were taken, and it is left
 pub stopped : (w : Work) (packets : List (List ℕ)) (i : ℕ) (e : PacketError) (new : Option Work) →
-    i < length packets → new ≡ Some (work_after w (take i packets)) → IsOutcomeAt (work_after w (take i packets)) (get_or packets i []) (Err e) →
-    IsLeftOver w packets e new
-stopped w packets i e new within left outcome = record {
+    i < length packets → new ≡ Some (work_after w (take i packets)) → AllByRecursion (λ packet. IsRead (w.receiver.format.read packet)) (take i packets) →
+    IsOutcomeAt (work_after w (take i packets)) (get_or packets i []) (Err e) → IsLeftOver w packets e new
+stopped w packets i e new within left read outcome = record {
   delivered = record {
     taken = take i packets;
     left = drop i packets;
@@ -76,6 +100,7 @@ stopped w packets i e new within left outcome = record {
     all = tt;
     cause = inr (get_or packets i [], drop (i + 1) packets, drop_more packets i [] within, outcome);
   };
+  read = read;
   some = λ none. let more = drop_more packets i [] within in cc;
 }
 
@@ -88,72 +113,68 @@ none_mapped f (x ∷ xs) is = absurd cc
 pub none_taken : (w : Work) (packets : List (List ℕ)) (new : Option Work) → ReceiverGoesOn w → new ≡ Some w → (packets ≡ [] → ⊥) → IsLeftOver w packets OutOfMemory new
 none_taken w packets new law is some = record {
   delivered = record { taken = []; left = packets; front = refl; work = is ∙ ap Some (sym law.none); all = tt; cause = inl refl };
+  read = tt;
   some = some;
 }
 
 -- a call more that is marked
-kept_more : {A : Type 0} (mask : List Bool) (xs : List A) (m : Bool) (d : A) → length mask < length xs →
-    kept (mask ++ m ∷ []) xs ≡ kept mask xs ++ cond m (get_or xs (length mask) d ∷ []) []
-kept_more mask [] m d within = absurd (omega arith)
-kept_more [] (x ∷ xs) true d within = refl
-kept_more [] (x ∷ xs) false d within = refl
-kept_more (true ∷ mask) (x ∷ xs) m d within = ap (λ ys. x ∷ ys) (kept_more mask xs m d (omega arith))
-kept_more (false ∷ mask) (x ∷ xs) m d within = kept_more mask xs m d (omega arith)
+kept_more : {A : Type 0} (mask : List Bool) (xs : List A) (m : Bool) (x : A) → slice_get xs (length mask) ≡ Some x →
+    kept (mask ++ m ∷ []) xs ≡ kept mask xs ++ cond m (x ∷ []) []
+kept_more mask [] m x is = absurd cc
+kept_more [] (y ∷ xs) true x is =
+    let same : y ≡ x = let both : Some y ≡ Some x = is in cc in
+    ap (λ z. z ∷ []) same
+kept_more [] (y ∷ xs) false x is = refl
+kept_more (true ∷ mask) (y ∷ xs) m x is = ap (λ ys. y ∷ ys) (kept_more mask xs m x is)
+kept_more (false ∷ mask) (y ∷ xs) m x is = kept_more mask xs m x is
 
 -- the mark of a call without effect
-made_more : (f : Format) (made : List Bool) (calls : List Call) (m : Bool) (d : Call) → length made < length calls → AreMade f made calls →
-    (has_no_effect f (get_or calls (length made) d) ≡ true → m ≡ true) → AreMade f (made ++ m ∷ []) calls
-made_more f made [] m d within are here = absurd (omega arith)
-made_more f [] (call ∷ calls) m d within are here = (here, tt)
-made_more f (x ∷ made) (call ∷ calls) m d within are here = (are.0, made_more f made calls m d (omega arith) are.1 here)
+made_more : (f : Format) (made : List Bool) (calls : List Call) (m : Bool) (call : Call) → slice_get calls (length made) ≡ Some call → AreMade f made calls →
+    (has_no_effect f call ≡ true → m ≡ true) → AreMade f (made ++ m ∷ []) calls
+made_more f made [] m call is are here = absurd cc
+made_more f [] (first ∷ calls) m call is are here =
+    let same : first ≡ call = let both : Some first ≡ Some call = is in cc in
+    (rw same here, tt)
+made_more f (x ∷ made) (first ∷ calls) m call is are here = (are.0, made_more f made calls m call is are.1 here)
 
 -- the entries with those of a call that was made
-entries_more : (f : Format) (made : List Bool) (calls : List Call) (d : Call) → length made < length calls →
-    entries_made f (made ++ true ∷ []) calls ≡ entries_made f made calls ++ entries_of_call f (get_or calls (length made) d)
-entries_more f made calls d within =
-    let call = get_or calls (length made) d in
-    ap (entries_of f) (kept_more made calls true d within)
+entries_more : (f : Format) (made : List Bool) (calls : List Call) (call : Call) → slice_get calls (length made) ≡ Some call →
+    entries_made f (made ++ true ∷ []) calls ≡ entries_made f made calls ++ entries_of_call f call
+entries_more f made calls call is =
+    ap (entries_of f) (kept_more made calls true call is)
     ∙ flat_map-append (entries_of_call f) (kept made calls) (call ∷ [])
     ∙ ap (λ (x : List Entry). entries_made f made calls ++ x) (append-nil (entries_of_call f call))
 
 -- the entries with a call that was not made
-entries_same : (f : Format) (made : List Bool) (calls : List Call) (d : Call) → length made < length calls →
+entries_same : (f : Format) (made : List Bool) (calls : List Call) (call : Call) → slice_get calls (length made) ≡ Some call →
     entries_made f (made ++ false ∷ []) calls ≡ entries_made f made calls
-entries_same f made calls d within = ap (entries_of f) (kept_more made calls false d within ∙ append-nil (kept made calls))
-
--- a call that stands at a place of a run
-pub record IsNext (made : List Bool) (calls : List Call) (call : Call) : Type 0 where
-  pub within : length made < length calls
-  pub is : get_or calls (length made) call ≡ call
+entries_same f made calls call is = ap (entries_of f) (kept_more made calls false call is ∙ append-nil (kept made calls))
 
 -- the call at a place, of calls as a run is given them
 pub next_call : (s : Sender) (calls : List (ℕ × Vec ℕ Global)) (made : List Bool) (i : ℕ) (x : ℕ × Vec ℕ Global) (call : Call) →
-    i < length calls → length made ≡ i → call_by s (get_or calls i x).0 (get_or calls i x).1.items ≡ call → IsNext made (calls_by s calls) call
-next_call s calls made i x call within at is = record {
-  within = rw (at, length-map) within;
-  is = ap (λ (k : ℕ). get_or (calls_by s calls) k call) at ∙ get_or-map (λ (c : ℕ × Vec ℕ Global). call_by s c.0 c.1.items) calls i x call within ∙ is;
-}
+    i < length calls → length made ≡ i → x ≡ get_or calls i x → call_by s x.0 x.1.items ≡ call → slice_get (calls_by s calls) (length made) ≡ Some call
+next_call s calls made i x call within at is same =
+    let as_call = λ (c : ℕ × Vec ℕ Global). call_by s c.0 c.1.items in
+    ap (slice_get (calls_by s calls)) at ∙ slice_get-map as_call calls i ∙ ap (option_map as_call) (slice_get_read calls (length calls) i x refl within is) ∙ ap Some same
 
 -- a call more
 pub sent_more : (s : Sender) (calls : List Call) (made : List Bool) (m : Bool) (call : Call) (packets new : List (List ℕ)) (before sender : Option Sender) →
-    SenderGoesOn s → IsNext made calls call → AreSent s calls made packets before →
+    SenderGoesOn s → slice_get calls (length made) ≡ Some call → AreSent s calls made packets before →
     IsSentCall (after s (entries_made s.format made calls)) call (Ok m) packets new sender →
     AreSent s calls (made ++ m ∷ []) new sender
 sent_more s calls made true call packets new before sender goes next are (more_packets, stands) =
     let es = entries_made s.format made calls in
-    let more : entries_made s.format (made ++ true ∷ []) calls ≡ es ++ entries_of_call s.format call =
-    entries_more s.format made calls call next.within ∙ ap (λ (c : Call). es ++ entries_of_call s.format c) next.is in
+    let more : entries_made s.format (made ++ true ∷ []) calls ≡ es ++ entries_of_call s.format call = entries_more s.format made calls call next in
     record {
-      marks = made_more s.format made calls true call next.within are.marks (λ none. refl);
+      marks = made_more s.format made calls true call next are.marks (λ none. refl);
       packets_are = more_packets ∙ ap (λ (x : List (List ℕ)). x ++ packets_by (after s es) (entries_of_call s.format call)) are.packets_are
           ∙ sym (goes.packets es (entries_of_call s.format call)) ∙ ap (packets_by s) (sym more);
       stands = stands ∙ ap Some (sym (goes.later es (entries_of_call s.format call)) ∙ ap (after s) (sym more));
     }
 sent_more s calls made false call packets new before sender goes next are (effect, same_packets, stands) =
-    let same = entries_same s.format made calls call next.within in
-    let at : has_no_effect s.format (get_or calls (length made) call) ≡ false = ap (has_no_effect s.format) next.is ∙ effect in
+    let same = entries_same s.format made calls call next in
     record {
-      marks = made_more s.format made calls false call next.within are.marks (λ none. absurd cc);
+      marks = made_more s.format made calls false call next are.marks (λ none. absurd cc);
       packets_are = same_packets ∙ are.packets_are ∙ ap (packets_by s) (sym same);
       stands = stands ∙ ap (λ (x : List Entry). Some (after s x)) (sym same);
     }
@@ -166,30 +187,28 @@ taken_more w packets new work takes (more, is, taken) =
 
 -- a call one of whose packets is left
 pub run_stopped : (s : Sender) (w : Work) (calls : List Call) (made : List Bool) (call : Call) (packets : List (List ℕ)) (e : PacketError) (before sender : Option Sender) (work : Option Work) →
-    SenderGoesOn s → ReceiverGoesOn w → IsNext made calls call → AreSent s calls made packets before →
+    SenderGoesOn s → ReceiverGoesOn w → slice_get calls (length made) ≡ Some call → AreSent s calls made packets before →
     sender ≡ Some (after (after s (entries_made s.format made calls)) (entries_of_call s.format call)) →
     IsLeftOver (work_after w packets) (packets_by (after s (entries_made s.format made calls)) (entries_of_call s.format call)) e work →
-    IsStopped s w calls e sender work
+    IsStoppedIn s w calls e sender work
 run_stopped s w calls made call packets e before sender work goes takes next are stands over =
     let es = entries_made s.format made calls in
     let del = over.delivered in
-    let more : entries_made s.format (made ++ true ∷ []) calls ≡ es ++ entries_of_call s.format call =
-    entries_more s.format made calls call next.within ∙ ap (λ (c : Call). es ++ entries_of_call s.format c) next.is in
+    let more : entries_made s.format (made ++ true ∷ []) calls ≡ es ++ entries_of_call s.format call = entries_more s.format made calls call next in
+    let so_far : work_after (work_after w packets) del.taken ≡ work_after w (packets_by s es ++ del.taken) =
+    takes.more packets del.taken ∙ ap (λ (x : List (List ℕ)). work_after w (x ++ del.taken)) are.packets_are in
     record {
-      made = made ++ true ∷ [];
-      marks = made_more s.format made calls true call next.within are.marks (λ none. refl);
+      made = made;
+      call = call;
+      marks = are.marks;
+      place = next;
       stands = stands ∙ ap Some (sym (goes.later es (entries_of_call s.format call)) ∙ ap (after s) (sym more));
-      delivered = record {
-        taken = packets ++ del.taken;
-        left = del.left;
-        front = ap (packets_by s) more ∙ goes.packets es (entries_of_call s.format call)
-            ∙ ap (λ (x : List (List ℕ)). x ++ packets_by (after s es) (entries_of_call s.format call)) (sym are.packets_are)
-            ∙ ap (λ (x : List (List ℕ)). packets ++ x) del.front ∙ sym (append_assoc packets del.taken del.left);
-        work = del.work ∙ ap Some (takes.more packets del.taken);
-        all = tt;
-        cause = subst (λ (x : Work). IsCause x del.left e) (takes.more packets del.taken) del.cause;
-      };
-      some = λ none. absurd (over.some none);
+      taken = del.taken;
+      left = del.left;
+      own = del.front;
+      some = over.some;
+      front = del.work ∙ ap Some so_far;
+      cause = subst (λ (x : Work). IsCause x del.left e) so_far del.cause;
     }
 
 -- what follows of an answer that is no refusal
@@ -207,6 +226,11 @@ pub if_both : {T E : Type 0} {P Q R : T → Type 0} (r : Result T E) → ((x : T
 if_both (Ok x) f p q = f x p q
 if_both (Err e) f p q = p
 
+-- what follows of three
+pub if_three : {T E : Type 0} {P Q R S : T → Type 0} (r : Result T E) → ((x : T) → P x → Q x → R x → S x) → IfOk r P → IfOk r Q → IfOk r R → IfOk r S
+if_three (Ok x) f p q t = f x p q t
+if_three (Err e) f p q t = p
+
 -- the calls of a packetizer bear its largest size
 pub calls_small : (s : Sender) → s.largest ≤ 65535 → (made : List Bool) (calls : List (ℕ × Vec ℕ Global)) → AreCalls (kept made (calls_by s calls))
 calls_small s small [] calls = tt
@@ -223,12 +247,27 @@ written_of o new extra w packets units is brings =
     let parts = work_parts o new extra (work_after w packets) is in
     rw (← brings) (parts.is_out, parts.is_extra)
 
--- a run that ended in a refusal ended for want of memory where all it sent is carried
-pub stopped_run : (s : Sender) (w : Work) (calls : List Call) (e : PacketError) (sender : Option Sender) (work : Option Work) →
+-- a run that stopped lacked memory where all it sent is carried
+pub stopped_run : (s : Sender) (w : Work) (calls : List Call) (e : PacketError) (sender : Option Sender) (work : Option Work) → SenderGoesOn s →
     ((made : List Bool) → w.receiver.format ≡ s.format → AreCarried s.format (sent_of s made calls) → CarriesWhole s w (kept made calls)) →
-    IsStopped s w calls e sender work → IsStoppedRun s w calls e sender work
-stopped_run s w calls e sender work law it =
-    (it, λ same carried short. (law it.made same carried).refused short it.delivered.taken it.delivered.left e it.delivered.front it.delivered.cause)
+    (IsUnbegun s w e sender work ⊎ IsStoppedIn s w calls e sender work) → IsStopped s w calls e sender work
+stopped_run s w calls e sender work goes law (inl it) = inl it
+stopped_run s w calls e sender work goes law (inr it) =
+    let es = entries_made s.format it.made calls in
+    let front : packets_by s (entries_made s.format (it.made ++ true ∷ []) calls) ≡ (packets_by s es ++ it.taken) ++ it.left =
+    ap (packets_by s) (entries_more s.format it.made calls it.call it.place) ∙ goes.packets es (entries_of_call s.format it.call)
+    ∙ ap (λ (x : List (List ℕ)). packets_by s es ++ x) it.own ∙ sym (append_assoc (packets_by s es) it.taken it.left) in
+    inr (it, λ same carried short. (law (it.made ++ true ∷ []) same carried).refused short (packets_by s es ++ it.taken) it.left e front it.cause)
+
+-- what a fresh packetizer plans is the plan of all
+pub fresh_plan : (s : Sender) (entries : List Entry) → IsFresh s → plan s.format entries ≡ plan_with s.format none_waiting entries → planned s entries ≡ plan s.format entries
+fresh_plan s entries fresh planned_is = ap (λ (x : Waiting). plan_with s.format x entries) fresh.0 ∙ sym planned_is
+
+-- so are its packets
+pub fresh_packets : (s : Sender) (entries : List Entry) → IsFresh s → plan s.format entries ≡ plan_with s.format none_waiting entries →
+    packets_by s entries ≡ packets s.format 0 (plan s.format entries)
+fresh_packets s entries fresh planned_is =
+    ap (λ (n : ℕ). packets s.format n (planned s entries)) fresh.1 ∙ ap (packets s.format 0) (fresh_plan s entries fresh planned_is)
 
 -- what a fresh pair is known by
 pub record IsFreshPair (s : Sender) (r : Receiver) (extra : CodecExtra) : Type 0 where
@@ -247,10 +286,9 @@ pub of_fresh : (s : Sender) (w : Work) (calls : List Call) (made : List (List �
 of_fresh s w calls made new told pair goes fewest planned_is law is whole =
     let f = s.format in
     let entries = entries_of f calls in
-    let same_plan : planned s entries ≡ plan f entries = ap (λ (x : Waiting). plan_with f x entries) pair.fresh.0 ∙ sym planned_is in
-    let units : sent f entries ≡ sent_by s entries = ap (flat_map units_of_item) (sym same_plan) in
+    let units : sent f entries ≡ sent_by s entries = ap (flat_map units_of_item) (sym (fresh_plan s entries pair.fresh planned_is)) in
     record {
-      packets_are = is ∙ ap (λ (n : ℕ). packets f n (planned s entries)) pair.fresh.1 ∙ ap (packets f 0) same_plan;
+      packets_are = is ∙ fresh_packets s entries pair.fresh planned_is;
       within = goes.within calls;
       fewest = fewest;
       written = λ carried. (whole (subst (AreCarried f) units carried)).0 ∙ ap (λ (us : List (List ℕ)). w.out ++ text w.receiver.is_avc us) (sym units);

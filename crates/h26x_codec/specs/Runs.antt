@@ -1,9 +1,11 @@
 -- What a run does: calls of a packetizer, and their packets through a depacketizer.
-use Rattle.std.specs.Prelude.{◌≡◌, ℕ, Bool, true, false, List, [], ◌∷◌, ◌++◌, map, Option, Some, Result, Ok, Err, Vec}
+use Rattle.std.specs.Prelude.{◌≡◌, ℕ, Bool, true, false, List, [], ◌∷◌, ◌++◌, length, map, Option, Some, Result, Ok, Err, Vec, ◌⊎◌, slice_get}
 use Rattle.std.specs.Global.{Global}
+use Rattle.std.specs.List.{AllByRecursion}
 use Rattle.h26x_core.specs.declared.extra.CodecExtra.{CodecExtra}
 use Rattle.h26x_core.specs.declared.error.PacketError.{PacketError}
 use Rattle.h26x_core.specs.declared.error.PacketError.TheVariants.{OutOfMemory}
+use Rattle.h26x_core.specs.Reading.{IsRead}
 use Rattle.h26x_core.specs.Format.{Format}
 use Rattle.h26x_core.specs.Group.{Entry}
 use Rattle.h26x_core.specs.Calls.{Call, entries_of_call, entries_of, packets_of}
@@ -15,7 +17,7 @@ use Rattle.h26x_core.specs.Facts.{AreCarried}
 use Rattle.h26x_core.specs.Rival.{TakesFewestFragments}
 use Rattle.h26x_core.specs.Waits.{none_waiting}
 use Rattle.h26x_core.specs.Sender.{Sender, sent_by, packets_by, after, has_no_effect, AreWithinLimits}
-use Rattle.h26x_core.specs.Receiver.{Receiver, AreShort, Work, work_after, AreDelivered}
+use Rattle.h26x_core.specs.Receiver.{Receiver, AreShort, Work, work_after, IsCause, AreDelivered}
 use Rattle.h26x_codec.specs.Codec.{call_by}
 
 -- calls of a packetizer: an mtu and a payload each
@@ -62,32 +64,52 @@ abbrev pub AreTaken : Work → List (List ℕ) → List (List ℕ) → Option Wo
 AreTaken w packets new work =
     (more : List (List ℕ)) × (new ≡ packets ++ more) × (work ≡ Some (work_after w more))
 
--- A delivery that stopped: a front of the packets was taken, and some are left.
+-- A delivery that stopped: a front of the packets was taken, none of which is refused for what it
+-- is, and some are left.
 pub record IsLeftOver (w : Work) (packets : List (List ℕ)) (error : PacketError)
     (new : Option Work) : Type 0 where
   pub delivered : AreDelivered {A = Bool} w packets (Err error) new
+  pub read : AllByRecursion (λ packet. IsRead (w.receiver.format.read packet)) delivered.taken
   pub some : delivered.left ≡ [] → ⊥
 
--- What a run has done that ended in a refusal: the packetizer stands after the calls made, and the
--- depacketizer has taken a front of their packets; then memory lacked, or the next packet is
--- refused. No packet is left only where not even one call was made.
-pub record IsStopped (s : Sender) (w : Work) (calls : List Call) (error : PacketError)
+-- a run for whose marks there was no room: nothing was done
+abbrev pub IsUnbegun : Sender → Work → PacketError → Option Sender → Option Work → Type 0
+IsUnbegun s w error sender work =
+    (error ≡ OutOfMemory) × (sender ≡ Some s) × (work ≡ Some w)
+
+-- A run that stopped in a call, which was made as those before it that these marks name. All packets
+-- of these were taken, and of its own packets a front; then memory lacked, or the next is refused.
+pub record IsStoppedIn (s : Sender) (w : Work) (calls : List Call) (error : PacketError)
     (sender : Option Sender) (work : Option Work) : Type 0 where
   pub made : List Bool
+  pub call : Call
   pub marks : AreMade s.format made calls
-  pub stands : sender ≡ Some (after s (entries_made s.format made calls))
-  pub delivered : AreDelivered {A = Bool} w (packets_by s (entries_made s.format made calls))
-      (Err error) work
-  pub some : delivered.left ≡ [] → made ≡ []
+  pub place : slice_get calls (length made) ≡ Some call
+  pub stands : sender ≡ Some (after s (entries_made s.format (made ++ true ∷ []) calls))
+  pub taken : List (List ℕ)
+  pub left : List (List ℕ)
+  pub own : packets_by (after s (entries_made s.format made calls))
+      (entries_of_call s.format call) ≡ taken ++ left
+  pub some : left ≡ [] → ⊥
+  pub front : work ≡ Some (work_after w
+      (packets_by s (entries_made s.format made calls) ++ taken))
+  pub cause : IsCause (work_after w (packets_by s (entries_made s.format made calls) ++ taken))
+      left error
 
--- a run that stopped; where the units that it sent can be carried, and in AVC form none is too
--- long, memory lacked
-abbrev pub IsStoppedRun : Sender → Work → List Call → PacketError → Option Sender → Option Work →
+-- where the units that were sent can be carried, and in AVC form none is too long, memory lacked
+abbrev pub LacksMemory : (s : Sender) (w : Work) (calls : List Call) (error : PacketError) →
+    List Bool → Type 0
+LacksMemory s w calls error made =
+    AreCarried s.format (sent_of s made calls) →
+    (w.receiver.is_avc ≡ true → AreShort (sent_of s made calls)) → error ≡ OutOfMemory
+
+-- what a run has done that ended in a refusal
+abbrev pub IsStopped : Sender → Work → List Call → PacketError → Option Sender → Option Work →
     Type 0
-IsStoppedRun s w calls error sender work =
-    (it : IsStopped s w calls error sender work)
-    × (w.receiver.format ≡ s.format → AreCarried s.format (sent_of s it.made calls) →
-    (w.receiver.is_avc ≡ true → AreShort (sent_of s it.made calls)) → error ≡ OutOfMemory)
+IsStopped s w calls error sender work =
+    IsUnbegun s w error sender work
+    ⊎ ((it : IsStoppedIn s w calls error sender work)
+    × (w.receiver.format ≡ s.format → LacksMemory s w calls error (it.made ++ true ∷ [])))
 
 -- `out` grew by the text of these units and by nothing else, and the extra is the one after them
 abbrev pub AreWritten : Receiver → List (List ℕ) → List ℕ → List ℕ → CodecExtra → CodecExtra →

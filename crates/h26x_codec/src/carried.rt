@@ -32,7 +32,7 @@ impl Packets {
     pub fn as_slice(&self) -> &[Vec<u8>]
         ensures { contents result.now ≡ self.now }
     {
-        self.list.as_slice()
+        &self.list
     }
 
     /// The packets as a vector. It takes no memory.
@@ -46,7 +46,7 @@ impl Packets {
 /// Of each call of a run whether it was made.
 #[derive(Debug, Drop)]
 pub struct Marks {
-    list: Vec<bool>,
+    marks: Vec<bool>,
 }
 
 impl Model for Marks {
@@ -54,29 +54,29 @@ impl Model for Marks {
 
     ghost Value = { List Bool };
 
-    ghost view = { λ a. a.list.items };
+    ghost view = { λ a. a.marks.items };
 }
 
 impl Marks {
     /// These marks, one for each call. It takes no memory.
-    pub fn from_vec(list: Vec<bool>) -> Self
-        ensures { result ≡ list.items }
+    pub fn from_vec(marks: Vec<bool>) -> Self
+        ensures { result ≡ marks.items }
     {
-        Marks { list }
+        Marks { marks }
     }
 
     /// The mark of each call.
     pub fn as_slice(&self) -> &[bool]
         ensures { result.now ≡ self.now }
     {
-        self.list.as_slice()
+        &self.marks
     }
 
     /// The marks as a vector. It takes no memory.
     pub fn into_vec(self) -> Vec<bool>
         ensures { result.items ≡ self }
     {
-        self.list
+        self.marks
     }
 }
 

@@ -15,10 +15,14 @@ mod carried;
 mod codec;
 mod depacketizer;
 mod packetizer;
+mod repeated;
 mod runs;
+mod take;
 
 pub use carried::{Carried, Marks, Packets};
 pub use codec::Codec;
 pub use depacketizer::CodecDepacketizer;
 pub use packetizer::CodecPacketizer;
+pub use repeated::{Repeated, again};
 pub use runs::carry;
+pub use take::take_all;

@@ -1,6 +1,6 @@
 //! Whole runs: calls of a packetizer, and their packets through a depacketizer.
 
-ghost use Rattle.std.specs.Prelude.{◌≡◌, IfOk, IfErr, length, map, Some, None};
+ghost use Rattle.std.specs.Prelude.{◌≡◌, ◌⊎◌, IfOk, IfErr, length, map, Some, None};
 ghost use Rattle.h26x_core.specs.Calls.{entries_of_call};
 ghost use Rattle.h26x_core.specs.Loss.{kept};
 ghost use Rattle.h26x_core.specs.Front.{IsFrontOf};
@@ -14,7 +14,7 @@ ghost use Rattle.h26x_core.specs.Sender.{Sender, planned, packets_by, after, Are
 ghost use Rattle.h26x_core.specs.Receiver.{Receiver, Work, work_after};
 ghost use Rattle.h26x_payload.specs.Sending.{contents};
 ghost use Rattle.h26x_codec.specs.Codec.{sender_of, receiver_of, at_work, work_of, call_by};
-ghost use Rattle.h26x_codec.specs.Runs.{AreSent, IsSentCall, AreTaken, IsLeftOver, IsStopped, IsStoppedRun, AreMade, AreWritten, IsFresh, AreCarriedWhole, calls_by, entries_made, sent_of};
+ghost use Rattle.h26x_codec.specs.Runs.{AreSent, IsSentCall, AreTaken, IsLeftOver, IsUnbegun, IsStoppedIn, IsStopped, AreMade, AreWritten, IsFresh, AreCarriedWhole, calls_by, entries_made, sent_of};
 
 use crate::carried::{Carried, Marks, Packets};
 use crate::depacketizer::CodecDepacketizer;
@@ -100,7 +100,9 @@ fn run_calls(
         ≡ Some (work_after w carried.packets)) }
     ensures stopped { (s : Sender) (w : Work) → sender_of p.old ≡ Some s →
         work_of d.old out.old.items extra.old ≡ Some w →
-        IfErr result (λ error. IsStopped s w (calls_by s calls.now) error (sender_of p.new)
+        IfErr result (λ error. IsUnbegun s w error (sender_of p.new)
+        (work_of d.new out.new.items extra.new)
+        ⊎ IsStoppedIn s w (calls_by s calls.now) error (sender_of p.new)
         (work_of d.new out.new.items extra.new)) }
     ensures kept { IsFrontOf out.old.items out.new.items }
 {
@@ -185,10 +187,10 @@ pub fn carry(
         IfOk result (λ carried. AreWritten r (received (map r.format.read carried.packets))
         out.old.items out.new.items extra.old extra.new) }
 
-    // After a refusal: what a front of the packets wrote, and why it stopped there.
+    // After a refusal: what a front of the packets wrote, in which call it stopped, and why.
     ensures stopped { (s : Sender) (r : Receiver) → sender_of p.old ≡ Some s →
         receiver_of d.old ≡ Some r →
-        IfErr result (λ error. IsStoppedRun s (at_work r out.old.items extra.old)
+        IfErr result (λ error. IsStopped s (at_work r out.old.items extra.old)
         (calls_by s calls.now) error (sender_of p.new)
         (work_of d.new out.new.items extra.new)) }
     ensures kept { IsFrontOf out.old.items out.new.items }

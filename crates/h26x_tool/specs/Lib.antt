@@ -1,1 +1,1 @@
-pub mod Carry
+pub mod Plain

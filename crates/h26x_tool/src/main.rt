@@ -1,10 +1,13 @@
-//! Reads lines that cut H.264 payloads into RTP payloads and put them together, and prints the
-//! answers. `line::Line` says what the lines are.
+//! Reads lines that cut payloads of H.264, H.265 and H.266 into RTP payloads and put them together,
+//! and prints the answers. `line::Line` says what the lines are.
 #![tactic(auto)]
 
-mod carry;
+mod answers;
+mod digits;
 mod line;
+pub mod plain;
 mod run;
+mod settings;
 
 use run::run;
 use std::io;

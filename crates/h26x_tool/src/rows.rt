@@ -2,7 +2,9 @@
 //! crate that this is a port of have them.
 
 use std::alloc::{AllocError, Global};
+use std::test::Fail;
 
+mod carry;
 mod constants;
 mod h264;
 mod memory;
@@ -24,8 +26,18 @@ fn bytes_of(alloc: Global, text: &str) -> Result<Vec<u8>, AllocError> {
     Ok(bytes)
 }
 
+/// Calls by their limits and payloads, as in `5:6501 1200:`.
+pub(crate) fn calls_of(alloc: Global, text: &str) -> Result<Vec<(usize, Vec<u8>)>, Fail> {
+    let mut calls = Vec::new(alloc);
+    for call in text.split(' ') {
+        let (limit, payload) = call.split_once(':').ok_or("a call without a limit")?;
+        calls.push((limit.parse::<usize>()?, bytes_of(alloc, payload)?))?;
+    }
+    Ok(calls)
+}
+
 /// A unit of 100,000 bytes without a zero, no two of whose fragments at 1200 are alike.
-pub(crate) fn long_unit(alloc: Global) -> Result<Vec<u8>, AllocError> {
+fn long_unit(alloc: Global) -> Result<Vec<u8>, AllocError> {
     let mut unit = Vec::with_capacity(alloc, 100_000)?;
     unit.push(0x65)?;
     for place in 1..100_000u32 {

@@ -1,8 +1,12 @@
-//! The program's lines: what each does, and what is answered.
+//! The program, from a reader to a writer.
 
+use crate::answers::Answers;
+use crate::digits::Digits;
 use crate::line::{Line, read_line};
-use h26x_core::{CodecExtra, Depacketizer, PacketError, Packetizer};
-use h264_payload::{H264Depacketizer, H264Packetizer};
+use crate::settings::{set_avc, set_numbers, set_size};
+use h26x_codec::{Codec, CodecDepacketizer, CodecPacketizer, carry};
+use h26x_core::{CodecExtra, Depacketizer, Packetizer};
+use memchr::memchr;
 use std::alloc::{AllocError, Global};
 use std::io;
 use std::io::{Read, Write};
@@ -19,7 +23,7 @@ pub enum RunError {
     #[error("h26x: write failed")]
     Write,
 
-    /// No memory for the input, for a line's bytes or for an answer's text.
+    /// No memory for the input, for a line's bytes or for the buffer of the answers.
     #[error("h26x: no memory")]
     OutOfMemory,
 }
@@ -43,127 +47,70 @@ fn read_error(error: io::Error) -> RunError {
     }
 }
 
-/// The ends that the lines drive, and what was told of the units so far.
-#[derive(Debug, Drop)]
-struct Session {
-    alloc: Global,
-    packetizer: H264Packetizer,
-    depacketizer: H264Depacketizer,
-    extra: CodecExtra,
-}
-
-impl Session {
-    fn new(alloc: Global) -> Self {
-        Session {
-            alloc,
-            packetizer: H264Packetizer::new(alloc),
-            depacketizer: H264Depacketizer::new(alloc),
-            extra: CodecExtra::None,
-        }
-    }
-
-    /// Does what a line says, and writes the answer.
-    fn answer<W: Write>(&mut self, line: Line, writer: &mut W) -> Result<(), RunError> {
-        match line {
-            Line::Blank => Ok(()),
-            Line::Codec => {
-                *self = Session::new(self.alloc);
-                say(writer, "ok")
-            }
-            Line::Avc { is_on } => {
-                self.depacketizer.is_avc = is_on;
-                say(writer, "ok")
-            }
-            Line::Pack { limit, payload } => self.pack(limit, &payload, writer),
-            Line::Unpack { packet } => self.unpack(&packet, writer),
-            Line::Key => say(
-                writer,
-                match self.extra {
-                    CodecExtra::None => "key none",
-                    CodecExtra::H264(told) if told.is_keyframe => "key true",
-                    CodecExtra::H265(told) if told.is_keyframe => "key true",
-                    CodecExtra::H266(told) if told.is_keyframe => "key true",
-                    _ => "key false",
-                },
-            ),
-            Line::Bad => say(writer, "bad line"),
-        }
-    }
-
-    fn pack<W: Write>(
-        &mut self,
-        limit: usize,
-        payload: &[u8],
-        writer: &mut W,
-    ) -> Result<(), RunError> {
-        match self.packetizer.packetize(limit, payload) {
-            Ok(packets) => {
-                for packet in &packets {
-                    say_bytes(self.alloc, writer, "packet", packet)?;
-                }
-                say(writer, "done")
-            }
-            Err(error) => say_refused(writer, error),
-        }
-    }
-
-    fn unpack<W: Write>(&mut self, packet: &[u8], writer: &mut W) -> Result<(), RunError> {
-        let mut out = Vec::new(self.alloc);
-        match self
-            .depacketizer
-            .depacketize(packet, &mut out, &mut self.extra)
-        {
-            Ok(()) => say_bytes(self.alloc, writer, "out", &out),
-            Err(error) => say_refused(writer, error),
-        }
-    }
-}
-
-fn say<W: Write>(writer: &mut W, answer: &str) -> Result<(), RunError> {
-    writeln!(writer, "{answer}").map_err(|_| RunError::Write)
-}
-
-/// A word and bytes in lower case, `-` for none.
-fn say_bytes<W: Write>(
-    alloc: Global,
-    writer: &mut W,
-    word: &str,
-    bytes: &[u8],
-) -> Result<(), RunError> {
-    if bytes.is_empty() {
-        return writeln!(writer, "{word} -").map_err(|_| RunError::Write);
-    }
-    let text = hex::encode(alloc, bytes)?;
-    writeln!(writer, "{word} {text}").map_err(|_| RunError::Write)
-}
-
-/// The error's name, and its numbers.
-fn say_refused<W: Write>(writer: &mut W, error: PacketError) -> Result<(), RunError> {
-    match error {
-        PacketError::NaluTypeIsNotHandled(nalu_type) => {
-            writeln!(writer, "refused NaluTypeIsNotHandled {nalu_type}")
-        }
-        PacketError::StapASizeLargerThanBuffer(length, left) => {
-            writeln!(writer, "refused StapASizeLargerThanBuffer {length} {left}")
-        }
-        _ => writeln!(writer, "refused {error:?}"),
-    }
-    .map_err(|_| RunError::Write)
-}
-
 /// Reads all input, and then answers line by line. A line ends at LF or at the end of the input.
 pub fn run<R: Read + Drop, W: Write + Drop>(
     alloc: Global,
     mut reader: R,
-    mut writer: W,
+    writer: W,
 ) -> Result<(), RunError> {
     let mut input = Vec::new(alloc);
     reader.read_to_end(&mut input).map_err(read_error)?;
-    let mut session = Session::new(alloc);
-    for line in input.split(|byte| *byte == b'\n') {
-        session.answer(read_line(alloc, line)?, &mut writer)?;
+    let mut answers = Answers::new(alloc, writer)?;
+    answer_lines(alloc, &input, &mut answers)?;
+    answers.flush()
+}
+
+/// Does what each line says, and answers it.
+///
+/// The ends stand in no signature of this crate where a call of theirs is made: the language takes
+/// every call of another crate that may change an end for one that may put another into its box.
+fn answer_lines<W: Write + Drop>(
+    alloc: Global,
+    mut rest: &[u8],
+    answers: &mut Answers<W>,
+) -> Result<(), RunError> {
+    let digits = Digits::new();
+    let mut packetizer = CodecPacketizer::new(alloc, Codec::H264);
+    let mut depacketizer = CodecDepacketizer::new(alloc, Codec::H264);
+    let mut extra = CodecExtra::None;
+    let mut out = Vec::new(alloc);
+    loop {
+        let end = memchr(b'\n', rest).unwrap_or(rest.len());
+        out.clear();
+        let answered = match read_line(alloc, &digits, &rest[..end])? {
+            Line::Blank => Ok(()),
+            Line::Codec(codec) => {
+                packetizer = CodecPacketizer::new(alloc, codec);
+                depacketizer = CodecDepacketizer::new(alloc, codec);
+                extra = CodecExtra::None;
+                answers.say("ok")
+            }
+            Line::Donl { is_on } => {
+                answers.say_set(set_numbers(&mut packetizer, &mut depacketizer, is_on))
+            }
+            Line::Avc { is_on } => answers.say_set(set_avc(&mut depacketizer, is_on)),
+            Line::Size { largest } => answers.say_set(set_size(&mut packetizer, largest)),
+            Line::Pack { limit, payload } => {
+                answers.say_packed(packetizer.packetize(limit, &payload))
+            }
+            Line::Unpack { packet } => {
+                let taken = depacketizer.depacketize(&packet, &mut out, &mut extra);
+                answers.say_unpacked(taken, &out)
+            }
+            Line::Carry { limit, payload } => {
+                let (p, d) = (&mut packetizer, &mut depacketizer);
+                let carried = carry(alloc, p, d, &[(limit, payload)], &mut out, &mut extra);
+                answers.say_carried(carried, &out)
+            }
+            Line::Key => answers.say_key(extra),
+            Line::Bad => answers.say("bad line"),
+        };
+        answered?;
+        match rest.get(end.saturating_add(1)..) {
+            Some(behind) => rest = behind,
+            None => return Ok(()),
+        }
     }
-    writer.flush().map_err(|_| RunError::Write)
 }
 
 #[cfg(test)]

@@ -1,41 +1,6 @@
-ghost use Rattle.std.specs.Prelude.{[]};
-
 use super::*;
 use h26x_core::{ANNEXB_NALUSTART_CODE, H264CodecExtra, H265CodecExtra, H266CodecExtra};
 use std::test::Fail;
-
-/// Appends packets as they are. An empty one is too short.
-#[derive(Debug, Drop)]
-struct PlainDepacketizer;
-
-impl Depacketizer for PlainDepacketizer {
-    ghost meaning = { λ it. [] };
-
-    fn out_size_hint(&self, packets_size: usize) -> Option<usize> {
-        Some(packets_size)
-    }
-
-    fn depacketize(
-        &mut self,
-        packet: &[u8],
-        out: &mut Vec<u8>,
-        _codec_extra: &mut CodecExtra,
-    ) -> Result<(), PacketError> {
-        if packet.is_empty() {
-            return Err(PacketError::ErrShortPacket);
-        }
-        out.extend_from_slice(packet)?;
-        Ok(())
-    }
-
-    fn is_partition_head(&self, _packet: &[u8]) -> bool {
-        true
-    }
-
-    fn is_partition_tail(&self, marker: bool, _packet: &[u8]) -> bool {
-        marker
-    }
-}
 
 const CODECS: [Codec; 3] = [Codec::H264, Codec::H265, Codec::H266];
 
@@ -172,27 +137,7 @@ fn heads_and_tails(rt: HostRuntime) -> Result<(), Fail> {
 }
 
 #[test]
-fn a_depacketizer_in_a_box(rt: HostRuntime) -> Result<(), Fail> {
-    let mut depacketizer = CodecDepacketizer::Boxed(Box::new(rt.alloc(), PlainDepacketizer)?);
-    let mut out = vec![in rt.alloc(); 9]?;
-    let mut extra = key_of(Codec::H265);
-    depacketizer.depacketize(&[1, 2], &mut out, &mut extra)?;
-    let refused = depacketizer.depacketize(&[], &mut out, &mut extra);
-    assert_eq!(rt; refused, Err(PacketError::ErrShortPacket));
-    assert_eq!(rt; out.as_slice(), [9, 1, 2].as_slice());
-    assert_eq!(rt; extra, key_of(Codec::H265));
-    assert_eq!(rt; depacketizer.out_size_hint(2400), Some(2400));
-    assert!(rt; depacketizer.is_partition_head(&[]));
-    assert!(rt; depacketizer.is_partition_tail(true, &[]));
-    assert!(rt; !depacketizer.is_partition_tail(false, &[]));
-    Ok(())
-}
-
-#[test]
 fn debug_text(rt: HostRuntime) -> Result<(), Fail> {
-    let depacketizer = CodecDepacketizer::Boxed(Box::new(rt.alloc(), PlainDepacketizer)?);
-    let text = format!(in rt.alloc(); "{depacketizer:?}")?;
-    assert_eq!(rt; text.as_str(), "Boxed");
     for (codec, front) in [
         (Codec::H264, "H264("),
         (Codec::H265, "H265("),

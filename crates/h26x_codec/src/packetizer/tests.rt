@@ -1,29 +1,5 @@
-ghost use Rattle.std.specs.Prelude.{[]};
-
 use super::*;
 use std::test::Fail;
-
-/// Sends a payload as one packet, whatever the limit, and an empty one not at all.
-#[derive(Debug, Drop)]
-struct PlainPacketizer {
-    alloc: Global,
-}
-
-impl Packetizer for PlainPacketizer {
-    ghost meaning = { λ it. [] };
-
-    fn packetize(&mut self, _mtu: usize, b: &[u8]) -> Result<Vec<Vec<u8>>, PacketError> {
-        let mut packets = Vec::new(self.alloc);
-        if !b.is_empty() {
-            packets.push(b.to_vec(self.alloc)?)?;
-        }
-        Ok(packets)
-    }
-
-    fn is_marker(&mut self, _data: &[u8], _previous: Option<&[u8]>, last: bool) -> bool {
-        last
-    }
-}
 
 /// A payload of one unit of H.265 or H.266.
 const UNIT: [u8; 3] = [2, 1, 0xaa];
@@ -59,26 +35,7 @@ fn numbers_by_the_session_description(rt: HostRuntime) -> Result<(), Fail> {
 }
 
 #[test]
-fn a_packetizer_in_a_box(rt: HostRuntime) -> Result<(), Fail> {
-    let plain = PlainPacketizer { alloc: rt.alloc() };
-    let mut packetizer = CodecPacketizer::Boxed(Box::new(rt.alloc(), plain)?);
-    let packets = packetizer.packetize(0, &UNIT)?;
-    assert_eq!(rt; packets.len(), 1);
-    assert_eq!(rt; packets[0].as_slice(), UNIT.as_slice());
-    assert!(rt; packetizer.packetize(100, &[])?.is_empty());
-    assert!(rt; packetizer.is_marker(&UNIT, None, true));
-    assert!(rt; !packetizer.is_marker(&UNIT, None, false));
-    assert!(rt; !packetizer.marks_talkspurt());
-    assert!(rt; packetizer.nackable());
-    Ok(())
-}
-
-#[test]
 fn debug_text(rt: HostRuntime) -> Result<(), Fail> {
-    let plain = PlainPacketizer { alloc: rt.alloc() };
-    let packetizer = CodecPacketizer::Boxed(Box::new(rt.alloc(), plain)?);
-    let text = format!(in rt.alloc(); "{packetizer:?}")?;
-    assert_eq!(rt; text.as_str(), "Boxed");
     for (codec, front) in [
         (Codec::H264, "H264("),
         (Codec::H265, "H265("),

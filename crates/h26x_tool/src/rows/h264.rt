@@ -1,4 +1,4 @@
-use super::{bytes_of, long_unit};
+use super::{bytes_of, calls_of, long_unit};
 use h26x_core::{
     CodecExtra, Depacketizer, H264CodecExtra, H266CodecExtra, PacketError, Packetizer,
 };
@@ -50,11 +50,8 @@ fn payloads_and_their_packets(rt: HostRuntime) -> Result<(), Fail> {
     ] {
         let mut packetizer = H264Packetizer::new(alloc);
         let mut made = Vec::new(alloc);
-        for call in calls.split(' ') {
-            let (mtu, payload) = call.split_once(':').ok_or("a call without a limit")?;
-            let payload = bytes_of(alloc, payload)?;
-            let packets = packetizer.packetize(mtu.parse::<usize>()?, &payload)?;
-            for packet in packets {
+        for (mtu, payload) in calls_of(alloc, calls)? {
+            for packet in packetizer.packetize(mtu, &payload)? {
                 made.push(packet)?;
             }
         }

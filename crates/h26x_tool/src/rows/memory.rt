@@ -4,9 +4,10 @@
 //! refused in turn; run as they are, nothing is refused. A test whose name ends in `_at_once` makes
 //! no call again: it passes as soon as none of its requests is refused, which tells where to stop.
 
+use h26x_codec::{Carried, Codec, CodecDepacketizer, CodecPacketizer, carry};
 use h26x_core::{CodecExtra, Depacketizer, H264CodecExtra, PacketError, Packetizer};
 use h264_payload::{H264Depacketizer, H264Packetizer, detect_h264_keyframe, detect_h264_nalu};
-use std::alloc::Global;
+use std::alloc::{AllocError, Global};
 use std::process::Abort;
 use std::test::Fail;
 
@@ -252,5 +253,66 @@ fn calls_that_take_no_memory(rt: HostRuntime) -> Result<(), Fail> {
 
     assert!(rt; detect_h264_keyframe(&[0x78, 0, 2, 0x67, 1, 0, 2, 0x65, 1]));
     assert!(rt; detect_h264_nalu(&SETS, 8));
+    Ok(())
+}
+
+/// Two sets, and a unit behind them.
+const PAYLOADS: [[u8; 3]; 3] = [[7, 0, 1], [8, 2, 3], [5, 4, 5]];
+
+/// The units of these payloads behind start codes.
+const TEXT: [u8; 21] = [
+    0, 0, 0, 1, 7, 0, 1, 0, 0, 0, 1, 8, 2, 3, 0, 0, 0, 1, 5, 4, 5,
+];
+
+/// Payloads and their limit, with a second try where memory lacks.
+fn calls_of_payloads(alloc: Global) -> Result<Vec<(usize, Vec<u8>)>, AllocError> {
+    let mut calls = Vec::with_capacity(alloc, 3).or_else(|_| Vec::with_capacity(alloc, 3))?;
+    for payload in PAYLOADS {
+        let payload = payload.to_vec(alloc).or_else(|_| payload.to_vec(alloc))?;
+        calls.push((1500, payload))?;
+    }
+    Ok(calls)
+}
+
+/// Carries the payloads through fresh ends. What is written goes behind `out`.
+fn carry_payloads(
+    alloc: Global,
+    calls: &[(usize, Vec<u8>)],
+    out: &mut Vec<u8>,
+) -> Result<Carried, PacketError> {
+    carry(
+        alloc,
+        &mut CodecPacketizer::new(alloc, Codec::H264),
+        &mut CodecDepacketizer::new(alloc, Codec::H264),
+        calls,
+        out,
+        &mut CodecExtra::None,
+    )
+}
+
+/// A call that isn't made sends nothing, and leaves the sets that wait. These go when both wait.
+#[test]
+fn carried_as_far_as_memory_goes(rt: HostRuntime) -> Result<(), Fail> {
+    let calls = calls_of_payloads(rt.alloc())?;
+    let mut out = Vec::new(rt.alloc());
+    let carried = carry_payloads(rt.alloc(), &calls, &mut out);
+    let written = match carried.as_ref().map(|carried| carried.made.as_slice()) {
+        Ok([true, true, true]) => out.as_slice() == TEXT.as_slice(),
+        Ok([false, true, true] | [true, false, true]) => out.as_slice() == &TEXT[14..],
+        Ok([true, true, false]) => out.is_empty(),
+        Err(PacketError::OutOfMemory) => out.is_empty() || out.as_slice() == &TEXT[..14],
+        _ => false,
+    };
+    assert!(rt; written, "{carried:?}, {out:?}");
+    Ok(())
+}
+
+#[test]
+fn carried_at_once(rt: HostRuntime) -> Result<(), Fail> {
+    let calls = calls_of_payloads(rt.alloc())?;
+    let mut out = Vec::new(rt.alloc());
+    let carried = carry_payloads(rt.alloc(), &calls, &mut out)?;
+    assert_eq!(rt; carried.made.as_slice(), [true; 3].as_slice());
+    assert_eq!(rt; out.as_slice(), TEXT.as_slice());
     Ok(())
 }

@@ -71,7 +71,9 @@ pub returns-clause-stopped : goal.returns-clause-stopped
 returns-clause-stopped g c = λ s r p_is d_is.
     let w = at_work r c.args.out.now.items c.args.extra.now in
     let is = c.is_sender.ensures.sender s p_is in
-    if_err c.run_calls.result (λ e it. stopped_run s w (calls_by s c.args.calls.now) e _ _
+    let ok = c.is_sender.ensures.format s p_is in
+    let goes : SenderGoesOn s = c.packetizers_go_on.ensures.goes_on s ok.limits ok.numbers is in
+    if_err c.run_calls.result (λ e it. stopped_run s w (calls_by s c.args.calls.now) e _ _ goes
     (λ made same can. c.what_calls_send_is_carried.ensures s w (kept made (calls_by s c.args.calls.now)) (c.is_sender.ensures.format s p_is) is (calls_small s is.size made c.args.calls.now) same can) it)
     (c.run_calls.ensures.stopped s w p_is (ap (option_map (λ (x : Receiver). at_work x c.args.out.now.items c.args.extra.now)) d_is))
 

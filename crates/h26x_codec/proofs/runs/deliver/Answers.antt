@@ -4,7 +4,7 @@ use Rattle.std.proofs.lemmas.Result.{err_from_is_err_and}
 use Rattle.h26x_core.specs.Receiver.{work_after}
 use Rattle.h26x_core.specs.Ends.{ReceiverGoesOn}
 use Rattle.h26x_codec.specs.Codec.{receiver_of}
-use Rattle.h26x_codec.proofs.RunLemmas.{still_front, work_parts, same_work, one_more, stopped, finished}
+use Rattle.h26x_codec.proofs.RunLemmas.{still_front, work_parts, same_work, one_more, read_more, stopped, finished}
 use Rattle.h26x_codec.proofs.runs.deliver.Goals as goal
 
 pub loop-packet-init : goal.loop-packet-init
@@ -13,6 +13,7 @@ loop-packet-init g c = record {
   taken = λ w is.
       let law : ReceiverGoesOn w = c.depacketizers_go_on.ensures w (c.is_receiver.ensures w.receiver (work_parts (receiver_of c.args.d.now) c.args.out.now.items c.args.extra.now w is).is_receiver) in
       is ∙ ap Some (sym law.none);
+  read = λ w is. tt;
 }
 
 pub loop-packet-preserved : goal.loop-packet-preserved
@@ -27,6 +28,7 @@ loop-packet-preserved g c =
       taken = λ w is.
           let law : ReceiverGoesOn w = c.depacketizers_go_on.ensures w (c.is_receiver.ensures w.receiver (work_parts (receiver_of c.args.d.now) c.args.out.now.items c.args.extra.now w is).is_receiver) in
           one_more w bytes i _ law within (rw (← here) (c.in_ok-depacketize.ensures.taken _ (c.loop-packet.invariant.taken w is)));
+      read = λ w is. read_more w bytes i within (c.loop-packet.invariant.read w is) (rw (← here) (c.in_ok-depacketize.ensures.outcome _ (c.loop-packet.invariant.taken w is)));
     }
 
 pub returns-in_err-depacketize-clause-stopped : goal.returns-in_err-depacketize-clause-stopped
@@ -41,7 +43,7 @@ returns-in_err-depacketize-clause-stopped g c = λ w is.
     let parts = work_parts (receiver_of c.loop-packet.d) c.loop-packet.out.items c.loop-packet.extra (work_after w (take i bytes)) so_far in
     rw (err, same) (stopped w bytes i c.in_err-depacketize.field-0.0 _ within
     (same_work (receiver_of c.loop-packet.d) _ c.loop-packet.out.items _ c.loop-packet.extra _ (ap receiver_of (c.in_err-depacketize.ensures.kept _ parts.is_receiver)) c.in_err-depacketize.ensures.kept_out c.in_err-depacketize.ensures.kept_extra ∙ so_far)
-    (rw (← here) (c.in_err-depacketize.ensures.outcome _ so_far)))
+    (c.loop-packet.invariant.read w is) (rw (← here) (c.in_err-depacketize.ensures.outcome _ so_far)))
 
 pub returns-clause-taken : goal.returns-clause-taken
 returns-clause-taken g c = λ w is.

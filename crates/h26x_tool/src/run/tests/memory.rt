@@ -1,18 +1,30 @@
 //! Lines for which memory lacks; `crate::rows::memory` says how these tests are run.
 
 use super::*;
+use crate::answers::Answers;
+use h26x_core::PacketError;
 
 const REFUSED: &[u8] = b"refused OutOfMemory\n";
 
-/// Lines and their answers. No answer hangs on whether an earlier line was refused.
-const LINES: [(&[u8], &[u8]); 4] = [
-    (b"pack 100 6701", b"done\n"),
-    (b"unpack 7c8501", b"out -\n"),
-    (b"pack 100 6503", b"packet 6503\ndone\n"),
-    (b"unpack 6101", b"out 000000016101\n"),
-];
+const INPUT: &[u8] = b"pack 100 6701\nunpack 7c8501\npack 100 6503\nunpack 6101\n\
+    carry 100 6103\ncodec h265\ndonl on\ndonl off\nsize 4\ncarry 5000 0201aabb\n\
+    pack 5000 2601aabbcc\nhello";
 
-const INPUT: &[u8] = b"pack 100 6701\nunpack 7c8501\npack 100 6503\nunpack 6101\n";
+/// What each line is answered. No answer hangs on whether an earlier line was refused.
+const ANSWERS: [&[u8]; 12] = [
+    b"done\n",
+    b"out -\n",
+    b"packet 6503\ndone\n",
+    b"out 000000016101\n",
+    b"packet 6103\nout 000000016103\n",
+    b"ok\n",
+    b"ok\n",
+    b"ok\n",
+    b"ok\n",
+    b"packet 0201aabb\nout 000000010201aabb\n",
+    b"packet 620193aa\npacket 620113bb\npacket 620153cc\ndone\n",
+    b"bad line\n",
+];
 
 /// The answers on a page that was all zeros.
 fn written(page: &[u8]) -> &[u8] {
@@ -23,7 +35,7 @@ fn written(page: &[u8]) -> &[u8] {
 /// end for want of memory.
 fn are_answers(mut rest: &[u8], ended: Result<(), RunError>) -> bool {
     let mut was_refused = false;
-    for (_, want) in LINES {
+    for want in ANSWERS {
         if let Some(behind) = rest.strip_prefix(want) {
             rest = behind;
             continue;
@@ -43,34 +55,38 @@ fn are_answers(mut rest: &[u8], ended: Result<(), RunError>) -> bool {
 
 #[test]
 fn a_run_ends_or_goes_on(rt: HostRuntime) {
-    let mut page = [0; 100];
+    let mut page = [0; 300];
     let ended = run(rt.alloc(), INPUT, page.as_mut_slice());
     assert!(rt; are_answers(written(&page), ended), "{ended:?}");
 }
 
 #[test]
-fn a_run_at_once(rt: HostRuntime) {
-    let mut page = [0; 100];
-    assert_eq!(rt; run(rt.alloc(), INPUT, page.as_mut_slice()), Ok(()));
-    assert_eq!(rt;
-        written(&page),
-        b"done\nout -\npacket 6503\ndone\nout 000000016101\n".as_slice()
-    );
+fn a_run_at_once(rt: HostRuntime) -> Result<(), Fail> {
+    let mut page = [0; 300];
+    run(rt.alloc(), INPUT, page.as_mut_slice())?;
+    let mut rest = written(&page);
+    for want in ANSWERS {
+        rest = rest.strip_prefix(want).ok_or("another answer")?;
+    }
+    assert!(rt; rest.is_empty());
+    Ok(())
 }
 
-/// These answers take no memory, so a refused call is always answered.
+/// Answers take no memory but for their buffer, so a refused call is always answered.
 #[test]
-fn a_refused_call_ends_no_run(rt: HostRuntime) -> Result<(), Fail> {
-    let mut session = Session::new(rt.alloc());
-    for (line, want) in [LINES[0], LINES[1]] {
-        let line = match read_line(rt.alloc(), line) {
-            Err(RunError::OutOfMemory) => continue,
-            line => line?,
-        };
-        let mut page = [0; 100];
-        assert_eq!(rt; session.answer(line, &mut page.as_mut_slice()), Ok(()));
-        let answer = written(&page);
-        assert!(rt; answer == want || answer == REFUSED);
+fn answers_without_memory(rt: HostRuntime) -> Result<(), Fail> {
+    let mut page = [0; 10_000];
+    let Ok(mut answers) = Answers::new(rt.alloc(), page.as_mut_slice()) else {
+        return Ok(());
+    };
+    for error in [
+        PacketError::OutOfMemory,
+        PacketError::NaluTypeIsNotHandled(31),
+        PacketError::StapASizeLargerThanBuffer(15, 14),
+    ] {
+        answers.say_unpacked(Err(error), &[])?;
     }
+    answers.say_unpacked(Ok(()), &[0x65; 4800])?;
+    answers.flush()?;
     Ok(())
 }

@@ -1,0 +1,193 @@
+//! Payloads sent, written, and sent again.
+
+ghost use Rattle.std.specs.Prelude.{◌≡◌, ◌≤◌, ◌⊎◌, [], ◌∷◌, false, IfOk, IfErr, OnErr, Err, map, Some, None};
+ghost use Rattle.h26x_core.specs.Text.{text, annex_b};
+ghost use Rattle.h26x_core.specs.Calls.{entries_of, packets_of};
+ghost use Rattle.h26x_core.specs.Plan.{sent};
+ghost use Rattle.h26x_core.specs.Facts.{AreCarried};
+ghost use Rattle.h26x_core.specs.Received.{received};
+ghost use Rattle.h26x_core.specs.Sender.{Sender, packets_by};
+ghost use Rattle.h26x_core.specs.Receiver.{Receiver};
+ghost use Rattle.h26x_core.specs.Ends.{calls_like};
+ghost use Rattle.h26x_payload.specs.Sending.{contents};
+ghost use Rattle.h26x_codec.specs.Codec.{sender_of, receiver_of, fresh_receiver, call_by};
+ghost use Rattle.h26x_codec.specs.Runs.{IsFresh};
+ghost use Rattle.h26x_codec.specs.Repeating.{format_with, rule_of, starting, call_with, calls_with, MayBeRepeated, IsFirstRefused};
+
+use crate::carried::Packets;
+use crate::codec::Codec;
+use crate::depacketizer::CodecDepacketizer;
+use crate::packetizer::CodecPacketizer;
+use crate::runs::deliver;
+use h26x_core::{CodecExtra, PacketError, Packetizer, laws};
+use h264_payload::{H264Depacketizer, H264Packetizer};
+use h265_payload::{H265Depacketizer, H265Packetizer};
+use h266_payload::{H266Depacketizer, H266Packetizer};
+use std::alloc::Global;
+
+/// A packetizer of a codec with this setting for numbers and this largest packet size.
+fn packetizer_with(alloc: Global, codec: Codec, donl: bool, max_packet_size: u16) -> CodecPacketizer
+    requires { 4 ≤ max_packet_size }
+    ensures { sender_of result ≡ Some (starting codec donl max_packet_size) }
+{
+    match codec {
+        Codec::H264 => CodecPacketizer::H264(H264Packetizer::new(alloc)),
+        Codec::H265 => {
+            let mut it = H265Packetizer::new(alloc);
+            it.with_donl(donl);
+            it.with_max_packet_size(max_packet_size);
+            CodecPacketizer::H265(it)
+        }
+        Codec::H266 => {
+            let mut it = H266Packetizer::new(alloc);
+            it.with_donl(donl);
+            it.with_max_packet_size(max_packet_size);
+            CodecPacketizer::H266(it)
+        }
+    }
+}
+
+/// A depacketizer of a codec with this setting for numbers.
+fn depacketizer_with(alloc: Global, codec: Codec, donl: bool) -> CodecDepacketizer
+    ensures { receiver_of result ≡ Some (fresh_receiver (format_with codec donl)) }
+{
+    match codec {
+        Codec::H264 => CodecDepacketizer::H264(H264Depacketizer::new(alloc)),
+        Codec::H265 => {
+            let mut it = H265Depacketizer::new(alloc);
+            it.with_donl(donl);
+            CodecDepacketizer::H265(it)
+        }
+        Codec::H266 => {
+            let mut it = H266Depacketizer::new(alloc);
+            it.with_donl(donl);
+            CodecDepacketizer::H266(it)
+        }
+    }
+}
+
+/// The packets of payloads at one limit, one payload after the other.
+fn packetize_all(
+    alloc: Global,
+    p: &mut CodecPacketizer,
+    limit: usize,
+    payloads: &[Vec<u8>],
+) -> Result<Vec<Vec<u8>>, PacketError>
+    ensures sent { (s : Sender) → sender_of p.old ≡ Some s →
+        IfOk result (λ made. contents made.items ≡ packets_by s
+        (entries_of s.format (calls_like (call_by s limit []) (contents payloads.now)))) }
+    ensures memory { (s : Sender) → sender_of p.old ≡ Some s →
+        OnErr result (result ≡ Err PacketError.OutOfMemory) }
+{
+    p.is_sender();
+    laws::packetizers_go_on();
+    let mut packets = Vec::new(alloc);
+    for payload in payloads {
+        let mut made = p.packetize(limit, payload)?;
+        packets.append(&mut made)?;
+    }
+    Ok(packets)
+}
+
+/// What was sent, written, and sent again.
+#[derive(Debug, Drop)]
+pub struct Repeated {
+    /// The packets of all payloads.
+    pub first: Packets,
+    /// What a depacketizer writes for them, in Annex B.
+    pub written: Vec<u8>,
+    /// The packets of that as one payload.
+    pub second: Packets,
+}
+
+/// Sends payloads by `p`, writes their packets by `d`, and sends what was written by `q`.
+fn again_with(
+    alloc: Global,
+    p: &mut CodecPacketizer,
+    d: &mut CodecDepacketizer,
+    q: &mut CodecPacketizer,
+    limit: usize,
+    payloads: &[Vec<u8>],
+) -> Result<Repeated, PacketError>
+    ensures first { (s : Sender) → sender_of p.old ≡ Some s → IsFresh s →
+        IfOk result (λ it. it.first
+        ≡ packets_of s.format 0 (calls_like (call_by s limit []) (contents payloads.now))) }
+    ensures written { (r : Receiver) → receiver_of d.old ≡ Some r → r.run ≡ None →
+        IfOk result (λ it. it.written.items
+        ≡ text r.is_avc (received (map r.format.read it.first))) }
+    ensures second { (t : Sender) → sender_of q.old ≡ Some t → IsFresh t →
+        IfOk result (λ it. it.second
+        ≡ packets_of t.format 0 (call_by t limit it.written.items ∷ [])) }
+    ensures carried { (s : Sender) (r : Receiver) → sender_of p.old ≡ Some s →
+        receiver_of d.old ≡ Some r → IsFresh s → r.format ≡ s.format →
+        AreCarried s.format
+        (sent s.format (entries_of s.format (calls_like (call_by s limit [])
+        (contents payloads.now)))) →
+        IfOk result (λ it. it.written.items ≡ text r.is_avc
+        (sent s.format (entries_of s.format (calls_like (call_by s limit [])
+        (contents payloads.now))))) }
+    ensures refused { (s : Sender) (r : Receiver) (t : Sender) → sender_of p.old ≡ Some s →
+        receiver_of d.old ≡ Some r → sender_of q.old ≡ Some t → IsFresh s → r.is_avc ≡ false →
+        IfErr result (λ error. (error ≡ PacketError.OutOfMemory) ⊎ IsFirstRefused r.format
+        (packets_of s.format 0 (calls_like (call_by s limit []) (contents payloads.now))) error) }
+{
+    p.is_sender();
+    d.is_receiver();
+    laws::depacketizers_go_on();
+    laws::what_calls_send_is_carried();
+    laws::plans_unit_by_unit();
+    let first = packetize_all(alloc, p, limit, payloads)?;
+    let mut written = Vec::new(alloc);
+    let mut extra = CodecExtra::None;
+    deliver(d, &first, &mut written, &mut extra)?;
+    let second = q.packetize(limit, &written)?;
+    Ok(Repeated {
+        first: Packets::from_vec(first),
+        written,
+        second: Packets::from_vec(second),
+    })
+}
+
+/// Sends payloads at one limit in bytes, one call each, writes their packets in Annex B, and sends
+/// what was written as one payload at the same limit. Packetizers and depacketizer are fresh ones of
+/// `codec`.
+///
+/// `donl` sets all three up for decoding order numbers, and `max_packet_size`, 4 or more, is the
+/// largest packet size of both packetizers; H.264 has neither. The error is `OutOfMemory`, or the
+/// refusal of the first packet of `first` that a depacketizer refuses. Where packets can carry each
+/// unit sent, none is dropped for its size and, for H.264 and H.265, none but the last ends in a zero
+/// byte, `second` is `first`.
+///
+/// ```rust
+/// let repeated = again(alloc, Codec::H264, false, 1200, 1200, &frames)?;
+/// ```
+pub fn again(
+    alloc: Global,
+    codec: Codec,
+    donl: bool,
+    max_packet_size: u16,
+    limit: usize,
+    payloads: &[Vec<u8>],
+) -> Result<Repeated, PacketError>
+    requires { 4 ≤ max_packet_size }
+    ensures first { IfOk result (λ it. it.first ≡ packets_of (format_with codec donl) 0
+        (calls_with codec max_packet_size limit (contents payloads.now))) }
+    ensures written { IfOk result (λ it. it.written.items
+        ≡ annex_b (received (map (format_with codec donl).read it.first))) }
+    ensures second { IfOk result (λ it. it.second ≡ packets_of (format_with codec donl) 0
+        (call_with codec max_packet_size limit it.written.items ∷ [])) }
+    ensures same { MayBeRepeated (format_with codec donl) (rule_of codec)
+        (calls_with codec max_packet_size limit (contents payloads.now)) →
+        IfOk result (λ it. it.second ≡ it.first) }
+    ensures refused { IfErr result (λ error. (error ≡ PacketError.OutOfMemory) ⊎ IsFirstRefused
+        (format_with codec donl) (packets_of (format_with codec donl) 0
+        (calls_with codec max_packet_size limit (contents payloads.now))) error) }
+{
+    h264_payload::laws::sent_again();
+    h265_payload::laws::sent_again();
+    h266_payload::laws::sent_again();
+    let mut p = packetizer_with(alloc, codec, donl, max_packet_size);
+    let mut d = depacketizer_with(alloc, codec, donl);
+    let mut q = packetizer_with(alloc, codec, donl, max_packet_size);
+    again_with(alloc, &mut p, &mut d, &mut q, limit, payloads)
+}

@@ -1,0 +1,156 @@
+use super::*;
+use h26x_core::PacketError;
+
+/// Gives a line, and then fails.
+#[derive(Debug, Drop)]
+struct BrokenReader {
+    has_given: bool,
+    kind: io::ErrorKind,
+}
+
+impl Read for BrokenReader {
+    fn read(&mut self, buf: &mut [u8]) -> io::Result<usize> {
+        if self.has_given || buf.is_empty() {
+            return Err(io::Error::from(self.kind));
+        }
+        buf[0] = b'\n';
+        self.has_given = true;
+        Ok(1)
+    }
+}
+
+#[test]
+fn a_read_that_fails(rt: HostRuntime) {
+    for (kind, want) in [
+        (io::ErrorKind::BrokenPipe, RunError::Read),
+        (io::ErrorKind::OutOfMemory, RunError::OutOfMemory),
+    ] {
+        let reader = BrokenReader {
+            has_given: false,
+            kind,
+        };
+        assert_eq!(rt; run(rt.alloc(), reader, Vec::new(rt.alloc())), Err(want));
+    }
+}
+
+/// Fails once, when it is to write or when it is to flush, and takes everything before and after.
+#[derive(Debug, Drop)]
+struct BrokenWriter {
+    fails_to_write: bool,
+    fails_to_flush: bool,
+}
+
+/// A failure where one is due, and none is due any more.
+fn fail_once(fails: &mut bool) -> io::Result<()> {
+    if *fails {
+        *fails = false;
+        return Err(io::Error::from(io::ErrorKind::BrokenPipe));
+    }
+    Ok(())
+}
+
+impl Write for BrokenWriter {
+    fn write(&mut self, buf: &[u8]) -> io::Result<usize> {
+        fail_once(&mut self.fails_to_write)?;
+        Ok(buf.len())
+    }
+
+    fn flush(&mut self) -> io::Result<()> {
+        fail_once(&mut self.fails_to_flush)
+    }
+}
+
+/// Runs a line again and again, so that more is answered than any buffer holds.
+fn run_often(alloc: Global, line: &str, writer: BrokenWriter) -> Result<(), RunError> {
+    let mut input = Vec::new(alloc);
+    for _ in 0..4000 {
+        input.extend_from_slice(line.as_bytes())?;
+        input.extend_from_slice(b"\n")?;
+    }
+    run(alloc, input.as_slice(), writer)
+}
+
+#[test]
+fn a_write_that_fails(rt: HostRuntime) {
+    for line in [
+        "key",
+        "hello",
+        "codec h266",
+        "avc on",
+        "donl on",
+        "size 4",
+        "unpack 65",
+        "unpack 1c80",
+        "unpack -",
+        "unpack 78000f67",
+        "pack 5 65",
+        "pack 5 -",
+        "carry 5 65",
+        "carry 5 -",
+        "carry 5 60",
+    ] {
+        let writer = BrokenWriter {
+            fails_to_write: true,
+            fails_to_flush: false,
+        };
+        let ended = run_often(rt.alloc(), line, writer);
+        assert_eq!(rt; ended, Err(RunError::Write), "at {line}");
+    }
+}
+
+#[test]
+fn a_write_that_fails_at_the_end(rt: HostRuntime) {
+    for (fails_to_write, fails_to_flush, want) in [
+        (false, false, Ok(())),
+        (true, false, Err(RunError::Write)),
+        (false, true, Err(RunError::Write)),
+    ] {
+        let writer = BrokenWriter {
+            fails_to_write,
+            fails_to_flush,
+        };
+        assert_eq!(rt; run(rt.alloc(), b"key\n".as_slice(), writer), want);
+    }
+}
+
+#[test]
+fn texts_of_errors(rt: HostRuntime) -> Result<(), Fail> {
+    for (error, want) in [
+        (PacketError::ErrShortPacket, "packet is too short"),
+        (
+            PacketError::NaluTypeIsNotHandled(31),
+            "NAL unit type 31 is not handled",
+        ),
+        (
+            PacketError::StapASizeLargerThanBuffer(15, 14),
+            "STAP-A unit of 15 bytes, 14 left",
+        ),
+        (
+            PacketError::ErrH265CorruptedPacket,
+            "corrupted H.265 packet",
+        ),
+        (
+            PacketError::ErrH265PACIPHESTooLong,
+            "PACI extension is longer than 31 bytes",
+        ),
+        (
+            PacketError::ErrH266CorruptedPacket,
+            "corrupted H.266 packet",
+        ),
+        (
+            PacketError::AvcUnitTooLong,
+            "unit is too long for an AVC length",
+        ),
+        (PacketError::OutOfMemory, "out of memory"),
+    ] {
+        assert_eq!(rt; error.to_string(rt.alloc())?.as_str(), want);
+    }
+    for (error, want) in [
+        (RunError::Read, "h26x: read failed"),
+        (RunError::Write, "h26x: write failed"),
+        (RunError::OutOfMemory, "h26x: no memory"),
+    ] {
+        assert_eq!(rt; error.to_string(rt.alloc())?.as_str(), want);
+    }
+    Ok(())
+}
