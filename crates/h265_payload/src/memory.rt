@@ -175,32 +175,34 @@ fn numbered_units_at_once(rt: HostRuntime) -> Result<(), Fail> {
     send_numbered(&rt, rt.alloc(), Tries::Once)
 }
 
+/// Whether packets bear numbers, a limit, and the packets of the units.
+const SENT_SETS: [(bool, usize, &[&[u8]]); 3] = [
+    (
+        false,
+        17,
+        &[
+            &[
+                0x60, 1, 0, 3, 0x40, 1, 0x0c, 0, 3, 0x42, 1, 1, 0, 3, 0x44, 1, 0xc1,
+            ],
+            &[0x26, 1, 0xaf],
+        ],
+    ),
+    (
+        false,
+        16,
+        &[
+            &[0x40, 1, 0x0c],
+            &[0x42, 1, 1],
+            &[0x44, 1, 0xc1],
+            &[0x26, 1, 0xaf],
+        ],
+    ),
+    (true, 100, &NUMBERED),
+];
+
 /// Sends sets and a unit: in one aggregate, alone, and in an aggregate with numbers.
 fn send_sets(rt: &impl Abort, alloc: Global, tries: Tries) -> Result<(), Fail> {
-    let table: [(bool, usize, &[&[u8]]); 3] = [
-        (
-            false,
-            17,
-            &[
-                &[
-                    0x60, 1, 0, 3, 0x40, 1, 0x0c, 0, 3, 0x42, 1, 1, 0, 3, 0x44, 1, 0xc1,
-                ],
-                &[0x26, 1, 0xaf],
-            ],
-        ),
-        (
-            false,
-            16,
-            &[
-                &[0x40, 1, 0x0c],
-                &[0x42, 1, 1],
-                &[0x44, 1, 0xc1],
-                &[0x26, 1, 0xaf],
-            ],
-        ),
-        (true, 100, &NUMBERED),
-    ];
-    for (is_numbered, mtu, want) in table {
+    for (is_numbered, mtu, want) in SENT_SETS {
         let mut packetizer = H265Packetizer::new(alloc);
         packetizer.with_donl(is_numbered);
         send(rt, &mut packetizer, tries, mtu, &UNITS, want)?;
@@ -284,13 +286,15 @@ fn aggregates_at_once(rt: HostRuntime) -> Result<(), Fail> {
     receive_aggregate(&rt, rt.alloc(), Tries::Once)
 }
 
+/// Whether packets bear numbers; a packet of one unit, and that unit's last byte.
+const ONE_UNIT: [(bool, &[u8], u8); 2] = [
+    (false, &PACI, 0xaa),
+    (true, &[0x26, 1, 0, 5, 0xaf], 0xaf),
+];
+
 /// Takes a PACI packet, and a single one with a number.
 fn receive_units(rt: &impl Abort, alloc: Global, tries: Tries) -> Result<(), Fail> {
-    let table: [(bool, &[u8], u8); 2] = [
-        (false, &PACI, 0xaa),
-        (true, &[0x26, 1, 0, 5, 0xaf], 0xaf),
-    ];
-    for (is_numbered, packet, last) in table {
+    for (is_numbered, packet, last) in ONE_UNIT {
         let mut it = new_receiver(alloc, tries, is_numbered)?;
         take(rt, alloc, tries, &mut it, packet)?;
         has_taken(rt, &it, &[0x11, 0, 0, 0, 1, 0x26, 1, last], true);

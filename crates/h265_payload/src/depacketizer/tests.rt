@@ -4,9 +4,11 @@ use h26x_core::{H265CodecExtra, Packetizer};
 use std::process::Abort;
 use std::test::Fail;
 
-fn key(is_keyframe: bool) -> CodecExtra {
-    CodecExtra::H265(H265CodecExtra { is_keyframe })
-}
+/// What is told where no key unit was among the units.
+const NO_KEY: CodecExtra = CodecExtra::H265(H265CodecExtra { is_keyframe: false });
+
+/// What is told where one was.
+const A_KEY: CodecExtra = CodecExtra::H265(H265CodecExtra { is_keyframe: true });
 
 /// A depacketizer of packets with numbers, or without.
 fn fresh(alloc: Global, is_numbered: bool) -> H265Depacketizer {
@@ -38,78 +40,81 @@ fn take(alloc: Global, is_numbered: bool, packets: &[&[u8]]) -> Result<Taken, Pa
     })
 }
 
+/// Whether packets bear numbers; a packet, what is written of it, and what is told.
+const ONE_PACKET: [(bool, &[u8], &[u8], CodecExtra); 11] = [
+    (
+        false,
+        &[0x02, 0x01, 0xaa],
+        &[0, 0, 0, 1, 0x02, 0x01, 0xaa],
+        NO_KEY,
+    ),
+    (
+        true,
+        &[0x02, 0x01, 0x00, 0x05, 0xaa],
+        &[0, 0, 0, 1, 0x02, 0x01, 0xaa],
+        NO_KEY,
+    ),
+    (
+        true,
+        &[0x26, 0x01, 0x00, 0x05, 0xaf],
+        &[0, 0, 0, 1, 0x26, 0x01, 0xaf],
+        A_KEY,
+    ),
+    // A fragment that starts and ends is a whole unit.
+    (
+        false,
+        &[0x62, 0x01, 0xd3, 0xaa],
+        &[0, 0, 0, 1, 0x26, 0x01, 0xaa],
+        A_KEY,
+    ),
+    (false, &[0x62, 0x01, 0x13, 0xaa], &[], CodecExtra::None),
+    // What is left behind two whole units is ignored.
+    (
+        false,
+        &[
+            0x60, 0x01, 0x00, 0x03, 0x02, 0x01, 0xaa, 0x00, 0x02, 0x02, 0x01, 0x00, 0x09, 0x02,
+        ],
+        &[0, 0, 0, 1, 0x02, 0x01, 0xaa, 0, 0, 0, 1, 0x02, 0x01],
+        NO_KEY,
+    ),
+    (
+        true,
+        &[
+            0x60, 0x01, 0xff, 0xff, 0x00, 0x02, 0x02, 0x01, 0x01, 0x00, 0x03, 0x26, 0x01, 0xaf,
+        ],
+        &[0, 0, 0, 1, 0x02, 0x01, 0, 0, 0, 1, 0x26, 0x01, 0xaf],
+        A_KEY,
+    ),
+    // Units without a byte are written, and don't count.
+    (
+        false,
+        &[0x60, 0x01, 0x00, 0x00, 0x00, 0x00],
+        &[0, 0, 0, 1, 0, 0, 0, 1],
+        CodecExtra::None,
+    ),
+    (
+        true,
+        &[0x60, 0x01, 0x00, 0x00, 0x00, 0x00, 0x00, 0x00, 0x00],
+        &[0, 0, 0, 1, 0, 0, 0, 1],
+        CodecExtra::None,
+    ),
+    (
+        false,
+        &[0x64, 0x01, 0x26, 0x38, 0x11, 0x22, 0x33, 0xaa],
+        &[0, 0, 0, 1, 0x26, 0x01, 0xaa],
+        A_KEY,
+    ),
+    (
+        true,
+        &[0x64, 0x01, 0x60, 0x00, 0xaa],
+        &[0, 0, 0, 1, 0x60, 0x01, 0xaa],
+        NO_KEY,
+    ),
+];
+
 #[test]
 fn one_packet(rt: HostRuntime) -> Result<(), Fail> {
-    for (is_numbered, packet, want, extra) in [
-        (
-            false,
-            [0x02, 0x01, 0xaa].as_slice(),
-            [0, 0, 0, 1, 0x02, 0x01, 0xaa].as_slice(),
-            key(false),
-        ),
-        (
-            true,
-            &[0x02, 0x01, 0x00, 0x05, 0xaa],
-            &[0, 0, 0, 1, 0x02, 0x01, 0xaa],
-            key(false),
-        ),
-        (
-            true,
-            &[0x26, 0x01, 0x00, 0x05, 0xaf],
-            &[0, 0, 0, 1, 0x26, 0x01, 0xaf],
-            key(true),
-        ),
-        // A fragment that starts and ends is a whole unit.
-        (
-            false,
-            &[0x62, 0x01, 0xd3, 0xaa],
-            &[0, 0, 0, 1, 0x26, 0x01, 0xaa],
-            key(true),
-        ),
-        (false, &[0x62, 0x01, 0x13, 0xaa], &[], CodecExtra::None),
-        // What is left behind two whole units is ignored.
-        (
-            false,
-            &[
-                0x60, 0x01, 0x00, 0x03, 0x02, 0x01, 0xaa, 0x00, 0x02, 0x02, 0x01, 0x00, 0x09, 0x02,
-            ],
-            &[0, 0, 0, 1, 0x02, 0x01, 0xaa, 0, 0, 0, 1, 0x02, 0x01],
-            key(false),
-        ),
-        (
-            true,
-            &[
-                0x60, 0x01, 0xff, 0xff, 0x00, 0x02, 0x02, 0x01, 0x01, 0x00, 0x03, 0x26, 0x01, 0xaf,
-            ],
-            &[0, 0, 0, 1, 0x02, 0x01, 0, 0, 0, 1, 0x26, 0x01, 0xaf],
-            key(true),
-        ),
-        // Units without a byte are written, and don't count.
-        (
-            false,
-            &[0x60, 0x01, 0x00, 0x00, 0x00, 0x00],
-            &[0, 0, 0, 1, 0, 0, 0, 1],
-            CodecExtra::None,
-        ),
-        (
-            true,
-            &[0x60, 0x01, 0x00, 0x00, 0x00, 0x00, 0x00, 0x00, 0x00],
-            &[0, 0, 0, 1, 0, 0, 0, 1],
-            CodecExtra::None,
-        ),
-        (
-            false,
-            &[0x64, 0x01, 0x26, 0x38, 0x11, 0x22, 0x33, 0xaa],
-            &[0, 0, 0, 1, 0x26, 0x01, 0xaa],
-            key(true),
-        ),
-        (
-            true,
-            &[0x64, 0x01, 0x60, 0x00, 0xaa],
-            &[0, 0, 0, 1, 0x60, 0x01, 0xaa],
-            key(false),
-        ),
-    ] {
+    for (is_numbered, packet, want, extra) in ONE_PACKET {
         let taken = take(rt.alloc(), is_numbered, &[packet])?;
         assert_eq!(rt;
             (taken.out.as_slice(), taken.told),
@@ -120,60 +125,63 @@ fn one_packet(rt: HostRuntime) -> Result<(), Fail> {
     Ok(())
 }
 
+/// Whether packets bear numbers; a packet, and why it is refused.
+const REFUSED: [(bool, &[u8], PacketError); 14] = [
+    (false, &[], PacketError::ErrShortPacket),
+    (false, &[0x02, 0x01], PacketError::ErrShortPacket),
+    (false, &[0x80, 0x01], PacketError::ErrShortPacket),
+    (true, &[0x02, 0x01, 0x00, 0x05], PacketError::ErrShortPacket),
+    (false, &[0x62, 0x01, 0x93], PacketError::ErrShortPacket),
+    (
+        true,
+        &[0x62, 0x01, 0x93, 0x00, 0x07],
+        PacketError::ErrShortPacket,
+    ),
+    (
+        false,
+        &[0x60, 0x01, 0x00, 0x03, 0x02, 0x01, 0xaa, 0x00, 0x09, 0x02],
+        PacketError::ErrShortPacket,
+    ),
+    (
+        true,
+        &[0x60, 0x01, 0x00, 0x00, 0x00, 0x00, 0x00, 0x00],
+        PacketError::ErrShortPacket,
+    ),
+    (true, &[0x60, 0x01, 0x00], PacketError::ErrShortPacket),
+    (
+        false,
+        &[0x64, 0x01, 0x26, 0x38, 0x11, 0x22, 0x33],
+        PacketError::ErrShortPacket,
+    ),
+    (false, &[0x64, 0x01, 0x26], PacketError::ErrShortPacket),
+    (
+        false,
+        &[0x64, 0x01, 0x26, 0x00],
+        PacketError::ErrShortPacket,
+    ),
+    (
+        false,
+        &[0xe2, 0x01, 0x93],
+        PacketError::ErrH265CorruptedPacket,
+    ),
+    (
+        false,
+        &[0x82, 0x01, 0xaa],
+        PacketError::ErrH265CorruptedPacket,
+    ),
+];
+
 #[test]
 fn refused_packets(rt: HostRuntime) -> Result<(), Fail> {
-    for (is_numbered, packet, error) in [
-        (false, [].as_slice(), PacketError::ErrShortPacket),
-        (false, &[0x02, 0x01], PacketError::ErrShortPacket),
-        (false, &[0x80, 0x01], PacketError::ErrShortPacket),
-        (true, &[0x02, 0x01, 0x00, 0x05], PacketError::ErrShortPacket),
-        (false, &[0x62, 0x01, 0x93], PacketError::ErrShortPacket),
-        (
-            true,
-            &[0x62, 0x01, 0x93, 0x00, 0x07],
-            PacketError::ErrShortPacket,
-        ),
-        (
-            false,
-            &[0x60, 0x01, 0x00, 0x03, 0x02, 0x01, 0xaa, 0x00, 0x09, 0x02],
-            PacketError::ErrShortPacket,
-        ),
-        (
-            true,
-            &[0x60, 0x01, 0x00, 0x00, 0x00, 0x00, 0x00, 0x00],
-            PacketError::ErrShortPacket,
-        ),
-        (true, &[0x60, 0x01, 0x00], PacketError::ErrShortPacket),
-        (
-            false,
-            &[0x64, 0x01, 0x26, 0x38, 0x11, 0x22, 0x33],
-            PacketError::ErrShortPacket,
-        ),
-        (false, &[0x64, 0x01, 0x26], PacketError::ErrShortPacket),
-        (
-            false,
-            &[0x64, 0x01, 0x26, 0x00],
-            PacketError::ErrShortPacket,
-        ),
-        (
-            false,
-            &[0xe2, 0x01, 0x93],
-            PacketError::ErrH265CorruptedPacket,
-        ),
-        (
-            false,
-            &[0x82, 0x01, 0xaa],
-            PacketError::ErrH265CorruptedPacket,
-        ),
-    ] {
+    for (is_numbered, packet, error) in REFUSED {
         let mut d = fresh(rt.alloc(), is_numbered);
         let mut out = Vec::new(rt.alloc());
         out.push(0x11)?;
-        let mut told = key(true);
+        let mut told = A_KEY;
         let answer = d.depacketize(packet, &mut out, &mut told);
         assert_eq!(rt;
             (answer, out.as_slice(), told),
-            (Err(error), [0x11].as_slice(), key(true)),
+            (Err(error), [0x11].as_slice(), A_KEY),
             "at {packet:?}"
         );
         assert!(rt; d == fresh(rt.alloc(), is_numbered), "at {packet:?}");
@@ -181,21 +189,23 @@ fn refused_packets(rt: HostRuntime) -> Result<(), Fail> {
     Ok(())
 }
 
+/// An aggregate of two units.
+const AGGREGATE: [u8; 11] = [
+    0x60, 0x01, 0x00, 0x03, 0x02, 0x01, 0xaa, 0x00, 0x02, 0x02, 0x01,
+];
+
 /// Takes an aggregate of two units behind a front of it of this length, which is refused.
 fn take_behind_a_front(rt: &impl Abort, alloc: Global, len: usize) -> Result<(), Fail> {
-    let packet = [
-        0x60, 0x01, 0x00, 0x03, 0x02, 0x01, 0xaa, 0x00, 0x02, 0x02, 0x01,
-    ];
     let mut d = H265Depacketizer::new(alloc);
     let mut out = Vec::new(alloc);
     let mut told = CodecExtra::None;
-    let answer = d.depacketize(packet.get(..len).unwrap_or(&[]), &mut out, &mut told);
+    let answer = d.depacketize(AGGREGATE.get(..len).unwrap_or(&[]), &mut out, &mut told);
     assert_eq!(rt;
         (answer, out.len()),
         (Err(PacketError::ErrShortPacket), 0),
         "at {len}"
     );
-    d.depacketize(&packet, &mut out, &mut told)?;
+    d.depacketize(&AGGREGATE, &mut out, &mut told)?;
     assert_eq!(rt;
         out.as_slice(),
         [0, 0, 0, 1, 0x02, 0x01, 0xaa, 0, 0, 0, 1, 0x02, 0x01].as_slice(),
@@ -206,39 +216,45 @@ fn take_behind_a_front(rt: &impl Abort, alloc: Global, len: usize) -> Result<(),
 
 #[test]
 fn fronts_of_an_aggregate(rt: HostRuntime) -> Result<(), Fail> {
-    for len in 0..11 {
+    for len in 0..AGGREGATE.len() {
         take_behind_a_front(&rt, rt.alloc(), len)?;
     }
     Ok(())
 }
 
+/// A unit in two fragments, and an aggregate and a PACI packet between them.
+const RUN: [&[u8]; 4] = [
+    &[0x62, 0x01, 0x93, 0xaa],
+    &[
+        0x60, 0x01, 0x00, 0x03, 0x02, 0x01, 0xbb, 0x00, 0x03, 0x02, 0x01, 0xcc,
+    ],
+    &[0x64, 0x01, 0x02, 0x00, 0xdd],
+    &[0x62, 0x01, 0x53, 0xee],
+];
+
+/// What is written of them.
+const RUN_WRITTEN: [u8; 29] = [
+    0, 0, 0, 1, 0x02, 0x01, 0xbb, 0, 0, 0, 1, 0x02, 0x01, 0xcc, 0, 0, 0, 1, 0x02, 0x01, 0xdd, 0, 0,
+    0, 1, 0x26, 0x01, 0xaa, 0xee,
+];
+
 #[test]
 fn a_run_through_other_packets(rt: HostRuntime) -> Result<(), Fail> {
-    let packets: [&[u8]; 4] = [
-        &[0x62, 0x01, 0x93, 0xaa],
-        &[
-            0x60, 0x01, 0x00, 0x03, 0x02, 0x01, 0xbb, 0x00, 0x03, 0x02, 0x01, 0xcc,
-        ],
-        &[0x64, 0x01, 0x02, 0x00, 0xdd],
-        &[0x62, 0x01, 0x53, 0xee],
-    ];
-    let want = [
-        0, 0, 0, 1, 0x02, 0x01, 0xbb, 0, 0, 0, 1, 0x02, 0x01, 0xcc, 0, 0, 0, 1, 0x02, 0x01, 0xdd,
-        0, 0, 0, 1, 0x26, 0x01, 0xaa, 0xee,
-    ];
-    let taken = take(rt.alloc(), false, &packets)?;
+    let taken = take(rt.alloc(), false, &RUN)?;
     assert_eq!(rt;
         (taken.out.as_slice(), taken.told),
-        (want.as_slice(), key(true))
+        (RUN_WRITTEN.as_slice(), A_KEY)
     );
     Ok(())
 }
 
-/// The start of a unit of type 19, its end, and its end where numbers are not looked for.
+/// The start of a unit of type 19.
 const START: [u8; 4] = [0x62, 0x01, 0x93, 0xaa];
 
+/// The same with a number.
 const NUMBERED_START: [u8; 6] = [0x62, 0x01, 0x93, 0x00, 0x07, 0xaa];
 
+/// The end of the unit.
 const END: [u8; 4] = [0x62, 0x01, 0x53, 0xbb];
 
 /// The unit as it is written.
@@ -359,7 +375,7 @@ fn fragments_with_numbers(rt: HostRuntime) -> Result<(), Fail> {
     let taken = take(rt.alloc(), true, &[&NUMBERED_START, &END])?;
     assert_eq!(rt;
         (taken.out.as_slice(), taken.told),
-        (WRITTEN.as_slice(), key(true))
+        (WRITTEN.as_slice(), A_KEY)
     );
     Ok(())
 }
