@@ -20,10 +20,9 @@ fn a_packetizer_in_a_box(rt: HostRuntime) -> Result<(), Fail> {
     assert!(rt; packetizer.nackable());
     packetizer.configure_for(Some(1));
     packetizer.with_max_packet_size(4);
-    assert_eq!(rt;
-        packetizer.packetize(0, &[7; 9])?[0].as_slice(),
-        [7; 9].as_slice()
-    );
+    let packets = packetizer.packetize(0, &[7; 9])?;
+    assert_eq!(rt; packets.len(), 1);
+    assert_eq!(rt; packets[0].as_slice(), [7; 9].as_slice());
     let text = format!(in rt.alloc(); "{packetizer:?}")?;
     assert_eq!(rt; text.as_str(), "Boxed");
     Ok(())
