@@ -4,6 +4,7 @@ use h26x_codec::{Codec, CodecDepacketizer, take_all};
 use h26x_core::{
     CodecExtra, Depacketizer, H264CodecExtra, H265CodecExtra, H266CodecExtra, PacketError,
 };
+use h264_payload::H264Depacketizer;
 use h265_payload::H265Depacketizer;
 use h266_payload::H266Depacketizer;
 use std::alloc::Global;
@@ -98,7 +99,7 @@ const ROWS: [Row; 8] = [
 /// A fresh depacketizer of a codec.
 fn fresh(alloc: Global, codec: Codec, donl: bool) -> CodecDepacketizer {
     match codec {
-        Codec::H264 => CodecDepacketizer::new(alloc, codec),
+        Codec::H264 => CodecDepacketizer::H264(H264Depacketizer::new(alloc)),
         Codec::H265 => {
             let mut depacketizer = H265Depacketizer::new(alloc);
             depacketizer.with_donl(donl);
