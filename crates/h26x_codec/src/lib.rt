@@ -1,4 +1,6 @@
-//! The packetizers and depacketizers of all codecs behind one type each, with a caller's own.
+//! The packetizers and depacketizers of all codecs behind one type each, with a caller's own, and
+//! whole runs through them: calls through both ends ([`carry`]), packets of any peer ([`take_all`]),
+//! and payloads sent, written and sent again ([`again`]).
 //!
 //! ```rust
 //! let mut packetizer = CodecPacketizer::new(alloc, Codec::H265);
