@@ -119,7 +119,8 @@ fn sent_written_and_sent_again(rt: HostRuntime) -> Result<(), Fail> {
 /// An SPS of 1302 bytes, a PPS and a unit of H.265.
 fn large_sets(alloc: Global) -> Result<Vec<Vec<u8>>, Fail> {
     let mut payloads = list_of(alloc, "4201 4401c1 2601af")?;
-    payloads[0].resize(1302, 0xaa)?;
+    let sps = payloads.first_mut().ok_or("no payloads")?;
+    sps.resize(1302, 0xaa)?;
     Ok(payloads)
 }
 
