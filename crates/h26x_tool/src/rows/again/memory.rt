@@ -23,10 +23,14 @@ fn send_again(alloc: Global, payloads: &[Vec<u8>]) -> Result<Repeated, PacketErr
     again(alloc, Codec::H264, false, 1200, 5, payloads)
 }
 
+fn are_packets(packets: &[Vec<u8>]) -> bool {
+    matches!(packets, [a, b] if a.as_slice() == PACKETS[0] && b.as_slice() == PACKETS[1])
+}
+
 fn is_right(repeated: &Repeated) -> bool {
-    repeated.first.as_slice() == PACKETS.as_slice()
+    are_packets(repeated.first.as_slice())
         && repeated.written.as_slice() == WRITTEN.as_slice()
-        && repeated.second.as_slice() == PACKETS.as_slice()
+        && are_packets(repeated.second.as_slice())
 }
 
 #[test]

@@ -62,14 +62,23 @@ fn taken_as_far_as_memory_goes(rt: HostRuntime) -> Result<(), Fail> {
     let mut depacketizer = CodecDepacketizer::new(rt.alloc(), Codec::H264);
     let mut out = Vec::new(rt.alloc());
     let mut extra = CodecExtra::None;
-    let answer = take_all(rt.alloc(), &mut depacketizer, &packets, &mut out, &mut extra);
+    let answer = take_all(
+        rt.alloc(),
+        &mut depacketizer,
+        &packets,
+        &mut out,
+        &mut extra,
+    );
     let (written, ended): (&[u8], &[u8]) = match &answer {
         Err(PacketError::OutOfMemory) => (&[], &[]),
         Err(_) => return Err(Fail::from("another refusal")),
         Ok(outcomes) => written_of(outcomes).ok_or("other outcomes")?,
     };
     assert_eq!(rt; (out.as_slice(), extra), (written, told_of(written)));
-    if depacketizer.depacketize(PACKETS[3], &mut out, &mut extra).is_err() {
+    if depacketizer
+        .depacketize(PACKETS[3], &mut out, &mut extra)
+        .is_err()
+    {
         depacketizer.depacketize(PACKETS[3], &mut out, &mut extra)?;
     }
     assert_eq!(rt; (out.as_slice(), extra), (ended, told_of(ended)));
@@ -82,8 +91,17 @@ fn taken_at_once(rt: HostRuntime) -> Result<(), Fail> {
     let mut depacketizer = CodecDepacketizer::new(rt.alloc(), Codec::H264);
     let mut out = Vec::new(rt.alloc());
     let mut extra = CodecExtra::None;
-    let outcomes = take_all(rt.alloc(), &mut depacketizer, &packets, &mut out, &mut extra)?;
-    assert_eq!(rt; outcomes.as_slice(), [Ok(()), Ok(()), SHORT, Ok(()), SHORT].as_slice());
+    let outcomes = take_all(
+        rt.alloc(),
+        &mut depacketizer,
+        &packets,
+        &mut out,
+        &mut extra,
+    )?;
+    assert_eq!(rt;
+        outcomes.as_slice(),
+        [Ok(()), Ok(()), SHORT, Ok(()), SHORT].as_slice()
+    );
     assert_eq!(rt; (out.as_slice(), extra), (WRITTEN.as_slice(), KEY));
     Ok(())
 }
