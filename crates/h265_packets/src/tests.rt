@@ -3,8 +3,6 @@ use h26x_core::{H265FragmentationUnitHeader, H265NALUHeader, H265TSCI, PacketErr
 use std::alloc::Global;
 use std::test::Fail;
 
-mod memory;
-
 /// A buffer of these bytes.
 fn bytes(alloc: Global, bytes: &[u8]) -> Result<Vec<u8>, PacketError> {
     Ok(bytes.to_vec(alloc)?)

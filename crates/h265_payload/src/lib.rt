@@ -31,5 +31,3 @@ pub use h265_packets::{
 };
 pub use packetizer::{H265, H265Packetizer};
 
-#[cfg(test)]
-mod memory;

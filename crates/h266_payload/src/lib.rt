@@ -24,5 +24,3 @@ pub use depacketizer::H266Depacketizer;
 pub use detect::detect_h266_keyframe;
 pub use packetizer::{H266, H266Packetizer};
 
-#[cfg(test)]
-mod memory;

@@ -8,7 +8,6 @@ mod again;
 mod carry;
 mod constants;
 mod h264;
-mod memory;
 mod take;
 
 /// Bytes by two digits each; spaces may stand between them.

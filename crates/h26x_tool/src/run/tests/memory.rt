@@ -1,4 +1,4 @@
-//! Lines for which memory lacks; `crate::rows::memory` says how these tests are run.
+//! Lines for which memory lacks; `h26x_memory` says how these tests are run.
 
 use super::*;
 use crate::answers::Answers;

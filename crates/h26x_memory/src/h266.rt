@@ -1,0 +1,280 @@
+use crate::ends::{Receiver, send, send_nothing};
+use crate::tries::{Tries, made};
+use h26x_core::{CodecExtra, Depacketizer, H266CodecExtra, PacketError, Packetizer};
+use h266_payload::{H266Depacketizer, H266Packetizer, detect_h266_keyframe};
+use std::alloc::Global;
+use std::process::Abort;
+
+const KEY: CodecExtra = CodecExtra::H266(H266CodecExtra { is_keyframe: true });
+
+const NO_KEY: CodecExtra = CodecExtra::H266(H266CodecExtra { is_keyframe: false });
+
+/// A VPS, an SPS, a PPS and a key unit.
+const UNITS: [u8; 24] = [
+    0, 0, 1, 0, 0x71, 0xaa, 0, 0, 1, 0, 0x79, 0xbb, 0, 0, 1, 0, 0x81, 0xcc, 0, 0, 1, 0, 0x39, 0xdd,
+];
+
+/// The sets in one aggregate.
+const AGGREGATE: [u8; 17] = [
+    0, 0xe1, 0, 3, 0, 0x71, 0xaa, 0, 3, 0, 0x79, 0xbb, 0, 3, 0, 0x81, 0xcc,
+];
+
+/// The sets in one aggregate, and the key unit.
+const TOGETHER: [&[u8]; 2] = [&AGGREGATE, &[0, 0x39, 0xdd]];
+
+/// An SPS and a PPS of several layers, and a key unit.
+const LAYERS: [u8; 18] = [
+    0, 0, 1, 2, 0x7a, 0xbb, 0, 0, 1, 1, 0x83, 0xcc, 0, 0, 1, 0, 0x39, 0xdd,
+];
+
+/// The sets of these in one aggregate, and the key unit.
+const OF_LAYERS: [&[u8]; 2] = [
+    &[1, 0xe2, 0, 3, 2, 0x7a, 0xbb, 0, 3, 1, 0x83, 0xcc],
+    &[0, 0x39, 0xdd],
+];
+
+/// The SPS and the PPS in one aggregate with numbers, and the key unit.
+const NUMBERED: [&[u8]; 2] = [
+    &[0, 0xe1, 0, 0, 0, 3, 0, 0x79, 0xbb, 0, 3, 0, 0x81, 0xcc],
+    &[0, 0x39, 0, 2, 0xdd],
+];
+
+fn packetizer(alloc: Global, is_numbered: bool) -> H266Packetizer {
+    let mut packetizer = H266Packetizer::new(alloc);
+    packetizer.with_donl(is_numbered);
+    packetizer
+}
+
+fn receiver(alloc: Global) -> Receiver<H266Depacketizer> {
+    Receiver::new(alloc, H266Depacketizer::new(alloc))
+}
+
+#[test]
+fn sets_sent_again(rt: HostRuntime) -> Result<(), PacketError> {
+    send(
+        &rt,
+        &mut packetizer(rt.alloc(), false),
+        Tries::Twice,
+        1200,
+        &UNITS,
+        &TOGETHER,
+    )
+}
+
+#[test]
+fn sets_at_once(rt: HostRuntime) -> Result<(), PacketError> {
+    send(
+        &rt,
+        &mut packetizer(rt.alloc(), false),
+        Tries::Once,
+        1200,
+        &UNITS,
+        &TOGETHER,
+    )
+}
+
+#[test]
+fn sets_of_layers_sent_again(rt: HostRuntime) -> Result<(), PacketError> {
+    send(
+        &rt,
+        &mut packetizer(rt.alloc(), false),
+        Tries::Twice,
+        1200,
+        &LAYERS,
+        &OF_LAYERS,
+    )
+}
+
+#[test]
+fn sets_of_layers_at_once(rt: HostRuntime) -> Result<(), PacketError> {
+    send(
+        &rt,
+        &mut packetizer(rt.alloc(), false),
+        Tries::Once,
+        1200,
+        &LAYERS,
+        &OF_LAYERS,
+    )
+}
+
+#[test]
+fn numbered_sets_sent_again(rt: HostRuntime) -> Result<(), PacketError> {
+    send(
+        &rt,
+        &mut packetizer(rt.alloc(), true),
+        Tries::Twice,
+        1200,
+        &UNITS[6..],
+        &NUMBERED,
+    )
+}
+
+#[test]
+fn numbered_sets_at_once(rt: HostRuntime) -> Result<(), PacketError> {
+    send(
+        &rt,
+        &mut packetizer(rt.alloc(), true),
+        Tries::Once,
+        1200,
+        &UNITS[6..],
+        &NUMBERED,
+    )
+}
+
+/// A fragment of 43 bytes that starts a run.
+fn start() -> [u8; 43] {
+    let mut packet = [0xaa; 43];
+    packet[..3].copy_from_slice(&[0, 0xe9, 0x87]);
+    packet
+}
+
+/// A middle fragment of 103 bytes.
+fn middle() -> [u8; 103] {
+    let mut packet = [0xbb; 103];
+    packet[..3].copy_from_slice(&[0, 0xe9, 7]);
+    packet
+}
+
+/// A fragment of 43 bytes that ends a run.
+fn end() -> [u8; 43] {
+    let mut packet = [0xcc; 43];
+    packet[..3].copy_from_slice(&[0, 0xe9, 0x47]);
+    packet
+}
+
+/// The unit of the three behind a start code.
+fn fragmented() -> [u8; 186] {
+    let mut text = [0xaa; 186];
+    text[..6].copy_from_slice(&[0, 0, 0, 1, 0, 0x39]);
+    text[46..146].fill(0xbb);
+    text[146..].fill(0xcc);
+    text
+}
+
+/// Takes a start, a middle and an end, each longer than what there is room for by then.
+fn take_fragments(rt: &impl Abort, alloc: Global, tries: Tries) -> Result<(), PacketError> {
+    let mut it = receiver(alloc);
+    it.take_each(rt, tries, &[&start(), &middle(), &end()])?;
+    it.has(rt, &fragmented(), KEY);
+    Ok(())
+}
+
+#[test]
+fn fragments_taken_again(rt: HostRuntime) -> Result<(), PacketError> {
+    take_fragments(&rt, rt.alloc(), Tries::Twice)
+}
+
+#[test]
+fn fragments_at_once(rt: HostRuntime) -> Result<(), PacketError> {
+    take_fragments(&rt, rt.alloc(), Tries::Once)
+}
+
+/// The units of the aggregate behind start codes.
+const TEXT: [u8; 21] = [
+    0, 0, 0, 1, 0, 0x71, 0xaa, 0, 0, 0, 1, 0, 0x79, 0xbb, 0, 0, 0, 1, 0, 0x81, 0xcc,
+];
+
+fn take_aggregate(rt: &impl Abort, alloc: Global, tries: Tries) -> Result<(), PacketError> {
+    let mut it = receiver(alloc);
+    it.take(rt, tries, &AGGREGATE)?;
+    it.has(rt, &TEXT, NO_KEY);
+    Ok(())
+}
+
+#[test]
+fn aggregates_taken_again(rt: HostRuntime) -> Result<(), PacketError> {
+    take_aggregate(&rt, rt.alloc(), Tries::Twice)
+}
+
+#[test]
+fn aggregates_at_once(rt: HostRuntime) -> Result<(), PacketError> {
+    take_aggregate(&rt, rt.alloc(), Tries::Once)
+}
+
+/// Copies a packetizer for which sets wait; both then send the same.
+fn copy_packetizer(rt: &impl Abort, alloc: Global, tries: Tries) -> Result<(), PacketError> {
+    let mut it = packetizer(alloc, true);
+    send(rt, &mut it, tries, 1200, &UNITS[6..18], &[])?;
+    let mut copy = made(tries, || it.clone())?;
+    send(rt, &mut copy, tries, 1200, &UNITS[18..], &NUMBERED)?;
+    send(rt, &mut it, tries, 1200, &UNITS[18..], &NUMBERED)
+}
+
+#[test]
+fn packetizers_copied_again(rt: HostRuntime) -> Result<(), PacketError> {
+    copy_packetizer(&rt, rt.alloc(), Tries::Twice)
+}
+
+#[test]
+fn packetizers_at_once(rt: HostRuntime) -> Result<(), PacketError> {
+    copy_packetizer(&rt, rt.alloc(), Tries::Once)
+}
+
+/// Limits and payloads that nothing is sent of, with numbers or without.
+const UNSENT: [(usize, &[u8]); 4] = [
+    (1500, &[]),
+    (3, &[0, 9, 0xaa]),
+    (1500, &[0, 0xa1, 0x50]),
+    (1500, &[0, 0, 1, 0, 0xe1, 0xaa, 0, 0, 1, 0, 0xe9, 0xaa]),
+];
+
+#[test]
+fn sending_that_takes_no_memory(rt: HostRuntime) -> Result<(), PacketError> {
+    let mut it = packetizer(rt.alloc(), true);
+    it.with_max_packet_size(1400);
+    send_nothing(&rt, &mut it, &UNSENT)?;
+    it.with_donl(false);
+    send_nothing(&rt, &mut it, &UNSENT)?;
+    assert!(rt; it.clone()?.is_marker(&[0], None, true));
+    assert!(rt; !it.marks_talkspurt() && it.nackable());
+    Ok(())
+}
+
+/// Whether packets bear numbers, ones of which nothing is kept or written, and their answers.
+const UNWRITTEN: [(bool, &[u8], Result<(), PacketError>); 9] = [
+    (false, &[0, 0xe9, 7, 0xaa], Ok(())),
+    (true, &[0, 0xe9, 0x47, 0xaa], Ok(())),
+    (false, &[], Err(PacketError::ErrShortPacket)),
+    (false, &[0, 9], Err(PacketError::ErrShortPacket)),
+    (
+        false,
+        &[0x80, 1, 0xaa],
+        Err(PacketError::ErrH266CorruptedPacket),
+    ),
+    (
+        false,
+        &[0, 0xe1, 0, 3, 0, 0x71, 0xaa],
+        Err(PacketError::ErrShortPacket),
+    ),
+    (
+        false,
+        &[0, 0xe1, 0, 3, 0, 9, 0xaa, 0, 3, 0, 9],
+        Err(PacketError::ErrShortPacket),
+    ),
+    (
+        false,
+        &[0, 0xe1, 0, 3, 0, 9, 0xaa, 0, 2, 0, 0xe1],
+        Err(PacketError::ErrH266CorruptedPacket),
+    ),
+    (true, &[0, 0x39, 0, 2], Err(PacketError::ErrShortPacket)),
+];
+
+#[test]
+fn receiving_that_takes_no_memory(rt: HostRuntime) {
+    let mut it = receiver(rt.alloc());
+    for (is_numbered, packet, want) in &UNWRITTEN {
+        it.depacketizer.with_donl(*is_numbered);
+        assert_eq!(rt; it.take_once(packet), *want);
+    }
+    it.depacketizer.give_up_run();
+    it.has(&rt, &[], CodecExtra::None);
+}
+
+#[test]
+fn questions_that_take_no_memory(rt: HostRuntime) {
+    let depacketizer = H266Depacketizer::new(rt.alloc());
+    assert!(rt; depacketizer.out_size_hint(1200) == Some(1208));
+    assert!(rt; depacketizer.is_partition_head(&[0, 9]));
+    assert!(rt; depacketizer.is_partition_tail(true, &[0, 9]));
+    assert!(rt; detect_h266_keyframe(&[0, 0xe1, 0, 2, 0, 9, 0, 2, 0, 0x39]));
+}

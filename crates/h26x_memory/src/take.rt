@@ -1,0 +1,107 @@
+use crate::tries::{Tries, buffer_of, room_for};
+use h26x_codec::{Codec, CodecDepacketizer, take_all};
+use h26x_core::{CodecExtra, Depacketizer, H264CodecExtra, PacketError};
+use std::alloc::Global;
+use std::process::Abort;
+
+/// A last fragment that nothing began.
+const STARTLESS: [u8; 3] = [0x7c, 0x45, 1];
+
+/// The first fragment of a unit, and its last.
+const START: [u8; 3] = [0x7c, 0x85, 2];
+
+const END: [u8; 3] = [0x7c, 0x45, 3];
+
+const WRITTEN: [u8; 7] = [0, 0, 0, 1, 0x65, 2, 3];
+
+const KEY: CodecExtra = CodecExtra::H264(H264CodecExtra { is_keyframe: true });
+
+const SHORT: Result<(), PacketError> = Err(PacketError::ErrShortPacket);
+
+const LACKS: Result<(), PacketError> = Err(PacketError::OutOfMemory);
+
+/// The fragments with a packet of no byte between, and one without its header behind them.
+fn packets(alloc: Global) -> Result<Vec<Vec<u8>>, PacketError> {
+    let mut packets = room_for(alloc, Tries::Twice, 5)?;
+    let each: [&[u8]; 5] = [&STARTLESS, &START, &[], &END, &[0x7c]];
+    for packet in each {
+        packets.push(buffer_of(alloc, Tries::Twice, packet)?)?;
+    }
+    Ok(packets)
+}
+
+/// What was written, by what became of the packets.
+fn written_of(
+    outcomes: Result<&[Result<(), PacketError>], &PacketError>,
+) -> Result<&'static [u8], PacketError> {
+    match outcomes {
+        Err(PacketError::OutOfMemory) => Ok(&[]),
+        Ok([Ok(()), Ok(()), SHORT, Ok(()), SHORT]) => Ok(&WRITTEN),
+        Ok([Ok(()), LACKS, SHORT, Ok(()), SHORT]) => Ok(&[]),
+        Ok([Ok(()), Ok(()), SHORT, LACKS, SHORT]) => Ok(&[]),
+        _ => Err(PacketError::ErrShortPacket),
+    }
+}
+
+/// Without room for the outcomes nothing is taken. A packet for which memory lacks is passed over,
+/// and may be given again: the unit is then written where its start was taken and its end wasn't.
+#[test]
+fn as_far_as_memory_goes(rt: HostRuntime) -> Result<(), PacketError> {
+    let packets = packets(rt.alloc())?;
+    let mut depacketizer = CodecDepacketizer::new(rt.alloc(), Codec::H264);
+    let mut out = Vec::new(rt.alloc());
+    let mut extra = CodecExtra::None;
+    let answer = take_all(
+        rt.alloc(),
+        &mut depacketizer,
+        &packets,
+        &mut out,
+        &mut extra,
+    );
+    let written = written_of(answer.as_ref().map(|outcomes| outcomes.as_slice()))?;
+    assert!(rt; out.as_slice() == written);
+    assert!(rt; (extra == KEY) == !written.is_empty());
+    Ok(())
+}
+
+/// An end for which memory lacked is given again.
+#[test]
+fn an_end_given_again(rt: HostRuntime) -> Result<(), PacketError> {
+    let packets = packets(rt.alloc())?;
+    let mut depacketizer = CodecDepacketizer::new(rt.alloc(), Codec::H264);
+    let mut out = Vec::new(rt.alloc());
+    let mut extra = CodecExtra::None;
+    let answer = take_all(
+        rt.alloc(),
+        &mut depacketizer,
+        &packets,
+        &mut out,
+        &mut extra,
+    );
+    let is_open = match answer {
+        Ok(outcomes) => outcomes.get(3) == Some(&LACKS),
+        Err(_) => false,
+    };
+    out.clear();
+    depacketizer.depacketize(&END, &mut out, &mut extra)?;
+    assert!(rt; out.as_slice() == if is_open { WRITTEN.as_slice() } else { &[] });
+    Ok(())
+}
+
+#[test]
+fn taken_at_once(rt: HostRuntime) -> Result<(), PacketError> {
+    let packets = packets(rt.alloc())?;
+    let mut depacketizer = CodecDepacketizer::new(rt.alloc(), Codec::H264);
+    let mut out = Vec::new(rt.alloc());
+    let mut extra = CodecExtra::None;
+    let outcomes = take_all(
+        rt.alloc(),
+        &mut depacketizer,
+        &packets,
+        &mut out,
+        &mut extra,
+    )?;
+    assert!(rt; outcomes.as_slice() == [Ok(()), Ok(()), SHORT, Ok(()), SHORT].as_slice());
+    assert!(rt; out.as_slice() == WRITTEN.as_slice() && extra == KEY);
+    Ok(())
+}
