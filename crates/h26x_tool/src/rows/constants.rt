@@ -5,28 +5,32 @@ use h26x_core::{
     SPS_NALU_TYPE, STAPA_HEADER_SIZE, STAPA_NALU_LENGTH_SIZE, STAPA_NALU_TYPE,
 };
 
+/// Names of numbers, the numbers, and what they are.
+const NUMBERS: [(&str, u8, u8); 13] = [
+    ("STAPA_NALU_TYPE", STAPA_NALU_TYPE, 24),
+    ("FUA_NALU_TYPE", FUA_NALU_TYPE, 28),
+    ("FUB_NALU_TYPE", FUB_NALU_TYPE, 29),
+    ("IDR_NALU_TYPE", IDR_NALU_TYPE, 5),
+    ("SPS_NALU_TYPE", SPS_NALU_TYPE, 7),
+    ("PPS_NALU_TYPE", PPS_NALU_TYPE, 8),
+    ("AUD_NALU_TYPE", AUD_NALU_TYPE, 9),
+    ("FILLER_NALU_TYPE", FILLER_NALU_TYPE, 12),
+    ("NALU_TYPE_BITMASK", NALU_TYPE_BITMASK, 0x1f),
+    ("NALU_REF_IDC_BITMASK", NALU_REF_IDC_BITMASK, 0x60),
+    ("FU_START_BITMASK", FU_START_BITMASK, 0x80),
+    ("FU_END_BITMASK", FU_END_BITMASK, 0x40),
+    ("OUTPUT_STAP_AHEADER", OUTPUT_STAP_AHEADER, 0x78),
+];
+
 #[test]
 fn numbers_of_h264(rt: HostRuntime) {
-    for (name, number, want) in [
-        ("STAPA_NALU_TYPE", STAPA_NALU_TYPE, 24),
-        ("FUA_NALU_TYPE", FUA_NALU_TYPE, 28),
-        ("FUB_NALU_TYPE", FUB_NALU_TYPE, 29),
-        ("IDR_NALU_TYPE", IDR_NALU_TYPE, 5),
-        ("SPS_NALU_TYPE", SPS_NALU_TYPE, 7),
-        ("PPS_NALU_TYPE", PPS_NALU_TYPE, 8),
-        ("AUD_NALU_TYPE", AUD_NALU_TYPE, 9),
-        ("FILLER_NALU_TYPE", FILLER_NALU_TYPE, 12),
-        ("NALU_TYPE_BITMASK", NALU_TYPE_BITMASK, 0x1f),
-        ("NALU_REF_IDC_BITMASK", NALU_REF_IDC_BITMASK, 0x60),
-        ("FU_START_BITMASK", FU_START_BITMASK, 0x80),
-        ("FU_END_BITMASK", FU_END_BITMASK, 0x40),
-        ("OUTPUT_STAP_AHEADER", OUTPUT_STAP_AHEADER, 0x78),
-    ] {
-        assert_eq!(rt; number, want, "at {name}");
+    for (name, number, want) in &NUMBERS {
+        assert_eq!(rt; (*name, *number), (*name, *want));
     }
-    assert_eq!(rt; FUA_HEADER_SIZE, 2);
-    assert_eq!(rt; STAPA_HEADER_SIZE, 1);
-    assert_eq!(rt; STAPA_NALU_LENGTH_SIZE, 2);
+    assert_eq!(rt;
+        (FUA_HEADER_SIZE, STAPA_HEADER_SIZE, STAPA_NALU_LENGTH_SIZE),
+        (2, 1, 2)
+    );
 }
 
 #[test]

@@ -1,12 +1,7 @@
-use super::{bytes_of, list_of};
+use super::{bytes_of, fresh, list_of, same_bytes, same_told, told};
 use crate::plain::PlainDepacketizer;
 use h26x_codec::{Codec, CodecDepacketizer, take_all};
-use h26x_core::{
-    CodecExtra, Depacketizer, H264CodecExtra, H265CodecExtra, H266CodecExtra, PacketError,
-};
-use h264_payload::H264Depacketizer;
-use h265_payload::H265Depacketizer;
-use h266_payload::H266Depacketizer;
+use h26x_core::{CodecExtra, Depacketizer, PacketError};
 use std::alloc::Global;
 use std::process::Abort;
 use std::test::Fail;
@@ -96,43 +91,60 @@ const ROWS: [Row; 8] = [
     },
 ];
 
-/// A fresh depacketizer of a codec.
-fn fresh(alloc: Global, codec: Codec, donl: bool) -> CodecDepacketizer {
-    match codec {
-        Codec::H264 => CodecDepacketizer::H264(H264Depacketizer::new(alloc)),
-        Codec::H265 => {
-            let mut depacketizer = H265Depacketizer::new(alloc);
-            depacketizer.with_donl(donl);
-            CodecDepacketizer::H265(depacketizer)
-        }
-        Codec::H266 => {
-            let mut depacketizer = H266Depacketizer::new(alloc);
-            depacketizer.with_donl(donl);
-            CodecDepacketizer::H266(depacketizer)
-        }
-    }
+/// What becomes of packets in a list, what is written and what is told.
+#[derive(Drop)]
+struct Taken {
+    outcomes: Vec<Result<(), PacketError>>,
+    out: Vec<u8>,
+    told: CodecExtra,
 }
 
-/// What is told of units of a codec.
-fn told(codec: Codec, is_keyframe: bool) -> CodecExtra {
-    match codec {
-        Codec::H264 => CodecExtra::H264(H264CodecExtra { is_keyframe }),
-        Codec::H265 => CodecExtra::H265(H265CodecExtra { is_keyframe }),
-        Codec::H266 => CodecExtra::H266(H266CodecExtra { is_keyframe }),
-    }
+/// Takes packets by a fresh depacketizer, after this was told of others.
+fn take_fresh(
+    alloc: Global,
+    codec: Codec,
+    donl: bool,
+    packets: &[Vec<u8>],
+    mut told: CodecExtra,
+) -> Result<Taken, PacketError> {
+    let mut out = Vec::new(alloc);
+    let outcomes = take_all(
+        alloc,
+        &mut fresh(alloc, codec, donl),
+        packets,
+        &mut out,
+        &mut told,
+    )?;
+    Ok(Taken {
+        outcomes,
+        out,
+        told,
+    })
 }
 
 fn take_row(rt: &impl Abort, alloc: Global, row: &Row) -> Result<(), Fail> {
-    let mut depacketizer = fresh(alloc, row.codec, row.donl);
     let packets = list_of(alloc, row.packets)?;
-    let mut out = Vec::new(alloc);
-    let mut extra = CodecExtra::None;
-    let outcomes = take_all(alloc, &mut depacketizer, &packets, &mut out, &mut extra)?;
-    assert_eq!(rt; outcomes.as_slice(), row.outcomes, "{}", row.packets);
     let written = bytes_of(alloc, row.written)?;
-    assert_eq!(rt; out.as_slice(), written.as_slice(), "{}", row.packets);
-    assert_eq!(rt; extra, told(row.codec, row.is_keyframe), "{}", row.packets);
+    let taken = take_fresh(alloc, row.codec, row.donl, &packets, CodecExtra::None)?;
+    same_outcomes(rt, &taken.outcomes, row.outcomes, row.packets);
+    same_bytes(rt, &taken.out, &written, row.packets);
+    same_told(
+        rt,
+        taken.told,
+        told(row.codec, row.is_keyframe),
+        row.packets,
+    );
     Ok(())
+}
+
+/// Compares what becomes of the packets of a case.
+fn same_outcomes(
+    rt: &impl Abort,
+    made: &[Result<(), PacketError>],
+    wanted: &[Result<(), PacketError>],
+    at: &str,
+) {
+    assert_eq!(rt; made, wanted, "at {at}");
 }
 
 #[test]
@@ -143,31 +155,36 @@ fn packets_lost_cut_and_refused(rt: HostRuntime) -> Result<(), Fail> {
     Ok(())
 }
 
-#[test]
-fn packets_for_an_end_in_a_box(rt: HostRuntime) -> Result<(), Fail> {
-    let alloc = rt.alloc();
+/// Takes packets by an end in a box.
+fn take_in_a_box(alloc: Global, packets: &[Vec<u8>]) -> Result<Taken, Fail> {
     let plain = PlainDepacketizer::new(alloc);
     let mut depacketizer = CodecDepacketizer::Boxed(Box::new(alloc, plain)?);
-    let packets = list_of(alloc, "aa - bb")?;
     let mut out = Vec::new(alloc);
-    let mut extra = CodecExtra::None;
-    let outcomes = take_all(alloc, &mut depacketizer, &packets, &mut out, &mut extra)?;
-    assert_eq!(rt; outcomes.as_slice(), [Ok(()), SHORT, Ok(())].as_slice());
-    assert_eq!(rt; out.as_slice(), [0xaa, 0xbb].as_slice());
-    assert_eq!(rt; extra, CodecExtra::None);
+    let mut told = CodecExtra::None;
+    let outcomes = take_all(alloc, &mut depacketizer, packets, &mut out, &mut told)?;
+    Ok(Taken {
+        outcomes,
+        out,
+        told,
+    })
+}
+
+#[test]
+fn packets_for_an_end_in_a_box(rt: HostRuntime) -> Result<(), Fail> {
+    let taken = take_in_a_box(rt.alloc(), &list_of(rt.alloc(), "aa - bb")?)?;
+    same_outcomes(&rt, &taken.outcomes, &[Ok(()), SHORT, Ok(())], "a box");
+    same_bytes(&rt, &taken.out, &[0xaa, 0xbb], "a box");
+    same_told(&rt, taken.told, CodecExtra::None, "a box");
     Ok(())
 }
 
 #[test]
 fn what_another_codec_told(rt: HostRuntime) -> Result<(), Fail> {
-    let alloc = rt.alloc();
-    let mut depacketizer = CodecDepacketizer::new(alloc, Codec::H264);
-    let packets = list_of(alloc, "61ff")?;
-    let mut out = Vec::new(alloc);
-    let mut extra = told(Codec::H266, true);
-    let outcomes = take_all(alloc, &mut depacketizer, &packets, &mut out, &mut extra)?;
-    assert_eq!(rt; outcomes.as_slice(), [Ok(())].as_slice());
-    assert_eq!(rt; extra, told(Codec::H264, false));
+    let packets = list_of(rt.alloc(), "61ff")?;
+    let other = told(Codec::H266, true);
+    let taken = take_fresh(rt.alloc(), Codec::H264, false, &packets, other)?;
+    same_outcomes(&rt, &taken.outcomes, &[Ok(())], "61ff");
+    same_told(&rt, taken.told, told(Codec::H264, false), "61ff");
     Ok(())
 }
 
@@ -208,46 +225,52 @@ const CUT: [(Codec, bool, &str); 5] = [
     ),
 ];
 
+/// The last answer of a depacketizer, what it wrote and what it told.
+#[derive(Debug, PartialEq, Drop)]
+struct Given {
+    answer: Result<(), PacketError>,
+    out: Vec<u8>,
+    told: CodecExtra,
+}
+
+/// Gives packets to a fresh depacketizer.
+fn give(alloc: Global, codec: Codec, donl: bool, packets: &[&[u8]]) -> Given {
+    let mut depacketizer = fresh(alloc, codec, donl);
+    let mut given = Given {
+        answer: Ok(()),
+        out: Vec::new(alloc),
+        told: CodecExtra::None,
+    };
+    for packet in packets {
+        given.answer = depacketizer.depacketize(packet, &mut given.out, &mut given.told);
+    }
+    given
+}
+
 /// Gives a fresh depacketizer a packet cut to a length. Where it is refused nothing is written or
 /// told, and the whole packet is then taken as by a fresh one.
-fn take_cut(
-    rt: &impl Abort,
-    alloc: Global,
-    row: (Codec, bool),
-    packet: &[u8],
-    len: usize,
-) -> Result<(), Fail> {
-    let mut depacketizer = fresh(alloc, row.0, row.1);
-    let mut out = Vec::new(alloc);
-    let mut extra = CodecExtra::None;
-    let cut = packet.get(..len).unwrap_or(packet);
-    if depacketizer.depacketize(cut, &mut out, &mut extra).is_ok() {
-        return Ok(());
+fn take_cut(rt: &impl Abort, alloc: Global, codec: Codec, donl: bool, packet: &[u8], cut: &[u8]) {
+    let refused = give(alloc, codec, donl, &[cut]);
+    if refused.answer.is_err() {
+        let is_left = refused.out.is_empty() && refused.told == CodecExtra::None;
+        let behind = give(alloc, codec, donl, &[cut, packet]);
+        let is_same = behind == give(alloc, codec, donl, &[packet]);
+        assert!(rt; is_left && is_same, "{cut:?}");
     }
-    assert!(rt; out.is_empty(), "{len} bytes of {packet:?}");
-    assert_eq!(rt; extra, CodecExtra::None, "{len} bytes of {packet:?}");
-    let mut other = fresh(alloc, row.0, row.1);
-    let mut want = Vec::new(alloc);
-    let mut known = CodecExtra::None;
-    let answer = other.depacketize(packet, &mut want, &mut known);
-    let again = depacketizer.depacketize(packet, &mut out, &mut extra);
-    assert_eq!(rt; again, answer, "{len} bytes of {packet:?}");
-    assert_eq!(rt;
-        out.as_slice(),
-        want.as_slice(),
-        "{len} bytes of {packet:?}"
-    );
-    assert_eq!(rt; extra, known, "{len} bytes of {packet:?}");
-    Ok(())
+}
+
+/// Cuts a packet to each of its lengths.
+fn take_cuts(rt: &impl Abort, alloc: Global, codec: Codec, donl: bool, packet: &[u8]) {
+    for len in 0..packet.len() {
+        take_cut(rt, alloc, codec, donl, packet, &packet[..len]);
+    }
 }
 
 #[test]
 fn packets_cut_to_each_length(rt: HostRuntime) -> Result<(), Fail> {
-    for (codec, donl, packets) in CUT {
+    for (codec, donl, packets) in &CUT {
         for packet in &list_of(rt.alloc(), packets)? {
-            for len in 0..packet.len() {
-                take_cut(&rt, rt.alloc(), (codec, donl), packet, len)?;
-            }
+            take_cuts(&rt, rt.alloc(), *codec, *donl, packet);
         }
     }
     Ok(())

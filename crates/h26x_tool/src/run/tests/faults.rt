@@ -1,5 +1,6 @@
 use super::*;
 use h26x_core::PacketError;
+use std::fmt;
 
 /// Gives a line, and then fails.
 #[derive(Debug, Drop)]
@@ -19,12 +20,15 @@ impl Read for BrokenReader {
     }
 }
 
+/// How a read fails, and how the run then ends.
+const FAILED_READS: [(io::ErrorKind, RunError); 2] = [
+    (io::ErrorKind::BrokenPipe, RunError::Read),
+    (io::ErrorKind::OutOfMemory, RunError::OutOfMemory),
+];
+
 #[test]
 fn a_read_that_fails(rt: HostRuntime) {
-    for (kind, want) in [
-        (io::ErrorKind::BrokenPipe, RunError::Read),
-        (io::ErrorKind::OutOfMemory, RunError::OutOfMemory),
-    ] {
+    for (kind, want) in FAILED_READS {
         let reader = BrokenReader {
             has_given: false,
             kind,
@@ -70,41 +74,47 @@ fn run_often(alloc: Global, line: &str, writer: BrokenWriter) -> Result<(), RunE
     run(alloc, input.as_slice(), writer)
 }
 
+/// Lines that are answered in each way.
+const ANSWERED: [&str; 15] = [
+    "key",
+    "hello",
+    "codec h266",
+    "avc on",
+    "donl on",
+    "size 4",
+    "unpack 65",
+    "unpack 1c80",
+    "unpack -",
+    "unpack 78000f67",
+    "pack 5 65",
+    "pack 5 -",
+    "carry 5 65",
+    "carry 5 -",
+    "carry 5 60",
+];
+
 #[test]
 fn a_write_that_fails(rt: HostRuntime) {
-    for line in [
-        "key",
-        "hello",
-        "codec h266",
-        "avc on",
-        "donl on",
-        "size 4",
-        "unpack 65",
-        "unpack 1c80",
-        "unpack -",
-        "unpack 78000f67",
-        "pack 5 65",
-        "pack 5 -",
-        "carry 5 65",
-        "carry 5 -",
-        "carry 5 60",
-    ] {
+    for line in &ANSWERED {
         let writer = BrokenWriter {
             fails_to_write: true,
             fails_to_flush: false,
         };
         let ended = run_often(rt.alloc(), line, writer);
-        assert_eq!(rt; ended, Err(RunError::Write), "at {line}");
+        assert_eq!(rt; (*line, ended), (*line, Err(RunError::Write)));
     }
 }
 
+/// Whether writing and flushing fail, and how the run then ends.
+const FAILED_WRITES: [(bool, bool, Result<(), RunError>); 3] = [
+    (false, false, Ok(())),
+    (true, false, Err(RunError::Write)),
+    (false, true, Err(RunError::Write)),
+];
+
 #[test]
 fn a_write_that_fails_at_the_end(rt: HostRuntime) {
-    for (fails_to_write, fails_to_flush, want) in [
-        (false, false, Ok(())),
-        (true, false, Err(RunError::Write)),
-        (false, true, Err(RunError::Write)),
-    ] {
+    for (fails_to_write, fails_to_flush, want) in FAILED_WRITES {
         let writer = BrokenWriter {
             fails_to_write,
             fails_to_flush,
@@ -113,44 +123,55 @@ fn a_write_that_fails_at_the_end(rt: HostRuntime) {
     }
 }
 
+/// Errors of a packet, and their texts.
+const ERRORS: [(PacketError, &str); 8] = [
+    (PacketError::ErrShortPacket, "packet is too short"),
+    (
+        PacketError::NaluTypeIsNotHandled(31),
+        "NAL unit type 31 is not handled",
+    ),
+    (
+        PacketError::StapASizeLargerThanBuffer(15, 14),
+        "STAP-A unit of 15 bytes, 14 left",
+    ),
+    (
+        PacketError::ErrH265CorruptedPacket,
+        "corrupted H.265 packet",
+    ),
+    (
+        PacketError::ErrH265PACIPHESTooLong,
+        "PACI extension is longer than 31 bytes",
+    ),
+    (
+        PacketError::ErrH266CorruptedPacket,
+        "corrupted H.266 packet",
+    ),
+    (
+        PacketError::AvcUnitTooLong,
+        "unit is too long for an AVC length",
+    ),
+    (PacketError::OutOfMemory, "out of memory"),
+];
+
+/// Errors that end a run, and their texts.
+const ENDS: [(RunError, &str); 3] = [
+    (RunError::Read, "h26x: read failed"),
+    (RunError::Write, "h26x: write failed"),
+    (RunError::OutOfMemory, "h26x: no memory"),
+];
+
+fn say<E: fmt::Display>(rt: &impl Abort, alloc: Global, error: &E, want: &str) -> Result<(), Fail> {
+    assert_eq!(rt; error.to_string(alloc)?.as_str(), want);
+    Ok(())
+}
+
 #[test]
 fn texts_of_errors(rt: HostRuntime) -> Result<(), Fail> {
-    for (error, want) in [
-        (PacketError::ErrShortPacket, "packet is too short"),
-        (
-            PacketError::NaluTypeIsNotHandled(31),
-            "NAL unit type 31 is not handled",
-        ),
-        (
-            PacketError::StapASizeLargerThanBuffer(15, 14),
-            "STAP-A unit of 15 bytes, 14 left",
-        ),
-        (
-            PacketError::ErrH265CorruptedPacket,
-            "corrupted H.265 packet",
-        ),
-        (
-            PacketError::ErrH265PACIPHESTooLong,
-            "PACI extension is longer than 31 bytes",
-        ),
-        (
-            PacketError::ErrH266CorruptedPacket,
-            "corrupted H.266 packet",
-        ),
-        (
-            PacketError::AvcUnitTooLong,
-            "unit is too long for an AVC length",
-        ),
-        (PacketError::OutOfMemory, "out of memory"),
-    ] {
-        assert_eq!(rt; error.to_string(rt.alloc())?.as_str(), want);
+    for (error, want) in &ERRORS {
+        say(&rt, rt.alloc(), error, want)?;
     }
-    for (error, want) in [
-        (RunError::Read, "h26x: read failed"),
-        (RunError::Write, "h26x: write failed"),
-        (RunError::OutOfMemory, "h26x: no memory"),
-    ] {
-        assert_eq!(rt; error.to_string(rt.alloc())?.as_str(), want);
+    for (error, want) in &ENDS {
+        say(&rt, rt.alloc(), error, want)?;
     }
     Ok(())
 }

@@ -1,4 +1,6 @@
 use super::{answers, compare};
+use std::alloc::Global;
+use std::process::Abort;
 use std::test::Fail;
 
 const WORDS: [(&str, &str); 7] = [
@@ -79,34 +81,43 @@ const BAD: [&str; 59] = [
     "key é",
 ];
 
-#[test]
-fn bad_lines(rt: HostRuntime) -> Result<(), Fail> {
-    for codec in ["h264", "h265", "h266"] {
-        for line in BAD {
-            let input = format!(in rt.alloc(); "codec {codec}\n{line}\n")?;
-            let output = answers(rt.alloc(), input.as_bytes())?;
-            assert_eq!(rt;
-                output.as_slice(),
-                b"ok\nbad line\n".as_slice(),
-                "at {input:?}"
-            );
-        }
+/// Gives a fresh session of a codec a line that is bad.
+fn refuse(rt: &impl Abort, alloc: Global, codec: &str, line: &str) -> Result<(), Fail> {
+    let input = format!(in alloc; "codec {codec}\n{line}\n")?;
+    compare(rt, alloc, &[(input.as_str(), "ok\nbad line\n")])
+}
+
+fn refuse_all(rt: &impl Abort, alloc: Global, codec: &str) -> Result<(), Fail> {
+    for line in &BAD {
+        refuse(rt, alloc, codec, line)?;
     }
     Ok(())
 }
 
 #[test]
+fn bad_lines(rt: HostRuntime) -> Result<(), Fail> {
+    refuse_all(&rt, rt.alloc(), "h264")?;
+    refuse_all(&rt, rt.alloc(), "h265")?;
+    refuse_all(&rt, rt.alloc(), "h266")
+}
+
+/// Lines that are no text in UTF-8.
+const NO_TEXT: [&[u8]; 5] = [
+    b"key \xff\n",
+    b"\xc3\x28",
+    b"pack \xff 65",
+    b"size \xff",
+    b"unpack \xff\xff",
+];
+
+#[test]
 fn lines_that_are_no_text(rt: HostRuntime) -> Result<(), Fail> {
-    let lines: [&[u8]; 5] = [
-        b"key \xff\n",
-        b"\xc3\x28",
-        b"pack \xff 65",
-        b"size \xff",
-        b"unpack \xff\xff",
-    ];
-    for line in lines {
+    for line in &NO_TEXT {
         let output = answers(rt.alloc(), line)?;
-        assert_eq!(rt; output.as_slice(), b"bad line\n".as_slice(), "at {line:?}");
+        assert_eq!(rt;
+            (*line, output.as_slice()),
+            (*line, b"bad line\n".as_slice())
+        );
     }
     Ok(())
 }
