@@ -30,4 +30,3 @@ pub use h265_packets::{
     H265FragmentationUnitPacket, H265PACIPacket, H265Payload, H265SingleNALUnitPacket,
 };
 pub use packetizer::{H265, H265Packetizer};
-

@@ -23,4 +23,3 @@ mod packetizer;
 pub use depacketizer::H266Depacketizer;
 pub use detect::detect_h266_keyframe;
 pub use packetizer::{H266, H266Packetizer};
-
