@@ -62,6 +62,17 @@ impl H264Depacketizer {
         }
     }
 
+    /// Gives up the open run, if there is one, and gives its buffer back. It takes no memory.
+    ///
+    /// A run grows by every fragment until one ends it, and its buffer is kept for later runs: a
+    /// caller that will not hold so much calls this. Fragments that follow without a start are
+    /// accepted and complete nothing.
+    pub fn give_up_run(&mut self)
+        ensures { self.new ≡ record self.old { run = None } }
+    {
+        self.run.give_up();
+    }
+
     /// The same depacketizer again, with its setting and its open run. `OutOfMemory` is its only
     /// error, and with no run open it takes no memory.
     pub fn clone(&self) -> Result<Self, PacketError>

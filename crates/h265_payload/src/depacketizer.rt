@@ -176,6 +176,17 @@ impl H265Depacketizer {
         self.codec = self.codec.with_numbers(value);
     }
 
+    /// Gives up the open run, if there is one, and gives its buffer back. It takes no memory.
+    ///
+    /// A run grows by every fragment until one ends it, and its buffer is kept for later runs: a
+    /// caller that will not hold so much calls this. Fragments that follow without a start are
+    /// accepted and complete nothing.
+    pub fn give_up_run(&mut self)
+        ensures { self.new ≡ record self.old { run = None } }
+    {
+        self.run.give_up();
+    }
+
     /// The packet that was accepted last; before any, the empty single NAL unit packet.
     pub fn payload(&self) -> &H265Payload
         ensures { result.now ≡ self.now.payload }

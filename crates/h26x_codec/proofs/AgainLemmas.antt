@@ -25,9 +25,9 @@ use Rattle.h26x_cut.specs.Cutting.{AreSeparable}
 use Rattle.h264_payload.specs.H264.{h264}
 use Rattle.h265_payload.specs.H265.{h265}
 use Rattle.h266_payload.specs.H266.{h266}
-use Rattle.h26x_codec.specs.Codec.{at_work}
+use Rattle.h26x_codec.specs.Codec.{at_work, format_with}
 use Rattle.h26x_codec.specs.Runs.{IsLeftOver}
-use Rattle.h26x_codec.specs.Repeating.{format_with, rule_of, IsFirstRefused}
+use Rattle.h26x_codec.specs.Repeating.{rule_of, IsFirstRefused}
 use Rattle.h26x_codec.specs.declared.codec.Codec.{Codec}
 use Rattle.h26x_codec.specs.declared.codec.Codec.TheVariants as c
 use Rattle.h26x_codec.proofs.RunLemmas.{written_of}
@@ -101,16 +101,16 @@ first_refused w given all e new avc same over =
     ⊎_elim (λ (memory : e ≡ OutOfMemory). inl memory)
     (λ (packet, later, left, outcome). ⊎_elim (λ (memory : e ≡ OutOfMemory). inl memory)
     (λ refused. inr (record {
-      before = over.delivered.taken;
+      before = over.taken;
       packet = packet;
       later = later;
-      whole = sym same ∙ over.delivered.front ∙ ap (λ (x : List (List ℕ)). over.delivered.taken ++ x) left;
+      whole = sym same ∙ over.front ∙ ap (λ (x : List (List ℕ)). over.taken ++ x) left;
       read = over.read;
       refused = refused;
     }))
-    (refused_why (work_after w over.delivered.taken).receiver.run (w.receiver.format.read packet) e
-    (subst (λ b. IsOutcomeWith b (work_after w over.delivered.taken).receiver.run (w.receiver.format.read packet) (Err e)) avc outcome)))
-    over.delivered.cause
+    (refused_why (work_after w over.taken).receiver.run (w.receiver.format.read packet) e
+    (subst (λ b. IsOutcomeWith b (work_after w over.taken).receiver.run (w.receiver.format.read packet) (Err e)) avc outcome)))
+    over.cause
 
 -- what each codec's law says of calls like one
 abbrev pub SendsAgainApart : Format → ZeroRule → Type 0

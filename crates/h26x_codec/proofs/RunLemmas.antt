@@ -92,16 +92,13 @@ pub stopped : (w : Work) (packets : List (List ℕ)) (i : ℕ) (e : PacketError)
     i < length packets → new ≡ Some (work_after w (take i packets)) → AllByRecursion (λ packet. IsRead (w.receiver.format.read packet)) (take i packets) →
     IsOutcomeAt (work_after w (take i packets)) (get_or packets i []) (Err e) → IsLeftOver w packets e new
 stopped w packets i e new within left read outcome = record {
-  delivered = record {
-    taken = take i packets;
-    left = drop i packets;
-    front = sym (take-append-drop i packets);
-    work = left;
-    all = tt;
-    cause = inr (get_or packets i [], drop (i + 1) packets, drop_more packets i [] within, outcome);
-  };
+  taken = take i packets;
+  left = drop i packets;
+  front = sym (take-append-drop i packets);
+  work = left;
   read = read;
-  some = λ none. let more = drop_more packets i [] within in cc;
+  unfinished = λ none. let more = drop_more packets i [] within in cc;
+  cause = inr (get_or packets i [], drop (i + 1) packets, drop_more packets i [] within, outcome);
 }
 
 -- a list that gives none has none
@@ -111,10 +108,14 @@ none_mapped f (x ∷ xs) is = absurd cc
 
 -- where memory lacks before the first none is taken
 pub none_taken : (w : Work) (packets : List (List ℕ)) (new : Option Work) → ReceiverGoesOn w → new ≡ Some w → (packets ≡ [] → ⊥) → IsLeftOver w packets OutOfMemory new
-none_taken w packets new law is some = record {
-  delivered = record { taken = []; left = packets; front = refl; work = is ∙ ap Some (sym law.none); all = tt; cause = inl refl };
+none_taken w packets new law is unfinished = record {
+  taken = [];
+  left = packets;
+  front = refl;
+  work = is ∙ ap Some (sym law.none);
   read = tt;
-  some = some;
+  unfinished = unfinished;
+  cause = inl refl;
 }
 
 -- a call more that is marked
@@ -187,28 +188,20 @@ taken_more w packets new work takes (more, is, taken) =
 
 -- a call one of whose packets is left
 pub run_stopped : (s : Sender) (w : Work) (calls : List Call) (made : List Bool) (call : Call) (packets : List (List ℕ)) (e : PacketError) (before sender : Option Sender) (work : Option Work) →
-    SenderGoesOn s → ReceiverGoesOn w → slice_get calls (length made) ≡ Some call → AreSent s calls made packets before →
+    SenderGoesOn s → slice_get calls (length made) ≡ Some call → AreSent s calls made packets before →
     sender ≡ Some (after (after s (entries_made s.format made calls)) (entries_of_call s.format call)) →
     IsLeftOver (work_after w packets) (packets_by (after s (entries_made s.format made calls)) (entries_of_call s.format call)) e work →
     IsStoppedIn s w calls e sender work
-run_stopped s w calls made call packets e before sender work goes takes next are stands over =
+run_stopped s w calls made call packets e before sender work goes next are stands over =
     let es = entries_made s.format made calls in
-    let del = over.delivered in
     let more : entries_made s.format (made ++ true ∷ []) calls ≡ es ++ entries_of_call s.format call = entries_more s.format made calls call next in
-    let so_far : work_after (work_after w packets) del.taken ≡ work_after w (packets_by s es ++ del.taken) =
-    takes.more packets del.taken ∙ ap (λ (x : List (List ℕ)). work_after w (x ++ del.taken)) are.packets_are in
     record {
       made = made;
       call = call;
       marks = are.marks;
       place = next;
       stands = stands ∙ ap Some (sym (goes.later es (entries_of_call s.format call)) ∙ ap (after s) (sym more));
-      taken = del.taken;
-      left = del.left;
-      own = del.front;
-      some = over.some;
-      front = del.work ∙ ap Some so_far;
-      cause = subst (λ (x : Work). IsCause x del.left e) so_far del.cause;
+      over = subst (λ (x : List (List ℕ)). IsLeftOver (work_after w x) (packets_by (after s es) (entries_of_call s.format call)) e work) are.packets_are over;
     }
 
 -- what follows of an answer that is no refusal
@@ -242,22 +235,24 @@ calls_small s small (false ∷ made) (call ∷ calls) = calls_small s small made
 -- what is written by packets that bring these units
 pub written_of : (o : Option Receiver) (new : List ℕ) (extra : CodecExtra) (w : Work) (packets units : List (List ℕ)) →
     option_map (λ r. at_work r new extra) o ≡ Some (work_after w packets) → brought w.receiver packets ≡ units →
-    AreWritten w.receiver units w.out new w.extra extra
+    AreWritten w units new extra
 written_of o new extra w packets units is brings =
     let parts = work_parts o new extra (work_after w packets) is in
     rw (← brings) (parts.is_out, parts.is_extra)
 
 -- a run that stopped lacked memory where all it sent is carried
-pub stopped_run : (s : Sender) (w : Work) (calls : List Call) (e : PacketError) (sender : Option Sender) (work : Option Work) → SenderGoesOn s →
+pub stopped_run : (s : Sender) (w : Work) (calls : List Call) (e : PacketError) (sender : Option Sender) (work : Option Work) → SenderGoesOn s → ReceiverGoesOn w →
     ((made : List Bool) → w.receiver.format ≡ s.format → AreCarried s.format (sent_of s made calls) → CarriesWhole s w (kept made calls)) →
     (IsUnbegun s w e sender work ⊎ IsStoppedIn s w calls e sender work) → IsStopped s w calls e sender work
-stopped_run s w calls e sender work goes law (inl it) = inl it
-stopped_run s w calls e sender work goes law (inr it) =
+stopped_run s w calls e sender work goes takes law (inl it) = inl it
+stopped_run s w calls e sender work goes takes law (inr it) =
     let es = entries_made s.format it.made calls in
-    let front : packets_by s (entries_made s.format (it.made ++ true ∷ []) calls) ≡ (packets_by s es ++ it.taken) ++ it.left =
+    let (taken, left) = (it.over.taken, it.over.left) in
+    let front : packets_by s (entries_made s.format (it.made ++ true ∷ []) calls) ≡ (packets_by s es ++ taken) ++ left =
     ap (packets_by s) (entries_more s.format it.made calls it.call it.place) ∙ goes.packets es (entries_of_call s.format it.call)
-    ∙ ap (λ (x : List (List ℕ)). packets_by s es ++ x) it.own ∙ sym (append_assoc (packets_by s es) it.taken it.left) in
-    inr (it, λ same carried short. (law (it.made ++ true ∷ []) same carried).refused short (packets_by s es ++ it.taken) it.left e front it.cause)
+    ∙ ap (λ (x : List (List ℕ)). packets_by s es ++ x) it.over.front ∙ sym (append_assoc (packets_by s es) taken left) in
+    let cause = subst (λ (x : Work). IsCause x left e) (takes.more (packets_by s es) taken) it.over.cause in
+    inr (it, λ same carried short. (law (it.made ++ true ∷ []) same carried).refused short (packets_by s es ++ taken) left e front cause)
 
 -- what a fresh packetizer plans is the plan of all
 pub fresh_plan : (s : Sender) (entries : List Entry) → IsFresh s → plan s.format entries ≡ plan_with s.format none_waiting entries → planned s entries ≡ plan s.format entries
@@ -276,14 +271,14 @@ pub record IsFreshPair (s : Sender) (r : Receiver) (extra : CodecExtra) : Type 0
   pub untold : extra ≡ extras.None
 
 -- of a fresh pair, by the plan of all entries
-pub of_fresh : (s : Sender) (w : Work) (calls : List Call) (made : List (List ℕ)) (new : List ℕ) (told : CodecExtra) →
+pub of_fresh : (s : Sender) (w : Work) (calls : List Call) (made : List (List ℕ)) (out : List ℕ) (told : CodecExtra) →
     IsFreshPair s w.receiver w.extra → SenderGoesOn s → TakesFewestFragments s.format →
     plan s.format (entries_of s.format calls) ≡ plan_with s.format none_waiting (entries_of s.format calls) →
     (AreCarried s.format (sent_by s (entries_of s.format calls)) → CarriesWhole s w calls) →
     made ≡ packets_by s (entries_of s.format calls) →
-    (AreCarried s.format (sent_by s (entries_of s.format calls)) → AreWritten w.receiver (sent_by s (entries_of s.format calls)) w.out new w.extra told) →
-    AreCarriedWhole s w.receiver.is_avc calls made w.out new told
-of_fresh s w calls made new told pair goes fewest planned_is law is whole =
+    (AreCarried s.format (sent_by s (entries_of s.format calls)) → AreWritten w (sent_by s (entries_of s.format calls)) out told) →
+    AreCarriedWhole s w calls made out told
+of_fresh s w calls made out told pair goes fewest planned_is law is whole =
     let f = s.format in
     let entries = entries_of f calls in
     let units : sent f entries ≡ sent_by s entries = ap (flat_map units_of_item) (sym (fresh_plan s entries pair.fresh planned_is)) in

@@ -11,7 +11,7 @@ use Rattle.h26x_core.specs.Front.{IsFrontOf}
 use Rattle.h26x_core.specs.Receiver.{Receiver, Work, work_after, IsOutcomeAt, accepted_of, HaveOutcomes, AreAllTaken}
 use Rattle.h26x_core.specs.Ends.{ReceiverGoesOn}
 use Rattle.h26x_codec.specs.Codec.{at_work}
-use Rattle.h26x_codec.proofs.RunLemmas.{same_work}
+use Rattle.h26x_codec.proofs.RunLemmas.{still_front, same_work}
 
 -- one packet more, and its outcome
 outcomes_more : (w : Work) (before packets : List (List ℕ)) (outcomes : List (Result (Unit {0}) PacketError)) (packet : List ℕ) (outcome : Result (Unit {0}) PacketError) →
@@ -86,5 +86,5 @@ kept_by_refusals outcomes later (Err e) first before after pushed on_err kept al
 -- a front stays one through a call that adds to the list, or leaves it
 pub front_through : {T E : Type 0} (outcome : Result T E) (first before after : List ℕ) →
     OnOk outcome (IsFrontOf before after) → OnErr outcome (after ≡ before) → IsFrontOf first before → IsFrontOf first after
-front_through (Ok v) first before after on_ok on_err (rest, e) = (rest ++ on_ok.0, on_ok.1 ∙ ap (λ (l : List ℕ). l ++ on_ok.0) e ∙ append_assoc first rest on_ok.0)
-front_through (Err x) first before after on_ok on_err (rest, e) = (rest, on_err ∙ e)
+front_through (Ok v) first before after on_ok on_err front = still_front first before after front on_ok
+front_through (Err x) first before after on_ok on_err front = subst (IsFrontOf first) (sym on_err) front

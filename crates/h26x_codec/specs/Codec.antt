@@ -1,5 +1,5 @@
 -- What the ends of the codecs are. Of an end in a box nothing is known but the laws of its trait.
-use Rattle.std.specs.Prelude.{ℕ, ◌==◌, false, true, if◌then◌else◌, List, Option, Some, None}
+use Rattle.std.specs.Prelude.{ℕ, ◌==◌, Bool, false, true, if◌then◌else◌, List, Option, Some, None}
 use Rattle.std.specs.Option.{option_map, option_map_or}
 use Rattle.h26x_core.specs.declared.extra.CodecExtra.{CodecExtra}
 use Rattle.h26x_core.specs.Format.{Format}
@@ -24,11 +24,15 @@ use Rattle.h26x_codec.specs.declared.packetizer.CodecPacketizer.TheVariants as p
 use Rattle.h26x_codec.specs.declared.depacketizer.CodecDepacketizer.{CodecDepacketizer}
 use Rattle.h26x_codec.specs.declared.depacketizer.CodecDepacketizer.TheVariants as d
 
--- the payload format of a codec, without numbers
+-- the payload format of a codec, with decoding order numbers or without; H.264 has none
+abbrev pub format_with : Codec → Bool → Format
+format_with c.H264 numbered = h264
+format_with c.H265 numbered = h265 numbered
+format_with c.H266 numbered = h266 numbered
+
+-- that without numbers
 abbrev pub format_of : Codec → Format
-format_of c.H264 = h264
-format_of c.H265 = h265 false
-format_of c.H266 = h266 false
+format_of codec = format_with codec false
 
 -- the packetizer of a codec
 abbrev pub sender_of : {X : Type 0} {P : X → Type 0} → CodecPacketizer X P → Option Sender
@@ -90,6 +94,14 @@ codec_received (d.H264 it) = Some c.H264
 codec_received (d.H265 it) = Some c.H265
 codec_received (d.H266 it) = Some c.H266
 codec_received (d.Boxed it) = None
+
+-- a depacketizer without its open run
+abbrev pub without_run : {X : Type 0} {P : X → Type 0} → CodecDepacketizer X P →
+    CodecDepacketizer X P
+without_run (d.H264 it) = d.H264 (record it { run = None })
+without_run (d.H265 it) = d.H265 (record it { run = None })
+without_run (d.H266 it) = d.H266 (record it { run = None })
+without_run (d.Boxed it) = d.Boxed it
 
 -- what a depacketizer of H.265 shows
 abbrev pub payload_of : {X : Type 0} {P : X → Type 0} → CodecDepacketizer X P → Option H265Payload

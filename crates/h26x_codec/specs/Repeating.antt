@@ -13,18 +13,9 @@ use Rattle.h26x_core.specs.Ends.{calls_like}
 use Rattle.h26x_cut.specs.declared.ZeroRule.{ZeroRule}
 use Rattle.h26x_cut.specs.declared.ZeroRule.TheVariants.{All, AtMostThree}
 use Rattle.h26x_cut.specs.Cutting.{AreSeparable}
-use Rattle.h264_payload.specs.H264.{h264}
-use Rattle.h265_payload.specs.H265.{h265}
-use Rattle.h266_payload.specs.H266.{h266}
 use Rattle.h26x_codec.specs.declared.codec.Codec.{Codec}
 use Rattle.h26x_codec.specs.declared.codec.Codec.TheVariants as c
-use Rattle.h26x_codec.specs.Codec.{fresh_sender}
-
--- the payload format of a codec, with decoding order numbers or without; H.264 has none
-abbrev pub format_with : Codec → Bool → Format
-format_with c.H264 numbered = h264
-format_with c.H265 numbered = h265 numbered
-format_with c.H266 numbered = h266 numbered
+use Rattle.h26x_codec.specs.Codec.{format_with, fresh_sender}
 
 -- how many zeros before 01 a start code of a codec has
 abbrev pub rule_of : Codec → ZeroRule

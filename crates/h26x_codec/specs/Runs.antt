@@ -17,7 +17,7 @@ use Rattle.h26x_core.specs.Facts.{AreCarried}
 use Rattle.h26x_core.specs.Rival.{TakesFewestFragments}
 use Rattle.h26x_core.specs.Waits.{none_waiting}
 use Rattle.h26x_core.specs.Sender.{Sender, sent_by, packets_by, after, has_no_effect, AreWithinLimits}
-use Rattle.h26x_core.specs.Receiver.{Receiver, AreShort, Work, work_after, IsCause, AreDelivered}
+use Rattle.h26x_core.specs.Receiver.{AreShort, Work, work_after, IsCause}
 use Rattle.h26x_codec.specs.Codec.{call_by}
 
 -- calls of a packetizer: an mtu and a payload each
@@ -65,12 +65,16 @@ AreTaken w packets new work =
     (more : List (List ℕ)) × (new ≡ packets ++ more) × (work ≡ Some (work_after w more))
 
 -- A delivery that stopped: a front of the packets was taken, none of which is refused for what it
--- is, and some are left.
+-- is, and some are left; memory lacks, or the first of these is refused.
 pub record IsLeftOver (w : Work) (packets : List (List ℕ)) (error : PacketError)
     (new : Option Work) : Type 0 where
-  pub delivered : AreDelivered {A = Bool} w packets (Err error) new
-  pub read : AllByRecursion (λ packet. IsRead (w.receiver.format.read packet)) delivered.taken
-  pub some : delivered.left ≡ [] → ⊥
+  pub taken : List (List ℕ)
+  pub left : List (List ℕ)
+  pub front : packets ≡ taken ++ left
+  pub work : new ≡ Some (work_after w taken)
+  pub read : AllByRecursion (λ packet. IsRead (w.receiver.format.read packet)) taken
+  pub unfinished : left ≡ [] → ⊥
+  pub cause : IsCause (work_after w taken) left error
 
 -- a run for whose marks there was no room: nothing was done
 abbrev pub IsUnbegun : Sender → Work → PacketError → Option Sender → Option Work → Type 0
@@ -78,7 +82,7 @@ IsUnbegun s w error sender work =
     (error ≡ OutOfMemory) × (sender ≡ Some s) × (work ≡ Some w)
 
 -- A run that stopped in a call, which was made as those before it that these marks name. All packets
--- of these were taken, and of its own packets a front; then memory lacked, or the next is refused.
+-- of these were taken, and of its own some are left.
 pub record IsStoppedIn (s : Sender) (w : Work) (calls : List Call) (error : PacketError)
     (sender : Option Sender) (work : Option Work) : Type 0 where
   pub made : List Bool
@@ -86,15 +90,9 @@ pub record IsStoppedIn (s : Sender) (w : Work) (calls : List Call) (error : Pack
   pub marks : AreMade s.format made calls
   pub place : slice_get calls (length made) ≡ Some call
   pub stands : sender ≡ Some (after s (entries_made s.format (made ++ true ∷ []) calls))
-  pub taken : List (List ℕ)
-  pub left : List (List ℕ)
-  pub own : packets_by (after s (entries_made s.format made calls))
-      (entries_of_call s.format call) ≡ taken ++ left
-  pub some : left ≡ [] → ⊥
-  pub front : work ≡ Some (work_after w
-      (packets_by s (entries_made s.format made calls) ++ taken))
-  pub cause : IsCause (work_after w (packets_by s (entries_made s.format made calls) ++ taken))
-      left error
+  pub over : IsLeftOver (work_after w (packets_by s (entries_made s.format made calls)))
+      (packets_by (after s (entries_made s.format made calls)) (entries_of_call s.format call))
+      error work
 
 -- where the units that were sent can be carried, and in AVC form none is too long, memory lacked
 abbrev pub LacksMemory : (s : Sender) (w : Work) (calls : List Call) (error : PacketError) →
@@ -111,11 +109,11 @@ IsStopped s w calls error sender work =
     ⊎ ((it : IsStoppedIn s w calls error sender work)
     × (w.receiver.format ≡ s.format → LacksMemory s w calls error (it.made ++ true ∷ [])))
 
--- `out` grew by the text of these units and by nothing else, and the extra is the one after them
-abbrev pub AreWritten : Receiver → List (List ℕ) → List ℕ → List ℕ → CodecExtra → CodecExtra →
-    Type 0
-AreWritten r units out new extra told = (new ≡ out ++ text r.is_avc units)
-    × (told ≡ extra_after r.format extra units)
+-- what was written grew to this by the text of these units and by nothing else, and the extra is the
+-- one after them
+abbrev pub AreWritten : Work → List (List ℕ) → List ℕ → CodecExtra → Type 0
+AreWritten w units out told = (out ≡ w.out ++ text w.receiver.is_avc units)
+    × (told ≡ extra_after w.receiver.format w.extra units)
 
 -- nothing waits for a packetizer, and its counter stands at the beginning
 abbrev pub IsFresh : Sender → Type 0
@@ -125,12 +123,12 @@ IsFresh s = (s.waiting ≡ none_waiting) × (s.counter ≡ 0)
 -- unit that is fragmented takes the fewest fragments that any rival could; and where packets can
 -- carry each unit sent, exactly the units sent are written, in order, and what is told is whether a
 -- key unit is among them.
-pub record AreCarriedWhole (s : Sender) (is_avc : Bool) (calls : List Call)
-    (packets : List (List ℕ)) (out new : List ℕ) (told : CodecExtra) : Type 0 where
+pub record AreCarriedWhole (s : Sender) (w : Work) (calls : List Call)
+    (packets : List (List ℕ)) (out : List ℕ) (told : CodecExtra) : Type 0 where
   pub packets_are : packets ≡ packets_of s.format 0 calls
   pub within : AreWithinLimits s calls
   pub fewest : TakesFewestFragments s.format
   pub written : AreCarried s.format (sent s.format (entries_of s.format calls)) →
-      new ≡ out ++ text is_avc (sent s.format (entries_of s.format calls))
+      out ≡ w.out ++ text w.receiver.is_avc (sent s.format (entries_of s.format calls))
   pub tells : AreCarried s.format (sent s.format (entries_of s.format calls)) →
       told ≡ first_told s.format (sent s.format (entries_of s.format calls))

@@ -7,18 +7,16 @@ use Rattle.h26x_core.specs.Facts.{AreCarried}
 use Rattle.h26x_core.specs.Loss.{kept}
 use Rattle.h26x_core.specs.Run.{AreReceived}
 use Rattle.h26x_core.specs.Sender.{Sender, IsSender, sent_by, packets_by}
-use Rattle.h26x_core.specs.Receiver.{Receiver}
+use Rattle.h26x_core.specs.Receiver.{Work}
 use Rattle.h26x_core.specs.Ends.{LosesLittle}
-use Rattle.h26x_codec.specs.Codec.{at_work}
 use Rattle.h26x_codec.specs.Runs.{AreWritten}
 
 -- What is received of these packets, by their places, is written and told, and nothing else: so a
 -- fragmented unit exactly at an end whose latest start has no earlier end since.
-abbrev pub AreReceivedAs : Receiver → List (List ℕ) → List ℕ → List ℕ → CodecExtra → CodecExtra →
-    Type 0
-AreReceivedAs r packets out new extra told =
-    (units : List (List ℕ)) × AreReceived (map r.format.read packets) units
-    × AreWritten r units out new extra told
+abbrev pub AreReceivedAs : Work → List (List ℕ) → List ℕ → CodecExtra → Type 0
+AreReceivedAs w packets out told =
+    (units : List (List ℕ)) × AreReceived (map w.receiver.format.read packets) units
+    × AreWritten w units out told
 
 -- Calls of a packetizer whose units sent can be carried, and which of all their packets a mask keeps.
 pub record AreSome (s : Sender) (calls : List Call) (mask : List Bool) (packets : List (List ℕ)) :
@@ -30,16 +28,13 @@ pub record AreSome (s : Sender) (calls : List Call) (mask : List Bool) (packets 
   pub some : packets ≡ kept mask (packets_by s (entries_of s.format calls))
 
 -- What is left of what calls send is written and told, item by item, and nothing else.
-abbrev pub AreLeftWritten : Sender → Receiver → List Call → List Bool → List ℕ → List ℕ →
-    CodecExtra → CodecExtra → Type 0
-AreLeftWritten s r calls mask out new extra told =
-    (it : LosesLittle s (at_work r out extra) calls mask)
-    × AreWritten r (flat_map (λ units. units) it.written) out new extra told
+abbrev pub AreLeftWritten : Sender → Work → List Call → List Bool → List ℕ → CodecExtra → Type 0
+AreLeftWritten s w calls mask out told = (it : LosesLittle s w calls mask)
+    × AreWritten w (flat_map (λ units. units) it.written) out told
 
 -- Of which calls whatever the accepted packets are some, in order: a lost packet hurts no item but
 -- its own.
-abbrev pub LossIsWithin : Receiver → List (List ℕ) → List ℕ → List ℕ → CodecExtra → CodecExtra →
-    Type 0
-LossIsWithin r accepted out new extra told =
-    (s : Sender) (calls : List Call) (mask : List Bool) → r.format ≡ s.format →
-    AreSome s calls mask accepted → AreLeftWritten s r calls mask out new extra told
+abbrev pub LossIsWithin : Work → List (List ℕ) → List ℕ → CodecExtra → Type 0
+LossIsWithin w accepted out told =
+    (s : Sender) (calls : List Call) (mask : List Bool) → w.receiver.format ≡ s.format →
+    AreSome s calls mask accepted → AreLeftWritten s w calls mask out told

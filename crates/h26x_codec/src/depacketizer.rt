@@ -13,7 +13,7 @@ ghost use Rattle.h265_payload.specs.Frame as h265_frame;
 ghost use Rattle.h265_payload.specs.Shown.{shown};
 ghost use Rattle.h266_payload.specs.Depacketizer as h266_end;
 ghost use Rattle.h266_payload.specs.Frame as h266_frame;
-ghost use Rattle.h26x_codec.specs.Codec.{format_of, receiver_of, codec_received, fresh_receiver, work_of, payload_of};
+ghost use Rattle.h26x_codec.specs.Codec.{format_of, receiver_of, codec_received, fresh_receiver, work_of, payload_of, without_run};
 ghost use Rattle.h26x_codec.specs.declared.depacketizer.CodecDepacketizer.TheVariants as d;
 
 use crate::codec::Codec;
@@ -70,6 +70,23 @@ impl CodecDepacketizer {
             Codec::H264 => CodecDepacketizer::H264(H264Depacketizer::new(alloc)),
             Codec::H265 => CodecDepacketizer::H265(H265Depacketizer::new(alloc)),
             Codec::H266 => CodecDepacketizer::H266(H266Depacketizer::new(alloc)),
+        }
+    }
+
+    /// Gives up the open run of a codec, if there is one, and gives its buffer back; one in a box
+    /// stays as it is. It takes no memory.
+    ///
+    /// A run grows by every fragment until one ends it, and its buffer is kept for later runs: a
+    /// caller that will not hold so much calls this. Fragments that follow without a start are
+    /// accepted and complete nothing.
+    pub fn give_up_run(&mut self)
+        ensures { self.new ≡ without_run self.old }
+    {
+        match self {
+            CodecDepacketizer::H264(it) => it.give_up_run(),
+            CodecDepacketizer::H265(it) => it.give_up_run(),
+            CodecDepacketizer::H266(it) => it.give_up_run(),
+            CodecDepacketizer::Boxed(_) => {}
         }
     }
 

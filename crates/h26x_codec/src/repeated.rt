@@ -10,9 +10,9 @@ ghost use Rattle.h26x_core.specs.Sender.{Sender, packets_by};
 ghost use Rattle.h26x_core.specs.Receiver.{Receiver};
 ghost use Rattle.h26x_core.specs.Ends.{calls_like};
 ghost use Rattle.h26x_payload.specs.Sending.{contents};
-ghost use Rattle.h26x_codec.specs.Codec.{sender_of, receiver_of, fresh_receiver, call_by};
+ghost use Rattle.h26x_codec.specs.Codec.{format_with, sender_of, receiver_of, fresh_receiver, call_by};
 ghost use Rattle.h26x_codec.specs.Runs.{IsFresh};
-ghost use Rattle.h26x_codec.specs.Repeating.{format_with, rule_of, starting, call_with, calls_with, MayBeRepeated, IsFirstRefused};
+ghost use Rattle.h26x_codec.specs.Repeating.{rule_of, starting, call_with, calls_with, MayBeRepeated, IsFirstRefused};
 
 use crate::carried::Packets;
 use crate::codec::Codec;

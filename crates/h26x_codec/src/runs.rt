@@ -167,8 +167,8 @@ pub fn carry(
     ensures whole { (s : Sender) (r : Receiver) → sender_of p.old ≡ Some s →
         receiver_of d.old ≡ Some r → r.format ≡ s.format →
         IfOk result (λ carried. AreCarried s.format (sent_of s carried.made (calls_by s calls.now)) →
-        AreWritten r (sent_of s carried.made (calls_by s calls.now)) out.old.items out.new.items
-        extra.old extra.new) }
+        AreWritten (at_work r out.old.items extra.old)
+        (sent_of s carried.made (calls_by s calls.now)) out.new.items extra.new) }
     ensures numbers { (s : Sender) → sender_of p.old ≡ Some s →
         IfOk result (λ carried. AreCarried s.format (sent_of s carried.made (calls_by s calls.now)) →
         NumbersInOrder s.format s.counter
@@ -184,8 +184,8 @@ pub fn carry(
         IfOk result (λ carried. work_of d.new out.new.items extra.new
         ≡ Some (work_after (at_work r out.old.items extra.old) carried.packets)) }
     ensures any { (r : Receiver) → receiver_of d.old ≡ Some r → r.run ≡ None →
-        IfOk result (λ carried. AreWritten r (received (map r.format.read carried.packets))
-        out.old.items out.new.items extra.old extra.new) }
+        IfOk result (λ carried. AreWritten (at_work r out.old.items extra.old)
+        (received (map r.format.read carried.packets)) out.new.items extra.new) }
 
     // After a refusal: what a front of the packets wrote, in which call it stopped, and why.
     ensures stopped { (s : Sender) (r : Receiver) → sender_of p.old ≡ Some s →
@@ -199,9 +199,8 @@ pub fn carry(
     ensures headline { (s : Sender) (r : Receiver) → sender_of p.old ≡ Some s →
         receiver_of d.old ≡ Some r → IsFresh s → r.run ≡ None → r.format ≡ s.format →
         extra.old ≡ extras.None →
-        IfOk result (λ carried. AreCarriedWhole s r.is_avc
-        (kept carried.made (calls_by s calls.now)) carried.packets out.old.items out.new.items
-        extra.new) }
+        IfOk result (λ carried. AreCarriedWhole s (at_work r out.old.items extra.old)
+        (kept carried.made (calls_by s calls.now)) carried.packets out.new.items extra.new) }
 {
     p.is_sender();
     d.is_receiver();

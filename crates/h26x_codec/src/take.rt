@@ -38,13 +38,13 @@ pub fn take_all(
 
     // Where no run was open, what is received of the accepted ones is written.
     ensures received { (r : Receiver) → receiver_of d.old ≡ Some r → r.run ≡ None →
-        IfOk result (λ outcomes. AreReceivedAs r (accepted_of (contents packets.now) outcomes.items)
-        out.old.items out.new.items extra.old extra.new) }
+        IfOk result (λ outcomes. AreReceivedAs (at_work r out.old.items extra.old)
+        (accepted_of (contents packets.now) outcomes.items) out.new.items extra.new) }
 
     // Where the accepted ones are some of what calls send, a lost one hurts no item but its own.
     ensures loss { (r : Receiver) → receiver_of d.old ≡ Some r →
-        IfOk result (λ outcomes. LossIsWithin r (accepted_of (contents packets.now) outcomes.items)
-        out.old.items out.new.items extra.old extra.new) }
+        IfOk result (λ outcomes. LossIsWithin (at_work r out.old.items extra.old)
+        (accepted_of (contents packets.now) outcomes.items) out.new.items extra.new) }
 
     // Bytes that stood in `out` stay, and where all are refused all is as it was, `out` and the extra
     // of a depacketizer in a box too.

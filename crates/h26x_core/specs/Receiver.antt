@@ -1,6 +1,6 @@
 -- A depacketizer of any codec: what packets bring where it has any run open, and what stands after
 -- them.
-use Rattle.std.specs.Prelude.{◌≡◌, ℕ, Bool, false, List, [], ◌∷◌, ◌++◌, map, if◌then◌else◌, Option, Some, None, ◌||◌, Result, Err, is_ok, OnOk, IfErr, ◌⊎◌}
+use Rattle.std.specs.Prelude.{◌≡◌, ℕ, Bool, false, List, [], ◌∷◌, ◌++◌, map, if◌then◌else◌, Option, Some, None, ◌||◌, Result, Err, is_ok, ◌⊎◌}
 use Rattle.std.specs.List.{list_any}
 use Rattle.h26x_core.specs.declared.extra.CodecExtra.{CodecExtra}
 use Rattle.h26x_core.specs.declared.error.PacketError.{PacketError}
@@ -73,17 +73,6 @@ IsCause w left error =
     (error ≡ OutOfMemory)
     ⊎ ((packet : List ℕ) × (later : List (List ℕ)) × (left ≡ packet ∷ later)
     × IsOutcomeAt w packet (Err error))
-
--- What becomes of packets that are given in order, up to the first that is refused: those of a
--- front are taken, and all of them where the answer is no refusal.
-pub record AreDelivered {A : Type 0} (w : Work) (packets : List (List ℕ))
-    (answer : Result A PacketError) (new : Option Work) : Type 0 where
-  pub taken : List (List ℕ)
-  pub left : List (List ℕ)
-  pub front : packets ≡ taken ++ left
-  pub work : new ≡ Some (work_after w taken)
-  pub all : OnOk answer (left ≡ [])
-  pub cause : IfErr answer (IsCause (work_after w taken) left)
 
 -- each unit's length fits the four bytes of an AVC length
 abbrev pub AreShort : List (List ℕ) → Type 0

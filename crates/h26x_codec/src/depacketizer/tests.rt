@@ -58,6 +58,26 @@ fn each_packet_reaches_its_codec(rt: HostRuntime) -> Result<(), Fail> {
 }
 
 #[test]
+fn a_run_that_is_given_up(rt: HostRuntime) -> Result<(), Fail> {
+    let table: [(Codec, &[u8], &[u8]); 3] = [
+        (Codec::H264, &[0x7c, 0x85, 1], &[0x7c, 0x45, 2]),
+        (Codec::H265, &[0x62, 1, 0x93, 1], &[0x62, 1, 0x53, 2]),
+        (Codec::H266, &[0, 0xe9, 0x87, 1], &[0, 0xe9, 0x47, 2]),
+    ];
+    for (codec, start, end) in table {
+        let mut depacketizer = CodecDepacketizer::new(rt.alloc(), codec);
+        let mut out = Vec::new(rt.alloc());
+        let mut extra = CodecExtra::None;
+        depacketizer.depacketize(start, &mut out, &mut extra)?;
+        depacketizer.give_up_run();
+        depacketizer.depacketize(end, &mut out, &mut extra)?;
+        assert!(rt; out.is_empty(), "{codec:?}");
+        assert_eq!(rt; extra, CodecExtra::None, "{codec:?}");
+    }
+    Ok(())
+}
+
+#[test]
 fn heads_and_tails(rt: HostRuntime) -> Result<(), Fail> {
     // A packet, and for each codec whether it is a head, and whether it is a tail without the
     // marker bit and with it.

@@ -5,6 +5,8 @@ use std::alloc::Global;
 use std::process::Abort;
 use std::test::Fail;
 
+mod memory;
+
 /// Payloads at a limit, the packets of them, what is written of these, and the packets of that.
 struct Row {
     codec: Codec,

@@ -11,6 +11,8 @@ use std::alloc::Global;
 use std::process::Abort;
 use std::test::Fail;
 
+mod memory;
+
 const SHORT: Result<(), PacketError> = Err(PacketError::ErrShortPacket);
 
 const CORRUPTED: Result<(), PacketError> = Err(PacketError::ErrH265CorruptedPacket);

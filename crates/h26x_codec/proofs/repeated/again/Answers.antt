@@ -1,8 +1,8 @@
 use Rattle.std.proofs.Common.{◌∙◌, sym, ap, ℕ, List, [], ◌∷◌, Vec, Global, map, refl}
 use Rattle.h26x_core.specs.Calls.{entries_of, packets_of}
 use Rattle.h26x_core.specs.Plan.{sent}
-use Rattle.h26x_codec.specs.Codec.{fresh_receiver}
-use Rattle.h26x_codec.specs.Repeating.{format_with, starting, call_with, calls_with}
+use Rattle.h26x_codec.specs.Codec.{format_with, fresh_receiver}
+use Rattle.h26x_codec.specs.Repeating.{starting, call_with, calls_with}
 use Rattle.h26x_codec.proofs.RunLemmas.{if_three}
 use Rattle.h26x_codec.proofs.AgainLemmas.{of_each_codec}
 use Rattle.h26x_codec.proofs.repeated.again.Goals as goal

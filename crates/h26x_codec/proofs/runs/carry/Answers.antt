@@ -73,7 +73,8 @@ returns-clause-stopped g c = λ s r p_is d_is.
     let is = c.is_sender.ensures.sender s p_is in
     let ok = c.is_sender.ensures.format s p_is in
     let goes : SenderGoesOn s = c.packetizers_go_on.ensures.goes_on s ok.limits ok.numbers is in
-    if_err c.run_calls.result (λ e it. stopped_run s w (calls_by s c.args.calls.now) e _ _ goes
+    let takes : ReceiverGoesOn w = c.depacketizers_go_on.ensures w (c.is_receiver.ensures r d_is) in
+    if_err c.run_calls.result (λ e it. stopped_run s w (calls_by s c.args.calls.now) e _ _ goes takes
     (λ made same can. c.what_calls_send_is_carried.ensures s w (kept made (calls_by s c.args.calls.now)) (c.is_sender.ensures.format s p_is) is (calls_small s is.size made c.args.calls.now) same can) it)
     (c.run_calls.ensures.stopped s w p_is (ap (option_map (λ (x : Receiver). at_work x c.args.out.now.items c.args.extra.now)) d_is))
 

@@ -13,7 +13,6 @@ pub returns-in_err-was_made-clause-stopped : goal.returns-in_err-was_made-clause
 returns-in_err-was_made-clause-stopped g c = λ s w p_is d_is.
     let ok = c.is_sender.ensures.format s p_is in
     let goes : SenderGoesOn s = c.packetizers_go_on.ensures.goes_on s ok.limits ok.numbers (c.is_sender.ensures.sender s p_is) in
-    let takes : ReceiverGoesOn w = c.depacketizers_go_on.ensures w (c.is_receiver.ensures w.receiver (work_parts (receiver_of c.args.d.now) c.args.out.now.items c.args.extra.now w d_is).is_receiver) in
     let calls = calls_by s c.args.calls.now in
     let call = call_by s c.loop-mtu-item.result.0 c.deref.result.now in
     let next : slice_get calls (length c.loop-mtu.made.items) ≡ Some call =
@@ -22,7 +21,7 @@ returns-in_err-was_made-clause-stopped g c = λ s w p_is d_is.
     let taken = c.loop-mtu.invariant.taken w d_is in
     let packets = map (λ (p : Vec ℕ Global). p.items) c.loop-mtu.packets.items in
     let (e, err, same) = err_from_is_err_and c.from_residual-in_err-was_made.result c.from_residual-in_err-was_made.ensures.1 in
-    rw (err, same) (inr (run_stopped s w calls c.loop-mtu.made.items call packets c.in_err-was_made.field-0.0 _ _ _ goes takes next are
+    rw (err, same) (inr (run_stopped s w calls c.loop-mtu.made.items call packets c.in_err-was_made.field-0.0 _ _ _ goes next are
     (c.in_err-was_made.ensures.sent (after s (entries_made s.format c.loop-mtu.made.items calls)) are.stands)
     (c.in_err-was_made.ensures.stopped (after s (entries_made s.format c.loop-mtu.made.items calls)) (work_after w packets) are.stands taken)))
 
