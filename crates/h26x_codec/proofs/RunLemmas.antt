@@ -247,7 +247,8 @@ pub stopped_run : (s : Sender) (w : Work) (calls : List Call) (e : PacketError) 
 stopped_run s w calls e sender work goes takes law (inl it) = inl it
 stopped_run s w calls e sender work goes takes law (inr it) =
     let es = entries_made s.format it.made calls in
-    let (taken, left) = (it.over.taken, it.over.left) in
+    let taken = it.over.taken in
+    let left = it.over.left in
     let front : packets_by s (entries_made s.format (it.made ++ true ∷ []) calls) ≡ (packets_by s es ++ taken) ++ left =
     ap (packets_by s) (entries_more s.format it.made calls it.call it.place) ∙ goes.packets es (entries_of_call s.format it.call)
     ∙ ap (λ (x : List (List ℕ)). packets_by s es ++ x) it.over.front ∙ sym (append_assoc (packets_by s es) taken left) in
