@@ -5,8 +5,8 @@
 //! let mut packetizer = H266Packetizer::new(alloc);
 //! let packets = packetizer.packetize(1200, frame)?;
 //!
-//! let mut depacketizer = H266Depacketizer::new(alloc);
 //! let mut out = Vec::new(alloc);
+//! let mut depacketizer = H266Depacketizer::new(alloc);
 //! let mut extra = CodecExtra::None;
 //! for packet in &packets {
 //!     depacketizer.depacketize(packet, &mut out, &mut extra)?;

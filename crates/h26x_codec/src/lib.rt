@@ -3,11 +3,11 @@
 //! ([`take_all`]), and payloads sent, written and sent again ([`again`]).
 //!
 //! ```rust
-//! let mut packetizer = CodecPacketizer::new(alloc, Codec::H265);
+//! let mut packetizer = CodecPacketizer::new(alloc, Codec::H266);
 //! let packets = packetizer.packetize(1200, frame)?;
 //!
-//! let mut depacketizer = CodecDepacketizer::new(alloc, Codec::H265);
 //! let mut out = Vec::new(alloc);
+//! let mut depacketizer = CodecDepacketizer::new(alloc, Codec::H266);
 //! let mut extra = CodecExtra::None;
 //! for packet in &packets {
 //!     depacketizer.depacketize(packet, &mut out, &mut extra)?;
