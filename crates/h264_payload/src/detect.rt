@@ -36,8 +36,9 @@ fn stap_holds(bytes: &[u8], target_nalu: u8) -> bool
     false
 }
 
-/// Whether a packet is known to hold a unit of this type, or to be the first fragment of one. The
-/// units of a STAP-A are looked at up to a length that passes its end.
+/// Whether a packet is known to hold a unit of this type (RFC 6184, 1.3), or to be the first
+/// fragment of one (FU-A, 5.8). The units of a STAP-A (5.7.1) are looked at up to a length that
+/// passes its end.
 pub fn detect_h264_nalu(payload: &[u8], target_nalu: u8) -> bool
     ensures { result ≡ detects target_nalu payload.now }
 {
@@ -55,11 +56,12 @@ pub fn detect_h264_nalu(payload: &[u8], target_nalu: u8) -> bool
     }
 }
 
-/// Whether a packet is known to hold a slice of an IDR picture, or to be the first fragment of one.
+/// Whether a packet is known to hold a slice of an IDR picture, type 5, or to be the first fragment
+/// of one (RFC 6184, 1.3, 5.7.1 and 5.8).
 ///
 /// ```rust
-/// assert!(detect_h264_keyframe(&[0x65, 0x88]));
-/// assert!(!detect_h264_keyframe(&[0x67, 0x42]));
+/// assert!(rt; detect_h264_keyframe(&[0x65, 0x88]));
+/// assert!(rt; !detect_h264_keyframe(&[0x67, 0x42]));
 /// ```
 pub fn detect_h264_keyframe(payload: &[u8]) -> bool
     ensures { result ≡ detects 5 payload.now }

@@ -15,7 +15,7 @@ use h26x_cut::{UnitSlices, ZeroRule};
 use h26x_payload::{Codec, PayloadPacketizer, Sets, UnitKind};
 use std::alloc::{AllocError, Global};
 
-/// H.264, which has no settings.
+/// H.264 (RFC 6184), which has no settings.
 #[derive(Debug, Clone, Copy)]
 pub struct H264;
 
@@ -28,7 +28,7 @@ pub struct H264;
 ///
 /// ```rust
 /// let mut packetizer = H264Packetizer::new(alloc);
-/// for packet in &packetizer.packetize(1200, &frame)? {
+/// for packet in &packetizer.packetize(1200, frame)? {
 ///     send(packet);
 /// }
 /// ```

@@ -46,7 +46,7 @@ impl Model for H265AggregationPacket {
 }
 
 impl H265AggregationPacket {
-    /// The packet of these units. `has_donl` is the mark that `with_donl` sets.
+    /// The packet of these units (RFC 7798, 4.4.2). `has_donl` is the mark that `with_donl` sets.
     pub fn of(
         first: Option<H265AggregationUnitFirst>,
         others: Vec<H265AggregationUnit>,
@@ -72,8 +72,8 @@ impl H265AggregationPacket {
         }
     }
 
-    /// Marks the packet as one with DONL, or as one without. Equality alone tells the mark; the
-    /// units stay as they are.
+    /// Marks the packet as one with DONL and DOND (RFC 7798, 4.4.2), or as one without. Equality
+    /// alone tells the mark; the units stay as they are.
     pub fn with_donl(&mut self, value: bool)
         ensures { self.new ≡ record self.old { has_donl = value } }
     {
@@ -94,8 +94,8 @@ impl H265AggregationPacket {
         self.others.as_slice()
     }
 
-    /// All units with their headers, the first and then the others. `OutOfMemory` is its only
-    /// error.
+    /// All units with their headers, the first and then the others (RFC 7798, 4.4.2). `OutOfMemory`
+    /// is its only error.
     pub fn nal_units(&self, alloc: Global) -> Result<Vec<&[u8]>, PacketError>
         ensures units { IfOk result (λ units. map (λ unit. unit.now) units.items
             ≡ units_shown self.now) }

@@ -33,7 +33,7 @@ impl Model for H265FragmentationUnitPacket {
 }
 
 impl H265FragmentationUnitPacket {
-    /// The packet of these parts. `has_donl` is the mark that `with_donl` sets.
+    /// The packet of these parts (RFC 7798, 4.4.3). `has_donl` is the mark that `with_donl` sets.
     pub fn of(
         header: H265NALUHeader,
         fu_header: H265FragmentationUnitHeader,
@@ -71,8 +71,8 @@ impl H265FragmentationUnitPacket {
         }
     }
 
-    /// Marks the packet as one with DONL, or as one without. Equality alone tells the mark; the
-    /// parts stay as they are.
+    /// Marks the packet as one with DONL (RFC 7798, 4.4.3), or as one without. Equality alone tells
+    /// the mark; the parts stay as they are.
     pub fn with_donl(&mut self, value: bool)
         ensures { self.new ≡ record self.old { has_donl = value } }
     {
@@ -101,7 +101,7 @@ impl H265FragmentationUnitPacket {
         self.donl
     }
 
-    /// The fragment's data.
+    /// The fragment's data (RFC 7798, 4.4.3).
     pub fn payload(&self) -> &[u8]
         ensures { result.now ≡ self.now.payload }
     {

@@ -5,7 +5,7 @@ ghost use Rattle.h26x_core.specs.Word.{field};
 ghost use Rattle.h265_packets.specs.Header.{with_type};
 
 /// The first byte of a header with this F and this type; the highest bit of the layer is that of
-/// another first byte.
+/// another first byte (RFC 7798, 1.1.4).
 pub fn high_byte(f: u8, nalu_type: u8, layer_of: u8) -> u8
     requires f_in { f < 2 }
     requires type_in { nalu_type < 64 }

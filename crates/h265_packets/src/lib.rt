@@ -2,6 +2,9 @@
 //! are equal, and PACI packets packed.
 //!
 //! ```rust
+//! let unit = [0x26, 0x01, 0xaa];
+//! let phes = [0x11, 0x22, 0x33];
+//! let mut buf = Vec::new(alloc);
 //! let packet = H265PACIPacket::packetize(alloc, &unit, &phes, &mut buf)?;
 //! ```
 #![tactic(auto)]

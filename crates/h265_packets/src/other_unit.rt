@@ -26,7 +26,7 @@ impl Model for H265AggregationUnit {
 }
 
 impl H265AggregationUnit {
-    /// The unit of these parts.
+    /// The unit of these parts (RFC 7798, 4.4.2).
     pub fn of(dond: Option<u8>, nal_unit: Vec<u8>) -> Self
         requires { length nal_unit.items < 65536 }
         ensures { result ≡ record { dond = dond; nal_unit = nal_unit.items } }
@@ -59,7 +59,7 @@ impl H265AggregationUnit {
         self.nal_unit.len() as u16
     }
 
-    /// The unit with its header.
+    /// The unit with its header (RFC 7798, 4.4.2).
     pub fn nal_unit(&self) -> &[u8]
         ensures { result.now ≡ self.now.nal_unit }
     {

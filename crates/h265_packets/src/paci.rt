@@ -44,7 +44,7 @@ impl Model for H265PACIPacket {
 
 impl H265PACIPacket {
     /// The packet of this header, this word of fields, and its extension and payload, one behind
-    /// the other.
+    /// the other (RFC 7798, 4.4.4).
     pub fn of(header: H265NALUHeader, fields: u16, bytes: Vec<u8>) -> Self
         requires { field fields 8 4 ≤ length bytes.items }
         ensures { result ≡ record {

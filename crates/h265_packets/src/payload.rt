@@ -10,7 +10,7 @@ use crate::single::H265SingleNALUnitPacket;
 use h26x_core::PacketError;
 use std::alloc::Global;
 
-/// A packet that was read.
+/// A packet that was read (RFC 7798, 4.4).
 #[derive(Debug, Drop)]
 pub enum H265Payload {
     /// A single NAL unit packet (RFC 7798, 4.4.1).
@@ -24,7 +24,7 @@ pub enum H265Payload {
 }
 
 impl H265Payload {
-    /// The empty single NAL unit packet. It takes no memory.
+    /// The empty single NAL unit packet (RFC 7798, 4.4.1). It takes no memory.
     pub fn empty(alloc: Global) -> Self
         ensures { result ≡ H265Payload.H265SingleNALUnitPacket empty_single }
     {

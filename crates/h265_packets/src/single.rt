@@ -31,7 +31,7 @@ impl Model for H265SingleNALUnitPacket {
 }
 
 impl H265SingleNALUnitPacket {
-    /// The packet of these parts. `has_donl` is the mark that `with_donl` sets.
+    /// The packet of these parts (RFC 7798, 4.4.1). `has_donl` is the mark that `with_donl` sets.
     pub fn of(header: H265NALUHeader, donl: Option<u16>, payload: Vec<u8>, has_donl: bool) -> Self
         ensures { result ≡ record {
           header = header.0;
@@ -60,8 +60,8 @@ impl H265SingleNALUnitPacket {
         }
     }
 
-    /// Marks the packet as one with DONL, or as one without. Equality alone tells the mark; the
-    /// parts stay as they are.
+    /// Marks the packet as one with DONL (RFC 7798, 4.4.1), or as one without. Equality alone tells
+    /// the mark; the parts stay as they are.
     pub fn with_donl(&mut self, value: bool)
         ensures { self.new ≡ record self.old { has_donl = value } }
     {
@@ -83,7 +83,7 @@ impl H265SingleNALUnitPacket {
         self.donl
     }
 
-    /// The unit without its header.
+    /// The unit without its header (RFC 7798, 4.4.1).
     pub fn payload(&self) -> &[u8]
         ensures { result.now ≡ self.now.payload }
     {

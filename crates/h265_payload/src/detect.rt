@@ -25,8 +25,8 @@ fn begins_key(rest: &[u8]) -> bool
 /// looked at up to one that has no whole header or passes the end.
 ///
 /// ```rust
-/// assert!(detect_h265_keyframe(&[0x26, 0x01, 0xaf]));
-/// assert!(!detect_h265_keyframe(&[0x02, 0x01, 0xaf]));
+/// assert!(rt; detect_h265_keyframe(&[0x26, 0x01, 0xaf]));
+/// assert!(rt; !detect_h265_keyframe(&[0x02, 0x01, 0xaf]));
 /// ```
 pub fn detect_h265_keyframe(payload: &[u8]) -> bool
     ensures { result ≡ detects payload.now }

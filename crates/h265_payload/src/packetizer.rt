@@ -30,7 +30,7 @@ const AGGREGATE_TYPE: u8 = 48;
 /// The type of a fragment.
 const FRAGMENT_TYPE: u8 = 49;
 
-/// H.265, and whether packets bear decoding order numbers.
+/// H.265 (RFC 7798), and whether packets bear decoding order numbers (4.6).
 #[derive(Debug, Clone, Copy)]
 pub struct H265 {
     pub(crate) numbered: bool,
@@ -51,7 +51,7 @@ pub struct H265 {
 /// ```rust
 /// let mut packetizer = H265Packetizer::new(alloc);
 /// packetizer.with_max_packet_size(1400);
-/// for packet in &packetizer.packetize(1400, &frame)? {
+/// for packet in &packetizer.packetize(1400, frame)? {
 ///     send(packet);
 /// }
 /// ```

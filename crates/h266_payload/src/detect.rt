@@ -26,8 +26,8 @@ fn begins_key(rest: &[u8]) -> bool
 /// looked at up to one that has no whole header or passes the end.
 ///
 /// ```rust
-/// assert!(detect_h266_keyframe(&[0x00, 0x39, 0x80]));
-/// assert!(!detect_h266_keyframe(&[0x00, 0x09, 0x80]));
+/// assert!(rt; detect_h266_keyframe(&[0x00, 0x39, 0x80]));
+/// assert!(rt; !detect_h266_keyframe(&[0x00, 0x09, 0x80]));
 /// ```
 pub fn detect_h266_keyframe(payload: &[u8]) -> bool
     ensures { result ≡ detects payload.now }

@@ -3,9 +3,11 @@
 //!
 //! ```rust
 //! let mut packetizer = H266Packetizer::new(alloc);
-//! let packets = packetizer.packetize(1200, &frame)?;
+//! let packets = packetizer.packetize(1200, frame)?;
 //!
+//! let mut out = Vec::new(alloc);
 //! let mut depacketizer = H266Depacketizer::new(alloc);
+//! let mut extra = CodecExtra::None;
 //! for packet in &packets {
 //!     depacketizer.depacketize(packet, &mut out, &mut extra)?;
 //! }

@@ -31,7 +31,7 @@ const AGGREGATE_TYPE: u8 = 28;
 /// The type of a fragment.
 const FRAGMENT_TYPE: u8 = 29;
 
-/// H.266, and whether packets bear decoding order numbers.
+/// H.266 (RFC 9328), and whether packets bear decoding order numbers (4.4).
 #[derive(Debug, Clone, Copy)]
 pub struct H266 {
     numbered: bool,
@@ -53,7 +53,7 @@ pub struct H266 {
 /// ```rust
 /// let mut packetizer = H266Packetizer::new(alloc);
 /// packetizer.with_max_packet_size(1400);
-/// for packet in &packetizer.packetize(1400, &frame)? {
+/// for packet in &packetizer.packetize(1400, frame)? {
 ///     send(packet);
 /// }
 /// ```

@@ -5,7 +5,7 @@ ghost use Rattle.h26x_payload.specs.Sending.{contents};
 
 use std::marker::Model;
 
-/// Packets, in the order in which they are sent.
+/// RTP payloads, in the order in which they are sent (RFC 6184, RFC 7798, RFC 9328).
 #[derive(Debug, Drop)]
 pub struct Packets {
     list: Vec<Vec<u8>>,

@@ -1,12 +1,14 @@
 //! The packetizers and depacketizers of all codecs behind one type each, with a caller's own, and
-//! whole runs through them: calls through both ends ([`carry`]), packets of any peer ([`take_all`]),
-//! and payloads sent, written and sent again ([`again`]).
+//! whole runs through them: calls through both ends ([`carry`]), packets of any peer
+//! ([`take_all`]), and payloads sent, written and sent again ([`again`]).
 //!
 //! ```rust
-//! let mut packetizer = CodecPacketizer::new(alloc, Codec::H265);
-//! let packets = packetizer.packetize(1200, &frame)?;
+//! let mut packetizer = CodecPacketizer::new(alloc, Codec::H266);
+//! let packets = packetizer.packetize(1200, frame)?;
 //!
-//! let mut depacketizer = CodecDepacketizer::new(alloc, Codec::H265);
+//! let mut out = Vec::new(alloc);
+//! let mut depacketizer = CodecDepacketizer::new(alloc, Codec::H266);
+//! let mut extra = CodecExtra::None;
 //! for packet in &packets {
 //!     depacketizer.depacketize(packet, &mut out, &mut extra)?;
 //! }

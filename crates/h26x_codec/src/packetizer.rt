@@ -29,7 +29,7 @@ use std::fmt;
 /// ```rust
 /// let mut packetizer = CodecPacketizer::new(alloc, Codec::H265);
 /// packetizer.configure_for(sprop_max_don_diff);
-/// for packet in &packetizer.packetize(1200, &frame)? {
+/// for packet in &packetizer.packetize(1200, frame)? {
 ///     send(packet);
 /// }
 /// ```
@@ -58,8 +58,9 @@ impl fmt::Debug for CodecPacketizer {
 }
 
 impl CodecPacketizer {
-    /// A packetizer of a codec for which nothing waits, without decoding order numbers, and with
-    /// 1200 bytes as the largest packet size. Its memory comes from `alloc`; none is taken here.
+    /// A packetizer of a codec (RFC 6184, RFC 7798, RFC 9328) for which nothing waits, without
+    /// decoding order numbers, and with 1200 bytes as the largest packet size. Its memory comes
+    /// from `alloc`; none is taken here.
     pub fn new(alloc: Global, codec: Codec) -> Self
         ensures codec { codec_of result ≡ Some codec }
         ensures fresh { sender_of result ≡ Some (fresh_sender (format_of codec)) }

@@ -7,7 +7,7 @@ use crate::error::PacketError;
 use crate::extra::CodecExtra;
 use std::fmt;
 
-/// Cuts payloads into RTP payloads under a size limit.
+/// Cuts payloads into RTP payloads under a size limit (RFC 6184, 6; RFC 7798, 5; RFC 9328, 5).
 ///
 /// An implementation names its meaning, a list of byte lists: what its later answers depend on.
 pub trait Packetizer: fmt::Debug + Drop {
@@ -20,19 +20,21 @@ pub trait Packetizer: fmt::Debug + Drop {
     fn packetize(&mut self, mtu: usize, b: &[u8]) -> Result<Vec<Vec<u8>>, PacketError>
         ensures refused { OnErr result (meaning self.new ≡ meaning self.old) };
 
-    /// Whether the RTP packet with the payload `data` bears the marker bit: `last` says that it is
-    /// the last of its frame, `previous` is the payload before it.
+    /// Whether the RTP packet with the payload `data` bears the marker bit (RFC 6184, 5.1; RFC
+    /// 7798, 4.1; RFC 9328, 4.1): `last` says that it is the last of its frame, `previous` is the
+    /// payload before it.
     fn is_marker(&mut self, data: &[u8], previous: Option<&[u8]>, last: bool) -> bool
         ensures { meaning self.new ≡ meaning self.old };
 
-    /// Whether the marker bit marks the start of a talkspurt. It does so for no video codec.
+    /// Whether the marker bit marks the start of a talkspurt (RFC 3551, 4.1). It does so for no
+    /// video codec.
     fn marks_talkspurt(&self) -> bool
         ensures { result ≡ false }
     {
         false
     }
 
-    /// Whether a receiver may ask for a lost packet again.
+    /// Whether a receiver may ask for a lost packet again, by a generic NACK (RFC 4585, 6.2.1).
     fn nackable(&self) -> bool
         ensures { result ≡ true }
     {
@@ -40,7 +42,7 @@ pub trait Packetizer: fmt::Debug + Drop {
     }
 }
 
-/// Puts units together from RTP payloads.
+/// Puts units together from RTP payloads (RFC 6184, 7; RFC 7798, 6; RFC 9328, 6).
 ///
 /// An implementation names its meaning, a list of byte lists: what its later answers depend on.
 pub trait Depacketizer: fmt::Debug + Drop {
@@ -66,6 +68,7 @@ pub trait Depacketizer: fmt::Debug + Drop {
     /// Whether `packet` may be the first of a frame.
     fn is_partition_head(&self, packet: &[u8]) -> bool;
 
-    /// Whether `packet` is the last of a frame, with the marker bit of its RTP packet given.
+    /// Whether `packet` is the last of a frame, with the marker bit of its RTP packet given (RFC
+    /// 6184, 5.1; RFC 7798, 4.1; RFC 9328, 4.1).
     fn is_partition_tail(&self, marker: bool, packet: &[u8]) -> bool;
 }

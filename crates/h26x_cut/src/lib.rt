@@ -1,4 +1,5 @@
-//! Start codes, and the units between them: the cutting of a payload.
+//! Start codes, and the units between them: the cutting of a payload (Annex B of H.264, H.265 and
+//! H.266).
 #![tactic(auto)]
 
 mod cases;
@@ -7,7 +8,7 @@ mod slices;
 
 pub use slices::{UnitSlices, units};
 
-/// How many zeros before its mark a start code takes.
+/// How many zeros before its mark, `01`, a start code takes (Annex B of H.264, H.265 and H.266).
 #[derive(Clone, Copy, Debug, PartialEq, Eq)]
 pub enum ZeroRule {
     /// All that stand there: H.264 and H.265.

@@ -13,7 +13,8 @@ use std::marker::Model;
 /// The nearest zeros of a start code, and its mark.
 const CODE: &[u8] = &[0, 0, 1];
 
-/// The units of a payload that are left, in order.
+/// The units of a payload that are left, in order, as slices of it (Annex B of H.264, H.265 and
+/// H.266).
 #[derive(Debug, Drop)]
 pub struct UnitSlices<'a> {
     /// What stands behind the last start code that was passed.
@@ -83,11 +84,11 @@ fn units_behind_code<'a>(bytes: &'a [u8], rule: ZeroRule, finder: Finder<'static
 ///
 /// Without a start code the whole payload is one unit. Otherwise the bytes before the first code
 /// are dropped, and a unit stands between each code and the next, the last one up to the end. Empty
-/// units are left out. It takes no memory and refuses nothing (Annex B of the video standards).
+/// units are left out. It takes no memory and refuses nothing (Annex B of H.264, H.265 and H.266).
 ///
 /// ```rust
 /// for unit in units(&[0, 0, 1, 0x67, 0x42, 0, 0, 0, 1, 0x65], ZeroRule::All) {
-///     // first 67 42, then 65
+///     look_at(unit); // first 67 42, then 65
 /// }
 /// ```
 pub fn units(payload: &[u8], rule: ZeroRule) -> UnitSlices<'_>

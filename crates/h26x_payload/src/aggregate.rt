@@ -13,7 +13,8 @@ use crate::extra::told;
 use crate::text::{LEAD_SIZE, write_unit};
 use h26x_core::{CodecExtra, PacketError, first_piece};
 
-/// A codec's aggregates: how units stand behind each other.
+/// A codec's aggregates: how units stand behind each other (RFC 6184, 5.7.1; RFC 7798, 4.4.2; RFC
+/// 9328, 4.3.2).
 pub trait Aggregate: Codec {
     ghost units: { Self → List ℕ → List (List ℕ) };
 
@@ -25,7 +26,8 @@ pub trait Aggregate: Codec {
         ensures none { result ≡ None → units self bytes.now ≡ [] };
 }
 
-/// How many bytes the units of an aggregate take where they are written, at most `usize::MAX`.
+/// How many bytes the units of an aggregate take where they are written, at most `usize::MAX` (RFC
+/// 6184, 5.7.1; RFC 7798, 4.4.2; RFC 9328, 4.3.2).
 pub fn written_size<A: Aggregate>(codec: A, bytes: &[u8]) -> usize
     ensures { result ≡ min (written_len (A.units codec bytes.now)) (2 ^ 64 - 1) }
 {
@@ -38,7 +40,8 @@ pub fn written_size<A: Aggregate>(codec: A, bytes: &[u8]) -> usize
     size
 }
 
-/// Appends the units of an aggregate, which take so many bytes, and tells of them.
+/// Appends the units of an aggregate, which take so many bytes, and tells of them (RFC 6184, 5.7.1;
+/// RFC 7798, 4.4.2; RFC 9328, 4.3.2).
 pub fn append_units<A: Aggregate>(
     codec: A,
     is_avc: bool,
@@ -74,7 +77,7 @@ pub fn append_units<A: Aggregate>(
 }
 
 /// Whether a key unit stands in bytes behind its length, before the first unit that is not whole or
-/// that has no whole header.
+/// that has no whole header (str0m's rule for RFC 7798, 4.4.2, and RFC 9328, 4.3.2).
 pub fn holds_key<C: Codec>(codec: C, bytes: &[u8]) -> bool
     ensures { result ≡ list_any (C.format codec).is_key
         (take_while (λ unit. nat_le (C.format codec).header_len (length unit))

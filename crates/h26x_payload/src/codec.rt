@@ -12,7 +12,7 @@ use h26x_cut::UnitSlices;
 use std::alloc::{AllocError, Global};
 use std::fmt;
 
-/// What a unit is to a packetizer.
+/// What a unit is to a packetizer, by its type (RFC 6184, 1.3; RFC 7798, 1.1.4; RFC 9328, 1.1.4).
 #[derive(Clone, Copy)]
 pub enum UnitKind {
     /// Not sent, such as an access unit delimiter.
@@ -27,7 +27,8 @@ pub enum UnitKind {
     Other,
 }
 
-/// What sets one codec's packetizer apart. A value is the setting of a packetizer.
+/// What sets one codec's packetizer apart (RFC 6184, RFC 7798, RFC 9328). A value is the setting of
+/// a packetizer.
 pub trait Codec: Copy + fmt::Debug {
     ghost format: { Self → Format };
 
@@ -121,8 +122,8 @@ pub trait Codec: Copy + fmt::Debug {
         (format codec).kind unit ≡ (format other).kind unit };
 }
 
-/// A codec whose packets can bear decoding order numbers, and whose packetizers have a largest
-/// packet size.
+/// A codec whose packets can bear decoding order numbers (RFC 7798, 4.6; RFC 9328, 4.4), and whose
+/// packetizers have a largest packet size.
 pub trait NumberedCodec: Codec {
     ghost with_numbers_of: { Self → Bool → Self };
 

@@ -13,7 +13,7 @@ use crate::run::OpenRun;
 use crate::text::append_parts;
 use h26x_core::{CodecExtra, PacketError};
 
-/// A fragment of a unit.
+/// A fragment of a unit (RFC 6184, 5.8; RFC 7798, 4.4.3; RFC 9328, 4.3.3).
 #[derive(Clone, Copy)]
 pub struct Fragment<'a> {
     /// Whether it is the first of its unit.
@@ -27,8 +27,8 @@ pub struct Fragment<'a> {
 }
 
 /// Takes a fragment: a start begins a run anew, another is added to the open run, an end closes it
-/// and appends its unit. One that doesn't start while no run is open does nothing, and takes no
-/// memory.
+/// and appends its unit (RFC 6184, 5.8; RFC 7798, 4.4.3; RFC 9328, 4.3.3). One that doesn't start
+/// while no run is open does nothing, and takes no memory.
 pub fn take_fragment<C: Codec>(
     codec: C,
     is_avc: bool,

@@ -5,7 +5,7 @@ ghost use Rattle.std.specs.Prelude.{◌≡◌};
 ghost use Rattle.h26x_payload.specs.Frame as spec;
 
 /// Whether a packet, a fragment or not, may be the first of a frame: it has two bytes or more and,
-/// where it is a fragment with F clear, its S bit is set.
+/// where it is a fragment with F clear, its S bit is set (RFC 7798, 4.4.3; RFC 9328, 4.3.3).
 pub fn may_begin_frame(is_fragment: bool, packet: &[u8]) -> bool
     ensures { result ≡ spec.may_begin is_fragment packet.now }
 {
@@ -16,8 +16,8 @@ pub fn may_begin_frame(is_fragment: bool, packet: &[u8]) -> bool
     is_forbidden || !is_fragment || packet.len() > 2 && packet[2] >> 7 != 0
 }
 
-/// Whether a packet is the last of a frame: a fragment where its E bit is set, another where its
-/// RTP packet bears the marker bit; none of under two bytes.
+/// Whether a packet is the last of a frame: a fragment where its E bit is set (RFC 7798, 4.4.3; RFC
+/// 9328, 4.3.3), another where its RTP packet bears the marker bit; none of under two bytes.
 pub fn ends_frame(is_fragment: bool, marker: bool, packet: &[u8]) -> bool
     ensures { result ≡ spec.is_last is_fragment marker packet.now }
 {

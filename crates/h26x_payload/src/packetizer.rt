@@ -28,7 +28,7 @@ pub struct Brought<'a> {
     pps: Option<&'a [u8]>,
 }
 
-/// Sends the units of payloads.
+/// Sends the units of payloads (RFC 6184, 5 and 6.3; RFC 7798, 4.4 and 5; RFC 9328, 4.3 and 5).
 ///
 /// A unit that fits goes alone, a longer one in fragments. Parameter sets wait, each the latest of
 /// its kind, and go before the next other unit once there are an SPS and a PPS.
@@ -244,7 +244,8 @@ impl<C: Codec> PayloadPacketizer<C> {
 }
 
 impl<C: NumberedCodec> PayloadPacketizer<C> {
-    /// Turns decoding order numbers on, which begin at 0, or off. Sets that wait stay.
+    /// Turns decoding order numbers on, which begin at 0, or off (RFC 7798, 4.6; RFC 9328, 4.4).
+    /// Sets that wait stay.
     pub fn with_donl(&mut self, has_donl: bool)
         ensures { self.new ≡ record self.old {
           codec = C.with_numbers_of self.old.codec has_donl;
@@ -318,7 +319,8 @@ impl<C: Codec> Packetizer for PayloadPacketizer<C> {
         Ok(made)
     }
 
-    /// The marker bit stands on the last packet of a frame.
+    /// The marker bit stands on the last packet of a frame (RFC 6184, 5.1; RFC 7798, 4.1; RFC 9328,
+    /// 4.1).
     fn is_marker(&mut self, data: &[u8], previous: Option<&[u8]>, last: bool) -> bool
         ensures is { result ≡ last }
         ensures kept { self.new ≡ self.old }

@@ -123,7 +123,7 @@ pub enum H264LevelIdc {
 impl H264LevelIdc {
     ghost use Rattle.h26x_profile.specs.H264.{ordinal};
 
-    /// The level's place among all levels, from 0.
+    /// The level's place among all levels, from 0 (Rec. ITU-T H.264, Annex A).
     pub fn ordinal(self) -> usize
         ensures { result ≡ ordinal self }
     {
@@ -189,7 +189,8 @@ impl Model for H264ProfileLevel {
 impl H264ProfileLevel {
     ghost use Rattle.h26x_profile.specs.H264.{at_level};
 
-    /// What stands where a format says nothing.
+    /// What stands where a format says nothing: Baseline at level 3.1, as str0m has it (RFC 6184,
+    /// section 8.1, has level 1).
     pub const FALLBACK: Self = H264ProfileLevel {
         profile: H264Profile::Baseline,
         level: H264LevelIdc::Level3_1,

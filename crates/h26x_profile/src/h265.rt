@@ -36,7 +36,7 @@ pub enum H265Profile {
 impl H265Profile {
     ghost use Rattle.h26x_profile.specs.H265.{profile_id, profile_of};
 
-    /// The profile with this id, if one has it.
+    /// The profile with this `profile-id`, if one has it (RFC 7798, section 7.1).
     pub fn from_id(id: u8) -> Option<Self>
         ensures { result ≡ profile_of id }
     {
@@ -56,7 +56,7 @@ impl H265Profile {
         }
     }
 
-    /// The profile's id.
+    /// The profile's `profile-id` (RFC 7798, section 7.1).
     pub fn to_id(self) -> u8
         ensures { result ≡ profile_id self }
     {
@@ -104,7 +104,7 @@ pub enum H265Tier {
 impl H265Tier {
     ghost use Rattle.h26x_profile.specs.H265.{tier_flag, tier_of};
 
-    /// The tier with this flag, if one has it.
+    /// The tier with this `tier-flag`, if one has it (RFC 7798, section 7.1).
     pub fn from_flag(flag: u8) -> Option<Self>
         ensures { result ≡ tier_of flag }
     {
@@ -115,7 +115,7 @@ impl H265Tier {
         }
     }
 
-    /// The tier's flag.
+    /// The tier's `tier-flag` (RFC 7798, section 7.1).
     pub fn to_flag(self) -> u8
         ensures { result ≡ tier_flag self }
     {
@@ -177,7 +177,7 @@ pub enum H265Level {
 impl H265Level {
     ghost use Rattle.h26x_profile.specs.H265.{level_id, level_of, ordinal};
 
-    /// The level with this id, if one has it.
+    /// The level with this `level-id`, if one has it (RFC 7798, section 7.1).
     pub fn from_id(id: u8) -> Option<Self>
         ensures { result ≡ level_of id }
     {
@@ -199,7 +199,7 @@ impl H265Level {
         }
     }
 
-    /// The level's id.
+    /// The level's `level-id` (RFC 7798, section 7.1).
     pub fn to_id(self) -> u8
         ensures { result ≡ level_id self }
     {
@@ -248,7 +248,7 @@ impl Numbered for H265Level {
 pub type H265ProfileTierLevel = ProfileTierLevel<H265Profile, H265Tier, H265Level>;
 
 impl ProfileTierLevel<H265Profile, H265Tier, H265Level> {
-    /// What stands where an H.265 format says nothing.
+    /// What stands where an H.265 format says nothing (RFC 7798, section 7.1).
     pub const FALLBACK: Self = ProfileTierLevel {
         profile: H265Profile::Main,
         tier: H265Tier::Main,

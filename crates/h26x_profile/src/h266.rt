@@ -30,7 +30,7 @@ pub enum H266Profile {
 impl H266Profile {
     ghost use Rattle.h26x_profile.specs.H266.{profile_id, profile_of};
 
-    /// The profile with this id, if one has it.
+    /// The profile with this `profile-id`, if one has it (RFC 9328, section 7.2).
     pub fn from_id(id: u8) -> Option<Self>
         ensures { result ≡ profile_of id }
     {
@@ -47,7 +47,7 @@ impl H266Profile {
         }
     }
 
-    /// The profile's id.
+    /// The profile's `profile-id` (RFC 9328, section 7.2).
     pub fn to_id(self) -> u8
         ensures { result ≡ profile_id self }
     {
@@ -92,7 +92,7 @@ pub enum H266Tier {
 impl H266Tier {
     ghost use Rattle.h26x_profile.specs.H266.{tier_flag, tier_of};
 
-    /// The tier with this flag, if one has it.
+    /// The tier with this `tier-flag`, if one has it (RFC 9328, section 7.2).
     pub fn from_flag(flag: u8) -> Option<Self>
         ensures { result ≡ tier_of flag }
     {
@@ -103,7 +103,7 @@ impl H266Tier {
         }
     }
 
-    /// The tier's flag.
+    /// The tier's `tier-flag` (RFC 9328, section 7.2).
     pub fn to_flag(self) -> u8
         ensures { result ≡ tier_flag self }
     {
@@ -169,7 +169,7 @@ pub enum H266Level {
 impl H266Level {
     ghost use Rattle.h26x_profile.specs.H266.{level_id, level_of, ordinal};
 
-    /// The level with this id, if one has it.
+    /// The level with this `level-id`, if one has it (RFC 9328, section 7.2).
     pub fn from_id(id: u8) -> Option<Self>
         ensures { result ≡ level_of id }
     {
@@ -193,7 +193,7 @@ impl H266Level {
         }
     }
 
-    /// The level's id.
+    /// The level's `level-id` (RFC 9328, section 7.2).
     pub fn to_id(self) -> u8
         ensures { result ≡ level_id self }
     {
@@ -244,7 +244,7 @@ impl Numbered for H266Level {
 pub type H266ProfileTierLevel = ProfileTierLevel<H266Profile, H266Tier, H266Level>;
 
 impl ProfileTierLevel<H266Profile, H266Tier, H266Level> {
-    /// What stands where an H.266 format says nothing.
+    /// What stands where an H.266 format says nothing (RFC 9328, section 7.2).
     pub const FALLBACK: Self = ProfileTierLevel {
         profile: H266Profile::Main10,
         tier: H266Tier::Main,

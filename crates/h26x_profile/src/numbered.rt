@@ -2,7 +2,8 @@
 
 ghost use Rattle.std.specs.Prelude.{◌≡◌, ℕ, Option};
 
-/// A profile, a tier or a level: one of a few values that numbers name.
+/// A profile, a tier or a level: one of a few values that numbers name (RFC 7798, section 7.1; RFC
+/// 9328, section 7.2).
 pub trait Numbered: Copy {
     // The value that a number names.
     ghost named: { ℕ → Option Self };

@@ -48,8 +48,9 @@ impl<P: Numbered, T: Numbered, L: Numbered> ProfileTierLevel<P, T, L> {
         })
     }
 
-    /// What the parameters `profile-id`, `tier-flag` and `level-id` of a format say. `None` where
-    /// one of them is not there, is no text that std reads as a `u8`, or has an unknown value.
+    /// What the parameters `profile-id`, `tier-flag` and `level-id` of a format say (RFC 7798,
+    /// section 7.1; RFC 9328, section 7.2). `None` where one of them is not there, is no text that
+    /// std reads as a `u8`, or has an unknown value.
     pub fn from_fmtp(params: &HashMap<String, String>) -> Option<Self>
         ensures { result ≡ read_with (λ profile_id tier_flag level_id. all_known
             (P.named profile_id) (T.named tier_flag) (L.named level_id)) params.now }

@@ -1,0 +1,115 @@
+//! A stream of Annex B, sent and received again unit by unit.
+
+use h26x_codec::{Codec, CodecDepacketizer, CodecPacketizer};
+use h26x_core::{CodecExtra, Depacketizer, PacketError, Packetizer};
+use h26x_cut::{ZeroRule, units};
+use std::alloc::Global;
+use std::fs;
+use std::io::{self, Read};
+use std::rt::Files;
+
+/// The longest packet, in bytes.
+const LIMIT: usize = 1200;
+
+/// What a stream had, and what became of it.
+#[derive(Debug, Clone, Copy, Default, PartialEq, Eq)]
+pub struct Counts {
+    /// The units of the stream.
+    pub units: usize,
+    /// The packets that they were sent in.
+    pub packets: usize,
+    /// The bytes of these packets.
+    pub bytes: usize,
+    /// The units of keyframes that were received.
+    pub key_units: usize,
+    /// The packets that the depacketizer refused.
+    pub refused: usize,
+}
+
+impl Counts {
+    /// Counts a packet that was sent.
+    fn add_packet(&mut self, packet: &[u8]) {
+        self.packets = self.packets.saturating_add(1);
+        self.bytes = self.bytes.saturating_add(packet.len());
+    }
+
+    /// Counts what came of a packet. Want of memory ends the counting; any other refusal is one of
+    /// this packet alone, and the depacketizer goes on behind it.
+    fn add_outcome(
+        &mut self,
+        outcome: Result<(), PacketError>,
+        extra: CodecExtra,
+    ) -> Result<(), PacketError> {
+        match outcome {
+            Ok(()) if is_key(extra) => self.key_units = self.key_units.saturating_add(1),
+            Ok(()) => {}
+            Err(PacketError::OutOfMemory) => return Err(PacketError::OutOfMemory),
+            Err(_) => self.refused = self.refused.saturating_add(1),
+        }
+        Ok(())
+    }
+}
+
+/// How the start codes of a codec's streams are cut (Annex B of H.264, H.265 and H.266).
+fn rule_of(codec: Codec) -> ZeroRule {
+    match codec {
+        Codec::H264 | Codec::H265 => ZeroRule::All,
+        Codec::H266 => ZeroRule::AtMostThree,
+    }
+}
+
+/// Whether a unit of a keyframe was told of.
+fn is_key(extra: CodecExtra) -> bool {
+    match extra {
+        CodecExtra::None => false,
+        CodecExtra::H264(told) => told.is_keyframe,
+        CodecExtra::H265(told) => told.is_keyframe,
+        CodecExtra::H266(told) => told.is_keyframe,
+    }
+}
+
+/// Sends each unit of a stream, and receives its packets again.
+pub fn count(alloc: Global, codec: Codec, stream: &[u8]) -> Result<Counts, PacketError> {
+    let mut packetizer = CodecPacketizer::new(alloc, codec);
+    let mut depacketizer = CodecDepacketizer::new(alloc, codec);
+    let mut out = Vec::new(alloc);
+    let mut counts = Counts::default();
+    for unit in units(stream, rule_of(codec)) {
+        counts.units = counts.units.saturating_add(1);
+        for packet in &packetizer.packetize(LIMIT, unit)? {
+            counts.add_packet(packet);
+            out.clear();
+            let mut extra = CodecExtra::None;
+            let outcome = depacketizer.depacketize(packet, &mut out, &mut extra);
+            counts.add_outcome(outcome, extra)?;
+        }
+    }
+    Ok(counts)
+}
+
+/// The bytes of the file of this name, or of standard input where there is no name.
+pub fn read_stream<R: Files + Input + AllocGlobal>(
+    rt: &R,
+    name: Option<String>,
+) -> io::Result<Vec<u8>> {
+    match name {
+        Some(name) => fs::read(rt, name.as_str()),
+        None => {
+            let mut stream = Vec::new(rt.alloc());
+            rt.reader().read_to_end(&mut stream)?;
+            Ok(stream)
+        }
+    }
+}
+
+/// Prints what a stream had.
+pub fn print(rt: &impl Print, counts: &Counts) -> io::Result<()> {
+    println!(rt; "units {}", counts.units)?;
+    println!(rt; "packets {}", counts.packets)?;
+    println!(rt; "bytes {}", counts.bytes)?;
+    println!(rt; "units of keyframes {}", counts.key_units)?;
+    println!(rt; "refused packets {}", counts.refused)
+}
+
+#[cfg(test)]
+mod tests;
