@@ -4,7 +4,7 @@
 //! refused in turn; run as they are, nothing is refused. A test whose name ends in `_at_once` makes
 //! no call again: it passes as soon as none of its requests is refused, which tells where to stop.
 
-use super::{KEY, carry_fresh, same_packets};
+use super::{KEY, carry_fresh, same, same_packets};
 use h26x_core::{CodecExtra, Depacketizer, PacketError, Packetizer};
 use h264_payload::{H264Depacketizer, H264Packetizer, detect_h264_keyframe, detect_h264_nalu};
 use std::alloc::{AllocError, Global};
@@ -45,7 +45,7 @@ fn send_sets(
     tries: Tries,
 ) -> Result<(), PacketError> {
     for set in [[7, 0, 1].as_slice(), &SETS[3..28], &SETS[30..]] {
-        assert_eq!(rt; packets_of(packetizer, tries, 1500, set)?.len(), 0);
+        assert!(rt; packets_of(packetizer, tries, 1500, set)?.is_empty());
     }
     let packets = packets_of(packetizer, tries, 1500, &[5, 4, 5])?;
     same_packets(rt, &packets, &[&SETS, &[5, 4, 5]]);
@@ -107,10 +107,10 @@ fn take(
     tries: Tries,
     packet: &[u8],
 ) -> Result<(), PacketError> {
-    let before = (receiver.out.len(), receiver.told);
+    let (len, told) = (receiver.out.len(), receiver.told);
     match take_once(receiver, packet) {
         Err(PacketError::OutOfMemory) if tries == Tries::Twice => {
-            assert_eq!(rt; (receiver.out.len(), receiver.told), before);
+            assert!(rt; receiver.out.len() == len && receiver.told == told);
             take_once(receiver, packet)
         }
         answer => answer,
@@ -190,8 +190,7 @@ fn are_units(mut written: &[u8], is_avc: bool) -> bool {
 fn receive(rt: &impl Abort, alloc: Global, tries: Tries, is_avc: bool) -> Result<(), Fail> {
     let mut receiver = fresh_receiver(alloc, is_avc);
     take_run(rt, &mut receiver, tries)?;
-    assert!(rt; are_units(&receiver.out, is_avc));
-    assert_eq!(rt; receiver.told, KEY);
+    assert!(rt; are_units(&receiver.out, is_avc) && receiver.told == KEY);
     Ok(())
 }
 
@@ -223,13 +222,16 @@ fn with_sets(alloc: Global, tries: Tries) -> Result<H264Packetizer, PacketError>
     Ok(packetizer)
 }
 
+fn clone_of(packetizer: &H264Packetizer, tries: Tries) -> Result<H264Packetizer, PacketError> {
+    match packetizer.clone() {
+        Err(PacketError::OutOfMemory) if tries == Tries::Twice => packetizer.clone(),
+        answer => answer,
+    }
+}
+
 /// Copies a packetizer for which sets wait.
 fn copy_packetizer(rt: &impl Abort, alloc: Global, tries: Tries) -> Result<(), PacketError> {
-    let packetizer = with_sets(alloc, tries)?;
-    let mut copy = match packetizer.clone() {
-        Err(PacketError::OutOfMemory) if tries == Tries::Twice => packetizer.clone()?,
-        answer => answer?,
-    };
+    let mut copy = clone_of(&with_sets(alloc, tries)?, tries)?;
     let packets = packets_of(&mut copy, tries, 9, &[5, 3])?;
     same_packets(rt, &packets, &[&[0x78, 0, 2, 7, 1, 0, 2, 8, 2], &[5, 3]]);
     Ok(())
@@ -304,7 +306,7 @@ const UNWRITTEN: [(&[u8], Result<(), PacketError>); 7] = [
 fn receiving_that_takes_no_memory(rt: HostRuntime) {
     let mut receiver = fresh_receiver(rt.alloc(), false);
     for (packet, want) in &UNWRITTEN {
-        assert_eq!(rt; take_once(&mut receiver, packet), *want);
+        same(&rt, &take_once(&mut receiver, packet), want, "a packet");
     }
     assert!(rt; receiver.out.is_empty() && receiver.told == CodecExtra::None);
 }
@@ -313,10 +315,10 @@ fn receiving_that_takes_no_memory(rt: HostRuntime) {
 fn questions_that_take_no_memory(rt: HostRuntime) {
     let depacketizer = H264Depacketizer::new(rt.alloc());
     assert!(rt; depacketizer.out_size_hint(1200) == Some(1208));
-    assert!(rt; depacketizer.is_partition_head(&[0x65, 1]));
-    assert!(rt; depacketizer.is_partition_tail(true, &[0x65, 1]));
-    assert!(rt; detect_h264_keyframe(&[0x78, 0, 2, 0x67, 1, 0, 2, 0x65, 1]));
-    assert!(rt; detect_h264_nalu(&SETS, 8));
+    let is_head = depacketizer.is_partition_head(&[0x65, 1]);
+    assert!(rt; is_head && depacketizer.is_partition_tail(true, &[0x65, 1]));
+    let is_key = detect_h264_keyframe(&[0x78, 0, 2, 0x67, 1, 0, 2, 0x65, 1]);
+    assert!(rt; is_key && detect_h264_nalu(&SETS, 8));
 }
 
 /// Two sets, and a unit behind them.
@@ -364,7 +366,7 @@ fn carried_at_once(rt: HostRuntime) -> Result<(), Fail> {
     let calls = calls_of_payloads(rt.alloc())?;
     let mut out = Vec::new(rt.alloc());
     let carried = carry_fresh(rt.alloc(), false, &calls, &mut out, &mut CodecExtra::None)?;
-    assert!(rt; carried.made.as_slice() == [true; 3].as_slice());
-    assert!(rt; out.as_slice() == TEXT.as_slice());
+    let are_made = carried.made.as_slice() == [true; 3].as_slice();
+    assert!(rt; are_made && out.as_slice() == TEXT.as_slice());
     Ok(())
 }
