@@ -7,6 +7,7 @@ use h264_payload::H264Depacketizer;
 use h265_payload::H265Depacketizer;
 use h266_payload::H266Depacketizer;
 use std::alloc::{AllocError, Global};
+use std::fmt;
 use std::process::Abort;
 use std::test::Fail;
 
@@ -58,26 +59,22 @@ fn list_of(alloc: Global, text: &str) -> Result<Vec<Vec<u8>>, Fail> {
     Ok(list)
 }
 
+/// Compares two values of a case. Each assertion that shows its values is proved for itself, which
+/// takes long, so this is the one that the tests share.
+pub(crate) fn same<T: fmt::Debug + PartialEq>(rt: &impl Abort, made: &T, wanted: &T, at: &str) {
+    assert_eq!(rt; *made, *wanted, "at {at}");
+}
+
 /// Compares bytes of a case.
-fn same_bytes(rt: &impl Abort, made: &[u8], wanted: &[u8], at: &str) {
-    assert_eq!(rt; made, wanted, "at {at}");
-}
-
-/// Compares lists of bytes of a case.
-fn same_lists(rt: &impl Abort, made: &[Vec<u8>], wanted: &[Vec<u8>], at: &str) {
-    assert_eq!(rt; made, wanted, "at {at}");
-}
-
-/// Compares what is told in a case.
-fn same_told(rt: &impl Abort, made: CodecExtra, wanted: CodecExtra, at: &str) {
-    assert_eq!(rt; made, wanted, "at {at}");
+pub(crate) fn same_bytes(rt: &impl Abort, made: &[u8], wanted: &[u8], at: &str) {
+    same(rt, &made, &wanted, at);
 }
 
 /// Compares packets with these. Takes no memory.
 pub(crate) fn same_packets(rt: &impl Abort, made: &[Vec<u8>], wanted: &[&[u8]]) {
-    assert_eq!(rt; made.len(), wanted.len());
+    assert!(rt; made.len() == wanted.len());
     for (packet, wanted) in made.iter().zip(wanted) {
-        assert_eq!(rt; packet.as_slice(), *wanted);
+        same_bytes(rt, packet, wanted, "a packet");
     }
 }
 

@@ -1,10 +1,11 @@
 use super::*;
+use crate::rows::same;
 use std::process::Abort;
 use std::test::Fail;
 
 fn compare(rt: &impl Abort, alloc: Global, digits: &Digits, text: &[u8]) -> Result<(), Fail> {
     let want = hex::decode(alloc, text).ok();
-    assert!(rt; digits.read(alloc, text)? == want, "at {text:?}");
+    same(rt, &digits.read(alloc, text)?, &want, "two digits");
     Ok(())
 }
 
@@ -34,7 +35,7 @@ const TEXTS: [(&str, Option<&[u8]>); 8] = [
 fn read(rt: &impl Abort, alloc: Global, text: &str, want: Option<&[u8]>) -> Result<(), Fail> {
     let read = Digits::new().read(alloc, text.as_bytes())?;
     let read = read.as_ref().map(|bytes| bytes.as_slice());
-    assert_eq!(rt; (text, read), (text, want));
+    same(rt, &read, &want, text);
     Ok(())
 }
 

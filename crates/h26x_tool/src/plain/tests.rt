@@ -1,22 +1,31 @@
 use super::*;
-use crate::rows::{calls_of, same_packets};
+use crate::rows::{calls_of, same, same_bytes, same_packets};
 use h26x_codec::{Carried, CodecDepacketizer, CodecPacketizer, carry};
 use h26x_core::H265CodecExtra;
+use std::fmt;
 use std::test::Fail;
 
 const PAYLOAD: [u8; 3] = [2, 1, 0xaa];
 
-/// The packets that an end in a box makes of a payload, of none, and of another once it is set to
-/// what it has no settings for.
-fn packets_from_a_box(alloc: Global) -> Result<Vec<Vec<u8>>, Fail> {
+/// The packets that an end in a box makes of a payload, also when it is set to numbers and to a
+/// size of packets. It has neither.
+fn packets_from_a_box(
+    alloc: Global,
+    is_set: bool,
+    mtu: usize,
+    payload: &[u8],
+) -> Result<Vec<Vec<u8>>, PacketError> {
     let plain = PlainPacketizer::new(alloc);
     let mut packetizer = CodecPacketizer::Boxed(Box::new(alloc, plain)?);
-    let mut packets = packetizer.packetize(0, &PAYLOAD)?;
-    packets.append(&mut packetizer.packetize(100, &[])?)?;
-    packetizer.configure_for(Some(1));
-    packetizer.with_max_packet_size(4);
-    packets.append(&mut packetizer.packetize(0, &[7; 9])?)?;
-    Ok(packets)
+    if is_set {
+        packetizer.configure_for(Some(1));
+        packetizer.with_max_packet_size(4);
+    }
+    packetizer.packetize(mtu, payload)
+}
+
+fn text_of<T: fmt::Debug>(alloc: Global, it: &T) -> Result<String, Fail> {
+    Ok(format!(in alloc; "{it:?}")?)
 }
 
 /// What an end in a box says of markers, talkspurts and packets that are sent again.
@@ -34,60 +43,94 @@ fn marks_of_a_box(alloc: Global) -> Result<[bool; 4], Fail> {
 fn text_of_a_packetizer(alloc: Global) -> Result<String, Fail> {
     let plain = PlainPacketizer::new(alloc);
     let packetizer = CodecPacketizer::Boxed(Box::new(alloc, plain)?);
-    Ok(format!(in alloc; "{packetizer:?}")?)
+    text_of(alloc, &packetizer)
 }
 
 #[test]
 fn a_packetizer_in_a_box(rt: HostRuntime) -> Result<(), Fail> {
-    same_packets(&rt, &packets_from_a_box(rt.alloc())?, &[&PAYLOAD, &[7; 9]]);
-    assert!(rt; marks_of_a_box(rt.alloc())? == [true, false, false, true]);
-    assert!(rt; text_of_a_packetizer(rt.alloc())?.as_str() == "Boxed");
+    let (alloc, long) = (rt.alloc(), [7; 9]);
+    same_packets(
+        &rt,
+        &packets_from_a_box(alloc, false, 0, &PAYLOAD)?,
+        &[&PAYLOAD],
+    );
+    same_packets(&rt, &packets_from_a_box(alloc, false, 100, &[])?, &[]);
+    same_packets(&rt, &packets_from_a_box(alloc, true, 0, &long)?, &[&long]);
+    same(
+        &rt,
+        &marks_of_a_box(alloc)?,
+        &[true, false, false, true],
+        "a box",
+    );
+    same(
+        &rt,
+        &text_of_a_packetizer(alloc)?.as_str(),
+        &"Boxed",
+        "a box",
+    );
     Ok(())
 }
 
 const TOLD: CodecExtra = CodecExtra::H265(H265CodecExtra { is_keyframe: true });
 
-/// Gives an end in a box a packet and an empty one. What is told stays.
-fn take_in_a_box(alloc: Global, out: &mut Vec<u8>) -> Result<Result<(), PacketError>, Fail> {
+/// What an end in a box answers to a packet and to an empty one.
+fn take_in_a_box(
+    alloc: Global,
+    out: &mut Vec<u8>,
+    extra: &mut CodecExtra,
+) -> Result<[Result<(), PacketError>; 2], Fail> {
     let plain = PlainDepacketizer::new(alloc);
     let mut depacketizer = CodecDepacketizer::Boxed(Box::new(alloc, plain)?);
-    let mut extra = TOLD;
-    depacketizer.depacketize(&[1, 2], out, &mut extra)?;
-    let refused = depacketizer.depacketize(&[], out, &mut extra);
-    if extra != TOLD {
-        return Err(Fail::from("another was told"));
-    }
-    Ok(refused)
-}
-
-/// What an end in a box says of heads and tails.
-fn places_of_a_box(alloc: Global) -> Result<[bool; 3], Fail> {
-    let plain = PlainDepacketizer::new(alloc);
-    let depacketizer = CodecDepacketizer::Boxed(Box::new(alloc, plain)?);
     Ok([
-        depacketizer.is_partition_head(&[]),
-        depacketizer.is_partition_tail(true, &[]),
-        depacketizer.is_partition_tail(false, &[1]),
+        depacketizer.depacketize(&[1, 2], out, extra),
+        depacketizer.depacketize(&[], out, extra),
     ])
 }
 
-/// How much an end in a box writes of 2400 bytes, and its text.
-fn hint_and_text_of_a_depacketizer(alloc: Global) -> Result<(Option<usize>, String), Fail> {
+/// What an end in a box says of heads and tails, and how much it writes of 2400 bytes.
+fn places_of_a_box(alloc: Global) -> Result<([bool; 3], Option<usize>), Fail> {
     let plain = PlainDepacketizer::new(alloc);
     let depacketizer = CodecDepacketizer::Boxed(Box::new(alloc, plain)?);
-    let text = format!(in alloc; "{depacketizer:?}")?;
-    Ok((depacketizer.out_size_hint(2400), text))
+    let places = [
+        depacketizer.is_partition_head(&[]),
+        depacketizer.is_partition_tail(true, &[]),
+        depacketizer.is_partition_tail(false, &[1]),
+    ];
+    Ok((places, depacketizer.out_size_hint(2400)))
+}
+
+fn text_of_a_depacketizer(alloc: Global) -> Result<String, Fail> {
+    let plain = PlainDepacketizer::new(alloc);
+    let depacketizer = CodecDepacketizer::Boxed(Box::new(alloc, plain)?);
+    text_of(alloc, &depacketizer)
 }
 
 #[test]
 fn a_depacketizer_in_a_box(rt: HostRuntime) -> Result<(), Fail> {
     let mut out = vec![in rt.alloc(); 9]?;
-    let refused = take_in_a_box(rt.alloc(), &mut out)?;
-    assert!(rt; refused == Err(PacketError::ErrShortPacket));
-    assert!(rt; out.as_slice() == [9, 1, 2].as_slice());
-    assert!(rt; places_of_a_box(rt.alloc())? == [true, true, false]);
-    let (hint, text) = hint_and_text_of_a_depacketizer(rt.alloc())?;
-    assert!(rt; hint == Some(2400) && text.as_str() == "Boxed");
+    let mut extra = TOLD;
+    let answers = take_in_a_box(rt.alloc(), &mut out, &mut extra)?;
+    same(
+        &rt,
+        &answers,
+        &[Ok(()), Err(PacketError::ErrShortPacket)],
+        "a box",
+    );
+    same_bytes(&rt, &out, &[9, 1, 2], "a box");
+    same(&rt, &extra, &TOLD, "a box");
+    Ok(())
+}
+
+#[test]
+fn heads_and_tails_of_an_end_in_a_box(rt: HostRuntime) -> Result<(), Fail> {
+    let want = ([true, true, false], Some(2400));
+    same(&rt, &places_of_a_box(rt.alloc())?, &want, "a box");
+    same(
+        &rt,
+        &text_of_a_depacketizer(rt.alloc())?.as_str(),
+        &"Boxed",
+        "a box",
+    );
     Ok(())
 }
 
@@ -112,7 +155,7 @@ fn carried_by_ends_in_boxes(rt: HostRuntime) -> Result<(), Fail> {
     let carried = carry_in_boxes(rt.alloc(), &calls, &mut out, &mut extra)?;
     same_packets(&rt, carried.packets.as_slice(), &[&[0xaa, 0xbb], &[0xcc]]);
     assert!(rt; carried.made.as_slice() == [true; 3].as_slice());
-    assert!(rt; out.as_slice() == [0xaa, 0xbb, 0xcc].as_slice());
-    assert!(rt; extra == CodecExtra::None);
+    same_bytes(&rt, &out, &[0xaa, 0xbb, 0xcc], "boxes");
+    same(&rt, &extra, &CodecExtra::None, "boxes");
     Ok(())
 }

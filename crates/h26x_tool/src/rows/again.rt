@@ -1,4 +1,4 @@
-use super::{bytes_of, list_of, same_bytes, same_lists};
+use super::{bytes_of, list_of, same, same_bytes};
 use h26x_codec::{Codec, CodecPacketizer, Repeated, again};
 use h26x_core::{PacketError, Packetizer};
 use std::alloc::Global;
@@ -78,11 +78,21 @@ const ROWS: [Row; 6] = [
 
 fn compare(rt: &impl Abort, alloc: Global, repeated: &Repeated, row: &Row) -> Result<(), Fail> {
     let first = list_of(alloc, row.first)?;
-    same_lists(rt, repeated.first.as_slice(), &first, row.payloads);
+    same(
+        rt,
+        &repeated.first.as_slice(),
+        &first.as_slice(),
+        row.payloads,
+    );
     let written = bytes_of(alloc, row.written)?;
     same_bytes(rt, &repeated.written, &written, row.payloads);
     let second = list_of(alloc, row.second)?;
-    same_lists(rt, repeated.second.as_slice(), &second, row.payloads);
+    same(
+        rt,
+        &repeated.second.as_slice(),
+        &second.as_slice(),
+        row.payloads,
+    );
     Ok(())
 }
 
@@ -134,7 +144,12 @@ fn at_a_larger_packet_size(rt: HostRuntime) -> Result<(), Fail> {
 fn a_unit_that_is_sent_and_refused(rt: HostRuntime) -> Result<(), Fail> {
     let payloads = list_of(rt.alloc(), "0201")?;
     let refused = again(rt.alloc(), Codec::H265, false, 1200, 100, &payloads);
-    assert_eq!(rt; refused.err(), Some(PacketError::ErrShortPacket));
+    same(
+        &rt,
+        &refused.err(),
+        &Some(PacketError::ErrShortPacket),
+        "0201",
+    );
     Ok(())
 }
 
@@ -194,7 +209,7 @@ fn compare_counts(
 ) -> Result<(), Fail> {
     for (limit, want) in counts.iter().enumerate() {
         let made = count(alloc, codec, donl, limit, unit)?;
-        assert_eq!(rt; (limit, made), (limit, *want));
+        same(rt, &(limit, made), &(limit, *want), "a tiny limit");
     }
     Ok(())
 }

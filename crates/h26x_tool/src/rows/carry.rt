@@ -1,4 +1,4 @@
-use super::{KEY, bytes_of, calls_of, carry_fresh, long_unit, same_bytes, same_packets, same_told};
+use super::{KEY, bytes_of, calls_of, carry_fresh, long_unit, same, same_bytes, same_packets};
 use h26x_core::CodecExtra;
 use std::alloc::Global;
 use std::process::Abort;
@@ -12,7 +12,7 @@ fn carry_sets(rt: &impl Abort, alloc: Global, sets: &[u8]) -> Result<Vec<u8>, Fa
     let carried = carry_fresh(alloc, false, &calls, &mut out, &mut extra)?;
     same_packets(rt, carried.packets.as_slice(), &[sets, &[5, 4, 5]]);
     assert!(rt; carried.made.into_vec().as_slice() == [true; 3].as_slice());
-    same_told(rt, extra, KEY, "three calls");
+    same(rt, &extra, &KEY, "three calls");
     Ok(out)
 }
 
@@ -50,7 +50,7 @@ fn carry_long(
     let mut extra = CodecExtra::None;
     let carried = carry_fresh(alloc, is_avc, &calls, &mut out, &mut extra)?;
     assert!(rt; carried.made.as_slice() == [true].as_slice());
-    same_told(rt, extra, KEY, "a long unit");
+    same(rt, &extra, &KEY, "a long unit");
     Ok(out)
 }
 
@@ -59,10 +59,7 @@ fn a_long_unit(rt: HostRuntime) -> Result<(), Fail> {
     let unit = long_unit(rt.alloc())?;
     for (limit, is_avc, lead) in &LEADS {
         let out = carry_long(&rt, rt.alloc(), *limit, *is_avc, unit.clone()?)?;
-        assert!(rt;
-            out.strip_prefix(lead) == Some(unit.as_slice()),
-            "at {limit}"
-        );
+        assert!(rt; out.strip_prefix(lead) == Some(unit.as_slice()));
     }
     Ok(())
 }

@@ -1,3 +1,4 @@
+use super::same;
 use h26x_core::{
     ANNEXB_NALUSTART_CODE, AUD_NALU_TYPE, FILLER_NALU_TYPE, FU_END_BITMASK, FU_START_BITMASK,
     FUA_HEADER_SIZE, FUA_NALU_TYPE, FUB_NALU_TYPE, H264CodecExtra, H265CodecExtra, H266CodecExtra,
@@ -25,7 +26,7 @@ const NUMBERS: [(&str, u8, u8); 13] = [
 #[test]
 fn numbers_of_h264(rt: HostRuntime) {
     for (name, number, want) in &NUMBERS {
-        assert_eq!(rt; (*name, *number), (*name, *want));
+        same(&rt, number, want, name);
     }
     assert_eq!(rt;
         (FUA_HEADER_SIZE, STAPA_HEADER_SIZE, STAPA_NALU_LENGTH_SIZE),

@@ -1,7 +1,4 @@
-use super::{
-    KEY, NOT_KEY, bytes_of, calls_of, list_of, long_unit, same_bytes, same_lists, same_packets,
-    same_told,
-};
+use super::{KEY, NOT_KEY, bytes_of, calls_of, list_of, long_unit, same, same_bytes, same_packets};
 use h26x_core::{CodecExtra, Depacketizer, H266CodecExtra, PacketError, Packetizer};
 use h264_payload::{H264Depacketizer, H264Packetizer, detect_h264_keyframe, detect_h264_nalu};
 use std::alloc::Global;
@@ -60,7 +57,7 @@ fn packets_of(alloc: Global, calls: &[(usize, Vec<u8>)]) -> Result<Vec<Vec<u8>>,
 
 fn send(rt: &impl Abort, alloc: Global, calls: &str, want: &str) -> Result<(), Fail> {
     let made = packets_of(alloc, &calls_of(alloc, calls)?)?;
-    same_lists(rt, &made, &list_of(alloc, want)?, calls);
+    same(rt, &made, &list_of(alloc, want)?, calls);
     Ok(())
 }
 
@@ -100,8 +97,8 @@ fn compare_counts(
     unit: &[u8],
     counts: &[(usize, usize)],
 ) -> Result<(), PacketError> {
-    for (mtu, want) in counts {
-        assert_eq!(rt; (*mtu, count(alloc, *mtu, unit)?), (*mtu, *want));
+    for row in counts {
+        same(rt, &(row.0, count(alloc, row.0, unit)?), row, "a limit");
     }
     Ok(())
 }
@@ -229,7 +226,7 @@ fn receive(
 fn packets_and_what_is_written(rt: HostRuntime) -> Result<(), Fail> {
     for (form, packets, want, want_told) in &WRITTEN {
         let told = receive(&rt, rt.alloc(), *form, packets, want)?;
-        same_told(&rt, told, *want_told, packets);
+        same(&rt, &told, want_told, packets);
     }
     Ok(())
 }
@@ -252,7 +249,7 @@ fn take_long(
     for (form, lead) in &LEADS {
         let taken = take(alloc, *form, packets)?;
         assert!(rt; taken.out.strip_prefix(lead) == Some(unit));
-        same_told(rt, taken.told, KEY, "a long unit");
+        same(rt, &taken.told, &KEY, "a long unit");
     }
     Ok(())
 }
@@ -264,8 +261,13 @@ fn send_long(
     (mtu, count, last): (usize, usize, usize),
 ) -> Result<(), PacketError> {
     let packets = H264Packetizer::new(alloc).packetize(mtu, unit)?;
-    assert_eq!(rt; packets.len(), count);
-    assert!(rt; packets.last().is_some_and(|packet| packet.len() == last));
+    let last_len = packets.last().map(|packet| packet.len());
+    same(
+        rt,
+        &(packets.len(), last_len),
+        &(count, Some(last)),
+        "a long unit",
+    );
     take_long(rt, alloc, &packets, unit)
 }
 
@@ -283,7 +285,7 @@ fn another_codec_is_forgotten(rt: HostRuntime) -> Result<(), Fail> {
     let mut out = Vec::new(rt.alloc());
     let mut extra = CodecExtra::H266(H266CodecExtra { is_keyframe: true });
     H264Depacketizer::new(rt.alloc()).depacketize(&[0x61, 0xff], &mut out, &mut extra)?;
-    assert_eq!(rt; extra, NOT_KEY);
+    same(&rt, &extra, &NOT_KEY, "61ff");
     Ok(())
 }
 
@@ -321,9 +323,14 @@ fn give(taken: &mut Taken, packet: &[u8]) -> Result<(), PacketError> {
 /// Gives a packet that is refused to a depacketizer with an open run, which is then ended.
 fn refuse(rt: &impl Abort, alloc: Global, packet: &str, want: PacketError) -> Result<(), Fail> {
     let mut open = with_open_run(alloc)?;
-    assert_eq!(rt; give(&mut open, &bytes_of(alloc, packet)?), Err(want));
+    same(
+        rt,
+        &give(&mut open, &bytes_of(alloc, packet)?),
+        &Err(want),
+        packet,
+    );
     same_bytes(rt, &open.out, &[7], packet);
-    same_told(rt, open.told, CodecExtra::None, packet);
+    same(rt, &open.told, &CodecExtra::None, packet);
     give(&mut open, &[0x7c, 0x45, 2])?;
     same_bytes(rt, &open.out, &[7, 0, 0, 0, 1, 0x65, 1, 2], packet);
     Ok(())
@@ -356,7 +363,7 @@ const KEYFRAMES: [(&str, bool); 13] = [
 
 fn detect(rt: &impl Abort, alloc: Global, packet: &str, want: bool) -> Result<(), Fail> {
     let is_one = detect_h264_keyframe(&bytes_of(alloc, packet)?);
-    assert_eq!(rt; (packet, is_one), (packet, want));
+    same(rt, &is_one, &want, packet);
     Ok(())
 }
 
@@ -371,13 +378,20 @@ fn keyframes_in_packets(rt: HostRuntime) -> Result<(), Fail> {
 }
 
 /// Sizes of packets, and how much is written of them.
-const HINTS: [(usize, usize); 4] = [(0, 4), (1199, 1203), (1200, 1208), (usize::MAX, usize::MAX)];
+const HINTS: [(usize, Option<usize>); 4] = [
+    (0, Some(4)),
+    (1199, Some(1203)),
+    (1200, Some(1208)),
+    (usize::MAX, Some(usize::MAX)),
+];
 
 fn compare_hints(rt: &impl Abort, depacketizer: &H264Depacketizer) {
-    for (bytes, hint) in &HINTS {
-        assert_eq!(rt;
-            (*bytes, depacketizer.out_size_hint(*bytes)),
-            (*bytes, Some(*hint))
+    for row in &HINTS {
+        same(
+            rt,
+            &(row.0, depacketizer.out_size_hint(row.0)),
+            row,
+            "a hint",
         );
     }
 }
@@ -396,17 +410,21 @@ const HEADS: [(&[u8], bool); 9] = [
 ];
 
 fn compare_heads(rt: &impl Abort, depacketizer: &H264Depacketizer) {
-    for (packet, want) in &HEADS {
-        let is_head = depacketizer.is_partition_head(packet);
-        assert_eq!(rt; (*packet, is_head), (*packet, *want));
+    for row in &HEADS {
+        same(
+            rt,
+            &(row.0, depacketizer.is_partition_head(row.0)),
+            row,
+            "a head",
+        );
     }
 }
 
 fn mark(rt: &impl Abort, packetizer: &mut H264Packetizer) {
-    assert!(rt; packetizer.is_marker(&[0x65], None, true));
-    assert!(rt; !packetizer.is_marker(&[0x65], Some(&[0x61]), false));
-    assert!(rt; !packetizer.marks_talkspurt());
-    assert!(rt; packetizer.nackable());
+    let is_last = packetizer.is_marker(&[0x65], None, true);
+    let is_between = packetizer.is_marker(&[0x65], Some(&[0x61]), false);
+    assert!(rt; is_last && !is_between);
+    assert!(rt; packetizer.nackable() && !packetizer.marks_talkspurt());
 }
 
 #[test]
@@ -415,8 +433,8 @@ fn markers_hints_heads_and_tails(rt: HostRuntime) {
     let depacketizer = H264Depacketizer::new(rt.alloc());
     compare_hints(&rt, &depacketizer);
     compare_heads(&rt, &depacketizer);
-    assert!(rt; depacketizer.is_partition_tail(true, &[]));
-    assert!(rt; !depacketizer.is_partition_tail(false, &[0x65]));
+    let is_tail = depacketizer.is_partition_tail(true, &[]);
+    assert!(rt; is_tail && !depacketizer.is_partition_tail(false, &[0x65]));
 }
 
 /// Sends a unit behind the two sets that wait.

@@ -1,4 +1,4 @@
-use super::{bytes_of, fresh, list_of, same_bytes, same_told, told};
+use super::{bytes_of, fresh, list_of, same, same_bytes, told};
 use crate::plain::PlainDepacketizer;
 use h26x_codec::{Codec, CodecDepacketizer, take_all};
 use h26x_core::{CodecExtra, Depacketizer, PacketError};
@@ -20,7 +20,7 @@ struct Row {
     is_keyframe: bool,
 }
 
-const ROWS: [Row; 8] = [
+static ROWS: [Row; 8] = [
     Row {
         codec: Codec::H264,
         donl: false,
@@ -126,25 +126,11 @@ fn take_row(rt: &impl Abort, alloc: Global, row: &Row) -> Result<(), Fail> {
     let packets = list_of(alloc, row.packets)?;
     let written = bytes_of(alloc, row.written)?;
     let taken = take_fresh(alloc, row.codec, row.donl, &packets, CodecExtra::None)?;
-    same_outcomes(rt, &taken.outcomes, row.outcomes, row.packets);
+    same(rt, &taken.outcomes.as_slice(), &row.outcomes, row.packets);
     same_bytes(rt, &taken.out, &written, row.packets);
-    same_told(
-        rt,
-        taken.told,
-        told(row.codec, row.is_keyframe),
-        row.packets,
-    );
+    let want = told(row.codec, row.is_keyframe);
+    same(rt, &taken.told, &want, row.packets);
     Ok(())
-}
-
-/// Compares what becomes of the packets of a case.
-fn same_outcomes(
-    rt: &impl Abort,
-    made: &[Result<(), PacketError>],
-    wanted: &[Result<(), PacketError>],
-    at: &str,
-) {
-    assert_eq!(rt; made, wanted, "at {at}");
 }
 
 #[test]
@@ -172,9 +158,9 @@ fn take_in_a_box(alloc: Global, packets: &[Vec<u8>]) -> Result<Taken, Fail> {
 #[test]
 fn packets_for_an_end_in_a_box(rt: HostRuntime) -> Result<(), Fail> {
     let taken = take_in_a_box(rt.alloc(), &list_of(rt.alloc(), "aa - bb")?)?;
-    same_outcomes(&rt, &taken.outcomes, &[Ok(()), SHORT, Ok(())], "a box");
+    assert!(rt; taken.outcomes.as_slice() == [Ok(()), SHORT, Ok(())].as_slice());
     same_bytes(&rt, &taken.out, &[0xaa, 0xbb], "a box");
-    same_told(&rt, taken.told, CodecExtra::None, "a box");
+    same(&rt, &taken.told, &CodecExtra::None, "a box");
     Ok(())
 }
 
@@ -183,8 +169,8 @@ fn what_another_codec_told(rt: HostRuntime) -> Result<(), Fail> {
     let packets = list_of(rt.alloc(), "61ff")?;
     let other = told(Codec::H266, true);
     let taken = take_fresh(rt.alloc(), Codec::H264, false, &packets, other)?;
-    same_outcomes(&rt, &taken.outcomes, &[Ok(())], "61ff");
-    same_told(&rt, taken.told, told(Codec::H264, false), "61ff");
+    assert!(rt; taken.outcomes.as_slice() == [Ok(())].as_slice());
+    same(&rt, &taken.told, &told(Codec::H264, false), "61ff");
     Ok(())
 }
 
@@ -252,10 +238,14 @@ fn give(alloc: Global, codec: Codec, donl: bool, packets: &[&[u8]]) -> Given {
 fn take_cut(rt: &impl Abort, alloc: Global, codec: Codec, donl: bool, packet: &[u8], cut: &[u8]) {
     let refused = give(alloc, codec, donl, &[cut]);
     if refused.answer.is_err() {
-        let is_left = refused.out.is_empty() && refused.told == CodecExtra::None;
+        assert!(rt; refused.out.is_empty() && refused.told == CodecExtra::None);
         let behind = give(alloc, codec, donl, &[cut, packet]);
-        let is_same = behind == give(alloc, codec, donl, &[packet]);
-        assert!(rt; is_left && is_same, "{cut:?}");
+        same(
+            rt,
+            &behind,
+            &give(alloc, codec, donl, &[packet]),
+            "a cut packet",
+        );
     }
 }
 

@@ -1,4 +1,5 @@
 use super::*;
+use crate::rows::same;
 use std::process::Abort;
 use std::test::Fail;
 
@@ -20,7 +21,7 @@ fn answers(alloc: Global, input: &[u8]) -> Result<Vec<u8>, RunError> {
 fn compare(rt: &impl Abort, alloc: Global, table: &[(&str, &str)]) -> Result<(), Fail> {
     for (input, want) in table {
         let output = answers(alloc, input.as_bytes())?;
-        assert_eq!(rt; output.as_slice(), want.as_bytes(), "at {input:?}");
+        same(rt, &output.as_slice(), &want.as_bytes(), input);
     }
     Ok(())
 }

@@ -28,12 +28,13 @@ const FAILED_READS: [(io::ErrorKind, RunError); 2] = [
 
 #[test]
 fn a_read_that_fails(rt: HostRuntime) {
-    for (kind, want) in FAILED_READS {
+    for (kind, want) in &FAILED_READS {
         let reader = BrokenReader {
             has_given: false,
-            kind,
+            kind: *kind,
         };
-        assert_eq!(rt; run(rt.alloc(), reader, Vec::new(rt.alloc())), Err(want));
+        let ended = run(rt.alloc(), reader, Vec::new(rt.alloc()));
+        same(&rt, &ended, &Err(*want), "a failed read");
     }
 }
 
@@ -101,7 +102,7 @@ fn a_write_that_fails(rt: HostRuntime) {
             fails_to_flush: false,
         };
         let ended = run_often(rt.alloc(), line, writer);
-        assert_eq!(rt; (*line, ended), (*line, Err(RunError::Write)));
+        same(&rt, &ended, &Err(RunError::Write), line);
     }
 }
 
@@ -114,12 +115,13 @@ const FAILED_WRITES: [(bool, bool, Result<(), RunError>); 3] = [
 
 #[test]
 fn a_write_that_fails_at_the_end(rt: HostRuntime) {
-    for (fails_to_write, fails_to_flush, want) in FAILED_WRITES {
+    for (fails_to_write, fails_to_flush, want) in &FAILED_WRITES {
         let writer = BrokenWriter {
-            fails_to_write,
-            fails_to_flush,
+            fails_to_write: *fails_to_write,
+            fails_to_flush: *fails_to_flush,
         };
-        assert_eq!(rt; run(rt.alloc(), b"key\n".as_slice(), writer), want);
+        let ended = run(rt.alloc(), b"key\n".as_slice(), writer);
+        same(&rt, &ended, want, "the end");
     }
 }
 
@@ -161,7 +163,7 @@ const ENDS: [(RunError, &str); 3] = [
 ];
 
 fn say<E: fmt::Display>(rt: &impl Abort, alloc: Global, error: &E, want: &str) -> Result<(), Fail> {
-    assert_eq!(rt; error.to_string(alloc)?.as_str(), want);
+    same(rt, &error.to_string(alloc)?.as_str(), &want, want);
     Ok(())
 }
 

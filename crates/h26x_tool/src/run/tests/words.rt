@@ -1,4 +1,4 @@
-use super::{answers, compare};
+use super::{answers, compare, same};
 use std::alloc::Global;
 use std::process::Abort;
 use std::test::Fail;
@@ -114,9 +114,11 @@ const NO_TEXT: [&[u8]; 5] = [
 fn lines_that_are_no_text(rt: HostRuntime) -> Result<(), Fail> {
     for line in &NO_TEXT {
         let output = answers(rt.alloc(), line)?;
-        assert_eq!(rt;
-            (*line, output.as_slice()),
-            (*line, b"bad line\n".as_slice())
+        same(
+            &rt,
+            &output.as_slice(),
+            &b"bad line\n".as_slice(),
+            "no text",
         );
     }
     Ok(())
