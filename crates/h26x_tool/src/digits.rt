@@ -27,13 +27,13 @@ impl Digits {
     /// Text has as many digits of one kind as of the other, in no order, so no branch hangs on
     /// what a byte is.
     pub fn read(&self, alloc: Global, text: &[u8]) -> Result<Option<Vec<u8>>, AllocError> {
-        let mut bytes = Vec::with_capacity(alloc, text.len() / 2)?;
+        let mut bytes = vec![in alloc; 0u8; text.len() / 2]?;
         let mut all = 0;
-        for pair in text.chunks_exact(2) {
+        for (byte, pair) in bytes.iter_mut().zip(text.chunks_exact(2)) {
             let high = self.values[usize::from(pair[0])];
             let low = self.values[usize::from(pair[1])];
             all |= high | low;
-            bytes.push((high << 4) | (low & 0x0f))?;
+            *byte = (high << 4) | (low & 0x0f);
         }
         let is_text = text.len() % 2 == 0 && all & NONE == 0;
         Ok(if is_text { Some(bytes) } else { None })
