@@ -115,6 +115,26 @@ fn units_at_once(rt: HostRuntime) -> Result<(), PacketError> {
     copy_units(&rt, rt.alloc(), Tries::Once)
 }
 
+/// Copies what is shown before any packet, and an aggregate of no unit, and asks for its units.
+fn copy_empty(rt: &impl Abort, alloc: Global, tries: Tries) -> Result<(), PacketError> {
+    let payload = H265Payload::empty(alloc);
+    assert!(rt; made(tries, || payload.clone(alloc))? == payload);
+    let packet = H265AggregationPacket::empty(alloc);
+    assert!(rt; made(tries, || packet.clone(alloc))? == packet);
+    assert!(rt; made(tries, || packet.nal_units(alloc))?.is_empty());
+    Ok(())
+}
+
+#[test]
+fn empty_packets_copied_again(rt: HostRuntime) -> Result<(), PacketError> {
+    copy_empty(&rt, rt.alloc(), Tries::Twice)
+}
+
+#[test]
+fn empty_packets_at_once(rt: HostRuntime) -> Result<(), PacketError> {
+    copy_empty(&rt, rt.alloc(), Tries::Once)
+}
+
 /// Packs a PACI packet; a refusal leaves the buffer.
 fn pack(rt: &impl Abort, alloc: Global, tries: Tries) -> Result<(), PacketError> {
     let (unit, phes) = ([0x26, 1, 0xaa], [0x11, 0x22, 0x33]);
@@ -169,12 +189,10 @@ fn fragments_that_take_no_memory(rt: HostRuntime) {
 }
 
 #[test]
-fn aggregates_that_take_no_memory(rt: HostRuntime) -> Result<(), PacketError> {
+fn aggregates_that_take_no_memory(rt: HostRuntime) {
     let mut packet = H265AggregationPacket::empty(rt.alloc());
     packet.with_donl(true);
     assert!(rt; packet.first_unit().is_none() && packet.other_units().is_empty());
-    assert!(rt; packet.clone(rt.alloc())?.nal_units(rt.alloc())?.is_empty());
-    Ok(())
 }
 
 #[test]
