@@ -24,9 +24,11 @@ use h26x_payload::{
 use std::alloc::Global;
 use std::marker::Model;
 
-/// Writes the units of packets, each behind a start code, or in AVC form behind its length.
+/// Writes the units of packets (RFC 6184, 5 and 7), each behind a start code, or in AVC form behind
+/// its length.
 ///
-/// It keeps the data of the fragments since the latest start, until an end completes their unit.
+/// It keeps the data of the fragments (RFC 6184, 5.8) since the latest start, until an end completes
+/// their unit.
 ///
 /// ```rust
 /// let mut depacketizer = H264Depacketizer::new(alloc);

@@ -115,10 +115,11 @@ fn take_unit(
     Ok(())
 }
 
-/// Writes the units of packets, each behind a start code, and shows the packet that it accepted
-/// last.
+/// Writes the units of packets (RFC 7798, 4.4 and 6), each behind a start code, and shows the
+/// packet that it accepted last.
 ///
-/// It keeps the data of the fragments since the latest start, until an end completes their unit.
+/// It keeps the data of the fragments (RFC 7798, 4.4.3) since the latest start, until an end completes
+/// their unit.
 ///
 /// ```rust
 /// let mut depacketizer = H265Depacketizer::new(alloc);

@@ -27,9 +27,10 @@ fn is_fragment(packet: &[u8]) -> bool
     packet.len() >= PACKET_HEADER_SIZE && header_of(packet).is_fragmentation_unit()
 }
 
-/// Writes the units of packets, each behind a start code.
+/// Writes the units of packets (RFC 9328, 4.3 and 6), each behind a start code.
 ///
-/// It keeps the data of the fragments since the latest start, until an end completes their unit.
+/// It keeps the data of the fragments (RFC 9328, 4.3.3) since the latest start, until an end completes
+/// their unit.
 ///
 /// ```rust
 /// let mut depacketizer = H266Depacketizer::new(alloc);

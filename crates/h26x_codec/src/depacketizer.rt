@@ -24,7 +24,7 @@ use h266_payload::H266Depacketizer;
 use std::alloc::Global;
 use std::fmt;
 
-/// A depacketizer of one of the codecs, or a caller's own in a box.
+/// A depacketizer of one of the codecs (RFC 6184, RFC 7798, RFC 9328), or a caller's own in a box.
 ///
 /// Every call goes to the depacketizer that it holds.
 ///

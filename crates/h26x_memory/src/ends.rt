@@ -6,7 +6,7 @@ use std::alloc::Global;
 use std::process::Abort;
 
 /// Compares packets with these.
-pub fn are_packets(rt: &impl Abort, made: &[Vec<u8>], want: &[&[u8]]) {
+pub(crate) fn are_packets(rt: &impl Abort, made: &[Vec<u8>], want: &[&[u8]]) {
     assert_eq!(rt; made.len(), want.len());
     for (packet, want) in made.iter().zip(want) {
         assert_eq!(rt; packet.as_slice(), *want);
@@ -14,7 +14,7 @@ pub fn are_packets(rt: &impl Abort, made: &[Vec<u8>], want: &[&[u8]]) {
 }
 
 /// Sends a payload, and compares its packets.
-pub fn send<P: Packetizer>(
+pub(crate) fn send<P: Packetizer>(
     rt: &impl Abort,
     packetizer: &mut P,
     tries: Tries,
@@ -33,7 +33,7 @@ pub fn send<P: Packetizer>(
 }
 
 /// Sends payloads of which nothing is sent.
-pub fn send_nothing<P: Packetizer>(
+pub(crate) fn send_nothing<P: Packetizer>(
     rt: &impl Abort,
     packetizer: &mut P,
     payloads: &[(usize, &[u8])],
@@ -46,7 +46,7 @@ pub fn send_nothing<P: Packetizer>(
 
 /// A depacketizer, and what it wrote and told.
 #[derive(Drop)]
-pub struct Receiver<D: Depacketizer + Drop> {
+pub(crate) struct Receiver<D: Depacketizer + Drop> {
     pub depacketizer: D,
     pub out: Vec<u8>,
     pub told: CodecExtra,
@@ -54,7 +54,7 @@ pub struct Receiver<D: Depacketizer + Drop> {
 
 impl<D: Depacketizer + Drop> Receiver<D> {
     /// One to which nothing was given.
-    pub fn new(alloc: Global, depacketizer: D) -> Self {
+    pub(crate) fn new(alloc: Global, depacketizer: D) -> Self {
         Receiver {
             depacketizer,
             out: Vec::new(alloc),
@@ -63,13 +63,13 @@ impl<D: Depacketizer + Drop> Receiver<D> {
     }
 
     /// Takes a packet.
-    pub fn take_once(&mut self, packet: &[u8]) -> Result<(), PacketError> {
+    pub(crate) fn take_once(&mut self, packet: &[u8]) -> Result<(), PacketError> {
         self.depacketizer
             .depacketize(packet, &mut self.out, &mut self.told)
     }
 
     /// Takes a packet; a refusal leaves what was written and told.
-    pub fn take(
+    pub(crate) fn take(
         &mut self,
         rt: &impl Abort,
         tries: Tries,
@@ -86,7 +86,7 @@ impl<D: Depacketizer + Drop> Receiver<D> {
     }
 
     /// Takes packets, one after the other.
-    pub fn take_each(
+    pub(crate) fn take_each(
         &mut self,
         rt: &impl Abort,
         tries: Tries,
@@ -99,7 +99,44 @@ impl<D: Depacketizer + Drop> Receiver<D> {
     }
 
     /// Compares what was written and told.
-    pub fn has(&self, rt: &impl Abort, written: &[u8], told: CodecExtra) {
+    pub(crate) fn has(&self, rt: &impl Abort, written: &[u8], told: CodecExtra) {
         assert_eq!(rt; (self.out.as_slice(), self.told), (written, told));
     }
+}
+
+/// Asks a packetizer what takes no memory.
+pub(crate) fn ask_packetizer<P: Packetizer>(rt: &impl Abort, packetizer: &mut P, packet: &[u8]) {
+    assert!(rt; packetizer.is_marker(packet, None, true));
+    assert!(rt; !packetizer.marks_talkspurt() && packetizer.nackable());
+}
+
+/// Asks a depacketizer what takes no memory.
+pub(crate) fn ask_depacketizer<D: Depacketizer>(rt: &impl Abort, depacketizer: &D, packet: &[u8]) {
+    assert!(rt; depacketizer.out_size_hint(1200) == Some(1208));
+    assert!(rt; depacketizer.is_partition_head(packet));
+    assert!(rt; depacketizer.is_partition_tail(true, packet));
+}
+
+/// A fragment of 43 bytes.
+pub(crate) fn fragment(head: &[u8; 3], byte: u8) -> [u8; 43] {
+    let mut packet = [byte; 43];
+    packet[..3].copy_from_slice(head);
+    packet
+}
+
+/// A fragment of 103 bytes.
+pub(crate) fn longer_fragment(head: &[u8; 3], byte: u8) -> [u8; 103] {
+    let mut packet = [byte; 103];
+    packet[..3].copy_from_slice(head);
+    packet
+}
+
+/// The text of a unit of 40 bytes `aa`, 100 bytes `bb` and 40 bytes `cc` behind its header.
+pub(crate) fn text_of_fragments(head: &[u8; 2]) -> [u8; 186] {
+    let mut text = [0xaa; 186];
+    text[..4].copy_from_slice(&[0, 0, 0, 1]);
+    text[4..6].copy_from_slice(head);
+    text[46..146].fill(0xbb);
+    text[146..].fill(0xcc);
+    text
 }

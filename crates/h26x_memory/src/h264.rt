@@ -1,6 +1,6 @@
-use crate::ends::{Receiver, send, send_nothing};
+use crate::ends::{Receiver, ask_depacketizer, ask_packetizer, send, send_nothing};
 use crate::tries::{Tries, made};
-use h26x_core::{CodecExtra, Depacketizer, H264CodecExtra, PacketError, Packetizer};
+use h26x_core::{CodecExtra, H264CodecExtra, PacketError};
 use h264_payload::{H264Depacketizer, H264Packetizer, detect_h264_keyframe, detect_h264_nalu};
 use std::alloc::Global;
 use std::process::Abort;
@@ -213,8 +213,7 @@ const UNSENT: [(usize, &[u8]); 4] = [
 fn sending_that_takes_no_memory(rt: HostRuntime) -> Result<(), PacketError> {
     let mut packetizer = H264Packetizer::new(rt.alloc());
     send_nothing(&rt, &mut packetizer, &UNSENT)?;
-    assert!(rt; packetizer.clone()?.is_marker(&[0x65], None, true));
-    assert!(rt; !packetizer.marks_talkspurt() && packetizer.nackable());
+    ask_packetizer(&rt, &mut packetizer.clone()?, &[0x65]);
     Ok(())
 }
 
@@ -244,10 +243,7 @@ fn receiving_that_takes_no_memory(rt: HostRuntime) {
 
 #[test]
 fn questions_that_take_no_memory(rt: HostRuntime) {
-    let depacketizer = H264Depacketizer::new(rt.alloc());
-    assert!(rt; depacketizer.out_size_hint(1200) == Some(1208));
-    assert!(rt; depacketizer.is_partition_head(&[0x65, 1]));
-    assert!(rt; depacketizer.is_partition_tail(true, &[0x65, 1]));
+    ask_depacketizer(&rt, &H264Depacketizer::new(rt.alloc()), &[0x65, 1]);
     assert!(rt; detect_h264_keyframe(&[0x78, 0, 2, 0x67, 1, 0, 2, 0x65, 1]));
     assert!(rt; detect_h264_nalu(&SETS, 8));
 }

@@ -1,6 +1,9 @@
-use crate::ends::{Receiver, send, send_nothing};
+use crate::ends::{
+    Receiver, ask_depacketizer, ask_packetizer, fragment, longer_fragment, send, send_nothing,
+    text_of_fragments,
+};
 use crate::tries::{Tries, made};
-use h26x_core::{CodecExtra, Depacketizer, H265CodecExtra, PacketError, Packetizer};
+use h26x_core::{CodecExtra, H265CodecExtra, PacketError};
 use h265_packets::H265Payload;
 use h265_payload::{H265Depacketizer, H265Packetizer, detect_h265_keyframe};
 use std::alloc::Global;
@@ -141,36 +144,6 @@ fn numbered_sets_at_once(rt: HostRuntime) -> Result<(), PacketError> {
     )
 }
 
-/// A fragment of 43 bytes that starts a run.
-fn start() -> [u8; 43] {
-    let mut packet = [0xaa; 43];
-    packet[..3].copy_from_slice(&[0x62, 1, 0x93]);
-    packet
-}
-
-/// A middle fragment of 103 bytes.
-fn middle() -> [u8; 103] {
-    let mut packet = [0xbb; 103];
-    packet[..3].copy_from_slice(&[0x62, 1, 0x13]);
-    packet
-}
-
-/// A fragment of 43 bytes that ends a run.
-fn end() -> [u8; 43] {
-    let mut packet = [0xcc; 43];
-    packet[..3].copy_from_slice(&[0x62, 1, 0x53]);
-    packet
-}
-
-/// The unit of the three behind a start code.
-fn fragmented() -> [u8; 186] {
-    let mut text = [0xaa; 186];
-    text[..6].copy_from_slice(&[0, 0, 0, 1, 0x26, 1]);
-    text[46..146].fill(0xbb);
-    text[146..].fill(0xcc);
-    text
-}
-
 /// Whether a fragment of these data is shown.
 fn shows(depacketizer: &H265Depacketizer, data: &[u8]) -> bool {
     match depacketizer.payload() {
@@ -183,9 +156,11 @@ fn shows(depacketizer: &H265Depacketizer, data: &[u8]) -> bool {
 /// that of the end.
 fn take_fragments(rt: &impl Abort, alloc: Global, tries: Tries) -> Result<(), PacketError> {
     let mut it = receiver(alloc, false);
-    let end = end();
-    it.take_each(rt, tries, &[&start(), &middle(), &end])?;
-    it.has(rt, &fragmented(), KEY);
+    let start = fragment(&[0x62, 1, 0x93], 0xaa);
+    let middle = longer_fragment(&[0x62, 1, 0x13], 0xbb);
+    let end = fragment(&[0x62, 1, 0x53], 0xcc);
+    it.take_each(rt, tries, &[&start, &middle, &end])?;
+    it.has(rt, &text_of_fragments(&[0x26, 1]), KEY);
     assert!(rt; shows(&it.depacketizer, &end[3..]));
     Ok(())
 }
@@ -203,9 +178,9 @@ fn fragments_at_once(rt: HostRuntime) -> Result<(), PacketError> {
 /// Takes a middle fragment behind a start; a refusal leaves the open run and what is shown.
 fn take_middle(rt: &impl Abort, alloc: Global, tries: Tries) -> Result<(), PacketError> {
     let mut it = receiver(alloc, false);
-    it.take(rt, tries, &start())?;
+    it.take(rt, tries, &fragment(&[0x62, 1, 0x93], 0xaa))?;
     let before = made(tries, || it.depacketizer.clone())?;
-    let outcome = it.take_once(&middle());
+    let outcome = it.take_once(&longer_fragment(&[0x62, 1, 0x13], 0xbb));
     assert!(rt; outcome.is_ok() || it.depacketizer == before);
     if tries == Tries::Twice {
         return Ok(());
@@ -343,8 +318,7 @@ fn sending_that_takes_no_memory(rt: HostRuntime) -> Result<(), PacketError> {
     send_nothing(&rt, &mut it, &UNSENT)?;
     it.with_donl(false);
     send_nothing(&rt, &mut it, &UNSENT)?;
-    assert!(rt; it.clone()?.is_marker(&[2], None, true));
-    assert!(rt; !it.marks_talkspurt() && it.nackable());
+    ask_packetizer(&rt, &mut it.clone()?, &[2]);
     Ok(())
 }
 
@@ -387,9 +361,6 @@ fn receiving_that_takes_no_memory(rt: HostRuntime) {
 
 #[test]
 fn questions_that_take_no_memory(rt: HostRuntime) {
-    let depacketizer = H265Depacketizer::new(rt.alloc());
-    assert!(rt; depacketizer.out_size_hint(1200) == Some(1208));
-    assert!(rt; depacketizer.is_partition_head(&[2, 1]));
-    assert!(rt; depacketizer.is_partition_tail(true, &[2, 1]));
+    ask_depacketizer(&rt, &H265Depacketizer::new(rt.alloc()), &[2, 1]);
     assert!(rt; detect_h265_keyframe(&[0x60, 1, 0, 2, 2, 1, 0, 2, 0x26, 1]));
 }

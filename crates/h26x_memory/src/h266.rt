@@ -1,6 +1,9 @@
-use crate::ends::{Receiver, send, send_nothing};
+use crate::ends::{
+    Receiver, ask_depacketizer, ask_packetizer, fragment, longer_fragment, send, send_nothing,
+    text_of_fragments,
+};
 use crate::tries::{Tries, made};
-use h26x_core::{CodecExtra, Depacketizer, H266CodecExtra, PacketError, Packetizer};
+use h26x_core::{CodecExtra, H266CodecExtra, PacketError};
 use h266_payload::{H266Depacketizer, H266Packetizer, detect_h266_keyframe};
 use std::alloc::Global;
 use std::process::Abort;
@@ -121,41 +124,14 @@ fn numbered_sets_at_once(rt: HostRuntime) -> Result<(), PacketError> {
     )
 }
 
-/// A fragment of 43 bytes that starts a run.
-fn start() -> [u8; 43] {
-    let mut packet = [0xaa; 43];
-    packet[..3].copy_from_slice(&[0, 0xe9, 0x87]);
-    packet
-}
-
-/// A middle fragment of 103 bytes.
-fn middle() -> [u8; 103] {
-    let mut packet = [0xbb; 103];
-    packet[..3].copy_from_slice(&[0, 0xe9, 7]);
-    packet
-}
-
-/// A fragment of 43 bytes that ends a run.
-fn end() -> [u8; 43] {
-    let mut packet = [0xcc; 43];
-    packet[..3].copy_from_slice(&[0, 0xe9, 0x47]);
-    packet
-}
-
-/// The unit of the three behind a start code.
-fn fragmented() -> [u8; 186] {
-    let mut text = [0xaa; 186];
-    text[..6].copy_from_slice(&[0, 0, 0, 1, 0, 0x39]);
-    text[46..146].fill(0xbb);
-    text[146..].fill(0xcc);
-    text
-}
-
 /// Takes a start, a middle and an end, each longer than what there is room for by then.
 fn take_fragments(rt: &impl Abort, alloc: Global, tries: Tries) -> Result<(), PacketError> {
     let mut it = receiver(alloc);
-    it.take_each(rt, tries, &[&start(), &middle(), &end()])?;
-    it.has(rt, &fragmented(), KEY);
+    let start = fragment(&[0, 0xe9, 0x87], 0xaa);
+    let middle = longer_fragment(&[0, 0xe9, 7], 0xbb);
+    let end = fragment(&[0, 0xe9, 0x47], 0xcc);
+    it.take_each(rt, tries, &[&start, &middle, &end])?;
+    it.has(rt, &text_of_fragments(&[0, 0x39]), KEY);
     Ok(())
 }
 
@@ -225,8 +201,7 @@ fn sending_that_takes_no_memory(rt: HostRuntime) -> Result<(), PacketError> {
     send_nothing(&rt, &mut it, &UNSENT)?;
     it.with_donl(false);
     send_nothing(&rt, &mut it, &UNSENT)?;
-    assert!(rt; it.clone()?.is_marker(&[0], None, true));
-    assert!(rt; !it.marks_talkspurt() && it.nackable());
+    ask_packetizer(&rt, &mut it.clone()?, &[0]);
     Ok(())
 }
 
@@ -272,9 +247,6 @@ fn receiving_that_takes_no_memory(rt: HostRuntime) {
 
 #[test]
 fn questions_that_take_no_memory(rt: HostRuntime) {
-    let depacketizer = H266Depacketizer::new(rt.alloc());
-    assert!(rt; depacketizer.out_size_hint(1200) == Some(1208));
-    assert!(rt; depacketizer.is_partition_head(&[0, 9]));
-    assert!(rt; depacketizer.is_partition_tail(true, &[0, 9]));
+    ask_depacketizer(&rt, &H266Depacketizer::new(rt.alloc()), &[0, 9]);
     assert!(rt; detect_h266_keyframe(&[0, 0xe1, 0, 2, 0, 9, 0, 2, 0, 0x39]));
 }

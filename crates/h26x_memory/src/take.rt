@@ -30,21 +30,22 @@ fn packets(alloc: Global) -> Result<Vec<Vec<u8>>, PacketError> {
     Ok(packets)
 }
 
-/// What was written, by what became of the packets.
+/// What was written, by what became of the packets, and what the end brings once it is given again:
+/// the unit, where its start was taken and its end wasn't.
 fn written_of(
     outcomes: Result<&[Result<(), PacketError>], &PacketError>,
-) -> Result<&'static [u8], PacketError> {
+) -> Result<(&'static [u8], &'static [u8]), PacketError> {
     match outcomes {
-        Err(PacketError::OutOfMemory) => Ok(&[]),
-        Ok([Ok(()), Ok(()), SHORT, Ok(()), SHORT]) => Ok(&WRITTEN),
-        Ok([Ok(()), LACKS, SHORT, Ok(()), SHORT]) => Ok(&[]),
-        Ok([Ok(()), Ok(()), SHORT, LACKS, SHORT]) => Ok(&[]),
+        Err(PacketError::OutOfMemory) => Ok((&[], &[])),
+        Ok([Ok(()), Ok(()), SHORT, Ok(()), SHORT]) => Ok((&WRITTEN, &[])),
+        Ok([Ok(()), LACKS, SHORT, Ok(()), SHORT]) => Ok((&[], &[])),
+        Ok([Ok(()), Ok(()), SHORT, LACKS, SHORT]) => Ok((&[], &WRITTEN)),
         _ => Err(PacketError::ErrShortPacket),
     }
 }
 
 /// Without room for the outcomes nothing is taken. A packet for which memory lacks is passed over,
-/// and may be given again: the unit is then written where its start was taken and its end wasn't.
+/// and may be given again.
 #[test]
 fn as_far_as_memory_goes(rt: HostRuntime) -> Result<(), PacketError> {
     let packets = packets(rt.alloc())?;
@@ -58,33 +59,11 @@ fn as_far_as_memory_goes(rt: HostRuntime) -> Result<(), PacketError> {
         &mut out,
         &mut extra,
     );
-    let written = written_of(answer.as_ref().map(|outcomes| outcomes.as_slice()))?;
-    assert!(rt; out.as_slice() == written);
-    assert!(rt; (extra == KEY) == !written.is_empty());
-    Ok(())
-}
-
-/// An end for which memory lacked is given again.
-#[test]
-fn an_end_given_again(rt: HostRuntime) -> Result<(), PacketError> {
-    let packets = packets(rt.alloc())?;
-    let mut depacketizer = CodecDepacketizer::new(rt.alloc(), Codec::H264);
-    let mut out = Vec::new(rt.alloc());
-    let mut extra = CodecExtra::None;
-    let answer = take_all(
-        rt.alloc(),
-        &mut depacketizer,
-        &packets,
-        &mut out,
-        &mut extra,
-    );
-    let is_open = match answer {
-        Ok(outcomes) => outcomes.get(3) == Some(&LACKS),
-        Err(_) => false,
-    };
+    let (written, ended) = written_of(answer.as_ref().map(|outcomes| outcomes.as_slice()))?;
+    assert!(rt; out.as_slice() == written && (extra == KEY) == !written.is_empty());
     out.clear();
     depacketizer.depacketize(&END, &mut out, &mut extra)?;
-    assert!(rt; out.as_slice() == if is_open { WRITTEN.as_slice() } else { &[] });
+    assert!(rt; out.as_slice() == ended);
     Ok(())
 }
 

@@ -5,7 +5,7 @@ use std::alloc::Global;
 
 /// How often a call is made where memory lacks.
 #[derive(Clone, Copy, PartialEq, Eq)]
-pub enum Tries {
+pub(crate) enum Tries {
     /// A refusal ends the test.
     Once,
     /// A refused call is made again.
@@ -13,7 +13,7 @@ pub enum Tries {
 }
 
 /// What a call makes that changes nothing.
-pub fn made<T: Drop, F: Fn() -> Result<T, PacketError>>(
+pub(crate) fn made<T: Drop, F: Fn() -> Result<T, PacketError>>(
     tries: Tries,
     call: F,
 ) -> Result<T, PacketError>
@@ -26,11 +26,15 @@ pub fn made<T: Drop, F: Fn() -> Result<T, PacketError>>(
 }
 
 /// A buffer of these bytes.
-pub fn buffer_of(alloc: Global, tries: Tries, bytes: &[u8]) -> Result<Vec<u8>, PacketError> {
+pub(crate) fn buffer_of(alloc: Global, tries: Tries, bytes: &[u8]) -> Result<Vec<u8>, PacketError> {
     made(tries, || Ok(bytes.to_vec(alloc)?))
 }
 
 /// Room for so many.
-pub fn room_for<T: Drop>(alloc: Global, tries: Tries, count: usize) -> Result<Vec<T>, PacketError> {
+pub(crate) fn room_for<T: Drop>(
+    alloc: Global,
+    tries: Tries,
+    count: usize,
+) -> Result<Vec<T>, PacketError> {
     made(tries, || Ok(Vec::with_capacity(alloc, count)?))
 }
