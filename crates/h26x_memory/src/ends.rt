@@ -131,11 +131,11 @@ pub(crate) fn longer_fragment(head: &[u8; 3], byte: u8) -> [u8; 103] {
     packet
 }
 
-/// The text of a unit of 40 bytes `aa`, 100 bytes `bb` and 40 bytes `cc` behind its header.
-pub(crate) fn text_of_fragments(head: &[u8; 2]) -> [u8; 186] {
+/// The text of a unit of 40 bytes `aa`, 100 bytes `bb` and 40 bytes `cc` behind its start code and
+/// header.
+pub(crate) fn text_of_fragments(front: &[u8; 6]) -> [u8; 186] {
     let mut text = [0xaa; 186];
-    text[..4].copy_from_slice(&[0, 0, 0, 1]);
-    text[4..6].copy_from_slice(head);
+    text[..6].copy_from_slice(front);
     text[46..146].fill(0xbb);
     text[146..].fill(0xcc);
     text

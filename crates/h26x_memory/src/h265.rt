@@ -160,7 +160,7 @@ fn take_fragments(rt: &impl Abort, alloc: Global, tries: Tries) -> Result<(), Pa
     let middle = longer_fragment(&[0x62, 1, 0x13], 0xbb);
     let end = fragment(&[0x62, 1, 0x53], 0xcc);
     it.take_each(rt, tries, &[&start, &middle, &end])?;
-    it.has(rt, &text_of_fragments(&[0x26, 1]), KEY);
+    it.has(rt, &text_of_fragments(&[0, 0, 0, 1, 0x26, 1]), KEY);
     assert!(rt; shows(&it.depacketizer, &end[3..]));
     Ok(())
 }

@@ -131,7 +131,7 @@ fn take_fragments(rt: &impl Abort, alloc: Global, tries: Tries) -> Result<(), Pa
     let middle = longer_fragment(&[0, 0xe9, 7], 0xbb);
     let end = fragment(&[0, 0xe9, 0x47], 0xcc);
     it.take_each(rt, tries, &[&start, &middle, &end])?;
-    it.has(rt, &text_of_fragments(&[0, 0x39]), KEY);
+    it.has(rt, &text_of_fragments(&[0, 0, 0, 1, 0, 0x39]), KEY);
     Ok(())
 }
 
