@@ -135,8 +135,8 @@ pub(crate) fn longer_fragment(head: &[u8; 3], byte: u8) -> [u8; 103] {
 /// header.
 pub(crate) fn text_of_fragments(front: &[u8; 6]) -> [u8; 186] {
     let mut text = [0xaa; 186];
-    text[..6].copy_from_slice(front);
     text[46..146].fill(0xbb);
     text[146..].fill(0xcc);
+    text[..6].copy_from_slice(front);
     text
 }
