@@ -1,6 +1,6 @@
 //! NAL units from H.266 packets (RFC 9328, 4.3 and 6).
 
-ghost use Rattle.std.specs.Prelude.{◌≡◌, true, false, [], ◌∷◌, Some, None, OnOk, OnErr, IsOk};
+ghost use Rattle.std.specs.Prelude.{◌≡◌, true, false, [], ◌∷◌, Some, None, Err, IfOk, OnOk, OnErr, IsOk};
 ghost use Rattle.h26x_core.specs.Front.{IsFrontOf};
 ghost use Rattle.h26x_core.specs.Hint.{size_hint};
 ghost use Rattle.h26x_core.specs.Outcome.{is_startless};
@@ -83,6 +83,46 @@ impl H266Depacketizer {
     {
         self.run.give_up();
     }
+
+    /// The same depacketizer again, with its setting and its open run. `OutOfMemory` is its only
+    /// error, and with no run open it takes no memory.
+    pub fn clone(&self) -> Result<Self, PacketError>
+        ensures same { IfOk result (λ it. it ≡ self.now) }
+        ensures memory { OnErr result (result ≡ Err PacketError.OutOfMemory) }
+        ensures free { self.now.run ≡ None → IsOk result }
+    {
+        Ok(H266Depacketizer {
+            codec: self.codec,
+            run: self.run.clone()?,
+        })
+    }
+}
+
+impl PartialEq for H266Depacketizer {
+    ghost use Rattle.std.specs.Prelude.{nat_eq};
+    ghost use Rattle.std.specs.Bool.{beq};
+    ghost use Rattle.std.specs.Ordering.{eq_of_both, on};
+    ghost use Rattle.std.specs.Option.{option_eq};
+    ghost use Rattle.std.specs.Cmp.{partial_equiv_from_equiv};
+    ghost use Rattle.std.specs.Cmp.Rules.{comparing};
+    ghost use Rattle.std.specs.Cmp.Lexicographic.{pointwise};
+    ghost use Rattle.std.proofs.Common.{rules};
+
+    ghost eq = { eq_of_both (on (λ it. it.is_numbered) beq) (on (λ it. it.run)
+        (option_eq (pointwise nat_eq))) };
+
+    ghost laws = { partial_equiv_from_equiv (Prim.search (comparing, rules)) };
+
+    fn eq(&self, other: &Self) -> bool {
+        self.codec.numbered == other.codec.numbered && self.run == other.run
+    }
+}
+
+impl Eq for H266Depacketizer {
+    ghost use Rattle.std.specs.Cmp.Rules.{comparing};
+    ghost use Rattle.std.proofs.Common.{rules};
+
+    ghost laws = { Prim.search (comparing, rules) };
 }
 
 impl Depacketizer for H266Depacketizer {

@@ -34,7 +34,7 @@ const FRAGMENT_TYPE: u8 = 29;
 /// H.266 (RFC 9328), and whether packets bear decoding order numbers (4.4).
 #[derive(Debug, Clone, Copy)]
 pub struct H266 {
-    numbered: bool,
+    pub(crate) numbered: bool,
 }
 
 /// Sends the NAL units of payloads (RFC 9328).

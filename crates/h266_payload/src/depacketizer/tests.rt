@@ -259,3 +259,23 @@ fn hints(rt: HostRuntime) {
         assert_eq!(rt; d.out_size_hint(size), Some(hint));
     }
 }
+
+#[test]
+fn a_clone_goes_on(rt: HostRuntime) -> Result<(), Fail> {
+    let mut d = H266Depacketizer::new(rt.alloc());
+    let mut out = Vec::new(rt.alloc());
+    let mut told = CodecExtra::None;
+    d.depacketize(&[0x00, 0xe9, 0x87, 0x01], &mut out, &mut told)?;
+    let mut other = d.clone()?;
+    assert!(rt; d == other);
+    other.depacketize(&[0x00, 0xe9, 0x47, 0x02], &mut out, &mut told)?;
+    assert_eq!(rt;
+        out.as_slice(),
+        [0x00, 0x00, 0x00, 0x01, 0x00, 0x39, 0x01, 0x02].as_slice()
+    );
+    assert!(rt; d != other);
+    assert!(rt; other == H266Depacketizer::new(rt.alloc()));
+    other.with_donl(true);
+    assert!(rt; other != H266Depacketizer::new(rt.alloc()));
+    Ok(())
+}

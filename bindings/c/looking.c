@@ -1,0 +1,71 @@
+/* The calls without a handle. */
+#include "calls.h"
+
+static bool is_head(uint32_t codec, const char *packet)
+{
+    struct bytes in = bytes_of(packet);
+    return h26x_is_partition_head(codec, in.at, in.len);
+}
+
+static bool is_tail(uint32_t codec, bool marker, const char *packet)
+{
+    struct bytes in = bytes_of(packet);
+    return h26x_is_partition_tail(codec, marker, in.at, in.len);
+}
+
+static bool is_key(uint32_t codec, const char *packet)
+{
+    struct bytes in = bytes_of(packet);
+    return h26x_detect_keyframe(codec, in.at, in.len);
+}
+
+static bool has_nalu(const char *packet, uint8_t type)
+{
+    struct bytes in = bytes_of(packet);
+    return h26x_detect_h264_nalu(in.at, in.len, type);
+}
+
+static void check_heads_and_tails(struct tally *t)
+{
+    expect(t, is_head(H26X_H264, "0100") && is_head(H26X_H264, "7c85"));
+    expect(t, !is_head(H26X_H264, "65") && !is_head(H26X_H264, "1c40"));
+    expect(t, is_head(H26X_H265, "8001") && is_head(H26X_H265, "620193"));
+    expect(t, !is_head(H26X_H265, "6201") && !is_head(H26X_H265, "620113"));
+    expect(t, is_head(H26X_H266, "0009") && is_head(H26X_H266, "00e987"));
+    expect(t, !is_head(H26X_H266, "00") && !is_head(H26X_H266, "00e947"));
+    expect(t, !is_head(0, "0100") && !is_tail(0, true, "0100"));
+
+    expect(t, is_tail(H26X_H264, true, "7c05") && !is_tail(H26X_H264, false, "7c45"));
+    expect(t, is_tail(H26X_H265, true, "0201") && !is_tail(H26X_H265, true, "620113aa"));
+    expect(t, is_tail(H26X_H265, false, "620153") && !is_tail(H26X_H265, false, "0201"));
+    expect(t, is_tail(H26X_H266, true, "0009") && !is_tail(H26X_H266, true, "00e907aa"));
+    expect(t, is_tail(H26X_H266, false, "00e947") && !is_tail(H26X_H266, true, ""));
+}
+
+static void check_detection(struct tally *t)
+{
+    expect(t, is_key(H26X_H264, "7c850000") && is_key(H26X_H264, "18 0002 67aa 0002 65bb"));
+    expect(t, !is_key(H26X_H264, "7c050000") && !is_key(H26X_H264, "") && !is_key(H26X_H264, "7c"));
+    expect(t, is_key(H26X_H265, "620193aa") && is_key(H26X_H265, "6001 0003 0201aa 0003 2601af"));
+    expect(t, !is_key(H26X_H265, "620113aa") && !is_key(H26X_H265, "2c01aa"));
+    expect(t, is_key(H26X_H266, "00e987aa") && is_key(H26X_H266, "0049aa"));
+    expect(t, !is_key(H26X_H266, "00e907aa") && !is_key(H26X_H266, "0051aa"));
+    expect(t, !is_key(1, "65"));
+    expect(t, has_nalu("18 0002 67aa 0002 68bb", 7) && !has_nalu("18 0002 67aa 0002 68bb", 5));
+    expect(t, has_nalu("6742", 7) && !has_nalu("", 0));
+}
+
+static void check_hints(struct tally *t)
+{
+    expect(t, h26x_out_size_hint(0) == 4);
+    expect(t, h26x_out_size_hint(1199) == 1203);
+    expect(t, h26x_out_size_hint(1200) == 1208);
+    expect(t, h26x_out_size_hint(SIZE_MAX) == SIZE_MAX);
+}
+
+void check_looking(struct tally *t)
+{
+    check_heads_and_tails(t);
+    check_detection(t);
+    check_hints(t);
+}

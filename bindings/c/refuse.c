@@ -1,0 +1,220 @@
+/* Has each request for memory of each call refused: the request alone, and it and all later ones.
+ * The call then answers H26X_OUT_OF_MEMORY and leaves its handle, and the same call made again
+ * answers as if it had never been refused. Calls that take no memory are made with all refused.
+ * Link with -Wl,--wrap=malloc,--wrap=realloc. */
+#include "h26x.h"
+#include <stdio.h>
+#include <stdlib.h>
+#include <string.h>
+
+void *__real_malloc(size_t size);
+void *__real_realloc(void *block, size_t size);
+void *__wrap_malloc(size_t size);
+void *__wrap_realloc(void *block, size_t size);
+
+/* How many requests are left to grant, below 0 where all are; whether one alone is refused; and how
+ * many were. */
+static long left = -1;
+static bool one_alone;
+static size_t refused;
+
+static bool is_refused(void)
+{
+    if (left < 0)
+        return false;
+    if (left > 0) {
+        left--;
+        return false;
+    }
+    if (one_alone)
+        left = -1;
+    refused++;
+    return true;
+}
+
+void *__wrap_malloc(size_t size)
+{
+    return is_refused() ? NULL : __real_malloc(size);
+}
+
+void *__wrap_realloc(void *block, size_t size)
+{
+    return is_refused() ? NULL : __real_realloc(block, size);
+}
+
+static void expect_at(bool holds, const char *what, int line)
+{
+    if (!holds) {
+        fprintf(stderr, "refuse.c:%d: does not hold: %s\n", line, what);
+        exit(1);
+    }
+}
+#define expect(what) expect_at(what, #what, __LINE__)
+
+/* Makes a call with its request 0, 1, .. refused, until none is. `kept` holds after each refusal. */
+#define refuse_each(call, kept)                                               \
+    do {                                                                      \
+        bool was_refused = true;                                              \
+        for (long n = 0; was_refused; n++) {                                  \
+            const size_t refused_before = refused;                            \
+            left = n / 2;                                                     \
+            one_alone = n % 2 == 0;                                           \
+            const uint32_t code = (call);                                     \
+            left = -1;                                                        \
+            was_refused = refused > refused_before;                           \
+            expect(code == (was_refused ? H26X_OUT_OF_MEMORY : H26X_OK));     \
+            expect(!was_refused || (kept));                                   \
+        }                                                                     \
+    } while (0)
+
+/* Evaluates `what` with every request refused; there must be none. */
+#define without_memory(what)                    \
+    do {                                        \
+        const size_t refused_before = refused;  \
+        left = 0;                               \
+        one_alone = false;                      \
+        expect(what);                           \
+        left = -1;                              \
+        expect(refused == refused_before);      \
+    } while (0)
+
+/* A codec, two sets that wait, a unit of a keyframe, and how the packets of it begin: that of the
+ * sets, the first fragment, one between, and the last. */
+struct codec {
+    uint32_t number;
+    const char *sets, *unit, *begins[4];
+    size_t sets_len, unit_header, fragment_header;
+};
+
+static const struct codec codecs[] = {
+    {H26X_H264, "\0\0\1\x67\1\0\0\1\x68\2", "\x65", {"\x78", "\x7c\x85", "\x7c\x05", "\x7c\x45"},
+     10, 1, 2},
+    {H26X_H265, "\0\0\1\x42\1\3\0\0\1\x44\1\4", "\x26\1",
+     {"\x60\1", "\x62\1\x93", "\x62\1\x13", "\x62\1\x53"}, 12, 2, 3},
+    {H26X_H266, "\0\0\1\0\x79\3\0\0\1\0\x81\4", "\0\x39",
+     {"\0\xe1", "\0\xe9\x87", "\0\xe9\x07", "\0\xe9\x47"}, 12, 2, 3},
+};
+
+enum { DATA = 250, LIMIT = 100, ROOM = 4096 };
+
+static uint8_t unit[ROOM], packet[ROOM], to[ROOM];
+
+/* Whether the packetizer holds the packets of the unit: the sets, and three fragments. */
+static bool holds_packets(h26x_packetizer *p, const struct codec *c)
+{
+    size_t data = 0;
+    for (size_t i = 0; i < 4; i++) {
+        size_t header = i == 0 ? c->fragment_header - 1 : c->fragment_header;
+        size_t len = h26x_packet_copy(p, i, packet, sizeof packet);
+        if (len < header || memcmp(packet, c->begins[i], header) != 0)
+            return false;
+        data += i == 0 ? 0 : len - header;
+    }
+    return h26x_packet_count(p) == 4 && data == DATA;
+}
+
+/* Whether the packetizer holds the two sets as units of a payload, each behind three bytes there. */
+static bool holds_sets(h26x_packetizer *p, const struct codec *c)
+{
+    const size_t half = c->sets_len / 2, len = half - 3;
+    for (size_t i = 0; i < 2; i++)
+        if (h26x_packet_copy(p, i, packet, sizeof packet) != len
+            || memcmp(packet, c->sets + i * half + 3, len) != 0)
+            return false;
+    return h26x_packet_count(p) == 2;
+}
+
+static void refuse_sending(const struct codec *c)
+{
+    h26x_packetizer p = {NULL}, copy = {NULL};
+    size_t count = 99;
+    size_t unit_len = c->unit_header + DATA;
+    refuse_each(h26x_packetizer_new(c->number, false, &p), p.at == NULL);
+    refuse_each(h26x_packetize(&p, LIMIT, (const uint8_t *)c->sets, c->sets_len, &count),
+                h26x_packet_count(&p) == 0);
+    expect(count == 0);
+    refuse_each(h26x_packetizer_clone(&p, &copy), copy.at == NULL);
+
+    /* The sets still wait after each refusal, and the packets of the call before stay. */
+    refuse_each(h26x_packetize(&p, LIMIT, unit, unit_len, &count), h26x_packet_count(&p) == 0);
+    expect(count == 4 && holds_packets(&p, c));
+    refuse_each(h26x_packetize(&p, LIMIT, unit, unit_len, &count), holds_packets(&p, c));
+    expect(count == 3);
+    refuse_each(h26x_packetize(&copy, LIMIT, unit, unit_len, &count),
+                h26x_packet_count(&copy) == 0);
+    expect(count == 4 && holds_packets(&copy, c));
+
+    without_memory(h26x_packet_len(&copy, 1) == LIMIT && h26x_packet_count(&copy) == 4);
+    without_memory(holds_packets(&copy, c));
+    without_memory(h26x_packetizer_set_numbers(&copy, false)
+                   == (c->number == H26X_H264 ? H26X_NOT_OF_THIS_CODEC : H26X_OK));
+    without_memory(h26x_packetizer_set_max_size(&copy, 4)
+                   == (c->number == H26X_H264 ? H26X_NOT_OF_THIS_CODEC : H26X_OK));
+
+    /* The packets stay where there is no memory for units. */
+    refuse_each(h26x_packetizer_units(&copy, (const uint8_t *)c->sets, c->sets_len, &count),
+                holds_packets(&copy, c));
+    expect(count == 2);
+    without_memory(holds_sets(&copy, c));
+    h26x_packetizer_free(p);
+    h26x_packetizer_free(copy);
+}
+
+static void refuse_receiving(const struct codec *c)
+{
+    h26x_packetizer p;
+    h26x_depacketizer d = {NULL}, before = {NULL};
+    size_t count, written = 0, total = 0;
+    uint8_t extra = 0;
+    h26x_refusal why;
+    expect(h26x_packetizer_new(c->number, false, &p) == H26X_OK);
+    expect(h26x_packetize(&p, LIMIT, (const uint8_t *)c->sets, c->sets_len, &count) == H26X_OK);
+    expect(h26x_packetize(&p, LIMIT, unit, c->unit_header + DATA, &count) == H26X_OK && count == 4);
+    refuse_each(h26x_depacketizer_new(c->number, false, &d), d.at == NULL);
+    for (size_t i = 0; i < count; i++) {
+        size_t len = h26x_packet_copy(&p, i, packet, sizeof packet);
+        uint8_t told = extra;
+        refuse_each(h26x_depacketizer_clone(&d, &before), before.at == NULL);
+        refuse_each(h26x_depacketize(&d, false, packet, len, to + total, ROOM - total, &written,
+                                     &extra, &why),
+                    written == 0 && extra == told && h26x_depacketizer_same(&d, &before));
+        without_memory(h26x_written_copy(&d, packet, sizeof packet) == written);
+        h26x_depacketizer_free(before);
+        before.at = NULL;
+        total += written;
+    }
+    /* The two sets behind start codes of four bytes, then the unit. */
+    expect(memcmp(to, "\0\0\0\1", 4) == 0 && extra == 2);
+    expect(total == c->sets_len + 2 + 4 + c->unit_header + DATA);
+    expect(memcmp(to + total - c->unit_header - DATA, unit, c->unit_header + DATA) == 0);
+
+    without_memory(h26x_give_up_run(&d) == H26X_OK);
+    without_memory(h26x_depacketizer_set_numbers(&d, false)
+                   == (c->number == H26X_H264 ? H26X_NOT_OF_THIS_CODEC : H26X_OK));
+    h26x_packetizer_free(p);
+    h26x_depacketizer_free(d);
+}
+
+static void look_without_memory(const struct codec *c)
+{
+    const uint8_t *sets = (const uint8_t *)c->sets;
+    without_memory(h26x_is_partition_head(c->number, unit, 9));
+    without_memory(h26x_is_partition_tail(c->number, true, unit, 9));
+    without_memory(h26x_detect_keyframe(c->number, unit, 9));
+    without_memory(h26x_detect_h264_nalu(sets + 3, 2, 7) == (c->number == H26X_H264));
+    without_memory(h26x_out_size_hint(1200) == 1208);
+}
+
+int main(void)
+{
+    for (size_t i = 0; i < sizeof codecs / sizeof codecs[0]; i++) {
+        const struct codec *c = &codecs[i];
+        memset(unit, 0xaa, sizeof unit);
+        memcpy(unit, c->unit, c->unit_header);
+        refuse_sending(c);
+        refuse_receiving(c);
+        look_without_memory(c);
+    }
+    printf("%zu requests refused, nothing lost\n", refused);
+    return 0;
+}

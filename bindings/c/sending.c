@@ -1,0 +1,183 @@
+/* The calls of packetizers. */
+#include "calls.h"
+#include <string.h>
+
+static h26x_packetizer made(struct tally *t, uint32_t codec, bool numbers)
+{
+    h26x_packetizer p;
+    expect(t, h26x_packetizer_new(codec, numbers, &p) == H26X_OK);
+    expect(t, h26x_packet_count(&p) == 0);
+    return p;
+}
+
+static void check_h264(struct tally *t)
+{
+    h26x_packetizer p = made(t, H26X_H264, false), q;
+    sends(t, &p, 4, "65010203", "65010203");
+    sends(t, &p, 5, "000001 90 000001 90", "90|90");
+    sends(t, &p, 3, "65010203", "7c8501|7c0502|7c4503");
+    sends(t, &p, 2, "65010203", "");
+    sends(t, &p, 0, "65", "");
+    sends(t, &p, 5, "", "");
+    sends(t, &p, 5, "090000", "");
+    sends(t, &p, 11, "000001 070001 000001 080203 000001 050405",
+          "78 0003 070001 0003 080203|050405");
+    sends(t, &p, 10, "000001 070001 000001 080203 000001 050405", "070001|080203|050405");
+
+    /* What waits is copied; what packets are held is not. */
+    sends(t, &p, 1500, "000001 070001 000001 080203", "");
+    sends(t, &p, 1500, "090000", "");
+    expect(t, h26x_packetizer_clone(&p, &q) == H26X_OK);
+    sends(t, &q, 1500, "050405", "78 0003 070001 0003 080203|050405");
+    h26x_packetizer_free(q);
+    sends(t, &p, 1500, "050405", "78 0003 070001 0003 080203|050405");
+    expect(t, h26x_packetizer_clone(&p, &q) == H26X_OK);
+    expect(t, h26x_packet_count(&q) == 0);
+    h26x_packetizer_free(q);
+
+    expect(t, h26x_packetizer_set_numbers(&p, true) == H26X_NOT_OF_THIS_CODEC);
+    expect(t, h26x_packetizer_set_numbers(&p, false) == H26X_NOT_OF_THIS_CODEC);
+    expect(t, h26x_packetizer_set_max_size(&p, 1000) == H26X_NOT_OF_THIS_CODEC);
+    h26x_packetizer_free(p);
+}
+
+static void check_h265(struct tally *t)
+{
+    const char *units = "000001 40010c 000001 420101 000001 4401c1 000001 2601af";
+    h26x_packetizer p = made(t, H26X_H265, false), q;
+    sends(t, &p, 4, "2601aabbcc", "620193aa|620113bb|620153cc");
+    sends(t, &p, 3, "0201aa", "");
+    sends(t, &p, 17, units, "6001 0003 40010c 0003 420101 0003 4401c1|2601af");
+    sends(t, &p, 16, units, "40010c|420101|4401c1|2601af");
+    expect(t, h26x_packetizer_set_numbers(&p, true) == H26X_OK);
+    sends(t, &p, 100, units, "6001 0000 0003 40010c 00 0003 420101 00 0003 4401c1|26010003af");
+    expect(t, h26x_packetizer_clone(&p, &q) == H26X_OK);
+    sends(t, &q, 6, "0201aabbcc", "6201810004aa|620141bbcc");
+    h26x_packetizer_free(q);
+    expect(t, h26x_packetizer_set_numbers(&p, true) == H26X_OK);
+    sends(t, &p, 100, "0201aa", "02010000aa");
+    expect(t, h26x_packetizer_set_numbers(&p, false) == H26X_OK);
+    sends(t, &p, 100, "0201aa", "0201aa");
+    h26x_packetizer_free(p);
+}
+
+static void check_h266(struct tally *t)
+{
+    h26x_packetizer p = made(t, H26X_H266, true);
+    sends(t, &p, 1200, "000001 0079bb 000001 0081cc 000001 0039dd",
+          "00e1 0000 0003 0079bb 0003 0081cc|00390002dd");
+    h26x_packetizer_free(p);
+    p = made(t, H26X_H266, false);
+    sends(t, &p, 4, "0039aabb", "0039aabb");
+    sends(t, &p, 4, "0039aabbcc", "00e987aa|00e907bb|00e947cc");
+    sends(t, &p, 1200, "000001 0009aa00 00000001 0011bb", "0009aa00|0011bb");
+    h26x_packetizer_free(p);
+}
+
+/* The largest size of H.265 and H.266: 1200 at first. */
+static void check_max_size(struct tally *t, uint32_t codec, uint8_t first, uint8_t second)
+{
+    uint8_t unit[1201];
+    size_t count;
+    h26x_packetizer p = made(t, codec, false);
+    memset(unit, 0xaa, sizeof unit);
+    unit[0] = first;
+    unit[1] = second;
+    expect(t, h26x_packetize(&p, 5000, unit, 1201, &count) == H26X_OK && count == 2);
+    expect(t, h26x_packet_len(&p, 0) == 1200 && h26x_packet_len(&p, 1) == 5);
+    expect(t, h26x_packetizer_set_max_size(&p, 3) == H26X_OUT_OF_RANGE);
+    expect(t, h26x_packetizer_set_max_size(&p, 1201) == H26X_OK);
+    expect(t, h26x_packetize(&p, 5000, unit, 1201, &count) == H26X_OK && count == 1);
+    expect(t, h26x_packetizer_set_max_size(&p, 4) == H26X_OK);
+    expect(t, h26x_packetize(&p, 5000, unit, 1201, &count) == H26X_OK && count == 1199);
+    h26x_packetizer_free(p);
+}
+
+static void check_copies(struct tally *t)
+{
+    h26x_packetizer p = made(t, H26X_H264, false);
+    uint8_t to[16];
+    sends(t, &p, 5, "65010203 040506", "7c85010203|7c45040506");
+    memset(to, 7, sizeof to);
+    expect(t, h26x_packet_copy(&p, 0, to, 4) == 5 && to[0] == 7);
+    expect(t, h26x_packet_copy(&p, 2, to, 16) == 0 && to[0] == 7);
+    expect(t, h26x_packet_len(&p, 2) == 0 && h26x_packet_len(&p, SIZE_MAX) == 0);
+    expect(t, h26x_packet_copy(&p, 1, to, 5) == 5 && is_same(to, 6, "7c45040506 07"));
+    sends(t, &p, 4, "", "");
+    expect(t, h26x_packet_copy(&p, 0, to, 16) == 0 && to[0] == 0x7c);
+    h26x_packetizer_free(p);
+}
+
+/* Cuts a payload, and compares its units, which `units` names with '|' between two. */
+static void cuts_at(struct tally *t, h26x_packetizer *p, const char *payload, const char *units,
+                    const char *file, int line)
+{
+    struct bytes in = bytes_of(payload);
+    size_t count = 99;
+    uint32_t code = h26x_packetizer_units(p, in.at, in.len, &count);
+    expect_at(t, code == H26X_OK, payload, file, line);
+    holds_at(t, p, count, units, file, line);
+}
+#define cuts(t, p, payload, units) cuts_at(t, p, payload, units, __FILE__, __LINE__)
+
+/* The units of a payload take the place of the packets; all else of the packetizer stays. */
+static void check_units(struct tally *t)
+{
+    const char *payload = "bb 000001 aa 00000000 01 000001 bb00";
+    h26x_packetizer p = made(t, H26X_H264, false), q;
+    cuts(t, &p, payload, "aa|bb00");
+    cuts(t, &p, "bb00", "bb00");
+    expect(t, h26x_packetizer_clone(&p, &q) == H26X_OK && h26x_packet_count(&q) == 0);
+    h26x_packetizer_free(q);
+    cuts(t, &p, "", "");
+    sends(t, &p, 1500, "000001 070001 000001 080203", "");
+    cuts(t, &p, "000001 070405", "070405");
+    sends(t, &p, 1500, "050405", "78 0003 070001 0003 080203|050405");
+    h26x_packetizer_free(p);
+
+    p = made(t, H26X_H265, true);
+    sends(t, &p, 100, "0201aa", "02010000aa");
+    cuts(t, &p, payload, "aa|bb00");
+    sends(t, &p, 100, "0201aa", "02010001aa");
+    h26x_packetizer_free(p);
+
+    /* H.266: zeros before the nearest three stay with the unit. */
+    p = made(t, H26X_H266, false);
+    cuts(t, &p, payload, "aa00|bb00");
+    h26x_packetizer_free(p);
+}
+
+static void check_refusals(struct tally *t)
+{
+    h26x_packetizer p = {NULL}, depacketizer;
+    h26x_depacketizer d;
+    uint8_t unit[] = {0x65}, to[8] = {7};
+    size_t count = 9;
+    expect(t, h26x_packetizer_new(0, false, &p) == H26X_UNKNOWN_CODEC && p.at == NULL);
+    expect(t, h26x_packetizer_new(267, true, &p) == H26X_UNKNOWN_CODEC && p.at == NULL);
+    expect(t, h26x_packetizer_new(H26X_H264, true, &p) == H26X_NOT_OF_THIS_CODEC);
+
+    /* A depacketizer where a packetizer is wanted. */
+    expect(t, h26x_depacketizer_new(H26X_H265, false, &d) == H26X_OK);
+    depacketizer.at = d.at;
+    expect(t, h26x_packetize(&depacketizer, 9, unit, 1, &count) == H26X_WRONG_END && count == 0);
+    expect(t, h26x_packetizer_units(&depacketizer, unit, 1, &count) == H26X_WRONG_END);
+    expect(t, h26x_packetizer_clone(&depacketizer, &p) == H26X_WRONG_END && p.at == NULL);
+    expect(t, h26x_packetizer_set_numbers(&depacketizer, true) == H26X_WRONG_END);
+    expect(t, h26x_packetizer_set_max_size(&depacketizer, 9) == H26X_WRONG_END);
+    expect(t, h26x_packet_count(&depacketizer) == 0 && h26x_packet_len(&depacketizer, 0) == 0);
+    expect(t, h26x_packet_copy(&depacketizer, 0, to, 8) == 0 && to[0] == 7);
+    h26x_depacketizer_free(d);
+}
+
+void check_sending(struct tally *t)
+{
+    check_h264(t);
+    check_h265(t);
+    check_h266(t);
+    check_max_size(t, H26X_H265, 0x26, 0x01);
+    check_max_size(t, H26X_H266, 0x00, 0x39);
+    check_copies(t);
+    check_units(t);
+    check_refusals(t);
+}

@@ -1,0 +1,154 @@
+/* H.264, H.265 and H.266 as RTP payloads (RFC 6184, RFC 7798, RFC 9328).
+ *
+ * A packetizer cuts units of coded video into the payloads of RTP packets, each within a limit. A depacketizer
+ * writes the units of such payloads again. RTP's own header is the caller's.
+ *
+ * A handle is a struct of one pointer. No call keeps a pointer that it is given, waits, prints, or has state beside
+ * its handle; memory comes from malloc, realloc and free. A handle may go from one thread to another.
+ *
+ * What a caller owes, since nothing checks it:
+ * - a handle is one that a _new or _clone wrote, and was not freed since;
+ * - while a call runs, no other call is given the same handle, and no other thread writes its buffers;
+ * - a handle goes to another thread by a lock, a start or a join of a thread, or as ordered as that;
+ * - a pointer and its length are those of one buffer, and the pointer is not NULL even where the length is 0;
+ * - what a call writes overlaps nothing else that it is given, and of two handles neither is the other;
+ * - a bool is 0 or 1;
+ * - malloc and realloc align each block to every power of two up to 16 that divides its size;
+ * - no call is made in a signal handler, or in the child that a program with threads forked.
+ */
+#ifndef H26X_H
+#define H26X_H
+
+#include <stdbool.h>
+#include <stddef.h>
+#include <stdint.h>
+
+#ifdef __cplusplus
+extern "C" {
+#endif
+
+enum h26x_codec { H26X_H264 = 264, H26X_H265 = 265, H26X_H266 = 266 };
+
+/* What a call answers. All but H26X_OK are refusals, which change nothing but *written, *why and *count. */
+enum h26x_code {
+    H26X_OK = 0,
+    H26X_SHORT_PACKET = 1,
+    H26X_NALU_TYPE_NOT_HANDLED = 2,   /* H.264. why->first: the type */
+    H26X_STAP_A_TOO_LONG = 3,         /* H.264. why->first: the length of a unit; why->second: the bytes left for it */
+    H26X_H265_CORRUPTED = 4,
+    H26X_H265_PACI_PHES_TOO_LONG = 5,
+    H26X_H266_CORRUPTED = 6,
+    H26X_AVC_UNIT_TOO_LONG = 7,       /* H.264 in AVC form: a unit of over 4,294,967,295 bytes */
+    H26X_OUT_OF_MEMORY = 8,
+    H26X_UNKNOWN_CODEC = 9,
+    H26X_WRONG_END = 10,              /* a depacketizer where a packetizer is wanted, or the reverse */
+    H26X_NOT_OF_THIS_CODEC = 11,      /* decoding order numbers or a largest size for H.264, AVC form for another */
+    H26X_OUT_OF_RANGE = 12            /* a largest size under 4 */
+};
+
+typedef struct { void *at; } h26x_packetizer;
+typedef struct { void *at; } h26x_depacketizer;
+typedef struct { size_t first, second; } h26x_refusal;
+
+/* ---- Sending ---- */
+
+/* A packetizer for which no parameter set waits, with 1200 bytes as the largest packet size. `numbers`: whether
+ * packets bear decoding order numbers, which begin at 0 (DONL; H.265 and H.266). *made is written where the answer is
+ * H26X_OK. Else H26X_UNKNOWN_CODEC, H26X_NOT_OF_THIS_CODEC or H26X_OUT_OF_MEMORY. */
+uint32_t h26x_packetizer_new(uint32_t codec, bool numbers, h26x_packetizer *made);
+
+/* The same packetizer again: the sets that wait for it, its next number, its settings; not the packets it holds.
+ * H26X_OUT_OF_MEMORY, or H26X_WRONG_END. */
+uint32_t h26x_packetizer_clone(h26x_packetizer *p, h26x_packetizer *made);
+
+/* Frees it with its packets. */
+void h26x_packetizer_free(h26x_packetizer p);
+
+/* Turns numbers on, from 0 again, or off. Sets that wait stay. H26X_NOT_OF_THIS_CODEC for H.264. */
+uint32_t h26x_packetizer_set_numbers(h26x_packetizer *p, bool numbers);
+
+/* Sets the largest packet size of H.265 and H.266, in bytes: 4 or more, else H26X_OUT_OF_RANGE. No packet of a later
+ * call is longer. H26X_NOT_OF_THIS_CODEC for H.264. */
+uint32_t h26x_packetizer_set_max_size(h26x_packetizer *p, uint16_t bytes);
+
+/* Makes the packets of a payload, which is one unit, or units behind start codes. Each packet has at most `mtu` bytes
+ * (and at most the largest size). They take the place of those of the call before, and *count is how many there are.
+ * Parameter sets wait for the next unit that is none. H26X_OUT_OF_MEMORY leaves the packets of the call before;
+ * H26X_WRONG_END writes 0 to *count. The marker bit goes on the last packet of an access unit. */
+uint32_t h26x_packetize(h26x_packetizer *p, size_t mtu, const uint8_t *payload, size_t payload_len, size_t *count);
+
+/* How many packets there are of the last call; 0 for a depacketizer. */
+size_t h26x_packet_count(h26x_packetizer *p);
+
+/* The length of packet i, in bytes; 0 past the last. */
+size_t h26x_packet_len(h26x_packetizer *p, size_t i);
+
+/* Copies packet i to the front of `to` where it fits in `room` bytes, else leaves `to`. Answers the packet's length. */
+size_t h26x_packet_copy(h26x_packetizer *p, size_t i, uint8_t *to, size_t room);
+
+/* Cuts a payload into its units, and puts copies of them in the place of the packets: h26x_packet_len and
+ * h26x_packet_copy give them then. A payload without a start code is one unit, and an empty unit is left out. *count is
+ * how many there are. H26X_OUT_OF_MEMORY leaves the packets; H26X_WRONG_END. */
+uint32_t h26x_packetizer_units(h26x_packetizer *p, const uint8_t *payload, size_t payload_len, size_t *count);
+
+/* ---- Receiving ---- */
+
+/* A depacketizer with no fragmented unit open. `numbers`: whether packets bear decoding order numbers (H.265 and H.266).
+ * The answers are those of h26x_packetizer_new. */
+uint32_t h26x_depacketizer_new(uint32_t codec, bool numbers, h26x_depacketizer *made);
+
+/* The same depacketizer again, with its open unit; not what its last packet completed. H26X_OUT_OF_MEMORY, or
+ * H26X_WRONG_END. */
+uint32_t h26x_depacketizer_clone(h26x_depacketizer *d, h26x_depacketizer *made);
+
+/* Frees it with its open unit. */
+void h26x_depacketizer_free(h26x_depacketizer d);
+
+/* Whether both are depacketizers, are of one codec and have the same settings and the same open unit; of H.265 they must
+ * have accepted the same packet last as well. */
+bool h26x_depacketizer_same(h26x_depacketizer *a, h26x_depacketizer *b);
+
+/* Sets whether packets bear numbers. An open unit stays open. H26X_NOT_OF_THIS_CODEC for H.264;
+ * H26X_WRONG_END. */
+uint32_t h26x_depacketizer_set_numbers(h26x_depacketizer *d, bool numbers);
+
+/* Takes a packet. The units that it completes, each behind 00 00 00 01, or with `avc` behind its length in four bytes
+ * (H.264), are copied to the front of `to` where they fit in `room` bytes; else `to` is left, and h26x_written_copy
+ * has them up to the next packet that is accepted. *written is how many bytes they are.
+ * *extra, in and out: 0 nothing told yet, 1 units but none of a keyframe, 2 a keyframe among them.
+ * A refusal writes 0 to *written and its numbers to *why, and leaves all else: *extra, the open unit, and what the
+ * packet before completed. H26X_NOT_OF_THIS_CODEC for `avc` with another codec than H.264; H26X_WRONG_END. */
+uint32_t h26x_depacketize(h26x_depacketizer *d, bool avc, const uint8_t *packet, size_t packet_len, uint8_t *to,
+                          size_t room, size_t *written, uint8_t *extra, h26x_refusal *why);
+
+/* Copies what the last accepted packet completed to the front of `to` where it fits, else leaves `to`. Answers how many
+ * bytes it is; 0 for a packetizer. */
+size_t h26x_written_copy(h26x_depacketizer *d, uint8_t *to, size_t room);
+
+/* Gives up the open unit and frees its buffer, which grows by each fragment until the last one comes.
+ * H26X_WRONG_END. */
+uint32_t h26x_give_up_run(h26x_depacketizer *d);
+
+/* ---- Packets and payloads ---- */
+
+/* Whether a packet may be the first of an access unit; false for an unknown codec. */
+bool h26x_is_partition_head(uint32_t codec, const uint8_t *packet, size_t packet_len);
+
+/* Whether a packet is the last of an access unit, its marker bit given; false for an unknown codec. */
+bool h26x_is_partition_tail(uint32_t codec, bool marker, const uint8_t *packet, size_t packet_len);
+
+/* Whether a packet without numbers is known to hold a unit of a keyframe, or to be the first fragment of one; false for
+ * an unknown codec. */
+bool h26x_detect_keyframe(uint32_t codec, const uint8_t *packet, size_t packet_len);
+
+/* Whether an H.264 packet is known to hold a unit of this type, or to be the first fragment of one. */
+bool h26x_detect_h264_nalu(const uint8_t *packet, size_t packet_len, uint8_t type);
+
+/* How many bytes the units of packets of this many bytes may take when they are written. */
+size_t h26x_out_size_hint(size_t packets_size);
+
+#ifdef __cplusplus
+}
+#endif
+
+#endif

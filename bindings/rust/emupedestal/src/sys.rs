@@ -1,0 +1,86 @@
+//! The calls of `h26x.h`, as that header declares them.
+
+use std::ffi::c_void;
+use std::ptr;
+
+/// A handle as it crosses: a struct of one pointer, the same for both ends.
+#[repr(C)]
+#[derive(Clone, Copy)]
+pub struct Raw {
+    at: *mut c_void,
+}
+
+impl Raw {
+    /// Room for a handle that a call is to write.
+    pub fn room() -> Self {
+        Raw {
+            at: ptr::null_mut(),
+        }
+    }
+}
+
+// SAFETY: what a handle points to belongs to it alone, and no call has state beside its handle. The
+// header lets a handle go from one thread to another.
+unsafe impl Send for Raw {}
+
+/// The numbers of a refusal.
+#[repr(C)]
+#[derive(Default)]
+pub struct Refusal {
+    pub first: usize,
+    pub second: usize,
+}
+
+unsafe extern "C" {
+    pub fn h26x_packetizer_new(codec: u32, numbers: bool, made: *mut Raw) -> u32;
+    pub fn h26x_packetizer_clone(p: *mut Raw, made: *mut Raw) -> u32;
+    pub fn h26x_packetizer_free(p: Raw);
+    pub fn h26x_packetizer_set_numbers(p: *mut Raw, numbers: bool) -> u32;
+    pub fn h26x_packetizer_set_max_size(p: *mut Raw, bytes: u16) -> u32;
+    pub fn h26x_packetize(
+        p: *mut Raw,
+        mtu: usize,
+        payload: *const u8,
+        payload_len: usize,
+        count: *mut usize,
+    ) -> u32;
+    pub fn h26x_packet_len(p: *mut Raw, i: usize) -> usize;
+    pub fn h26x_packet_copy(p: *mut Raw, i: usize, to: *mut u8, room: usize) -> usize;
+    pub fn h26x_packetizer_units(
+        p: *mut Raw,
+        payload: *const u8,
+        payload_len: usize,
+        count: *mut usize,
+    ) -> u32;
+
+    pub fn h26x_depacketizer_new(codec: u32, numbers: bool, made: *mut Raw) -> u32;
+    pub fn h26x_depacketizer_clone(d: *mut Raw, made: *mut Raw) -> u32;
+    pub fn h26x_depacketizer_free(d: Raw);
+    pub fn h26x_depacketizer_same(a: *mut Raw, b: *mut Raw) -> bool;
+    pub fn h26x_depacketizer_set_numbers(d: *mut Raw, numbers: bool) -> u32;
+    pub fn h26x_depacketize(
+        d: *mut Raw,
+        avc: bool,
+        packet: *const u8,
+        packet_len: usize,
+        to: *mut u8,
+        room: usize,
+        written: *mut usize,
+        extra: *mut u8,
+        why: *mut Refusal,
+    ) -> u32;
+    pub fn h26x_written_copy(d: *mut Raw, to: *mut u8, room: usize) -> usize;
+    pub fn h26x_give_up_run(d: *mut Raw) -> u32;
+
+    pub fn h26x_is_partition_head(codec: u32, packet: *const u8, packet_len: usize) -> bool;
+    pub fn h26x_is_partition_tail(
+        codec: u32,
+        marker: bool,
+        packet: *const u8,
+        packet_len: usize,
+    ) -> bool;
+    pub fn h26x_detect_keyframe(codec: u32, packet: *const u8, packet_len: usize) -> bool;
+    pub fn h26x_detect_h264_nalu(packet: *const u8, packet_len: usize, nalu_type: u8) -> bool;
+    // It takes a number and answers one, so any caller may call it.
+    pub safe fn h26x_out_size_hint(packets_size: usize) -> usize;
+}

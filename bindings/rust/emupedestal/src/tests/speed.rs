@@ -1,0 +1,113 @@
+//! How long calls take, and the library alone in them; `cargo test --release --lib speed --
+//! --ignored --nocapture --test-threads=1` prints it. It compares nothing, since times differ from
+//! machine to machine.
+
+use crate::handle::{Handle, Receiving, Sending};
+use crate::sys::{self, Refusal};
+use crate::{Codec, CodecExtra, Depacketizer, H264Depacketizer, H264Packetizer, Packetizer};
+use std::hint::black_box;
+use std::time::{Duration, Instant};
+
+const LIMIT: usize = 1200;
+/// Lengths of frames, and how many calls with each make a round: short ones, of which some have the
+/// processor to themselves.
+const FRAMES: [(usize, u32); 3] = [(200_000, 2), (8_000, 50), (500, 500)];
+const ROUNDS: u32 = 300;
+
+/// The least time of some rounds, each of so many calls, for one call.
+fn least(calls: u32, mut call: impl FnMut()) -> Duration {
+    let round = |_| {
+        let begin = Instant::now();
+        (0..calls).for_each(|_| call());
+        begin.elapsed() / calls
+    };
+    (0..ROUNDS).map(round).min().expect("rounds")
+}
+
+fn frame(len: usize) -> Vec<u8> {
+    let mut frame = vec![0xaa; len];
+    frame[0] = 0x65;
+    frame
+}
+
+fn print(what: &str, len: usize, alone: Duration, whole: Duration) {
+    let ratio = whole.as_secs_f64() / alone.as_secs_f64();
+    println!("{what}, {len} bytes: library {alone:?}, crate {whole:?}, {ratio:.2} times");
+}
+
+/// The packets stay in the handle.
+fn packetize_alone(handle: &mut Handle<Sending>, frame: &[u8]) {
+    let mut count = 0;
+    // SAFETY: the handle is live and ours alone, `frame` is one slice, and `count` is a number.
+    let code = unsafe {
+        sys::h26x_packetize(handle.raw(), LIMIT, frame.as_ptr(), frame.len(), &mut count)
+    };
+    assert_eq!(code, 0);
+    black_box(count);
+}
+
+/// What a packet completes goes into a buffer that is long enough; how many bytes it is.
+fn depacketize_alone(handle: &mut Handle<Receiving>, packet: &[u8], to: &mut [u8]) -> usize {
+    let (mut written, mut told, mut why) = (0, 0, Refusal::default());
+    // SAFETY: the handle is live and ours alone, `packet` and `to` are one slice each, apart from
+    // one another, and the others are one number each.
+    let code = unsafe {
+        sys::h26x_depacketize(
+            handle.raw(),
+            false,
+            packet.as_ptr(),
+            packet.len(),
+            to.as_mut_ptr(),
+            to.len(),
+            &mut written,
+            &mut told,
+            &mut why,
+        )
+    };
+    assert_eq!(code, 0);
+    written
+}
+
+#[test]
+#[ignore = "it measures"]
+fn speed_of_packetize() {
+    for (len, calls) in FRAMES {
+        let frame = frame(len);
+        let mut handle = Handle::new(Codec::H264);
+        let alone = least(calls, || packetize_alone(&mut handle, &frame));
+        let mut end = H264Packetizer::default();
+        let whole = least(calls, || {
+            black_box(end.packetize(LIMIT, &frame).expect("memory"));
+        });
+        print("packetize", len, alone, whole);
+    }
+}
+
+#[test]
+#[ignore = "it measures"]
+fn speed_of_depacketize() {
+    for (len, calls) in FRAMES {
+        let frame = frame(len);
+        let packets = H264Packetizer::default()
+            .packetize(LIMIT, &frame)
+            .expect("memory");
+        let (mut handle, mut to) = (Handle::new(Codec::H264), vec![0; len + 4]);
+        let alone = least(calls, || {
+            let written = packets
+                .iter()
+                .map(|packet| depacketize_alone(&mut handle, packet, &mut to));
+            assert_eq!(written.sum::<usize>(), len + 4);
+        });
+        let (mut end, mut out) = (H264Depacketizer::default(), Vec::new());
+        let whole = least(calls, || {
+            out.clear();
+            let mut extra = CodecExtra::None;
+            for packet in &packets {
+                end.depacketize(packet, &mut out, &mut extra)
+                    .expect("a packet");
+            }
+        });
+        assert_eq!(out[4..], frame);
+        print("depacketize", len, alone, whole);
+    }
+}

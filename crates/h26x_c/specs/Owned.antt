@@ -1,0 +1,24 @@
+-- What a handle owns: what a box of its end does.
+use base.Fml.{Fml, ftrue}
+use base.Stored.{Coded}
+use denote.RawPtr.{Ptr}
+use Rattle.std.specs.Prelude.{Option, Some, None}
+use Rattle.std.specs.Box.Ownership.{box_owns}
+use Rattle.std.specs.Global.{Global}
+use Rattle.std.specs.Coded.{coded_option}
+use Rattle.std_heap.specs.contracts.GlobalAllocator.TheImpl.{ghosts}
+use Rattle.h26x_c.specs.contracts.end.End as End
+
+abbrev pub end_owned : Global → Ptr → End.the_row.Denot → Fml
+end_owned alloc = box_owns (ghosts.dealloc_token alloc) End.the_row
+
+abbrev pub end_coded : Coded End.the_row.Denot
+end_coded = End.the_row.coded
+
+-- a place owns nothing before a handle was written into it
+abbrev pub place_owned : Global → Ptr → Option End.the_row.Denot → Fml
+place_owned alloc p None = ftrue
+place_owned alloc p (Some it) = end_owned alloc p it
+
+abbrev pub place_coded : Coded (Option End.the_row.Denot)
+place_coded = coded_option End.the_row.coded

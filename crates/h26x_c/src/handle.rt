@@ -1,0 +1,36 @@
+//! What C holds of an end: the pointer of a box.
+
+ghost use Rattle.std.specs.Prelude.{◌≡◌};
+ghost use Rattle.h26x_c.specs.declared.end.End.{End};
+ghost use Rattle.h26x_c.specs.Owned.{end_owned, end_coded};
+
+mod lends;
+
+use crate::end::End;
+use std::alloc::Global;
+use std::marker::Model;
+
+/// A handle, which owns the end behind it.
+#[repr(C)]
+pub struct Handle {
+    pub(super) ptr: *mut (),
+    alloc: Global,
+    pub ghost value: { End } by { end_coded },
+}
+
+impl Model for Handle {
+    ghost also_owns = { λ h. end_owned h.alloc h.ptr h.value };
+}
+
+// An end may go to another thread, and so may its handle.
+unsafe impl Send for Handle {}
+
+impl Handle {
+    /// The box whose pointer it is.
+    pub fn into_box(self) -> Box<End>
+        ensures { result.value ≡ self.value }
+    {
+        let Handle { ptr, alloc } = self;
+        unsafe { Box::from_raw(alloc, ptr as *mut End) }
+    }
+}

@@ -1,0 +1,18 @@
+//! The loan of what a handle holds.
+
+ghost use Rattle.std.specs.Prelude.{◌≡◌};
+ghost use types.Logic.{sem};
+ghost use Rattle.h26x_c.specs.Lent.{LendsEnd};
+
+use super::Handle;
+use crate::end::End;
+
+impl Handle {
+    /// What it holds.
+    pub fn get_mut(&mut self) -> &mut End
+        ensures* writes_back { sem 𝓛 (LendsEnd self.entry result) }
+        ensures value { result.now ≡ self.old.value }
+    {
+        unsafe { &mut *(self.ptr as *mut End) }
+    }
+}

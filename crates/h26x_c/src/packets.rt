@@ -1,0 +1,80 @@
+//! The calls on packets alone.
+
+ghost use Rattle.std.specs.Prelude.{◌≡◌};
+ghost use Rattle.h26x_core.specs.Hint.{size_hint};
+ghost use Rattle.h264_payload.specs.H264.{detects};
+ghost use Rattle.h26x_c.specs.Codes.{codec_numbered};
+ghost use Rattle.h26x_c.specs.Packets.{is_head_of, is_tail_of, is_key_of};
+
+use crate::code::codec_of;
+use h26x_codec::Codec;
+use h26x_core::Depacketizer;
+use h264_payload::{H264Depacketizer, detect_h264_keyframe, detect_h264_nalu};
+use h265_payload::{H265Depacketizer, detect_h265_keyframe};
+use h266_payload::{H266Depacketizer, detect_h266_keyframe};
+use std::alloc::Global;
+
+/// Whether a packet may be the first of an access unit.
+#[unsafe(no_mangle)]
+pub extern "C" fn h26x_is_partition_head(alloc: Global, codec: u32, packet: &[u8]) -> bool
+    ensures { result ≡ is_head_of (codec_numbered codec) packet.now }
+{
+    match codec_of(codec) {
+        Some(Codec::H264) => H264Depacketizer::new(alloc).is_partition_head(packet),
+        Some(Codec::H265) => H265Depacketizer::new(alloc).is_partition_head(packet),
+        Some(Codec::H266) => H266Depacketizer::new(alloc).is_partition_head(packet),
+        None => false,
+    }
+}
+
+/// Whether a packet is the last of an access unit, its marker bit given.
+#[unsafe(no_mangle)]
+pub extern "C" fn h26x_is_partition_tail(
+    alloc: Global,
+    codec: u32,
+    marker: bool,
+    packet: &[u8],
+) -> bool
+    ensures { result ≡ is_tail_of (codec_numbered codec) marker packet.now }
+{
+    match codec_of(codec) {
+        Some(Codec::H264) => H264Depacketizer::new(alloc).is_partition_tail(marker, packet),
+        Some(Codec::H265) => H265Depacketizer::new(alloc).is_partition_tail(marker, packet),
+        Some(Codec::H266) => H266Depacketizer::new(alloc).is_partition_tail(marker, packet),
+        None => false,
+    }
+}
+
+/// Whether a packet without numbers is known to hold a unit of a keyframe, or to be the first
+/// fragment of one.
+#[unsafe(no_mangle)]
+pub extern "C" fn h26x_detect_keyframe(codec: u32, packet: &[u8]) -> bool
+    ensures { result ≡ is_key_of (codec_numbered codec) packet.now }
+{
+    match codec_of(codec) {
+        Some(Codec::H264) => detect_h264_keyframe(packet),
+        Some(Codec::H265) => detect_h265_keyframe(packet),
+        Some(Codec::H266) => detect_h266_keyframe(packet),
+        None => false,
+    }
+}
+
+/// Whether an H.264 packet is known to hold a unit of this type, or to be the first fragment of
+/// one.
+#[unsafe(no_mangle)]
+pub extern "C" fn h26x_detect_h264_nalu(packet: &[u8], kind: u8) -> bool
+    ensures { result ≡ detects kind packet.now }
+{
+    detect_h264_nalu(packet, kind)
+}
+
+/// How many bytes the units of packets of this many bytes may take.
+#[unsafe(no_mangle)]
+pub extern "C" fn h26x_out_size_hint(alloc: Global, packets_size: usize) -> usize
+    ensures { result ≡ size_hint packets_size }
+{
+    match H264Depacketizer::new(alloc).out_size_hint(packets_size) {
+        Some(hint) => hint,
+        None => packets_size,
+    }
+}

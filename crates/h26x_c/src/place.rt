@@ -1,0 +1,50 @@
+//! Where a call writes a handle.
+
+ghost use Rattle.std.specs.Prelude.{◌≡◌, ◌≢◌, ◌⊎◌, Option, Some, None};
+ghost use Rattle.h26x_c.specs.declared.end.End.{End};
+ghost use Rattle.h26x_c.specs.Codes.{ok, out_of_memory};
+ghost use Rattle.h26x_c.specs.Owned.{place_owned, place_coded};
+
+use crate::code::{OK, OUT_OF_MEMORY};
+use crate::end::End;
+use std::alloc::Global;
+use std::marker::Model;
+
+/// A handle that is yet to be written, or was.
+#[repr(C)]
+#[derive(Drop)]
+pub struct Place {
+    ptr: *mut (),
+    alloc: Global,
+    pub ghost value: { Option End } by { place_coded },
+}
+
+impl Model for Place {
+    ghost also_owns = { λ p. place_owned p.alloc p.ptr p.value };
+}
+
+impl Place {
+    /// The handle of a box, which is not freed here.
+    pub fn of(boxed: Box<End>) -> Place
+        ensures { result.value ≡ Some boxed.value }
+    {
+        let (ptr, alloc) = Box::into_raw_with_allocator(boxed);
+        Place {
+            ptr: ptr as *mut (),
+            alloc,
+        }
+    }
+}
+
+/// Puts an end behind a new handle.
+pub fn put(alloc: Global, end: End, made: &mut Place) -> u32
+    ensures answer { (result ≡ ok) ⊎ (result ≡ out_of_memory) }
+    ensures made { result ≡ ok → made.new.value ≡ Some end }
+    ensures kept { result ≢ ok → made.new ≡ made.old }
+{
+    let Ok(boxed) = Box::new(alloc, end) else {
+        return OUT_OF_MEMORY;
+    };
+    *made = Place::of(boxed);
+    OK
+}
