@@ -50,20 +50,23 @@ fn run(args: &[String]) -> Outcome<()> {
         "h266" => Codec::H266,
         _ => return Err(format!("no codec {codec}: h264, h265 or h266").into()),
     };
-    let file_units = units(codec, &fs::read(from)?);
+    let file = fs::read(from)?;
+    let file_units = units(codec, &file);
     let sent = send(codec, &file_units, BufWriter::new(File::create(capture)?))?;
     let received = receive(
         codec,
         BufReader::new(File::open(capture)?),
         BufWriter::new(File::create(back)?),
     )?;
+    let back_units = units(codec, &fs::read(back)?);
     println!(
-        "{} access units, {} of them keyframes, went in {} packets and came back as {} bytes; {}.",
+        "{} access units, {} of them keyframes, of {} bytes went in {} packets and came back as {} bytes; {}.",
         sent.access_units,
         received.keyframes,
+        file.len(),
         sent.packets,
         received.bytes,
-        left_out(codec, &file_units, &units(codec, &fs::read(back)?))?
+        left_out(codec, &file_units, &back_units)?
     );
     Ok(())
 }

@@ -9,7 +9,7 @@ pub trait Packetizer: fmt::Debug {
     /// The RTP payloads of `b`, in order, each of at most `mtu` bytes.
     ///
     /// `b` is one NAL unit, or units behind start codes (Annex B). `mtu` doesn't count RTP's header
-    /// and what is below it.
+    /// and what is below it. `OutOfMemory` is its only error, and leaves the packetizer as it is.
     fn packetize(&mut self, mtu: usize, b: &[u8]) -> Result<Vec<Vec<u8>>, PacketError>;
 
     /// Whether a packet bears the marker bit; `last` tells that it is the last of its access unit.

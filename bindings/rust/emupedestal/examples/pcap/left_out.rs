@@ -41,7 +41,7 @@ impl<'a> Parts<'a> {
 }
 
 /// The units of `sent` that `back` lacks; nothing where `back` has others, or another order.
-fn lacking<U: AsRef<[u8]>>(sent: &[U], back: &[U]) -> Option<Vec<&[u8]>> {
+fn lacking<'a, U: AsRef<[u8]>>(sent: &'a [U], back: &'a [U]) -> Option<Vec<&'a [u8]>> {
     let mut back = back.iter().map(AsRef::as_ref).peekable();
     let sent = sent.iter().map(AsRef::as_ref);
     let lacking = sent

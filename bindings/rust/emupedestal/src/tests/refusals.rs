@@ -1,6 +1,7 @@
 //! What is refused, as what, and that a refusal changes nothing; the texts of errors.
 
 use super::{received, refuses, writes};
+use crate::sys::Refusal;
 use crate::{
     CodecExtra, Depacketizer, H264Depacketizer, H265Depacketizer, H266Depacketizer, PacketError,
 };
@@ -93,6 +94,18 @@ fn a_refusal_leaves_what_was_told() {
     assert_eq!(refused, Err(PacketError::StapASizeLargerThanBuffer(9, 1)));
     assert_eq!((out, extra), before);
     assert_ne!(extra, CodecExtra::None);
+}
+
+/// Codes that no packet of these tests brings about, by their numbers in `h26x.h`.
+#[test]
+fn codes() {
+    for (code, error) in [
+        (5, PacketError::ErrH265PACIPHESTooLong),
+        (7, PacketError::AvcUnitTooLong),
+        (8, PacketError::OutOfMemory),
+    ] {
+        assert_eq!(PacketError::of(code, &Refusal::default()), Err(error));
+    }
 }
 
 #[test]
