@@ -64,11 +64,12 @@ uint32_t h26x_packetizer_clone(h26x_packetizer *p, h26x_packetizer *made);
 /* Frees it with its packets. */
 void h26x_packetizer_free(h26x_packetizer p);
 
-/* Turns numbers on, from 0 again, or off. Sets that wait stay. H26X_NOT_OF_THIS_CODEC for H.264. */
+/* Turns numbers on, from 0 again, or off. Sets that wait stay. H26X_NOT_OF_THIS_CODEC for H.264;
+ * H26X_WRONG_END. */
 uint32_t h26x_packetizer_set_numbers(h26x_packetizer *p, bool numbers);
 
 /* Sets the largest packet size of H.265 and H.266, in bytes: 4 or more, else H26X_OUT_OF_RANGE. No packet of a later
- * call is longer. H26X_NOT_OF_THIS_CODEC for H.264. */
+ * call is longer. H26X_NOT_OF_THIS_CODEC for H.264; H26X_WRONG_END. */
 uint32_t h26x_packetizer_set_max_size(h26x_packetizer *p, uint16_t bytes);
 
 /* Makes the packets of a payload, which is one unit, or units behind start codes. Each packet has at most `mtu` bytes
@@ -88,7 +89,7 @@ size_t h26x_packet_copy(h26x_packetizer *p, size_t i, uint8_t *to, size_t room);
 
 /* Cuts a payload into its units, and puts copies of them in the place of the packets: h26x_packet_len and
  * h26x_packet_copy give them then. A payload without a start code is one unit, and an empty unit is left out. *count is
- * how many there are. H26X_OUT_OF_MEMORY leaves the packets; H26X_WRONG_END. */
+ * how many there are then. H26X_OUT_OF_MEMORY leaves the packets; H26X_WRONG_END writes 0 to *count. */
 uint32_t h26x_packetizer_units(h26x_packetizer *p, const uint8_t *payload, size_t payload_len, size_t *count);
 
 /* ---- Receiving ---- */
