@@ -105,6 +105,11 @@ abbrev pub is_sending : End → Bool
 is_sending (e.Sending it) = true
 is_sending (e.Receiving it) = false
 
+-- an end without packets, or without what was completed
+abbrev pub emptied : End → End
+emptied (e.Sending it) = e.Sending (record it { packets = [] })
+emptied (e.Receiving it) = e.Receiving (record it { written = [] })
+
 -- the same of a place, into which an end was put or not
 abbrev pub sender_placed : Option End → Option Sender
 sender_placed None = None

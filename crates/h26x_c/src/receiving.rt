@@ -7,7 +7,7 @@ ghost use Rattle.h26x_codec.specs.declared.codec.Codec.{Codec};
 ghost use Rattle.h26x_c.specs.Answers.{IsAnswer};
 ghost use Rattle.h26x_c.specs.Codes.{wanted, has_numbers, extra_told, number_told, ok, out_of_memory, wrong_end, not_of_this_codec};
 ghost use Rattle.h26x_c.specs.Copies.{copied};
-ghost use Rattle.h26x_c.specs.Ends.{is_sending, receiver_at, written_at, codec_at, receiver_placed, written_placed, are_same, closed_at, reading_at};
+ghost use Rattle.h26x_c.specs.Ends.{is_sending, receiver_at, written_at, codec_at, receiver_placed, written_placed, emptied, are_same, closed_at, reading_at};
 
 use crate::code::{
     NOT_OF_THIS_CODEC, OK, OUT_OF_MEMORY, Refusal, WRONG_END, code_of, codec_wanted, extra_of,
@@ -52,9 +52,7 @@ pub extern "C" fn h26x_depacketizer_new(
 pub extern "C" fn h26x_depacketizer_clone(alloc: Global, d: &mut Handle, made: &mut Place) -> u32
     ensures wrong { is_sending d.old.value ≡ true → result ≡ wrong_end }
     ensures answer { is_sending d.old.value ≡ false → (result ≡ ok) ⊎ (result ≡ out_of_memory) }
-    ensures made { (is_avc : Bool) → result ≡ ok →
-        receiver_placed is_avc made.new.value ≡ receiver_at is_avc d.old.value }
-    ensures none { result ≡ ok → written_placed made.new.value ≡ [] }
+    ensures made { result ≡ ok → made.new.value ≡ Some (emptied d.old.value) }
     ensures kept { result ≢ ok → made.new ≡ made.old }
     ensures left { d.new.value ≡ d.old.value }
 {
@@ -137,6 +135,7 @@ pub extern "C" fn h26x_depacketize(
         (extra_told (codec_at d.old.value) extra.old)) (packet.now ∷ [])).extra }
     ensures written { result ≡ ok → written.new ≡ length (written_at d.new.value) }
     ensures copied { result ≡ ok → to.new ≡ copied (written_at d.new.value) to.old }
+    ensures kept_why { result ≡ ok → why.new ≡ why.old }
     ensures none_written { result ≢ ok → written.new ≡ 0 }
     ensures kept { result ≢ ok → d.new.value ≡ d.old.value }
     ensures kept_to { result ≢ ok → to.new ≡ to.old }

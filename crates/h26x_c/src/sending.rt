@@ -6,7 +6,7 @@ ghost use Rattle.h26x_codec.specs.Codec.{format_with, fresh_sender, call_by};
 ghost use Rattle.h26x_codec.specs.declared.codec.Codec.{Codec};
 ghost use Rattle.h26x_c.specs.Codes.{wanted, has_numbers, ok, out_of_memory, wrong_end, not_of_this_codec, out_of_range};
 ghost use Rattle.h26x_c.specs.Copies.{copied, nth};
-ghost use Rattle.h26x_c.specs.Ends.{sender_at, packets_at, codec_at, sender_placed, packets_placed, entries_given};
+ghost use Rattle.h26x_c.specs.Ends.{sender_at, packets_at, codec_at, sender_placed, packets_placed, emptied, entries_given};
 
 use crate::code::{
     NOT_OF_THIS_CODEC, OK, OUT_OF_MEMORY, OUT_OF_RANGE, WRONG_END, codec_wanted, has_numbers,
@@ -50,8 +50,7 @@ pub extern "C" fn h26x_packetizer_clone(alloc: Global, p: &mut Handle, made: &mu
     ensures wrong { sender_at p.old.value ≡ None → result ≡ wrong_end }
     ensures answer { (it : Sender) → sender_at p.old.value ≡ Some it →
         (result ≡ ok) ⊎ (result ≡ out_of_memory) }
-    ensures made { result ≡ ok → sender_placed made.new.value ≡ sender_at p.old.value }
-    ensures none { result ≡ ok → packets_placed made.new.value ≡ [] }
+    ensures made { result ≡ ok → made.new.value ≡ Some (emptied p.old.value) }
     ensures kept { result ≢ ok → made.new ≡ made.old }
     ensures left { p.new.value ≡ p.old.value }
 {
