@@ -14,6 +14,9 @@ use Rattle.h264_payload.specs.Depacketizer as h264_end
 use Rattle.h265_payload.specs.Setting as h265_setting
 use Rattle.h265_payload.specs.Depacketizer as h265_end
 use Rattle.h265_packets.specs.Equality.{payload_eq}
+use Rattle.h265_packets.specs.Payload.{empty_single}
+use Rattle.h265_packets.specs.declared.payload.H265Payload.TheVariants as p
+use Rattle.h265_payload.specs.Shown.{shown}
 use Rattle.h266_payload.specs.Setting as h266_setting
 use Rattle.h266_payload.specs.Depacketizer as h266_end
 use Rattle.h26x_codec.specs.Codec.{call_by}
@@ -77,6 +80,22 @@ closed (r.H264 it) = r.H264 (record it { run = None })
 closed (r.H265 it) = r.H265 (record it { run = None })
 closed (r.H266 it) = r.H266 (record it { run = None })
 
+-- a new depacketizer, which reads numbers where its codec has them
+abbrev pub fresh_received : Codec → Bool → CodecReceiver
+fresh_received c.H264 numbers = r.H264 (record { is_avc = false; run = None })
+fresh_received c.H265 numbers = r.H265 (record {
+  is_numbered = numbers;
+  run = None;
+  payload = p.H265SingleNALUnitPacket empty_single;
+})
+fresh_received c.H266 numbers = r.H266 (record { is_numbered = numbers; run = None })
+
+-- a depacketizer that shows a packet, where its codec shows packets
+abbrev pub showing : List ℕ → CodecReceiver → CodecReceiver
+showing packet (r.H264 it) = r.H264 it
+showing packet (r.H265 it) = r.H265 (record it { payload = shown it.is_numbered packet })
+showing packet (r.H266 it) = r.H266 it
+
 -- the packetizer at an end
 abbrev pub sender_at : End → Option Sender
 sender_at (e.Sending it) = Some (sender_in it.sender)
@@ -119,14 +138,6 @@ abbrev pub packets_placed : Option End → List (List ℕ)
 packets_placed None = []
 packets_placed (Some it) = packets_at it
 
-abbrev pub receiver_placed : Bool → Option End → Option Receiver
-receiver_placed is_avc None = None
-receiver_placed is_avc (Some it) = receiver_at is_avc it
-
-abbrev pub written_placed : Option End → List ℕ
-written_placed None = []
-written_placed (Some it) = written_at it
-
 -- an end whose depacketizer reads numbers or not
 abbrev pub reading_at : Bool → End → End
 reading_at numbers (e.Sending it) = e.Sending it
@@ -138,6 +149,20 @@ reading_at numbers (e.Receiving it) = e.Receiving (record it {
 abbrev pub closed_at : End → End
 closed_at (e.Sending it) = e.Sending it
 closed_at (e.Receiving it) = e.Receiving (record it { receiver = closed it.receiver })
+
+-- an end whose depacketizer shows a packet
+abbrev pub showing_at : List ℕ → End → End
+showing_at packet (e.Sending it) = e.Sending it
+showing_at packet (e.Receiving it) = e.Receiving (record it {
+  receiver = showing packet it.receiver;
+})
+
+-- an end with a new depacketizer
+abbrev pub fresh_end : Codec → Bool → End
+fresh_end codec numbers = e.Receiving (record {
+  receiver = fresh_received codec numbers;
+  written = [];
+})
 
 -- whether two depacketizers are of one codec, and equal
 abbrev pub is_same : CodecReceiver → CodecReceiver → Bool

@@ -1,9 +1,9 @@
 //! A depacketizer, and what its last accepted packet completed.
 
-ghost use Rattle.std.specs.Prelude.{◌≡◌, [], ◌∷◌, false, Some, Err, IfOk, OnOk, OnErr};
+ghost use Rattle.std.specs.Prelude.{◌≡◌, [], ◌∷◌, Some, Err, IfOk, OnOk, OnErr};
 ghost use Rattle.h26x_core.specs.Receiver.{Receiver, work_after, IsOutcomeAt};
-ghost use Rattle.h26x_codec.specs.Codec.{format_with, fresh_receiver, at_work};
-ghost use Rattle.h26x_c.specs.Ends.{receiver_in, codec_received};
+ghost use Rattle.h26x_codec.specs.Codec.{at_work};
+ghost use Rattle.h26x_c.specs.Ends.{receiver_in, closed, fresh_received, showing};
 
 use crate::receiver::CodecReceiver;
 use h26x_codec::Codec;
@@ -31,9 +31,7 @@ impl Model for Inbox {
 impl Inbox {
     /// A depacketizer that has no run open and has completed nothing.
     pub fn new(alloc: Global, codec: Codec, numbers: bool) -> Self
-        ensures codec { codec_received result.receiver ≡ codec }
-        ensures fresh { receiver_in false result.receiver
-            ≡ Some (fresh_receiver (format_with codec numbers)) }
+        ensures fresh { result.receiver ≡ fresh_received codec numbers }
         ensures none { result.written ≡ [] }
     {
         Inbox {
@@ -74,7 +72,8 @@ impl Inbox {
         ensures extra { (it : Receiver) → receiver_in is_avc self.old.receiver ≡ Some it →
             OnOk result (extra.new ≡ (work_after (at_work it [] extra.old)
             (packet.now ∷ [])).extra) }
-        ensures codec { codec_received self.new.receiver ≡ codec_received self.old.receiver }
+        ensures rest { OnOk result (closed self.new.receiver
+            ≡ closed (showing packet.now self.old.receiver)) }
         ensures kept { OnErr result (self.new ≡ self.old) }
         ensures kept_extra { OnErr result (extra.new ≡ extra.old) }
     {

@@ -2,9 +2,9 @@
 
 ghost use Rattle.std.specs.Prelude.{◌≡◌, [], ◌∷◌, false, Some, None, Err, IfOk, OnOk, OnErr};
 ghost use Rattle.h26x_core.specs.Receiver.{Receiver, work_after, IsOutcomeAt};
-ghost use Rattle.h26x_codec.specs.Codec.{format_with, fresh_receiver, at_work};
+ghost use Rattle.h26x_codec.specs.Codec.{at_work};
 ghost use Rattle.h264_payload.specs.Depacketizer as h264_end;
-ghost use Rattle.h26x_c.specs.Ends.{receiver_in, codec_received, rereading, closed, is_same};
+ghost use Rattle.h26x_c.specs.Ends.{receiver_in, codec_received, rereading, closed, is_same, fresh_received, showing};
 
 use h26x_codec::Codec;
 use h26x_core::{CodecExtra, Depacketizer, PacketError};
@@ -24,9 +24,7 @@ pub enum CodecReceiver {
 impl CodecReceiver {
     /// A depacketizer with no run open, which reads numbers where its codec has them.
     pub fn new(alloc: Global, codec: Codec, numbers: bool) -> Self
-        ensures codec { codec_received result ≡ codec }
-        ensures fresh { receiver_in false result
-            ≡ Some (fresh_receiver (format_with codec numbers)) }
+        ensures { result ≡ fresh_received codec numbers }
     {
         let mut it = match codec {
             Codec::H264 => CodecReceiver::H264(H264Depacketizer::new(alloc)),
@@ -114,7 +112,7 @@ impl CodecReceiver {
         ensures extra { (it : Receiver) → receiver_in is_avc self.old ≡ Some it →
             OnOk result (extra.new ≡ (work_after (at_work it out.old.items extra.old)
             (packet.now ∷ [])).extra) }
-        ensures codec { codec_received self.new ≡ codec_received self.old }
+        ensures rest { OnOk result (closed self.new ≡ closed (showing packet.now self.old)) }
         ensures kept { OnErr result (self.new ≡ self.old) }
         ensures kept_extra { OnErr result (extra.new ≡ extra.old) }
     {
@@ -139,6 +137,7 @@ fn take_h264(
     ensures taken { OnOk result (at_work (record (h264_end.receiver it.new) { is_avc = is_avc })
         out.new.items extra.new ≡ work_after (at_work (record (h264_end.receiver it.old)
         { is_avc = is_avc }) out.old.items extra.old) (packet.now ∷ [])) }
+    ensures form { it.new.is_avc ≡ it.old.is_avc }
     ensures kept { OnErr result (it.new ≡ it.old) }
     ensures kept_extra { OnErr result (extra.new ≡ extra.old) }
 {

@@ -7,7 +7,7 @@ ghost use Rattle.h26x_codec.specs.declared.codec.Codec.{Codec};
 ghost use Rattle.h26x_c.specs.Answers.{IsAnswer};
 ghost use Rattle.h26x_c.specs.Codes.{wanted, has_numbers, extra_told, number_told, ok, out_of_memory, wrong_end, not_of_this_codec};
 ghost use Rattle.h26x_c.specs.Copies.{copied};
-ghost use Rattle.h26x_c.specs.Ends.{is_sending, receiver_at, written_at, codec_at, receiver_placed, written_placed, emptied, are_same, closed_at, reading_at};
+ghost use Rattle.h26x_c.specs.Ends.{is_sending, receiver_at, written_at, codec_at, fresh_end, showing_at, emptied, are_same, closed_at, reading_at};
 
 use crate::code::{
     NOT_OF_THIS_CODEC, OK, OUT_OF_MEMORY, Refusal, WRONG_END, code_of, codec_wanted, extra_of,
@@ -33,8 +33,9 @@ pub extern "C" fn h26x_depacketizer_new(
     ensures answer { (c : Codec) → wanted codec numbers ≡ Ok c →
         (result ≡ ok) ⊎ (result ≡ out_of_memory) }
     ensures made { (c : Codec) → wanted codec numbers ≡ Ok c → result ≡ ok →
-        receiver_placed false made.new.value ≡ Some (fresh_receiver (format_with c numbers)) }
-    ensures none { result ≡ ok → written_placed made.new.value ≡ [] }
+        made.new.value ≡ Some (fresh_end c numbers) }
+    ensures fresh { (c : Codec) → receiver_at false (fresh_end c numbers)
+        ≡ Some (fresh_receiver (format_with c numbers)) }
     ensures kept { result ≢ ok → made.new ≡ made.old }
 {
     match codec_wanted(codec, numbers) {
@@ -127,6 +128,8 @@ pub extern "C" fn h26x_depacketize(
     ensures run { (it : Receiver) → receiver_at is_avc d.old.value ≡ Some it → result ≡ ok →
         receiver_at is_avc d.new.value ≡ Some (work_after (at_work it []
         (extra_told (codec_at d.old.value) extra.old)) (packet.now ∷ [])).receiver }
+    ensures rest { result ≡ ok → closed_at (emptied d.new.value)
+        ≡ closed_at (emptied (showing_at packet.now d.old.value)) }
     ensures completed { (it : Receiver) → receiver_at is_avc d.old.value ≡ Some it → result ≡ ok →
         written_at d.new.value ≡ (work_after (at_work it []
         (extra_told (codec_at d.old.value) extra.old)) (packet.now ∷ [])).out }
