@@ -91,7 +91,7 @@ none_found bytes i short so_far =
     so_far ∙ (rw cut (ap (λ (x : List ℕ). (x, [])) (take-append-drop i bytes)))
 
 -- of two pieces or more the units are those of all but the first
-more_than_one : (rule : ZeroRule) (before piece : List ℕ) (pieces : List (List ℕ)) → units_of_pieces (before ∷ trimmed_but_last rule piece pieces) ≡ filter is_not_empty (trimmed_but_last rule piece pieces)
+pub more_than_one : (rule : ZeroRule) (before piece : List ℕ) (pieces : List (List ℕ)) → units_of_pieces (before ∷ trimmed_but_last rule piece pieces) ≡ filter is_not_empty (trimmed_but_last rule piece pieces)
 more_than_one rule before piece [] = refl
 more_than_one rule before piece (second ∷ pieces) = refl
 

@@ -2,7 +2,7 @@
 
 ghost use Rattle.std.specs.Prelude.{◌≡◌, [], ◌∷◌};
 ghost use Rattle.std.specs.List.{AllByRecursion};
-ghost use Rattle.h26x_cut.specs.Cutting.{units_of, IsCutting, AreUnits, IsUnit, AreSeparable, EndsCodeAt};
+ghost use Rattle.h26x_cut.specs.Cutting.{units_of, IsCutting, AreUnits, IsUnit, AreSeparable, EndsCodeAt, IsNextUnit};
 ghost use Rattle.h26x_cut.specs.declared.ZeroRule.TheVariants.{All, AtMostThree};
 
 /// Zeros before a mark belong to the start code: all of them by one rule, three by the other.
@@ -44,4 +44,13 @@ pub fn separable_units()
     ensures not_first { AreSeparable All ((0xaa ∷ 0 ∷ []) ∷ (0xbb ∷ []) ∷ []) → ⊥ }
     ensures not_second { AreSeparable All ((0xaa ∷ []) ∷ (0xbb ∷ 0 ∷ []) ∷ (0xcc ∷ []) ∷ []) → ⊥ }
     ensures at_most_three { AreSeparable AtMostThree ((0xaa ∷ 0 ∷ []) ∷ (0xbb ∷ []) ∷ []) }
+{}
+
+/// Units by their places: from the front, from the end of one, and where none is left.
+pub fn places()
+    ensures first { IsNextUnit (units_of All) (0xbb ∷ 0 ∷ 0 ∷ 1 ∷ 0xaa ∷ 0xcc ∷ 0 ∷ 0 ∷ 0 ∷ 1 ∷ 0xaa ∷ []) 0 4 6 }
+    ensures next { IsNextUnit (units_of All) (0xbb ∷ 0 ∷ 0 ∷ 1 ∷ 0xaa ∷ 0xcc ∷ 0 ∷ 0 ∷ 0 ∷ 1 ∷ 0xaa ∷ []) 6 10 11 }
+    ensures zero { IsNextUnit (units_of AtMostThree) (0 ∷ 0 ∷ 1 ∷ 0xaa ∷ 0 ∷ 0 ∷ 0 ∷ 0 ∷ 1 ∷ []) 0 3 5 }
+    ensures one { IsNextUnit (units_of All) (0xaa ∷ 0 ∷ []) 0 0 2 }
+    ensures other { IsNextUnit (units_of All) (0 ∷ 0 ∷ 1 ∷ 0xaa ∷ 0 ∷ 0 ∷ 1 ∷ 0xaa ∷ []) 0 7 8 → ⊥ }
 {}

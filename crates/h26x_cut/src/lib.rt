@@ -6,7 +6,7 @@ mod cases;
 pub mod laws;
 mod slices;
 
-pub use slices::{UnitSlices, units};
+pub use slices::{UnitSlices, next_unit, units};
 
 /// How many zeros before its mark, `01`, a start code takes (Annex B of H.264, H.265 and H.266).
 #[derive(Clone, Copy, Debug, PartialEq, Eq)]

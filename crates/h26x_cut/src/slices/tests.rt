@@ -89,3 +89,23 @@ fn a_long_run_of_zeros(rt: HostRuntime) -> Result<(), Fail> {
     }
     Ok(())
 }
+
+#[test]
+fn units_by_their_places(rt: HostRuntime) -> Result<(), Fail> {
+    let payload = [0xbb, 0, 0, 1, 0xaa, 0, 0, 0, 0, 1, 0, 0, 1, 0xcc, 0];
+    for (rule, end) in [(ZeroRule::All, 5), (ZeroRule::AtMostThree, 6)] {
+        assert_eq!(rt; next_unit(&payload, rule, 0), Some(4..end));
+        assert_eq!(rt; next_unit(&payload, rule, end), Some(13..15));
+        assert_eq!(rt; next_unit(&payload, rule, 15), None);
+        assert_eq!(rt; next_unit(&payload, rule, 16), None);
+    }
+    Ok(())
+}
+
+#[test]
+fn a_payload_without_a_start_code_is_one_unit(rt: HostRuntime) -> Result<(), Fail> {
+    assert_eq!(rt; next_unit(&[0x65, 0], ZeroRule::All, 0), Some(0..2));
+    assert_eq!(rt; next_unit(&[0x65, 0], ZeroRule::All, 2), None);
+    assert_eq!(rt; next_unit(&[], ZeroRule::AtMostThree, 0), None);
+    Ok(())
+}
