@@ -30,7 +30,7 @@ static uint8_t digit(char c)
 struct bytes bytes_of(const char *hex)
 {
     struct bytes b = {.len = 0};
-    while (*hex != '\0') {
+    while (*hex != '\0' && *hex != '|') {
         if (*hex == ' ') {
             hex++;
             continue;
@@ -47,21 +47,22 @@ bool is_same(const uint8_t *at, size_t len, const char *hex)
     return len == wanted.len && memcmp(at, wanted.at, len) == 0;
 }
 
+const char *behind_bar(const char *hex)
+{
+    hex += strcspn(hex, "|");
+    return *hex == '|' ? hex + 1 : hex;
+}
+
 void holds_at(struct tally *t, h26x_packetizer *p, size_t count, const char *packets,
               const char *file, int line)
 {
     uint8_t packet[ROOM];
-    char wanted[ROOM];
     size_t i = 0, len;
     expect_at(t, h26x_packet_count(p) == count, "the count of packets", file, line);
-    for (; *packets != '\0'; i++) {
-        size_t digits = strcspn(packets, "|");
-        memcpy(wanted, packets, digits);
-        wanted[digits] = '\0';
+    for (; *packets != '\0'; packets = behind_bar(packets), i++) {
         len = h26x_packet_copy(p, i, packet, sizeof packet);
-        expect_at(t, is_same(packet, len, wanted), wanted, file, line);
+        expect_at(t, is_same(packet, len, packets), packets, file, line);
         expect_at(t, h26x_packet_len(p, i) == len, "a packet's length", file, line);
-        packets += digits + (packets[digits] == '|');
     }
     expect_at(t, count == i, "as many packets as are wanted", file, line);
 }

@@ -15,13 +15,14 @@ struct tally {
 void expect_at(struct tally *t, bool holds, const char *what, const char *file, int line);
 #define expect(t, what) expect_at(t, what, #what, __FILE__, __LINE__)
 
-/* The bytes that hexadecimal digits name; spaces are for the reader. */
+/* The bytes that hexadecimal digits name, up to a '|'; spaces are for the reader. */
 struct bytes {
     uint8_t at[ROOM];
     size_t len;
 };
 struct bytes bytes_of(const char *hex);
 bool is_same(const uint8_t *at, size_t len, const char *hex);
+const char *behind_bar(const char *hex);
 
 /* The checks of every call: of packetizers, of depacketizers, and of those without a handle. */
 void check_sending(struct tally *t);

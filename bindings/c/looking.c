@@ -55,6 +55,43 @@ static void check_detection(struct tally *t)
     expect(t, has_nalu("6742", 7) && !has_nalu("", 0));
 }
 
+/* Goes through the units of a payload by their places, and compares them with those that `units`
+ * names with '|' between two. */
+static void cuts_at(struct tally *t, uint32_t codec, const char *payload, const char *units,
+                    const char *file, int line)
+{
+    struct bytes in = bytes_of(payload);
+    size_t begin, end = 0, from;
+    for (; *units != '\0'; units = behind_bar(units)) {
+        from = end;
+        expect_at(t, h26x_next_unit(codec, in.at, in.len, from, &begin, &end), payload, file, line);
+        expect_at(t, from <= begin && begin < end && end <= in.len, payload, file, line);
+        expect_at(t, is_same(in.at + begin, end - begin, units), payload, file, line);
+    }
+    from = end;
+    begin = 99;
+    expect_at(t, !h26x_next_unit(codec, in.at, in.len, from, &begin, &end), payload, file, line);
+    expect_at(t, begin == 99 && end == from, payload, file, line);
+}
+#define cuts(t, codec, payload, units) cuts_at(t, codec, payload, units, __FILE__, __LINE__)
+
+static void check_units(struct tally *t)
+{
+    const char *payload = "bb 000001 aa 00000000 01 000001 bb00";
+    size_t begin = 5, end = 6;
+    cuts(t, H26X_H264, payload, "aa|bb00");
+    cuts(t, H26X_H265, payload, "aa|bb00");
+    /* H.266: zeros before the nearest three stay with the unit. */
+    cuts(t, H26X_H266, payload, "aa00|bb00");
+    cuts(t, H26X_H264, "bb00", "bb00");
+    cuts(t, H26X_H265, "", "");
+    cuts(t, H26X_H266, "000001", "");
+    cuts(t, H26X_H264, "000001 aa 000001 aa 000001 aa", "aa|aa|aa");
+    expect(t, !h26x_next_unit(0, (const uint8_t *)"a", 1, 0, &begin, &end));
+    expect(t, !h26x_next_unit(H26X_H264, (const uint8_t *)"a", 1, SIZE_MAX, &begin, &end));
+    expect(t, begin == 5 && end == 6);
+}
+
 static void check_hints(struct tally *t)
 {
     expect(t, h26x_out_size_hint(0) == 4);
@@ -67,5 +104,6 @@ void check_looking(struct tally *t)
 {
     check_heads_and_tails(t);
     check_detection(t);
+    check_units(t);
     check_hints(t);
 }

@@ -113,15 +113,25 @@ static bool holds_packets(h26x_packetizer *p, const struct codec *c)
     return h26x_packet_count(p) == 4 && data == DATA;
 }
 
-/* Whether the packetizer holds the two sets as units of a payload, each behind three bytes there. */
-static bool holds_sets(h26x_packetizer *p, const struct codec *c)
+/* Whether the packets stand behind each other in a copy of all, of which the second has the limit's
+ * length. */
+static bool copies_joined(h26x_packetizer *p)
 {
-    const size_t half = c->sets_len / 2, len = half - 3;
+    size_t ends[4];
+    return h26x_packets_copy(p, 0, to, sizeof to, ends, 4) == 4 && ends[1] == ends[0] + LIMIT;
+}
+
+/* Whether the two sets are the units of a payload, each behind three bytes there. */
+static bool cuts_sets(const struct codec *c)
+{
+    const uint8_t *sets = (const uint8_t *)c->sets;
+    const size_t half = c->sets_len / 2;
+    size_t begin, end = 0;
     for (size_t i = 0; i < 2; i++)
-        if (h26x_packet_copy(p, i, packet, sizeof packet) != len
-            || memcmp(packet, c->sets + i * half + 3, len) != 0)
+        if (!h26x_next_unit(c->number, sets, c->sets_len, end, &begin, &end)
+            || begin != i * half + 3 || end != (i + 1) * half)
             return false;
-    return h26x_packet_count(p) == 2;
+    return !h26x_next_unit(c->number, sets, c->sets_len, end, &begin, &end);
 }
 
 static void refuse_sending(const struct codec *c)
@@ -145,17 +155,13 @@ static void refuse_sending(const struct codec *c)
     expect(count == 4 && holds_packets(&copy, c));
 
     without_memory(h26x_packet_len(&copy, 1) == LIMIT && h26x_packet_count(&copy) == 4);
-    without_memory(holds_packets(&copy, c));
+    without_memory(holds_packets(&copy, c) && copies_joined(&copy));
+    without_memory(cuts_sets(c));
     without_memory(h26x_packetizer_set_numbers(&copy, false)
                    == (c->number == H26X_H264 ? H26X_NOT_OF_THIS_CODEC : H26X_OK));
     without_memory(h26x_packetizer_set_max_size(&copy, 4)
                    == (c->number == H26X_H264 ? H26X_NOT_OF_THIS_CODEC : H26X_OK));
 
-    /* The packets stay where there is no memory for units. */
-    refuse_each(h26x_packetizer_units(&copy, (const uint8_t *)c->sets, c->sets_len, &count),
-                holds_packets(&copy, c));
-    expect(count == 2);
-    without_memory(holds_sets(&copy, c));
     h26x_packetizer_free(p);
     h26x_packetizer_free(copy);
 }

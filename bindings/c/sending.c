@@ -108,42 +108,30 @@ static void check_copies(struct tally *t)
     h26x_packetizer_free(p);
 }
 
-/* Cuts a payload, and compares its units, which `units` names with '|' between two. */
-static void cuts_at(struct tally *t, h26x_packetizer *p, const char *payload, const char *units,
-                    const char *file, int line)
+/* Copies of packets behind each other. */
+static void check_joined(struct tally *t)
 {
-    struct bytes in = bytes_of(payload);
-    size_t count = 99;
-    uint32_t code = h26x_packetizer_units(p, in.at, in.len, &count);
-    expect_at(t, code == H26X_OK, payload, file, line);
-    holds_at(t, p, count, units, file, line);
-}
-#define cuts(t, p, payload, units) cuts_at(t, p, payload, units, __FILE__, __LINE__)
+    h26x_packetizer p = made(t, H26X_H264, false);
+    uint8_t to[16];
+    size_t ends[3] = {99, 99, 99};
+    sends(t, &p, 4, "6501020304", "7c850102|7c450304");
+    memset(to, 7, sizeof to);
+    expect(t, h26x_packets_copy(&p, 0, to, 16, ends, 3) == 2);
+    expect(t, is_same(to, 9, "7c850102 7c450304 07"));
+    expect(t, ends[0] == 4 && ends[1] == 8 && ends[2] == 99);
 
-/* The units of a payload take the place of the packets; all else of the packetizer stays. */
-static void check_units(struct tally *t)
-{
-    const char *payload = "bb 000001 aa 00000000 01 000001 bb00";
-    h26x_packetizer p = made(t, H26X_H264, false), q;
-    cuts(t, &p, payload, "aa|bb00");
-    cuts(t, &p, "bb00", "bb00");
-    expect(t, h26x_packetizer_clone(&p, &q) == H26X_OK && h26x_packet_count(&q) == 0);
-    h26x_packetizer_free(q);
-    cuts(t, &p, "", "");
-    sends(t, &p, 1500, "000001 070001 000001 080203", "");
-    cuts(t, &p, "000001 070405", "070405");
-    sends(t, &p, 1500, "050405", "78 0003 070001 0003 080203|050405");
-    h26x_packetizer_free(p);
+    /* As many as fit, and as many as have room for their ends. */
+    memset(to, 7, sizeof to);
+    expect(t, h26x_packets_copy(&p, 0, to, 7, ends, 3) == 1 && is_same(to, 5, "7c850102 07"));
+    expect(t, h26x_packets_copy(&p, 0, to, 3, ends, 3) == 0 && ends[1] == 8);
+    expect(t, h26x_packets_copy(&p, 0, to, 8, ends, 1) == 1 && to[4] == 7);
+    expect(t, h26x_packets_copy(&p, 1, to, 8, ends, 0) == 0 && to[1] == 0x85);
 
-    p = made(t, H26X_H265, true);
-    sends(t, &p, 100, "0201aa", "02010000aa");
-    cuts(t, &p, payload, "aa|bb00");
-    sends(t, &p, 100, "0201aa", "02010001aa");
-    h26x_packetizer_free(p);
-
-    /* H.266: zeros before the nearest three stay with the unit. */
-    p = made(t, H26X_H266, false);
-    cuts(t, &p, payload, "aa00|bb00");
+    /* From a later one on, and past the last. */
+    expect(t, h26x_packets_copy(&p, 1, to, 4, ends, 3) == 1 && is_same(to, 5, "7c450304 07"));
+    expect(t, ends[0] == 4 && ends[1] == 8);
+    expect(t, h26x_packets_copy(&p, 2, to, 16, ends, 3) == 0);
+    expect(t, h26x_packets_copy(&p, SIZE_MAX, to, 16, ends, 3) == 0);
     h26x_packetizer_free(p);
 }
 
@@ -161,12 +149,12 @@ static void check_refusals(struct tally *t)
     expect(t, h26x_depacketizer_new(H26X_H265, false, &d) == H26X_OK);
     depacketizer.at = d.at;
     expect(t, h26x_packetize(&depacketizer, 9, unit, 1, &count) == H26X_WRONG_END && count == 0);
-    expect(t, h26x_packetizer_units(&depacketizer, unit, 1, &count) == H26X_WRONG_END);
     expect(t, h26x_packetizer_clone(&depacketizer, &p) == H26X_WRONG_END && p.at == NULL);
     expect(t, h26x_packetizer_set_numbers(&depacketizer, true) == H26X_WRONG_END);
     expect(t, h26x_packetizer_set_max_size(&depacketizer, 9) == H26X_WRONG_END);
     expect(t, h26x_packet_count(&depacketizer) == 0 && h26x_packet_len(&depacketizer, 0) == 0);
     expect(t, h26x_packet_copy(&depacketizer, 0, to, 8) == 0 && to[0] == 7);
+    expect(t, h26x_packets_copy(&depacketizer, 0, to, 8, &count, 1) == 0 && to[0] == 7);
     h26x_depacketizer_free(d);
 }
 
@@ -178,6 +166,6 @@ void check_sending(struct tally *t)
     check_max_size(t, H26X_H265, 0x26, 0x01);
     check_max_size(t, H26X_H266, 0x00, 0x39);
     check_copies(t);
-    check_units(t);
+    check_joined(t);
     check_refusals(t);
 }

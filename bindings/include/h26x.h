@@ -87,10 +87,10 @@ size_t h26x_packet_len(h26x_packetizer *p, size_t i);
 /* Copies packet i to the front of `to` where it fits in `room` bytes, else leaves `to`. Answers the packet's length. */
 size_t h26x_packet_copy(h26x_packetizer *p, size_t i, uint8_t *to, size_t room);
 
-/* Cuts a payload into its units, and puts copies of them in the place of the packets: h26x_packet_len and
- * h26x_packet_copy give them then. A payload without a start code is one unit, and an empty unit is left out. *count is
- * how many there are then. H26X_OUT_OF_MEMORY leaves the packets; H26X_WRONG_END writes 0 to *count. */
-uint32_t h26x_packetizer_units(h26x_packetizer *p, const uint8_t *payload, size_t payload_len, size_t *count);
+/* Copies packets, from packet `first` on, to the front of `to`, one behind the other, as many as fit in `room` bytes and
+ * have room for their ends; ends[n] is where the n-th of them ends in `to`. Answers how many they are, and leaves the rest
+ * of both buffers. */
+size_t h26x_packets_copy(h26x_packetizer *p, size_t first, uint8_t *to, size_t room, size_t *ends, size_t ends_room);
 
 /* ---- Receiving ---- */
 
@@ -144,6 +144,11 @@ bool h26x_detect_keyframe(uint32_t codec, const uint8_t *packet, size_t packet_l
 
 /* Whether an H.264 packet is known to hold a unit of this type, or to be the first fragment of one. */
 bool h26x_detect_h264_nalu(const uint8_t *packet, size_t packet_len, uint8_t type);
+
+/* Where the next unit of a payload stands, from `from` on: the bytes from *begin up to *end, which are written where the
+ * answer is true. Begin with 0, and go on from *end. A payload without a start code is one unit, and an empty unit is left
+ * out. False where no unit is left, or for an unknown codec. */
+bool h26x_next_unit(uint32_t codec, const uint8_t *payload, size_t payload_len, size_t from, size_t *begin, size_t *end);
 
 /* How many bytes the units of packets of this many bytes may take when they are written. */
 size_t h26x_out_size_hint(size_t packets_size);

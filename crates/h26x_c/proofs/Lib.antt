@@ -1,2 +1,3 @@
+pub mod CopyLemmas
 pub mod FormLemmas
 pub mod Passed

@@ -6,7 +6,6 @@
 
 mod code;
 mod copy;
-mod cut;
 mod end;
 mod handle;
 mod inbox;
@@ -17,3 +16,4 @@ mod receiver;
 mod receiving;
 mod sender;
 mod sending;
+mod units;

@@ -1,12 +1,12 @@
 //! A packetizer, and the packets of its last call.
 
-ghost use Rattle.std.specs.Prelude.{◌≡◌, [], Err, true, IfOk, OnOk, OnErr, IsOk, length};
+ghost use Rattle.std.specs.Prelude.{◌≡◌, [], Err, true, IfOk, OnOk, OnErr, IsOk, length, drop};
 ghost use Rattle.h26x_core.specs.Sender.{packets_by, after, has_no_effect};
 ghost use Rattle.h26x_codec.specs.Codec.{format_with, fresh_sender, call_by};
 ghost use Rattle.h26x_c.specs.Ends.{sender_in, codec_sent, entries_given};
-ghost use Rattle.h26x_c.specs.Copies.{nth};
+ghost use Rattle.h26x_c.specs.Copies.{nth, AreCopied};
 
-use crate::cut::copied_units;
+use crate::copy::copy_packets;
 use crate::sender::CodecSender;
 use h26x_codec::Codec;
 use h26x_core::PacketError;
@@ -86,16 +86,15 @@ impl Outbox {
         }
     }
 
-    /// Keeps copies of the units of a payload in the place of packets.
-    pub fn keep_units(&mut self, alloc: Global, payload: &[u8]) -> Result<(), PacketError>
-        ensures units { OnOk result (self.new.packets
-            ≡ (sender_in self.old.sender).format.units payload.now) }
-        ensures sender { self.new.sender ≡ self.old.sender }
-        ensures kept { OnErr result (self.new ≡ self.old) }
-        ensures memory { OnErr result (result ≡ Err PacketError.OutOfMemory) }
+    /// Copies packets from a first one on to the front of a buffer, as many as there is room for,
+    /// and writes where each ends; how many they are.
+    pub fn copy_packets(&self, first: usize, to: &mut [u8], ends: &mut [usize]) -> usize
+        ensures { AreCopied (drop first self.now.packets) to.old to.new ends.old ends.new result }
     {
-        self.packets = copied_units(alloc, self.sender.rule(), payload)?;
-        Ok(())
+        match self.packets.get(first..) {
+            Some(packets) => copy_packets(packets, to, ends),
+            None => 0,
+        }
     }
 }
 

@@ -2,14 +2,12 @@
 
 ghost use Rattle.std.specs.Prelude.{◌≡◌, ◌≤◌, true, Err, IfOk, OnOk, OnErr, IsOk};
 ghost use Rattle.h26x_core.specs.Sender.{packets_by, after, has_no_effect};
-ghost use Rattle.h26x_cut.specs.Cutting.{units_of};
 ghost use Rattle.h26x_payload.specs.Sending.{contents};
 ghost use Rattle.h26x_codec.specs.Codec.{format_with, fresh_sender, call_by};
 ghost use Rattle.h26x_c.specs.Ends.{sender_in, codec_sent, renumbered, resized, entries_given};
 
 use h26x_codec::Codec;
 use h26x_core::{PacketError, Packetizer};
-use h26x_cut::ZeroRule;
 use h264_payload::H264Packetizer;
 use h265_payload::H265Packetizer;
 use h266_payload::H266Packetizer;
@@ -58,16 +56,6 @@ impl CodecSender {
             CodecSender::H264(_) => Codec::H264,
             CodecSender::H265(_) => Codec::H265,
             CodecSender::H266(_) => Codec::H266,
-        }
-    }
-
-    /// How its payloads are cut.
-    pub fn rule(&self) -> ZeroRule
-        ensures { (sender_in self.now).format.units ≡ units_of result }
-    {
-        match self {
-            CodecSender::H264(_) | CodecSender::H265(_) => ZeroRule::All,
-            CodecSender::H266(_) => ZeroRule::AtMostThree,
         }
     }
 

@@ -1,11 +1,11 @@
 //! The calls of a packetizer.
 
-ghost use Rattle.std.specs.Prelude.{◌≡◌, ◌≢◌, ◌≤◌, ◌<◌, ◌⊎◌, ℕ, [], true, false, Some, None, Ok, Err, length};
+ghost use Rattle.std.specs.Prelude.{◌≡◌, ◌≢◌, ◌≤◌, ◌<◌, ◌⊎◌, ℕ, [], true, false, Some, None, Ok, Err, length, drop};
 ghost use Rattle.h26x_core.specs.Sender.{Sender, packets_by, after, has_no_effect};
 ghost use Rattle.h26x_codec.specs.Codec.{format_with, fresh_sender, call_by};
 ghost use Rattle.h26x_codec.specs.declared.codec.Codec.{Codec};
 ghost use Rattle.h26x_c.specs.Codes.{wanted, has_numbers, ok, out_of_memory, wrong_end, not_of_this_codec, out_of_range};
-ghost use Rattle.h26x_c.specs.Copies.{copied, nth};
+ghost use Rattle.h26x_c.specs.Copies.{copied, nth, AreCopied};
 ghost use Rattle.h26x_c.specs.Ends.{sender_at, packets_at, codec_at, sender_placed, packets_placed, emptied, entries_given};
 
 use crate::code::{
@@ -163,39 +163,6 @@ pub extern "C" fn h26x_packetize(
     }
 }
 
-/// Cuts a payload into its units, which take the place of the packets.
-#[unsafe(no_mangle)]
-pub extern "C" fn h26x_packetizer_units(
-    alloc: Global,
-    p: &mut Handle,
-    payload: &[u8],
-    count: &mut usize,
-) -> u32
-    ensures wrong { sender_at p.old.value ≡ None → result ≡ wrong_end }
-    ensures answer { (it : Sender) → sender_at p.old.value ≡ Some it →
-        (result ≡ ok) ⊎ (result ≡ out_of_memory) }
-    ensures units { (it : Sender) → sender_at p.old.value ≡ Some it → result ≡ ok →
-        packets_at p.new.value ≡ it.format.units payload.now }
-    ensures sender { sender_at p.new.value ≡ sender_at p.old.value }
-    ensures kept { result ≢ ok → p.new.value ≡ p.old.value }
-    ensures count { count.new ≡ length (packets_at p.new.value) }
-{
-    match p.get_mut() {
-        End::Sending(it) => {
-            let kept = it.keep_units(alloc, payload);
-            *count = it.count();
-            match kept {
-                Ok(()) => OK,
-                Err(_) => OUT_OF_MEMORY,
-            }
-        }
-        End::Receiving(_) => {
-            *count = 0;
-            WRONG_END
-        }
-    }
-}
-
 /// How many packets there are.
 #[unsafe(no_mangle)]
 pub extern "C" fn h26x_packet_count(p: &mut Handle) -> usize
@@ -230,5 +197,24 @@ pub extern "C" fn h26x_packet_copy(p: &mut Handle, i: usize, to: &mut [u8]) -> u
     match p.get_mut() {
         End::Sending(it) => copy_where_room(it.packet(i), to),
         End::Receiving(_) => copy_where_room(&[], to),
+    }
+}
+
+/// Copies packets, from one counted from 0 on, to the front of a buffer, one behind the other, as many
+/// as there is room for, and writes where each ends; how many they are.
+#[unsafe(no_mangle)]
+pub extern "C" fn h26x_packets_copy(
+    p: &mut Handle,
+    first: usize,
+    to: &mut [u8],
+    ends: &mut [usize],
+) -> usize
+    ensures copied { AreCopied (drop first (packets_at p.old.value)) to.old to.new ends.old ends.new
+        result }
+    ensures kept { p.new.value ≡ p.old.value }
+{
+    match p.get_mut() {
+        End::Sending(it) => it.copy_packets(first, to, ends),
+        End::Receiving(_) => 0,
     }
 }

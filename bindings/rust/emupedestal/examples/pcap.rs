@@ -51,14 +51,15 @@ fn run(args: &[String]) -> Outcome<()> {
         _ => return Err(format!("no codec {codec}: h264, h265 or h266").into()),
     };
     let file = fs::read(from)?;
-    let file_units = units(codec, &file);
+    let file_units: Vec<&[u8]> = units(codec, &file).collect();
     let sent = send(codec, &file_units, BufWriter::new(File::create(capture)?))?;
     let received = receive(
         codec,
         BufReader::new(File::open(capture)?),
         BufWriter::new(File::create(back)?),
     )?;
-    let back_units = units(codec, &fs::read(back)?);
+    let back = fs::read(back)?;
+    let back_units: Vec<&[u8]> = units(codec, &back).collect();
     println!(
         "{} access units, {} of them keyframes, of {} bytes went in {} packets and came back as {} bytes; {}.",
         sent.access_units,
@@ -93,7 +94,7 @@ struct Sent {
 }
 
 /// Writes the packets of units, access unit by access unit, into a capture.
-fn send(codec: Codec, units: &[Vec<u8>], to: impl Write) -> Outcome<Sent> {
+fn send(codec: Codec, units: &[&[u8]], to: impl Write) -> Outcome<Sent> {
     let mut packetizer: Box<dyn Packetizer> = match codec {
         Codec::H264 => Box::new(H264Packetizer::default()),
         Codec::H265 => Box::new(H265Packetizer::default()),

@@ -33,7 +33,7 @@
 //!
 //! The library takes its memory from C's `malloc`. Where that gives none, [`Packetizer::packetize`]
 //! and [`Depacketizer::depacketize`] answer [`PacketError::OutOfMemory`] and change nothing;
-//! `default`, `clone` and [`units`] have no such answer and panic.
+//! `default` and `clone` have no such answer and panic.
 //!
 //! The `Vec`s that calls answer and write to are Rust's. One that can't grow aborts the program, as
 //! everywhere in Rust.
@@ -52,6 +52,7 @@ mod handle;
 mod look;
 mod packet;
 mod packetizer;
+mod packets;
 mod sys;
 
 #[cfg(test)]
@@ -61,7 +62,9 @@ pub use codec::{Codec, CodecExtra, H264CodecExtra, H265CodecExtra, H266CodecExtr
 pub use depacketizer::{H264Depacketizer, H265Depacketizer, H266Depacketizer};
 pub use error::PacketError;
 pub use look::{
-    detect_h264_keyframe, detect_h264_nalu, detect_h265_keyframe, detect_h266_keyframe, units,
+    Units, detect_h264_keyframe, detect_h264_nalu, detect_h265_keyframe, detect_h266_keyframe,
+    units,
 };
 pub use packet::{Depacketizer, Packetizer};
 pub use packetizer::{H264Packetizer, H265Packetizer, H266Packetizer};
+pub use packets::{Iter, Packets};

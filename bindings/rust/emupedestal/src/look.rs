@@ -1,8 +1,8 @@
 //! What can be told of packets and payloads without a packetizer or a depacketizer.
 
 use crate::codec::Codec;
-use crate::handle::{Handle, Sending};
 use crate::sys;
+use std::iter::FusedIterator;
 
 /// Whether an H.264 packet is known to hold a unit of type `target_nalu`, or to be the first
 /// fragment of one (RFC 6184, 5.6 to 5.8).
@@ -41,8 +41,8 @@ fn detect_keyframe(codec: Codec, payload: &[u8]) -> bool {
     unsafe { sys::h26x_detect_keyframe(codec.number(), payload.as_ptr(), payload.len()) }
 }
 
-/// The units of a payload between start codes (Annex B of the video standards), in order, without
-/// empty ones. A payload without a start code is one unit.
+/// The units of a payload between start codes (Annex B of the video standards), in order, as slices
+/// of it, without empty ones. A payload without a start code is one unit.
 ///
 /// Of H.264 and H.265 a unit ends before the zeros of the next start code; of H.266 it keeps those
 /// before the nearest three.
@@ -50,15 +50,46 @@ fn detect_keyframe(codec: Codec, payload: &[u8]) -> bool {
 /// ```
 /// use emupedestal::{Codec, units};
 ///
-/// let found = units(Codec::H264, &[0, 0, 1, 0x67, 0x42, 0, 0, 0, 1, 0x65]);
+/// let payload = [0, 0, 1, 0x67, 0x42, 0, 0, 0, 1, 0x65];
+/// let found: Vec<&[u8]> = units(Codec::H264, &payload).collect();
 /// assert_eq!(found, [&[0x67, 0x42][..], &[0x65]]);
 /// ```
-///
-/// # Panics
-///
-/// Where the library has no memory.
-pub fn units(codec: Codec, payload: &[u8]) -> Vec<Vec<u8>> {
-    Handle::<Sending>::new(codec)
-        .units(payload)
-        .expect("copies of the units")
+pub fn units(codec: Codec, payload: &[u8]) -> Units<'_> {
+    Units {
+        codec,
+        payload,
+        end: 0,
+    }
 }
+
+/// The units of a payload that are left, in order: what [`units`] answers.
+#[derive(Debug, Clone)]
+pub struct Units<'a> {
+    codec: Codec,
+    payload: &'a [u8],
+    /// Where the last unit ended.
+    end: usize,
+}
+
+impl<'a> Iterator for Units<'a> {
+    type Item = &'a [u8];
+
+    fn next(&mut self) -> Option<&'a [u8]> {
+        let (codec, payload, from) = (self.codec.number(), self.payload, self.end);
+        let mut begin = 0;
+        // SAFETY: `payload` is one slice, and the others are one number each.
+        let found = unsafe {
+            sys::h26x_next_unit(
+                codec,
+                payload.as_ptr(),
+                payload.len(),
+                from,
+                &mut begin,
+                &mut self.end,
+            )
+        };
+        found.then(|| &payload[begin..self.end])
+    }
+}
+
+impl FusedIterator for Units<'_> {}

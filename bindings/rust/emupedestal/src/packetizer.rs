@@ -4,46 +4,66 @@ use crate::codec::Codec;
 use crate::error::PacketError;
 use crate::handle::{Handle, Sending};
 use crate::packet::Packetizer;
-use crate::sys::{self, Raw, Refusal};
+use crate::packets::Packets;
+use crate::sys::{self, Refusal};
 
 /// What the packetizers of all codecs do.
 impl Handle<Sending> {
-    /// The packets of a payload.
-    pub fn packetize(&mut self, mtu: usize, b: &[u8]) -> Result<Vec<Vec<u8>>, PacketError> {
-        // SAFETY: the handle is live and ours alone, `b` is one slice, and `count` is a number.
-        self.kept_by(|raw, count| unsafe {
-            sys::h26x_packetize(raw, mtu, b.as_ptr(), b.len(), count)
-        })
-    }
-
-    /// The units of a payload. What waits, the next number and the settings stay.
-    pub fn units(&mut self, payload: &[u8]) -> Result<Vec<Vec<u8>>, PacketError> {
-        // SAFETY: as above.
-        self.kept_by(|raw, count| unsafe {
-            sys::h26x_packetizer_units(raw, payload.as_ptr(), payload.len(), count)
-        })
-    }
-
-    /// Copies of the packets, or the units, that the handle keeps after a call, which writes how
-    /// many they are.
-    fn kept_by(
-        &mut self,
-        call: impl FnOnce(&mut Raw, &mut usize) -> u32,
-    ) -> Result<Vec<Vec<u8>>, PacketError> {
+    /// Makes the packets of a payload, which the handle keeps; how many they are.
+    fn make(&mut self, mtu: usize, b: &[u8]) -> Result<usize, PacketError> {
         let mut count = 0;
-        let code = call(self.raw(), &mut count);
+        // SAFETY: the handle is live and ours alone, `b` is one slice, and `count` is a number.
+        let code = unsafe { sys::h26x_packetize(self.raw(), mtu, b.as_ptr(), b.len(), &mut count) };
         PacketError::of(code, &Refusal::default())?;
+        Ok(count)
+    }
+
+    /// The packets of a payload, each in memory of its own.
+    fn packetize(&mut self, mtu: usize, b: &[u8]) -> Result<Vec<Vec<u8>>, PacketError> {
+        let count = self.make(mtu, b)?;
         Ok((0..count).map(|i| self.kept(i)).collect())
+    }
+
+    /// The packets of a payload, in the place of those in `packets`.
+    fn packetize_into(
+        &mut self,
+        mtu: usize,
+        b: &[u8],
+        packets: &mut Packets,
+    ) -> Result<(), PacketError> {
+        let count = self.make(mtu, b)?;
+        let len = (0..count).map(|i| self.kept_len(i)).sum();
+        let (bytes, ends) = packets.room(len, count);
+        // SAFETY: the handle is live and ours alone, and `bytes` and `ends` are one slice each, apart
+        // from one another, which the call only writes to.
+        let copied = unsafe {
+            sys::h26x_packets_copy(
+                self.raw(),
+                0,
+                bytes.as_mut_ptr().cast(),
+                bytes.len(),
+                ends.as_mut_ptr().cast(),
+                ends.len(),
+            )
+        };
+        assert_eq!(copied, count, "there is room for all packets");
+        // SAFETY: the call wrote all packets, `len` bytes, and `count` ends.
+        unsafe { packets.set_len(len, count) };
+        Ok(())
+    }
+
+    /// The length of packet `i`.
+    fn kept_len(&mut self, i: usize) -> usize {
+        // SAFETY: the handle is live and ours alone.
+        unsafe { sys::h26x_packet_len(self.raw(), i) }
     }
 
     /// A copy of packet `i`, written straight into its own memory.
     fn kept(&mut self, i: usize) -> Vec<u8> {
-        let handle = self.raw();
-        // SAFETY: the handle is live and ours alone.
-        let len = unsafe { sys::h26x_packet_len(handle, i) };
+        let len = self.kept_len(i);
         let mut packet = Vec::with_capacity(len);
         // SAFETY: the handle is live and ours alone, and there is room for `len` bytes.
-        let copied = unsafe { sys::h26x_packet_copy(handle, i, packet.as_mut_ptr(), len) };
+        let copied = unsafe { sys::h26x_packet_copy(self.raw(), i, packet.as_mut_ptr(), len) };
         assert_eq!(copied, len, "a packet keeps its length");
         // SAFETY: the call wrote the packet, `len` bytes, since they fit.
         unsafe { packet.set_len(len) };
@@ -79,6 +99,22 @@ macro_rules! packetizer {
             fn default() -> Self {
                 let handle = Handle::new($codec);
                 $name { handle }
+            }
+        }
+
+        impl $name {
+            /// The RTP payloads of `b` as [`Packetizer::packetize`] makes them, in the place of those
+            /// in `packets`, whose memory is used again.
+            ///
+            /// It is the faster call: it asks for no memory for each packet. A refusal leaves
+            /// `packets`.
+            pub fn packetize_into(
+                &mut self,
+                mtu: usize,
+                b: &[u8],
+                packets: &mut Packets,
+            ) -> Result<(), PacketError> {
+                self.handle.packetize_into(mtu, b, packets)
             }
         }
 

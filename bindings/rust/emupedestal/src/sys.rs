@@ -46,12 +46,14 @@ unsafe extern "C" {
     ) -> u32;
     pub fn h26x_packet_len(p: *mut Raw, i: usize) -> usize;
     pub fn h26x_packet_copy(p: *mut Raw, i: usize, to: *mut u8, room: usize) -> usize;
-    pub fn h26x_packetizer_units(
+    pub fn h26x_packets_copy(
         p: *mut Raw,
-        payload: *const u8,
-        payload_len: usize,
-        count: *mut usize,
-    ) -> u32;
+        first: usize,
+        to: *mut u8,
+        room: usize,
+        ends: *mut usize,
+        ends_room: usize,
+    ) -> usize;
 
     pub fn h26x_depacketizer_new(codec: u32, numbers: bool, made: *mut Raw) -> u32;
     pub fn h26x_depacketizer_clone(d: *mut Raw, made: *mut Raw) -> u32;
@@ -81,6 +83,14 @@ unsafe extern "C" {
     ) -> bool;
     pub fn h26x_detect_keyframe(codec: u32, packet: *const u8, packet_len: usize) -> bool;
     pub fn h26x_detect_h264_nalu(packet: *const u8, packet_len: usize, nalu_type: u8) -> bool;
+    pub fn h26x_next_unit(
+        codec: u32,
+        payload: *const u8,
+        payload_len: usize,
+        from: usize,
+        begin: *mut usize,
+        end: *mut usize,
+    ) -> bool;
     // It takes a number and answers one, so any caller may call it.
     pub safe fn h26x_out_size_hint(packets_size: usize) -> usize;
 }

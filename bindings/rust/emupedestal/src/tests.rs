@@ -5,6 +5,7 @@ mod ends;
 mod look;
 mod numbers;
 mod packetizer;
+mod packets;
 mod refusals;
 mod speed;
 

@@ -49,7 +49,7 @@ fn begins(codec: Codec, unit: &[u8]) -> bool {
 }
 
 /// Units by access unit.
-pub fn access_units(codec: Codec, units: &[Vec<u8>]) -> Vec<&[Vec<u8>]> {
+pub fn access_units<'a>(codec: Codec, units: &'a [&[u8]]) -> Vec<&'a [&'a [u8]]> {
     let (mut found, mut first, mut after_slice) = (Vec::new(), 0, false);
     for (i, unit) in units.iter().enumerate() {
         if after_slice && begins(codec, unit) {

@@ -8,7 +8,7 @@ use std::collections::BTreeMap;
 ///
 /// Parameter sets may come back in another order than they have in the file, since they wait until
 /// all that a picture needs are there, and go together. All others keep theirs.
-pub fn left_out(codec: Codec, sent: &[Vec<u8>], back: &[Vec<u8>]) -> Result<String, String> {
+pub fn left_out(codec: Codec, sent: &[&[u8]], back: &[&[u8]]) -> Result<String, String> {
     if let Some(lacking) = lacking(sent, back) {
         return Ok(by_type(codec, &lacking));
     }
@@ -31,21 +31,21 @@ struct Parts<'a> {
 }
 
 impl<'a> Parts<'a> {
-    fn of(codec: Codec, units: &'a [Vec<u8>]) -> Self {
-        let units = units.iter().map(Vec::as_slice);
-        let (mut sets, others): (Vec<_>, Vec<_>) =
-            units.partition(|unit| is_parameter_set(codec, unit_type(codec, unit)));
+    fn of(codec: Codec, units: &[&'a [u8]]) -> Self {
+        let is_set = |unit: &&[u8]| is_parameter_set(codec, unit_type(codec, unit));
+        let (mut sets, others): (Vec<_>, Vec<_>) = units.iter().partition(|unit| is_set(unit));
         sets.sort_unstable();
         Parts { sets, others }
     }
 }
 
 /// The units of `sent` that `back` lacks; nothing where `back` has others, or another order.
-fn lacking<'a, U: AsRef<[u8]>>(sent: &'a [U], back: &'a [U]) -> Option<Vec<&'a [u8]>> {
-    let mut back = back.iter().map(AsRef::as_ref).peekable();
-    let sent = sent.iter().map(AsRef::as_ref);
+fn lacking<'a>(sent: &[&'a [u8]], back: &[&[u8]]) -> Option<Vec<&'a [u8]>> {
+    let mut back = back.iter().peekable();
     let lacking = sent
-        .filter(|unit| back.next_if_eq(unit).is_none())
+        .iter()
+        .copied()
+        .filter(|unit| back.next_if_eq(&unit).is_none())
         .collect();
     back.peek().is_none().then_some(lacking)
 }

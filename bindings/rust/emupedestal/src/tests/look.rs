@@ -176,6 +176,10 @@ fn hints() {
     check(H266Depacketizer::default());
 }
 
+fn cut(codec: Codec, payload: &[u8]) -> Vec<&[u8]> {
+    units(codec, payload).collect()
+}
+
 #[test]
 fn units_between_start_codes() {
     for (payload, all_zeros, at_most_three) in [
@@ -194,15 +198,24 @@ fn units_between_start_codes() {
     ] {
         let payload = bytes(payload);
         let wanted = |units: &[&str]| units.iter().map(|unit| bytes(unit)).collect::<Vec<_>>();
-        assert_eq!(units(Codec::H264, &payload), wanted(all_zeros));
-        assert_eq!(units(Codec::H265, &payload), wanted(all_zeros));
-        assert_eq!(units(Codec::H266, &payload), wanted(at_most_three));
+        assert_eq!(cut(Codec::H264, &payload), wanted(all_zeros));
+        assert_eq!(cut(Codec::H265, &payload), wanted(all_zeros));
+        assert_eq!(cut(Codec::H266, &payload), wanted(at_most_three));
     }
+}
+
+#[test]
+fn units_are_slices_of_the_payload() {
+    let payload = bytes("000001 aa 000001 aa");
+    let mut left = units(Codec::H264, &payload);
+    assert!(std::ptr::eq(left.next().unwrap(), &payload[3..4]));
+    assert!(std::ptr::eq(left.next().unwrap(), &payload[7..8]));
+    assert_eq!((left.next(), left.next()), (None, None));
 }
 
 #[test]
 fn many_units() {
     let wanted: Vec<[u8; 2]> = (0..1000_u32).map(|i| [0x41, i as u8 | 1]).collect();
     let payload: Vec<u8> = wanted.iter().flat_map(|u| [0, 0, 1, u[0], u[1]]).collect();
-    assert_eq!(units(Codec::H264, &payload), wanted);
+    assert_eq!(cut(Codec::H264, &payload), wanted);
 }

@@ -4,7 +4,9 @@
 
 use crate::handle::{Handle, Receiving, Sending};
 use crate::sys::{self, Refusal};
-use crate::{Codec, CodecExtra, Depacketizer, H264Depacketizer, H264Packetizer, Packetizer};
+use crate::{
+    Codec, CodecExtra, Depacketizer, H264Depacketizer, H264Packetizer, Packetizer, Packets,
+};
 use std::hint::black_box;
 use std::time::{Duration, Instant};
 
@@ -80,6 +82,13 @@ fn speed_of_packetize() {
             black_box(end.packetize(LIMIT, &frame).expect("memory"));
         });
         print("packetize", len, alone, whole);
+        let (mut end, mut packets) = (H264Packetizer::default(), Packets::default());
+        let joined = least(calls, || {
+            end.packetize_into(LIMIT, &frame, &mut packets)
+                .expect("memory");
+            black_box(&packets);
+        });
+        print("packetize_into", len, alone, joined);
     }
 }
 

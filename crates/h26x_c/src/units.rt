@@ -1,0 +1,53 @@
+//! The units of payloads, by their places.
+
+ghost use Rattle.std.specs.Prelude.{◌≡◌, ◌⊎◌, [], true, false, None, Some, drop};
+ghost use Rattle.h26x_cut.specs.Cutting.{IsNextUnit, units_of};
+ghost use Rattle.h26x_codec.specs.Codec.{format_with};
+ghost use Rattle.h26x_codec.specs.declared.codec.Codec.{Codec};
+ghost use Rattle.h26x_c.specs.Codes.{codec_numbered};
+
+use crate::code::codec_of;
+use h26x_codec::Codec;
+use h26x_cut::{ZeroRule, next_unit};
+
+/// How payloads of a codec are cut.
+fn rule_of(codec: Codec) -> ZeroRule
+    ensures { (format_with codec false).units ≡ units_of result }
+{
+    match codec {
+        Codec::H264 | Codec::H265 => ZeroRule::All,
+        Codec::H266 => ZeroRule::AtMostThree,
+    }
+}
+
+/// Where the next unit of a payload stands, from a place on.
+#[unsafe(no_mangle)]
+pub extern "C" fn h26x_next_unit(
+    codec: u32,
+    payload: &[u8],
+    from: usize,
+    begin: &mut usize,
+    end: &mut usize,
+) -> bool
+    ensures unknown { codec_numbered codec ≡ None → result ≡ false }
+    ensures none { (c : Codec) → codec_numbered codec ≡ Some c → result ≡ false →
+        (format_with c false).units (drop from payload.now) ≡ [] }
+    ensures unit { (c : Codec) → codec_numbered codec ≡ Some c → result ≡ true →
+        IsNextUnit (format_with c false).units payload.now from begin.new end.new }
+    ensures kept { result ≡ false → (begin.new ≡ begin.old) × (end.new ≡ end.old) }
+{
+    let Some(codec) = codec_of(codec) else {
+        return false;
+    };
+    match next_unit(payload, rule_of(codec), from) {
+        Some(place) => {
+            *begin = place.start;
+            *end = place.end;
+            true
+        }
+        None => false,
+    }
+}
+
+#[cfg(test)]
+mod tests;
