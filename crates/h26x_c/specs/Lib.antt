@@ -2,6 +2,7 @@ pub mod Codes
 pub mod Answers
 pub mod Copies
 pub mod Packets
+pub mod Profiles
 pub mod Boxes
 pub mod Ends
 pub mod Owned

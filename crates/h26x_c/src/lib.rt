@@ -12,6 +12,7 @@ mod inbox;
 mod outbox;
 mod packets;
 mod place;
+mod profiles;
 mod receiver;
 mod receiving;
 mod sender;
