@@ -143,6 +143,7 @@ static void *run(void *at)
         check_sending(&work->tally);
         check_receiving(&work->tally);
         check_looking(&work->tally);
+        check_profiles(&work->tally);
     }
     work->pass(&work->tally);
     return NULL;

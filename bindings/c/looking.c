@@ -1,4 +1,4 @@
-/* The calls without a handle. */
+/* The calls on packets, and the hint. */
 #include "calls.h"
 
 static bool is_head(uint32_t codec, const char *packet)

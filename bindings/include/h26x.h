@@ -153,6 +153,121 @@ bool h26x_next_unit(uint32_t codec, const uint8_t *payload, size_t payload_len, 
 /* How many bytes the units of packets of this many bytes may take when they are written. */
 size_t h26x_out_size_hint(size_t packets_size);
 
+/* ---- Profiles and levels, as SDP names them ---- */
+
+/* The profiles of H.264 (RFC 6184, 8.1). */
+enum h26x_h264_profile {
+    H26X_H264_BASELINE = 0,
+    H26X_H264_CONSTRAINED_BASELINE = 1,
+    H26X_H264_MAIN = 2,
+    H26X_H264_EXTENDED = 3,
+    H26X_H264_HIGH = 4,
+    H26X_H264_CONSTRAINED_HIGH = 5,
+    H26X_H264_HIGH_10 = 6,
+    H26X_H264_HIGH_422 = 7,
+    H26X_H264_HIGH_444_PREDICTIVE = 8,
+    H26X_H264_HIGH_10_INTRA = 9,
+    H26X_H264_HIGH_422_INTRA = 10,
+    H26X_H264_HIGH_444_INTRA = 11,
+    H26X_H264_CAVLC_444_INTRA = 12
+};
+
+/* The levels of H.264 by their places, so that `<` compares them. */
+enum h26x_h264_level {
+    H26X_H264_LEVEL_1 = 0,
+    H26X_H264_LEVEL_1B = 1,
+    H26X_H264_LEVEL_1_1 = 2,
+    H26X_H264_LEVEL_1_2 = 3,
+    H26X_H264_LEVEL_1_3 = 4,
+    H26X_H264_LEVEL_2 = 5,
+    H26X_H264_LEVEL_2_1 = 6,
+    H26X_H264_LEVEL_2_2 = 7,
+    H26X_H264_LEVEL_3 = 8,
+    H26X_H264_LEVEL_3_1 = 9,
+    H26X_H264_LEVEL_3_2 = 10,
+    H26X_H264_LEVEL_4 = 11,
+    H26X_H264_LEVEL_4_1 = 12,
+    H26X_H264_LEVEL_4_2 = 13,
+    H26X_H264_LEVEL_5 = 14,
+    H26X_H264_LEVEL_5_1 = 15,
+    H26X_H264_LEVEL_5_2 = 16
+};
+
+/* Whether the three bytes of a `profile-level-id`, the lower ones of the number, name a profile and a level of H.264
+ * (RFC 6184, 8.1); *profile and *level are then the numbers above. Else both stay. 0x64001f is High at level 3.1. */
+bool h26x_h264_profile_level(uint32_t profile_level_id, uint8_t *profile, uint8_t *level);
+
+/* `profile-id` of H.265 (RFC 7798, 7.1). */
+enum h26x_h265_profile {
+    H26X_H265_MAIN = 1,
+    H26X_H265_MAIN_10 = 2,
+    H26X_H265_MAIN_STILL_PICTURE = 3,
+    H26X_H265_FORMAT_RANGE_EXTENSIONS = 4,
+    H26X_H265_HIGH_THROUGHPUT = 5,
+    H26X_H265_MULTIVIEW_MAIN = 6,
+    H26X_H265_SCALABLE_MAIN = 7,
+    H26X_H265_3D_MAIN = 8,
+    H26X_H265_SCREEN_CONTENT_CODING = 9,
+    H26X_H265_SCREEN_CONTENT_CODING_EXTENSIONS = 10,
+    H26X_H265_HIGH_THROUGHPUT_SCREEN_CONTENT_CODING = 11
+};
+
+/* `level-id` of H.265, so that `<` compares levels. */
+enum h26x_h265_level {
+    H26X_H265_LEVEL_1 = 30,
+    H26X_H265_LEVEL_2 = 60,
+    H26X_H265_LEVEL_2_1 = 63,
+    H26X_H265_LEVEL_3 = 90,
+    H26X_H265_LEVEL_3_1 = 93,
+    H26X_H265_LEVEL_4 = 120,
+    H26X_H265_LEVEL_4_1 = 123,
+    H26X_H265_LEVEL_5 = 150,
+    H26X_H265_LEVEL_5_1 = 153,
+    H26X_H265_LEVEL_5_2 = 156,
+    H26X_H265_LEVEL_6 = 180,
+    H26X_H265_LEVEL_6_1 = 183,
+    H26X_H265_LEVEL_6_2 = 186
+};
+
+/* Whether `profile-id`, `tier-flag` (0 Main, 1 High) and `level-id` of H.265 are all known (RFC 7798, 7.1). Where a
+ * format says nothing they are H26X_H265_MAIN, 0 and H26X_H265_LEVEL_3_1. */
+bool h26x_h265_is_known(uint8_t profile_id, uint8_t tier_flag, uint8_t level_id);
+
+/* `profile-id` of H.266 (RFC 9328, 7.2). */
+enum h26x_h266_profile {
+    H26X_H266_MAIN_10 = 1,
+    H26X_H266_MULTILAYER_MAIN_10 = 17,
+    H26X_H266_MAIN_10_444 = 33,
+    H26X_H266_MULTILAYER_MAIN_10_444 = 49,
+    H26X_H266_MAIN_10_STILL_PICTURE = 65,
+    H26X_H266_MULTILAYER_MAIN_10_STILL_PICTURE = 81,
+    H26X_H266_MAIN_10_444_STILL_PICTURE = 97,
+    H26X_H266_MULTILAYER_MAIN_10_444_STILL_PICTURE = 113
+};
+
+/* `level-id` of H.266, so that `<` compares levels. */
+enum h26x_h266_level {
+    H26X_H266_LEVEL_1 = 16,
+    H26X_H266_LEVEL_2 = 32,
+    H26X_H266_LEVEL_2_1 = 35,
+    H26X_H266_LEVEL_3 = 48,
+    H26X_H266_LEVEL_3_1 = 51,
+    H26X_H266_LEVEL_4 = 64,
+    H26X_H266_LEVEL_4_1 = 67,
+    H26X_H266_LEVEL_5 = 80,
+    H26X_H266_LEVEL_5_1 = 83,
+    H26X_H266_LEVEL_5_2 = 86,
+    H26X_H266_LEVEL_6 = 96,
+    H26X_H266_LEVEL_6_1 = 99,
+    H26X_H266_LEVEL_6_2 = 102,
+    H26X_H266_LEVEL_6_3 = 105,
+    H26X_H266_LEVEL_15_5 = 255
+};
+
+/* Whether `profile-id`, `tier-flag` (0 Main, 1 High) and `level-id` of H.266 are all known (RFC 9328, 7.2). Where a
+ * format says nothing they are H26X_H266_MAIN_10, 0 and H26X_H266_LEVEL_3_1. */
+bool h26x_h266_is_known(uint8_t profile_id, uint8_t tier_flag, uint8_t level_id);
+
 #ifdef __cplusplus
 }
 #endif

@@ -26,6 +26,9 @@
 //! # Ok::<(), emupedestal::PacketError>(())
 //! ```
 //!
+//! [`H264ProfileLevel`], [`H265ProfileTierLevel`] and [`H266ProfileTierLevel`] read profiles and levels
+//! out of SDP.
+//!
 //! Every type may go from one thread to another (`Send`); `Sync` is not promised. No call panics on
 //! bytes, whatever they are.
 //!
@@ -53,6 +56,7 @@ mod look;
 mod packet;
 mod packetizer;
 mod packets;
+mod profile;
 mod sys;
 
 #[cfg(test)]
@@ -68,3 +72,6 @@ pub use look::{
 pub use packet::{Depacketizer, Packetizer};
 pub use packetizer::{H264Packetizer, H265Packetizer, H266Packetizer};
 pub use packets::{Iter, Packets};
+pub use profile::{H264LevelIdc, H264Profile, H264ProfileLevel};
+pub use profile::{H265Level, H265Profile, H265ProfileTierLevel, H265Tier};
+pub use profile::{H266Level, H266Profile, H266ProfileTierLevel, H266Tier};

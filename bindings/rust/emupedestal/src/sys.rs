@@ -93,4 +93,14 @@ unsafe extern "C" {
     ) -> bool;
     // It takes a number and answers one, so any caller may call it.
     pub safe fn h26x_out_size_hint(packets_size: usize) -> usize;
+
+    // These take numbers and answer whether they are known. Where the first writes, its caller
+    // lends it two bytes, each to it alone.
+    pub safe fn h26x_h264_profile_level(
+        profile_level_id: u32,
+        profile: &mut u8,
+        level: &mut u8,
+    ) -> bool;
+    pub safe fn h26x_h265_is_known(profile_id: u8, tier_flag: u8, level_id: u8) -> bool;
+    pub safe fn h26x_h266_is_known(profile_id: u8, tier_flag: u8, level_id: u8) -> bool;
 }

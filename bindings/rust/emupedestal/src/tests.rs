@@ -6,6 +6,7 @@ mod look;
 mod numbers;
 mod packetizer;
 mod packets;
+mod profile;
 mod refusals;
 mod speed;
 
