@@ -71,7 +71,7 @@ pub use look::{
 };
 pub use packet::{Depacketizer, Packetizer};
 pub use packetizer::{H264Packetizer, H265Packetizer, H266Packetizer};
-pub use packets::{Iter, Packets};
+pub use packets::{PacketIter, Packets};
 pub use profile::{H264LevelIdc, H264Profile, H264ProfileLevel};
 pub use profile::{H265Level, H265Profile, H265ProfileTierLevel, H265Tier};
 pub use profile::{H266Level, H266Profile, H266ProfileTierLevel, H266Tier};

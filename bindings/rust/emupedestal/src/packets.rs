@@ -44,7 +44,7 @@ impl Packets {
     }
 
     /// The packets, in order.
-    pub fn iter(&self) -> Iter<'_> {
+    pub fn iter(&self) -> PacketIter<'_> {
         self.into_iter()
     }
 
@@ -99,10 +99,10 @@ impl Index<usize> for Packets {
 
 impl<'a> IntoIterator for &'a Packets {
     type Item = &'a [u8];
-    type IntoIter = Iter<'a>;
+    type IntoIter = PacketIter<'a>;
 
-    fn into_iter(self) -> Iter<'a> {
-        Iter {
+    fn into_iter(self) -> PacketIter<'a> {
+        PacketIter {
             packets: self,
             left: 0..self.len(),
         }
@@ -111,12 +111,12 @@ impl<'a> IntoIterator for &'a Packets {
 
 /// The packets of [`Packets`], in order.
 #[derive(Debug, Clone)]
-pub struct Iter<'a> {
+pub struct PacketIter<'a> {
     packets: &'a Packets,
     left: Range<usize>,
 }
 
-impl<'a> Iterator for Iter<'a> {
+impl<'a> Iterator for PacketIter<'a> {
     type Item = &'a [u8];
 
     fn next(&mut self) -> Option<&'a [u8]> {
@@ -128,4 +128,4 @@ impl<'a> Iterator for Iter<'a> {
     }
 }
 
-impl ExactSizeIterator for Iter<'_> {}
+impl ExactSizeIterator for PacketIter<'_> {}
