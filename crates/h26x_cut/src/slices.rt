@@ -98,6 +98,7 @@ fn behind_first_code<'a>(payload: &'a [u8], finder: &Finder<'static>) -> Behind<
 
 impl<'a> Behind<'a> {
     /// Passes the first unit, and tells how many bytes stand before it.
+    #[inline]
     fn pass_unit(&mut self, rule: ZeroRule, finder: &Finder<'static>) -> Option<(usize, &'a [u8])>
         requires code { IsFirstCode self.old.bytes.now self.old.next_code }
         requires finder { finder.now ≡ code }
