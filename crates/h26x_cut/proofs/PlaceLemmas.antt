@@ -6,9 +6,9 @@ use Rattle.h26x_cut.specs.declared.ZeroRule.{ZeroRule}
 use Rattle.h26x_cut.specs.Cutting.{HoldsStartCode, IsNextUnit, cut_of, trimmed, trimmed_but_last, units_of}
 use Rattle.std.specs.Prelude.{filter}
 use Rattle.h26x_core.specs.Text.{is_not_empty}
-use Rattle.h26x_cut.specs.Slices.{IsFirstCode, IsUnitBehind, units_behind}
+use Rattle.h26x_cut.specs.Slices.{IsFirstCode, units_behind}
 use Rattle.h26x_cut.proofs.CuttingLemmas.{FirstCode, first_code_of, cut_next, cut_none, trims}
-use Rattle.h26x_cut.proofs.SliceLemmas.{more_than_one}
+use Rattle.h26x_cut.proofs.SliceLemmas.{more_than_one, units_from}
 
 -- a start code's place, with what stands before it and behind it
 record Stands (bytes : List ℕ) (place : ℕ) : Type 0 where
@@ -46,12 +46,12 @@ units_behind_zeros : (rule : ZeroRule) (zeros rest : List ℕ) → (¬ HoldsStar
 units_behind_zeros rule zeros rest never = rw (cut_next zeros rest never) (more_than_one rule (trimmed rule zeros) (cut_of rest).0 (cut_of rest).1)
 
 -- a unit that a start code ends stands at the front, and the other units from its end on
-pub record Front (rule : ZeroRule) (bytes : List ℕ) (place : ℕ) : Type 0 where
-  pub within : length (trimmed rule (take place bytes)) ≤ place
-  pub unit : take (length (trimmed rule (take place bytes))) bytes ≡ trimmed rule (take place bytes)
-  pub left : units_of rule (drop (length (trimmed rule (take place bytes))) bytes) ≡ units_behind rule (drop (place + 3) bytes)
+record Front (rule : ZeroRule) (bytes : List ℕ) (place : ℕ) : Type 0 where
+  within : length (trimmed rule (take place bytes)) ≤ place
+  unit : take (length (trimmed rule (take place bytes))) bytes ≡ trimmed rule (take place bytes)
+  left : units_of rule (drop (length (trimmed rule (take place bytes))) bytes) ≡ units_behind rule (drop (place + 3) bytes)
 
-pub front_unit : (rule : ZeroRule) (bytes : List ℕ) (place : ℕ) → IsFirstCode bytes (Some place) → Front rule bytes place
+front_unit : (rule : ZeroRule) (bytes : List ℕ) (place : ℕ) → IsFirstCode bytes (Some place) → Front rule bytes place
 front_unit rule bytes place is =
     let s = stands bytes place is in
     let unit = trimmed rule (take place bytes) in
@@ -72,46 +72,51 @@ kept_first : (unit : List ℕ) (units : List (List ℕ)) → 0 < length unit →
 kept_first [] units some = absurd (omega arith)
 kept_first (b ∷ unit) units some = refl
 
--- the first unit of the bytes that are left, where the start code behind it stands at this place
-pub unit_found : (rule : ZeroRule) (bytes left : List ℕ) (place : ℕ) →
-    units_behind rule left ≡ units_behind rule bytes → length left ≤ length bytes →
-    left ≡ drop (length bytes - length left) bytes → IsFirstCode left (Some place) → 0 < length (trimmed rule (take place left)) →
-    IsUnitBehind rule bytes (length bytes - length left) (trimmed rule (take place left)) (units_behind rule (drop (place + 3) left))
-unit_found rule bytes left place units within end is some =
+-- bytes that end a payload: from their n-th on they are its end too
+from_there : (payload left : List ℕ) (n : ℕ) → length left ≤ length payload → left ≡ drop (length payload - length left) payload →
+    drop (length payload - length left + n) payload ≡ drop n left
+from_there payload left n within end =
+    sym (drop-drop n (length payload - length left) payload) ∙ ap (drop n) (sym end)
+
+-- the next unit of a payload, where the start code behind it stands at this place of what is left
+pub next_found : (rule : ZeroRule) (payload left : List ℕ) (from place : ℕ) →
+    units_behind rule left ≡ units_of rule (drop from payload) → from ≤ length payload - length left → length left ≤ length payload →
+    left ≡ drop (length payload - length left) payload → IsFirstCode left (Some place) → 0 < length (trimmed rule (take place left)) →
+    IsNextUnit (units_of rule) payload from (length payload - length left) (length payload - length left + length (trimmed rule (take place left)))
+next_found rule payload left from place units begins within end is some =
     let f = front_unit rule left place is in
-    let before = length bytes - length left in
+    let begin = length payload - length left in
     let unit = trimmed rule (take place left) in
     let rest = drop (place + 3) left in
     let (long, cut) = is in
     let fits = f.within in
-    let behind : drop (before + length unit) bytes ≡ drop (length unit) left =
-    ap (λ n. drop n bytes) (omega arith) ∙ sym (drop-drop (length unit) before bytes) ∙ ap (drop (length unit)) (sym end) in
+    let first : units_behind rule left ≡ unit ∷ units_behind rule rest = rw cut (kept_first unit (trimmed_but_last rule (cut_of rest).0 (cut_of rest).1) some) in
     record {
-      first = sym units ∙ rw cut (kept_first unit (trimmed_but_last rule (cut_of rest).0 (cut_of rest).1) some);
-      some = some;
+      begins = begins;
+      ends = omega (arith, some);
       within = omega (arith, long, fits, within);
-      stands = ap (take (length unit)) (sym end) ∙ f.unit;
-      from_end = ap (units_of rule) behind ∙ f.left;
+      units = sym units ∙ first
+          ∙ ap (λ (x : List ℕ). x ∷ units_behind rule rest) (sym f.unit ∙ ap (take (length unit)) end ∙ ap (λ k. take k (drop begin payload)) (omega arith))
+          ∙ ap (λ (x : List (List ℕ)). take (begin + length unit - begin) (drop begin payload) ∷ x) (sym f.left ∙ ap (units_of rule) (sym (from_there payload left (length unit) within end)));
     }
 
--- the place of the first unit of what stands behind the first start code from a place on
-pub place_found : (rule : ZeroRule) (payload behind unit : List ℕ) (from before : ℕ) (others : List (List ℕ)) →
-    ((skipped : List ℕ) × (drop from payload ≡ skipped ++ behind)) → from ≤ length payload →
-    units_behind rule behind ≡ units_of rule (drop from payload) → IsUnitBehind rule behind before unit others →
-    IsNextUnit (units_of rule) payload from (length payload - length behind + before) (length payload - length behind + before + length unit)
-place_found rule payload behind unit from before others (skipped, same) inside units found =
-    let begin = length payload - length behind + before in
-    let lengths = sym (length-drop from payload) ∙ ap length same ∙ length-append skipped behind in
-    let within = found.within in
-    let some = found.some in
-    let from_there : (n : ℕ) → drop (length payload - length behind + n) payload ≡ drop n behind =
-    λ n. ap (λ k. drop k payload) (omega (arith, lengths)) ∙ sym (drop-drop (length skipped + n) from payload) ∙ ap (drop (length skipped + n)) same ∙ drop-append-add skipped behind n in
-    let behind_it : drop (begin + length unit) payload ≡ drop (before + length unit) behind = ap (λ k. drop k payload) (omega arith) ∙ from_there (before + length unit) in
+-- what stands behind the first start code from a place of a payload on
+pub record Begun (rule : ZeroRule) (payload left : List ℕ) (from : ℕ) : Type 0 where
+  pub units : units_behind rule left ≡ units_of rule (drop from payload)
+  pub within : length left ≤ length payload
+  pub begins : from ≤ length payload - length left
+  pub end : left ≡ drop (length payload - length left) payload
+
+pub begun : (rule : ZeroRule) (payload behind : List ℕ) (from place : ℕ) → behind ≡ drop from payload → from ≤ length payload →
+    IsFirstCode behind (Some place) → Begun rule payload (drop (place + 3) behind) from
+begun rule payload behind from place same inside is =
+    let left = drop (place + 3) behind in
+    let rest = ap length same ∙ length-drop from payload in
+    let lengths = length-drop (place + 3) behind in
+    let long = is.0 in
     record {
-      begins = omega (arith, lengths);
-      ends = omega (arith, some);
-      within = omega (arith, lengths, within);
-      units = sym units ∙ found.first
-          ∙ ap (λ (x : List ℕ). x ∷ others) (sym found.stands ∙ ap (take (length unit)) (sym (from_there before)) ∙ ap (λ k. take k (drop begin payload)) (omega arith))
-          ∙ ap (λ (x : List (List ℕ)). take (begin + length unit - begin) (drop begin payload) ∷ x) (sym found.from_end ∙ ap (units_of rule) (sym behind_it));
+      units = units_from rule behind place is ∙ ap (units_of rule) same;
+      within = omega (arith, lengths, rest);
+      begins = omega (arith, lengths, rest, long);
+      end = ap (drop (place + 3)) same ∙ drop-drop (place + 3) from payload ∙ ap (λ n. drop n payload) (omega (arith, lengths, rest, long, inside));
     }

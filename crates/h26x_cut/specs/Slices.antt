@@ -1,8 +1,8 @@
 -- What an iterator over units has left.
-use Rattle.std.specs.Prelude.{◌≡◌, ℕ, ◌+◌, ◌≤◌, ◌<◌, List, [], ◌∷◌, length, take, drop, filter, Option, Some, None}
+use Rattle.std.specs.Prelude.{◌≡◌, ℕ, ◌+◌, ◌≤◌, List, [], ◌∷◌, length, take, drop, filter, Option, Some, None}
 use Rattle.h26x_core.specs.Text.{is_not_empty}
 use Rattle.h26x_cut.specs.declared.ZeroRule.{ZeroRule}
-use Rattle.h26x_cut.specs.Cutting.{cut_of, cut_pieces, units_of}
+use Rattle.h26x_cut.specs.Cutting.{cut_of, cut_pieces}
 
 -- the units of bytes that stand behind a start code
 abbrev pub units_behind : ZeroRule → List ℕ → List (List ℕ)
@@ -22,12 +22,3 @@ IsFirstCode bytes (Some place) =
 -- the nearest zeros of a start code, and its mark
 abbrev pub code : List ℕ
 code = 0 ∷ 0 ∷ 1 ∷ []
-
--- A unit with so many bytes before it is the first of those that stand behind a start code; from its
--- end on stand the others.
-pub record IsUnitBehind (rule : ZeroRule) (bytes : List ℕ) (before : ℕ) (unit : List ℕ) (others : List (List ℕ)) : Type 0 where
-  pub first : units_behind rule bytes ≡ unit ∷ others
-  pub some : 0 < length unit
-  pub within : before + length unit ≤ length bytes
-  pub stands : take (length unit) (drop before bytes) ≡ unit
-  pub from_end : units_of rule (drop (before + length unit) bytes) ≡ others

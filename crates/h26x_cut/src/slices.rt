@@ -1,10 +1,10 @@
 //! The units of a payload, as slices of it.
 
-ghost use Rattle.std.specs.Prelude.{◌≡◌, ◌++◌, ℕ, List, [], None, IfSome, drop};
+ghost use Rattle.std.specs.Prelude.{◌≡◌, [], None, IfSome, drop};
 ghost use Rattle.std.specs.Iterator.{YieldsFirstBy, item_count};
 ghost use Rattle.memchr.specs.Find.{FindsNeedle};
 ghost use Rattle.h26x_cut.specs.Cutting.{AreUnits, IsNextUnit, trimmed, units_of};
-ghost use Rattle.h26x_cut.specs.Slices.{IsFirstCode, IsUnitBehind, code, units_behind};
+ghost use Rattle.h26x_cut.specs.Slices.{IsFirstCode, code, units_behind};
 
 use crate::ZeroRule;
 use memchr::memmem::Finder;
@@ -14,19 +14,14 @@ use std::ops::Range;
 /// The nearest zeros of a start code, and its mark.
 const CODE: &[u8] = &[0, 0, 1];
 
-/// What stands behind a start code of a payload, or all of one that has none.
-#[derive(Debug, Drop)]
-struct Behind<'a> {
-    bytes: &'a [u8],
-    /// Where the next start code begins in them, by its two nearest zeros.
-    next_code: Option<usize>,
-}
-
 /// The units of a payload that are left, in order, as slices of it (Annex B of H.264, H.265 and
 /// H.266).
 #[derive(Debug, Drop)]
 pub struct UnitSlices<'a> {
-    behind: Behind<'a>,
+    /// What stands behind the last start code that was passed.
+    rest: &'a [u8],
+    /// Where the next start code begins in it, by its two nearest zeros.
+    next_code: Option<usize>,
     rule: ZeroRule,
     finder: Finder<'static>,
 }
@@ -37,9 +32,9 @@ impl<'a> Model for UnitSlices<'a> {
 
     ghost Value = { List (List ℕ) };
 
-    ghost view = { λ a. units_behind a.rule a.behind.bytes.now };
+    ghost view = { λ a. units_behind a.rule a.rest.now };
 
-    ghost invariant = { λ a. IsFirstCode a.behind.bytes.now a.behind.next_code × (a.finder ≡ code) };
+    ghost invariant = { λ a. IsFirstCode a.rest.now a.next_code × (a.finder ≡ code) };
 }
 
 /// Where the first start code of bytes begins, by its two nearest zeros.
@@ -73,61 +68,16 @@ fn without_code_zeros(piece: &[u8], rule: ZeroRule) -> &[u8]
     }
 }
 
-/// What stands behind the first start code of a payload, or all of one that has none.
-fn behind_first_code<'a>(payload: &'a [u8], finder: &Finder<'static>) -> Behind<'a>
-    requires { finder.now ≡ code }
-    ensures code { IsFirstCode result.bytes.now result.next_code }
-    ensures end { (skipped : List ℕ) × (payload.now ≡ skipped ++ result.bytes.now) }
-    ensures units { (rule : ZeroRule) →
-        units_behind rule result.bytes.now ≡ units_of rule payload.now }
+/// The units of bytes that stand behind a start code.
+fn units_behind_code<'a>(bytes: &'a [u8], rule: ZeroRule, finder: Finder<'static>) -> UnitSlices<'a>
+    requires { finder ≡ code }
+    ensures { result ≡ units_behind rule bytes.now }
 {
-    match first_code(finder, payload) {
-        Some(place) => {
-            let bytes = &payload[place + CODE.len()..];
-            Behind {
-                bytes,
-                next_code: first_code(finder, bytes),
-            }
-        }
-        None => Behind {
-            bytes: payload,
-            next_code: None,
-        },
-    }
-}
-
-impl<'a> Behind<'a> {
-    /// Passes the first unit, and tells how many bytes stand before it.
-    #[inline]
-    fn pass_unit(&mut self, rule: ZeroRule, finder: &Finder<'static>) -> Option<(usize, &'a [u8])>
-        requires code { IsFirstCode self.old.bytes.now self.old.next_code }
-        requires finder { finder.now ≡ code }
-        ensures code { IsFirstCode self.new.bytes.now self.new.next_code }
-        ensures none { result ≡ None → units_behind rule self.old.bytes.now ≡ []
-            × units_behind rule self.new.bytes.now ≡ [] }
-        ensures unit { IfSome result (λ found. IsUnitBehind rule self.old.bytes.now found.0
-            found.1.now (units_behind rule self.new.bytes.now)) }
-    {
-        let len = self.bytes.len();
-        while !self.bytes.is_empty() {
-            let before = len - self.bytes.len();
-            match self.next_code {
-                Some(place) => {
-                    let unit = without_code_zeros(&self.bytes[..place], rule);
-                    self.bytes = &self.bytes[place + CODE.len()..];
-                    self.next_code = first_code(finder, self.bytes);
-                    if !unit.is_empty() {
-                        return Some((before, unit));
-                    }
-                }
-                None => {
-                    let unit = self.bytes;
-                    self.bytes = &[];
-                    return Some((before, unit));
-                }
-            }
-        }
-        None
+    UnitSlices {
+        rest: bytes,
+        next_code: first_code(&finder, bytes),
+        rule,
+        finder,
     }
 }
 
@@ -146,10 +96,14 @@ pub fn units(payload: &[u8], rule: ZeroRule) -> UnitSlices<'_>
     ensures { AreUnits rule payload.now result }
 {
     let finder = Finder::new(CODE);
-    UnitSlices {
-        behind: behind_first_code(payload, &finder),
-        rule,
-        finder,
+    match first_code(&finder, payload) {
+        Some(place) => units_behind_code(&payload[place + CODE.len()..], rule, finder),
+        None => UnitSlices {
+            rest: payload,
+            next_code: None,
+            rule,
+            finder,
+        },
     }
 }
 
@@ -171,11 +125,24 @@ pub fn next_unit(payload: &[u8], rule: ZeroRule, from: usize) -> Option<Range<us
         place.start place.end) }
 {
     let finder = Finder::new(CODE);
-    let mut behind = behind_first_code(payload.get(from..)?, &finder);
-    let begin = payload.len() - behind.bytes.len();
-    let (before, unit) = behind.pass_unit(rule, &finder)?;
-    let begin = begin + before;
-    Some(begin..begin + unit.len())
+    let behind = payload.get(from..)?;
+    let mut rest = match first_code(&finder, behind) {
+        Some(place) => &behind[place + CODE.len()..],
+        None if behind.is_empty() => return None,
+        None => return Some(from..payload.len()),
+    };
+    while !rest.is_empty() {
+        let begin = payload.len() - rest.len();
+        let Some(place) = first_code(&finder, rest) else {
+            return Some(begin..payload.len());
+        };
+        let unit = without_code_zeros(&rest[..place], rule);
+        if !unit.is_empty() {
+            return Some(begin..begin + unit.len());
+        }
+        rest = &rest[place + CODE.len()..];
+    }
+    None
 }
 
 impl<'a> Iterator for UnitSlices<'a> {
@@ -186,8 +153,24 @@ impl<'a> Iterator for UnitSlices<'a> {
     ghost remaining = { item_count (λ s. s) };
 
     fn next(&mut self) -> Option<&'a [u8]> {
-        let (_, unit) = self.behind.pass_unit(self.rule, &self.finder)?;
-        Some(unit)
+        while !self.rest.is_empty() {
+            match self.next_code {
+                Some(place) => {
+                    let unit = without_code_zeros(&self.rest[..place], self.rule);
+                    self.rest = &self.rest[place + CODE.len()..];
+                    self.next_code = first_code(&self.finder, self.rest);
+                    if !unit.is_empty() {
+                        return Some(unit);
+                    }
+                }
+                None => {
+                    let unit = self.rest;
+                    self.rest = &[];
+                    return Some(unit);
+                }
+            }
+        }
+        None
     }
 }
 
