@@ -1,12 +1,13 @@
 -- Packets that stand one behind the other.
-use Rattle.std.proofs.Common.{rules, ◌≡◌, ℕ, zero, suc, ◌+◌, ◌-◌, ◌<◌, ◌≤◌, List, [], ◌∷◌, ◌++◌, refl, sym, ap, ◌∙◌, ⊎_elim, arith, get_or, take, drop, drop-cons, set, length, length-append, append_assoc, add-one}
+use Rattle.std.proofs.Common.{rules, ◌≡◌, ℕ, zero, suc, ◌+◌, ◌-◌, ◌<◌, ◌≤◌, List, [], ◌∷◌, ◌++◌, refl, sym, ap, ◌∙◌, ⊎_elim, arith, get_or, take, drop, drop-cons, set, length, length-append, append_assoc, add-one, Vec, Global}
 use Rattle.std.proofs.Math.Seq.{take-suc, take-append_seam, drop-append-add, set-append_seam}
 use Rattle.std.proofs.lemmas.Bool.{cases_lt}
-use Rattle.std.proofs.lemmas.List.{append-nil, drop-drop, length-take-le, take-append-drop}
+use Rattle.std.proofs.lemmas.List.{append-nil, drop-drop, get_or-map, length-take-le, take-append-drop}
 use Rattle.std.proofs.lemmas.Slice.{take-put_mid, drop-put_mid}
 use borrow.Rule.Slice.PartMut.{put_mid}
 use Rattle.std.proofs.lemmas.List.Folds.{concat-append}
 use Rattle.std.specs.List.{concat}
+use Rattle.h26x_payload.specs.Sending.{contents}
 use Rattle.h26x_c.specs.Copies.{copied, ends_from, Fits, AreMost}
 
 -- one packet more
@@ -47,6 +48,12 @@ longer (suc m) (suc n) (packet ∷ packets) fewer =
     let front = length-append packet (concat (take m packets)) in
     let all = length-append packet (concat (take n packets)) in
     omega (arith, behind, front, all)
+
+-- a packet's bytes, by its place
+pub bytes_at : (packets : List (Vec ℕ Global)) (n : ℕ) (packet : Vec ℕ Global) (bytes : List ℕ) → n < length packets →
+    packet ≡ get_or packets n packet → bytes ≡ packet.items → bytes ≡ get_or (contents packets) n []
+bytes_at packets n packet bytes within is same =
+    same ∙ ap (λ (p : Vec ℕ Global). p.items) is ∙ sym (get_or-map (λ (p : Vec ℕ Global). p.items) packets n packet [] within)
 
 -- where the next packet doesn't fit, no more do
 pub are_most : (packets : List (List ℕ)) (bytes ends count : ℕ) → Fits packets bytes ends count →

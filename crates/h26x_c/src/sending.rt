@@ -200,8 +200,8 @@ pub extern "C" fn h26x_packet_copy(p: &mut Handle, i: usize, to: &mut [u8]) -> u
     }
 }
 
-/// Copies packets, from one counted from 0 on, to the front of a buffer, one behind the other, as many
-/// as there is room for, and writes where each ends; how many they are.
+/// Copies packets, from one counted from 0 on, to the front of a buffer, one behind the other, as
+/// many as there is room for, and writes where each ends; how many they are.
 #[unsafe(no_mangle)]
 pub extern "C" fn h26x_packets_copy(
     p: &mut Handle,

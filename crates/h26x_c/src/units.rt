@@ -1,24 +1,13 @@
 //! The units of payloads, by their places.
 
-ghost use Rattle.std.specs.Prelude.{◌≡◌, ◌⊎◌, [], true, false, None, Some, drop};
-ghost use Rattle.h26x_cut.specs.Cutting.{IsNextUnit, units_of};
+ghost use Rattle.std.specs.Prelude.{◌≡◌, [], true, false, None, Some, drop};
+ghost use Rattle.h26x_cut.specs.Cutting.{IsNextUnit};
 ghost use Rattle.h26x_codec.specs.Codec.{format_with};
 ghost use Rattle.h26x_codec.specs.declared.codec.Codec.{Codec};
 ghost use Rattle.h26x_c.specs.Codes.{codec_numbered};
 
 use crate::code::codec_of;
-use h26x_codec::Codec;
-use h26x_cut::{ZeroRule, next_unit};
-
-/// How payloads of a codec are cut.
-fn rule_of(codec: Codec) -> ZeroRule
-    ensures { (format_with codec false).units ≡ units_of result }
-{
-    match codec {
-        Codec::H264 | Codec::H265 => ZeroRule::All,
-        Codec::H266 => ZeroRule::AtMostThree,
-    }
-}
+use h26x_cut::next_unit;
 
 /// Where the next unit of a payload stands, from a place on.
 #[unsafe(no_mangle)]
@@ -39,7 +28,7 @@ pub extern "C" fn h26x_next_unit(
     let Some(codec) = codec_of(codec) else {
         return false;
     };
-    match next_unit(payload, rule_of(codec), from) {
+    match next_unit(payload, codec.zero_rule(), from) {
         Some(place) => {
             *begin = place.start;
             *end = place.end;

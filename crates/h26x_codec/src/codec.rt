@@ -1,5 +1,12 @@
 //! Which codecs there are.
 
+ghost use Rattle.std.specs.Prelude.{◌≡◌, Bool};
+ghost use Rattle.h26x_cut.specs.Cutting.{units_of};
+ghost use Rattle.h26x_codec.specs.Codec.{format_with};
+ghost use Rattle.h26x_codec.specs.Repeating.{rule_of};
+
+use h26x_cut::ZeroRule;
+
 /// A codec whose payload format is known.
 #[derive(Debug, Clone, Copy, PartialEq, Eq)]
 pub enum Codec {
@@ -9,4 +16,18 @@ pub enum Codec {
     H265,
     /// H.266 (RFC 9328).
     H266,
+}
+
+impl Codec {
+    /// How payloads of the codec are cut at their start codes (Annex B of H.264, H.265 and H.266).
+    pub fn zero_rule(self) -> ZeroRule
+        ensures rule { result ≡ rule_of self }
+        ensures units { (numbers : Bool) →
+            (format_with self numbers).units ≡ units_of result }
+    {
+        match self {
+            Codec::H264 | Codec::H265 => ZeroRule::All,
+            Codec::H266 => ZeroRule::AtMostThree,
+        }
+    }
 }

@@ -1,8 +1,10 @@
 //! A stream of Annex B, sent and received again unit by unit.
 
+ghost use Rattle.std.specs.Prelude.{◌≡◌, ◌≢◌, Ok, Err};
+
 use h26x_codec::{Codec, CodecDepacketizer, CodecPacketizer};
 use h26x_core::{CodecExtra, Depacketizer, PacketError, Packetizer};
-use h26x_cut::{ZeroRule, units};
+use h26x_cut::units;
 use std::alloc::Global;
 use std::fs;
 use std::io::{self, Read};
@@ -39,7 +41,13 @@ impl Counts {
         &mut self,
         outcome: Result<(), PacketError>,
         extra: CodecExtra,
-    ) -> Result<(), PacketError> {
+    ) -> Result<(), PacketError>
+        ensures memory { outcome ≡ Err PacketError.OutOfMemory →
+            (result ≡ Err PacketError.OutOfMemory) × (self.new ≡ self.old) }
+        ensures goes_on { outcome ≢ Err PacketError.OutOfMemory → result ≡ Ok tt }
+        ensures sent { (self.new.units ≡ self.old.units) × (self.new.packets ≡ self.old.packets)
+            × (self.new.bytes ≡ self.old.bytes) }
+    {
         match outcome {
             Ok(()) if is_key(extra) => self.key_units = self.key_units.saturating_add(1),
             Ok(()) => {}
@@ -47,14 +55,6 @@ impl Counts {
             Err(_) => self.refused = self.refused.saturating_add(1),
         }
         Ok(())
-    }
-}
-
-/// How the start codes of a codec's streams are cut (Annex B of H.264, H.265 and H.266).
-fn rule_of(codec: Codec) -> ZeroRule {
-    match codec {
-        Codec::H264 | Codec::H265 => ZeroRule::All,
-        Codec::H266 => ZeroRule::AtMostThree,
     }
 }
 
@@ -74,7 +74,7 @@ pub fn count(alloc: Global, codec: Codec, stream: &[u8]) -> Result<Counts, Packe
     let mut depacketizer = CodecDepacketizer::new(alloc, codec);
     let mut out = Vec::new(alloc);
     let mut counts = Counts::default();
-    for unit in units(stream, rule_of(codec)) {
+    for unit in units(stream, codec.zero_rule()) {
         counts.units = counts.units.saturating_add(1);
         for packet in &packetizer.packetize(LIMIT, unit)? {
             counts.add_packet(packet);

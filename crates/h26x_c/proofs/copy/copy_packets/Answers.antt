@@ -1,8 +1,8 @@
-use Rattle.std.proofs.Common.{rules, ◌≡◌, ◌∙◌, sym, ap, ℕ, ◌+◌, ◌<◌, [], ◌++◌, List, Vec, Global, get_or, take, length, length-append, arith}
-use Rattle.std.proofs.lemmas.List.{get_or-map, length-map}
+use Rattle.std.proofs.Common.{rules, ◌≡◌, ◌∙◌, sym, ap, ℕ, ◌+◌, ◌<◌, [], ◌++◌, List, get_or, take, length, length-append, arith}
+use Rattle.std.proofs.lemmas.List.{length-map}
 use Rattle.std.specs.List.{concat}
 use Rattle.h26x_payload.specs.Sending.{contents}
-use Rattle.h26x_c.proofs.CopyLemmas.{one_more, are_most, written_behind, end_behind, ends_copied}
+use Rattle.h26x_c.proofs.CopyLemmas.{bytes_at, one_more, are_most, written_behind, end_behind, ends_copied}
 use Rattle.h26x_c.proofs.copy.copy_packets.Goals as goal
 
 pub loop-count-preserved : goal.loop-count-preserved
@@ -11,8 +11,7 @@ loop-count-preserved c =
     let n = c.loop-count.count in
     let packet = c.as_slice-packet.result.now in
     let inside = c.loop-count.invariant in
-    let here : packet ≡ get_or packets n [] = c.as_slice-packet.ensures.value ∙ ap (λ (p : Vec ℕ Global). p.items) c.index-packets-count.is
-    ∙ sym (get_or-map (λ (p : Vec ℕ Global). p.items) c.args.packets.now n _ [] c.loop-count-test.true) in
+    let here : packet ≡ get_or packets n [] = bytes_at c.args.packets.now n c.index-packets-count.result _ c.loop-count-test.true c.index-packets-count.is c.as_slice-packet.ensures.value in
     let within : n < length packets = rw length-map c.loop-count-test.true in
     let more : concat (take (n + 1) packets) ≡ concat (take n packets) ++ packet = one_more packets n within ∙ ap (λ (x : List ℕ). concat (take n packets) ++ x) (sym here) in
     let lengths = ap length more ∙ length-append (concat (take n packets)) packet in
@@ -34,8 +33,7 @@ returns-then-packet-to c =
     let packets = contents c.args.packets.now in
     let n = c.loop-count.count in
     let inside = c.loop-count.invariant in
-    let here : c.as_slice-packet.result.now ≡ get_or packets n [] = c.as_slice-packet.ensures.value ∙ ap (λ (p : Vec ℕ Global). p.items) c.index-packets-count.is
-    ∙ sym (get_or-map (λ (p : Vec ℕ Global). p.items) c.args.packets.now n _ [] c.loop-count-test.true) in
+    let here : c.as_slice-packet.result.now ≡ get_or packets n [] = bytes_at c.args.packets.now n c.index-packets-count.result _ c.loop-count-test.true c.index-packets-count.is c.as_slice-packet.ensures.value in
     let place = inside.place in
     let so_far = inside.fits in
     let over = c.if-packet-to.true in
