@@ -17,8 +17,6 @@ pub mod laws;
 mod numbered;
 mod profile_tier_level;
 mod table;
-#[cfg(test)]
-mod tests;
 
 pub use bit_pattern::BitPattern;
 pub use h264::{H264LevelIdc, H264Profile, H264ProfileIdc, H264ProfileLevel};

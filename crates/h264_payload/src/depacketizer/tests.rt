@@ -141,20 +141,46 @@ fn refused_packets(rt: HostRuntime) -> Result<(), Fail> {
     Ok(())
 }
 
+/// A depacketizer that has taken the start of a unit.
+fn with_a_run(alloc: Global) -> Result<H264Depacketizer, PacketError> {
+    let mut d = H264Depacketizer::new(alloc);
+    let mut told = CodecExtra::None;
+    d.depacketize(&[0x7c, 0x85, 0x01], &mut Vec::new(alloc), &mut told)?;
+    Ok(d)
+}
+
+/// What a clone writes of the end of that unit.
+fn written_by_a_clone(alloc: Global) -> Result<Vec<u8>, PacketError> {
+    let mut out = Vec::new(alloc);
+    let mut told = CodecExtra::None;
+    with_a_run(alloc)?
+        .clone()?
+        .depacketize(&[0x7c, 0x45, 0x02], &mut out, &mut told)?;
+    Ok(out)
+}
+
 #[test]
 fn a_clone_goes_on(rt: HostRuntime) -> Result<(), Fail> {
-    let mut d = H264Depacketizer::new(rt.alloc());
-    let mut out = Vec::new(rt.alloc());
-    let mut told = CodecExtra::None;
-    d.depacketize(&[0x7c, 0x85, 0x01], &mut out, &mut told)?;
-    let mut other = d.clone()?;
-    assert_eq!(rt; d == other, true);
-    other.depacketize(&[0x7c, 0x45, 0x02], &mut out, &mut told)?;
     assert_eq!(rt;
-        out.as_slice(),
+        written_by_a_clone(rt.alloc())?.as_slice(),
         [0x00, 0x00, 0x00, 0x01, 0x65, 0x01, 0x02].as_slice()
     );
-    assert_eq!(rt; d == other, false);
-    assert_eq!(rt; other == H264Depacketizer::new(rt.alloc()), true);
+    Ok(())
+}
+
+#[test]
+fn a_run_is_compared(rt: HostRuntime) -> Result<(), Fail> {
+    let d = with_a_run(rt.alloc())?;
+    assert!(rt; d == d.clone()?);
+    assert!(rt; d != H264Depacketizer::new(rt.alloc()));
+    Ok(())
+}
+
+#[test]
+fn an_ended_run_is_none(rt: HostRuntime) -> Result<(), Fail> {
+    let mut d = with_a_run(rt.alloc())?;
+    let mut told = CodecExtra::None;
+    d.depacketize(&[0x7c, 0x45, 0x02], &mut Vec::new(rt.alloc()), &mut told)?;
+    assert!(rt; d == H264Depacketizer::new(rt.alloc()));
     Ok(())
 }

@@ -1,6 +1,6 @@
 use super::*;
 use crate::packetizer::H265Packetizer;
-use h26x_core::{H265CodecExtra, Packetizer};
+use h26x_core::{H265CodecExtra, H265TSCI, Packetizer};
 use std::process::Abort;
 use std::test::Fail;
 
@@ -25,6 +25,14 @@ struct Taken {
     told: CodecExtra,
 }
 
+impl Taken {
+    /// Takes one more packet.
+    fn deliver(&mut self, packet: &[u8]) -> Result<(), PacketError> {
+        self.depacketizer
+            .depacketize(packet, &mut self.out, &mut self.told)
+    }
+}
+
 /// Takes packets by a new depacketizer, with numbers or without.
 fn take(alloc: Global, is_numbered: bool, packets: &[&[u8]]) -> Result<Taken, PacketError> {
     let mut depacketizer = fresh(alloc, is_numbered);
@@ -41,7 +49,7 @@ fn take(alloc: Global, is_numbered: bool, packets: &[&[u8]]) -> Result<Taken, Pa
 }
 
 /// Whether packets bear numbers; a packet, what is written of it, and what is told.
-const ONE_PACKET: [(bool, &[u8], &[u8], CodecExtra); 11] = [
+static ONE_PACKET: [(bool, &[u8], &[u8], CodecExtra); 11] = [
     (
         false,
         &[0x02, 0x01, 0xaa],
@@ -126,7 +134,7 @@ fn one_packet(rt: HostRuntime) -> Result<(), Fail> {
 }
 
 /// Whether packets bear numbers; a packet, and why it is refused.
-const REFUSED: [(bool, &[u8], PacketError); 14] = [
+static REFUSED: [(bool, &[u8], PacketError); 14] = [
     (false, &[], PacketError::ErrShortPacket),
     (false, &[0x02, 0x01], PacketError::ErrShortPacket),
     (false, &[0x80, 0x01], PacketError::ErrShortPacket),
@@ -194,36 +202,39 @@ const AGGREGATE: [u8; 11] = [
     0x60, 0x01, 0x00, 0x03, 0x02, 0x01, 0xaa, 0x00, 0x02, 0x02, 0x01,
 ];
 
-/// Takes an aggregate of two units behind a front of it of this length, which is refused.
-fn take_behind_a_front(rt: &impl Abort, alloc: Global, len: usize) -> Result<(), Fail> {
-    let mut d = H265Depacketizer::new(alloc);
-    let mut out = Vec::new(alloc);
-    let mut told = CodecExtra::None;
-    let answer = d.depacketize(AGGREGATE.get(..len).unwrap_or(&[]), &mut out, &mut told);
-    assert_eq!(rt;
-        (answer, out.len()),
-        (Err(PacketError::ErrShortPacket), 0),
-        "at {len}"
-    );
-    d.depacketize(&AGGREGATE, &mut out, &mut told)?;
-    assert_eq!(rt;
-        out.as_slice(),
-        [0, 0, 0, 1, 0x02, 0x01, 0xaa, 0, 0, 0, 1, 0x02, 0x01].as_slice(),
-        "at {len}"
-    );
-    Ok(())
+/// What is written of it.
+const AGGREGATE_WRITTEN: [u8; 13] = [0, 0, 0, 1, 0x02, 0x01, 0xaa, 0, 0, 0, 1, 0x02, 0x01];
+
+/// What a front of the aggregate of this length is answered; what is written of it, and of the
+/// whole one behind it.
+fn take_behind_a_front(
+    alloc: Global,
+    len: usize,
+) -> Result<(Result<(), PacketError>, Vec<u8>), PacketError> {
+    let mut taken = take(alloc, false, &[])?;
+    let answer = taken.deliver(AGGREGATE.get(..len).unwrap_or(&[]));
+    taken.deliver(&AGGREGATE)?;
+    Ok((answer, taken.out))
 }
 
 #[test]
 fn fronts_of_an_aggregate(rt: HostRuntime) -> Result<(), Fail> {
     for len in 0..AGGREGATE.len() {
-        take_behind_a_front(&rt, rt.alloc(), len)?;
+        let (answer, out) = take_behind_a_front(rt.alloc(), len)?;
+        assert_eq!(rt;
+            (answer, out.as_slice()),
+            (
+                Err(PacketError::ErrShortPacket),
+                AGGREGATE_WRITTEN.as_slice()
+            ),
+            "at {len}"
+        );
     }
     Ok(())
 }
 
 /// A unit in two fragments, and an aggregate and a PACI packet between them.
-const RUN: [&[u8]; 4] = [
+static RUN: [&[u8]; 4] = [
     &[0x62, 0x01, 0x93, 0xaa],
     &[
         0x60, 0x01, 0x00, 0x03, 0x02, 0x01, 0xbb, 0x00, 0x03, 0x02, 0x01, 0xcc,
@@ -271,10 +282,7 @@ fn refusals_within_a_run(rt: HostRuntime) -> Result<(), Fail> {
             PacketError::ErrH265CorruptedPacket,
         ),
     ] {
-        let answer = taken
-            .depacketizer
-            .depacketize(packet, &mut taken.out, &mut taken.told);
-        assert_eq!(rt; answer, Err(error));
+        assert_eq!(rt; taken.deliver(packet), Err(error));
         assert!(rt; taken.depacketizer == before);
     }
     Ok(())
@@ -283,17 +291,11 @@ fn refusals_within_a_run(rt: HostRuntime) -> Result<(), Fail> {
 #[test]
 fn a_run_goes_on_behind_refusals(rt: HostRuntime) -> Result<(), Fail> {
     let mut taken = take(rt.alloc(), false, &[&START])?;
-    let before = taken.depacketizer.clone()?;
     for packet in [[0x62, 0x01, 0x93].as_slice(), &[0xe2, 0x01, 0x93, 0xaa]] {
-        let _refusal = taken
-            .depacketizer
-            .depacketize(packet, &mut taken.out, &mut taken.told);
+        let _refusal = taken.deliver(packet);
     }
-    taken
-        .depacketizer
-        .depacketize(&END, &mut taken.out, &mut taken.told)?;
+    taken.deliver(&END)?;
     assert_eq!(rt; taken.out.as_slice(), WRITTEN.as_slice());
-    assert!(rt; taken.depacketizer != before);
     Ok(())
 }
 
@@ -301,10 +303,14 @@ fn a_run_goes_on_behind_refusals(rt: HostRuntime) -> Result<(), Fail> {
 fn a_setting_changed_within_a_run(rt: HostRuntime) -> Result<(), Fail> {
     let mut taken = take(rt.alloc(), true, &[&NUMBERED_START])?;
     taken.depacketizer.with_donl(false);
-    taken
-        .depacketizer
-        .depacketize(&END, &mut taken.out, &mut taken.told)?;
+    taken.deliver(&END)?;
     assert_eq!(rt; taken.out.as_slice(), WRITTEN.as_slice());
+    Ok(())
+}
+
+#[test]
+fn an_open_run_is_another_state(rt: HostRuntime) -> Result<(), Fail> {
+    let taken = take(rt.alloc(), false, &[&START])?;
     assert!(rt; taken.depacketizer != H265Depacketizer::new(rt.alloc()));
     Ok(())
 }
@@ -356,11 +362,11 @@ fn show_fragment(
         (
             fragment.payload_header().0,
             fragment.fu_header().0,
-            fragment.donl()
+            fragment.donl(),
+            fragment.payload()
         ),
-        (0x6201, marks, donl)
+        (0x6201, marks, donl, [payload].as_slice())
     );
-    assert_eq!(rt; fragment.payload(), [payload].as_slice());
     Ok(())
 }
 
@@ -442,14 +448,12 @@ fn paci_packets_shown(rt: HostRuntime) -> Result<(), Fail> {
         (
             paci.payload_header().0,
             paci.ctype(),
-            paci.tsci().map(|tsci| tsci.0)
+            paci.phes(),
+            paci.payload()
         ),
-        (0x6401, 19, Some(0x1122_3300))
+        (0x6401, 19, [0x11, 0x22, 0x33].as_slice(), [0xaa].as_slice())
     );
-    assert_eq!(rt;
-        (paci.phes(), paci.payload()),
-        ([0x11, 0x22, 0x33].as_slice(), [0xaa].as_slice())
-    );
+    assert_eq!(rt; paci.tsci(), Some(H265TSCI(0x1122_3300)));
     Ok(())
 }
 
@@ -498,25 +502,29 @@ fn hints(rt: HostRuntime) {
 }
 
 #[test]
-fn a_bare_header_is_sent_and_refused(rt: HostRuntime) -> Result<(), Fail> {
+fn a_bare_header_is_sent(rt: HostRuntime) -> Result<(), Fail> {
     let packets = H265Packetizer::new(rt.alloc()).packetize(100, &[0x02, 0x01])?;
-    assert_eq!(rt; packets.len(), 1);
-    let mut out = Vec::new(rt.alloc());
-    let mut told = CodecExtra::None;
     assert_eq!(rt;
-        H265Depacketizer::new(rt.alloc()).depacketize(&packets[0], &mut out, &mut told),
-        Err(PacketError::ErrShortPacket)
+        (packets.len(), packets[0].as_slice()),
+        (1, [0x02, 0x01].as_slice())
     );
     Ok(())
 }
 
+/// What a clone writes of the end of a run whose start the original has taken.
+fn written_by_a_clone(alloc: Global) -> Result<Vec<u8>, PacketError> {
+    let mut out = Vec::new(alloc);
+    let mut told = CodecExtra::None;
+    take(alloc, true, &[&NUMBERED_START])?
+        .depacketizer
+        .clone()?
+        .depacketize(&END, &mut out, &mut told)?;
+    Ok(out)
+}
+
 #[test]
 fn a_clone_goes_on(rt: HostRuntime) -> Result<(), Fail> {
-    let mut taken = take(rt.alloc(), true, &[&NUMBERED_START])?;
-    let mut other = taken.depacketizer.clone()?;
-    assert!(rt; taken.depacketizer == other);
-    other.depacketize(&END, &mut taken.out, &mut taken.told)?;
-    assert_eq!(rt; taken.out.as_slice(), WRITTEN.as_slice());
-    assert!(rt; taken.depacketizer != other);
+    let out = written_by_a_clone(rt.alloc())?;
+    assert_eq!(rt; out.as_slice(), WRITTEN.as_slice());
     Ok(())
 }

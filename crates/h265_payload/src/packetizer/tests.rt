@@ -8,7 +8,7 @@ const UNITS: [u8; 24] = [
 ];
 
 /// The sets in one aggregate with numbers, and the key unit.
-const NUMBERED: [&[u8]; 2] = [
+static NUMBERED: [&[u8]; 2] = [
     &[
         0x60, 1, 0, 0, 0, 3, 0x40, 1, 0x0c, 0, 0, 3, 0x42, 1, 1, 0, 0, 3, 0x44, 1, 0xc1,
     ],

@@ -196,14 +196,21 @@ fn refusals_within_a_run(rt: HostRuntime) -> Result<(), Fail> {
     Ok(())
 }
 
-#[test]
-fn a_run_stays_open(rt: HostRuntime) -> Result<(), Fail> {
-    let mut d = H266Depacketizer::new(rt.alloc());
-    let mut out = Vec::new(rt.alloc());
+/// What is written of a unit in two fragments, and told, where numbers are expected from the second
+/// on.
+fn change_between_fragments(alloc: Global) -> Result<(Vec<u8>, CodecExtra), PacketError> {
+    let mut d = H266Depacketizer::new(alloc);
+    let mut out = Vec::new(alloc);
     let mut told = CodecExtra::None;
     d.depacketize(&[0x00, 0xe9, 0x81, 0xaa], &mut out, &mut told)?;
     d.with_donl(true);
     d.depacketize(&[0x00, 0xe9, 0x41, 0xbb], &mut out, &mut told)?;
+    Ok((out, told))
+}
+
+#[test]
+fn a_run_stays_open(rt: HostRuntime) -> Result<(), Fail> {
+    let (out, told) = change_between_fragments(rt.alloc())?;
     assert_eq!(rt;
         (out.as_slice(), told),
         (
@@ -260,22 +267,57 @@ fn hints(rt: HostRuntime) {
     }
 }
 
+/// A depacketizer that has taken the start of a unit.
+fn with_a_run(alloc: Global) -> Result<H266Depacketizer, PacketError> {
+    let mut d = H266Depacketizer::new(alloc);
+    let mut told = CodecExtra::None;
+    d.depacketize(&[0x00, 0xe9, 0x87, 0x01], &mut Vec::new(alloc), &mut told)?;
+    Ok(d)
+}
+
+/// What a clone writes of the end of that unit.
+fn written_by_a_clone(alloc: Global) -> Result<Vec<u8>, PacketError> {
+    let mut out = Vec::new(alloc);
+    let mut told = CodecExtra::None;
+    with_a_run(alloc)?
+        .clone()?
+        .depacketize(&[0x00, 0xe9, 0x47, 0x02], &mut out, &mut told)?;
+    Ok(out)
+}
+
 #[test]
 fn a_clone_goes_on(rt: HostRuntime) -> Result<(), Fail> {
-    let mut d = H266Depacketizer::new(rt.alloc());
-    let mut out = Vec::new(rt.alloc());
-    let mut told = CodecExtra::None;
-    d.depacketize(&[0x00, 0xe9, 0x87, 0x01], &mut out, &mut told)?;
-    let mut other = d.clone()?;
-    assert!(rt; d == other);
-    other.depacketize(&[0x00, 0xe9, 0x47, 0x02], &mut out, &mut told)?;
     assert_eq!(rt;
-        out.as_slice(),
+        written_by_a_clone(rt.alloc())?.as_slice(),
         [0x00, 0x00, 0x00, 0x01, 0x00, 0x39, 0x01, 0x02].as_slice()
     );
-    assert!(rt; d != other);
-    assert!(rt; other == H266Depacketizer::new(rt.alloc()));
-    other.with_donl(true);
-    assert!(rt; other != H266Depacketizer::new(rt.alloc()));
     Ok(())
+}
+
+#[test]
+fn a_run_is_compared(rt: HostRuntime) -> Result<(), Fail> {
+    let d = with_a_run(rt.alloc())?;
+    assert!(rt; d == d.clone()?);
+    assert!(rt; d != H266Depacketizer::new(rt.alloc()));
+    Ok(())
+}
+
+#[test]
+fn an_ended_run_is_none(rt: HostRuntime) -> Result<(), Fail> {
+    let mut d = with_a_run(rt.alloc())?;
+    let mut told = CodecExtra::None;
+    d.depacketize(
+        &[0x00, 0xe9, 0x47, 0x02],
+        &mut Vec::new(rt.alloc()),
+        &mut told,
+    )?;
+    assert!(rt; d == H266Depacketizer::new(rt.alloc()));
+    Ok(())
+}
+
+#[test]
+fn the_setting_is_compared(rt: HostRuntime) {
+    let mut d = H266Depacketizer::new(rt.alloc());
+    d.with_donl(true);
+    assert!(rt; d != H266Depacketizer::new(rt.alloc()));
 }

@@ -47,26 +47,49 @@ fn codecs_by_their_numbers(rt: HostRuntime) -> Result<(), Fail> {
     Ok(())
 }
 
-#[test]
-fn codecs_wanted(rt: HostRuntime) -> Result<(), Fail> {
-    assert_eq!(rt; codec_wanted(264, false), Ok(Codec::H264));
-    assert_eq!(rt; codec_wanted(264, true), Err(NOT_OF_THIS_CODEC));
-    assert_eq!(rt; codec_wanted(265, true), Ok(Codec::H265));
-    assert_eq!(rt; codec_wanted(266, true), Ok(Codec::H266));
-    assert_eq!(rt; codec_wanted(267, true), Err(UNKNOWN_CODEC));
-    assert_eq!(rt; codec_wanted(0, false), Err(UNKNOWN_CODEC));
-    Ok(())
-}
+/// A codec's number, whether numbers are wanted, and the codec or the refusal.
+static WANTED: [(u32, bool, Result<Codec, u32>); 6] = [
+    (264, false, Ok(Codec::H264)),
+    (264, true, Err(NOT_OF_THIS_CODEC)),
+    (265, true, Ok(Codec::H265)),
+    (266, true, Ok(Codec::H266)),
+    (267, true, Err(UNKNOWN_CODEC)),
+    (0, false, Err(UNKNOWN_CODEC)),
+];
 
 #[test]
-fn extras_there_and_back(rt: HostRuntime) -> Result<(), Fail> {
-    let key = CodecExtra::H265(H265CodecExtra { is_keyframe: true });
-    let other = CodecExtra::H266(H266CodecExtra { is_keyframe: false });
-    assert_eq!(rt; extra_of(Codec::H264, 0), CodecExtra::None);
-    assert_eq!(rt; extra_of(Codec::H265, 2), key);
-    assert_eq!(rt; extra_of(Codec::H266, 1), other);
-    assert_eq!(rt; number_of(CodecExtra::None), 0);
-    assert_eq!(rt; number_of(key), 2);
-    assert_eq!(rt; number_of(other), 1);
-    Ok(())
+fn codecs_wanted(rt: HostRuntime) {
+    for (number, numbers, want) in WANTED {
+        assert_eq!(rt; codec_wanted(number, numbers), want, "{number}");
+    }
+}
+
+/// A codec's extra, and its number.
+static EXTRAS: [(Codec, CodecExtra, u8); 4] = [
+    (Codec::H264, CodecExtra::None, 0),
+    (
+        Codec::H264,
+        CodecExtra::H264(H264CodecExtra { is_keyframe: false }),
+        1,
+    ),
+    (
+        Codec::H265,
+        CodecExtra::H265(H265CodecExtra { is_keyframe: true }),
+        2,
+    ),
+    (
+        Codec::H266,
+        CodecExtra::H266(H266CodecExtra { is_keyframe: false }),
+        1,
+    ),
+];
+
+#[test]
+fn extras_there_and_back(rt: HostRuntime) {
+    for (codec, extra, number) in EXTRAS {
+        assert_eq!(rt;
+            (extra_of(codec, number), number_of(extra)),
+            (extra, number)
+        );
+    }
 }

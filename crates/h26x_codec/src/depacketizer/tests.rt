@@ -13,147 +13,203 @@ fn key_of(codec: Codec) -> CodecExtra {
     }
 }
 
+/// Of each codec a key unit, the same in two fragments, and what is written of it.
+static KEY_UNITS: [(Codec, &[u8], [&[u8]; 2], &[u8]); 3] = [
+    (
+        Codec::H264,
+        &[0x65, 1, 2],
+        [&[0x7c, 0x85, 1], &[0x7c, 0x45, 2]],
+        &[0, 0, 0, 1, 0x65, 1, 2],
+    ),
+    (
+        Codec::H265,
+        &[0x26, 1, 1, 2],
+        [&[0x62, 1, 0x93, 1], &[0x62, 1, 0x53, 2]],
+        &[0, 0, 0, 1, 0x26, 1, 1, 2],
+    ),
+    (
+        Codec::H266,
+        &[0, 0x39, 1, 2],
+        [&[0, 0xe9, 0x87, 1], &[0, 0xe9, 0x47, 2]],
+        &[0, 0, 0, 1, 0, 0x39, 1, 2],
+    ),
+];
+
+/// What a new end of this codec writes of packets, and tells.
+fn take(
+    alloc: Global,
+    codec: Codec,
+    packets: &[&[u8]],
+) -> Result<(Vec<u8>, CodecExtra), PacketError> {
+    let mut depacketizer = CodecDepacketizer::new(alloc, codec);
+    let mut out = Vec::new(alloc);
+    let mut extra = CodecExtra::None;
+    for packet in packets {
+        depacketizer.depacketize(packet, &mut out, &mut extra)?;
+    }
+    Ok((out, extra))
+}
+
 #[test]
 fn each_packet_reaches_its_codec(rt: HostRuntime) -> Result<(), Fail> {
-    // A key unit of each codec, in one packet and in two fragments.
-    let table: [(Codec, &[u8], &[&[u8]]); 3] = [
-        (
-            Codec::H264,
-            &[0x65, 1, 2],
-            &[&[0x7c, 0x85, 1], &[0x7c, 0x45, 2]],
-        ),
-        (
-            Codec::H265,
-            &[0x26, 1, 1, 2],
-            &[&[0x62, 1, 0x93, 1], &[0x62, 1, 0x53, 2]],
-        ),
-        (
-            Codec::H266,
-            &[0, 0x39, 1, 2],
-            &[&[0, 0xe9, 0x87, 1], &[0, 0xe9, 0x47, 2]],
-        ),
-    ];
-    for (codec, unit, fragments) in table {
-        let mut depacketizer = CodecDepacketizer::new(rt.alloc(), codec);
-        let mut out = Vec::new(rt.alloc());
-        let mut extra = CodecExtra::None;
-        depacketizer.depacketize(unit, &mut out, &mut extra)?;
-        assert_eq!(rt; extra, key_of(codec), "{codec:?}");
-        let mut want = ANNEXB_NALUSTART_CODE.to_vec(rt.alloc())?;
-        want.extend_from_slice(unit)?;
-        assert_eq!(rt; out, want, "{codec:?}");
-        let mut out = Vec::new(rt.alloc());
-        for fragment in fragments {
-            depacketizer.depacketize(fragment, &mut out, &mut extra)?;
-        }
-        assert_eq!(rt; out, want, "{codec:?}");
-        let hint = depacketizer.out_size_hint(2400);
-        assert_eq!(rt; hint, Some(2412), "{codec:?}");
-        let refused = depacketizer.depacketize(&[], &mut out, &mut extra);
-        assert_eq!(rt; refused, Err(PacketError::ErrShortPacket), "{codec:?}");
-        assert_eq!(rt; out, want, "{codec:?}");
-        assert_eq!(rt; extra, key_of(codec), "{codec:?}");
+    for (codec, unit, _, written) in KEY_UNITS {
+        let (out, extra) = take(rt.alloc(), codec, &[unit])?;
+        assert_eq!(rt;
+            (out.as_slice(), extra),
+            (written, key_of(codec)),
+            "{codec:?}"
+        );
     }
     Ok(())
+}
+
+#[test]
+fn each_fragment_reaches_its_codec(rt: HostRuntime) -> Result<(), Fail> {
+    for (codec, _, fragments, written) in KEY_UNITS {
+        let (out, extra) = take(rt.alloc(), codec, &fragments)?;
+        assert_eq!(rt;
+            (out.as_slice(), extra),
+            (written, key_of(codec)),
+            "{codec:?}"
+        );
+    }
+    Ok(())
+}
+
+/// What an empty packet behind this one is answered, and what is written and told by then.
+fn refuse_behind(
+    alloc: Global,
+    codec: Codec,
+    packet: &[u8],
+) -> Result<(Result<(), PacketError>, Vec<u8>, CodecExtra), PacketError> {
+    let mut depacketizer = CodecDepacketizer::new(alloc, codec);
+    let mut out = Vec::new(alloc);
+    let mut extra = CodecExtra::None;
+    depacketizer.depacketize(packet, &mut out, &mut extra)?;
+    let answer = depacketizer.depacketize(&[], &mut out, &mut extra);
+    Ok((answer, out, extra))
+}
+
+#[test]
+fn a_refusal_leaves_what_was_written_and_told(rt: HostRuntime) -> Result<(), Fail> {
+    for (codec, unit, _, written) in KEY_UNITS {
+        let (answer, out, extra) = refuse_behind(rt.alloc(), codec, unit)?;
+        assert_eq!(rt;
+            (answer, out.as_slice(), extra),
+            (Err(PacketError::ErrShortPacket), written, key_of(codec)),
+            "{codec:?}"
+        );
+    }
+    Ok(())
+}
+
+#[test]
+fn hints(rt: HostRuntime) {
+    for codec in CODECS {
+        let depacketizer = CodecDepacketizer::new(rt.alloc(), codec);
+        assert_eq!(rt; depacketizer.out_size_hint(2400), Some(2412), "{codec:?}");
+    }
+}
+
+/// What is written of two fragments, and told, where the run is given up between them.
+fn give_up_between(
+    alloc: Global,
+    codec: Codec,
+    [start, end]: [&[u8]; 2],
+) -> Result<(Vec<u8>, CodecExtra), PacketError> {
+    let mut depacketizer = CodecDepacketizer::new(alloc, codec);
+    let mut out = Vec::new(alloc);
+    let mut extra = CodecExtra::None;
+    depacketizer.depacketize(start, &mut out, &mut extra)?;
+    depacketizer.give_up_run();
+    depacketizer.depacketize(end, &mut out, &mut extra)?;
+    Ok((out, extra))
 }
 
 #[test]
 fn a_run_that_is_given_up(rt: HostRuntime) -> Result<(), Fail> {
-    let table: [(Codec, &[u8], &[u8]); 3] = [
-        (Codec::H264, &[0x7c, 0x85, 1], &[0x7c, 0x45, 2]),
-        (Codec::H265, &[0x62, 1, 0x93, 1], &[0x62, 1, 0x53, 2]),
-        (Codec::H266, &[0, 0xe9, 0x87, 1], &[0, 0xe9, 0x47, 2]),
-    ];
-    for (codec, start, end) in table {
-        let mut depacketizer = CodecDepacketizer::new(rt.alloc(), codec);
-        let mut out = Vec::new(rt.alloc());
-        let mut extra = CodecExtra::None;
-        depacketizer.depacketize(start, &mut out, &mut extra)?;
-        depacketizer.give_up_run();
-        depacketizer.depacketize(end, &mut out, &mut extra)?;
-        assert!(rt; out.is_empty(), "{codec:?}");
-        assert_eq!(rt; extra, CodecExtra::None, "{codec:?}");
+    for (codec, _, fragments, _) in KEY_UNITS {
+        let (out, extra) = give_up_between(rt.alloc(), codec, fragments)?;
+        assert_eq!(rt; (out.len(), extra), (0, CodecExtra::None), "{codec:?}");
     }
     Ok(())
 }
 
+/// A packet, and for each codec whether it is a head, and whether it is a tail without the marker
+/// bit and with it.
+static HEADS_AND_TAILS: [(&[u8], [[bool; 3]; 3]); 6] = [
+    (
+        &[0x7c, 0x05, 1],
+        [
+            [false, false, true],
+            [true, false, true],
+            [true, false, true],
+        ],
+    ),
+    (
+        &[0x7c, 0x85, 1],
+        [
+            [true, false, true],
+            [true, false, true],
+            [true, false, true],
+        ],
+    ),
+    (
+        &[0x62, 1, 0x53, 2],
+        [
+            [true, false, true],
+            [false, true, true],
+            [true, false, true],
+        ],
+    ),
+    (
+        &[0x62, 1, 0x93, 2],
+        [
+            [true, false, true],
+            [true, false, false],
+            [true, false, true],
+        ],
+    ),
+    (
+        &[0, 0xe9, 0x47, 2],
+        [
+            [true, false, true],
+            [true, false, true],
+            [false, true, true],
+        ],
+    ),
+    (
+        &[1],
+        [
+            [false, false, true],
+            [false, false, false],
+            [false, false, false],
+        ],
+    ),
+];
+
+/// What an end of this codec answers of a packet: whether it is a head, and whether it is a tail
+/// without the marker bit and with it.
+fn head_and_tails(alloc: Global, codec: Codec, packet: &[u8]) -> [bool; 3] {
+    let depacketizer = CodecDepacketizer::new(alloc, codec);
+    [
+        depacketizer.is_partition_head(packet),
+        depacketizer.is_partition_tail(false, packet),
+        depacketizer.is_partition_tail(true, packet),
+    ]
+}
+
 #[test]
-fn heads_and_tails(rt: HostRuntime) -> Result<(), Fail> {
-    // A packet, and for each codec whether it is a head, and whether it is a tail without the
-    // marker bit and with it.
-    let table: [(&[u8], [[bool; 3]; 3]); 6] = [
-        (
-            &[0x7c, 0x05, 1],
-            [
-                [false, false, true],
-                [true, false, true],
-                [true, false, true],
-            ],
-        ),
-        (
-            &[0x7c, 0x85, 1],
-            [
-                [true, false, true],
-                [true, false, true],
-                [true, false, true],
-            ],
-        ),
-        (
-            &[0x62, 1, 0x53, 2],
-            [
-                [true, false, true],
-                [false, true, true],
-                [true, false, true],
-            ],
-        ),
-        (
-            &[0x62, 1, 0x93, 2],
-            [
-                [true, false, true],
-                [true, false, false],
-                [true, false, true],
-            ],
-        ),
-        (
-            &[0, 0xe9, 0x47, 2],
-            [
-                [true, false, true],
-                [true, false, true],
-                [false, true, true],
-            ],
-        ),
-        (
-            &[1],
-            [
-                [false, false, true],
-                [false, false, false],
-                [false, false, false],
-            ],
-        ),
-    ];
-    for (packet, want) in table {
-        for place in 0..3 {
-            let depacketizer = CodecDepacketizer::new(rt.alloc(), CODECS[place]);
-            let [head, unmarked, marked] = want[place];
-            let codec = CODECS[place];
+fn heads_and_tails(rt: HostRuntime) {
+    for (packet, want) in HEADS_AND_TAILS {
+        for (codec, want) in CODECS.into_iter().zip(want) {
             assert_eq!(rt;
-                depacketizer.is_partition_head(packet),
-                head,
-                "{codec:?} {packet:?}"
-            );
-            assert_eq!(rt;
-                depacketizer.is_partition_tail(false, packet),
-                unmarked,
-                "{codec:?} {packet:?}"
-            );
-            assert_eq!(rt;
-                depacketizer.is_partition_tail(true, packet),
-                marked,
+                head_and_tails(rt.alloc(), codec, packet),
+                want,
                 "{codec:?} {packet:?}"
             );
         }
     }
-    Ok(())
 }
 
 #[test]

@@ -2,20 +2,26 @@ use super::*;
 
 #[test]
 fn fields_of_headers(rt: HostRuntime) {
-    for ((high, low), f, nalu_type, layer_id, tid) in [
-        ((0x26, 0x01), false, 19, 0, 1),
-        ((0x64, 0x01), false, 50, 0, 1),
-        ((0x80, 0x00), true, 0, 0, 0),
-        ((0x7e, 0x00), false, 63, 0, 0),
-        ((0x01, 0x00), false, 0, 32, 0),
-        ((0x00, 0x0a), false, 0, 1, 2),
-        ((0xff, 0xff), true, 63, 63, 7),
+    // F, the type, the layer's id and the temporal id.
+    for (high, low, fields) in [
+        (0x26, 0x01, (false, 19, 0, 1)),
+        (0x64, 0x01, (false, 50, 0, 1)),
+        (0x80, 0x00, (true, 0, 0, 0)),
+        (0x7e, 0x00, (false, 63, 0, 0)),
+        (0x01, 0x00, (false, 0, 32, 0)),
+        (0x00, 0x0a, (false, 0, 1, 2)),
+        (0xff, 0xff, (true, 63, 63, 7)),
     ] {
         let header = H265NALUHeader::new(high, low);
-        assert_eq!(rt; header.f(), f, "at {header:?}");
-        assert_eq!(rt; header.nalu_type(), nalu_type, "at {header:?}");
-        assert_eq!(rt; header.layer_id(), layer_id, "at {header:?}");
-        assert_eq!(rt; header.tid(), tid, "at {header:?}");
+        assert_eq!(rt;
+            (
+                header.f(),
+                header.nalu_type(),
+                header.layer_id(),
+                header.tid()
+            ),
+            fields
+        );
     }
 }
 
@@ -33,43 +39,53 @@ fn headers_by_their_fields(rt: HostRuntime) {
 
 #[test]
 fn types(rt: HostRuntime) {
-    for (nalu_type, vcl, idr, irap) in [
-        (1, true, false, false),
-        (15, true, false, false),
-        (16, true, false, true),
-        (18, true, false, true),
-        (19, true, true, true),
-        (20, true, true, true),
-        (21, true, false, true),
-        (22, true, false, false),
-        (31, true, false, false),
-        (32, false, false, false),
-        (51, false, false, false),
+    // Whether it is a VCL unit's, an IDR picture's, an IRAP picture's.
+    for (nalu_type, pictures) in [
+        (1, (true, false, false)),
+        (15, (true, false, false)),
+        (16, (true, false, true)),
+        (18, (true, false, true)),
+        (19, (true, true, true)),
+        (20, (true, true, true)),
+        (21, (true, false, true)),
+        (22, (true, false, false)),
+        (31, (true, false, false)),
+        (32, (false, false, false)),
+        (51, (false, false, false)),
     ] {
         let header = H265NALUHeader(nalu_type << 9);
-        assert_eq!(rt; header.is_type_vcl_unit(), vcl, "at type {nalu_type}");
-        assert_eq!(rt; header.is_idr_picture(), idr, "at type {nalu_type}");
-        assert_eq!(rt; header.is_irap(), irap, "at type {nalu_type}");
+        assert_eq!(rt;
+            (
+                header.is_type_vcl_unit(),
+                header.is_idr_picture(),
+                header.is_irap()
+            ),
+            pictures,
+            "at type {nalu_type}"
+        );
     }
-    for (nalu_type, aggregation, fragmentation, paci) in [
-        (47, false, false, false),
-        (48, true, false, false),
-        (49, false, true, false),
-        (50, false, false, true),
-        (51, false, false, false),
+}
+
+#[test]
+fn types_of_packets(rt: HostRuntime) {
+    // Whether it is an aggregate's, a fragment's, a PACI packet's.
+    for (nalu_type, packets) in [
+        (47, (false, false, false)),
+        (48, (true, false, false)),
+        (49, (false, true, false)),
+        (50, (false, false, true)),
+        (51, (false, false, false)),
     ] {
         let header = H265NALUHeader(nalu_type << 9);
         assert_eq!(rt;
-            header.is_aggregation_packet(),
-            aggregation,
+            (
+                header.is_aggregation_packet(),
+                header.is_fragmentation_unit(),
+                header.is_paci_packet()
+            ),
+            packets,
             "at type {nalu_type}"
         );
-        assert_eq!(rt;
-            header.is_fragmentation_unit(),
-            fragmentation,
-            "at type {nalu_type}"
-        );
-        assert_eq!(rt; header.is_paci_packet(), paci, "at type {nalu_type}");
     }
 }
 
@@ -82,10 +98,10 @@ fn fragment_headers(rt: HostRuntime) {
         (true, false, 32, 0xa0),
     ] {
         let header = H265FragmentationUnitHeader::new(s, e, fu_type);
-        assert_eq!(rt; header, H265FragmentationUnitHeader(word), "at {word}");
-        assert_eq!(rt; header.s(), s, "at {word}");
-        assert_eq!(rt; header.e(), e, "at {word}");
-        assert_eq!(rt; header.fu_type(), fu_type, "at {word}");
+        assert_eq!(rt;
+            (header.0, header.s(), header.e(), header.fu_type()),
+            (word, s, e, fu_type)
+        );
     }
     let masked = H265FragmentationUnitHeader::new(false, false, 0xc1);
     assert_eq!(rt; masked, H265FragmentationUnitHeader(0x01));
@@ -93,19 +109,26 @@ fn fragment_headers(rt: HostRuntime) {
 
 #[test]
 fn control_information(rt: HostRuntime) {
-    for (word, tl0picidx, irap_pic_id, s, e, res) in [
-        (0x11223300, 0x11, 0x22, false, false, 0x33),
-        (0x00008000, 0, 0, true, false, 0),
-        (0x00004000, 0, 0, false, true, 0),
-        (0x000000ff, 0, 0, false, false, 0),
-        (0xffffffff, 0xff, 0xff, true, true, 0x3f),
+    // TL0PICIDX, IrapPicID, S, E and RES.
+    for (word, fields) in [
+        (0x11223300, (0x11, 0x22, false, false, 0x33)),
+        (0x00008000, (0, 0, true, false, 0)),
+        (0x00004000, (0, 0, false, true, 0)),
+        (0x000000ff, (0, 0, false, false, 0)),
+        (0xffffffff, (0xff, 0xff, true, true, 0x3f)),
     ] {
         let tsci = H265TSCI(word);
-        assert_eq!(rt; tsci.tl0picidx(), tl0picidx, "at {word}");
-        assert_eq!(rt; tsci.irap_pic_id(), irap_pic_id, "at {word}");
-        assert_eq!(rt; tsci.s(), s, "at {word}");
-        assert_eq!(rt; tsci.e(), e, "at {word}");
-        assert_eq!(rt; tsci.res(), res, "at {word}");
+        assert_eq!(rt;
+            (
+                tsci.tl0picidx(),
+                tsci.irap_pic_id(),
+                tsci.s(),
+                tsci.e(),
+                tsci.res()
+            ),
+            fields,
+            "at {word}"
+        );
     }
 }
 

@@ -2,21 +2,27 @@ use super::*;
 
 #[test]
 fn fields_of_headers(rt: HostRuntime) {
-    for ((high, low), f, z, layer_id, nalu_type, tid) in [
-        ((0x05, 0x39), false, false, 5, 7, 1),
-        ((0x80, 0x00), true, false, 0, 0, 0),
-        ((0x40, 0x00), false, true, 0, 0, 0),
-        ((0x3f, 0x00), false, false, 63, 0, 0),
-        ((0x00, 0xf8), false, false, 0, 31, 0),
-        ((0x00, 0x07), false, false, 0, 0, 7),
-        ((0xff, 0xff), true, true, 63, 31, 7),
+    // F, Z, the layer's id, the type and the temporal id.
+    for (high, low, fields) in [
+        (0x05, 0x39, (false, false, 5, 7, 1)),
+        (0x80, 0x00, (true, false, 0, 0, 0)),
+        (0x40, 0x00, (false, true, 0, 0, 0)),
+        (0x3f, 0x00, (false, false, 63, 0, 0)),
+        (0x00, 0xf8, (false, false, 0, 31, 0)),
+        (0x00, 0x07, (false, false, 0, 0, 7)),
+        (0xff, 0xff, (true, true, 63, 31, 7)),
     ] {
         let header = H266NALUHeader::new(high, low);
-        assert_eq!(rt; header.f(), f, "at {header:?}");
-        assert_eq!(rt; header.z(), z, "at {header:?}");
-        assert_eq!(rt; header.layer_id(), layer_id, "at {header:?}");
-        assert_eq!(rt; header.nalu_type(), nalu_type, "at {header:?}");
-        assert_eq!(rt; header.tid(), tid, "at {header:?}");
+        assert_eq!(rt;
+            (
+                header.f(),
+                header.z(),
+                header.layer_id(),
+                header.nalu_type(),
+                header.tid()
+            ),
+            fields
+        );
     }
 }
 
@@ -37,27 +43,26 @@ fn headers_by_their_fields(rt: HostRuntime) {
 
 #[test]
 fn types(rt: HostRuntime) {
-    for (typ, irap, aggregation, fragmentation) in [
-        (6, false, false, false),
-        (7, true, false, false),
-        (8, true, false, false),
-        (9, true, false, false),
-        (10, false, false, false),
-        (27, false, false, false),
-        (28, false, true, false),
-        (29, false, false, true),
-        (30, false, false, false),
+    // Whether it is an IRAP picture's, an aggregate's, a fragment's.
+    for (typ, kinds) in [
+        (6, (false, false, false)),
+        (7, (true, false, false)),
+        (8, (true, false, false)),
+        (9, (true, false, false)),
+        (10, (false, false, false)),
+        (27, (false, false, false)),
+        (28, (false, true, false)),
+        (29, (false, false, true)),
+        (30, (false, false, false)),
     ] {
         let header = H266NALUHeader::new_with_type(typ, 0, 1);
-        assert_eq!(rt; header.is_irap(), irap, "at type {typ}");
         assert_eq!(rt;
-            header.is_aggregation_packet(),
-            aggregation,
-            "at type {typ}"
-        );
-        assert_eq!(rt;
-            header.is_fragmentation_unit(),
-            fragmentation,
+            (
+                header.is_irap(),
+                header.is_aggregation_packet(),
+                header.is_fragmentation_unit()
+            ),
+            kinds,
             "at type {typ}"
         );
     }
@@ -73,11 +78,16 @@ fn fragment_headers(rt: HostRuntime) {
         (false, false, false, 16, 0x10),
     ] {
         let header = H266FragmentationUnitHeader::new(s, e, p, fu_type);
-        assert_eq!(rt; header, H266FragmentationUnitHeader(word), "at {word}");
-        assert_eq!(rt; header.s(), s, "at {word}");
-        assert_eq!(rt; header.e(), e, "at {word}");
-        assert_eq!(rt; header.p(), p, "at {word}");
-        assert_eq!(rt; header.fu_type(), fu_type, "at {word}");
+        assert_eq!(rt;
+            (
+                header.0,
+                header.s(),
+                header.e(),
+                header.p(),
+                header.fu_type()
+            ),
+            (word, s, e, p, fu_type)
+        );
     }
     let masked = H266FragmentationUnitHeader::new(false, false, false, 0xe1);
     assert_eq!(rt; masked, H266FragmentationUnitHeader(0x01));

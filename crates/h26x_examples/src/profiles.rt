@@ -1,0 +1,380 @@
+//! Worked examples: what the tables say of values from outside, and the forms that serde writes.
+
+use h26x_profile::{
+    BitPattern, H264LevelIdc, H264Profile, H264ProfileIdc, H264ProfileLevel, H265Level,
+    H265Profile, H265ProfileTierLevel, H265Tier, H266Level, H266Profile, H266ProfileTierLevel,
+    H266Tier,
+};
+use serde::{DeserializeOwned, Serialize};
+use std::alloc::Global;
+use std::collections::HashMap;
+use std::test::Fail;
+
+#[test]
+fn profile_level_ids_of_h264(rt: HostRuntime) {
+    for (value, want) in [
+        (0x64001f, Some((H264Profile::High, H264LevelIdc::Level3_1))),
+        (
+            0xff64001f,
+            Some((H264Profile::High, H264LevelIdc::Level3_1)),
+        ),
+        (
+            0x640c34,
+            Some((H264Profile::ConstrainedHigh, H264LevelIdc::Level5_2)),
+        ),
+        (
+            0x42e01f,
+            Some((H264Profile::ConstrainedBaseline, H264LevelIdc::Level3_1)),
+        ),
+        (
+            0x42100b,
+            Some((H264Profile::Baseline, H264LevelIdc::Level1B)),
+        ),
+        (
+            0x42100a,
+            Some((H264Profile::Baseline, H264LevelIdc::Level1)),
+        ),
+        (
+            0x42000b,
+            Some((H264Profile::Baseline, H264LevelIdc::Level1_1)),
+        ),
+        (0x64101f, None),
+        (0x640063, None),
+        (0x630a1f, None),
+    ] {
+        let got = H264ProfileLevel::try_from(value).ok();
+        assert_eq!(rt;
+            got.map(|it| (it.profile(), it.level())),
+            want,
+            "at {value}"
+        );
+    }
+}
+
+#[test]
+fn patterns_of_bits(rt: HostRuntime) {
+    let pattern = BitPattern::new(*b"x1xx0000");
+    for (value, want) in [(0x40, true), (0xf0, true), (0x00, false), (0x41, false)] {
+        assert_eq!(rt; pattern.matches(value), want, "at {value}");
+    }
+}
+
+#[test]
+fn the_fallback_of_h264(rt: HostRuntime) {
+    let fallback = H264ProfileLevel::FALLBACK;
+    assert_eq!(rt;
+        (fallback.profile(), fallback.level()),
+        (H264Profile::Baseline, H264LevelIdc::Level3_1)
+    );
+}
+
+#[test]
+fn flags_of_constraints(rt: HostRuntime) {
+    let level = H264LevelIdc::Level3_1;
+    assert_eq!(rt; H264ProfileLevel::new(H264ProfileIdc::X2C, 0, level), None);
+    let intra = H264ProfileLevel::new(H264ProfileIdc::X2C, 0x10, level);
+    assert_eq!(rt;
+        intra.map(|it| it.profile()),
+        Some(H264Profile::CAVLC444Intra)
+    );
+}
+
+#[test]
+fn levels_of_h264_in_order(rt: HostRuntime) {
+    assert!(rt; H264LevelIdc::Level1 < H264LevelIdc::Level1B);
+    assert!(rt; H264LevelIdc::Level1B < H264LevelIdc::Level1_1);
+    assert_eq!(rt; H264LevelIdc::Level5_2.ordinal(), 16);
+}
+
+#[test]
+fn numbers_of_h264(rt: HostRuntime) {
+    assert_eq!(rt; H264LevelIdc::try_from(0), Ok(H264LevelIdc::Level1B));
+    assert_eq!(rt; H264LevelIdc::try_from(9), Err(()));
+    assert_eq!(rt; H264ProfileIdc::try_from(244), Ok(H264ProfileIdc::XF4));
+    assert_eq!(rt; H264ProfileIdc::try_from(99), Err(()));
+}
+
+#[test]
+fn numbers_of_h265(rt: HostRuntime) {
+    let fallback = H265ProfileTierLevel::FALLBACK;
+    assert_eq!(rt; H265ProfileTierLevel::new(1, 0, 93), Some(fallback));
+    assert_eq!(rt;
+        (fallback.profile(), fallback.tier(), fallback.level()),
+        (H265Profile::Main, H265Tier::Main, H265Level::Level3_1)
+    );
+}
+
+#[test]
+fn unknown_numbers_of_h265(rt: HostRuntime) {
+    for (profile, tier, level) in [(1, 0, 255), (99, 0, 93), (1, 5, 93)] {
+        assert_eq!(rt;
+            (
+                H265ProfileTierLevel::new(profile, tier, level),
+                H265ProfileTierLevel::from((profile, tier, level))
+            ),
+            (None, H265ProfileTierLevel::FALLBACK),
+            "at {profile} {tier} {level}"
+        );
+    }
+}
+
+#[test]
+fn levels_of_h265(rt: HostRuntime) {
+    let high = H265ProfileTierLevel::from((2, 1, 186)).with_level(H265Level::Level4);
+    assert_eq!(rt;
+        (high.profile_id(), high.tier_flag(), high.level_id()),
+        (2, 1, 120)
+    );
+    assert_eq!(rt; H265Level::Level3_1.ordinal(), 4);
+    assert!(rt; H265Level::Level2_1 < H265Level::Level3);
+}
+
+#[test]
+fn numbers_of_h266(rt: HostRuntime) {
+    for (number, level) in [(255, Some(H266Level::Level15_5)), (93, None), (180, None)] {
+        assert_eq!(rt; H266Level::from_id(number), level, "at {number}");
+    }
+    assert_eq!(rt; H266Profile::from_id(2), None);
+}
+
+#[test]
+fn levels_of_h266(rt: HostRuntime) {
+    let high = H266ProfileTierLevel::from((17, 1, 102)).with_level(H266Level::Level5_1);
+    assert_eq!(rt;
+        (high.profile_id(), high.tier_flag(), high.level_id()),
+        (17, 1, 83)
+    );
+    assert_eq!(rt; H266Level::Level15_5.ordinal(), 14);
+    assert!(rt; H266Level::Level6_3 < H266Level::Level15_5);
+}
+
+#[test]
+fn the_fallback_of_h266(rt: HostRuntime) {
+    let fallback = H266ProfileTierLevel::FALLBACK;
+    assert_eq!(rt; H266ProfileTierLevel::from((1, 2, 51)), fallback);
+    assert_eq!(rt;
+        (fallback.profile(), fallback.tier(), fallback.level()),
+        (H266Profile::Main10, H266Tier::Main, H266Level::Level3_1)
+    );
+}
+
+/// The parameters of a format, from their names and texts.
+fn params_of(alloc: Global, pairs: &[(&str, &str)]) -> Result<HashMap<String, String>, Fail> {
+    let mut params = HashMap::new(alloc);
+    for (name, text) in pairs {
+        params.insert(
+            String::from_str(alloc, name)?,
+            String::from_str(alloc, text)?,
+        )?;
+    }
+    Ok(params)
+}
+
+/// What parameters say to H.265 and to H.266.
+fn read_of(
+    alloc: Global,
+    pairs: &[(&str, &str)],
+) -> Result<(Option<H265ProfileTierLevel>, Option<H266ProfileTierLevel>), Fail> {
+    let params = params_of(alloc, pairs)?;
+    Ok((
+        H265ProfileTierLevel::from_fmtp(&params),
+        H266ProfileTierLevel::from_fmtp(&params),
+    ))
+}
+
+#[test]
+fn parameters_of_a_format(rt: HostRuntime) -> Result<(), Fail> {
+    for (profile, tier, level, h265, h266) in [
+        ("1", "0", "51", None, H266ProfileTierLevel::new(1, 0, 51)),
+        ("2", "1", "+93", H265ProfileTierLevel::new(2, 1, 93), None),
+        ("1", "0", "256", None, None),
+    ] {
+        let pairs = [
+            ("profile-id", profile),
+            ("tier-flag", tier),
+            ("level-id", level),
+        ];
+        assert_eq!(rt; read_of(rt.alloc(), &pairs)?, (h265, h266), "at {level}");
+    }
+    Ok(())
+}
+
+#[test]
+fn a_format_without_a_tier(rt: HostRuntime) -> Result<(), Fail> {
+    let pairs = [("profile-id", "1"), ("level-id", "51")];
+    assert_eq!(rt; read_of(rt.alloc(), &pairs)?, (None, None));
+    Ok(())
+}
+
+#[test]
+fn json_of_h265(rt: HostRuntime) -> Result<(), Fail> {
+    let alloc = rt.alloc();
+    let text = "{\"profile\":\"Main\",\"tier\":\"Main\",\"level\":\"Level3_1\"}";
+    let written = serde_json::to_string(alloc, &H265ProfileTierLevel::FALLBACK)?;
+    assert_eq!(rt; written.as_str(), text);
+    let read: H265ProfileTierLevel = serde_json::from_str(alloc, text)?;
+    assert_eq!(rt; read, H265ProfileTierLevel::FALLBACK);
+
+    let unknown = "{\"profile\":\"Main\",\"tier\":\"Main\",\"level\":\"Level9\"}";
+    let refused: Result<H265ProfileTierLevel, serde_json::Error> = serde_json::from_str(
+        alloc, unknown,
+    );
+    assert!(rt; refused.is_err());
+    Ok(())
+}
+
+#[test]
+fn json_of_h266(rt: HostRuntime) -> Result<(), Fail> {
+    let alloc = rt.alloc();
+    let text = "{\"profile\":\"Main10_444\",\"tier\":\"High\",\"level\":\"Level15_5\"}";
+    let value = H266ProfileTierLevel::from((33, 1, 255));
+    let written = serde_json::to_string(alloc, &value)?;
+    assert_eq!(rt; written.as_str(), text);
+    let read: H266ProfileTierLevel = serde_json::from_str(alloc, text)?;
+    assert_eq!(rt; read, value);
+    Ok(())
+}
+
+/// Whether a value is written as this text in quotes, and read from it.
+fn is_written_as<T: PartialEq + Serialize + DeserializeOwned>(
+    alloc: Global,
+    value: T,
+    name: &str,
+) -> Result<bool, Fail> {
+    let text = format!(in alloc; "\"{name}\"")?;
+    let written = serde_json::to_string(alloc, &value)?;
+    let read: T = serde_json::from_value(alloc, serde_json::Value::from_str(alloc, &text)?)?;
+    Ok(written == text && read == value)
+}
+
+/// Profiles of H.265, and how serde writes them.
+static H265_PROFILES: [(H265Profile, &str); 11] = [
+    (H265Profile::Main, "Main"),
+    (H265Profile::Main10, "Main10"),
+    (H265Profile::MainStillPicture, "MainStillPicture"),
+    (H265Profile::FormatRangeExtensions, "FormatRangeExtensions"),
+    (H265Profile::HighThroughput, "HighThroughput"),
+    (H265Profile::MultiviewMain, "MultiviewMain"),
+    (H265Profile::ScalableMain, "ScalableMain"),
+    (H265Profile::ThreeDMain, "ThreeDMain"),
+    (H265Profile::ScreenContentCoding, "ScreenContentCoding"),
+    (
+        H265Profile::ScreenContentCodingExtensions,
+        "ScreenContentCodingExtensions",
+    ),
+    (
+        H265Profile::HighThroughputScreenContentCoding,
+        "HighThroughputScreenContentCoding",
+    ),
+];
+
+#[test]
+fn profiles_of_h265_as_text(rt: HostRuntime) -> Result<(), Fail> {
+    for (profile, name) in H265_PROFILES {
+        assert!(rt; is_written_as(rt.alloc(), profile, name)?, "at {name}");
+    }
+    Ok(())
+}
+
+/// Tiers of H.265, and how serde writes them.
+static H265_TIERS: [(H265Tier, &str); 2] = [(H265Tier::Main, "Main"), (H265Tier::High, "High")];
+
+#[test]
+fn tiers_of_h265_as_text(rt: HostRuntime) -> Result<(), Fail> {
+    for (tier, name) in H265_TIERS {
+        assert!(rt; is_written_as(rt.alloc(), tier, name)?, "at {name}");
+    }
+    Ok(())
+}
+
+/// Levels of H.265, and how serde writes them.
+static H265_LEVELS: [(H265Level, &str); 13] = [
+    (H265Level::Level1, "Level1"),
+    (H265Level::Level2, "Level2"),
+    (H265Level::Level2_1, "Level2_1"),
+    (H265Level::Level3, "Level3"),
+    (H265Level::Level3_1, "Level3_1"),
+    (H265Level::Level4, "Level4"),
+    (H265Level::Level4_1, "Level4_1"),
+    (H265Level::Level5, "Level5"),
+    (H265Level::Level5_1, "Level5_1"),
+    (H265Level::Level5_2, "Level5_2"),
+    (H265Level::Level6, "Level6"),
+    (H265Level::Level6_1, "Level6_1"),
+    (H265Level::Level6_2, "Level6_2"),
+];
+
+#[test]
+fn levels_of_h265_as_text(rt: HostRuntime) -> Result<(), Fail> {
+    for (level, name) in H265_LEVELS {
+        assert!(rt; is_written_as(rt.alloc(), level, name)?, "at {name}");
+    }
+    Ok(())
+}
+
+/// Profiles of H.266, and how serde writes them.
+static H266_PROFILES: [(H266Profile, &str); 8] = [
+    (H266Profile::Main10, "Main10"),
+    (H266Profile::MultilayerMain10, "MultilayerMain10"),
+    (H266Profile::Main10_444, "Main10_444"),
+    (H266Profile::MultilayerMain10_444, "MultilayerMain10_444"),
+    (H266Profile::Main10StillPicture, "Main10StillPicture"),
+    (
+        H266Profile::MultilayerMain10StillPicture,
+        "MultilayerMain10StillPicture",
+    ),
+    (
+        H266Profile::Main10_444StillPicture,
+        "Main10_444StillPicture",
+    ),
+    (
+        H266Profile::MultilayerMain10_444StillPicture,
+        "MultilayerMain10_444StillPicture",
+    ),
+];
+
+#[test]
+fn profiles_of_h266_as_text(rt: HostRuntime) -> Result<(), Fail> {
+    for (profile, name) in H266_PROFILES {
+        assert!(rt; is_written_as(rt.alloc(), profile, name)?, "at {name}");
+    }
+    Ok(())
+}
+
+/// Tiers of H.266, and how serde writes them.
+static H266_TIERS: [(H266Tier, &str); 2] = [(H266Tier::Main, "Main"), (H266Tier::High, "High")];
+
+#[test]
+fn tiers_of_h266_as_text(rt: HostRuntime) -> Result<(), Fail> {
+    for (tier, name) in H266_TIERS {
+        assert!(rt; is_written_as(rt.alloc(), tier, name)?, "at {name}");
+    }
+    Ok(())
+}
+
+/// Levels of H.266, and how serde writes them.
+static H266_LEVELS: [(H266Level, &str); 15] = [
+    (H266Level::Level1, "Level1"),
+    (H266Level::Level2, "Level2"),
+    (H266Level::Level2_1, "Level2_1"),
+    (H266Level::Level3, "Level3"),
+    (H266Level::Level3_1, "Level3_1"),
+    (H266Level::Level4, "Level4"),
+    (H266Level::Level4_1, "Level4_1"),
+    (H266Level::Level5, "Level5"),
+    (H266Level::Level5_1, "Level5_1"),
+    (H266Level::Level5_2, "Level5_2"),
+    (H266Level::Level6, "Level6"),
+    (H266Level::Level6_1, "Level6_1"),
+    (H266Level::Level6_2, "Level6_2"),
+    (H266Level::Level6_3, "Level6_3"),
+    (H266Level::Level15_5, "Level15_5"),
+];
+
+#[test]
+fn levels_of_h266_as_text(rt: HostRuntime) -> Result<(), Fail> {
+    for (level, name) in H266_LEVELS {
+        assert!(rt; is_written_as(rt.alloc(), level, name)?, "at {name}");
+    }
+    Ok(())
+}
