@@ -1,5 +1,5 @@
 use super::*;
-use h26x_core::{ANNEXB_NALUSTART_CODE, H264CodecExtra, H265CodecExtra, H266CodecExtra};
+use h26x_core::{H264CodecExtra, H265CodecExtra, H266CodecExtra};
 use std::test::Fail;
 
 const CODECS: [Codec; 3] = [Codec::H264, Codec::H265, Codec::H266];
