@@ -8,6 +8,7 @@ use h26x_profile::{
 use serde::{DeserializeOwned, Serialize};
 use std::alloc::Global;
 use std::collections::HashMap;
+use std::process::Abort;
 use std::test::Fail;
 
 #[test]
@@ -247,6 +248,18 @@ fn is_written_as<T: PartialEq + Serialize + DeserializeOwned>(
     Ok(written == text && read == value)
 }
 
+/// Asserts it of values and their texts.
+fn are_written_as<T: Copy + PartialEq + Serialize + DeserializeOwned>(
+    rt: &impl Abort,
+    alloc: Global,
+    rows: &[(T, &str)],
+) -> Result<(), Fail> {
+    for (value, name) in rows {
+        assert!(rt; is_written_as(alloc, *value, name)?, "at {name}");
+    }
+    Ok(())
+}
+
 /// Profiles of H.265, and how serde writes them.
 static H265_PROFILES: [(H265Profile, &str); 11] = [
     (H265Profile::Main, "Main"),
@@ -270,10 +283,7 @@ static H265_PROFILES: [(H265Profile, &str); 11] = [
 
 #[test]
 fn profiles_of_h265_as_text(rt: HostRuntime) -> Result<(), Fail> {
-    for (profile, name) in H265_PROFILES {
-        assert!(rt; is_written_as(rt.alloc(), profile, name)?, "at {name}");
-    }
-    Ok(())
+    are_written_as(&rt, rt.alloc(), &H265_PROFILES)
 }
 
 /// Tiers of H.265, and how serde writes them.
@@ -281,10 +291,7 @@ static H265_TIERS: [(H265Tier, &str); 2] = [(H265Tier::Main, "Main"), (H265Tier:
 
 #[test]
 fn tiers_of_h265_as_text(rt: HostRuntime) -> Result<(), Fail> {
-    for (tier, name) in H265_TIERS {
-        assert!(rt; is_written_as(rt.alloc(), tier, name)?, "at {name}");
-    }
-    Ok(())
+    are_written_as(&rt, rt.alloc(), &H265_TIERS)
 }
 
 /// Levels of H.265, and how serde writes them.
@@ -306,10 +313,7 @@ static H265_LEVELS: [(H265Level, &str); 13] = [
 
 #[test]
 fn levels_of_h265_as_text(rt: HostRuntime) -> Result<(), Fail> {
-    for (level, name) in H265_LEVELS {
-        assert!(rt; is_written_as(rt.alloc(), level, name)?, "at {name}");
-    }
-    Ok(())
+    are_written_as(&rt, rt.alloc(), &H265_LEVELS)
 }
 
 /// Profiles of H.266, and how serde writes them.
@@ -335,10 +339,7 @@ static H266_PROFILES: [(H266Profile, &str); 8] = [
 
 #[test]
 fn profiles_of_h266_as_text(rt: HostRuntime) -> Result<(), Fail> {
-    for (profile, name) in H266_PROFILES {
-        assert!(rt; is_written_as(rt.alloc(), profile, name)?, "at {name}");
-    }
-    Ok(())
+    are_written_as(&rt, rt.alloc(), &H266_PROFILES)
 }
 
 /// Tiers of H.266, and how serde writes them.
@@ -346,10 +347,7 @@ static H266_TIERS: [(H266Tier, &str); 2] = [(H266Tier::Main, "Main"), (H266Tier:
 
 #[test]
 fn tiers_of_h266_as_text(rt: HostRuntime) -> Result<(), Fail> {
-    for (tier, name) in H266_TIERS {
-        assert!(rt; is_written_as(rt.alloc(), tier, name)?, "at {name}");
-    }
-    Ok(())
+    are_written_as(&rt, rt.alloc(), &H266_TIERS)
 }
 
 /// Levels of H.266, and how serde writes them.
@@ -373,8 +371,5 @@ static H266_LEVELS: [(H266Level, &str); 15] = [
 
 #[test]
 fn levels_of_h266_as_text(rt: HostRuntime) -> Result<(), Fail> {
-    for (level, name) in H266_LEVELS {
-        assert!(rt; is_written_as(rt.alloc(), level, name)?, "at {name}");
-    }
-    Ok(())
+    are_written_as(&rt, rt.alloc(), &H266_LEVELS)
 }
