@@ -1,6 +1,6 @@
 //! Bytes from text, by two hexadecimal digits each.
 
-use std::alloc::{AllocError, Global};
+use std::alloc::AllocError;
 
 /// Stands for a byte that is no digit; no digit has its bits.
 const NONE: u8 = 0xf0;
@@ -22,12 +22,13 @@ impl Digits {
         Digits { values }
     }
 
-    /// The bytes of a text of two digits each; none where it isn't one.
+    /// Reads a text of two digits each into `bytes`, in the place of what it holds. Where the text
+    /// isn't one, it says so, and what `bytes` then holds means nothing.
     ///
     /// Text has as many digits of one kind as of the other, in no order, so no branch hangs on
     /// what a byte is.
-    pub fn read(&self, alloc: Global, text: &[u8]) -> Result<Option<Vec<u8>>, AllocError> {
-        let mut bytes = vec![in alloc; 0u8; text.len() / 2]?;
+    pub fn read(&self, text: &[u8], bytes: &mut Vec<u8>) -> Result<bool, AllocError> {
+        bytes.resize(text.len() / 2, 0)?;
         let mut all = 0;
         for (byte, pair) in bytes.iter_mut().zip(text.chunks_exact(2)) {
             let high = self.values[usize::from(pair[0])];
@@ -35,8 +36,7 @@ impl Digits {
             all |= high | low;
             *byte = (high << 4) | (low & 0x0f);
         }
-        let is_text = text.len() % 2 == 0 && all & NONE == 0;
-        Ok(if is_text { Some(bytes) } else { None })
+        Ok(text.len() % 2 == 0 && all & NONE == 0)
     }
 }
 

@@ -1,14 +1,13 @@
 //! The words of the program's lines.
 
 use crate::digits::Digits;
-use crate::run::RunError;
 use h26x_codec::Codec;
 use memchr::memchr;
-use std::alloc::Global;
+use std::alloc::AllocError;
 use std::str;
 
-/// What a line asks for.
-#[derive(Debug, Drop)]
+/// What a line asks for. The bytes of a payload or a packet stand beside it.
+#[derive(Debug, Clone, Copy, PartialEq, Eq)]
 pub enum Line {
     /// No words: the line is skipped.
     Blank,
@@ -20,12 +19,12 @@ pub enum Line {
     Avc { is_on: bool },
     /// No packet longer than `largest` bytes, 4 or more. H.265 and H.266 alone.
     Size { largest: u16 },
-    /// `payload` cut into packets of at most `limit` bytes.
-    Pack { limit: usize, payload: Vec<u8> },
-    /// `packet` put together.
-    Unpack { packet: Vec<u8> },
-    /// `payload` cut into packets of at most `limit` bytes, and these put together.
-    Carry { limit: usize, payload: Vec<u8> },
+    /// A payload cut into packets of at most `limit` bytes.
+    Pack { limit: usize },
+    /// A packet put together.
+    Unpack,
+    /// A payload cut into packets of at most `limit` bytes, and these put together.
+    Carry { limit: usize },
     /// What is known of keyframes.
     Key,
     /// None of the above.
@@ -33,36 +32,23 @@ pub enum Line {
 }
 
 /// Reads a line without its LF. One CR at its end is dropped, and words are separated by spaces.
-pub fn read_line(alloc: Global, digits: &Digits, line: &[u8]) -> Result<Line, RunError> {
-    let line = line.strip_suffix(b"\r").unwrap_or(line);
-    let (name, rest) = first_word(line);
-    let (first, rest) = first_word(rest);
-    let (second, rest) = first_word(rest);
-    match (name, first, second, rest) {
-        ([], _, _, _) => Ok(Line::Blank),
-        (b"codec", b"h264", [], _) => Ok(Line::Codec(Codec::H264)),
-        (b"codec", b"h265", [], _) => Ok(Line::Codec(Codec::H265)),
-        (b"codec", b"h266", [], _) => Ok(Line::Codec(Codec::H266)),
-        (b"donl", b"on", [], _) => Ok(Line::Donl { is_on: true }),
-        (b"donl", b"off", [], _) => Ok(Line::Donl { is_on: false }),
-        (b"avc", b"on", [], _) => Ok(Line::Avc { is_on: true }),
-        (b"avc", b"off", [], _) => Ok(Line::Avc { is_on: false }),
-        (b"size", largest, [], _) => Ok(read_size(largest)),
-        (b"pack", limit, payload, []) => Ok(match read_call(alloc, digits, limit, payload)? {
-            Some((limit, payload)) => Line::Pack { limit, payload },
+/// The line's payload or packet goes to `bytes`, in the place of what stands there.
+pub fn read_line(digits: &Digits, line: &[u8], bytes: &mut Vec<u8>) -> Result<Line, AllocError> {
+    let (name, rest) = first_word(line.strip_suffix(b"\r").unwrap_or(line));
+    let (word, rest) = first_word(rest);
+    Ok(match name {
+        b"pack" => match read_call(digits, word, rest, bytes)? {
+            Some(limit) => Line::Pack { limit },
             None => Line::Bad,
-        }),
-        (b"unpack", packet, [], _) => Ok(match read_bytes(alloc, digits, packet)? {
-            Some(packet) => Line::Unpack { packet },
+        },
+        b"carry" => match read_call(digits, word, rest, bytes)? {
+            Some(limit) => Line::Carry { limit },
             None => Line::Bad,
-        }),
-        (b"carry", limit, payload, []) => Ok(match read_call(alloc, digits, limit, payload)? {
-            Some((limit, payload)) => Line::Carry { limit, payload },
-            None => Line::Bad,
-        }),
-        (b"key", [], _, _) => Ok(Line::Key),
-        _ => Ok(Line::Bad),
-    }
+        },
+        _ if !rest.is_empty() => Line::Bad,
+        b"unpack" if read_bytes(digits, word, bytes)? => Line::Unpack,
+        _ => read_setting(name, word),
+    })
 }
 
 /// The first word of a text, empty where there is none, and what stands from the next word on.
@@ -78,6 +64,23 @@ fn without_spaces(text: &[u8]) -> &[u8] {
     &text[start.unwrap_or(text.len())..]
 }
 
+/// A line of one word or two, and no bytes.
+fn read_setting(name: &[u8], word: &[u8]) -> Line {
+    match (name, word) {
+        ([], _) => Line::Blank,
+        (b"codec", b"h264") => Line::Codec(Codec::H264),
+        (b"codec", b"h265") => Line::Codec(Codec::H265),
+        (b"codec", b"h266") => Line::Codec(Codec::H266),
+        (b"donl", b"on") => Line::Donl { is_on: true },
+        (b"donl", b"off") => Line::Donl { is_on: false },
+        (b"avc", b"on") => Line::Avc { is_on: true },
+        (b"avc", b"off") => Line::Avc { is_on: false },
+        (b"size", largest) => read_size(largest),
+        (b"key", []) => Line::Key,
+        _ => Line::Bad,
+    }
+}
+
 /// The line that sets the largest packet size.
 fn read_size(word: &[u8]) -> Line {
     match str::from_utf8(word).map(|word| word.parse::<u16>()) {
@@ -86,24 +89,25 @@ fn read_size(word: &[u8]) -> Line {
     }
 }
 
-/// A limit and a payload.
+/// A limit, and the word behind it as bytes.
 fn read_call(
-    alloc: Global,
     digits: &Digits,
     limit: &[u8],
-    payload: &[u8],
-) -> Result<Option<(usize, Vec<u8>)>, RunError> {
+    rest: &[u8],
+    bytes: &mut Vec<u8>,
+) -> Result<Option<usize>, AllocError> {
+    let (payload, rest) = first_word(rest);
     match str::from_utf8(limit).map(|limit| limit.parse::<usize>()) {
-        Ok(Ok(limit)) => { Ok(read_bytes(alloc, digits, payload)?.map(|payload| (limit, payload))) }
+        Ok(Ok(limit)) if rest.is_empty() && read_bytes(digits, payload, bytes)? => Ok(Some(limit)),
         _ => Ok(None),
     }
 }
 
 /// Bytes by two hexadecimal digits each, in either case; `-` for none.
-fn read_bytes(alloc: Global, digits: &Digits, word: &[u8]) -> Result<Option<Vec<u8>>, RunError> {
+fn read_bytes(digits: &Digits, word: &[u8], bytes: &mut Vec<u8>) -> Result<bool, AllocError> {
     match word {
-        [] => Ok(None),
-        b"-" => Ok(Some(Vec::new(alloc))),
-        word => Ok(digits.read(alloc, word)?),
+        [] => Ok(false),
+        b"-" => digits.read(&[], bytes),
+        word => digits.read(word, bytes),
     }
 }

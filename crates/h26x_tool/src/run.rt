@@ -73,11 +73,12 @@ fn answer_lines<W: Write + Drop>(
     let mut packetizer = CodecPacketizer::new(alloc, Codec::H264);
     let mut depacketizer = CodecDepacketizer::new(alloc, Codec::H264);
     let mut extra = CodecExtra::None;
+    let mut calls = [(0, Vec::new(alloc))];
     let mut out = Vec::new(alloc);
     loop {
         let end = memchr(b'\n', rest).unwrap_or(rest.len());
         out.clear();
-        let answered = match read_line(alloc, &digits, &rest[..end])? {
+        let answered = match read_line(&digits, &rest[..end], &mut calls[0].1)? {
             Line::Blank => Ok(()),
             Line::Codec(codec) => {
                 packetizer = CodecPacketizer::new(alloc, codec);
@@ -90,16 +91,15 @@ fn answer_lines<W: Write + Drop>(
             }
             Line::Avc { is_on } => answers.say_set(set_avc(&mut depacketizer, is_on)),
             Line::Size { largest } => answers.say_set(set_size(&mut packetizer, largest)),
-            Line::Pack { limit, payload } => {
-                answers.say_packed(packetizer.packetize(limit, &payload))
-            }
-            Line::Unpack { packet } => {
-                let taken = depacketizer.depacketize(&packet, &mut out, &mut extra);
+            Line::Pack { limit } => { answers.say_packed(packetizer.packetize(limit, &calls[0].1)) }
+            Line::Unpack => {
+                let taken = depacketizer.depacketize(&calls[0].1, &mut out, &mut extra);
                 answers.say_unpacked(taken, &out)
             }
-            Line::Carry { limit, payload } => {
+            Line::Carry { limit } => {
+                calls[0].0 = limit;
                 let (p, d) = (&mut packetizer, &mut depacketizer);
-                let carried = carry(alloc, p, d, &[(limit, payload)], &mut out, &mut extra);
+                let carried = carry(alloc, p, d, &calls, &mut out, &mut extra);
                 answers.say_carried(carried, &out)
             }
             Line::Key => answers.say_key(extra),

@@ -1,11 +1,19 @@
 use super::*;
 use crate::rows::same;
+use std::alloc::{AllocError, Global};
 use std::process::Abort;
 use std::test::Fail;
 
+/// The bytes of a text, read over others.
+fn read(alloc: Global, digits: &Digits, text: &[u8]) -> Result<Option<Vec<u8>>, AllocError> {
+    let mut bytes = vec![in alloc; 0xffu8; 2]?;
+    let is_text = digits.read(text, &mut bytes)?;
+    Ok(if is_text { Some(bytes) } else { None })
+}
+
 fn compare(rt: &impl Abort, alloc: Global, digits: &Digits, text: &[u8]) -> Result<(), Fail> {
     let want = hex::decode(alloc, text).ok();
-    same(rt, &digits.read(alloc, text)?, &want, "two digits");
+    same(rt, &read(alloc, digits, text)?, &want, "two digits");
     Ok(())
 }
 
@@ -32,8 +40,8 @@ const TEXTS: [(&str, Option<&[u8]>); 8] = [
     ("0f a0 ff", None),
 ];
 
-fn read(rt: &impl Abort, alloc: Global, text: &str, want: Option<&[u8]>) -> Result<(), Fail> {
-    let read = Digits::new().read(alloc, text.as_bytes())?;
+fn expect(rt: &impl Abort, alloc: Global, text: &str, want: Option<&[u8]>) -> Result<(), Fail> {
+    let read = read(alloc, &Digits::new(), text.as_bytes())?;
     let read = read.as_ref().map(|bytes| bytes.as_slice());
     same(rt, &read, &want, text);
     Ok(())
@@ -42,7 +50,7 @@ fn read(rt: &impl Abort, alloc: Global, text: &str, want: Option<&[u8]>) -> Resu
 #[test]
 fn texts_of_more_bytes(rt: HostRuntime) -> Result<(), Fail> {
     for (text, want) in &TEXTS {
-        read(&rt, rt.alloc(), text, *want)?;
+        expect(&rt, rt.alloc(), text, *want)?;
     }
     Ok(())
 }
