@@ -211,6 +211,3 @@ impl Depacketizer for H264Depacketizer {
         marker
     }
 }
-
-#[cfg(test)]
-mod tests;

@@ -68,6 +68,3 @@ pub fn detect_h264_keyframe(payload: &[u8]) -> bool
 {
     detect_h264_nalu(payload, IDR_NALU_TYPE)
 }
-
-#[cfg(test)]
-mod tests;

@@ -28,6 +28,3 @@ pub use other_unit::H265AggregationUnit;
 pub use paci::H265PACIPacket;
 pub use payload::H265Payload;
 pub use single::H265SingleNALUnitPacket;
-
-#[cfg(test)]
-mod tests;

@@ -341,6 +341,3 @@ impl Depacketizer for H265Depacketizer {
         ends_frame(is_fragment(packet), marker, packet)
     }
 }
-
-#[cfg(test)]
-mod tests;

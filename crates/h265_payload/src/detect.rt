@@ -44,6 +44,3 @@ pub fn detect_h265_keyframe(payload: &[u8]) -> bool
         header.is_irap()
     }
 }
-
-#[cfg(test)]
-mod tests;

@@ -187,6 +187,3 @@ impl NumberedCodec for H265 {
         H265 { numbered }
     }
 }
-
-#[cfg(test)]
-mod tests;

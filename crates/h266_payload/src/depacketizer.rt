@@ -223,6 +223,3 @@ impl Depacketizer for H266Depacketizer {
         ends_frame(is_fragment(packet), marker, packet)
     }
 }
-
-#[cfg(test)]
-mod tests;

@@ -45,6 +45,3 @@ pub fn detect_h266_keyframe(payload: &[u8]) -> bool
         header.is_irap()
     }
 }
-
-#[cfg(test)]
-mod tests;

@@ -235,6 +235,3 @@ impl NumberedCodec for H266 {
         H266 { numbered }
     }
 }
-
-#[cfg(test)]
-mod tests;

@@ -4,9 +4,6 @@ ghost use Rattle.std.specs.Prelude.{◌≡◌, false, nat_lt, ◌<◌, ◌+◌, 
 ghost use Rattle.h26x_core.specs.Word.{field, is_set, flag};
 ghost use Rattle.h26x_core.specs.H265Unit.{type_of, is_key_type};
 
-#[cfg(test)]
-mod tests;
-
 /// The type of an aggregation packet (RFC 7798, 4.4.2).
 const AGGREGATION_PACKET: u8 = 48;
 

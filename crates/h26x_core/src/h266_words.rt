@@ -4,9 +4,6 @@ ghost use Rattle.std.specs.Prelude.{◌≡◌, ◌+◌, ◌*◌, ◌==◌, false
 ghost use Rattle.h26x_core.specs.Word.{field, is_set, flag};
 ghost use Rattle.h26x_core.specs.H266Unit.{type_of, is_key_type};
 
-#[cfg(test)]
-mod tests;
-
 /// The type of an aggregation packet (RFC 9328, 4.3.2).
 const AGGREGATION_PACKET: u8 = 28;
 

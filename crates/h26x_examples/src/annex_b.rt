@@ -70,21 +70,44 @@ fn is_key(extra: CodecExtra) -> bool {
 
 /// Sends each unit of a stream, and receives its packets again.
 pub fn count(alloc: Global, codec: Codec, stream: &[u8]) -> Result<Counts, PacketError> {
-    let mut packetizer = CodecPacketizer::new(alloc, codec);
     let mut depacketizer = CodecDepacketizer::new(alloc, codec);
+    send(alloc, codec, stream, &mut depacketizer)
+}
+
+/// Sends each unit of a stream to this depacketizer.
+fn send<D: Depacketizer>(
+    alloc: Global,
+    codec: Codec,
+    stream: &[u8],
+    depacketizer: &mut D,
+) -> Result<Counts, PacketError> {
+    let mut packetizer = CodecPacketizer::new(alloc, codec);
     let mut out = Vec::new(alloc);
     let mut counts = Counts::default();
     for unit in units(stream, codec.zero_rule()) {
         counts.units = counts.units.saturating_add(1);
-        for packet in &packetizer.packetize(LIMIT, unit)? {
-            counts.add_packet(packet);
-            out.clear();
-            let mut extra = CodecExtra::None;
-            let outcome = depacketizer.depacketize(packet, &mut out, &mut extra);
-            counts.add_outcome(outcome, extra)?;
-        }
+        let packets = packetizer.packetize(LIMIT, unit)?;
+        receive(depacketizer, &packets, &mut out, &mut counts)?;
     }
     Ok(counts)
+}
+
+/// Receives the packets of a unit. What is written for each goes to `out`, in the place of what
+/// stands there.
+fn receive<D: Depacketizer>(
+    depacketizer: &mut D,
+    packets: &[Vec<u8>],
+    out: &mut Vec<u8>,
+    counts: &mut Counts,
+) -> Result<(), PacketError> {
+    for packet in packets {
+        counts.add_packet(packet);
+        out.clear();
+        let mut extra = CodecExtra::None;
+        let outcome = depacketizer.depacketize(packet, out, &mut extra);
+        counts.add_outcome(outcome, extra)?;
+    }
+    Ok(())
 }
 
 /// The bytes of the file of this name, or of standard input where there is no name.

@@ -25,18 +25,37 @@ fn showing(alloc: Global, tries: Tries, packet: &[u8]) -> Result<H265Depacketize
     Ok(depacketizer)
 }
 
+/// Whether a call makes what is wanted.
+fn is_made<T: PartialEq + Drop, F: Fn() -> Result<T, PacketError>>(
+    tries: Tries,
+    want: &T,
+    call: F,
+) -> Result<bool, PacketError>
+    requires { F.IsAlwaysCallable call }
+{
+    Ok(made(tries, call)? == *want)
+}
+
+/// Whether a copy of the packet that this is equals it.
+fn is_packet_copied(
+    alloc: Global,
+    tries: Tries,
+    payload: &H265Payload,
+) -> Result<bool, PacketError> {
+    match payload {
+        H265Payload::H265SingleNALUnitPacket(it) => is_made(tries, it, || it.clone(alloc)),
+        H265Payload::H265FragmentationUnitPacket(it) => is_made(tries, it, || it.clone(alloc)),
+        H265Payload::H265AggregationPacket(it) => is_made(tries, it, || it.clone(alloc)),
+        H265Payload::H265PACIPacket(it) => is_made(tries, it, || it.clone(alloc)),
+    }
+}
+
 /// Copies what is shown, and the packet that it is.
 fn copy(rt: &impl Abort, alloc: Global, tries: Tries, packet: &[u8]) -> Result<(), PacketError> {
     let depacketizer = showing(alloc, tries, packet)?;
     let payload = depacketizer.payload();
-    assert!(rt; made(tries, || payload.clone(alloc))? == *payload);
-    let is_same = match payload {
-        H265Payload::H265SingleNALUnitPacket(it) => made(tries, || it.clone(alloc))? == *it,
-        H265Payload::H265FragmentationUnitPacket(it) => made(tries, || it.clone(alloc))? == *it,
-        H265Payload::H265AggregationPacket(it) => made(tries, || it.clone(alloc))? == *it,
-        H265Payload::H265PACIPacket(it) => made(tries, || it.clone(alloc))? == *it,
-    };
-    assert!(rt; is_same);
+    assert!(rt; is_made(tries, payload, || payload.clone(alloc))?);
+    assert!(rt; is_packet_copied(alloc, tries, payload)?);
     Ok(())
 }
 
@@ -97,10 +116,10 @@ fn copy_units(rt: &impl Abort, alloc: Global, tries: Tries) -> Result<(), Packet
         return Err(PacketError::ErrShortPacket);
     };
     if let Some(first) = shown.first_unit() {
-        assert!(rt; made(tries, || first.clone(alloc))? == *first);
+        assert!(rt; is_made(tries, first, || first.clone(alloc))?);
     }
     for other in shown.other_units() {
-        assert!(rt; made(tries, || other.clone(alloc))? == *other);
+        assert!(rt; is_made(tries, other, || other.clone(alloc))?);
     }
     Ok(())
 }
@@ -118,9 +137,9 @@ fn units_at_once(rt: HostRuntime) -> Result<(), PacketError> {
 /// Copies what is shown before any packet, and an aggregate of no unit, and asks for its units.
 fn copy_empty(rt: &impl Abort, alloc: Global, tries: Tries) -> Result<(), PacketError> {
     let payload = H265Payload::empty(alloc);
-    assert!(rt; made(tries, || payload.clone(alloc))? == payload);
+    assert!(rt; is_made(tries, &payload, || payload.clone(alloc))?);
     let packet = H265AggregationPacket::empty(alloc);
-    assert!(rt; made(tries, || packet.clone(alloc))? == packet);
+    assert!(rt; is_made(tries, &packet, || packet.clone(alloc))?);
     assert!(rt; made(tries, || packet.nal_units(alloc))?.is_empty());
     Ok(())
 }

@@ -1,4 +1,4 @@
-use super::*;
+use h265_payload::detect_h265_keyframe;
 
 #[test]
 fn key_packets(rt: HostRuntime) {

@@ -1,4 +1,4 @@
-use super::*;
+use h26x_core::{H265FragmentationUnitHeader, H265NALUHeader, H265TSCI};
 
 #[test]
 fn fields_of_headers(rt: HostRuntime) {

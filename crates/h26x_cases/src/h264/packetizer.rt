@@ -1,5 +1,6 @@
-use super::*;
 use h26x_core::{PacketError, Packetizer};
+use h264_payload::H264Packetizer;
+use std::alloc::Global;
 use std::test::Fail;
 
 /// The packets of a payload that a new packetizer sends.

@@ -1,5 +1,5 @@
-use super::*;
 use h26x_core::Packetizer;
+use h266_payload::H266Packetizer;
 use std::test::Fail;
 
 /// A VPS, an SPS, a PPS and a key unit.

@@ -1,4 +1,4 @@
-use super::*;
+use h264_payload::{detect_h264_keyframe, detect_h264_nalu};
 
 #[test]
 fn key_packets(rt: HostRuntime) {

@@ -1,5 +1,8 @@
-use crate::*;
 use h26x_core::{H265FragmentationUnitHeader, H265NALUHeader, H265TSCI, PacketError};
+use h265_packets::{
+    H265AggregationPacket, H265AggregationUnit, H265AggregationUnitFirst,
+    H265FragmentationUnitPacket, H265PACIPacket, H265Payload, H265SingleNALUnitPacket,
+};
 use std::alloc::Global;
 use std::test::Fail;
 

@@ -1,4 +1,4 @@
-use super::*;
+use h266_payload::detect_h266_keyframe;
 
 #[test]
 fn key_packets(rt: HostRuntime) {

@@ -1,6 +1,10 @@
-use super::*;
-use crate::packetizer::H265Packetizer;
-use h26x_core::{H265CodecExtra, H265TSCI, Packetizer};
+use h26x_core::{CodecExtra, Depacketizer, H265CodecExtra, H265TSCI, PacketError, Packetizer};
+use h265_packets::{
+    H265AggregationPacket, H265FragmentationUnitPacket, H265PACIPacket, H265Payload,
+    H265SingleNALUnitPacket,
+};
+use h265_payload::{H265Depacketizer, H265Packetizer};
+use std::alloc::Global;
 use std::process::Abort;
 use std::test::Fail;
 

@@ -1,5 +1,5 @@
-use super::*;
 use h26x_core::Packetizer;
+use h265_payload::H265Packetizer;
 use std::test::Fail;
 
 /// A VPS, an SPS, a PPS and a key unit.

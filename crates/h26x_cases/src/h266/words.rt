@@ -1,4 +1,4 @@
-use super::*;
+use h26x_core::{H266FragmentationUnitHeader, H266NALUHeader};
 
 #[test]
 fn fields_of_headers(rt: HostRuntime) {

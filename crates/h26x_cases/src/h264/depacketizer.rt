@@ -1,5 +1,6 @@
-use super::*;
-use h26x_core::{ANNEXB_NALUSTART_CODE, H264CodecExtra};
+use h26x_core::{ANNEXB_NALUSTART_CODE, CodecExtra, Depacketizer, H264CodecExtra, PacketError};
+use h264_payload::H264Depacketizer;
+use std::alloc::Global;
 use std::test::Fail;
 
 const STAP: [u8; 26] = [

@@ -1,5 +1,6 @@
-use super::*;
-use h26x_core::H266CodecExtra;
+use h26x_core::{CodecExtra, Depacketizer, H266CodecExtra, PacketError};
+use h266_payload::H266Depacketizer;
+use std::alloc::Global;
 use std::test::Fail;
 
 /// Three parameter sets in one aggregate.

@@ -1,0 +1,3 @@
+mod depacketizer;
+mod detect;
+mod packetizer;

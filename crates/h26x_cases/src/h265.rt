@@ -1,0 +1,5 @@
+mod depacketizer;
+mod detect;
+mod packetizer;
+mod packets;
+mod words;

@@ -1,0 +1,4 @@
+mod depacketizer;
+mod detect;
+mod packetizer;
+mod words;

@@ -1,0 +1,13 @@
+//! Worked cases of the payload formats, packet by packet: what the ends of each codec send and
+//! take, the fields of header words, and the packets that H.265 shows.
+//!
+//! This crate has no code but tests, and they call what callers may. They stand apart from the
+//! crates that they are of since a check of a crate's tests proves the crate once more.
+#![tactic(auto)]
+
+#[cfg(test)]
+mod h264;
+#[cfg(test)]
+mod h265;
+#[cfg(test)]
+mod h266;
