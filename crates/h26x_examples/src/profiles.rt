@@ -207,55 +207,51 @@ fn a_format_without_a_tier(rt: HostRuntime) -> Result<(), Fail> {
     Ok(())
 }
 
+/// Whether a value is written as this text, and read from it.
+fn is_written_as<T: PartialEq + Serialize + DeserializeOwned>(
+    alloc: Global,
+    value: &T,
+    text: &str,
+) -> Result<bool, Fail> {
+    let written = serde_json::to_string(alloc, value)?;
+    let read: T = serde_json::from_value(alloc, serde_json::Value::from_str(alloc, text)?)?;
+    Ok(written.as_str() == text && read == *value)
+}
+
 #[test]
 fn json_of_h265(rt: HostRuntime) -> Result<(), Fail> {
-    let alloc = rt.alloc();
     let text = "{\"profile\":\"Main\",\"tier\":\"Main\",\"level\":\"Level3_1\"}";
-    let written = serde_json::to_string(alloc, &H265ProfileTierLevel::FALLBACK)?;
-    assert_eq!(rt; written.as_str(), text);
-    let read: H265ProfileTierLevel = serde_json::from_str(alloc, text)?;
-    assert_eq!(rt; read, H265ProfileTierLevel::FALLBACK);
-
-    let unknown = "{\"profile\":\"Main\",\"tier\":\"Main\",\"level\":\"Level9\"}";
-    let refused: Result<H265ProfileTierLevel, serde_json::Error> = serde_json::from_str(
-        alloc, unknown,
-    );
-    assert!(rt; refused.is_err());
+    assert!(rt; is_written_as(rt.alloc(), &H265ProfileTierLevel::FALLBACK, text)?);
     Ok(())
 }
 
 #[test]
 fn json_of_h266(rt: HostRuntime) -> Result<(), Fail> {
-    let alloc = rt.alloc();
     let text = "{\"profile\":\"Main10_444\",\"tier\":\"High\",\"level\":\"Level15_5\"}";
     let value = H266ProfileTierLevel::from((33, 1, 255));
-    let written = serde_json::to_string(alloc, &value)?;
-    assert_eq!(rt; written.as_str(), text);
-    let read: H266ProfileTierLevel = serde_json::from_str(alloc, text)?;
-    assert_eq!(rt; read, value);
+    assert!(rt; is_written_as(rt.alloc(), &value, text)?);
     Ok(())
 }
 
-/// Whether a value is written as this text in quotes, and read from it.
-fn is_written_as<T: PartialEq + Serialize + DeserializeOwned>(
-    alloc: Global,
-    value: T,
-    name: &str,
-) -> Result<bool, Fail> {
-    let text = format!(in alloc; "\"{name}\"")?;
-    let written = serde_json::to_string(alloc, &value)?;
-    let read: T = serde_json::from_value(alloc, serde_json::Value::from_str(alloc, &text)?)?;
-    Ok(written == text && read == value)
+#[test]
+fn json_of_an_unknown_level(rt: HostRuntime) {
+    let text = "{\"profile\":\"Main\",\"tier\":\"Main\",\"level\":\"Level9\"}";
+    let read: Result<H265ProfileTierLevel, serde_json::Error> = serde_json::from_str(
+        rt.alloc(),
+        text,
+    );
+    assert!(rt; read.is_err());
 }
 
-/// Asserts it of values and their texts.
+/// Asserts it of values and their texts, which stand in quotes.
 fn are_written_as<T: Copy + PartialEq + Serialize + DeserializeOwned>(
     rt: &impl Abort,
     alloc: Global,
     rows: &[(T, &str)],
 ) -> Result<(), Fail> {
     for (value, name) in rows {
-        assert!(rt; is_written_as(alloc, *value, name)?, "at {name}");
+        let text = format!(in alloc; "\"{name}\"")?;
+        assert!(rt; is_written_as(alloc, value, &text)?, "at {name}");
     }
     Ok(())
 }
