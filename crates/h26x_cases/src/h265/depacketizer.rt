@@ -1,11 +1,8 @@
-use h26x_core::{CodecExtra, Depacketizer, H265CodecExtra, H265TSCI, PacketError, Packetizer};
-use h265_packets::{
-    H265AggregationPacket, H265FragmentationUnitPacket, H265PACIPacket, H265Payload,
-    H265SingleNALUnitPacket,
-};
+use crate::ends::{refuses, same, sends, tells_heads, tells_hints, tells_tails, writes};
+use h26x_core::{CodecExtra, Depacketizer, H265CodecExtra, H265TSCI, PacketError};
+use h265_packets::H265Payload;
 use h265_payload::{H265Depacketizer, H265Packetizer};
 use std::alloc::Global;
-use std::process::Abort;
 use std::test::Fail;
 
 /// What is told where no key unit was among the units.
@@ -21,35 +18,19 @@ fn fresh(alloc: Global, is_numbered: bool) -> H265Depacketizer {
     depacketizer
 }
 
-/// A depacketizer, and what it wrote and told.
-#[derive(Drop)]
-struct Taken {
-    depacketizer: H265Depacketizer,
-    out: Vec<u8>,
-    told: CodecExtra,
-}
-
-impl Taken {
-    /// Takes one more packet.
-    fn deliver(&mut self, packet: &[u8]) -> Result<(), PacketError> {
-        self.depacketizer
-            .depacketize(packet, &mut self.out, &mut self.told)
-    }
-}
-
-/// Takes packets by a new depacketizer, with numbers or without.
-fn take(alloc: Global, is_numbered: bool, packets: &[&[u8]]) -> Result<Taken, PacketError> {
+/// A depacketizer that has taken packets with numbers, or without.
+fn take(
+    alloc: Global,
+    is_numbered: bool,
+    packets: &[&[u8]],
+) -> Result<H265Depacketizer, PacketError> {
     let mut depacketizer = fresh(alloc, is_numbered);
     let mut out = Vec::new(alloc);
     let mut told = CodecExtra::None;
     for packet in packets {
         depacketizer.depacketize(packet, &mut out, &mut told)?;
     }
-    Ok(Taken {
-        depacketizer,
-        out,
-        told,
-    })
+    Ok(depacketizer)
 }
 
 /// Whether packets bear numbers; a packet, what is written of it, and what is told.
@@ -126,13 +107,9 @@ static ONE_PACKET: [(bool, &[u8], &[u8], CodecExtra); 11] = [
 
 #[test]
 fn one_packet(rt: HostRuntime) -> Result<(), Fail> {
-    for (is_numbered, packet, want, extra) in ONE_PACKET {
-        let taken = take(rt.alloc(), is_numbered, &[packet])?;
-        assert_eq!(rt;
-            (taken.out.as_slice(), taken.told),
-            (want, extra),
-            "at {packet:?}"
-        );
+    for &(is_numbered, packet, want, extra) in &ONE_PACKET {
+        let mut d = fresh(rt.alloc(), is_numbered);
+        writes(&rt, rt.alloc(), &mut d, &[packet], want, extra)?;
     }
     Ok(())
 }
@@ -185,18 +162,10 @@ static REFUSED: [(bool, &[u8], PacketError); 14] = [
 
 #[test]
 fn refused_packets(rt: HostRuntime) -> Result<(), Fail> {
-    for (is_numbered, packet, error) in REFUSED {
+    for &(is_numbered, packet, error) in &REFUSED {
+        let before = fresh(rt.alloc(), is_numbered);
         let mut d = fresh(rt.alloc(), is_numbered);
-        let mut out = Vec::new(rt.alloc());
-        out.push(0x11)?;
-        let mut told = A_KEY;
-        let answer = d.depacketize(packet, &mut out, &mut told);
-        assert_eq!(rt;
-            (answer, out.as_slice(), told),
-            (Err(error), [0x11].as_slice(), A_KEY),
-            "at {packet:?}"
-        );
-        assert!(rt; d == fresh(rt.alloc(), is_numbered), "at {packet:?}");
+        refuses(&rt, rt.alloc(), &mut d, &before, packet, error)?;
     }
     Ok(())
 }
@@ -209,32 +178,24 @@ const AGGREGATE: [u8; 11] = [
 /// What is written of it.
 const AGGREGATE_WRITTEN: [u8; 13] = [0, 0, 0, 1, 0x02, 0x01, 0xaa, 0, 0, 0, 1, 0x02, 0x01];
 
-/// What a front of the aggregate of this length is answered; what is written of it, and of the
-/// whole one behind it.
-fn take_behind_a_front(
-    alloc: Global,
-    len: usize,
-) -> Result<(Result<(), PacketError>, Vec<u8>), PacketError> {
-    let mut taken = take(alloc, false, &[])?;
-    let answer = taken.deliver(AGGREGATE.get(..len).unwrap_or(&[]));
-    taken.deliver(&AGGREGATE)?;
-    Ok((answer, taken.out))
-}
-
 #[test]
 fn fronts_of_an_aggregate(rt: HostRuntime) -> Result<(), Fail> {
+    let before = fresh(rt.alloc(), false);
+    let mut d = fresh(rt.alloc(), false);
+    let short = PacketError::ErrShortPacket;
     for len in 0..AGGREGATE.len() {
-        let (answer, out) = take_behind_a_front(rt.alloc(), len)?;
-        assert_eq!(rt;
-            (answer, out.as_slice()),
-            (
-                Err(PacketError::ErrShortPacket),
-                AGGREGATE_WRITTEN.as_slice()
-            ),
-            "at {len}"
-        );
+        let front = AGGREGATE.get(..len).unwrap_or(&[]);
+        refuses(&rt, rt.alloc(), &mut d, &before, front, short)?;
     }
-    Ok(())
+    let packets: [&[u8]; 1] = [&AGGREGATE];
+    Ok(writes(
+        &rt,
+        rt.alloc(),
+        &mut d,
+        &packets,
+        &AGGREGATE_WRITTEN,
+        NO_KEY,
+    )?)
 }
 
 /// A unit in two fragments, and an aggregate and a PACI packet between them.
@@ -255,12 +216,8 @@ const RUN_WRITTEN: [u8; 29] = [
 
 #[test]
 fn a_run_through_other_packets(rt: HostRuntime) -> Result<(), Fail> {
-    let taken = take(rt.alloc(), false, &RUN)?;
-    assert_eq!(rt;
-        (taken.out.as_slice(), taken.told),
-        (RUN_WRITTEN.as_slice(), A_KEY)
-    );
-    Ok(())
+    let mut d = H265Depacketizer::new(rt.alloc());
+    Ok(writes(&rt, rt.alloc(), &mut d, &RUN, &RUN_WRITTEN, A_KEY)?)
 }
 
 /// The start of a unit of type 19.
@@ -275,119 +232,118 @@ const END: [u8; 4] = [0x62, 0x01, 0x53, 0xbb];
 /// The unit as it is written.
 const WRITTEN: [u8; 8] = [0, 0, 0, 1, 0x26, 0x01, 0xaa, 0xbb];
 
-#[test]
-fn refusals_within_a_run(rt: HostRuntime) -> Result<(), Fail> {
-    let mut taken = take(rt.alloc(), false, &[&START])?;
-    let before = taken.depacketizer.clone()?;
-    for (packet, error) in [
-        ([0x62, 0x01, 0x93].as_slice(), PacketError::ErrShortPacket),
-        (
-            &[0xe2, 0x01, 0x93, 0xaa],
-            PacketError::ErrH265CorruptedPacket,
-        ),
-    ] {
-        assert_eq!(rt; taken.deliver(packet), Err(error));
-        assert!(rt; taken.depacketizer == before);
-    }
-    Ok(())
+/// A depacketizer that has taken the start.
+fn with_a_run(alloc: Global) -> Result<H265Depacketizer, PacketError> {
+    take(alloc, false, &[&START])
 }
+
+/// One that has taken it with a number.
+fn with_a_numbered_run(alloc: Global) -> Result<H265Depacketizer, PacketError> {
+    take(alloc, true, &[&NUMBERED_START])
+}
+
+/// What is refused within the run, and why.
+static REFUSED_WITHIN: [(&[u8], PacketError); 2] = [
+    (&[0x62, 0x01, 0x93], PacketError::ErrShortPacket),
+    (
+        &[0xe2, 0x01, 0x93, 0xaa],
+        PacketError::ErrH265CorruptedPacket,
+    ),
+];
 
 #[test]
 fn a_run_goes_on_behind_refusals(rt: HostRuntime) -> Result<(), Fail> {
-    let mut taken = take(rt.alloc(), false, &[&START])?;
-    for packet in [[0x62, 0x01, 0x93].as_slice(), &[0xe2, 0x01, 0x93, 0xaa]] {
-        let _refusal = taken.deliver(packet);
+    let mut d = with_a_run(rt.alloc())?;
+    let before = with_a_run(rt.alloc())?;
+    for &(packet, error) in &REFUSED_WITHIN {
+        refuses(&rt, rt.alloc(), &mut d, &before, packet, error)?;
     }
-    taken.deliver(&END)?;
-    assert_eq!(rt; taken.out.as_slice(), WRITTEN.as_slice());
-    Ok(())
+    Ok(writes(&rt, rt.alloc(), &mut d, &[&END], &WRITTEN, A_KEY)?)
 }
 
 #[test]
 fn a_setting_changed_within_a_run(rt: HostRuntime) -> Result<(), Fail> {
-    let mut taken = take(rt.alloc(), true, &[&NUMBERED_START])?;
-    taken.depacketizer.with_donl(false);
-    taken.deliver(&END)?;
-    assert_eq!(rt; taken.out.as_slice(), WRITTEN.as_slice());
-    Ok(())
+    let mut d = with_a_numbered_run(rt.alloc())?;
+    d.with_donl(false);
+    Ok(writes(&rt, rt.alloc(), &mut d, &[&END], &WRITTEN, A_KEY)?)
 }
 
 #[test]
 fn an_open_run_is_another_state(rt: HostRuntime) -> Result<(), Fail> {
-    let taken = take(rt.alloc(), false, &[&START])?;
-    assert!(rt; taken.depacketizer != H265Depacketizer::new(rt.alloc()));
+    let d = with_a_run(rt.alloc())?;
+    assert!(rt; d != H265Depacketizer::new(rt.alloc()));
     Ok(())
 }
 
 #[test]
-fn nothing_shown_of_a_refused_packet(rt: HostRuntime) {
+fn nothing_shown_of_a_refused_packet(rt: HostRuntime) -> Result<(), Fail> {
+    let before = fresh(rt.alloc(), true);
     let mut d = fresh(rt.alloc(), true);
-    let mut out = Vec::new(rt.alloc());
-    let mut told = CodecExtra::None;
-    assert_eq!(rt;
-        d.depacketize(&[0x02, 0x01, 0x00, 0x05], &mut out, &mut told),
-        Err(PacketError::ErrShortPacket)
-    );
+    let short = PacketError::ErrShortPacket;
+    refuses(
+        &rt,
+        rt.alloc(),
+        &mut d,
+        &before,
+        &[0x02, 0x01, 0x00, 0x05],
+        short,
+    )?;
     assert!(rt; *d.payload() == H265Payload::empty(rt.alloc()));
+    Ok(())
 }
 
-/// Tells that another packet is shown than was sent.
-fn another_shown() -> Fail {
-    Fail::from("another packet is shown")
+/// The header, the number and the payload of a single packet.
+fn parts_of_single(shown: &H265Payload) -> Option<(u16, Option<u16>, &[u8])> {
+    match shown {
+        H265Payload::H265SingleNALUnitPacket(it) => {
+            Some((it.payload_header().0, it.donl(), it.payload()))
+        }
+        _ => None,
+    }
 }
 
 #[test]
 fn single_packets_shown(rt: HostRuntime) -> Result<(), Fail> {
-    let taken = take(rt.alloc(), true, &[&[0x02, 0x01, 0x00, 0x05, 0xaa]])?;
-    let H265Payload::H265SingleNALUnitPacket(single) = taken.depacketizer.payload() else {
-        return Err(another_shown());
-    };
-    assert_eq!(rt;
-        (single.payload_header().0, single.donl(), single.payload()),
-        (0x0201, Some(5), [0xaa].as_slice())
-    );
+    let d = take(rt.alloc(), true, &[&[0x02, 0x01, 0x00, 0x05, 0xaa]])?;
+    let want = Some((0x0201, Some(5), [0xaa].as_slice()));
+    same(&rt, &parts_of_single(d.payload()), &want);
     Ok(())
 }
 
-/// Takes fragments with numbers; the last shows this byte of marks, this number and this byte.
-fn show_fragment(
-    rt: &impl Abort,
-    alloc: Global,
-    packets: &[&[u8]],
-    marks: u8,
-    donl: Option<u16>,
-    payload: u8,
-) -> Result<(), Fail> {
-    let taken = take(alloc, true, packets)?;
-    let H265Payload::H265FragmentationUnitPacket(fragment) = taken.depacketizer.payload() else {
-        return Err(another_shown());
-    };
-    assert_eq!(rt;
-        (
-            fragment.payload_header().0,
-            fragment.fu_header().0,
-            fragment.donl(),
-            fragment.payload()
-        ),
-        (0x6201, marks, donl, [payload].as_slice())
-    );
+/// The header, the marks, the number and the payload of a fragment.
+fn parts_of_fragment(shown: &H265Payload) -> Option<(u16, u8, Option<u16>, &[u8])> {
+    match shown {
+        H265Payload::H265FragmentationUnitPacket(it) => Some((
+            it.payload_header().0,
+            it.fu_header().0,
+            it.donl(),
+            it.payload(),
+        )),
+        _ => None,
+    }
+}
+
+#[test]
+fn first_fragments_shown(rt: HostRuntime) -> Result<(), Fail> {
+    let d = with_a_numbered_run(rt.alloc())?;
+    let want = Some((0x6201, 0x93, Some(7), [0xaa].as_slice()));
+    same(&rt, &parts_of_fragment(d.payload()), &want);
     Ok(())
 }
 
 #[test]
-fn fragments_shown(rt: HostRuntime) -> Result<(), Fail> {
-    show_fragment(&rt, rt.alloc(), &[&NUMBERED_START], 0x93, Some(7), 0xaa)?;
-    show_fragment(&rt, rt.alloc(), &[&NUMBERED_START, &END], 0x53, None, 0xbb)
+fn last_fragments_shown(rt: HostRuntime) -> Result<(), Fail> {
+    let d = take(rt.alloc(), true, &[&NUMBERED_START, &END])?;
+    let want = Some((0x6201, 0x53, None, [0xbb].as_slice()));
+    same(&rt, &parts_of_fragment(d.payload()), &want);
+    Ok(())
 }
 
 #[test]
 fn fragments_with_numbers(rt: HostRuntime) -> Result<(), Fail> {
-    let taken = take(rt.alloc(), true, &[&NUMBERED_START, &END])?;
-    assert_eq!(rt;
-        (taken.out.as_slice(), taken.told),
-        (WRITTEN.as_slice(), A_KEY)
-    );
-    Ok(())
+    let mut d = fresh(rt.alloc(), true);
+    let packets: [&[u8]; 2] = [&NUMBERED_START, &END];
+    Ok(writes(&rt, rt.alloc(), &mut d, &packets, &WRITTEN, A_KEY)?)
 }
 
 /// The first unit of an aggregate behind DONL 65535, and one behind DOND 1.
@@ -395,140 +351,140 @@ const NUMBERED_AGGREGATE: [u8; 14] = [
     0x60, 0x01, 0xff, 0xff, 0x00, 0x02, 0x02, 0x01, 0x01, 0x00, 0x03, 0x26, 0x01, 0xaf,
 ];
 
+/// The number, the length and the bytes of the first unit of an aggregate.
+fn parts_of_first(shown: &H265Payload) -> Option<(Option<u16>, u16, &[u8])> {
+    match shown {
+        H265Payload::H265AggregationPacket(it) => {
+            let first = it.first_unit()?;
+            Some((first.donl(), first.nalu_size(), first.nal_unit()))
+        }
+        _ => None,
+    }
+}
+
 #[test]
 fn first_units_shown(rt: HostRuntime) -> Result<(), Fail> {
-    let taken = take(rt.alloc(), true, &[&NUMBERED_AGGREGATE])?;
-    let H265Payload::H265AggregationPacket(aggregate) = taken.depacketizer.payload() else {
-        return Err(another_shown());
-    };
-    let Some(first) = aggregate.first_unit() else {
-        return Err(another_shown());
-    };
-    assert_eq!(rt;
-        (first.donl(), first.nalu_size(), first.nal_unit()),
-        (Some(65535), 2, [0x02, 0x01].as_slice())
-    );
+    let d = take(rt.alloc(), true, &[&NUMBERED_AGGREGATE])?;
+    let want = Some((Some(65535), 2, [0x02, 0x01].as_slice()));
+    same(&rt, &parts_of_first(d.payload()), &want);
     Ok(())
+}
+
+/// The number, the length and the bytes of the unit behind it, if that is the last.
+fn parts_of_second(shown: &H265Payload) -> Option<(Option<u8>, u16, &[u8])> {
+    match shown {
+        H265Payload::H265AggregationPacket(it) => match it.other_units() {
+            [other] => Some((other.dond(), other.nalu_size(), other.nal_unit())),
+            _ => None,
+        },
+        _ => None,
+    }
 }
 
 #[test]
 fn further_units_shown(rt: HostRuntime) -> Result<(), Fail> {
-    let taken = take(rt.alloc(), true, &[&NUMBERED_AGGREGATE])?;
-    let H265Payload::H265AggregationPacket(aggregate) = taken.depacketizer.payload() else {
-        return Err(another_shown());
-    };
-    let [other] = aggregate.other_units() else {
-        return Err(another_shown());
-    };
-    assert_eq!(rt;
-        (other.dond(), other.nalu_size(), other.nal_unit()),
-        (Some(1), 3, [0x26, 0x01, 0xaf].as_slice())
-    );
+    let d = take(rt.alloc(), true, &[&NUMBERED_AGGREGATE])?;
+    let want = Some((Some(1), 3, [0x26, 0x01, 0xaf].as_slice()));
+    same(&rt, &parts_of_second(d.payload()), &want);
     Ok(())
+}
+
+/// Whether an aggregate of two units without a byte is shown.
+fn is_of_two_empty_units(alloc: Global, shown: &H265Payload) -> Result<bool, PacketError> {
+    let none: &[u8] = &[];
+    match shown {
+        H265Payload::H265AggregationPacket(it) => {
+            Ok(it.nal_units(alloc)?.as_slice() == [none, none].as_slice())
+        }
+        _ => Ok(false),
+    }
 }
 
 #[test]
 fn units_without_a_byte_shown(rt: HostRuntime) -> Result<(), Fail> {
-    let taken = take(rt.alloc(), false, &[&[0x60, 0x01, 0, 0, 0, 0]])?;
-    let H265Payload::H265AggregationPacket(aggregate) = taken.depacketizer.payload() else {
-        return Err(another_shown());
-    };
-    let none: &[u8] = &[];
-    assert_eq!(rt;
-        aggregate.nal_units(rt.alloc())?.as_slice(),
-        [none, none].as_slice()
-    );
+    let d = take(rt.alloc(), false, &[&[0x60, 0x01, 0, 0, 0, 0]])?;
+    assert!(rt; is_of_two_empty_units(rt.alloc(), d.payload())?);
     Ok(())
+}
+
+/// The header, the type, the extension and the payload of a PACI packet, and its TSCI.
+fn parts_of_paci(shown: &H265Payload) -> Option<(u16, u8, &[u8], &[u8], Option<H265TSCI>)> {
+    match shown {
+        H265Payload::H265PACIPacket(it) => Some((
+            it.payload_header().0,
+            it.ctype(),
+            it.phes(),
+            it.payload(),
+            it.tsci(),
+        )),
+        _ => None,
+    }
 }
 
 #[test]
 fn paci_packets_shown(rt: HostRuntime) -> Result<(), Fail> {
     let packet = [0x64, 0x01, 0x26, 0x38, 0x11, 0x22, 0x33, 0xaa];
-    let taken = take(rt.alloc(), false, &[&packet])?;
-    let H265Payload::H265PACIPacket(paci) = taken.depacketizer.payload() else {
-        return Err(another_shown());
-    };
-    assert_eq!(rt;
-        (
-            paci.payload_header().0,
-            paci.ctype(),
-            paci.phes(),
-            paci.payload()
-        ),
-        (0x6401, 19, [0x11, 0x22, 0x33].as_slice(), [0xaa].as_slice())
-    );
-    assert_eq!(rt; paci.tsci(), Some(H265TSCI(0x1122_3300)));
+    let d = take(rt.alloc(), false, &[&packet])?;
+    let want = Some((
+        0x6401,
+        19,
+        [0x11, 0x22, 0x33].as_slice(),
+        [0xaa].as_slice(),
+        Some(H265TSCI(0x1122_3300)),
+    ));
+    same(&rt, &parts_of_paci(d.payload()), &want);
     Ok(())
 }
+
+/// Packets, and whether they are the first of an access unit.
+static HEADS: [(&[u8], bool); 8] = [
+    (&[0x80, 0x01], true),
+    (&[0x02, 0x01], true),
+    (&[0x62, 0x01], false),
+    (&[0x62, 0x01, 0x93], true),
+    (&[0x62, 0x01, 0x13], false),
+    (&[0xe2, 0x01], true),
+    (&[0x02], false),
+    (&[], false),
+];
 
 #[test]
 fn heads(rt: HostRuntime) {
     let d = H265Depacketizer::new(rt.alloc());
-    for (packet, is_head) in [
-        ([0x80, 0x01].as_slice(), true),
-        (&[0x02, 0x01], true),
-        (&[0x62, 0x01], false),
-        (&[0x62, 0x01, 0x93], true),
-        (&[0x62, 0x01, 0x13], false),
-        (&[0xe2, 0x01], true),
-        (&[0x02], false),
-        (&[], false),
-    ] {
-        assert_eq!(rt; d.is_partition_head(packet), is_head, "at {packet:?}");
-    }
+    tells_heads(&rt, &d, &HEADS);
 }
+
+/// The marker, a packet, and whether it is the last of an access unit.
+static TAILS: [(bool, &[u8], bool); 6] = [
+    (true, &[0x62, 0x01, 0x13, 0xaa], false),
+    (false, &[0x62, 0x01, 0x53], true),
+    (true, &[0x62, 0x01], false),
+    (true, &[0x02, 0x01], true),
+    (false, &[0x02, 0x01], false),
+    (true, &[0x02], false),
+];
 
 #[test]
 fn tails(rt: HostRuntime) {
     let d = H265Depacketizer::new(rt.alloc());
-    for (marker, packet, is_tail) in [
-        (true, [0x62, 0x01, 0x13, 0xaa].as_slice(), false),
-        (false, &[0x62, 0x01, 0x53], true),
-        (true, &[0x62, 0x01], false),
-        (true, &[0x02, 0x01], true),
-        (false, &[0x02, 0x01], false),
-        (true, &[0x02], false),
-    ] {
-        assert_eq!(rt;
-            d.is_partition_tail(marker, packet),
-            is_tail,
-            "at {packet:?}"
-        );
-    }
+    tells_tails(&rt, &d, &TAILS);
 }
 
 #[test]
 fn hints(rt: HostRuntime) {
     let d = H265Depacketizer::new(rt.alloc());
-    for (size, hint) in [(0, 4), (1199, 1203), (1200, 1208), (usize::MAX, usize::MAX)] {
-        assert_eq!(rt; d.out_size_hint(size), Some(hint));
-    }
+    tells_hints(&rt, &d);
 }
 
 #[test]
 fn a_bare_header_is_sent(rt: HostRuntime) -> Result<(), Fail> {
-    let packets = H265Packetizer::new(rt.alloc()).packetize(100, &[0x02, 0x01])?;
-    assert_eq!(rt;
-        (packets.len(), packets[0].as_slice()),
-        (1, [0x02, 0x01].as_slice())
-    );
-    Ok(())
-}
-
-/// What a clone writes of the end of a run whose start the original has taken.
-fn written_by_a_clone(alloc: Global) -> Result<Vec<u8>, PacketError> {
-    let mut out = Vec::new(alloc);
-    let mut told = CodecExtra::None;
-    take(alloc, true, &[&NUMBERED_START])?
-        .depacketizer
-        .clone()?
-        .depacketize(&END, &mut out, &mut told)?;
-    Ok(out)
+    let mut packetizer = H265Packetizer::new(rt.alloc());
+    let unit = [0x02, 0x01];
+    Ok(sends(&rt, &mut packetizer, 100, &unit, &[&unit])?)
 }
 
 #[test]
 fn a_clone_goes_on(rt: HostRuntime) -> Result<(), Fail> {
-    let out = written_by_a_clone(rt.alloc())?;
-    assert_eq!(rt; out.as_slice(), WRITTEN.as_slice());
-    Ok(())
+    let mut d = with_a_numbered_run(rt.alloc())?.clone()?;
+    Ok(writes(&rt, rt.alloc(), &mut d, &[&END], &WRITTEN, A_KEY)?)
 }

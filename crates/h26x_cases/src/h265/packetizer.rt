@@ -1,4 +1,4 @@
-use h26x_core::Packetizer;
+use crate::ends::{Call, Front, sends_all, sends_by_limit, sends_fronts};
 use h265_payload::H265Packetizer;
 use std::test::Fail;
 
@@ -8,23 +8,18 @@ const UNITS: [u8; 24] = [
 ];
 
 /// The sets in one aggregate with numbers, and the key unit.
-static NUMBERED: [&[u8]; 2] = [
+const NUMBERED: [&[u8]; 2] = [
     &[
         0x60, 1, 0, 0, 0, 3, 0x40, 1, 0x0c, 0, 0, 3, 0x42, 1, 1, 0, 0, 3, 0x44, 1, 0xc1,
     ],
     &[0x26, 1, 0, 3, 0xaf],
 ];
 
-#[test]
-fn payloads_and_their_packets(rt: HostRuntime) -> Result<(), Fail> {
-    let none: &[&[u8]] = &[];
-    let new = Some(false);
-    let numbered = Some(true);
-    // Whether a new packetizer takes the call, with numbers or without; the mtu, the payload and
-    // its packets.
-    let table: [(Option<bool>, usize, &[u8], &[&[u8]]); 20] = [
-        (
-            new,
+/// Whether there are numbers, and the calls of a new packetizer.
+static RUNS: [(bool, &[Call]); 13] = [
+    (
+        false,
+        &[(
             4,
             &[0x26, 1, 0xaa, 0xbb, 0xcc],
             &[
@@ -32,18 +27,22 @@ fn payloads_and_their_packets(rt: HostRuntime) -> Result<(), Fail> {
                 &[0x62, 1, 0x13, 0xbb],
                 &[0x62, 1, 0x53, 0xcc],
             ],
-        ),
-        (new, 3, &[2, 1, 0xaa], none),
-        (new, 100, &[2, 1], &[&[2, 1]]),
-        (new, 1200, &[0x46, 1, 0x50], none),
-        (
-            new,
+        )],
+    ),
+    (false, &[(3, &[2, 1, 0xaa], &[])]),
+    (false, &[(100, &[2, 1], &[&[2, 1]])]),
+    (false, &[(1200, &[0x46, 1, 0x50], &[])]),
+    (
+        false,
+        &[(
             1200,
             &[0, 0, 1, 0, 9, 0xaa, 0, 0, 0, 0, 1, 0, 0x11, 0xbb],
             &[&[0, 9, 0xaa], &[0, 0x11, 0xbb]],
-        ),
-        (
-            new,
+        )],
+    ),
+    (
+        false,
+        &[(
             17,
             &UNITS,
             &[
@@ -52,9 +51,11 @@ fn payloads_and_their_packets(rt: HostRuntime) -> Result<(), Fail> {
                 ],
                 &[0x26, 1, 0xaf],
             ],
-        ),
-        (
-            new,
+        )],
+    ),
+    (
+        false,
+        &[(
             16,
             &UNITS,
             &[
@@ -63,25 +64,41 @@ fn payloads_and_their_packets(rt: HostRuntime) -> Result<(), Fail> {
                 &[0x44, 1, 0xc1],
                 &[0x26, 1, 0xaf],
             ],
-        ),
-        (new, 4, &[0x42, 1, 1, 2, 3], none),
-        (None, 4, &[0x44, 1, 0xc1], none),
-        (None, 4, &[2, 1, 0xaa], &[&[0x44, 1, 0xc1], &[2, 1, 0xaa]]),
-        (numbered, 5, &[2, 1, 0xaa, 0xbb], none),
-        (None, 5, &[2, 1, 0xaa], &[&[2, 1, 0, 0, 0xaa]]),
-        (
-            None,
-            6,
-            &[2, 1, 0xaa, 0xbb, 0xcc],
-            &[&[0x62, 1, 0x81, 0, 1, 0xaa], &[0x62, 1, 0x41, 0xbb, 0xcc]],
-        ),
-        (numbered, 100, &UNITS, &NUMBERED),
-        (numbered, 100, &[0x40, 1, 0x0c], none),
-        (None, 100, &[0x42, 1, 1], none),
-        (None, 100, &[0x44, 1, 0xc1], none),
-        (None, 100, &[0x26, 1, 0xaf], &NUMBERED),
-        (
-            numbered,
+        )],
+    ),
+    (
+        false,
+        &[
+            (4, &[0x42, 1, 1, 2, 3], &[]),
+            (4, &[0x44, 1, 0xc1], &[]),
+            (4, &[2, 1, 0xaa], &[&[0x44, 1, 0xc1], &[2, 1, 0xaa]]),
+        ],
+    ),
+    (
+        true,
+        &[
+            (5, &[2, 1, 0xaa, 0xbb], &[]),
+            (5, &[2, 1, 0xaa], &[&[2, 1, 0, 0, 0xaa]]),
+            (
+                6,
+                &[2, 1, 0xaa, 0xbb, 0xcc],
+                &[&[0x62, 1, 0x81, 0, 1, 0xaa], &[0x62, 1, 0x41, 0xbb, 0xcc]],
+            ),
+        ],
+    ),
+    (true, &[(100, &UNITS, &NUMBERED)]),
+    (
+        true,
+        &[
+            (100, &[0x40, 1, 0x0c], &[]),
+            (100, &[0x42, 1, 1], &[]),
+            (100, &[0x44, 1, 0xc1], &[]),
+            (100, &[0x26, 1, 0xaf], &NUMBERED),
+        ],
+    ),
+    (
+        true,
+        &[(
             20,
             &UNITS,
             &[
@@ -90,47 +107,42 @@ fn payloads_and_their_packets(rt: HostRuntime) -> Result<(), Fail> {
                 &[0x44, 1, 0, 2, 0xc1],
                 &[0x26, 1, 0, 3, 0xaf],
             ],
-        ),
-        (
-            numbered,
+        )],
+    ),
+    (
+        true,
+        &[(
             5,
             &[
                 0, 0, 1, 0x42, 1, 1, 2, 0, 0, 1, 0x44, 1, 0xc1, 0, 0, 1, 0x26, 1, 0xaf,
             ],
             &[&[0x44, 1, 0, 0, 0xc1], &[0x26, 1, 0, 1, 0xaf]],
-        ),
-    ];
-    let mut packetizer = H265Packetizer::new(rt.alloc());
-    for (begun, mtu, payload, want) in table {
-        if let Some(numbered) = begun {
-            packetizer = H265Packetizer::new(rt.alloc());
-            packetizer.with_donl(numbered);
-        }
-        let packets = packetizer.packetize(mtu, payload)?;
-        assert_eq!(rt; packets.len(), want.len(), "at {mtu}: {payload:?}");
-        for place in 0..want.len() {
-            assert_eq!(rt;
-                packets[place].as_slice(),
-                want[place],
-                "at {mtu}: {payload:?}"
-            );
-        }
+        )],
+    ),
+];
+
+#[test]
+fn payloads_and_their_packets(rt: HostRuntime) -> Result<(), Fail> {
+    for &(is_numbered, calls) in &RUNS {
+        let mut packetizer = H265Packetizer::new(rt.alloc());
+        packetizer.with_donl(is_numbered);
+        sends_all(&rt, &mut packetizer, calls)?;
     }
     Ok(())
 }
 
+/// Whether there are numbers, and how many packets go of a unit of eight bytes, limit by limit.
+static COUNTS: [(bool, [usize; 11]); 2] = [
+    (false, [0, 0, 0, 0, 6, 3, 2, 2, 1, 1, 1]),
+    (true, [0, 0, 0, 0, 0, 0, 3, 2, 2, 2, 1]),
+];
+
 #[test]
 fn packets_by_limit(rt: HostRuntime) -> Result<(), Fail> {
-    for (numbered, counts) in [
-        (false, [0, 0, 0, 0, 6, 3, 2, 2, 1, 1, 1]),
-        (true, [0, 0, 0, 0, 0, 0, 3, 2, 2, 2, 1]),
-    ] {
-        for mtu in 0..counts.len() {
-            let mut packetizer = H265Packetizer::new(rt.alloc());
-            packetizer.with_donl(numbered);
-            let packets = packetizer.packetize(mtu, &[2, 1, 1, 2, 3, 4, 5, 6])?;
-            assert_eq!(rt; packets.len(), counts[mtu], "at {mtu}, numbered {numbered}");
-        }
+    for (is_numbered, counts) in &COUNTS {
+        let mut packetizer = H265Packetizer::new(rt.alloc());
+        packetizer.with_donl(*is_numbered);
+        sends_by_limit(&rt, &mut packetizer, &[2, 1, 1, 2, 3, 4, 5, 6], counts)?;
     }
     Ok(())
 }
@@ -143,7 +155,7 @@ fn largest_packet_sizes(rt: HostRuntime) -> Result<(), Fail> {
     sets.resize(1305, 0xaa)?;
     sets.extend_from_slice(&[0, 0, 1, 0x44, 1, 0xc1, 0, 0, 1, 0x26, 1, 0xaf])?;
     // The payload, the largest size, and for each packet its length and what it begins with.
-    let table: [(&[u8], u16, &[(usize, &[u8])]); 6] = [
+    let table: [(&[u8], u16, &[Front]); 6] = [
         (
             &[0x26, 1, 0xaa, 0xbb, 0xcc],
             4,
@@ -183,13 +195,7 @@ fn largest_packet_sizes(rt: HostRuntime) -> Result<(), Fail> {
         let mut packetizer = H265Packetizer::new(rt.alloc());
         packetizer.with_max_packet_size(largest);
         let mut copy = packetizer.clone()?;
-        let packets = copy.packetize(5000, payload)?;
-        assert_eq!(rt; packets.len(), want.len(), "by {largest}");
-        for place in 0..want.len() {
-            let (len, front) = want[place];
-            assert_eq!(rt; packets[place].len(), len, "by {largest}");
-            assert!(rt; packets[place].starts_with(front), "by {largest}");
-        }
+        sends_fronts(&rt, &mut copy, 5000, payload, want)?;
     }
     Ok(())
 }

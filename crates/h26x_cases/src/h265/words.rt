@@ -1,26 +1,30 @@
+use crate::ends::same;
 use h26x_core::{H265FragmentationUnitHeader, H265NALUHeader, H265TSCI};
+
+/// Two bytes; F, the type, the layer's id and the temporal id.
+static FIELDS: [(u8, u8, (bool, u8, u8, u8)); 7] = [
+    (0x26, 0x01, (false, 19, 0, 1)),
+    (0x64, 0x01, (false, 50, 0, 1)),
+    (0x80, 0x00, (true, 0, 0, 0)),
+    (0x7e, 0x00, (false, 63, 0, 0)),
+    (0x01, 0x00, (false, 0, 32, 0)),
+    (0x00, 0x0a, (false, 0, 1, 2)),
+    (0xff, 0xff, (true, 63, 63, 7)),
+];
 
 #[test]
 fn fields_of_headers(rt: HostRuntime) {
-    // F, the type, the layer's id and the temporal id.
-    for (high, low, fields) in [
-        (0x26, 0x01, (false, 19, 0, 1)),
-        (0x64, 0x01, (false, 50, 0, 1)),
-        (0x80, 0x00, (true, 0, 0, 0)),
-        (0x7e, 0x00, (false, 63, 0, 0)),
-        (0x01, 0x00, (false, 0, 32, 0)),
-        (0x00, 0x0a, (false, 0, 1, 2)),
-        (0xff, 0xff, (true, 63, 63, 7)),
-    ] {
+    for &(high, low, fields) in &FIELDS {
         let header = H265NALUHeader::new(high, low);
-        assert_eq!(rt;
-            (
+        same(
+            &rt,
+            &(
                 header.f(),
                 header.nalu_type(),
                 header.layer_id(),
-                header.tid()
+                header.tid(),
             ),
-            fields
+            &fields,
         );
     }
 }
@@ -37,97 +41,107 @@ fn headers_by_their_fields(rt: HostRuntime) {
     }
 }
 
+/// A type, and whether it is a VCL unit's, an IDR picture's, an IRAP picture's.
+static TYPES: [(u16, (bool, bool, bool)); 11] = [
+    (1, (true, false, false)),
+    (15, (true, false, false)),
+    (16, (true, false, true)),
+    (18, (true, false, true)),
+    (19, (true, true, true)),
+    (20, (true, true, true)),
+    (21, (true, false, true)),
+    (22, (true, false, false)),
+    (31, (true, false, false)),
+    (32, (false, false, false)),
+    (51, (false, false, false)),
+];
+
 #[test]
 fn types(rt: HostRuntime) {
-    // Whether it is a VCL unit's, an IDR picture's, an IRAP picture's.
-    for (nalu_type, pictures) in [
-        (1, (true, false, false)),
-        (15, (true, false, false)),
-        (16, (true, false, true)),
-        (18, (true, false, true)),
-        (19, (true, true, true)),
-        (20, (true, true, true)),
-        (21, (true, false, true)),
-        (22, (true, false, false)),
-        (31, (true, false, false)),
-        (32, (false, false, false)),
-        (51, (false, false, false)),
-    ] {
+    for &(nalu_type, pictures) in &TYPES {
         let header = H265NALUHeader(nalu_type << 9);
-        assert_eq!(rt;
-            (
+        same(
+            &rt,
+            &(
                 header.is_type_vcl_unit(),
                 header.is_idr_picture(),
-                header.is_irap()
+                header.is_irap(),
             ),
-            pictures,
-            "at type {nalu_type}"
+            &pictures,
         );
     }
 }
+
+/// A type, and whether it is an aggregate's, a fragment's, a PACI packet's.
+static PACKETS: [(u16, (bool, bool, bool)); 5] = [
+    (47, (false, false, false)),
+    (48, (true, false, false)),
+    (49, (false, true, false)),
+    (50, (false, false, true)),
+    (51, (false, false, false)),
+];
 
 #[test]
 fn types_of_packets(rt: HostRuntime) {
-    // Whether it is an aggregate's, a fragment's, a PACI packet's.
-    for (nalu_type, packets) in [
-        (47, (false, false, false)),
-        (48, (true, false, false)),
-        (49, (false, true, false)),
-        (50, (false, false, true)),
-        (51, (false, false, false)),
-    ] {
+    for &(nalu_type, packets) in &PACKETS {
         let header = H265NALUHeader(nalu_type << 9);
-        assert_eq!(rt;
-            (
+        same(
+            &rt,
+            &(
                 header.is_aggregation_packet(),
                 header.is_fragmentation_unit(),
-                header.is_paci_packet()
+                header.is_paci_packet(),
             ),
-            packets,
-            "at type {nalu_type}"
+            &packets,
         );
     }
 }
+
+/// S, E, the type, and the byte.
+static FRAGMENTS: [(bool, bool, u8, u8); 4] = [
+    (true, false, 19, 0x93),
+    (false, false, 19, 0x13),
+    (false, true, 19, 0x53),
+    (true, false, 32, 0xa0),
+];
 
 #[test]
 fn fragment_headers(rt: HostRuntime) {
-    for (s, e, fu_type, word) in [
-        (true, false, 19, 0x93),
-        (false, false, 19, 0x13),
-        (false, true, 19, 0x53),
-        (true, false, 32, 0xa0),
-    ] {
+    for &(s, e, fu_type, word) in &FRAGMENTS {
         let header = H265FragmentationUnitHeader::new(s, e, fu_type);
-        assert_eq!(rt;
-            (header.0, header.s(), header.e(), header.fu_type()),
-            (word, s, e, fu_type)
+        same(
+            &rt,
+            &(header.0, header.s(), header.e(), header.fu_type()),
+            &(word, s, e, fu_type),
         );
     }
     let masked = H265FragmentationUnitHeader::new(false, false, 0xc1);
-    assert_eq!(rt; masked, H265FragmentationUnitHeader(0x01));
+    same(&rt, &masked, &H265FragmentationUnitHeader(0x01));
 }
+
+/// A word; TL0PICIDX, IrapPicID, S, E and RES.
+static WORDS: [(u32, (u8, u8, bool, bool, u8)); 5] = [
+    (0x11223300, (0x11, 0x22, false, false, 0x33)),
+    (0x00008000, (0, 0, true, false, 0)),
+    (0x00004000, (0, 0, false, true, 0)),
+    (0x000000ff, (0, 0, false, false, 0)),
+    (0xffffffff, (0xff, 0xff, true, true, 0x3f)),
+];
 
 #[test]
 fn control_information(rt: HostRuntime) {
-    // TL0PICIDX, IrapPicID, S, E and RES.
-    for (word, fields) in [
-        (0x11223300, (0x11, 0x22, false, false, 0x33)),
-        (0x00008000, (0, 0, true, false, 0)),
-        (0x00004000, (0, 0, false, true, 0)),
-        (0x000000ff, (0, 0, false, false, 0)),
-        (0xffffffff, (0xff, 0xff, true, true, 0x3f)),
-    ] {
+    for &(word, fields) in &WORDS {
         let tsci = H265TSCI(word);
-        assert_eq!(rt;
-            (
+        same(
+            &rt,
+            &(
                 tsci.tl0picidx(),
                 tsci.irap_pic_id(),
                 tsci.s(),
                 tsci.e(),
-                tsci.res()
+                tsci.res(),
             ),
-            fields,
-            "at {word}"
+            &fields,
         );
     }
 }

@@ -1,5 +1,7 @@
-use h26x_core::Packetizer;
+use crate::ends::{Call, Front, sends_all, sends_by_limit, sends_fronts};
+use h26x_core::{PacketError, Packetizer};
 use h266_payload::H266Packetizer;
+use std::process::Abort;
 use std::test::Fail;
 
 /// A VPS, an SPS, a PPS and a key unit.
@@ -7,23 +9,20 @@ const UNITS: [u8; 24] = [
     0, 0, 1, 0, 0x71, 0xaa, 0, 0, 1, 0, 0x79, 0xbb, 0, 0, 1, 0, 0x81, 0xcc, 0, 0, 1, 0, 0x39, 0xdd,
 ];
 
-#[test]
-fn payloads_and_their_packets(rt: HostRuntime) -> Result<(), Fail> {
-    let none: &[&[u8]] = &[];
-    let new = Some(false);
-    let numbered = Some(true);
-    // Whether a new packetizer takes the call, with numbers or without; the mtu, the payload and
-    // its packets.
-    let table: [(Option<bool>, usize, &[u8], &[&[u8]]); 13] = [
-        (new, 3, &[0, 9, 0xaa], none),
-        (
-            new,
+/// Whether there are numbers, and the calls of a new packetizer.
+static RUNS: [(bool, &[Call]); 9] = [
+    (false, &[(3, &[0, 9, 0xaa], &[])]),
+    (
+        false,
+        &[(
             1200,
             &[0, 0, 1, 0, 9, 0xaa, 0, 0, 0, 0, 1, 0, 0x11, 0xbb],
             &[&[0, 9, 0xaa, 0], &[0, 0x11, 0xbb]],
-        ),
-        (
-            new,
+        )],
+    ),
+    (
+        false,
+        &[(
             1200,
             &UNITS,
             &[
@@ -32,9 +31,11 @@ fn payloads_and_their_packets(rt: HostRuntime) -> Result<(), Fail> {
                 ],
                 &[0, 0x39, 0xdd],
             ],
-        ),
-        (
-            new,
+        )],
+    ),
+    (
+        false,
+        &[(
             16,
             &UNITS,
             &[
@@ -43,9 +44,11 @@ fn payloads_and_their_packets(rt: HostRuntime) -> Result<(), Fail> {
                 &[0, 0x81, 0xcc],
                 &[0, 0x39, 0xdd],
             ],
-        ),
-        (
-            new,
+        )],
+    ),
+    (
+        false,
+        &[(
             1200,
             &[
                 0, 0, 1, 2, 0x7a, 0xbb, 0, 0, 1, 1, 0x83, 0xcc, 0, 0, 1, 0, 0x39, 0xdd,
@@ -54,20 +57,26 @@ fn payloads_and_their_packets(rt: HostRuntime) -> Result<(), Fail> {
                 &[1, 0xe2, 0, 3, 2, 0x7a, 0xbb, 0, 3, 1, 0x83, 0xcc],
                 &[0, 0x39, 0xdd],
             ],
-        ),
-        (new, 1200, &[0, 0x79, 0xbb], none),
-        (None, 1200, &[0x80, 0x81, 0xcc], none),
-        (
-            None,
-            1200,
-            &[0, 0x39, 0xdd],
-            &[
-                &[0x80, 0xe1, 0, 3, 0, 0x79, 0xbb, 0, 3, 0x80, 0x81, 0xcc],
+        )],
+    ),
+    (
+        false,
+        &[
+            (1200, &[0, 0x79, 0xbb], &[]),
+            (1200, &[0x80, 0x81, 0xcc], &[]),
+            (
+                1200,
                 &[0, 0x39, 0xdd],
-            ],
-        ),
-        (
-            numbered,
+                &[
+                    &[0x80, 0xe1, 0, 3, 0, 0x79, 0xbb, 0, 3, 0x80, 0x81, 0xcc],
+                    &[0, 0x39, 0xdd],
+                ],
+            ),
+        ],
+    ),
+    (
+        true,
+        &[(
             1200,
             &[
                 0, 0, 1, 0, 0x79, 0xbb, 0, 0, 1, 0, 0x81, 0xcc, 0, 0, 1, 0, 0x39, 0xdd,
@@ -76,9 +85,11 @@ fn payloads_and_their_packets(rt: HostRuntime) -> Result<(), Fail> {
                 &[0, 0xe1, 0, 0, 0, 3, 0, 0x79, 0xbb, 0, 3, 0, 0x81, 0xcc],
                 &[0, 0x39, 0, 2, 0xdd],
             ],
-        ),
-        (
-            numbered,
+        )],
+    ),
+    (
+        true,
+        &[(
             18,
             &UNITS,
             &[
@@ -87,47 +98,62 @@ fn payloads_and_their_packets(rt: HostRuntime) -> Result<(), Fail> {
                 &[0, 0x81, 0, 2, 0xcc],
                 &[0, 0x39, 0, 3, 0xdd],
             ],
-        ),
-        (numbered, 5, &[0, 9, 0xaa, 0xbb], none),
-        (None, 5, &[0, 9, 0xaa], &[&[0, 9, 0, 0, 0xaa]]),
-        (
-            None,
-            6,
-            &[0, 9, 0xaa, 0xbb, 0xcc],
-            &[&[0, 0xe9, 0x81, 0, 1, 0xaa], &[0, 0xe9, 0x41, 0xbb, 0xcc]],
-        ),
-    ];
-    let mut packetizer = H266Packetizer::new(rt.alloc());
-    for (begun, mtu, payload, want) in table {
-        if let Some(numbered) = begun {
-            packetizer = H266Packetizer::new(rt.alloc());
-            packetizer.with_donl(numbered);
-        }
-        let packets = packetizer.packetize(mtu, payload)?;
-        assert_eq!(rt; packets.len(), want.len(), "at {mtu}: {payload:?}");
-        for place in 0..want.len() {
-            assert_eq!(rt;
-                packets[place].as_slice(),
-                want[place],
-                "at {mtu}: {payload:?}"
-            );
-        }
+        )],
+    ),
+    (
+        true,
+        &[
+            (5, &[0, 9, 0xaa, 0xbb], &[]),
+            (5, &[0, 9, 0xaa], &[&[0, 9, 0, 0, 0xaa]]),
+            (
+                6,
+                &[0, 9, 0xaa, 0xbb, 0xcc],
+                &[&[0, 0xe9, 0x81, 0, 1, 0xaa], &[0, 0xe9, 0x41, 0xbb, 0xcc]],
+            ),
+        ],
+    ),
+];
+
+#[test]
+fn payloads_and_their_packets(rt: HostRuntime) -> Result<(), Fail> {
+    for &(is_numbered, calls) in &RUNS {
+        let mut packetizer = H266Packetizer::new(rt.alloc());
+        packetizer.with_donl(is_numbered);
+        sends_all(&rt, &mut packetizer, calls)?;
     }
     Ok(())
 }
 
+/// Whether there are numbers, and how many packets go of a unit of eight bytes, limit by limit.
+static COUNTS: [(bool, [usize; 11]); 2] = [
+    (false, [0, 0, 0, 0, 6, 3, 2, 2, 1, 1, 1]),
+    (true, [0, 0, 0, 0, 0, 0, 3, 2, 2, 2, 1]),
+];
+
 #[test]
 fn packets_by_limit(rt: HostRuntime) -> Result<(), Fail> {
-    for (numbered, counts) in [
-        (false, [0, 0, 0, 0, 6, 3, 2, 2, 1, 1, 1]),
-        (true, [0, 0, 0, 0, 0, 0, 3, 2, 2, 2, 1]),
-    ] {
-        for mtu in 0..counts.len() {
-            let mut packetizer = H266Packetizer::new(rt.alloc());
-            packetizer.with_donl(numbered);
-            let packets = packetizer.packetize(mtu, &[0, 9, 1, 2, 3, 4, 5, 6])?;
-            assert_eq!(rt; packets.len(), counts[mtu], "at {mtu}, numbered {numbered}");
-        }
+    for (is_numbered, counts) in &COUNTS {
+        let mut packetizer = H266Packetizer::new(rt.alloc());
+        packetizer.with_donl(*is_numbered);
+        sends_by_limit(&rt, &mut packetizer, &[0, 9, 1, 2, 3, 4, 5, 6], counts)?;
+    }
+    Ok(())
+}
+
+/// A packetizer sends so many packets of a payload, and this first and last.
+fn sends_ends(
+    rt: &impl Abort,
+    packetizer: &mut H266Packetizer,
+    mtu: usize,
+    payload: &[u8],
+    count: usize,
+    ends: [Front; 2],
+) -> Result<(), PacketError> {
+    let packets = packetizer.packetize(mtu, payload)?;
+    assert_eq!(rt; packets.len(), count, "at {mtu}");
+    for (packet, (len, front)) in packets.first().into_iter().chain(packets.last()).zip(ends) {
+        assert_eq!(rt; packet.len(), len, "at {mtu}");
+        assert!(rt; packet.starts_with(front), "at {mtu}");
     }
     Ok(())
 }
@@ -136,14 +162,7 @@ fn packets_by_limit(rt: HostRuntime) -> Result<(), Fail> {
 fn long_units_and_largest_packet_sizes(rt: HostRuntime) -> Result<(), Fail> {
     // Types and lengths of units, the largest size, the mtu, how many packets go, and the length
     // of the first and the last and what they begin with.
-    let table: [(
-        &[(u8, usize)],
-        u16,
-        usize,
-        usize,
-        (usize, &[u8]),
-        (usize, &[u8]),
-    ); 8] = [
+    let table: [(&[(u8, usize)], u16, usize, usize, Front, Front); 8] = [
         (
             &[(9, 3000)],
             1200,
@@ -212,13 +231,7 @@ fn long_units_and_largest_packet_sizes(rt: HostRuntime) -> Result<(), Fail> {
         let mut packetizer = H266Packetizer::new(rt.alloc());
         packetizer.with_max_packet_size(largest);
         let mut copy = packetizer.clone()?;
-        let packets = copy.packetize(mtu, &payload)?;
-        assert_eq!(rt; packets.len(), count, "{units:?} at {mtu}");
-        assert!(rt; count > 0);
-        for (place, (len, front)) in [(0, first), (count - 1, last)] {
-            assert_eq!(rt; packets[place].len(), len, "{units:?} at {mtu}");
-            assert!(rt; packets[place].starts_with(front), "{units:?} at {mtu}");
-        }
+        sends_ends(&rt, &mut copy, mtu, &payload, count, [first, last])?;
     }
     Ok(())
 }
