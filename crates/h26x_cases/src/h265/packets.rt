@@ -1,9 +1,11 @@
+use crate::ends::same;
 use h26x_core::{H265FragmentationUnitHeader, H265NALUHeader, H265TSCI, PacketError};
 use h265_packets::{
     H265AggregationPacket, H265AggregationUnit, H265AggregationUnitFirst,
     H265FragmentationUnitPacket, H265PACIPacket, H265Payload, H265SingleNALUnitPacket,
 };
 use std::alloc::Global;
+use std::process::Abort;
 use std::test::Fail;
 
 /// A buffer of these bytes.
@@ -219,28 +221,40 @@ fn parts_of_tsci(rt: HostRuntime) -> Result<(), Fail> {
     Ok(())
 }
 
+/// A unit, an extension, and the header and the fields of the PACI packet of both.
+static PACKED: [(&[u8], &[u8], [u8; 4]); 6] = [
+    (
+        &[0x26, 0x01, 0xaa],
+        &[0x11, 0x22, 0x33],
+        [0x64, 0x01, 0x26, 0x38],
+    ),
+    (&[0x26, 0x01, 0xaa], &[0x11, 0x22], [0x64, 0x01, 0x26, 0x20]),
+    (&[0x26, 0x01, 0xaa], &[], [0x64, 0x01, 0x26, 0x00]),
+    (&[0xa6, 0x01, 0xaa], &[], [0x64, 0x01, 0xa6, 0x00]),
+    (&[0x27, 0x0a, 0xaa], &[], [0x65, 0x0a, 0x26, 0x00]),
+    (&[0x26, 0x01], &[0xbb; 31], [0x64, 0x01, 0x27, 0xf8]),
+];
+
+/// What is packed of a unit and an extension, in a buffer with bytes in it, and whether the buffer
+/// has the same; a unit without a header is refused.
+fn packed(alloc: Global, unit: &[u8], phes: &[u8]) -> Result<(Vec<u8>, bool), PacketError> {
+    if unit.len() < 2 {
+        return Err(PacketError::ErrShortPacket);
+    }
+    let mut buf = bytes(alloc, &[0x01, 0x02])?;
+    let packet = H265PACIPacket::packetize(alloc, unit, phes, &mut buf)?;
+    let is_same = buf == packet;
+    Ok((packet, is_same))
+}
+
 #[test]
 fn packed_pacis(rt: HostRuntime) -> Result<(), Fail> {
-    let longest = &[0xbb; 31];
-    for (unit, phes, head) in [
-        (
-            [0x26, 0x01, 0xaa].as_slice(),
-            [0x11, 0x22, 0x33].as_slice(),
-            [0x64, 0x01, 0x26, 0x38],
-        ),
-        (&[0x26, 0x01, 0xaa], &[0x11, 0x22], [0x64, 0x01, 0x26, 0x20]),
-        (&[0x26, 0x01, 0xaa], &[], [0x64, 0x01, 0x26, 0x00]),
-        (&[0xa6, 0x01, 0xaa], &[], [0x64, 0x01, 0xa6, 0x00]),
-        (&[0x27, 0x0a, 0xaa], &[], [0x65, 0x0a, 0x26, 0x00]),
-        (&[0x26, 0x01], longest, [0x64, 0x01, 0x27, 0xf8]),
-    ] {
-        let mut want = bytes(rt.alloc(), &head)?;
-        want.extend_from_slice(phes)?;
-        want.extend_from_slice(&unit[2..])?;
-        let mut buf = bytes(rt.alloc(), &[0x01, 0x02])?;
-        let packet = H265PACIPacket::packetize(rt.alloc(), unit, phes, &mut buf)?;
-        assert_eq!(rt; packet, want);
-        assert_eq!(rt; buf, want);
+    for (unit, phes, head) in &PACKED {
+        let (packet, is_same) = packed(rt.alloc(), unit, phes)?;
+        let rest = packet
+            .strip_prefix(head)
+            .and_then(|rest| rest.strip_prefix(*phes));
+        same(&rt, &(rest, is_same), &(unit.get(2..), true));
     }
     Ok(())
 }
@@ -324,31 +338,27 @@ fn equal_pacis(rt: HostRuntime) -> Result<(), Fail> {
     Ok(())
 }
 
+/// The buffer of a packet has these bytes.
+fn has_buffer(rt: &impl Abort, payload: H265Payload, want: Option<&[u8]>) {
+    same(rt, &payload.into_buffer().as_deref(), &want);
+}
+
 #[test]
 fn buffers_of_packets(rt: HostRuntime) -> Result<(), Fail> {
-    for (payload, want) in [
-        (
-            H265Payload::H265SingleNALUnitPacket(single(rt.alloc(), None)?),
-            Some([0xaa, 0xbb].as_slice()),
-        ),
-        (
-            H265Payload::H265FragmentationUnitPacket(fragment(rt.alloc(), None)?),
-            Some(&[0xaa]),
-        ),
-        (
-            H265Payload::H265AggregationPacket(aggregate(rt.alloc())?),
-            Some(&[0x40, 0x01, 0x0c]),
-        ),
-        (
-            H265Payload::H265AggregationPacket(H265AggregationPacket::empty(rt.alloc())),
-            None,
-        ),
-        (
-            H265Payload::H265PACIPacket(paci(rt.alloc())?),
-            Some(&TSCI_AND_PAYLOAD),
-        ),
-    ] {
-        assert_eq!(rt; payload.into_buffer().as_deref(), want);
-    }
+    let packet = H265Payload::H265SingleNALUnitPacket(single(rt.alloc(), None)?);
+    has_buffer(&rt, packet, Some(&[0xaa, 0xbb]));
+    let packet = H265Payload::H265FragmentationUnitPacket(fragment(rt.alloc(), None)?);
+    has_buffer(&rt, packet, Some(&[0xaa]));
+    let packet = H265Payload::H265PACIPacket(paci(rt.alloc())?);
+    has_buffer(&rt, packet, Some(&TSCI_AND_PAYLOAD));
+    Ok(())
+}
+
+#[test]
+fn buffers_of_aggregates(rt: HostRuntime) -> Result<(), Fail> {
+    let packet = H265Payload::H265AggregationPacket(aggregate(rt.alloc())?);
+    has_buffer(&rt, packet, Some(&[0x40, 0x01, 0x0c]));
+    let empty = H265AggregationPacket::empty(rt.alloc());
+    has_buffer(&rt, H265Payload::H265AggregationPacket(empty), None);
     Ok(())
 }
