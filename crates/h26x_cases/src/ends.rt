@@ -45,7 +45,7 @@ pub(crate) fn sends_all<P: Packetizer>(
 /// The length of a packet, and what it begins with.
 pub(crate) type Front<'a> = (usize, &'a [u8]);
 
-/// A packetizer sends as many packets of a payload, of these lengths and with these bytes in front.
+/// A packetizer sends packets of these lengths of a payload, each with these bytes in front.
 pub(crate) fn sends_fronts<P: Packetizer>(
     rt: &impl Abort,
     packetizer: &mut P,
@@ -62,7 +62,7 @@ pub(crate) fn sends_fronts<P: Packetizer>(
     Ok(())
 }
 
-/// A packetizer sends as many packets of a payload under the limit 0, under 1, and so on.
+/// A packetizer sends so many packets of a payload under the limit 0, under 1, and so on.
 pub(crate) fn sends_by_limit<P: Packetizer>(
     rt: &impl Abort,
     packetizer: &mut P,
@@ -117,7 +117,7 @@ pub(crate) fn refuses<D: Depacketizer + PartialEq>(
     Ok(())
 }
 
-/// A call tells this of packets, as whether they begin a keyframe.
+/// A call tells this of each packet: whether it begins a keyframe, or is the first of an access unit.
 pub(crate) fn tells<F: Fn(&[u8]) -> bool>(rt: &impl Abort, call: F, rows: &[(&[u8], bool)])
     requires { F.IsAlwaysCallable call }
 {
@@ -126,22 +126,7 @@ pub(crate) fn tells<F: Fn(&[u8]) -> bool>(rt: &impl Abort, call: F, rows: &[(&[u
     }
 }
 
-/// A depacketizer tells which packets are the first of an access unit.
-pub(crate) fn tells_heads<D: Depacketizer>(
-    rt: &impl Abort,
-    depacketizer: &D,
-    rows: &[(&[u8], bool)],
-) {
-    for &(packet, is_head) in rows {
-        assert_eq!(rt;
-            depacketizer.is_partition_head(packet),
-            is_head,
-            "at {packet:?}"
-        );
-    }
-}
-
-/// A depacketizer tells which packets are the last of one, with this marker.
+/// A depacketizer tells whether each packet, with this marker, is the last of an access unit.
 pub(crate) fn tells_tails<D: Depacketizer>(
     rt: &impl Abort,
     depacketizer: &D,
@@ -156,7 +141,7 @@ pub(crate) fn tells_tails<D: Depacketizer>(
     }
 }
 
-/// A depacketizer tells how much room packets of these lengths may need.
+/// A depacketizer tells how much room packets may need, by their length together.
 pub(crate) fn tells_hints<D: Depacketizer>(rt: &impl Abort, depacketizer: &D) {
     for (size, hint) in [(0, 4), (1199, 1203), (1200, 1208), (usize::MAX, usize::MAX)] {
         assert_eq!(rt; depacketizer.out_size_hint(size), Some(hint), "at {size}");

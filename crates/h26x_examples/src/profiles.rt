@@ -5,7 +5,7 @@ use h26x_profile::{
     H265Profile, H265ProfileTierLevel, H265Tier, H266Level, H266Profile, H266ProfileTierLevel,
     H266Tier,
 };
-use serde::{DeserializeOwned, Serialize};
+use serde::{Deserialize, DeserializeOwned, Serialize};
 use std::alloc::Global;
 use std::collections::HashMap;
 use std::process::Abort;
@@ -218,10 +218,21 @@ fn is_written_as<T: PartialEq + Serialize + DeserializeOwned>(
     Ok(written.as_str() == text && read == *value)
 }
 
+/// Whether a value is read from this text, of which it may keep parts.
+fn is_read_from<'de, T: PartialEq + Deserialize<'de>>(
+    alloc: Global,
+    value: &T,
+    text: &'de str,
+) -> Result<bool, Fail> {
+    let read: T = serde_json::from_str(alloc, text)?;
+    Ok(read == *value)
+}
+
 #[test]
 fn json_of_h265(rt: HostRuntime) -> Result<(), Fail> {
     let text = "{\"profile\":\"Main\",\"tier\":\"Main\",\"level\":\"Level3_1\"}";
     assert!(rt; is_written_as(rt.alloc(), &H265ProfileTierLevel::FALLBACK, text)?);
+    assert!(rt; is_read_from(rt.alloc(), &H265ProfileTierLevel::FALLBACK, text)?);
     Ok(())
 }
 
@@ -230,6 +241,7 @@ fn json_of_h266(rt: HostRuntime) -> Result<(), Fail> {
     let text = "{\"profile\":\"Main10_444\",\"tier\":\"High\",\"level\":\"Level15_5\"}";
     let value = H266ProfileTierLevel::from((33, 1, 255));
     assert!(rt; is_written_as(rt.alloc(), &value, text)?);
+    assert!(rt; is_read_from(rt.alloc(), &value, text)?);
     Ok(())
 }
 

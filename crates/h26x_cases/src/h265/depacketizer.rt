@@ -1,4 +1,4 @@
-use crate::ends::{refuses, same, sends, tells_heads, tells_hints, tells_tails, writes};
+use crate::ends::{refuses, same, sends, tells, tells_hints, tells_tails, writes};
 use h26x_core::{CodecExtra, Depacketizer, H265CodecExtra, H265TSCI, PacketError};
 use h265_packets::H265Payload;
 use h265_payload::{H265Depacketizer, H265Packetizer};
@@ -451,7 +451,7 @@ static HEADS: [(&[u8], bool); 8] = [
 #[test]
 fn heads(rt: HostRuntime) {
     let d = H265Depacketizer::new(rt.alloc());
-    tells_heads(&rt, &d, &HEADS);
+    tells(&rt, |packet| d.is_partition_head(packet), &HEADS);
 }
 
 /// The marker, a packet, and whether it is the last of an access unit.

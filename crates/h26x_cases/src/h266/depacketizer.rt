@@ -1,4 +1,4 @@
-use crate::ends::{refuses, tells_heads, tells_hints, tells_tails, writes};
+use crate::ends::{refuses, tells, tells_hints, tells_tails, writes};
 use h26x_core::{CodecExtra, Depacketizer, H266CodecExtra, PacketError};
 use h266_payload::H266Depacketizer;
 use std::alloc::Global;
@@ -202,10 +202,14 @@ fn refusals_within_a_run(rt: HostRuntime) -> Result<(), Fail> {
 }
 
 #[test]
-fn a_run_stays_open(rt: HostRuntime) -> Result<(), Fail> {
-    let mut d = with_a_run(rt.alloc())?;
+fn a_setting_changed_within_a_run(rt: HostRuntime) -> Result<(), Fail> {
+    let mut d = H266Depacketizer::new(rt.alloc());
+    let start = [0x00, 0xe9, 0x81, 0xaa];
+    writes(&rt, rt.alloc(), &mut d, &[&start], &[], CodecExtra::None)?;
     d.with_donl(true);
-    Ok(writes(&rt, rt.alloc(), &mut d, &[&END], &WRITTEN, A_KEY)?)
+    let end = [0x00, 0xe9, 0x41, 0xbb];
+    let want = [0x00, 0x00, 0x00, 0x01, 0x00, 0x09, 0xaa, 0xbb];
+    Ok(writes(&rt, rt.alloc(), &mut d, &[&end], &want, NO_KEY)?)
 }
 
 /// Packets, and whether they are the first of an access unit.
@@ -224,7 +228,7 @@ static HEADS: [(&[u8], bool); 9] = [
 #[test]
 fn heads(rt: HostRuntime) {
     let d = H266Depacketizer::new(rt.alloc());
-    tells_heads(&rt, &d, &HEADS);
+    tells(&rt, |packet| d.is_partition_head(packet), &HEADS);
 }
 
 /// The marker, a packet, and whether it is the last of an access unit.
