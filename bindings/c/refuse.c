@@ -173,6 +173,8 @@ static void refuse_receiving(const struct codec *c)
     size_t count, written = 0, total = 0;
     uint8_t extra = 0;
     h26x_refusal why;
+    h26x_h265_packet shown;
+    uint32_t number;
     expect(h26x_packetizer_new(c->number, false, &p) == H26X_OK);
     expect(h26x_packetize(&p, LIMIT, (const uint8_t *)c->sets, c->sets_len, &count) == H26X_OK);
     expect(h26x_packetize(&p, LIMIT, unit, c->unit_header + DATA, &count) == H26X_OK && count == 4);
@@ -194,11 +196,26 @@ static void refuse_receiving(const struct codec *c)
     expect(total == c->sets_len + 2 + 4 + c->unit_header + DATA);
     expect(memcmp(to + total - c->unit_header - DATA, unit, c->unit_header + DATA) == 0);
 
+    without_memory(h26x_h265_shown(&d, &shown)
+                   == (c->number == H26X_H265 ? H26X_OK : H26X_NOT_OF_THIS_CODEC));
+    without_memory((h26x_h265_part_copy(&d, 0, packet, sizeof packet, &number) > 0)
+                   == (c->number == H26X_H265));
     without_memory(h26x_give_up_run(&d) == H26X_OK);
     without_memory(h26x_depacketizer_set_numbers(&d, false)
                    == (c->number == H26X_H264 ? H26X_NOT_OF_THIS_CODEC : H26X_OK));
     h26x_packetizer_free(p);
     h26x_depacketizer_free(d);
+}
+
+static void refuse_packing(void)
+{
+    size_t len = 0;
+    refuse_each(h26x_h265_paci_packet(unit, 9, unit, 3, packet, sizeof packet, &len), len == 0);
+    expect(len == 14);
+    without_memory(h26x_h265_paci_packet(unit, 1, unit, 3, packet, sizeof packet, &len)
+                   == H26X_SHORT_PACKET);
+    without_memory(h26x_h265_paci_packet(unit, 9, unit, 32, packet, sizeof packet, &len)
+                   == H26X_H265_PACI_PHES_TOO_LONG);
 }
 
 static void look_without_memory(const struct codec *c)
@@ -221,6 +238,7 @@ int main(void)
         refuse_receiving(c);
         look_without_memory(c);
     }
+    refuse_packing();
     printf("%zu requests refused, nothing lost\n", refused);
     return 0;
 }

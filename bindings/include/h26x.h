@@ -130,6 +130,41 @@ size_t h26x_written_copy(h26x_depacketizer *d, uint8_t *to, size_t room);
  * H26X_WRONG_END. */
 uint32_t h26x_give_up_run(h26x_depacketizer *d);
 
+/* ---- The packets that a depacketizer of H.265 shows ---- */
+
+/* What a packet is (RFC 7798, 4.4.1 to 4.4.4). */
+enum h26x_h265_kind { H26X_H265_SINGLE = 1, H26X_H265_FRAGMENT = 2, H26X_H265_AGGREGATE = 3, H26X_H265_PACI = 4 };
+
+/* A packet in numbers. */
+typedef struct {
+    uint32_t kind;
+    uint16_t header; /* F, the type, the layer id and TID, from the highest bit down (1.1.4); 0 for an aggregate */
+    uint16_t word;   /* from the highest bit down: of a fragment S, E and the unit's type, in 8 bits (4.4.3); of a PACI
+                      * packet A, cType, PHSsize, F0, F1, F2 and Y (4.4.4); else 0 */
+    size_t parts;    /* how many h26x_h265_part_copy copies */
+} h26x_h265_packet;
+
+/* The packet that was accepted last; before there is one, H26X_H265_SINGLE with a header of 0 and a part without bytes.
+ * H26X_NOT_OF_THIS_CODEC for H.264 and H.266; H26X_WRONG_END. */
+uint32_t h26x_h265_shown(h26x_depacketizer *d, h26x_h265_packet *shown);
+
+/* What *number is where none was read. */
+enum { H26X_NO_NUMBER = 65536 };
+
+/* Copies part i of that packet to the front of `to` where it fits in `room` bytes, else leaves `to`. Answers the part's
+ * length; 0 past the last part, and where nothing is shown. Parts are: of H26X_H265_SINGLE and H26X_H265_FRAGMENT what
+ * stands behind the headers and DONL; of H26X_H265_AGGREGATE each unit; of H26X_H265_PACI the extension of the header,
+ * in which TSCI is the first three bytes where F0 is set (4.5), and then the unit without its header.
+ * *number is the number that stands before the part, DONL, or DOND of a unit behind the first, or H26X_NO_NUMBER. */
+size_t h26x_h265_part_copy(h26x_depacketizer *d, size_t i, uint8_t *to, size_t room, uint32_t *number);
+
+/* Packs a unit, its header first, into a PACI packet with an extension of the header (4.4.4), and copies that to the
+ * front of `to` where it fits in `room` bytes, else leaves `to`; *len is the packet's length. F0 is set where the
+ * extension has three bytes or more. H26X_SHORT_PACKET where the unit has under two bytes; else
+ * H26X_H265_PACI_PHES_TOO_LONG where the extension has over 31; else H26X_OUT_OF_MEMORY. */
+uint32_t h26x_h265_paci_packet(const uint8_t *unit, size_t unit_len, const uint8_t *extension, size_t extension_len,
+                               uint8_t *to, size_t room, size_t *len);
+
 /* ---- Packets and payloads ---- */
 
 /* Whether a packet may be the first of an access unit; false for an unknown codec. */

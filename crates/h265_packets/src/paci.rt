@@ -113,6 +113,13 @@ impl H265PACIPacket {
         self.header
     }
 
+    /// The word of A, cType, PHSsize, F0, F1, F2 and Y, from the highest bit down (RFC 7798, 4.4.4).
+    pub fn fields(&self) -> u16
+        ensures { result ≡ self.now.fields }
+    {
+        self.fields
+    }
+
     /// A, the bit F of the unit within (RFC 7798, 4.4.4).
     pub fn a(&self) -> bool
         ensures { result ≡ is_set self.now.fields 15 }

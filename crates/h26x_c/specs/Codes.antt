@@ -23,6 +23,14 @@ has_numbers c.H266 = true
 abbrev pub ok : ℕ
 ok = 0
 
+-- a packet, or a unit that is to be packed, is too short
+abbrev pub short_packet : ℕ
+short_packet = 1
+
+-- the extension of a PACI packet has over 31 bytes
+abbrev pub extension_too_long : ℕ
+extension_too_long = 5
+
 abbrev pub out_of_memory : ℕ
 out_of_memory = 8
 

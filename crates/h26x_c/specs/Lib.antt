@@ -5,5 +5,6 @@ pub mod Packets
 pub mod Profiles
 pub mod Boxes
 pub mod Ends
+pub mod Shown
 pub mod Owned
 pub mod Lent

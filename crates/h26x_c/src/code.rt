@@ -9,6 +9,12 @@ use h26x_core::{CodecExtra, H264CodecExtra, H265CodecExtra, H266CodecExtra, Pack
 /// The call was carried out.
 pub const OK: u32 = 0;
 
+/// A packet, or a unit that is to be packed, is too short.
+pub const SHORT_PACKET: u32 = 1;
+
+/// The extension of a PACI packet has over 31 bytes.
+pub const EXTENSION_TOO_LONG: u32 = 5;
+
 /// No memory; nothing changed.
 pub const OUT_OF_MEMORY: u32 = 8;
 
@@ -37,11 +43,11 @@ pub fn code_of(error: PacketError, why: &mut Refusal) -> u32
     ensures { outcome_of result why.new.first why.new.second ≡ Some (Err error) }
 {
     let (code, first, second) = match error {
-        PacketError::ErrShortPacket => (1, 0, 0),
+        PacketError::ErrShortPacket => (SHORT_PACKET, 0, 0),
         PacketError::NaluTypeIsNotHandled(kind) => (2, usize::from(kind), 0),
         PacketError::StapASizeLargerThanBuffer(len, left) => (3, len, left),
         PacketError::ErrH265CorruptedPacket => (4, 0, 0),
-        PacketError::ErrH265PACIPHESTooLong => (5, 0, 0),
+        PacketError::ErrH265PACIPHESTooLong => (EXTENSION_TOO_LONG, 0, 0),
         PacketError::ErrH266CorruptedPacket => (6, 0, 0),
         PacketError::AvcUnitTooLong => (7, 0, 0),
         PacketError::OutOfMemory => (OUT_OF_MEMORY, 0, 0),

@@ -1,14 +1,17 @@
 //! A depacketizer of any codec.
 
 ghost use Rattle.std.specs.Prelude.{◌≡◌, [], ◌∷◌, false, Some, None, Err, IfOk, OnOk, OnErr};
+ghost use Rattle.std.specs.Option.{option_map};
 ghost use Rattle.h26x_core.specs.Receiver.{Receiver, work_after, IsOutcomeAt};
 ghost use Rattle.h26x_codec.specs.Codec.{at_work};
 ghost use Rattle.h264_payload.specs.Depacketizer as h264_end;
 ghost use Rattle.h26x_c.specs.Ends.{receiver_in, codec_received, rereading, closed, is_same, fresh_received, showing};
+ghost use Rattle.h26x_c.specs.Shown.{shown_in};
 
 use h26x_codec::Codec;
 use h26x_core::{CodecExtra, Depacketizer, PacketError};
 use h264_payload::H264Depacketizer;
+use h265_packets::H265Payload;
 use h265_payload::H265Depacketizer;
 use h266_payload::H266Depacketizer;
 use std::alloc::Global;
@@ -67,6 +70,16 @@ impl CodecReceiver {
             (CodecReceiver::H265(a), CodecReceiver::H265(b)) => a == b,
             (CodecReceiver::H266(a), CodecReceiver::H266(b)) => a == b,
             _ => false,
+        }
+    }
+
+    /// The packet that was accepted last, where the codec shows it: H.265.
+    pub fn shown(&self) -> Option<&H265Payload>
+        ensures { option_map (λ packet. packet.now) result ≡ shown_in self.now }
+    {
+        match self {
+            CodecReceiver::H265(it) => Some(it.payload()),
+            CodecReceiver::H264(_) | CodecReceiver::H266(_) => None,
         }
     }
 

@@ -1,10 +1,12 @@
 //! Worked cases of the payload formats, packet by packet: what the ends of each codec send and
-//! take, the fields of header words, and the packets that H.265 shows.
+//! take, those of any codec too, the fields of header words, and the packets that H.265 shows.
 //!
 //! This crate has no code but tests, and they call what callers may. They stand apart from the
 //! crates that they are of since a check of a crate's tests proves the crate once more.
 #![tactic(auto)]
 
+#[cfg(test)]
+mod codec;
 #[cfg(test)]
 mod ends;
 #[cfg(test)]

@@ -206,6 +206,3 @@ impl Depacketizer for CodecDepacketizer {
         }
     }
 }
-
-#[cfg(test)]
-mod tests;

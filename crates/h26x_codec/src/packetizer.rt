@@ -217,6 +217,3 @@ impl Packetizer for CodecPacketizer {
         }
     }
 }
-
-#[cfg(test)]
-mod tests;

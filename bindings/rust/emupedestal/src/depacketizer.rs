@@ -4,6 +4,7 @@ use crate::codec::{Codec, CodecExtra};
 use crate::error::PacketError;
 use crate::handle::{Handle, Receiving};
 use crate::packet::Depacketizer;
+use crate::shown::{H265Payload, shown};
 use crate::sys::{self, Refusal};
 
 /// The bytes before a unit: a start code, or its length in AVC form.
@@ -214,3 +215,24 @@ macro_rules! numbered {
 
 numbered!(H265Depacketizer);
 numbered!(H266Depacketizer);
+
+impl H265Depacketizer {
+    /// The packet that was accepted last (RFC 7798, 4.4), as a copy of what the library holds;
+    /// before any, a single NAL unit packet with a header of 0 and no bytes. A refused packet isn't
+    /// shown.
+    ///
+    /// ```
+    /// use emupedestal::{CodecExtra, Depacketizer, H265Depacketizer, H265Payload};
+    ///
+    /// let mut depacketizer = H265Depacketizer::default();
+    /// let packet = [0x62, 0x01, 0x93, 0xaa];
+    /// depacketizer.depacketize(&packet, &mut Vec::new(), &mut CodecExtra::None)?;
+    /// let H265Payload::H265FragmentationUnitPacket(shown) = depacketizer.payload() else { panic!() };
+    /// assert!(shown.fu_header().s() && !shown.fu_header().e());
+    /// assert_eq!((shown.fu_header().fu_type(), shown.payload()), (19, [0xaa].as_slice()));
+    /// # Ok::<(), emupedestal::PacketError>(())
+    /// ```
+    pub fn payload(&self) -> H265Payload {
+        shown(&self.handle)
+    }
+}

@@ -70,6 +70,11 @@ impl<E: End> Handle<E> {
     pub fn raw(&mut self) -> &mut Raw {
         self.raw.get_mut()
     }
+
+    /// The handle, which is live and this thread's alone, for a call that only looks at it.
+    pub fn lent(&self) -> *mut Raw {
+        self.raw.get()
+    }
 }
 
 /// It panics where memory lacks.
@@ -77,7 +82,7 @@ impl<E: End> Clone for Handle<E> {
     fn clone(&self) -> Self {
         let mut made = Raw::room();
         // SAFETY: the handle is live and this thread's alone, and `made` has room for another.
-        let code = unsafe { E::CLONE(self.raw.get(), &mut made) };
+        let code = unsafe { E::CLONE(self.lent(), &mut made) };
         Self::written(self.codec, code, made)
     }
 }
@@ -89,7 +94,7 @@ impl PartialEq for Handle<Receiving> {
             return true;
         }
         // SAFETY: two live handles, both this thread's alone.
-        unsafe { sys::h26x_depacketizer_same(self.raw.get(), other.raw.get()) }
+        unsafe { sys::h26x_depacketizer_same(self.lent(), other.lent()) }
     }
 }
 

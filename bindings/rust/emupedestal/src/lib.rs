@@ -57,7 +57,9 @@ mod packet;
 mod packetizer;
 mod packets;
 mod profile;
+mod shown;
 mod sys;
+mod words;
 
 #[cfg(test)]
 mod tests;
@@ -75,3 +77,8 @@ pub use packets::{PacketIter, Packets};
 pub use profile::{H264LevelIdc, H264Profile, H264ProfileLevel};
 pub use profile::{H265Level, H265Profile, H265ProfileTierLevel, H265Tier};
 pub use profile::{H266Level, H266Profile, H266ProfileTierLevel, H266Tier};
+pub use shown::{
+    H265AggregationPacket, H265AggregationUnit, H265AggregationUnitFirst,
+    H265FragmentationUnitPacket, H265PACIPacket, H265Payload, H265SingleNALUnitPacket,
+};
+pub use words::{H265FragmentationUnitHeader, H265NALUHeader, H265TSCI};

@@ -31,6 +31,21 @@ pub struct Refusal {
     pub second: usize,
 }
 
+/// A packet of H.265 in numbers.
+#[repr(C)]
+#[derive(Default)]
+pub struct Shown {
+    pub kind: u32,
+    pub header: u16,
+    pub word: u16,
+    pub parts: usize,
+}
+
+// The kinds of packets, besides the single NAL unit packet.
+pub const FRAGMENT: u32 = 2;
+pub const AGGREGATE: u32 = 3;
+pub const PACI: u32 = 4;
+
 unsafe extern "C" {
     pub fn h26x_packetizer_new(codec: u32, numbers: bool, made: *mut Raw) -> u32;
     pub fn h26x_packetizer_clone(p: *mut Raw, made: *mut Raw) -> u32;
@@ -73,6 +88,24 @@ unsafe extern "C" {
     ) -> u32;
     pub fn h26x_written_copy(d: *mut Raw, to: *mut u8, room: usize) -> usize;
     pub fn h26x_give_up_run(d: *mut Raw) -> u32;
+
+    pub fn h26x_h265_shown(d: *mut Raw, shown: *mut Shown) -> u32;
+    pub fn h26x_h265_part_copy(
+        d: *mut Raw,
+        i: usize,
+        to: *mut u8,
+        room: usize,
+        number: *mut u32,
+    ) -> usize;
+    pub fn h26x_h265_paci_packet(
+        unit: *const u8,
+        unit_len: usize,
+        extension: *const u8,
+        extension_len: usize,
+        to: *mut u8,
+        room: usize,
+        len: *mut usize,
+    ) -> u32;
 
     pub fn h26x_is_partition_head(codec: u32, packet: *const u8, packet_len: usize) -> bool;
     pub fn h26x_is_partition_tail(

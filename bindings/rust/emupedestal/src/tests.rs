@@ -8,6 +8,7 @@ mod packetizer;
 mod packets;
 mod profile;
 mod refusals;
+mod shown;
 mod speed;
 
 use crate::{CodecExtra, Depacketizer, PacketError, Packetizer};

@@ -1,4 +1,5 @@
-use super::*;
+use h26x_codec::{Codec, CodecPacketizer};
+use h26x_core::Packetizer;
 use std::test::Fail;
 
 /// A payload of one unit of H.265 or H.266.
@@ -27,7 +28,7 @@ static CONFIGURED: [(Codec, [Option<u32>; 2], [&[u8]; 2]); 9] = [
 
 #[test]
 fn numbers_by_the_session_description(rt: HostRuntime) -> Result<(), Fail> {
-    for (codec, told, want) in CONFIGURED {
+    for &(codec, told, want) in &CONFIGURED {
         let mut packetizer = CodecPacketizer::new(rt.alloc(), codec);
         for (told, want) in told.into_iter().zip(want) {
             packetizer.configure_for(told);

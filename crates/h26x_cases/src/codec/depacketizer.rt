@@ -1,5 +1,9 @@
-use super::*;
-use h26x_core::{H264CodecExtra, H265CodecExtra, H266CodecExtra};
+use crate::ends::writes;
+use h26x_codec::{Codec, CodecDepacketizer};
+use h26x_core::{
+    CodecExtra, Depacketizer, H264CodecExtra, H265CodecExtra, H266CodecExtra, PacketError,
+};
+use std::alloc::Global;
 use std::test::Fail;
 
 const CODECS: [Codec; 3] = [Codec::H264, Codec::H265, Codec::H266];
@@ -35,43 +39,20 @@ static KEY_UNITS: [(Codec, &[u8], [&[u8]; 2], &[u8]); 3] = [
     ),
 ];
 
-/// What a new end of this codec writes of packets, and tells.
-fn take(
-    alloc: Global,
-    codec: Codec,
-    packets: &[&[u8]],
-) -> Result<(Vec<u8>, CodecExtra), PacketError> {
-    let mut depacketizer = CodecDepacketizer::new(alloc, codec);
-    let mut out = Vec::new(alloc);
-    let mut extra = CodecExtra::None;
-    for packet in packets {
-        depacketizer.depacketize(packet, &mut out, &mut extra)?;
-    }
-    Ok((out, extra))
-}
-
 #[test]
 fn each_packet_reaches_its_codec(rt: HostRuntime) -> Result<(), Fail> {
-    for (codec, unit, _, written) in KEY_UNITS {
-        let (out, extra) = take(rt.alloc(), codec, &[unit])?;
-        assert_eq!(rt;
-            (out.as_slice(), extra),
-            (written, key_of(codec)),
-            "{codec:?}"
-        );
+    for &(codec, unit, _, written) in &KEY_UNITS {
+        let mut d = CodecDepacketizer::new(rt.alloc(), codec);
+        writes(&rt, rt.alloc(), &mut d, &[unit], written, key_of(codec))?;
     }
     Ok(())
 }
 
 #[test]
 fn each_fragment_reaches_its_codec(rt: HostRuntime) -> Result<(), Fail> {
-    for (codec, _, fragments, written) in KEY_UNITS {
-        let (out, extra) = take(rt.alloc(), codec, &fragments)?;
-        assert_eq!(rt;
-            (out.as_slice(), extra),
-            (written, key_of(codec)),
-            "{codec:?}"
-        );
+    for &(codec, _, fragments, written) in &KEY_UNITS {
+        let mut d = CodecDepacketizer::new(rt.alloc(), codec);
+        writes(&rt, rt.alloc(), &mut d, &fragments, written, key_of(codec))?;
     }
     Ok(())
 }
@@ -92,7 +73,7 @@ fn refuse_behind(
 
 #[test]
 fn a_refusal_leaves_what_was_written_and_told(rt: HostRuntime) -> Result<(), Fail> {
-    for (codec, unit, _, written) in KEY_UNITS {
+    for &(codec, unit, _, written) in &KEY_UNITS {
         let (answer, out, extra) = refuse_behind(rt.alloc(), codec, unit)?;
         assert_eq!(rt;
             (answer, out.as_slice(), extra),
@@ -128,7 +109,7 @@ fn give_up_between(
 
 #[test]
 fn a_run_that_is_given_up(rt: HostRuntime) -> Result<(), Fail> {
-    for (codec, _, fragments, _) in KEY_UNITS {
+    for &(codec, _, fragments, _) in &KEY_UNITS {
         let (out, extra) = give_up_between(rt.alloc(), codec, fragments)?;
         assert_eq!(rt; (out.len(), extra), (0, CodecExtra::None), "{codec:?}");
     }
@@ -201,7 +182,7 @@ fn head_and_tails(alloc: Global, codec: Codec, packet: &[u8]) -> [bool; 3] {
 
 #[test]
 fn heads_and_tails(rt: HostRuntime) {
-    for (packet, want) in HEADS_AND_TAILS {
+    for &(packet, want) in &HEADS_AND_TAILS {
         for (codec, want) in CODECS.into_iter().zip(want) {
             assert_eq!(rt;
                 head_and_tails(rt.alloc(), codec, packet),

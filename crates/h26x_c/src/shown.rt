@@ -1,0 +1,203 @@
+//! The calls on the packet that a depacketizer of H.265 shows.
+
+ghost use Rattle.std.specs.Prelude.{◌≡◌, ◌≢◌, true, false, [], ◌++◌, None, Some, length, map};
+ghost use Rattle.h265_packets.specs.declared.payload.H265Payload.{H265Payload};
+ghost use Rattle.h26x_c.specs.Codes.{ok, wrong_end, not_of_this_codec};
+ghost use Rattle.h26x_c.specs.Copies.{copied};
+ghost use Rattle.h26x_c.specs.Ends.{is_sending};
+ghost use Rattle.h26x_c.specs.Shown.{unnumbered, first_part, other_part, parts_of, kind_of, header_of, word_of, nth_part, number_shown, shown_at, parts_in, parts_at};
+
+use crate::code::{NOT_OF_THIS_CODEC, OK, WRONG_END};
+use crate::copy::copy_where_room;
+use crate::end::End;
+use crate::handle::Handle;
+use crate::receiver::CodecReceiver;
+use h265_packets::{H265AggregationPacket, H265AggregationUnit, H265Payload};
+
+/// What is told where no number was read before a part.
+const NO_NUMBER: u32 = 65536;
+
+/// A packet in numbers (RFC 7798, 4.4).
+#[repr(C)]
+#[derive(Clone, Copy)]
+pub struct Shown {
+    pub kind: u32,
+    pub header: u16,
+    pub word: u16,
+    pub parts: usize,
+}
+
+/// The packet that was accepted last, in numbers.
+#[unsafe(no_mangle)]
+pub extern "C" fn h26x_h265_shown(d: &mut Handle, shown: &mut Shown) -> u32
+    ensures wrong { is_sending d.old.value ≡ true → result ≡ wrong_end }
+    ensures none { is_sending d.old.value ≡ false → shown_at d.old.value ≡ None →
+        result ≡ not_of_this_codec }
+    ensures answer { (it : H265Payload) → shown_at d.old.value ≡ Some it → result ≡ ok }
+    ensures kind { (it : H265Payload) → shown_at d.old.value ≡ Some it →
+        shown.new.kind ≡ kind_of it }
+    ensures header { (it : H265Payload) → shown_at d.old.value ≡ Some it →
+        shown.new.header ≡ header_of it }
+    ensures word { (it : H265Payload) → shown_at d.old.value ≡ Some it →
+        shown.new.word ≡ word_of it }
+    ensures parts { (it : H265Payload) → shown_at d.old.value ≡ Some it →
+        shown.new.parts ≡ length (parts_of it) }
+    ensures kept { result ≢ ok → shown.new ≡ shown.old }
+    ensures left { d.new.value ≡ d.old.value }
+{
+    let it = match d.get_mut() {
+        End::Receiving(it) => it,
+        End::Sending(_) => return WRONG_END,
+    };
+    match it.receiver.shown() {
+        Some(packet) => {
+            *shown = in_numbers(packet);
+            OK
+        }
+        None => NOT_OF_THIS_CODEC,
+    }
+}
+
+/// Copies a part of that packet, counted from 0, where there is room for it, and writes the number
+/// that was read before it; the part's length.
+#[unsafe(no_mangle)]
+pub extern "C" fn h26x_h265_part_copy(
+    d: &mut Handle,
+    i: usize,
+    to: &mut [u8],
+    number: &mut u32,
+) -> usize
+    ensures len { result ≡ length (nth_part i (parts_at d.old.value)).bytes }
+    ensures copied { to.new ≡ copied (nth_part i (parts_at d.old.value)).bytes to.old }
+    ensures number { number.new ≡ number_shown (nth_part i (parts_at d.old.value)).number }
+    ensures left { d.new.value ≡ d.old.value }
+{
+    match d.get_mut() {
+        End::Receiving(it) => copy_part(shown_part(&it.receiver, i), to, number),
+        End::Sending(_) => copy_part(Part::unnumbered(&[]), to, number),
+    }
+}
+
+/// Copies a part where there is room for it, and writes its number; its length.
+fn copy_part(part: Part<'_>, to: &mut [u8], number: &mut u32) -> usize
+    ensures len { result ≡ length part.entry.bytes.now }
+    ensures copied { to.new ≡ copied part.entry.bytes.now to.old }
+    ensures number { number.new ≡ number_shown part.entry.number }
+{
+    *number = part.number.map_or(NO_NUMBER, u32::from);
+    copy_where_room(part.bytes, to)
+}
+
+/// A packet in numbers.
+fn in_numbers(packet: &H265Payload) -> Shown
+    ensures kind { result.kind ≡ kind_of packet.now }
+    ensures header { result.header ≡ header_of packet.now }
+    ensures word { result.word ≡ word_of packet.now }
+    ensures parts { result.parts ≡ length (parts_of packet.now) }
+{
+    let (kind, header, word, parts) = match packet {
+        H265Payload::H265SingleNALUnitPacket(it) => (1, it.payload_header().0, 0, 1),
+        H265Payload::H265FragmentationUnitPacket(it) => {
+            (2, it.payload_header().0, u16::from(it.fu_header().0), 1)
+        }
+        H265Payload::H265AggregationPacket(it) => (3, 0, 0, count_of(it)),
+        H265Payload::H265PACIPacket(it) => (4, it.payload_header().0, it.fields(), 2),
+    };
+    Shown {
+        kind,
+        header,
+        word,
+        parts,
+    }
+}
+
+/// How many units an aggregation packet has.
+fn count_of(packet: &H265AggregationPacket) -> usize
+    ensures { result ≡ length (first_part packet.now.first ++ map other_part packet.now.others) }
+{
+    usize::from(packet.first_unit().is_some()) + packet.other_units().len()
+}
+
+/// A part of a packet, and the number that was read before it.
+#[derive(Clone, Copy)]
+struct Part<'a> {
+    number: Option<u16>,
+    bytes: &'a [u8],
+}
+
+impl<'a> Part<'a> {
+    /// Bytes before which no number was read.
+    fn unnumbered(bytes: &'a [u8]) -> Self
+        ensures number { result.number ≡ None }
+        ensures bytes { result.bytes.now ≡ bytes.now }
+    {
+        Part {
+            number: None,
+            bytes,
+        }
+    }
+}
+
+/// A part of what a depacketizer shows, counted from 0; without bytes past the last one, and where
+/// nothing is shown.
+fn shown_part(receiver: &CodecReceiver, i: usize) -> Part<'_>
+    ensures number { result.number ≡ (nth_part i (parts_in receiver.now)).number }
+    ensures bytes { result.bytes.now ≡ (nth_part i (parts_in receiver.now)).bytes }
+{
+    match receiver.shown() {
+        Some(packet) => part_of(packet, i),
+        None => Part::unnumbered(&[]),
+    }
+}
+
+/// A part of a packet, counted from 0; past the last one without bytes.
+fn part_of(packet: &H265Payload, i: usize) -> Part<'_>
+    ensures number { result.number ≡ (nth_part i (parts_of packet.now)).number }
+    ensures bytes { result.bytes.now ≡ (nth_part i (parts_of packet.now)).bytes }
+{
+    match (packet, i) {
+        (H265Payload::H265SingleNALUnitPacket(it), 0) => Part {
+            number: it.donl(),
+            bytes: it.payload(),
+        },
+        (H265Payload::H265FragmentationUnitPacket(it), 0) => Part {
+            number: it.donl(),
+            bytes: it.payload(),
+        },
+        (H265Payload::H265AggregationPacket(it), _) => unit_of(it, i),
+        (H265Payload::H265PACIPacket(it), 0) => Part::unnumbered(it.phes()),
+        (H265Payload::H265PACIPacket(it), 1) => Part::unnumbered(it.payload()),
+        _ => Part::unnumbered(&[]),
+    }
+}
+
+/// A unit of an aggregation packet, counted from 0; past the last one without bytes.
+fn unit_of(packet: &H265AggregationPacket, i: usize) -> Part<'_>
+    ensures number { result.number ≡ (nth_part i (first_part packet.now.first
+        ++ map other_part packet.now.others)).number }
+    ensures bytes { result.bytes.now ≡ (nth_part i (first_part packet.now.first
+        ++ map other_part packet.now.others)).bytes }
+{
+    match packet.first_unit() {
+        Some(unit) if i == 0 => Part {
+            number: unit.donl(),
+            bytes: unit.nal_unit(),
+        },
+        Some(_) => other_unit_of(packet.other_units(), i - 1),
+        None => other_unit_of(packet.other_units(), i),
+    }
+}
+
+/// A unit behind the first, counted from 0; past the last one without bytes.
+fn other_unit_of(units: &[H265AggregationUnit], i: usize) -> Part<'_>
+    ensures number { result.number ≡ (nth_part i (map other_part units.now)).number }
+    ensures bytes { result.bytes.now ≡ (nth_part i (map other_part units.now)).bytes }
+{
+    match units.get(i) {
+        Some(unit) => Part {
+            number: unit.dond().map(u16::from),
+            bytes: unit.nal_unit(),
+        },
+        None => Part::unnumbered(&[]),
+    }
+}

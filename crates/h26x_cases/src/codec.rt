@@ -1,0 +1,2 @@
+mod depacketizer;
+mod packetizer;
