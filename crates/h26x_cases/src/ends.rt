@@ -117,6 +117,35 @@ pub(crate) fn refuses<D: Depacketizer + PartialEq>(
     Ok(())
 }
 
+/// A depacketizer refuses each packet with its error, as `refuses` has it.
+pub(crate) fn refuses_each<D: Depacketizer + PartialEq>(
+    rt: &impl Abort,
+    alloc: Global,
+    depacketizer: &mut D,
+    before: &D,
+    rows: &[(&[u8], PacketError)],
+) -> Result<(), PacketError> {
+    for &(packet, error) in rows {
+        refuses(rt, alloc, depacketizer, before, packet, error)?;
+    }
+    Ok(())
+}
+
+/// A depacketizer refuses a packet that is cut short anywhere, as `refuses` has it.
+pub(crate) fn refuses_fronts<D: Depacketizer + PartialEq>(
+    rt: &impl Abort,
+    alloc: Global,
+    depacketizer: &mut D,
+    before: &D,
+    packet: &[u8],
+    error: PacketError,
+) -> Result<(), PacketError> {
+    for len in 0..packet.len() {
+        refuses(rt, alloc, depacketizer, before, &packet[..len], error)?;
+    }
+    Ok(())
+}
+
 /// A call tells this of each packet: whether it begins a keyframe, or is the first of an access unit.
 pub(crate) fn tells<F: Fn(&[u8]) -> bool>(rt: &impl Abort, call: F, rows: &[(&[u8], bool)])
     requires { F.IsAlwaysCallable call }

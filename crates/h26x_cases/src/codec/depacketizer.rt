@@ -1,3 +1,4 @@
+use super::{FRONTS, begins_with};
 use crate::ends::writes;
 use h26x_codec::{Codec, CodecDepacketizer};
 use h26x_core::{
@@ -195,14 +196,9 @@ fn heads_and_tails(rt: HostRuntime) {
 
 #[test]
 fn debug_text(rt: HostRuntime) -> Result<(), Fail> {
-    for (codec, front) in [
-        (Codec::H264, "H264("),
-        (Codec::H265, "H265("),
-        (Codec::H266, "H266("),
-    ] {
+    for (codec, front) in FRONTS {
         let depacketizer = CodecDepacketizer::new(rt.alloc(), codec);
-        let text = format!(in rt.alloc(); "{depacketizer:?}")?;
-        assert!(rt; text.starts_with(front), "{text}");
+        assert!(rt; begins_with(rt.alloc(), &depacketizer, front)?);
     }
     Ok(())
 }

@@ -1,5 +1,6 @@
+use super::{FRONTS, begins_with};
+use crate::ends::sends;
 use h26x_codec::{Codec, CodecPacketizer};
-use h26x_core::Packetizer;
 use std::test::Fail;
 
 /// A payload of one unit of H.265 or H.266.
@@ -28,30 +29,21 @@ static CONFIGURED: [(Codec, [Option<u32>; 2], [&[u8]; 2]); 9] = [
 
 #[test]
 fn numbers_by_the_session_description(rt: HostRuntime) -> Result<(), Fail> {
-    for &(codec, told, want) in &CONFIGURED {
+    for &(codec, [told, told_again], [packet, next]) in &CONFIGURED {
         let mut packetizer = CodecPacketizer::new(rt.alloc(), codec);
-        for (told, want) in told.into_iter().zip(want) {
-            packetizer.configure_for(told);
-            let packets = packetizer.packetize(100, &UNIT)?;
-            let [packet] = packets.as_slice() else {
-                return Err(Fail::from("not one packet"));
-            };
-            assert_eq!(rt; packet.as_slice(), want, "{codec:?} for {told:?}");
-        }
+        packetizer.configure_for(told);
+        sends(&rt, &mut packetizer, 100, &UNIT, &[packet])?;
+        packetizer.configure_for(told_again);
+        sends(&rt, &mut packetizer, 100, &UNIT, &[next])?;
     }
     Ok(())
 }
 
 #[test]
 fn debug_text(rt: HostRuntime) -> Result<(), Fail> {
-    for (codec, front) in [
-        (Codec::H264, "H264("),
-        (Codec::H265, "H265("),
-        (Codec::H266, "H266("),
-    ] {
+    for (codec, front) in FRONTS {
         let packetizer = CodecPacketizer::new(rt.alloc(), codec);
-        let text = format!(in rt.alloc(); "{packetizer:?}")?;
-        assert!(rt; text.starts_with(front), "{text}");
+        assert!(rt; begins_with(rt.alloc(), &packetizer, front)?);
     }
     Ok(())
 }

@@ -1,4 +1,6 @@
-use crate::ends::{refuses, same, sends, tells, tells_hints, tells_tails, writes};
+use crate::ends::{
+    refuses, refuses_each, refuses_fronts, same, sends, tells, tells_hints, tells_tails, writes,
+};
 use h26x_core::{CodecExtra, Depacketizer, H265CodecExtra, H265TSCI, PacketError};
 use h265_packets::H265Payload;
 use h265_payload::{H265Depacketizer, H265Packetizer};
@@ -183,10 +185,7 @@ fn fronts_of_an_aggregate(rt: HostRuntime) -> Result<(), Fail> {
     let before = fresh(rt.alloc(), false);
     let mut d = fresh(rt.alloc(), false);
     let short = PacketError::ErrShortPacket;
-    for len in 0..AGGREGATE.len() {
-        let front = AGGREGATE.get(..len).unwrap_or(&[]);
-        refuses(&rt, rt.alloc(), &mut d, &before, front, short)?;
-    }
+    refuses_fronts(&rt, rt.alloc(), &mut d, &before, &AGGREGATE, short)?;
     let packets: [&[u8]; 1] = [&AGGREGATE];
     Ok(writes(
         &rt,
@@ -255,9 +254,7 @@ static REFUSED_WITHIN: [(&[u8], PacketError); 2] = [
 fn a_run_goes_on_behind_refusals(rt: HostRuntime) -> Result<(), Fail> {
     let mut d = with_a_run(rt.alloc())?;
     let before = with_a_run(rt.alloc())?;
-    for &(packet, error) in &REFUSED_WITHIN {
-        refuses(&rt, rt.alloc(), &mut d, &before, packet, error)?;
-    }
+    refuses_each(&rt, rt.alloc(), &mut d, &before, &REFUSED_WITHIN)?;
     Ok(writes(&rt, rt.alloc(), &mut d, &[&END], &WRITTEN, A_KEY)?)
 }
 

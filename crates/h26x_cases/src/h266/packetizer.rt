@@ -1,6 +1,7 @@
 use crate::ends::{Call, Front, sends_all, sends_by_limit, sends_fronts};
 use h26x_core::{PacketError, Packetizer};
 use h266_payload::H266Packetizer;
+use std::alloc::{AllocError, Global};
 use std::process::Abort;
 use std::test::Fail;
 
@@ -158,80 +159,101 @@ fn sends_ends(
     Ok(())
 }
 
+/// Types and lengths of units, the largest size, the mtu, how many packets go, and the length of the
+/// first and the last and what they begin with.
+type LongUnits = (
+    &'static [(u8, usize)],
+    u16,
+    usize,
+    usize,
+    Front<'static>,
+    Front<'static>,
+);
+
+static LONG_UNITS: [LongUnits; 8] = [
+    (
+        &[(9, 3000)],
+        1200,
+        200,
+        16,
+        (200, &[0, 0xe9, 0x89, 0xaa]),
+        (46, &[0, 0xe9, 0x49, 0xaa]),
+    ),
+    (&[(0, 100)], 1200, 100, 1, (100, &[0, 1]), (100, &[0, 1])),
+    (
+        &[(0, 101)],
+        1200,
+        100,
+        2,
+        (100, &[0, 0xe9, 0x80, 0xaa]),
+        (5, &[0, 0xe9, 0x40, 0xaa, 0xaa]),
+    ),
+    (
+        &[(15, 600), (16, 600), (7, 50)],
+        1200,
+        700,
+        3,
+        (600, &[0, 0x79]),
+        (50, &[0, 0x39]),
+    ),
+    (
+        &[(20, 4), (0, 8), (25, 10)],
+        1200,
+        1200,
+        2,
+        (8, &[0, 1]),
+        (10, &[0, 0xc9]),
+    ),
+    (
+        &[(1, 5)],
+        4,
+        5000,
+        3,
+        (4, &[0, 0xe9, 0x81, 0xaa]),
+        (4, &[0, 0xe9, 0x41, 0xaa]),
+    ),
+    (
+        &[(15, 1302), (16, 3), (7, 3)],
+        1400,
+        5000,
+        2,
+        (1311, &[0, 0xe1, 5, 0x16, 0, 0x79]),
+        (3, &[0, 0x39, 0xaa]),
+    ),
+    (
+        &[(1, 65536)],
+        65535,
+        70000,
+        2,
+        (65535, &[0, 0xe9, 0x81]),
+        (5, &[0, 0xe9, 0x41, 0xaa, 0xaa]),
+    ),
+];
+
+/// Units of these types and lengths, each behind a start code.
+fn long_units(alloc: Global, units: &[(u8, usize)]) -> Result<Vec<u8>, AllocError> {
+    let mut payload = Vec::new(alloc);
+    for &(nalu_type, len) in units {
+        payload.extend_from_slice(&[0, 0, 1, 0, nalu_type << 3 | 1])?;
+        payload.resize(payload.len().saturating_add(len.saturating_sub(2)), 0xaa)?;
+    }
+    Ok(payload)
+}
+
+/// A copy of a packetizer with this largest size, which is 4 or more.
+fn of_size(rt: &impl Abort, alloc: Global, largest: u16) -> Result<H266Packetizer, PacketError> {
+    assert!(rt; largest >= 4);
+    let mut packetizer = H266Packetizer::new(alloc);
+    packetizer.with_max_packet_size(largest);
+    packetizer.clone()
+}
+
 #[test]
 fn long_units_and_largest_packet_sizes(rt: HostRuntime) -> Result<(), Fail> {
-    // Types and lengths of units, the largest size, the mtu, how many packets go, and the length
-    // of the first and the last and what they begin with.
-    let table: [(&[(u8, usize)], u16, usize, usize, Front, Front); 8] = [
-        (
-            &[(9, 3000)],
-            1200,
-            200,
-            16,
-            (200, &[0, 0xe9, 0x89, 0xaa]),
-            (46, &[0, 0xe9, 0x49, 0xaa]),
-        ),
-        (&[(0, 100)], 1200, 100, 1, (100, &[0, 1]), (100, &[0, 1])),
-        (
-            &[(0, 101)],
-            1200,
-            100,
-            2,
-            (100, &[0, 0xe9, 0x80, 0xaa]),
-            (5, &[0, 0xe9, 0x40, 0xaa, 0xaa]),
-        ),
-        (
-            &[(15, 600), (16, 600), (7, 50)],
-            1200,
-            700,
-            3,
-            (600, &[0, 0x79]),
-            (50, &[0, 0x39]),
-        ),
-        (
-            &[(20, 4), (0, 8), (25, 10)],
-            1200,
-            1200,
-            2,
-            (8, &[0, 1]),
-            (10, &[0, 0xc9]),
-        ),
-        (
-            &[(1, 5)],
-            4,
-            5000,
-            3,
-            (4, &[0, 0xe9, 0x81, 0xaa]),
-            (4, &[0, 0xe9, 0x41, 0xaa]),
-        ),
-        (
-            &[(15, 1302), (16, 3), (7, 3)],
-            1400,
-            5000,
-            2,
-            (1311, &[0, 0xe1, 5, 0x16, 0, 0x79]),
-            (3, &[0, 0x39, 0xaa]),
-        ),
-        (
-            &[(1, 65536)],
-            65535,
-            70000,
-            2,
-            (65535, &[0, 0xe9, 0x81]),
-            (5, &[0, 0xe9, 0x41, 0xaa, 0xaa]),
-        ),
-    ];
-    for (units, largest, mtu, count, first, last) in table {
-        let mut payload = Vec::new(rt.alloc());
-        for &(nalu_type, len) in units {
-            payload.extend_from_slice(&[0, 0, 1, 0, nalu_type * 8 + 1])?;
-            payload.resize(payload.len() + (len - 2), 0xaa)?;
-        }
-        assert!(rt; largest >= 4);
-        let mut packetizer = H266Packetizer::new(rt.alloc());
-        packetizer.with_max_packet_size(largest);
-        let mut copy = packetizer.clone()?;
-        sends_ends(&rt, &mut copy, mtu, &payload, count, [first, last])?;
+    for &(units, largest, mtu, count, first, last) in &LONG_UNITS {
+        let payload = long_units(rt.alloc(), units)?;
+        let mut packetizer = of_size(&rt, rt.alloc(), largest)?;
+        sends_ends(&rt, &mut packetizer, mtu, &payload, count, [first, last])?;
     }
     Ok(())
 }
