@@ -1,3 +1,1 @@
-pub mod CopyLemmas
-pub mod FormLemmas
 pub mod Passed

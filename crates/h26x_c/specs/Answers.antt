@@ -2,7 +2,7 @@
 use Rattle.std.specs.Prelude.{◌≡◌, ℕ, List, Some, Result}
 use Rattle.h26x_core.specs.declared.error.PacketError.{PacketError}
 use Rattle.h26x_core.specs.Receiver.{Work, IsOutcomeAt}
-use Rattle.h26x_c.specs.Codes.{outcome_of}
+use Rattle.h26x_ends.specs.Codes.{outcome_of}
 
 -- the code and its two numbers say an outcome, and the packet may have that one
 abbrev pub IsAnswer : Work → List ℕ → ℕ → ℕ → ℕ → Type 0

@@ -2,9 +2,9 @@
 use base.Fml.{Fml}
 use Rattle.std.specs.Borrow.{MutBor, Lends}
 use Rattle.h26x_c.specs.declared.handle.Handle.{Handle}
-use Rattle.h26x_c.specs.declared.end.End.{End}
+use Rattle.h26x_ends.specs.declared.end.End.{End}
 use Rattle.h26x_c.specs.contracts.handle.Handle as Handle
-use Rattle.h26x_c.specs.contracts.end.End as End
+use Rattle.h26x_ends.specs.contracts.end.End as End
 
 -- the handle once this is what it holds
 abbrev pub handle_with : Handle → End → Handle

@@ -1,10 +1,5 @@
-pub mod Codes
 pub mod Answers
-pub mod Copies
 pub mod Packets
 pub mod Profiles
-pub mod Boxes
-pub mod Ends
-pub mod Shown
 pub mod Owned
 pub mod Lent

@@ -7,7 +7,7 @@ use Rattle.std.specs.Box.Ownership.{box_owns}
 use Rattle.std.specs.Global.{Global}
 use Rattle.std.specs.Coded.{coded_option}
 use Rattle.std_heap.specs.contracts.GlobalAllocator.TheImpl.{ghosts}
-use Rattle.h26x_c.specs.contracts.end.End as End
+use Rattle.h26x_ends.specs.contracts.end.End as End
 
 abbrev pub end_owned : Global → Ptr → End.the_row.Denot → Fml
 end_owned alloc = box_owns (ghosts.dealloc_token alloc) End.the_row

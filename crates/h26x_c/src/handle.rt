@@ -1,12 +1,12 @@
 //! What C holds of an end: the pointer of a box.
 
 ghost use Rattle.std.specs.Prelude.{◌≡◌};
-ghost use Rattle.h26x_c.specs.declared.end.End.{End};
+ghost use Rattle.h26x_ends.specs.declared.end.End.{End};
 ghost use Rattle.h26x_c.specs.Owned.{end_owned, end_coded};
 
 mod lends;
 
-use crate::end::End;
+use h26x_ends::end::End;
 use std::alloc::Global;
 use std::marker::Model;
 

@@ -1,12 +1,12 @@
 //! Where a call writes a handle.
 
 ghost use Rattle.std.specs.Prelude.{◌≡◌, ◌≢◌, ◌⊎◌, Option, Some, None};
-ghost use Rattle.h26x_c.specs.declared.end.End.{End};
-ghost use Rattle.h26x_c.specs.Codes.{ok, out_of_memory};
+ghost use Rattle.h26x_ends.specs.declared.end.End.{End};
+ghost use Rattle.h26x_ends.specs.Codes.{ok, out_of_memory};
 ghost use Rattle.h26x_c.specs.Owned.{place_owned, place_coded};
 
-use crate::code::{OK, OUT_OF_MEMORY};
-use crate::end::End;
+use h26x_ends::code::{OK, OUT_OF_MEMORY};
+use h26x_ends::end::End;
 use std::alloc::Global;
 use std::marker::Model;
 

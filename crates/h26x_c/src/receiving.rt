@@ -5,20 +5,20 @@ ghost use Rattle.h26x_core.specs.Receiver.{Receiver, work_after};
 ghost use Rattle.h26x_codec.specs.Codec.{format_with, fresh_receiver, at_work};
 ghost use Rattle.h26x_codec.specs.declared.codec.Codec.{Codec};
 ghost use Rattle.h26x_c.specs.Answers.{IsAnswer};
-ghost use Rattle.h26x_c.specs.Codes.{wanted, has_numbers, extra_told, number_told, ok, out_of_memory, wrong_end, not_of_this_codec};
-ghost use Rattle.h26x_c.specs.Copies.{copied};
-ghost use Rattle.h26x_c.specs.Ends.{is_sending, receiver_at, written_at, codec_at, fresh_end, showing_at, emptied, are_same, closed_at, reading_at};
+ghost use Rattle.h26x_ends.specs.Codes.{wanted, has_numbers, extra_told, number_told, ok, out_of_memory, wrong_end, not_of_this_codec};
+ghost use Rattle.h26x_ends.specs.Copies.{copied};
+ghost use Rattle.h26x_ends.specs.Ends.{is_sending, receiver_at, written_at, codec_at, fresh_end, showing_at, emptied, are_same, closed_at, reading_at};
 
-use crate::code::{
+use crate::handle::Handle;
+use crate::place::{Place, put};
+use h26x_codec::Codec;
+use h26x_ends::code::{
     NOT_OF_THIS_CODEC, OK, OUT_OF_MEMORY, Refusal, WRONG_END, code_of, codec_wanted, extra_of,
     has_numbers, number_of,
 };
-use crate::copy::copy_where_room;
-use crate::end::End;
-use crate::handle::Handle;
-use crate::inbox::Inbox;
-use crate::place::{Place, put};
-use h26x_codec::Codec;
+use h26x_ends::copy::copy_where_room;
+use h26x_ends::end::End;
+use h26x_ends::inbox::Inbox;
 use std::alloc::Global;
 
 /// Makes a depacketizer with no run open.

@@ -4,18 +4,18 @@ ghost use Rattle.std.specs.Prelude.{◌≡◌, ◌≢◌, ◌≤◌, ◌<◌, �
 ghost use Rattle.h26x_core.specs.Sender.{Sender, packets_by, after, has_no_effect};
 ghost use Rattle.h26x_codec.specs.Codec.{format_with, fresh_sender, call_by};
 ghost use Rattle.h26x_codec.specs.declared.codec.Codec.{Codec};
-ghost use Rattle.h26x_c.specs.Codes.{wanted, has_numbers, ok, out_of_memory, wrong_end, not_of_this_codec, out_of_range};
-ghost use Rattle.h26x_c.specs.Copies.{copied, nth, AreCopied};
-ghost use Rattle.h26x_c.specs.Ends.{sender_at, packets_at, codec_at, sender_placed, packets_placed, emptied, entries_given};
+ghost use Rattle.h26x_ends.specs.Codes.{wanted, has_numbers, ok, out_of_memory, wrong_end, not_of_this_codec, out_of_range};
+ghost use Rattle.h26x_ends.specs.Copies.{copied, nth, AreCopied};
+ghost use Rattle.h26x_ends.specs.Ends.{sender_at, packets_at, codec_at, sender_placed, packets_placed, emptied, entries_given};
 
-use crate::code::{
+use crate::handle::Handle;
+use crate::place::{Place, put};
+use h26x_ends::code::{
     NOT_OF_THIS_CODEC, OK, OUT_OF_MEMORY, OUT_OF_RANGE, WRONG_END, codec_wanted, has_numbers,
 };
-use crate::copy::copy_where_room;
-use crate::end::End;
-use crate::handle::Handle;
-use crate::outbox::Outbox;
-use crate::place::{Place, put};
+use h26x_ends::copy::copy_where_room;
+use h26x_ends::end::End;
+use h26x_ends::outbox::Outbox;
 use std::alloc::Global;
 
 /// Makes a packetizer for which nothing waits.

@@ -2,16 +2,16 @@
 
 ghost use Rattle.std.specs.Prelude.{◌≡◌, ◌≢◌, true, false, [], ◌++◌, None, Some, length, map};
 ghost use Rattle.h265_packets.specs.declared.payload.H265Payload.{H265Payload};
-ghost use Rattle.h26x_c.specs.Codes.{ok, wrong_end, not_of_this_codec};
-ghost use Rattle.h26x_c.specs.Copies.{copied};
-ghost use Rattle.h26x_c.specs.Ends.{is_sending};
-ghost use Rattle.h26x_c.specs.Shown.{unnumbered, first_part, other_part, parts_of, kind_of, header_of, word_of, nth_part, number_shown, shown_at, parts_in, parts_at};
+ghost use Rattle.h26x_ends.specs.Codes.{ok, wrong_end, not_of_this_codec};
+ghost use Rattle.h26x_ends.specs.Copies.{copied};
+ghost use Rattle.h26x_ends.specs.Ends.{is_sending};
+ghost use Rattle.h26x_ends.specs.Shown.{unnumbered, first_part, other_part, parts_of, kind_of, header_of, word_of, nth_part, number_shown, shown_at, parts_in, parts_at};
 
-use crate::code::{NOT_OF_THIS_CODEC, OK, WRONG_END};
-use crate::copy::copy_where_room;
-use crate::end::End;
 use crate::handle::Handle;
-use crate::receiver::CodecReceiver;
+use h26x_ends::code::{NOT_OF_THIS_CODEC, OK, WRONG_END};
+use h26x_ends::copy::copy_where_room;
+use h26x_ends::end::End;
+use h26x_ends::receiver::CodecReceiver;
 use h265_packets::{H265AggregationPacket, H265AggregationUnit, H265Payload};
 
 /// What is told where no number was read before a part.

@@ -4,10 +4,10 @@ ghost use Rattle.std.specs.Prelude.{◌≡◌, [], true, false, None, Some, drop
 ghost use Rattle.h26x_cut.specs.Cutting.{IsNextUnit};
 ghost use Rattle.h26x_codec.specs.Codec.{format_with};
 ghost use Rattle.h26x_codec.specs.declared.codec.Codec.{Codec};
-ghost use Rattle.h26x_c.specs.Codes.{codec_numbered};
+ghost use Rattle.h26x_ends.specs.Codes.{codec_numbered};
 
-use crate::code::codec_of;
 use h26x_cut::next_unit;
+use h26x_ends::code::codec_of;
 
 /// Where the next unit of a payload stands, from a place on.
 #[unsafe(no_mangle)]

@@ -12,12 +12,18 @@ const TEXT: [u8; 21] = [
     0, 0, 0, 1, 7, 0, 1, 0, 0, 0, 1, 8, 2, 3, 0, 0, 0, 1, 5, 4, 5,
 ];
 
-/// The payloads and their limit.
-fn calls(alloc: Global) -> Result<Vec<(usize, Vec<u8>)>, PacketError> {
-    let mut calls = room_for(alloc, Tries::Twice, 3)?;
+/// Adds the payloads and their limit.
+fn push_calls(alloc: Global, calls: &mut Vec<(usize, Vec<u8>)>) -> Result<(), PacketError> {
     for payload in &PAYLOADS {
         calls.push((1500, buffer_of(alloc, Tries::Twice, payload)?))?;
     }
+    Ok(())
+}
+
+/// The payloads and their limit.
+fn calls(alloc: Global) -> Result<Vec<(usize, Vec<u8>)>, PacketError> {
+    let mut calls = room_for(alloc, Tries::Twice, 3)?;
+    push_calls(alloc, &mut calls)?;
     Ok(calls)
 }
 

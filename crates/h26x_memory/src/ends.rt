@@ -7,9 +7,9 @@ use std::process::Abort;
 
 /// Compares packets with these.
 pub(crate) fn are_packets(rt: &impl Abort, made: &[Vec<u8>], want: &[&[u8]]) {
-    assert_eq!(rt; made.len(), want.len());
+    assert!(rt; made.len() == want.len());
     for (packet, want) in made.iter().zip(want) {
-        assert_eq!(rt; packet.as_slice(), *want);
+        assert!(rt; packet.as_slice() == *want);
     }
 }
 
@@ -78,7 +78,7 @@ impl<D: Depacketizer + Drop> Receiver<D> {
         let before = (self.out.len(), self.told);
         match self.take_once(packet) {
             Err(PacketError::OutOfMemory) if tries == Tries::Twice => {
-                assert_eq!(rt; (self.out.len(), self.told), before);
+                assert!(rt; (self.out.len(), self.told) == before);
                 self.take_once(packet)
             }
             answer => answer,
@@ -100,7 +100,7 @@ impl<D: Depacketizer + Drop> Receiver<D> {
 
     /// Compares what was written and told.
     pub(crate) fn has(&self, rt: &impl Abort, written: &[u8], told: CodecExtra) {
-        assert_eq!(rt; (self.out.as_slice(), self.told), (written, told));
+        assert!(rt; self.out.as_slice() == written && self.told == told);
     }
 }
 

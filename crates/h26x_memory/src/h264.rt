@@ -1,5 +1,5 @@
 use crate::ends::{Receiver, ask_depacketizer, ask_packetizer, send, send_nothing};
-use crate::tries::{Tries, made};
+use crate::tries::{Copied, Tries, copy_of, is_copied};
 use h26x_core::{CodecExtra, H264CodecExtra, PacketError};
 use h264_payload::{H264Depacketizer, H264Packetizer, detect_h264_keyframe, detect_h264_nalu};
 use std::alloc::Global;
@@ -156,12 +156,24 @@ fn units_of_avc_at_once(rt: HostRuntime) -> Result<(), PacketError> {
     take_run(&rt, rt.alloc(), Tries::Once, true)
 }
 
+impl Copied for H264Packetizer {
+    fn copied(&self, _alloc: Global) -> Result<Self, PacketError> {
+        self.clone()
+    }
+}
+
+impl Copied for H264Depacketizer {
+    fn copied(&self, _alloc: Global) -> Result<Self, PacketError> {
+        self.clone()
+    }
+}
+
 /// Copies a packetizer for which sets wait.
 fn copy_packetizer(rt: &impl Abort, alloc: Global, tries: Tries) -> Result<(), PacketError> {
     let mut packetizer = H264Packetizer::new(alloc);
     send(rt, &mut packetizer, tries, 9, &[7, 1], &[])?;
     send(rt, &mut packetizer, tries, 9, &[8, 2], &[])?;
-    let mut copy = made(tries, || packetizer.clone())?;
+    let mut copy = copy_of(alloc, tries, &packetizer)?;
     send(
         rt,
         &mut copy,
@@ -186,8 +198,7 @@ fn packetizers_at_once(rt: HostRuntime) -> Result<(), PacketError> {
 fn copy_depacketizer(rt: &impl Abort, alloc: Global, tries: Tries) -> Result<(), PacketError> {
     let mut it = receiver(alloc, false);
     it.take(rt, tries, &[0x7c, 0x85, 1])?;
-    let copy = made(tries, || it.depacketizer.clone())?;
-    assert!(rt; copy == it.depacketizer);
+    assert!(rt; is_copied(alloc, tries, &it.depacketizer)?);
     Ok(())
 }
 
@@ -235,7 +246,7 @@ const UNWRITTEN: [(&[u8], Result<(), PacketError>); 7] = [
 fn receiving_that_takes_no_memory(rt: HostRuntime) {
     let mut it = receiver(rt.alloc(), false);
     for (packet, want) in &UNWRITTEN {
-        assert_eq!(rt; it.take_once(packet), *want);
+        assert!(rt; it.take_once(packet) == *want);
     }
     it.depacketizer.give_up_run();
     it.has(&rt, &[], CodecExtra::None);

@@ -2,7 +2,8 @@ use crate::ends::{
     Receiver, ask_depacketizer, ask_packetizer, fragment, longer_fragment, send, send_nothing,
     text_of_fragments,
 };
-use crate::tries::{Tries, made};
+use crate::shown::units_of;
+use crate::tries::{Copied, Tries, copy_of};
 use h26x_core::{CodecExtra, H265CodecExtra, PacketError};
 use h265_packets::H265Payload;
 use h265_payload::{H265Depacketizer, H265Packetizer, detect_h265_keyframe};
@@ -179,7 +180,7 @@ fn fragments_at_once(rt: HostRuntime) -> Result<(), PacketError> {
 fn take_middle(rt: &impl Abort, alloc: Global, tries: Tries) -> Result<(), PacketError> {
     let mut it = receiver(alloc, false);
     it.take(rt, tries, &fragment(&[0x62, 1, 0x93], 0xaa))?;
-    let before = made(tries, || it.depacketizer.clone())?;
+    let before = copy_of(alloc, tries, &it.depacketizer)?;
     let outcome = it.take_once(&longer_fragment(&[0x62, 1, 0x13], 0xbb));
     assert!(rt; outcome.is_ok() || it.depacketizer == before);
     if tries == Tries::Twice {
@@ -209,9 +210,9 @@ fn take_aggregate(rt: &impl Abort, alloc: Global, tries: Tries) -> Result<(), Pa
     let H265Payload::H265AggregationPacket(shown) = it.depacketizer.payload() else {
         return Err(PacketError::ErrShortPacket);
     };
-    let units = made(tries, || shown.nal_units(alloc))?;
+    let units = units_of(alloc, tries, shown)?;
     let want: [&[u8]; 2] = [&[2, 1, 0xaa], &[2, 1]];
-    assert_eq!(rt; units.as_slice(), want.as_slice());
+    assert!(rt; units.as_slice() == want.as_slice());
     Ok(())
 }
 
@@ -262,11 +263,23 @@ fn numbered_units_taken_at_once(rt: HostRuntime) -> Result<(), PacketError> {
     take_numbered(&rt, rt.alloc(), Tries::Once)
 }
 
+impl Copied for H265Packetizer {
+    fn copied(&self, _alloc: Global) -> Result<Self, PacketError> {
+        self.clone()
+    }
+}
+
+impl Copied for H265Depacketizer {
+    fn copied(&self, _alloc: Global) -> Result<Self, PacketError> {
+        self.clone()
+    }
+}
+
 /// Copies a packetizer for which sets wait; both then send the same.
 fn copy_packetizer(rt: &impl Abort, alloc: Global, tries: Tries) -> Result<(), PacketError> {
     let mut it = packetizer(alloc, true);
     send(rt, &mut it, tries, 100, &UNITS[..18], &[])?;
-    let mut copy = made(tries, || it.clone())?;
+    let mut copy = copy_of(alloc, tries, &it)?;
     send(rt, &mut copy, tries, 100, &UNITS[18..], &NUMBERED)?;
     send(rt, &mut it, tries, 100, &UNITS[18..], &NUMBERED)
 }
@@ -285,7 +298,7 @@ fn packetizers_at_once(rt: HostRuntime) -> Result<(), PacketError> {
 fn copy_depacketizer(rt: &impl Abort, alloc: Global, tries: Tries) -> Result<(), PacketError> {
     let mut it = receiver(alloc, false);
     it.take(rt, tries, &[0x62, 1, 0x93, 0xaa])?;
-    let copy = made(tries, || it.depacketizer.clone())?;
+    let copy = copy_of(alloc, tries, &it.depacketizer)?;
     assert!(rt; copy == it.depacketizer);
     it.depacketizer = copy;
     it.take(rt, tries, &[0x62, 1, 0x53, 0xbb])?;
@@ -352,7 +365,7 @@ fn receiving_that_takes_no_memory(rt: HostRuntime) {
     let mut it = receiver(rt.alloc(), false);
     for (is_numbered, packet, error) in &REFUSED {
         it.depacketizer.with_donl(*is_numbered);
-        assert_eq!(rt; it.take_once(packet), Err(*error));
+        assert!(rt; it.take_once(packet) == Err(*error));
     }
     it.depacketizer.give_up_run();
     it.has(&rt, &[], CodecExtra::None);

@@ -1,6 +1,6 @@
 //! The packets that H.265 shows: their copies and their parts.
 
-use crate::tries::{Tries, buffer_of, made};
+use crate::tries::{Copied, Tries, buffer_of, is_copied};
 use h26x_core::{CodecExtra, Depacketizer, PacketError};
 use h265_packets::{
     H265AggregationPacket, H265AggregationUnit, H265AggregationUnitFirst,
@@ -10,30 +10,64 @@ use h265_payload::H265Depacketizer;
 use std::alloc::Global;
 use std::process::Abort;
 
-/// A depacketizer that shows a packet with numbers.
-fn showing(alloc: Global, tries: Tries, packet: &[u8]) -> Result<H265Depacketizer, PacketError> {
-    let mut depacketizer = H265Depacketizer::new(alloc);
+/// Has a depacketizer show a packet with numbers.
+fn show(
+    alloc: Global,
+    tries: Tries,
+    depacketizer: &mut H265Depacketizer,
+    packet: &[u8],
+) -> Result<(), PacketError> {
     depacketizer.with_donl(true);
     let mut out = Vec::new(alloc);
     let mut extra = CodecExtra::None;
     match depacketizer.depacketize(packet, &mut out, &mut extra) {
         Err(PacketError::OutOfMemory) if tries == Tries::Twice => {
-            depacketizer.depacketize(packet, &mut out, &mut extra)?;
+            depacketizer.depacketize(packet, &mut out, &mut extra)
         }
-        answer => answer?,
+        answer => answer,
     }
-    Ok(depacketizer)
 }
 
-/// Whether a call makes what is wanted.
-fn is_made<T: PartialEq + Drop, F: Fn() -> Result<T, PacketError>>(
-    tries: Tries,
-    want: &T,
-    call: F,
-) -> Result<bool, PacketError>
-    requires { F.IsAlwaysCallable call }
-{
-    Ok(made(tries, call)? == *want)
+impl Copied for H265SingleNALUnitPacket {
+    fn copied(&self, alloc: Global) -> Result<Self, PacketError> {
+        self.clone(alloc)
+    }
+}
+
+impl Copied for H265FragmentationUnitPacket {
+    fn copied(&self, alloc: Global) -> Result<Self, PacketError> {
+        self.clone(alloc)
+    }
+}
+
+impl Copied for H265AggregationPacket {
+    fn copied(&self, alloc: Global) -> Result<Self, PacketError> {
+        self.clone(alloc)
+    }
+}
+
+impl Copied for H265AggregationUnitFirst {
+    fn copied(&self, alloc: Global) -> Result<Self, PacketError> {
+        self.clone(alloc)
+    }
+}
+
+impl Copied for H265AggregationUnit {
+    fn copied(&self, alloc: Global) -> Result<Self, PacketError> {
+        self.clone(alloc)
+    }
+}
+
+impl Copied for H265PACIPacket {
+    fn copied(&self, alloc: Global) -> Result<Self, PacketError> {
+        self.clone(alloc)
+    }
+}
+
+impl Copied for H265Payload {
+    fn copied(&self, alloc: Global) -> Result<Self, PacketError> {
+        self.clone(alloc)
+    }
 }
 
 /// Whether a copy of the packet that this is equals it.
@@ -43,20 +77,30 @@ fn is_packet_copied(
     payload: &H265Payload,
 ) -> Result<bool, PacketError> {
     match payload {
-        H265Payload::H265SingleNALUnitPacket(it) => is_made(tries, it, || it.clone(alloc)),
-        H265Payload::H265FragmentationUnitPacket(it) => is_made(tries, it, || it.clone(alloc)),
-        H265Payload::H265AggregationPacket(it) => is_made(tries, it, || it.clone(alloc)),
-        H265Payload::H265PACIPacket(it) => is_made(tries, it, || it.clone(alloc)),
+        H265Payload::H265SingleNALUnitPacket(it) => is_copied(alloc, tries, it),
+        H265Payload::H265FragmentationUnitPacket(it) => is_copied(alloc, tries, it),
+        H265Payload::H265AggregationPacket(it) => is_copied(alloc, tries, it),
+        H265Payload::H265PACIPacket(it) => is_copied(alloc, tries, it),
     }
 }
 
 /// Copies what is shown, and the packet that it is.
-fn copy(rt: &impl Abort, alloc: Global, tries: Tries, packet: &[u8]) -> Result<(), PacketError> {
-    let depacketizer = showing(alloc, tries, packet)?;
-    let payload = depacketizer.payload();
-    assert!(rt; is_made(tries, payload, || payload.clone(alloc))?);
+fn copy_shown(
+    rt: &impl Abort,
+    alloc: Global,
+    tries: Tries,
+    payload: &H265Payload,
+) -> Result<(), PacketError> {
+    assert!(rt; is_copied(alloc, tries, payload)?);
     assert!(rt; is_packet_copied(alloc, tries, payload)?);
     Ok(())
+}
+
+/// Copies a packet that is shown.
+fn copy(rt: &impl Abort, alloc: Global, tries: Tries, packet: &[u8]) -> Result<(), PacketError> {
+    let mut depacketizer = H265Depacketizer::new(alloc);
+    show(alloc, tries, &mut depacketizer, packet)?;
+    copy_shown(rt, alloc, tries, depacketizer.payload())
 }
 
 const SINGLE: [u8; 6] = [0x26, 1, 0, 7, 0xaa, 0xbb];
@@ -109,19 +153,30 @@ fn pacis_at_once(rt: HostRuntime) -> Result<(), PacketError> {
     copy(&rt, rt.alloc(), Tries::Once, &PACI)
 }
 
-/// Copies the units of an aggregate.
-fn copy_units(rt: &impl Abort, alloc: Global, tries: Tries) -> Result<(), PacketError> {
-    let depacketizer = showing(alloc, tries, &AGGREGATE)?;
-    let H265Payload::H265AggregationPacket(shown) = depacketizer.payload() else {
+/// Copies the units of the aggregate that is shown.
+fn copy_units_shown(
+    rt: &impl Abort,
+    alloc: Global,
+    tries: Tries,
+    payload: &H265Payload,
+) -> Result<(), PacketError> {
+    let H265Payload::H265AggregationPacket(shown) = payload else {
         return Err(PacketError::ErrShortPacket);
     };
     if let Some(first) = shown.first_unit() {
-        assert!(rt; is_made(tries, first, || first.clone(alloc))?);
+        assert!(rt; is_copied(alloc, tries, first)?);
     }
     for other in shown.other_units() {
-        assert!(rt; is_made(tries, other, || other.clone(alloc))?);
+        assert!(rt; is_copied(alloc, tries, other)?);
     }
     Ok(())
+}
+
+/// Copies the units of an aggregate.
+fn copy_units(rt: &impl Abort, alloc: Global, tries: Tries) -> Result<(), PacketError> {
+    let mut depacketizer = H265Depacketizer::new(alloc);
+    show(alloc, tries, &mut depacketizer, &AGGREGATE)?;
+    copy_units_shown(rt, alloc, tries, depacketizer.payload())
 }
 
 #[test]
@@ -134,14 +189,34 @@ fn units_at_once(rt: HostRuntime) -> Result<(), PacketError> {
     copy_units(&rt, rt.alloc(), Tries::Once)
 }
 
-/// Copies what is shown before any packet, and an aggregate of no unit, and asks for its units.
-fn copy_empty(rt: &impl Abort, alloc: Global, tries: Tries) -> Result<(), PacketError> {
-    let payload = H265Payload::empty(alloc);
-    assert!(rt; is_made(tries, &payload, || payload.clone(alloc))?);
-    let packet = H265AggregationPacket::empty(alloc);
-    assert!(rt; is_made(tries, &packet, || packet.clone(alloc))?);
-    assert!(rt; made(tries, || packet.nal_units(alloc))?.is_empty());
+/// The units of an aggregate.
+pub(crate) fn units_of(
+    alloc: Global,
+    tries: Tries,
+    packet: &H265AggregationPacket,
+) -> Result<Vec<&[u8]>, PacketError> {
+    match packet.nal_units(alloc) {
+        Err(PacketError::OutOfMemory) if tries == Tries::Twice => packet.nal_units(alloc),
+        answer => answer,
+    }
+}
+
+/// Copies an aggregate of no unit, and asks for its units.
+fn copy_no_units(
+    rt: &impl Abort,
+    alloc: Global,
+    tries: Tries,
+    packet: &H265AggregationPacket,
+) -> Result<(), PacketError> {
+    assert!(rt; is_copied(alloc, tries, packet)?);
+    assert!(rt; units_of(alloc, tries, packet)?.is_empty());
     Ok(())
+}
+
+/// Copies what is shown before any packet, and an aggregate of no unit.
+fn copy_empty(rt: &impl Abort, alloc: Global, tries: Tries) -> Result<(), PacketError> {
+    copy_shown(rt, alloc, tries, &H265Payload::empty(alloc))?;
+    copy_no_units(rt, alloc, tries, &H265AggregationPacket::empty(alloc))
 }
 
 #[test]
@@ -160,15 +235,12 @@ fn pack(rt: &impl Abort, alloc: Global, tries: Tries) -> Result<(), PacketError>
     let mut buf = buffer_of(alloc, tries, &[1, 2])?;
     let packet = match H265PACIPacket::packetize(alloc, &unit, &phes, &mut buf) {
         Err(PacketError::OutOfMemory) if tries == Tries::Twice => {
-            assert_eq!(rt; buf.as_slice(), [1, 2].as_slice());
+            assert!(rt; buf.as_slice() == [1, 2].as_slice());
             H265PACIPacket::packetize(alloc, &unit, &phes, &mut buf)?
         }
         answer => answer?,
     };
-    assert_eq!(rt;
-        (packet.as_slice(), buf.as_slice()),
-        (PACI.as_slice(), PACI.as_slice())
-    );
+    assert!(rt; packet.as_slice() == PACI.as_slice() && buf.as_slice() == PACI.as_slice());
     Ok(())
 }
 
@@ -185,56 +257,63 @@ fn pacis_packed_at_once(rt: HostRuntime) -> Result<(), PacketError> {
 #[test]
 fn a_refusal_that_takes_no_memory(rt: HostRuntime) {
     let mut buf = Vec::new(rt.alloc());
-    assert_eq!(rt;
-        H265PACIPacket::packetize(rt.alloc(), &[0x26, 1, 0xaa], &[0xbb; 32], &mut buf),
-        Err(PacketError::ErrH265PACIPHESTooLong)
-    );
+    let packed = H265PACIPacket::packetize(rt.alloc(), &[0x26, 1, 0xaa], &[0xbb; 32], &mut buf);
+    assert!(rt; packed.err() == Some(PacketError::ErrH265PACIPHESTooLong));
 }
 
 #[test]
 fn single_packets_that_take_no_memory(rt: HostRuntime) {
     let mut packet = H265SingleNALUnitPacket::empty(rt.alloc());
     packet.with_donl(true);
-    assert!(rt; packet.payload_header().0 == 0 && packet.donl() == None);
-    assert!(rt; packet.payload().is_empty());
+    let shown = (
+        packet.payload_header().0,
+        packet.donl(),
+        packet.payload().len(),
+    );
+    assert!(rt; shown == (0, None, 0));
 }
 
 #[test]
 fn fragments_that_take_no_memory(rt: HostRuntime) {
     let mut packet = H265FragmentationUnitPacket::empty(rt.alloc());
     packet.with_donl(true);
-    assert!(rt; packet.payload_header().0 == 0 && packet.fu_header().0 == 0);
-    assert!(rt; packet.donl() == None && packet.payload().is_empty());
+    let words = (packet.payload_header().0, packet.fu_header().0);
+    assert!(rt; words == (0, 0) && (packet.donl(), packet.payload().len()) == (None, 0));
 }
 
 #[test]
 fn aggregates_that_take_no_memory(rt: HostRuntime) {
     let mut packet = H265AggregationPacket::empty(rt.alloc());
     packet.with_donl(true);
-    assert!(rt; packet.first_unit().is_none() && packet.other_units().is_empty());
+    let units = (packet.first_unit().is_none(), packet.other_units().len());
+    assert!(rt; units == (true, 0));
 }
 
 #[test]
 fn units_that_take_no_memory(rt: HostRuntime) {
     let first = H265AggregationUnitFirst::empty(rt.alloc());
-    assert!(rt; first.donl() == None && first.nalu_size() == 0 && first.nal_unit().is_empty());
+    assert!(rt; (first.donl(), first.nalu_size(), first.nal_unit().len()) == (None, 0, 0));
     let other = H265AggregationUnit::empty(rt.alloc());
-    assert!(rt; other.dond() == None && other.nalu_size() == 0 && other.nal_unit().is_empty());
+    assert!(rt; (other.dond(), other.nalu_size(), other.nal_unit().len()) == (None, 0, 0));
 }
 
 #[test]
 fn pacis_that_take_no_memory(rt: HostRuntime) {
     let packet = H265PACIPacket::empty(rt.alloc());
-    assert_eq!(rt;
-        (packet.payload_header().0, packet.ctype(), packet.phs_size()),
-        (0, 0, 0)
-    );
-    assert!(rt; packet.phes().is_empty() && packet.payload().is_empty());
-    assert!(rt; packet.tsci() == None);
+    let words = (packet.payload_header().0, packet.ctype(), packet.phs_size());
+    let parts = (packet.phes().len(), packet.payload().len(), packet.tsci());
+    assert!(rt; words == (0, 0, 0) && parts == (0, 0, None));
 }
 
 #[test]
 fn flags_that_take_no_memory(rt: HostRuntime) {
     let packet = H265PACIPacket::empty(rt.alloc());
-    assert!(rt; !packet.a() && !packet.f0() && !packet.f1() && !packet.f2() && !packet.y());
+    let flags = [
+        packet.a(),
+        packet.f0(),
+        packet.f1(),
+        packet.f2(),
+        packet.y(),
+    ];
+    assert!(rt; flags == [false; 5]);
 }

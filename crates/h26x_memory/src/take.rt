@@ -44,43 +44,51 @@ fn written_of(
     }
 }
 
-/// Without room for the outcomes nothing is taken. A packet for which memory lacks is passed over,
-/// and may be given again.
+/// Takes packets. Without room for the outcomes nothing is taken; a packet for which memory lacks is
+/// passed over, and may be given again, as the end is here.
+fn take_as_far(
+    rt: &impl Abort,
+    alloc: Global,
+    depacketizer: &mut CodecDepacketizer,
+    packets: &[Vec<u8>],
+    out: &mut Vec<u8>,
+) -> Result<(), PacketError> {
+    let mut extra = CodecExtra::None;
+    let answer = take_all(alloc, depacketizer, packets, out, &mut extra);
+    let (written, ended) = written_of(answer.as_ref().map(|outcomes| outcomes.as_slice()))?;
+    assert!(rt; out.as_slice() == written && (extra == KEY) == !written.is_empty());
+    out.clear();
+    depacketizer.depacketize(&END, out, &mut extra)?;
+    assert!(rt; out.as_slice() == ended);
+    Ok(())
+}
+
 #[test]
 fn as_far_as_memory_goes(rt: HostRuntime) -> Result<(), PacketError> {
     let packets = packets(rt.alloc())?;
     let mut depacketizer = CodecDepacketizer::new(rt.alloc(), Codec::H264);
     let mut out = Vec::new(rt.alloc());
+    take_as_far(&rt, rt.alloc(), &mut depacketizer, &packets, &mut out)
+}
+
+/// Takes packets, each of which is accepted or short.
+fn take_each(
+    rt: &impl Abort,
+    alloc: Global,
+    packets: &[Vec<u8>],
+    out: &mut Vec<u8>,
+) -> Result<(), PacketError> {
+    let mut depacketizer = CodecDepacketizer::new(alloc, Codec::H264);
     let mut extra = CodecExtra::None;
-    let answer = take_all(
-        rt.alloc(),
-        &mut depacketizer,
-        &packets,
-        &mut out,
-        &mut extra,
-    );
-    let (written, ended) = written_of(answer.as_ref().map(|outcomes| outcomes.as_slice()))?;
-    assert!(rt; out.as_slice() == written && (extra == KEY) == !written.is_empty());
-    out.clear();
-    depacketizer.depacketize(&END, &mut out, &mut extra)?;
-    assert!(rt; out.as_slice() == ended);
+    let outcomes = take_all(alloc, &mut depacketizer, packets, out, &mut extra)?;
+    assert!(rt; outcomes.as_slice() == [Ok(()), Ok(()), SHORT, Ok(()), SHORT].as_slice());
+    assert!(rt; out.as_slice() == WRITTEN.as_slice() && extra == KEY);
     Ok(())
 }
 
 #[test]
 fn taken_at_once(rt: HostRuntime) -> Result<(), PacketError> {
     let packets = packets(rt.alloc())?;
-    let mut depacketizer = CodecDepacketizer::new(rt.alloc(), Codec::H264);
     let mut out = Vec::new(rt.alloc());
-    let mut extra = CodecExtra::None;
-    let outcomes = take_all(
-        rt.alloc(),
-        &mut depacketizer,
-        &packets,
-        &mut out,
-        &mut extra,
-    )?;
-    assert!(rt; outcomes.as_slice() == [Ok(()), Ok(()), SHORT, Ok(()), SHORT].as_slice());
-    assert!(rt; out.as_slice() == WRITTEN.as_slice() && extra == KEY);
-    Ok(())
+    take_each(&rt, rt.alloc(), &packets, &mut out)
 }

@@ -12,22 +12,35 @@ pub(crate) enum Tries {
     Twice,
 }
 
-/// What a call makes that changes nothing.
-pub(crate) fn made<T: Drop, F: Fn() -> Result<T, PacketError>>(
-    tries: Tries,
-    call: F,
-) -> Result<T, PacketError>
-    requires { F.IsAlwaysCallable call }
-{
-    match call() {
-        Err(PacketError::OutOfMemory) if tries == Tries::Twice => call(),
+/// What can be copied, where there is memory.
+pub(crate) trait Copied: Drop {
+    /// An equal value, whose memory comes from `alloc` or from where its own does.
+    fn copied(&self, alloc: Global) -> Result<Self, PacketError>;
+}
+
+/// A copy.
+pub(crate) fn copy_of<T: Copied>(alloc: Global, tries: Tries, it: &T) -> Result<T, PacketError> {
+    match it.copied(alloc) {
+        Err(PacketError::OutOfMemory) if tries == Tries::Twice => it.copied(alloc),
         answer => answer,
     }
 }
 
+/// Whether a copy equals what it is of.
+pub(crate) fn is_copied<T: Copied + PartialEq>(
+    alloc: Global,
+    tries: Tries,
+    it: &T,
+) -> Result<bool, PacketError> {
+    Ok(copy_of(alloc, tries, it)? == *it)
+}
+
 /// A buffer of these bytes.
 pub(crate) fn buffer_of(alloc: Global, tries: Tries, bytes: &[u8]) -> Result<Vec<u8>, PacketError> {
-    made(tries, || Ok(bytes.to_vec(alloc)?))
+    match bytes.to_vec(alloc) {
+        Err(_) if tries == Tries::Twice => Ok(bytes.to_vec(alloc)?),
+        answer => Ok(answer?),
+    }
 }
 
 /// Room for so many.
@@ -36,5 +49,8 @@ pub(crate) fn room_for<T: Drop>(
     tries: Tries,
     count: usize,
 ) -> Result<Vec<T>, PacketError> {
-    made(tries, || Ok(Vec::with_capacity(alloc, count)?))
+    match Vec::with_capacity(alloc, count) {
+        Err(_) if tries == Tries::Twice => Ok(Vec::with_capacity(alloc, count)?),
+        answer => Ok(answer?),
+    }
 }

@@ -1,15 +1,9 @@
-//! Reads lines that cut payloads of H.264, H.265 and H.266 into RTP payloads and put them together,
-//! and prints the answers. `line::Line` says what the lines are.
+//! The program: reads lines and prints the answers, as `h26x_lines` does them.
 #![tactic(auto)]
 
-mod answers;
-mod digits;
-mod line;
 pub mod plain;
-mod run;
-mod settings;
 
-use run::run;
+use h26x_lines::run;
 use std::io;
 use std::process::ExitCode;
 
@@ -25,3 +19,5 @@ fn main(rt: HostRuntime) -> ExitCode {
 
 #[cfg(test)]
 mod rows;
+#[cfg(test)]
+mod sessions;

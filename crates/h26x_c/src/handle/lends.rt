@@ -5,7 +5,7 @@ ghost use types.Logic.{sem};
 ghost use Rattle.h26x_c.specs.Lent.{LendsEnd};
 
 use super::Handle;
-use crate::end::End;
+use h26x_ends::end::End;
 
 impl Handle {
     /// What it holds.

@@ -7,8 +7,8 @@ use mir.Raw.{raw}
 use Rattle.std.proofs.Crossing as heap
 use Rattle.std_alloc.proofs.SendSync.{lies, quiet}
 use Rattle.std_heap.proofs.Global.TheSendSync as allocator
-use Rattle.h26x_c.specs.contracts.end.End as held
-use Rattle.h26x_c.proofs.end.End.TheSendSync.{the_send}
+use Rattle.h26x_ends.specs.contracts.end.End as held
+use Rattle.h26x_ends.proofs.end.End.TheSendSync.{the_send}
 use Rattle.h26x_c.specs.contracts.handle.Handle.{the_row, the_type}
 
 pub send : IsSend the_row

@@ -1,0 +1,5 @@
+mod code;
+mod copy;
+mod end;
+mod inbox;
+mod outbox;

@@ -1,0 +1,11 @@
+//! Lines that cut payloads of H.264, H.265 and H.266 into RTP payloads and put them together, and
+//! the answers to them. `src/line.rt` says what the lines are.
+#![tactic(auto)]
+
+pub mod answers;
+pub mod digits;
+mod line;
+mod session;
+mod settings;
+
+pub use session::{RunError, run};
