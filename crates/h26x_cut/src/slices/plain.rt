@@ -10,7 +10,7 @@ use crate::ZeroRule;
 use std::marker::Model;
 
 /// The units of a payload that are left, in order.
-#[derive(Debug, Drop)]
+#[derive(Drop)]
 pub struct PlainSlices<'a> {
     rest: &'a [u8],
     rule: ZeroRule,
