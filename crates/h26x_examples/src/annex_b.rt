@@ -4,7 +4,7 @@ ghost use Rattle.std.specs.Prelude.{◌≡◌, ◌≢◌, Ok, Err};
 
 use h26x_codec::{Codec, CodecDepacketizer, CodecPacketizer};
 use h26x_core::{CodecExtra, Depacketizer, PacketError, Packetizer};
-use h26x_cut::units;
+use h26x_cut::{ZeroRule, units};
 use std::alloc::Global;
 use std::fs;
 use std::io::{self, Read};
@@ -70,26 +70,44 @@ fn is_key(extra: CodecExtra) -> bool {
 
 /// Sends each unit of a stream, and receives its packets again.
 pub fn count(alloc: Global, codec: Codec, stream: &[u8]) -> Result<Counts, PacketError> {
+    let mut packetizer = CodecPacketizer::new(alloc, codec);
     let mut depacketizer = CodecDepacketizer::new(alloc, codec);
-    send(alloc, codec, stream, &mut depacketizer)
+    let mut out = Vec::new(alloc);
+    send(
+        &mut packetizer,
+        &mut depacketizer,
+        &mut out,
+        stream,
+        codec.zero_rule(),
+    )
 }
 
-/// Sends each unit of a stream to this depacketizer.
-fn send<D: Depacketizer>(
-    alloc: Global,
-    codec: Codec,
-    stream: &[u8],
+/// Sends each unit of a stream from this packetizer to this depacketizer.
+fn send<P: Packetizer, D: Depacketizer>(
+    packetizer: &mut P,
     depacketizer: &mut D,
+    out: &mut Vec<u8>,
+    stream: &[u8],
+    rule: ZeroRule,
 ) -> Result<Counts, PacketError> {
-    let mut packetizer = CodecPacketizer::new(alloc, codec);
-    let mut out = Vec::new(alloc);
     let mut counts = Counts::default();
-    for unit in units(stream, codec.zero_rule()) {
+    for unit in units(stream, rule) {
         counts.units = counts.units.saturating_add(1);
-        let packets = packetizer.packetize(LIMIT, unit)?;
-        receive(depacketizer, &packets, &mut out, &mut counts)?;
+        send_unit(packetizer, depacketizer, out, unit, &mut counts)?;
     }
     Ok(counts)
+}
+
+/// Sends a unit, and receives its packets.
+fn send_unit<P: Packetizer, D: Depacketizer>(
+    packetizer: &mut P,
+    depacketizer: &mut D,
+    out: &mut Vec<u8>,
+    unit: &[u8],
+    counts: &mut Counts,
+) -> Result<(), PacketError> {
+    let packets = packetizer.packetize(LIMIT, unit)?;
+    receive(depacketizer, &packets, out, counts)
 }
 
 /// Receives the packets of a unit. What is written for each goes to `out`, in the place of what

@@ -67,14 +67,18 @@ pub fn packetize_by(
     codec: Codec,
     frame: &[u8],
 ) -> Result<Vec<Vec<u8>>, PacketError> {
-    let mut h264 = H264Packetizer::new(alloc);
-    let mut h265 = H265Packetizer::new(alloc);
-    let mut h266 = H266Packetizer::new(alloc);
-    let packetizer: &mut dyn Packetizer = match codec {
-        Codec::H264 => &mut h264,
-        Codec::H265 => &mut h265,
-        Codec::H266 => &mut h266,
-    };
+    match codec {
+        Codec::H264 => packetize_with(&mut H264Packetizer::new(alloc), frame),
+        Codec::H265 => packetize_with(&mut H265Packetizer::new(alloc), frame),
+        Codec::H266 => packetize_with(&mut H266Packetizer::new(alloc), frame),
+    }
+}
+
+/// The packets of a frame, by this packetizer.
+fn packetize_with(
+    packetizer: &mut dyn Packetizer,
+    frame: &[u8],
+) -> Result<Vec<Vec<u8>>, PacketError> {
     packetizer.packetize(1200, frame)
 }
 

@@ -28,13 +28,17 @@ pub fn receive_avc(alloc: Global, packets: &[Vec<u8>]) -> Result<Vec<u8>, Packet
 
 mod tests {
     use super::*;
+    use crate::outcomes::wrote;
     use h264_payload::detect_h264_keyframe;
     use std::test::Fail;
 
     #[test]
     fn keyframes_are_detected(rt: HostRuntime) {
-        assert!(rt; detect_h264_keyframe(&[0x65, 0x88]));
-        assert!(rt; !detect_h264_keyframe(&[0x67, 0x42]));
+        let detected = (
+            detect_h264_keyframe(&[0x65, 0x88]),
+            detect_h264_keyframe(&[0x67, 0x42]),
+        );
+        assert!(rt; detected == (true, false));
     }
 
     #[test]
@@ -52,8 +56,8 @@ mod tests {
 
     #[test]
     fn avc_units_stand_behind_their_lengths(rt: HostRuntime) -> Result<(), Fail> {
-        let out = receive_avc(rt.alloc(), &fragments(rt.alloc())?)?;
-        assert_eq!(rt; out.as_slice(), [0, 0, 0, 3, 0x65, 0x01, 0x02].as_slice());
+        let want = [0, 0, 0, 3, 0x65, 0x01, 0x02];
+        assert!(rt; wrote(receive_avc(rt.alloc(), &fragments(rt.alloc())?), &want));
         Ok(())
     }
 }

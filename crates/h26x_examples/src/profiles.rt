@@ -1,182 +1,187 @@
 //! Worked examples: what the tables say of values from outside, and the forms that serde writes.
 
+use crate::sdp::params_of;
 use h26x_profile::{
     BitPattern, H264LevelIdc, H264Profile, H264ProfileIdc, H264ProfileLevel, H265Level,
     H265Profile, H265ProfileTierLevel, H265Tier, H266Level, H266Profile, H266ProfileTierLevel,
     H266Tier,
 };
 use serde::{Deserialize, DeserializeOwned, Serialize};
-use std::alloc::Global;
-use std::collections::HashMap;
+use std::alloc::{AllocError, Global};
 use std::process::Abort;
 use std::test::Fail;
 
+/// The profile and the level of an H.264 format.
+type H264Named = (H264Profile, H264LevelIdc);
+
+/// A profile-level-id, and what it names.
+static PROFILE_LEVEL_IDS: [(u32, Option<H264Named>); 10] = [
+    (0x64001f, Some((H264Profile::High, H264LevelIdc::Level3_1))),
+    (
+        0xff64001f,
+        Some((H264Profile::High, H264LevelIdc::Level3_1)),
+    ),
+    (
+        0x640c34,
+        Some((H264Profile::ConstrainedHigh, H264LevelIdc::Level5_2)),
+    ),
+    (
+        0x42e01f,
+        Some((H264Profile::ConstrainedBaseline, H264LevelIdc::Level3_1)),
+    ),
+    (
+        0x42100b,
+        Some((H264Profile::Baseline, H264LevelIdc::Level1B)),
+    ),
+    (
+        0x42100a,
+        Some((H264Profile::Baseline, H264LevelIdc::Level1)),
+    ),
+    (
+        0x42000b,
+        Some((H264Profile::Baseline, H264LevelIdc::Level1_1)),
+    ),
+    (0x64101f, None),
+    (0x640063, None),
+    (0x630a1f, None),
+];
+
+/// What a profile-level-id names.
+fn named_by(value: u32) -> Option<H264Named> {
+    let format = H264ProfileLevel::try_from(value).ok()?;
+    Some((format.profile(), format.level()))
+}
+
 #[test]
 fn profile_level_ids_of_h264(rt: HostRuntime) {
-    for (value, want) in [
-        (0x64001f, Some((H264Profile::High, H264LevelIdc::Level3_1))),
-        (
-            0xff64001f,
-            Some((H264Profile::High, H264LevelIdc::Level3_1)),
-        ),
-        (
-            0x640c34,
-            Some((H264Profile::ConstrainedHigh, H264LevelIdc::Level5_2)),
-        ),
-        (
-            0x42e01f,
-            Some((H264Profile::ConstrainedBaseline, H264LevelIdc::Level3_1)),
-        ),
-        (
-            0x42100b,
-            Some((H264Profile::Baseline, H264LevelIdc::Level1B)),
-        ),
-        (
-            0x42100a,
-            Some((H264Profile::Baseline, H264LevelIdc::Level1)),
-        ),
-        (
-            0x42000b,
-            Some((H264Profile::Baseline, H264LevelIdc::Level1_1)),
-        ),
-        (0x64101f, None),
-        (0x640063, None),
-        (0x630a1f, None),
-    ] {
-        let got = H264ProfileLevel::try_from(value).ok();
-        assert_eq!(rt;
-            got.map(|it| (it.profile(), it.level())),
-            want,
-            "at {value}"
-        );
+    for (value, want) in &PROFILE_LEVEL_IDS {
+        assert!(rt; named_by(*value) == *want);
     }
 }
 
 #[test]
 fn patterns_of_bits(rt: HostRuntime) {
     let pattern = BitPattern::new(*b"x1xx0000");
-    for (value, want) in [(0x40, true), (0xf0, true), (0x00, false), (0x41, false)] {
-        assert_eq!(rt; pattern.matches(value), want, "at {value}");
-    }
+    let matched = [
+        pattern.matches(0x40),
+        pattern.matches(0xf0),
+        pattern.matches(0x00),
+        pattern.matches(0x41),
+    ];
+    assert!(rt; matched == [true, true, false, false]);
+}
+
+/// The profile of CAVLC 4:4:4 Intra's profile_idc under flags of constraints.
+fn profile_under(flags: u8) -> Option<H264Profile> {
+    let format = H264ProfileLevel::new(H264ProfileIdc::X2C, flags, H264LevelIdc::Level3_1)?;
+    Some(format.profile())
+}
+
+#[test]
+fn flags_of_constraints(rt: HostRuntime) {
+    let profiles = [profile_under(0), profile_under(0x10)];
+    assert!(rt; profiles == [None, Some(H264Profile::CAVLC444Intra)]);
 }
 
 #[test]
 fn the_fallback_of_h264(rt: HostRuntime) {
     let fallback = H264ProfileLevel::FALLBACK;
-    assert_eq!(rt;
-        (fallback.profile(), fallback.level()),
-        (H264Profile::Baseline, H264LevelIdc::Level3_1)
-    );
-}
-
-#[test]
-fn flags_of_constraints(rt: HostRuntime) {
-    let level = H264LevelIdc::Level3_1;
-    assert_eq!(rt; H264ProfileLevel::new(H264ProfileIdc::X2C, 0, level), None);
-    let intra = H264ProfileLevel::new(H264ProfileIdc::X2C, 0x10, level);
-    assert_eq!(rt;
-        intra.map(|it| it.profile()),
-        Some(H264Profile::CAVLC444Intra)
+    assert!(rt;
+        (fallback.profile(), fallback.level()) == (H264Profile::Baseline, H264LevelIdc::Level3_1)
     );
 }
 
 #[test]
 fn levels_of_h264_in_order(rt: HostRuntime) {
-    assert!(rt; H264LevelIdc::Level1 < H264LevelIdc::Level1B);
-    assert!(rt; H264LevelIdc::Level1B < H264LevelIdc::Level1_1);
-    assert_eq!(rt; H264LevelIdc::Level5_2.ordinal(), 16);
+    let order = (
+        H264LevelIdc::Level1 < H264LevelIdc::Level1B,
+        H264LevelIdc::Level1B < H264LevelIdc::Level1_1,
+        H264LevelIdc::Level5_2.ordinal(),
+    );
+    assert!(rt; order == (true, true, 16));
 }
 
 #[test]
 fn numbers_of_h264(rt: HostRuntime) {
-    assert_eq!(rt; H264LevelIdc::try_from(0), Ok(H264LevelIdc::Level1B));
-    assert_eq!(rt; H264LevelIdc::try_from(9), Err(()));
-    assert_eq!(rt; H264ProfileIdc::try_from(244), Ok(H264ProfileIdc::XF4));
-    assert_eq!(rt; H264ProfileIdc::try_from(99), Err(()));
+    let levels = [H264LevelIdc::try_from(0), H264LevelIdc::try_from(9)];
+    assert!(rt; levels == [Ok(H264LevelIdc::Level1B), Err(())]);
+    let profiles = [H264ProfileIdc::try_from(244), H264ProfileIdc::try_from(99)];
+    assert!(rt; profiles == [Ok(H264ProfileIdc::XF4), Err(())]);
 }
 
 #[test]
 fn numbers_of_h265(rt: HostRuntime) {
     let fallback = H265ProfileTierLevel::FALLBACK;
-    assert_eq!(rt; H265ProfileTierLevel::new(1, 0, 93), Some(fallback));
-    assert_eq!(rt;
-        (fallback.profile(), fallback.tier(), fallback.level()),
-        (H265Profile::Main, H265Tier::Main, H265Level::Level3_1)
+    assert!(rt; H265ProfileTierLevel::new(1, 0, 93) == Some(fallback));
+    assert!(rt;
+        (fallback.profile(), fallback.tier(), fallback.level())
+            == (H265Profile::Main, H265Tier::Main, H265Level::Level3_1)
     );
 }
 
+/// Numbers of which one names nothing.
+static UNKNOWN: [(u8, u8, u8); 3] = [(1, 0, 255), (99, 0, 93), (1, 5, 93)];
+
 #[test]
 fn unknown_numbers_of_h265(rt: HostRuntime) {
-    for (profile, tier, level) in [(1, 0, 255), (99, 0, 93), (1, 5, 93)] {
-        assert_eq!(rt;
-            (
-                H265ProfileTierLevel::new(profile, tier, level),
-                H265ProfileTierLevel::from((profile, tier, level))
-            ),
-            (None, H265ProfileTierLevel::FALLBACK),
-            "at {profile} {tier} {level}"
+    for (profile, tier, level) in &UNKNOWN {
+        let read = (
+            H265ProfileTierLevel::new(*profile, *tier, *level),
+            H265ProfileTierLevel::from((*profile, *tier, *level)),
         );
+        assert!(rt; read == (None, H265ProfileTierLevel::FALLBACK));
     }
 }
 
 #[test]
 fn levels_of_h265(rt: HostRuntime) {
     let high = H265ProfileTierLevel::from((2, 1, 186)).with_level(H265Level::Level4);
-    assert_eq!(rt;
-        (high.profile_id(), high.tier_flag(), high.level_id()),
-        (2, 1, 120)
+    assert!(rt; (high.profile_id(), high.tier_flag(), high.level_id()) == (2, 1, 120));
+    let order = (
+        H265Level::Level3_1.ordinal(),
+        H265Level::Level2_1 < H265Level::Level3,
     );
-    assert_eq!(rt; H265Level::Level3_1.ordinal(), 4);
-    assert!(rt; H265Level::Level2_1 < H265Level::Level3);
+    assert!(rt; order == (4, true));
 }
 
 #[test]
 fn numbers_of_h266(rt: HostRuntime) {
-    for (number, level) in [(255, Some(H266Level::Level15_5)), (93, None), (180, None)] {
-        assert_eq!(rt; H266Level::from_id(number), level, "at {number}");
-    }
-    assert_eq!(rt; H266Profile::from_id(2), None);
+    let levels = [
+        H266Level::from_id(255),
+        H266Level::from_id(93),
+        H266Level::from_id(180),
+    ];
+    assert!(rt; levels == [Some(H266Level::Level15_5), None, None]);
+    assert!(rt; H266Profile::from_id(2) == None);
 }
 
 #[test]
 fn levels_of_h266(rt: HostRuntime) {
     let high = H266ProfileTierLevel::from((17, 1, 102)).with_level(H266Level::Level5_1);
-    assert_eq!(rt;
-        (high.profile_id(), high.tier_flag(), high.level_id()),
-        (17, 1, 83)
+    assert!(rt; (high.profile_id(), high.tier_flag(), high.level_id()) == (17, 1, 83));
+    let order = (
+        H266Level::Level15_5.ordinal(),
+        H266Level::Level6_3 < H266Level::Level15_5,
     );
-    assert_eq!(rt; H266Level::Level15_5.ordinal(), 14);
-    assert!(rt; H266Level::Level6_3 < H266Level::Level15_5);
+    assert!(rt; order == (14, true));
 }
 
 #[test]
 fn the_fallback_of_h266(rt: HostRuntime) {
     let fallback = H266ProfileTierLevel::FALLBACK;
-    assert_eq!(rt; H266ProfileTierLevel::from((1, 2, 51)), fallback);
-    assert_eq!(rt;
-        (fallback.profile(), fallback.tier(), fallback.level()),
-        (H266Profile::Main10, H266Tier::Main, H266Level::Level3_1)
+    assert!(rt; H266ProfileTierLevel::from((1, 2, 51)) == fallback);
+    assert!(rt;
+        (fallback.profile(), fallback.tier(), fallback.level())
+            == (H266Profile::Main10, H266Tier::Main, H266Level::Level3_1)
     );
 }
 
-/// The parameters of a format, from their names and texts.
-fn params_of(alloc: Global, pairs: &[(&str, &str)]) -> Result<HashMap<String, String>, Fail> {
-    let mut params = HashMap::new(alloc);
-    for (name, text) in pairs {
-        params.insert(
-            String::from_str(alloc, name)?,
-            String::from_str(alloc, text)?,
-        )?;
-    }
-    Ok(params)
-}
-
-/// What parameters say to H.265 and to H.266.
+/// What the parameters of a format line say to H.265 and to H.266.
 fn read_of(
     alloc: Global,
-    pairs: &[(&str, &str)],
-) -> Result<(Option<H265ProfileTierLevel>, Option<H266ProfileTierLevel>), Fail> {
-    let params = params_of(alloc, pairs)?;
+    fmtp: &str,
+) -> Result<(Option<H265ProfileTierLevel>, Option<H266ProfileTierLevel>), AllocError> {
+    let params = params_of(alloc, fmtp)?;
     Ok((
         H265ProfileTierLevel::from_fmtp(&params),
         H266ProfileTierLevel::from_fmtp(&params),
@@ -185,25 +190,23 @@ fn read_of(
 
 #[test]
 fn parameters_of_a_format(rt: HostRuntime) -> Result<(), Fail> {
-    for (profile, tier, level, h265, h266) in [
-        ("1", "0", "51", None, H266ProfileTierLevel::new(1, 0, 51)),
-        ("2", "1", "+93", H265ProfileTierLevel::new(2, 1, 93), None),
-        ("1", "0", "256", None, None),
+    for (fmtp, h265, h266) in [
+        (
+            "profile-id=1;tier-flag=0;level-id=51",
+            None,
+            H266ProfileTierLevel::new(1, 0, 51),
+        ),
+        (
+            "profile-id=2;tier-flag=1;level-id=+93",
+            H265ProfileTierLevel::new(2, 1, 93),
+            None,
+        ),
+        ("profile-id=1;tier-flag=0;level-id=256", None, None),
+        // Without a tier.
+        ("profile-id=1;level-id=51", None, None),
     ] {
-        let pairs = [
-            ("profile-id", profile),
-            ("tier-flag", tier),
-            ("level-id", level),
-        ];
-        assert_eq!(rt; read_of(rt.alloc(), &pairs)?, (h265, h266), "at {level}");
+        assert!(rt; read_of(rt.alloc(), fmtp)? == (h265, h266));
     }
-    Ok(())
-}
-
-#[test]
-fn a_format_without_a_tier(rt: HostRuntime) -> Result<(), Fail> {
-    let pairs = [("profile-id", "1"), ("level-id", "51")];
-    assert_eq!(rt; read_of(rt.alloc(), &pairs)?, (None, None));
     Ok(())
 }
 
@@ -231,8 +234,8 @@ fn is_read_from<'de, T: PartialEq + Deserialize<'de>>(
 #[test]
 fn json_of_h265(rt: HostRuntime) -> Result<(), Fail> {
     let text = "{\"profile\":\"Main\",\"tier\":\"Main\",\"level\":\"Level3_1\"}";
-    assert!(rt; is_written_as(rt.alloc(), &H265ProfileTierLevel::FALLBACK, text)?);
-    assert!(rt; is_read_from(rt.alloc(), &H265ProfileTierLevel::FALLBACK, text)?);
+    let written = is_written_as(rt.alloc(), &H265ProfileTierLevel::FALLBACK, text)?;
+    assert!(rt; written && is_read_from(rt.alloc(), &H265ProfileTierLevel::FALLBACK, text)?);
     Ok(())
 }
 
@@ -240,8 +243,8 @@ fn json_of_h265(rt: HostRuntime) -> Result<(), Fail> {
 fn json_of_h266(rt: HostRuntime) -> Result<(), Fail> {
     let text = "{\"profile\":\"Main10_444\",\"tier\":\"High\",\"level\":\"Level15_5\"}";
     let value = H266ProfileTierLevel::from((33, 1, 255));
-    assert!(rt; is_written_as(rt.alloc(), &value, text)?);
-    assert!(rt; is_read_from(rt.alloc(), &value, text)?);
+    let written = is_written_as(rt.alloc(), &value, text)?;
+    assert!(rt; written && is_read_from(rt.alloc(), &value, text)?);
     Ok(())
 }
 
@@ -263,7 +266,7 @@ fn are_written_as<T: Copy + PartialEq + Serialize + DeserializeOwned>(
 ) -> Result<(), Fail> {
     for (value, name) in rows {
         let text = format!(in alloc; "\"{name}\"")?;
-        assert!(rt; is_written_as(alloc, value, &text)?, "at {name}");
+        assert!(rt; is_written_as(alloc, value, &text)?);
     }
     Ok(())
 }
@@ -289,18 +292,8 @@ static H265_PROFILES: [(H265Profile, &str); 11] = [
     ),
 ];
 
-#[test]
-fn profiles_of_h265_as_text(rt: HostRuntime) -> Result<(), Fail> {
-    are_written_as(&rt, rt.alloc(), &H265_PROFILES)
-}
-
 /// Tiers of H.265, and how serde writes them.
 static H265_TIERS: [(H265Tier, &str); 2] = [(H265Tier::Main, "Main"), (H265Tier::High, "High")];
-
-#[test]
-fn tiers_of_h265_as_text(rt: HostRuntime) -> Result<(), Fail> {
-    are_written_as(&rt, rt.alloc(), &H265_TIERS)
-}
 
 /// Levels of H.265, and how serde writes them.
 static H265_LEVELS: [(H265Level, &str); 13] = [
@@ -320,7 +313,9 @@ static H265_LEVELS: [(H265Level, &str); 13] = [
 ];
 
 #[test]
-fn levels_of_h265_as_text(rt: HostRuntime) -> Result<(), Fail> {
+fn values_of_h265_as_text(rt: HostRuntime) -> Result<(), Fail> {
+    are_written_as(&rt, rt.alloc(), &H265_PROFILES)?;
+    are_written_as(&rt, rt.alloc(), &H265_TIERS)?;
     are_written_as(&rt, rt.alloc(), &H265_LEVELS)
 }
 
@@ -345,18 +340,8 @@ static H266_PROFILES: [(H266Profile, &str); 8] = [
     ),
 ];
 
-#[test]
-fn profiles_of_h266_as_text(rt: HostRuntime) -> Result<(), Fail> {
-    are_written_as(&rt, rt.alloc(), &H266_PROFILES)
-}
-
 /// Tiers of H.266, and how serde writes them.
 static H266_TIERS: [(H266Tier, &str); 2] = [(H266Tier::Main, "Main"), (H266Tier::High, "High")];
-
-#[test]
-fn tiers_of_h266_as_text(rt: HostRuntime) -> Result<(), Fail> {
-    are_written_as(&rt, rt.alloc(), &H266_TIERS)
-}
 
 /// Levels of H.266, and how serde writes them.
 static H266_LEVELS: [(H266Level, &str); 15] = [
@@ -378,6 +363,8 @@ static H266_LEVELS: [(H266Level, &str); 15] = [
 ];
 
 #[test]
-fn levels_of_h266_as_text(rt: HostRuntime) -> Result<(), Fail> {
+fn values_of_h266_as_text(rt: HostRuntime) -> Result<(), Fail> {
+    are_written_as(&rt, rt.alloc(), &H266_PROFILES)?;
+    are_written_as(&rt, rt.alloc(), &H266_TIERS)?;
     are_written_as(&rt, rt.alloc(), &H266_LEVELS)
 }

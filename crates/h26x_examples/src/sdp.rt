@@ -35,25 +35,22 @@ mod tests {
     #[test]
     fn a_profile_level_id_of_h264(rt: HostRuntime) -> Result<(), Fail> {
         let high = H264ProfileLevel::try_from(0x64001f)?;
-        assert_eq!(rt;
-            (high.profile(), high.level()),
-            (H264Profile::High, H264LevelIdc::Level3_1)
-        );
+        assert!(rt; (high.profile(), high.level()) == (H264Profile::High, H264LevelIdc::Level3_1));
         Ok(())
     }
 
     #[test]
     fn numbers_of_h265(rt: HostRuntime) {
         let main = H265ProfileTierLevel::new(1, 0, 93).unwrap_or(H265ProfileTierLevel::FALLBACK);
-        assert_eq!(rt; main.level(), H265Level::Level3_1);
+        assert!(rt; main.level() == H265Level::Level3_1);
     }
 
     #[test]
     fn a_format_line(rt: HostRuntime) -> Result<(), Fail> {
         let format = h265_format(rt.alloc(), "profile-id=2; tier-flag=1; level-id=120")?;
-        assert_eq!(rt;
-            (format.profile(), format.tier(), format.level()),
-            (H265Profile::Main10, H265Tier::High, H265Level::Level4)
+        assert!(rt;
+            (format.profile(), format.tier(), format.level())
+                == (H265Profile::Main10, H265Tier::High, H265Level::Level4)
         );
         Ok(())
     }
@@ -61,7 +58,7 @@ mod tests {
     #[test]
     fn a_line_without_a_level(rt: HostRuntime) -> Result<(), Fail> {
         let format = h265_format(rt.alloc(), "profile-id=2;tier-flag=1")?;
-        assert_eq!(rt; format, H265ProfileTierLevel::FALLBACK);
+        assert!(rt; format == H265ProfileTierLevel::FALLBACK);
         Ok(())
     }
 }

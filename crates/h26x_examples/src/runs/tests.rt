@@ -1,11 +1,11 @@
 use super::*;
+use crate::outcomes::wrote;
 use std::test::Fail;
 
 #[test]
-fn a_frame_comes_back(rt: HostRuntime) -> Result<(), Fail> {
-    let out = send_and_receive(rt.alloc(), &[0x00, 0x39, 0xdd])?;
-    assert_eq!(rt; out.as_slice(), [0, 0, 0, 1, 0x00, 0x39, 0xdd].as_slice());
-    Ok(())
+fn a_frame_comes_back(rt: HostRuntime) {
+    let want = [0, 0, 0, 1, 0x00, 0x39, 0xdd];
+    assert!(rt; wrote(send_and_receive(rt.alloc(), &[0x00, 0x39, 0xdd]), &want));
 }
 
 #[test]
@@ -15,44 +15,63 @@ fn a_frame_is_sent_with_numbers(rt: HostRuntime) {
 
 #[test]
 fn a_frame_is_carried(rt: HostRuntime) -> Result<(), Fail> {
-    let out = carry_frame(rt.alloc(), [0x65, 0x01].to_vec(rt.alloc())?)?;
-    assert_eq!(rt; out.as_slice(), [0, 0, 0, 1, 0x65, 0x01].as_slice());
+    let frame = [0x65, 0x01].to_vec(rt.alloc())?;
+    assert!(rt; wrote(carry_frame(rt.alloc(), frame), &[0, 0, 0, 1, 0x65, 0x01]));
     Ok(())
+}
+
+/// A packet of an unknown type, and a unit.
+fn unknown_and_unit(alloc: Global) -> Result<Vec<Vec<u8>>, PacketError> {
+    let mut packets = Vec::new(alloc);
+    packets.push([0xff, 0x00, 0x00].to_vec(alloc)?)?;
+    packets.push([0x65, 0x01].to_vec(alloc)?)?;
+    Ok(packets)
 }
 
 #[test]
 fn a_packet_of_an_unknown_type_is_refused(rt: HostRuntime) -> Result<(), Fail> {
-    let alloc = rt.alloc();
-    let mut packets = Vec::new(alloc);
-    packets.push([0xff, 0x00, 0x00].to_vec(alloc)?)?;
-    packets.push([0x65, 0x01].to_vec(alloc)?)?;
-    assert_eq!(rt; count_refused(alloc, packets)?, 1);
+    assert!(rt; count_refused(rt.alloc(), unknown_and_unit(rt.alloc())?)? == 1);
     Ok(())
+}
+
+/// A frame of one unit.
+fn frame_of_one_unit(alloc: Global) -> Result<Vec<Vec<u8>>, PacketError> {
+    let mut frames = Vec::new(alloc);
+    frames.push([0, 0, 1, 0x65, 0x01].to_vec(alloc)?)?;
+    Ok(frames)
+}
+
+/// Whether the same packets were sent both times.
+fn are_the_same_twice(repeated: &Repeated) -> bool {
+    repeated.first.as_slice() == repeated.second.as_slice()
 }
 
 #[test]
 fn what_was_written_is_sent_again(rt: HostRuntime) -> Result<(), Fail> {
-    let alloc = rt.alloc();
-    let mut frames = Vec::new(alloc);
-    frames.push([0, 0, 1, 0x65, 0x01].to_vec(alloc)?)?;
-    let repeated = send_twice(alloc, frames)?;
-    assert_eq!(rt; repeated.first.as_slice(), repeated.second.as_slice());
+    let frames = frame_of_one_unit(rt.alloc())?;
+    assert!(rt; are_the_same_twice(&send_twice(rt.alloc(), frames)?));
     Ok(())
 }
 
 /// The fragments of two units, the middle one of the first lost.
-fn fragments_with_a_gap(alloc: Global) -> Result<Vec<(u16, Vec<u8>)>, Fail> {
+fn fragments_with_a_gap(alloc: Global) -> Result<Vec<(u16, Vec<u8>)>, PacketError> {
+    let rows: [(u16, [u8; 3]); 4] = [
+        (65534, [0x7c, 0x85, 0x01]),
+        (0, [0x7c, 0x45, 0x03]),
+        (1, [0x5c, 0x81, 0x04]),
+        (2, [0x5c, 0x41, 0x05]),
+    ];
     let mut packets = Vec::new(alloc);
-    packets.push((65534, [0x7c, 0x85, 0x01].to_vec(alloc)?))?;
-    packets.push((0, [0x7c, 0x45, 0x03].to_vec(alloc)?))?;
-    packets.push((1, [0x5c, 0x81, 0x04].to_vec(alloc)?))?;
-    packets.push((2, [0x5c, 0x41, 0x05].to_vec(alloc)?))?;
+    for (number, packet) in &rows {
+        packets.push((*number, packet.to_vec(alloc)?))?;
+    }
     Ok(packets)
 }
 
 #[test]
 fn a_unit_with_a_gap_is_not_written(rt: HostRuntime) -> Result<(), Fail> {
-    let out = receive_with_gaps(rt.alloc(), &fragments_with_a_gap(rt.alloc())?)?;
-    assert_eq!(rt; out.as_slice(), [0, 0, 0, 1, 0x41, 0x04, 0x05].as_slice());
+    let packets = fragments_with_a_gap(rt.alloc())?;
+    let want = [0, 0, 0, 1, 0x41, 0x04, 0x05];
+    assert!(rt; wrote(receive_with_gaps(rt.alloc(), &packets), &want));
     Ok(())
 }
