@@ -1,14 +1,23 @@
 //! What the cases assert of the two ends, whatever the codec.
+//!
+//! The work stands in functions that are lent their ends and give back a plain value, which is
+//! asserted once and bare: each assertion beside a live end takes long to prove.
 
 use h26x_core::{CodecExtra, Depacketizer, H264CodecExtra, PacketError, Packetizer};
 use std::alloc::Global;
-use std::fmt;
 use std::process::Abort;
 
-/// Compares two values. The cases share it, since each assertion that shows its values is proved
-/// for itself, which takes longer than what it asserts.
-pub(crate) fn same<T: fmt::Debug + PartialEq>(rt: &impl Abort, made: &T, want: &T) {
-    assert_eq!(rt; *made, *want);
+/// Whether these are the packets.
+fn are(packets: &[Vec<u8>], want: &[&[u8]]) -> bool {
+    if packets.len() != want.len() {
+        return false;
+    }
+    for (packet, want) in packets.iter().zip(want) {
+        if packet.as_slice() != *want {
+            return false;
+        }
+    }
+    true
 }
 
 /// A packetizer sends these packets of a payload.
@@ -20,10 +29,7 @@ pub(crate) fn sends<P: Packetizer>(
     want: &[&[u8]],
 ) -> Result<(), PacketError> {
     let packets = packetizer.packetize(mtu, payload)?;
-    assert_eq!(rt; packets.len(), want.len(), "at {mtu}: {payload:?}");
-    for (packet, want) in packets.iter().zip(want) {
-        assert_eq!(rt; packet.as_slice(), *want, "at {mtu}: {payload:?}");
-    }
+    assert!(rt; are(&packets, want));
     Ok(())
 }
 
@@ -45,6 +51,19 @@ pub(crate) fn sends_all<P: Packetizer>(
 /// The length of a packet, and what it begins with.
 pub(crate) type Front<'a> = (usize, &'a [u8]);
 
+/// Whether packets have these lengths, and these bytes in front.
+fn have_fronts(packets: &[Vec<u8>], want: &[Front]) -> bool {
+    if packets.len() != want.len() {
+        return false;
+    }
+    for (packet, &(len, front)) in packets.iter().zip(want) {
+        if packet.len() != len || !packet.starts_with(front) {
+            return false;
+        }
+    }
+    true
+}
+
 /// A packetizer sends packets of these lengths of a payload, each with these bytes in front.
 pub(crate) fn sends_fronts<P: Packetizer>(
     rt: &impl Abort,
@@ -54,12 +73,17 @@ pub(crate) fn sends_fronts<P: Packetizer>(
     want: &[Front],
 ) -> Result<(), PacketError> {
     let packets = packetizer.packetize(mtu, payload)?;
-    assert_eq!(rt; packets.len(), want.len(), "at {mtu}");
-    for (packet, &(len, front)) in packets.iter().zip(want) {
-        assert_eq!(rt; packet.len(), len, "at {mtu}");
-        assert!(rt; packet.starts_with(front), "at {mtu}");
-    }
+    assert!(rt; have_fronts(&packets, want));
     Ok(())
+}
+
+/// How many packets a packetizer sends of a payload.
+fn count<P: Packetizer>(
+    packetizer: &mut P,
+    mtu: usize,
+    payload: &[u8],
+) -> Result<usize, PacketError> {
+    Ok(packetizer.packetize(mtu, payload)?.len())
 }
 
 /// A packetizer sends so many packets of a payload under the limit 0, under 1, and so on.
@@ -69,9 +93,21 @@ pub(crate) fn sends_by_limit<P: Packetizer>(
     payload: &[u8],
     counts: &[usize],
 ) -> Result<(), PacketError> {
-    for (mtu, count) in (0..).zip(counts) {
-        let packets = packetizer.packetize(mtu, payload)?;
-        assert_eq!(rt; packets.len(), *count, "at {mtu}");
+    for (mtu, want) in (0..).zip(counts) {
+        assert!(rt; count(packetizer, mtu, payload)? == *want);
+    }
+    Ok(())
+}
+
+/// Hands packets to a depacketizer.
+pub(crate) fn hand<D: Depacketizer>(
+    depacketizer: &mut D,
+    packets: &[&[u8]],
+    out: &mut Vec<u8>,
+    told: &mut CodecExtra,
+) -> Result<(), PacketError> {
+    for packet in packets {
+        depacketizer.depacketize(packet, out, told)?;
     }
     Ok(())
 }
@@ -87,11 +123,23 @@ pub(crate) fn writes<D: Depacketizer>(
 ) -> Result<(), PacketError> {
     let mut out = Vec::new(alloc);
     let mut told = CodecExtra::None;
-    for packet in packets {
-        depacketizer.depacketize(packet, &mut out, &mut told)?;
-    }
-    assert_eq!(rt; (out.as_slice(), told), (want, extra), "of {packets:?}");
+    hand(depacketizer, packets, &mut out, &mut told)?;
+    assert!(rt; (out.as_slice(), told) == (want, extra));
     Ok(())
+}
+
+/// What was told before a packet that is refused.
+const STOOD: CodecExtra = CodecExtra::H264(H264CodecExtra { is_keyframe: true });
+
+/// What a packet is answered, and whether what was written and told stands.
+fn answer<D: Depacketizer>(
+    depacketizer: &mut D,
+    packet: &[u8],
+    out: &mut Vec<u8>,
+) -> (Result<(), PacketError>, bool) {
+    let mut told = STOOD;
+    let answer = depacketizer.depacketize(packet, out, &mut told);
+    (answer, (out.as_slice(), told) == ([0x11].as_slice(), STOOD))
 }
 
 /// A depacketizer refuses a packet, and leaves what was written and told, and its state.
@@ -103,17 +151,10 @@ pub(crate) fn refuses<D: Depacketizer + PartialEq>(
     packet: &[u8],
     error: PacketError,
 ) -> Result<(), PacketError> {
-    let stood = CodecExtra::H264(H264CodecExtra { is_keyframe: true });
     let mut out = Vec::new(alloc);
     out.push(0x11)?;
-    let mut told = stood;
-    let answer = depacketizer.depacketize(packet, &mut out, &mut told);
-    assert_eq!(rt;
-        (answer, out.as_slice(), told),
-        (Err(error), [0x11].as_slice(), stood),
-        "at {packet:?}"
-    );
-    assert!(rt; *depacketizer == *before, "at {packet:?}");
+    let (answer, stands) = answer(depacketizer, packet, &mut out);
+    assert!(rt; (answer, stands, *depacketizer == *before) == (Err(error), true, true));
     Ok(())
 }
 
@@ -146,12 +187,14 @@ pub(crate) fn refuses_fronts<D: Depacketizer + PartialEq>(
     Ok(())
 }
 
-/// A call tells this of each packet: whether it begins a keyframe, or is the first of an access unit.
-pub(crate) fn tells<F: Fn(&[u8]) -> bool>(rt: &impl Abort, call: F, rows: &[(&[u8], bool)])
-    requires { F.IsAlwaysCallable call }
-{
-    for &(packet, want) in rows {
-        assert_eq!(rt; call(packet), want, "at {packet:?}");
+/// A depacketizer tells whether each packet is the first of an access unit.
+pub(crate) fn tells_heads<D: Depacketizer>(
+    rt: &impl Abort,
+    depacketizer: &D,
+    rows: &[(&[u8], bool)],
+) {
+    for &(packet, is_head) in rows {
+        assert!(rt; depacketizer.is_partition_head(packet) == is_head);
     }
 }
 
@@ -162,17 +205,16 @@ pub(crate) fn tells_tails<D: Depacketizer>(
     rows: &[(bool, &[u8], bool)],
 ) {
     for &(marker, packet, is_tail) in rows {
-        assert_eq!(rt;
-            depacketizer.is_partition_tail(marker, packet),
-            is_tail,
-            "at {marker}: {packet:?}"
-        );
+        assert!(rt; depacketizer.is_partition_tail(marker, packet) == is_tail);
     }
 }
 
+/// The length of packets together, and how much room they may need.
+static HINTS: [(usize, usize); 4] = [(0, 4), (1199, 1203), (1200, 1208), (usize::MAX, usize::MAX)];
+
 /// A depacketizer tells how much room packets may need, by their length together.
 pub(crate) fn tells_hints<D: Depacketizer>(rt: &impl Abort, depacketizer: &D) {
-    for (size, hint) in [(0, 4), (1199, 1203), (1200, 1208), (usize::MAX, usize::MAX)] {
-        assert_eq!(rt; depacketizer.out_size_hint(size), Some(hint), "at {size}");
+    for &(size, hint) in &HINTS {
+        assert!(rt; depacketizer.out_size_hint(size) == Some(hint));
     }
 }

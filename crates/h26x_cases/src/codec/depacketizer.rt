@@ -5,6 +5,7 @@ use h26x_core::{
     CodecExtra, Depacketizer, H264CodecExtra, H265CodecExtra, H266CodecExtra, PacketError,
 };
 use std::alloc::Global;
+use std::process::Abort;
 use std::test::Fail;
 
 const CODECS: [Codec; 3] = [Codec::H264, Codec::H265, Codec::H266];
@@ -40,11 +41,22 @@ static KEY_UNITS: [(Codec, &[u8], [&[u8]; 2], &[u8]); 3] = [
     ),
 ];
 
+/// A new end of this codec writes this of packets, and tells of a keyframe.
+fn writes_anew(
+    rt: &impl Abort,
+    alloc: Global,
+    codec: Codec,
+    packets: &[&[u8]],
+    want: &[u8],
+) -> Result<(), PacketError> {
+    let mut d = CodecDepacketizer::new(alloc, codec);
+    writes(rt, alloc, &mut d, packets, want, key_of(codec))
+}
+
 #[test]
 fn each_packet_reaches_its_codec(rt: HostRuntime) -> Result<(), Fail> {
     for &(codec, unit, _, written) in &KEY_UNITS {
-        let mut d = CodecDepacketizer::new(rt.alloc(), codec);
-        writes(&rt, rt.alloc(), &mut d, &[unit], written, key_of(codec))?;
+        writes_anew(&rt, rt.alloc(), codec, &[unit], written)?;
     }
     Ok(())
 }
@@ -52,8 +64,7 @@ fn each_packet_reaches_its_codec(rt: HostRuntime) -> Result<(), Fail> {
 #[test]
 fn each_fragment_reaches_its_codec(rt: HostRuntime) -> Result<(), Fail> {
     for &(codec, _, fragments, written) in &KEY_UNITS {
-        let mut d = CodecDepacketizer::new(rt.alloc(), codec);
-        writes(&rt, rt.alloc(), &mut d, &fragments, written, key_of(codec))?;
+        writes_anew(&rt, rt.alloc(), codec, &fragments, written)?;
     }
     Ok(())
 }
@@ -76,20 +87,21 @@ fn refuse_behind(
 fn a_refusal_leaves_what_was_written_and_told(rt: HostRuntime) -> Result<(), Fail> {
     for &(codec, unit, _, written) in &KEY_UNITS {
         let (answer, out, extra) = refuse_behind(rt.alloc(), codec, unit)?;
-        assert_eq!(rt;
-            (answer, out.as_slice(), extra),
-            (Err(PacketError::ErrShortPacket), written, key_of(codec)),
-            "{codec:?}"
-        );
+        let want = (Err(PacketError::ErrShortPacket), written, key_of(codec));
+        assert!(rt; (answer, out.as_slice(), extra) == want);
     }
     Ok(())
+}
+
+/// How much room packets of 2400 bytes may need in an end of this codec.
+fn hint(alloc: Global, codec: Codec) -> Option<usize> {
+    CodecDepacketizer::new(alloc, codec).out_size_hint(2400)
 }
 
 #[test]
 fn hints(rt: HostRuntime) {
     for codec in CODECS {
-        let depacketizer = CodecDepacketizer::new(rt.alloc(), codec);
-        assert_eq!(rt; depacketizer.out_size_hint(2400), Some(2412), "{codec:?}");
+        assert!(rt; hint(rt.alloc(), codec) == Some(2412));
     }
 }
 
@@ -112,7 +124,7 @@ fn give_up_between(
 fn a_run_that_is_given_up(rt: HostRuntime) -> Result<(), Fail> {
     for &(codec, _, fragments, _) in &KEY_UNITS {
         let (out, extra) = give_up_between(rt.alloc(), codec, fragments)?;
-        assert_eq!(rt; (out.len(), extra), (0, CodecExtra::None), "{codec:?}");
+        assert!(rt; (out.len(), extra) == (0, CodecExtra::None));
     }
     Ok(())
 }
@@ -181,16 +193,19 @@ fn head_and_tails(alloc: Global, codec: Codec, packet: &[u8]) -> [bool; 3] {
     ]
 }
 
+/// The same of an end of each codec.
+fn by_codec(alloc: Global, packet: &[u8]) -> [[bool; 3]; 3] {
+    [
+        head_and_tails(alloc, Codec::H264, packet),
+        head_and_tails(alloc, Codec::H265, packet),
+        head_and_tails(alloc, Codec::H266, packet),
+    ]
+}
+
 #[test]
 fn heads_and_tails(rt: HostRuntime) {
     for &(packet, want) in &HEADS_AND_TAILS {
-        for (codec, want) in CODECS.into_iter().zip(want) {
-            assert_eq!(rt;
-                head_and_tails(rt.alloc(), codec, packet),
-                want,
-                "{codec:?} {packet:?}"
-            );
-        }
+        assert!(rt; by_codec(rt.alloc(), packet) == want);
     }
 }
 

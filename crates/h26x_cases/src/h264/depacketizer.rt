@@ -2,6 +2,7 @@ use crate::ends::{refuses, writes};
 use h26x_core::{ANNEXB_NALUSTART_CODE, CodecExtra, Depacketizer, H264CodecExtra, PacketError};
 use h264_payload::H264Depacketizer;
 use std::alloc::Global;
+use std::process::Abort;
 use std::test::Fail;
 
 const STAP: [u8; 26] = [
@@ -40,11 +41,22 @@ static ONE_PACKET: [(&[u8], &[u8], CodecExtra); 6] = [
     (&[0x85], &[0x00, 0x00, 0x00, 0x01, 0x85], A_KEY),
 ];
 
+/// A new depacketizer writes this of packets, and tells this at last.
+fn writes_anew(
+    rt: &impl Abort,
+    alloc: Global,
+    packets: &[&[u8]],
+    want: &[u8],
+    extra: CodecExtra,
+) -> Result<(), PacketError> {
+    let mut d = H264Depacketizer::new(alloc);
+    writes(rt, alloc, &mut d, packets, want, extra)
+}
+
 #[test]
 fn one_packet(rt: HostRuntime) -> Result<(), Fail> {
     for &(packet, want, extra) in &ONE_PACKET {
-        let mut d = H264Depacketizer::new(rt.alloc());
-        writes(&rt, rt.alloc(), &mut d, &[packet], want, extra)?;
+        writes_anew(&rt, rt.alloc(), &[packet], want, extra)?;
     }
     Ok(())
 }
@@ -82,8 +94,7 @@ static LISTS: [(&[&[u8]], &[u8]); 3] = [
 #[test]
 fn lists_of_packets(rt: HostRuntime) -> Result<(), Fail> {
     for &(packets, want) in &LISTS {
-        let mut d = H264Depacketizer::new(rt.alloc());
-        writes(&rt, rt.alloc(), &mut d, packets, want, A_KEY)?;
+        writes_anew(&rt, rt.alloc(), packets, want, A_KEY)?;
     }
     Ok(())
 }
@@ -133,12 +144,22 @@ static REFUSED: [(&[u8], PacketError); 5] = [
     (&[0xff, 0x00, 0x00], PacketError::NaluTypeIsNotHandled(31)),
 ];
 
+/// A new depacketizer refuses this packet.
+fn refuses_anew(
+    rt: &impl Abort,
+    alloc: Global,
+    packet: &[u8],
+    error: PacketError,
+) -> Result<(), PacketError> {
+    let before = H264Depacketizer::new(alloc);
+    let mut d = H264Depacketizer::new(alloc);
+    refuses(rt, alloc, &mut d, &before, packet, error)
+}
+
 #[test]
 fn refused_packets(rt: HostRuntime) -> Result<(), Fail> {
     for &(packet, error) in &REFUSED {
-        let before = H264Depacketizer::new(rt.alloc());
-        let mut d = H264Depacketizer::new(rt.alloc());
-        refuses(&rt, rt.alloc(), &mut d, &before, packet, error)?;
+        refuses_anew(&rt, rt.alloc(), packet, error)?;
     }
     Ok(())
 }
@@ -163,11 +184,16 @@ fn a_clone_goes_on(rt: HostRuntime) -> Result<(), Fail> {
     Ok(writes(&rt, rt.alloc(), &mut d, &[&END], &WRITTEN, A_KEY)?)
 }
 
+/// Whether a depacketizer equals its copy, and whether it differs from a new one.
+fn compared(alloc: Global, d: &H264Depacketizer) -> Result<(bool, bool), PacketError> {
+    let copy = d.clone()?;
+    Ok((*d == copy, *d != H264Depacketizer::new(alloc)))
+}
+
 #[test]
 fn a_run_is_compared(rt: HostRuntime) -> Result<(), Fail> {
     let d = with_a_run(rt.alloc())?;
-    assert!(rt; d == d.clone()?);
-    assert!(rt; d != H264Depacketizer::new(rt.alloc()));
+    assert!(rt; compared(rt.alloc(), &d)? == (true, true));
     Ok(())
 }
 

@@ -1,4 +1,4 @@
-use crate::ends::{Call, same, sends, sends_all};
+use crate::ends::{Call, sends, sends_all};
 use h26x_core::{PacketError, Packetizer};
 use h264_payload::H264Packetizer;
 use std::alloc::Global;
@@ -41,21 +41,41 @@ static CALLS: [Call; 11] = [
     ),
 ];
 
+/// A new packetizer sends these packets of a payload.
+fn sends_anew(
+    rt: &impl Abort,
+    alloc: Global,
+    mtu: usize,
+    payload: &[u8],
+    want: &[&[u8]],
+) -> Result<(), PacketError> {
+    let mut packetizer = H264Packetizer::new(alloc);
+    sends(rt, &mut packetizer, mtu, payload, want)
+}
+
 #[test]
 fn payloads_and_their_packets(rt: HostRuntime) -> Result<(), Fail> {
     for &(mtu, payload, want) in &CALLS {
-        let mut packetizer = H264Packetizer::new(rt.alloc());
-        sends(&rt, &mut packetizer, mtu, payload, want)?;
+        sends_anew(&rt, rt.alloc(), mtu, payload, want)?;
     }
     Ok(())
+}
+
+/// Whether each packet is within the limit.
+fn are_within(packets: &[Vec<u8>], mtu: usize) -> bool {
+    for packet in packets {
+        if packet.len() > mtu {
+            return false;
+        }
+    }
+    true
 }
 
 /// How many packets a new packetizer sends of a unit, and whether each is within the limit.
 fn count(alloc: Global, mtu: usize, unit: &[u8]) -> Result<(usize, bool), PacketError> {
     let mut packetizer = H264Packetizer::new(alloc);
     let packets = packetizer.packetize(mtu, unit)?;
-    let are_within = packets.iter().all(|packet| packet.len() <= mtu);
-    Ok((packets.len(), are_within))
+    Ok((packets.len(), are_within(&packets, mtu)))
 }
 
 /// A limit, and how many packets go of a unit of 2001 bytes.
@@ -68,14 +88,19 @@ static COUNTS: [(usize, usize); 6] = [
     (2001, 1),
 ];
 
+/// So many packets go of a unit, and each is within its limit.
+fn sends_counts(rt: &impl Abort, alloc: Global, unit: &[u8]) -> Result<(), PacketError> {
+    for &(mtu, want) in &COUNTS {
+        assert!(rt; count(alloc, mtu, unit)? == (want, true));
+    }
+    Ok(())
+}
+
 #[test]
 fn a_long_unit_in_fragments(rt: HostRuntime) -> Result<(), Fail> {
     let mut unit = vec![in rt.alloc(); 5]?;
     unit.resize(2001, 0xab)?;
-    for &(mtu, want) in &COUNTS {
-        same(&rt, &count(rt.alloc(), mtu, &unit)?, &(want, true));
-    }
-    Ok(())
+    Ok(sends_counts(&rt, rt.alloc(), &unit)?)
 }
 
 /// An SPS and a PPS, of which nothing is sent yet.
@@ -116,13 +141,21 @@ fn sets_of_a_copy_that_go_alone(rt: HostRuntime) -> Result<(), Fail> {
     Ok(sends_all(&rt, &mut packetizer, &APART)?)
 }
 
+/// Whether the last packet has the marker, and one before it; whether packets may be asked for
+/// again, and whether the marker begins a talkspurt.
+fn marks(packetizer: &mut H264Packetizer) -> [bool; 4] {
+    [
+        packetizer.is_marker(&[5], None, true),
+        packetizer.is_marker(&[5], Some(&[5]), false),
+        packetizer.nackable(),
+        packetizer.marks_talkspurt(),
+    ]
+}
+
 #[test]
 fn the_marker_is_on_the_last_packet(rt: HostRuntime) -> Result<(), Fail> {
     let mut packetizer = H264Packetizer::new(rt.alloc());
-    assert!(rt; packetizer.is_marker(&[5], None, true));
-    assert!(rt; !packetizer.is_marker(&[5], Some(&[5]), false));
-    assert!(rt; packetizer.nackable());
-    assert!(rt; !packetizer.marks_talkspurt());
+    assert!(rt; marks(&mut packetizer) == [true, false, true, false]);
     Ok(())
 }
 

@@ -1,10 +1,12 @@
 use crate::ends::{
-    refuses, refuses_each, refuses_fronts, same, sends, tells, tells_hints, tells_tails, writes,
+    hand, refuses, refuses_each, refuses_fronts, sends, tells_heads, tells_hints, tells_tails,
+    writes,
 };
 use h26x_core::{CodecExtra, Depacketizer, H265CodecExtra, H265TSCI, PacketError};
 use h265_packets::H265Payload;
 use h265_payload::{H265Depacketizer, H265Packetizer};
 use std::alloc::Global;
+use std::process::Abort;
 use std::test::Fail;
 
 /// What is told where no key unit was among the units.
@@ -28,10 +30,7 @@ fn take(
 ) -> Result<H265Depacketizer, PacketError> {
     let mut depacketizer = fresh(alloc, is_numbered);
     let mut out = Vec::new(alloc);
-    let mut told = CodecExtra::None;
-    for packet in packets {
-        depacketizer.depacketize(packet, &mut out, &mut told)?;
-    }
+    hand(&mut depacketizer, packets, &mut out, &mut CodecExtra::None)?;
     Ok(depacketizer)
 }
 
@@ -107,11 +106,23 @@ static ONE_PACKET: [(bool, &[u8], &[u8], CodecExtra); 11] = [
     ),
 ];
 
+/// A new depacketizer writes this of packets, and tells this at last.
+fn writes_anew(
+    rt: &impl Abort,
+    alloc: Global,
+    is_numbered: bool,
+    packets: &[&[u8]],
+    want: &[u8],
+    extra: CodecExtra,
+) -> Result<(), PacketError> {
+    let mut d = fresh(alloc, is_numbered);
+    writes(rt, alloc, &mut d, packets, want, extra)
+}
+
 #[test]
 fn one_packet(rt: HostRuntime) -> Result<(), Fail> {
     for &(is_numbered, packet, want, extra) in &ONE_PACKET {
-        let mut d = fresh(rt.alloc(), is_numbered);
-        writes(&rt, rt.alloc(), &mut d, &[packet], want, extra)?;
+        writes_anew(&rt, rt.alloc(), is_numbered, &[packet], want, extra)?;
     }
     Ok(())
 }
@@ -162,12 +173,23 @@ static REFUSED: [(bool, &[u8], PacketError); 14] = [
     ),
 ];
 
+/// A new depacketizer refuses this packet.
+fn refuses_anew(
+    rt: &impl Abort,
+    alloc: Global,
+    is_numbered: bool,
+    packet: &[u8],
+    error: PacketError,
+) -> Result<(), PacketError> {
+    let before = fresh(alloc, is_numbered);
+    let mut d = fresh(alloc, is_numbered);
+    refuses(rt, alloc, &mut d, &before, packet, error)
+}
+
 #[test]
 fn refused_packets(rt: HostRuntime) -> Result<(), Fail> {
     for &(is_numbered, packet, error) in &REFUSED {
-        let before = fresh(rt.alloc(), is_numbered);
-        let mut d = fresh(rt.alloc(), is_numbered);
-        refuses(&rt, rt.alloc(), &mut d, &before, packet, error)?;
+        refuses_anew(&rt, rt.alloc(), is_numbered, packet, error)?;
     }
     Ok(())
 }
@@ -303,7 +325,7 @@ fn parts_of_single(shown: &H265Payload) -> Option<(u16, Option<u16>, &[u8])> {
 fn single_packets_shown(rt: HostRuntime) -> Result<(), Fail> {
     let d = take(rt.alloc(), true, &[&[0x02, 0x01, 0x00, 0x05, 0xaa]])?;
     let want = Some((0x0201, Some(5), [0xaa].as_slice()));
-    same(&rt, &parts_of_single(d.payload()), &want);
+    assert!(rt; parts_of_single(d.payload()) == want);
     Ok(())
 }
 
@@ -324,7 +346,7 @@ fn parts_of_fragment(shown: &H265Payload) -> Option<(u16, u8, Option<u16>, &[u8]
 fn first_fragments_shown(rt: HostRuntime) -> Result<(), Fail> {
     let d = with_a_numbered_run(rt.alloc())?;
     let want = Some((0x6201, 0x93, Some(7), [0xaa].as_slice()));
-    same(&rt, &parts_of_fragment(d.payload()), &want);
+    assert!(rt; parts_of_fragment(d.payload()) == want);
     Ok(())
 }
 
@@ -332,7 +354,7 @@ fn first_fragments_shown(rt: HostRuntime) -> Result<(), Fail> {
 fn last_fragments_shown(rt: HostRuntime) -> Result<(), Fail> {
     let d = take(rt.alloc(), true, &[&NUMBERED_START, &END])?;
     let want = Some((0x6201, 0x53, None, [0xbb].as_slice()));
-    same(&rt, &parts_of_fragment(d.payload()), &want);
+    assert!(rt; parts_of_fragment(d.payload()) == want);
     Ok(())
 }
 
@@ -363,7 +385,7 @@ fn parts_of_first(shown: &H265Payload) -> Option<(Option<u16>, u16, &[u8])> {
 fn first_units_shown(rt: HostRuntime) -> Result<(), Fail> {
     let d = take(rt.alloc(), true, &[&NUMBERED_AGGREGATE])?;
     let want = Some((Some(65535), 2, [0x02, 0x01].as_slice()));
-    same(&rt, &parts_of_first(d.payload()), &want);
+    assert!(rt; parts_of_first(d.payload()) == want);
     Ok(())
 }
 
@@ -382,7 +404,7 @@ fn parts_of_second(shown: &H265Payload) -> Option<(Option<u8>, u16, &[u8])> {
 fn further_units_shown(rt: HostRuntime) -> Result<(), Fail> {
     let d = take(rt.alloc(), true, &[&NUMBERED_AGGREGATE])?;
     let want = Some((Some(1), 3, [0x26, 0x01, 0xaf].as_slice()));
-    same(&rt, &parts_of_second(d.payload()), &want);
+    assert!(rt; parts_of_second(d.payload()) == want);
     Ok(())
 }
 
@@ -429,7 +451,7 @@ fn paci_packets_shown(rt: HostRuntime) -> Result<(), Fail> {
         [0xaa].as_slice(),
         Some(H265TSCI(0x1122_3300)),
     ));
-    same(&rt, &parts_of_paci(d.payload()), &want);
+    assert!(rt; parts_of_paci(d.payload()) == want);
     Ok(())
 }
 
@@ -448,7 +470,7 @@ static HEADS: [(&[u8], bool); 8] = [
 #[test]
 fn heads(rt: HostRuntime) {
     let d = H265Depacketizer::new(rt.alloc());
-    tells(&rt, |packet| d.is_partition_head(packet), &HEADS);
+    tells_heads(&rt, &d, &HEADS);
 }
 
 /// The marker, a packet, and whether it is the last of an access unit.

@@ -1,5 +1,8 @@
 use crate::ends::{Call, Front, sends_all, sends_by_limit, sends_fronts};
+use h26x_core::PacketError;
 use h265_payload::H265Packetizer;
+use std::alloc::{AllocError, Global};
+use std::process::Abort;
 use std::test::Fail;
 
 /// A VPS, an SPS, a PPS and a key unit.
@@ -121,12 +124,22 @@ static RUNS: [(bool, &[Call]); 13] = [
     ),
 ];
 
+/// A new packetizer, with numbers or without, sends these packets.
+fn sends_anew(
+    rt: &impl Abort,
+    alloc: Global,
+    is_numbered: bool,
+    calls: &[Call],
+) -> Result<(), PacketError> {
+    let mut packetizer = H265Packetizer::new(alloc);
+    packetizer.with_donl(is_numbered);
+    sends_all(rt, &mut packetizer, calls)
+}
+
 #[test]
 fn payloads_and_their_packets(rt: HostRuntime) -> Result<(), Fail> {
     for &(is_numbered, calls) in &RUNS {
-        let mut packetizer = H265Packetizer::new(rt.alloc());
-        packetizer.with_donl(is_numbered);
-        sends_all(&rt, &mut packetizer, calls)?;
+        sends_anew(&rt, rt.alloc(), is_numbered, calls)?;
     }
     Ok(())
 }
@@ -137,65 +150,113 @@ static COUNTS: [(bool, [usize; 11]); 2] = [
     (true, [0, 0, 0, 0, 0, 0, 3, 2, 2, 2, 1]),
 ];
 
+/// A new packetizer sends so many packets of the unit, limit by limit.
+fn sends_counts(
+    rt: &impl Abort,
+    alloc: Global,
+    is_numbered: bool,
+    counts: &[usize],
+) -> Result<(), PacketError> {
+    let mut packetizer = H265Packetizer::new(alloc);
+    packetizer.with_donl(is_numbered);
+    sends_by_limit(rt, &mut packetizer, &[2, 1, 1, 2, 3, 4, 5, 6], counts)
+}
+
 #[test]
 fn packets_by_limit(rt: HostRuntime) -> Result<(), Fail> {
     for (is_numbered, counts) in &COUNTS {
-        let mut packetizer = H265Packetizer::new(rt.alloc());
-        packetizer.with_donl(*is_numbered);
-        sends_by_limit(&rt, &mut packetizer, &[2, 1, 1, 2, 3, 4, 5, 6], counts)?;
+        sends_counts(&rt, rt.alloc(), *is_numbered, counts)?;
     }
     Ok(())
 }
 
-#[test]
-fn largest_packet_sizes(rt: HostRuntime) -> Result<(), Fail> {
-    let mut unit = vec![in rt.alloc(); 0x26, 1]?;
-    unit.resize(1201, 0xaa)?;
-    let mut sets = vec![in rt.alloc(); 0, 0, 1, 0x42, 1]?;
-    sets.resize(1305, 0xaa)?;
-    sets.extend_from_slice(&[0, 0, 1, 0x44, 1, 0xc1, 0, 0, 1, 0x26, 1, 0xaf])?;
-    // The payload, the largest size, and for each packet its length and what it begins with.
-    let table: [(&[u8], u16, &[Front]); 6] = [
-        (
-            &[0x26, 1, 0xaa, 0xbb, 0xcc],
-            4,
-            &[
-                (4, &[0x62, 1, 0x93, 0xaa]),
-                (4, &[0x62, 1, 0x13, 0xbb]),
-                (4, &[0x62, 1, 0x53, 0xcc]),
-            ],
-        ),
-        (
-            &unit,
-            1200,
-            &[
-                (1200, &[0x62, 1, 0x93, 0xaa]),
-                (5, &[0x62, 1, 0x53, 0xaa, 0xaa]),
-            ],
-        ),
-        (&unit, 65535, &[(1201, &[0x26, 1, 0xaa])]),
-        (
-            &sets,
-            1400,
-            &[(1311, &[0x60, 1, 5, 0x16, 0x42, 1]), (3, &[0x26, 1, 0xaf])],
-        ),
-        (
-            &sets,
-            1310,
-            &[
-                (1302, &[0x42, 1, 0xaa]),
-                (3, &[0x44, 1, 0xc1]),
-                (3, &[0x26, 1, 0xaf]),
-            ],
-        ),
-        (&sets, 1200, &[(3, &[0x44, 1, 0xc1]), (3, &[0x26, 1, 0xaf])]),
-    ];
-    for (payload, largest, want) in table {
-        assert!(rt; largest >= 4);
-        let mut packetizer = H265Packetizer::new(rt.alloc());
-        packetizer.with_max_packet_size(largest);
-        let mut copy = packetizer.clone()?;
-        sends_fronts(&rt, &mut copy, 5000, payload, want)?;
+/// A copy of a packetizer with this largest size, which is 4 or more.
+fn of_size(rt: &impl Abort, alloc: Global, largest: u16) -> Result<H265Packetizer, PacketError> {
+    assert!(rt; largest >= 4);
+    let mut packetizer = H265Packetizer::new(alloc);
+    packetizer.with_max_packet_size(largest);
+    packetizer.clone()
+}
+
+/// A largest size, and for each packet its length and what it begins with.
+type OfSize = (u16, &'static [Front<'static>]);
+
+/// Packetizers of these largest sizes send these packets of a payload.
+fn sends_by_size(
+    rt: &impl Abort,
+    alloc: Global,
+    payload: &[u8],
+    rows: &[OfSize],
+) -> Result<(), PacketError> {
+    for &(largest, want) in rows {
+        let mut packetizer = of_size(rt, alloc, largest)?;
+        sends_fronts(rt, &mut packetizer, 5000, payload, want)?;
     }
     Ok(())
+}
+
+/// The packets of a unit of five bytes.
+static OF_A_SHORT_UNIT: [OfSize; 1] = [(
+    4,
+    &[
+        (4, &[0x62, 1, 0x93, 0xaa]),
+        (4, &[0x62, 1, 0x13, 0xbb]),
+        (4, &[0x62, 1, 0x53, 0xcc]),
+    ],
+)];
+
+#[test]
+fn largest_packet_sizes(rt: HostRuntime) -> Result<(), Fail> {
+    let unit = [0x26, 1, 0xaa, 0xbb, 0xcc];
+    Ok(sends_by_size(&rt, rt.alloc(), &unit, &OF_A_SHORT_UNIT)?)
+}
+
+/// Those of a unit of 1201 bytes.
+static OF_A_LONG_UNIT: [OfSize; 2] = [
+    (
+        1200,
+        &[
+            (1200, &[0x62, 1, 0x93, 0xaa]),
+            (5, &[0x62, 1, 0x53, 0xaa, 0xaa]),
+        ],
+    ),
+    (65535, &[(1201, &[0x26, 1, 0xaa])]),
+];
+
+#[test]
+fn largest_packet_sizes_and_a_long_unit(rt: HostRuntime) -> Result<(), Fail> {
+    let mut unit = vec![in rt.alloc(); 0x26, 1]?;
+    unit.resize(1201, 0xaa)?;
+    Ok(sends_by_size(&rt, rt.alloc(), &unit, &OF_A_LONG_UNIT)?)
+}
+
+/// Those of an SPS of 1302 bytes, a PPS and a key unit.
+static OF_LONG_SETS: [OfSize; 3] = [
+    (
+        1400,
+        &[(1311, &[0x60, 1, 5, 0x16, 0x42, 1]), (3, &[0x26, 1, 0xaf])],
+    ),
+    (
+        1310,
+        &[
+            (1302, &[0x42, 1, 0xaa]),
+            (3, &[0x44, 1, 0xc1]),
+            (3, &[0x26, 1, 0xaf]),
+        ],
+    ),
+    (1200, &[(3, &[0x44, 1, 0xc1]), (3, &[0x26, 1, 0xaf])]),
+];
+
+/// The sets and the unit.
+fn long_sets(alloc: Global) -> Result<Vec<u8>, AllocError> {
+    let mut sets = vec![in alloc; 0, 0, 1, 0x42, 1]?;
+    sets.resize(1305, 0xaa)?;
+    sets.extend_from_slice(&[0, 0, 1, 0x44, 1, 0xc1, 0, 0, 1, 0x26, 1, 0xaf])?;
+    Ok(sets)
+}
+
+#[test]
+fn largest_packet_sizes_and_long_sets(rt: HostRuntime) -> Result<(), Fail> {
+    let sets = long_sets(rt.alloc())?;
+    Ok(sends_by_size(&rt, rt.alloc(), &sets, &OF_LONG_SETS)?)
 }

@@ -1,4 +1,3 @@
-use crate::ends::same;
 use h26x_core::{H265FragmentationUnitHeader, H265NALUHeader, H265TSCI, PacketError};
 use h265_packets::{
     H265AggregationPacket, H265AggregationUnit, H265AggregationUnitFirst,
@@ -85,29 +84,26 @@ fn an_empty_payload(rt: HostRuntime) {
 #[test]
 fn no_units_of_an_empty_aggregate(rt: HostRuntime) -> Result<(), Fail> {
     let packet = H265AggregationPacket::empty(rt.alloc());
-    assert!(rt; packet.nal_units(rt.alloc())?.is_empty());
+    let units = packet.nal_units(rt.alloc())?;
+    assert!(rt; units.is_empty());
     Ok(())
 }
 
 #[test]
 fn parts_of_a_single_packet(rt: HostRuntime) -> Result<(), Fail> {
     let packet = single(rt.alloc(), Some(7))?;
-    assert_eq!(rt;
-        (packet.payload_header().0, packet.donl(), packet.payload()),
-        (0x2601, Some(7), [0xaa, 0xbb].as_slice())
-    );
+    let parts = (packet.payload_header().0, packet.donl(), packet.payload());
+    assert!(rt; parts == (0x2601, Some(7), [0xaa, 0xbb].as_slice()));
     Ok(())
 }
 
 #[test]
 fn parts_of_a_fragment(rt: HostRuntime) -> Result<(), Fail> {
     let packet = fragment(rt.alloc(), Some(0xffff))?;
-    assert_eq!(rt;
-        (packet.payload_header().0, packet.donl(), packet.payload()),
-        (0x6201, Some(0xffff), [0xaa].as_slice())
-    );
+    let parts = (packet.payload_header().0, packet.donl(), packet.payload());
+    assert!(rt; parts == (0x6201, Some(0xffff), [0xaa].as_slice()));
     let marks = packet.fu_header();
-    assert_eq!(rt; (marks.s(), marks.e(), marks.fu_type()), (true, false, 19));
+    assert!(rt; (marks.s(), marks.e(), marks.fu_type()) == (true, false, 19));
     Ok(())
 }
 
@@ -121,89 +117,110 @@ const UNITS: [&[u8]; 3] = [
 #[test]
 fn units_of_an_aggregate(rt: HostRuntime) -> Result<(), Fail> {
     let packet = aggregate(rt.alloc())?;
-    assert_eq!(rt; packet.nal_units(rt.alloc())?.as_slice(), UNITS.as_slice());
+    let units = packet.nal_units(rt.alloc())?;
+    assert!(rt; units.as_slice() == UNITS.as_slice());
     Ok(())
+}
+
+/// The number, the length and the bytes of the first unit.
+fn parts_of_first(packet: &H265AggregationPacket) -> Option<(Option<u16>, u16, &[u8])> {
+    let first = packet.first_unit()?;
+    Some((first.donl(), first.nalu_size(), first.nal_unit()))
 }
 
 #[test]
 fn a_first_unit(rt: HostRuntime) -> Result<(), Fail> {
     let packet = aggregate(rt.alloc())?;
-    let Some(first) = packet.first_unit() else {
-        return Err(Fail::from("no first unit"));
-    };
-    assert_eq!(rt;
-        (first.donl(), first.nalu_size(), first.nal_unit()),
-        (Some(7), 3, UNITS[0])
-    );
+    assert!(rt; parts_of_first(&packet) == Some((Some(7), 3, UNITS[0])));
     Ok(())
+}
+
+/// Whether a further unit has this number, this length and these bytes.
+fn is_further(unit: &H265AggregationUnit, dond: u8, size: u16, bytes: &[u8]) -> bool {
+    (unit.dond(), unit.nalu_size(), unit.nal_unit()) == (Some(dond), size, bytes)
+}
+
+/// Whether the further units are the two of the aggregate.
+fn has_further_units(packet: &H265AggregationPacket) -> bool {
+    match packet.other_units() {
+        [sps, pps] => is_further(sps, 0, 2, UNITS[1]) && is_further(pps, 255, 4, UNITS[2]),
+        _ => false,
+    }
 }
 
 #[test]
 fn further_units(rt: HostRuntime) -> Result<(), Fail> {
     let packet = aggregate(rt.alloc())?;
-    let [sps, pps] = packet.other_units() else {
-        return Err(Fail::from("not two further units"));
-    };
-    for (unit, dond, size, bytes) in [(sps, 0, 2, UNITS[1]), (pps, 255, 4, UNITS[2])] {
-        assert_eq!(rt;
-            (unit.dond(), unit.nalu_size(), unit.nal_unit()),
-            (Some(dond), size, bytes)
-        );
-    }
+    assert!(rt; has_further_units(&packet));
     Ok(())
+}
+
+/// The word of the fields; A, F0, F1, F2 and Y; cType and PHSsize.
+static PACI_FIELDS: [(u16, [bool; 5], u8, u8); 8] = [
+    (0x2638, [false, true, false, false, false], 19, 3),
+    (0x8000, [true, false, false, false, false], 0, 0),
+    (0x7e00, [false, false, false, false, false], 63, 0),
+    (0x01f0, [false, false, false, false, false], 0, 31),
+    (0x0004, [false, false, true, false, false], 0, 0),
+    (0x0002, [false, false, false, true, false], 0, 0),
+    (0x0001, [false, false, false, false, true], 0, 0),
+    (0xffff, [true, true, true, true, true], 63, 31),
+];
+
+/// A, F0, F1, F2 and Y.
+fn flags_of(packet: &H265PACIPacket) -> [bool; 5] {
+    [
+        packet.a(),
+        packet.f0(),
+        packet.f1(),
+        packet.f2(),
+        packet.y(),
+    ]
+}
+
+/// Whether the extension of a PACI packet of `TSCI_AND_PAYLOAD` is its first bytes, so many, and
+/// its payload the others.
+fn is_cut_at(packet: &H265PACIPacket, end: usize) -> bool {
+    let parts = (Some(packet.phes()), Some(packet.payload()));
+    parts == (TSCI_AND_PAYLOAD.get(..end), TSCI_AND_PAYLOAD.get(end..))
+}
+
+/// The flags, the header, cType and PHSsize of a PACI packet, and whether it is cut behind as many
+/// bytes.
+fn fields_of(packet: &H265PACIPacket) -> ([bool; 5], u16, u8, u8, bool) {
+    let size = packet.phs_size();
+    (
+        flags_of(packet),
+        packet.payload_header().0,
+        packet.ctype(),
+        size,
+        is_cut_at(packet, usize::from(size)),
+    )
 }
 
 #[test]
 fn fields_of_a_paci(rt: HostRuntime) -> Result<(), Fail> {
-    // The word of the fields; A, F0, F1, F2 and Y; cType and PHSsize.
-    for (fields, flags, ctype, phs_size) in [
-        (0x2638, [false, true, false, false, false], 19, 3),
-        (0x8000, [true, false, false, false, false], 0, 0),
-        (0x7e00, [false, false, false, false, false], 63, 0),
-        (0x01f0, [false, false, false, false, false], 0, 31),
-        (0x0004, [false, false, true, false, false], 0, 0),
-        (0x0002, [false, false, false, true, false], 0, 0),
-        (0x0001, [false, false, false, false, true], 0, 0),
-        (0xffff, [true, true, true, true, true], 63, 31),
-    ] {
+    for &(fields, flags, ctype, phs_size) in &PACI_FIELDS {
         let packet = paci_of(rt.alloc(), fields, &TSCI_AND_PAYLOAD)?;
-        assert_eq!(rt;
-            [
-                packet.a(),
-                packet.f0(),
-                packet.f1(),
-                packet.f2(),
-                packet.y()
-            ],
-            flags,
-            "at {fields}"
-        );
-        assert_eq!(rt;
-            (packet.payload_header().0, packet.ctype(), packet.phs_size()),
-            (0x6401, ctype, phs_size),
-            "at {fields}"
-        );
-        let end = usize::from(phs_size);
-        assert_eq!(rt;
-            (Some(packet.phes()), Some(packet.payload())),
-            (TSCI_AND_PAYLOAD.get(..end), TSCI_AND_PAYLOAD.get(end..)),
-            "at {fields}"
-        );
+        assert!(rt; fields_of(&packet) == (flags, 0x6401, ctype, phs_size, true));
     }
     Ok(())
 }
 
+/// The word of the fields, and TSCI.
+static EXTENSIONS: [(u16, Option<H265TSCI>); 5] = [
+    (0x2638, Some(H265TSCI(0x1122_3300))),
+    (0x2648, Some(H265TSCI(0x1122_3300))),
+    (0x2630, None),
+    (0x2628, None),
+    (0x2608, None),
+];
+
 #[test]
 fn extensions_with_tsci(rt: HostRuntime) -> Result<(), Fail> {
-    for (fields, want) in [
-        (0x2638, Some(H265TSCI(0x1122_3300))),
-        (0x2648, Some(H265TSCI(0x1122_3300))),
-        (0x2630, None),
-        (0x2628, None),
-        (0x2608, None),
-    ] {
+    for &(fields, want) in &EXTENSIONS {
         let packet = paci_of(rt.alloc(), fields, &TSCI_AND_PAYLOAD)?;
-        assert_eq!(rt; packet.tsci(), want, "at {fields}");
+        assert!(rt; packet.tsci() == want);
     }
     Ok(())
 }
@@ -213,11 +230,11 @@ fn parts_of_tsci(rt: HostRuntime) -> Result<(), Fail> {
     let Some(tsci) = paci(rt.alloc())?.tsci() else {
         return Err(Fail::from("no TSCI"));
     };
-    assert_eq!(rt;
+    let parts = (
         (tsci.tl0picidx(), tsci.irap_pic_id(), tsci.res()),
-        (0x11, 0x22, 0x33)
+        (tsci.s(), tsci.e()),
     );
-    assert_eq!(rt; (tsci.s(), tsci.e()), (false, false));
+    assert!(rt; parts == ((0x11, 0x22, 0x33), (false, false)));
     Ok(())
 }
 
@@ -247,27 +264,41 @@ fn packed(alloc: Global, unit: &[u8], phes: &[u8]) -> Result<(Vec<u8>, bool), Pa
     Ok((packet, is_same))
 }
 
+/// What is left of a packet behind these bytes and those.
+fn rest_behind<'a>(packet: &'a [u8], head: &[u8], phes: &[u8]) -> Option<&'a [u8]> {
+    packet.strip_prefix(head)?.strip_prefix(phes)
+}
+
 #[test]
 fn packed_pacis(rt: HostRuntime) -> Result<(), Fail> {
     for (unit, phes, head) in &PACKED {
         let (packet, is_same) = packed(rt.alloc(), unit, phes)?;
-        let rest = packet
-            .strip_prefix(head)
-            .and_then(|rest| rest.strip_prefix(*phes));
-        same(&rt, &(rest, is_same), &(unit.get(2..), true));
+        assert!(rt; (rest_behind(&packet, head, phes), is_same) == (unit.get(2..), true));
     }
     Ok(())
+}
+
+/// Whether an extension of 32 bytes is refused.
+fn refuses_long_phes(alloc: Global, buf: &mut Vec<u8>) -> bool {
+    H265PACIPacket::packetize(alloc, &[0x26, 0x01, 0xaa], &[0xbb; 32], buf)
+        == Err(PacketError::ErrH265PACIPHESTooLong)
 }
 
 #[test]
 fn an_extension_too_long(rt: HostRuntime) -> Result<(), Fail> {
     let mut buf = bytes(rt.alloc(), &[0x01, 0x02])?;
-    assert_eq!(rt;
-        H265PACIPacket::packetize(rt.alloc(), &[0x26, 0x01, 0xaa], &[0xbb; 32], &mut buf),
-        Err(PacketError::ErrH265PACIPHESTooLong)
-    );
-    assert_eq!(rt; buf.as_slice(), [0x01, 0x02].as_slice());
+    let is_refused = refuses_long_phes(rt.alloc(), &mut buf);
+    assert!(rt; (is_refused, buf.as_slice()) == (true, [0x01, 0x02].as_slice()));
     Ok(())
+}
+
+/// Whether a packet equals a new one with this number.
+fn equals_single(
+    alloc: Global,
+    packet: &H265SingleNALUnitPacket,
+    donl: Option<u16>,
+) -> Result<bool, PacketError> {
+    Ok(*packet == single(alloc, donl)?)
 }
 
 #[test]
@@ -280,11 +311,19 @@ fn equal_single_packets(rt: HostRuntime) -> Result<(), Fail> {
         (true, None, true),
     ] {
         packet.with_donl(mark);
-        let other = single(rt.alloc(), donl)?;
-        assert_eq!(rt; packet == other, is_equal, "marked {mark}, with {donl:?}");
+        assert!(rt; equals_single(rt.alloc(), &packet, donl)? == is_equal);
     }
     assert!(rt; packet != H265SingleNALUnitPacket::empty(rt.alloc()));
     Ok(())
+}
+
+/// Whether a fragment equals a new one with this number.
+fn equals_fragment(
+    alloc: Global,
+    packet: &H265FragmentationUnitPacket,
+    donl: Option<u16>,
+) -> Result<bool, PacketError> {
+    Ok(*packet == fragment(alloc, donl)?)
 }
 
 #[test]
@@ -296,11 +335,15 @@ fn equal_fragments(rt: HostRuntime) -> Result<(), Fail> {
         (false, None, false),
     ] {
         packet.with_donl(mark);
-        let other = fragment(rt.alloc(), donl)?;
-        assert_eq!(rt; packet == other, is_equal, "marked {mark}, with {donl:?}");
+        assert!(rt; equals_fragment(rt.alloc(), &packet, donl)? == is_equal);
     }
     assert!(rt; packet != H265FragmentationUnitPacket::empty(rt.alloc()));
     Ok(())
+}
+
+/// Whether an aggregate equals a new one.
+fn equals_aggregate(alloc: Global, packet: &H265AggregationPacket) -> Result<bool, PacketError> {
+    Ok(*packet == aggregate(alloc)?)
 }
 
 #[test]
@@ -308,10 +351,30 @@ fn equal_aggregates(rt: HostRuntime) -> Result<(), Fail> {
     let mut packet = aggregate(rt.alloc())?;
     for mark in [true, false] {
         packet.with_donl(mark);
-        assert_eq!(rt; packet == aggregate(rt.alloc())?, mark);
+        assert!(rt; equals_aggregate(rt.alloc(), &packet)? == mark);
     }
     assert!(rt; packet != H265AggregationPacket::empty(rt.alloc()));
     Ok(())
+}
+
+/// Whether a first unit equals one of this number and this last byte.
+fn equals_first(
+    alloc: Global,
+    vps: &H265AggregationUnitFirst,
+    number: u8,
+    last: u8,
+) -> Result<bool, PacketError> {
+    Ok(*vps == first(alloc, u16::from(number), &[0x40, last])?)
+}
+
+/// The same of a further unit.
+fn equals_other(
+    alloc: Global,
+    sps: &H265AggregationUnit,
+    number: u8,
+    last: u8,
+) -> Result<bool, PacketError> {
+    Ok(*sps == other(alloc, number, &[0x42, last])?)
 }
 
 #[test]
@@ -319,20 +382,22 @@ fn equal_units_of_aggregates(rt: HostRuntime) -> Result<(), Fail> {
     let vps = first(rt.alloc(), 0, &[0x40, 0x01])?;
     let sps = other(rt.alloc(), 0, &[0x42, 0x01])?;
     for (number, last, is_equal) in [(0_u8, 0x01, true), (1, 0x01, false), (0, 0x02, false)] {
-        let unit = first(rt.alloc(), u16::from(number), &[0x40, last])?;
-        assert_eq!(rt; vps == unit, is_equal, "a first of {number}, {last}");
-        let unit = other(rt.alloc(), number, &[0x42, last])?;
-        assert_eq!(rt; sps == unit, is_equal, "a further of {number}, {last}");
+        assert!(rt; equals_first(rt.alloc(), &vps, number, last)? == is_equal);
+        assert!(rt; equals_other(rt.alloc(), &sps, number, last)? == is_equal);
     }
     Ok(())
+}
+
+/// Whether a PACI packet equals one of these fields.
+fn equals_paci(alloc: Global, packet: &H265PACIPacket, fields: u16) -> Result<bool, PacketError> {
+    Ok(*packet == paci_of(alloc, fields, &TSCI_AND_PAYLOAD)?)
 }
 
 #[test]
 fn equal_pacis(rt: HostRuntime) -> Result<(), Fail> {
     let packet = paci(rt.alloc())?;
     for (fields, is_equal) in [(0x2638, true), (0x2628, false)] {
-        let other = paci_of(rt.alloc(), fields, &TSCI_AND_PAYLOAD)?;
-        assert_eq!(rt; packet == other, is_equal, "at {fields}");
+        assert!(rt; equals_paci(rt.alloc(), &packet, fields)? == is_equal);
     }
     assert!(rt; H265Payload::H265PACIPacket(packet) != H265Payload::empty(rt.alloc()));
     Ok(())
@@ -340,7 +405,7 @@ fn equal_pacis(rt: HostRuntime) -> Result<(), Fail> {
 
 /// The buffer of a packet has these bytes.
 fn has_buffer(rt: &impl Abort, payload: H265Payload, want: Option<&[u8]>) {
-    same(rt, &payload.into_buffer().as_deref(), &want);
+    assert!(rt; payload.into_buffer().as_deref() == want);
 }
 
 #[test]

@@ -1,4 +1,3 @@
-use crate::ends::same;
 use h26x_core::{H265FragmentationUnitHeader, H265NALUHeader, H265TSCI};
 
 /// Two bytes; F, the type, the layer's id and the temporal id.
@@ -16,29 +15,32 @@ static FIELDS: [(u8, u8, (bool, u8, u8, u8)); 7] = [
 fn fields_of_headers(rt: HostRuntime) {
     for &(high, low, fields) in &FIELDS {
         let header = H265NALUHeader::new(high, low);
-        same(
-            &rt,
-            &(
+        assert!(rt;
+            (
                 header.f(),
                 header.nalu_type(),
                 header.layer_id(),
                 header.tid(),
-            ),
-            &fields,
+            ) == fields
         );
     }
 }
 
 #[test]
 fn headers_by_their_fields(rt: HostRuntime) {
-    for (header, word) in [
-        (H265NALUHeader::new_with_type(50, 0, 1), 0x6401),
-        (H265NALUHeader::new_with_type(19, 0, 1), 0x2601),
-        (H265NALUHeader::new_with_type(48, 32, 2), 0x6102),
-        (H265NALUHeader::new_with_type(63, 63, 7), 0x7fff),
-    ] {
-        assert_eq!(rt; header, H265NALUHeader(word));
-    }
+    let headers = [
+        H265NALUHeader::new_with_type(50, 0, 1),
+        H265NALUHeader::new_with_type(19, 0, 1),
+        H265NALUHeader::new_with_type(48, 32, 2),
+        H265NALUHeader::new_with_type(63, 63, 7),
+    ];
+    let want = [
+        H265NALUHeader(0x6401),
+        H265NALUHeader(0x2601),
+        H265NALUHeader(0x6102),
+        H265NALUHeader(0x7fff),
+    ];
+    assert!(rt; headers == want);
 }
 
 /// A type, and whether it is a VCL unit's, an IDR picture's, an IRAP picture's.
@@ -60,14 +62,12 @@ static TYPES: [(u16, (bool, bool, bool)); 11] = [
 fn types(rt: HostRuntime) {
     for &(nalu_type, pictures) in &TYPES {
         let header = H265NALUHeader(nalu_type << 9);
-        same(
-            &rt,
-            &(
+        assert!(rt;
+            (
                 header.is_type_vcl_unit(),
                 header.is_idr_picture(),
                 header.is_irap(),
-            ),
-            &pictures,
+            ) == pictures
         );
     }
 }
@@ -85,14 +85,12 @@ static PACKETS: [(u16, (bool, bool, bool)); 5] = [
 fn types_of_packets(rt: HostRuntime) {
     for &(nalu_type, packets) in &PACKETS {
         let header = H265NALUHeader(nalu_type << 9);
-        same(
-            &rt,
-            &(
+        assert!(rt;
+            (
                 header.is_aggregation_packet(),
                 header.is_fragmentation_unit(),
                 header.is_paci_packet(),
-            ),
-            &packets,
+            ) == packets
         );
     }
 }
@@ -109,14 +107,10 @@ static FRAGMENTS: [(bool, bool, u8, u8); 4] = [
 fn fragment_headers(rt: HostRuntime) {
     for &(s, e, fu_type, word) in &FRAGMENTS {
         let header = H265FragmentationUnitHeader::new(s, e, fu_type);
-        same(
-            &rt,
-            &(header.0, header.s(), header.e(), header.fu_type()),
-            &(word, s, e, fu_type),
-        );
+        assert!(rt; (header.0, header.s(), header.e(), header.fu_type()) == (word, s, e, fu_type));
     }
     let masked = H265FragmentationUnitHeader::new(false, false, 0xc1);
-    same(&rt, &masked, &H265FragmentationUnitHeader(0x01));
+    assert!(rt; masked == H265FragmentationUnitHeader(0x01));
 }
 
 /// A word; TL0PICIDX, IrapPicID, S, E and RES.
@@ -132,32 +126,24 @@ static WORDS: [(u32, (u8, u8, bool, bool, u8)); 5] = [
 fn control_information(rt: HostRuntime) {
     for &(word, fields) in &WORDS {
         let tsci = H265TSCI(word);
-        same(
-            &rt,
-            &(
+        assert!(rt;
+            (
                 tsci.tl0picidx(),
                 tsci.irap_pic_id(),
                 tsci.s(),
                 tsci.e(),
                 tsci.res(),
-            ),
-            &fields,
+            ) == fields
         );
     }
 }
 
 #[test]
 fn defaults_and_equality(rt: HostRuntime) {
-    assert_eq!(rt; H265NALUHeader::default(), H265NALUHeader(0));
-    assert_eq!(rt;
-        H265FragmentationUnitHeader::default(),
-        H265FragmentationUnitHeader(0)
-    );
-    assert_eq!(rt; H265TSCI::default(), H265TSCI(0));
-    assert_ne!(rt; H265NALUHeader(0x6401), H265NALUHeader(0x6402));
-    assert_ne!(rt;
-        H265FragmentationUnitHeader(0x93),
-        H265FragmentationUnitHeader(0x13)
-    );
-    assert_ne!(rt; H265TSCI(0x11223300), H265TSCI(0x11223301));
+    assert!(rt; H265NALUHeader::default() == H265NALUHeader(0));
+    assert!(rt; H265FragmentationUnitHeader::default() == H265FragmentationUnitHeader(0));
+    assert!(rt; H265TSCI::default() == H265TSCI(0));
+    assert!(rt; H265NALUHeader(0x6401) != H265NALUHeader(0x6402));
+    assert!(rt; H265FragmentationUnitHeader(0x93) != H265FragmentationUnitHeader(0x13));
+    assert!(rt; H265TSCI(0x11223300) != H265TSCI(0x11223301));
 }

@@ -1,7 +1,8 @@
-use crate::ends::{refuses, tells, tells_hints, tells_tails, writes};
+use crate::ends::{refuses, tells_heads, tells_hints, tells_tails, writes};
 use h26x_core::{CodecExtra, Depacketizer, H266CodecExtra, PacketError};
 use h266_payload::H266Depacketizer;
 use std::alloc::Global;
+use std::process::Abort;
 use std::test::Fail;
 
 /// Three parameter sets in one aggregate.
@@ -72,11 +73,23 @@ static ONE_PACKET: [(&[u8], &[u8], CodecExtra); 8] = [
     (&[0x00, 0xe9, 0x40, 0xaa, 0xbb], &[], CodecExtra::None),
 ];
 
+/// A new depacketizer writes this of packets, and tells this at last.
+fn writes_anew(
+    rt: &impl Abort,
+    alloc: Global,
+    is_numbered: bool,
+    packets: &[&[u8]],
+    want: &[u8],
+    extra: CodecExtra,
+) -> Result<(), PacketError> {
+    let mut d = fresh(alloc, is_numbered);
+    writes(rt, alloc, &mut d, packets, want, extra)
+}
+
 #[test]
 fn one_packet(rt: HostRuntime) -> Result<(), Fail> {
     for &(packet, want, extra) in &ONE_PACKET {
-        let mut d = fresh(rt.alloc(), false);
-        writes(&rt, rt.alloc(), &mut d, &[packet], want, extra)?;
+        writes_anew(&rt, rt.alloc(), false, &[packet], want, extra)?;
     }
     Ok(())
 }
@@ -102,8 +115,7 @@ static ONE_NUMBERED: [(&[u8], &[u8], CodecExtra); 2] = [
 #[test]
 fn one_packet_with_numbers(rt: HostRuntime) -> Result<(), Fail> {
     for &(packet, want, extra) in &ONE_NUMBERED {
-        let mut d = fresh(rt.alloc(), true);
-        writes(&rt, rt.alloc(), &mut d, &[packet], want, extra)?;
+        writes_anew(&rt, rt.alloc(), true, &[packet], want, extra)?;
     }
     Ok(())
 }
@@ -157,12 +169,23 @@ static REFUSED: [(bool, &[u8], PacketError); 19] = [
     (true, &[0x00, 0xe9, 0x87, 0x00], SHORT),
 ];
 
+/// A new depacketizer refuses this packet.
+fn refuses_anew(
+    rt: &impl Abort,
+    alloc: Global,
+    is_numbered: bool,
+    packet: &[u8],
+    error: PacketError,
+) -> Result<(), PacketError> {
+    let before = fresh(alloc, is_numbered);
+    let mut d = fresh(alloc, is_numbered);
+    refuses(rt, alloc, &mut d, &before, packet, error)
+}
+
 #[test]
 fn refused_packets(rt: HostRuntime) -> Result<(), Fail> {
     for &(is_numbered, packet, error) in &REFUSED {
-        let before = fresh(rt.alloc(), is_numbered);
-        let mut d = fresh(rt.alloc(), is_numbered);
-        refuses(&rt, rt.alloc(), &mut d, &before, packet, error)?;
+        refuses_anew(&rt, rt.alloc(), is_numbered, packet, error)?;
     }
     Ok(())
 }
@@ -228,7 +251,7 @@ static HEADS: [(&[u8], bool); 9] = [
 #[test]
 fn heads(rt: HostRuntime) {
     let d = H266Depacketizer::new(rt.alloc());
-    tells(&rt, |packet| d.is_partition_head(packet), &HEADS);
+    tells_heads(&rt, &d, &HEADS);
 }
 
 /// The marker, a packet, and whether it is the last of an access unit.
@@ -274,11 +297,16 @@ fn a_clone_goes_on(rt: HostRuntime) -> Result<(), Fail> {
     Ok(writes(&rt, rt.alloc(), &mut d, &[&END], &WRITTEN, A_KEY)?)
 }
 
+/// Whether a depacketizer equals its copy, and whether it differs from a new one.
+fn compared(alloc: Global, d: &H266Depacketizer) -> Result<(bool, bool), PacketError> {
+    let copy = d.clone()?;
+    Ok((*d == copy, *d != H266Depacketizer::new(alloc)))
+}
+
 #[test]
 fn a_run_is_compared(rt: HostRuntime) -> Result<(), Fail> {
     let d = with_a_run(rt.alloc())?;
-    assert!(rt; d == d.clone()?);
-    assert!(rt; d != H266Depacketizer::new(rt.alloc()));
+    assert!(rt; compared(rt.alloc(), &d)? == (true, true));
     Ok(())
 }
 

@@ -1,5 +1,12 @@
-use crate::ends::tells;
 use h266_payload::detect_h266_keyframe;
+use std::process::Abort;
+
+/// Each packet begins a keyframe or doesn't, as its row has it.
+fn tells(rt: &impl Abort, rows: &[(&[u8], bool)]) {
+    for &(packet, is_key) in rows {
+        assert!(rt; detect_h266_keyframe(packet) == is_key);
+    }
+}
 
 /// Packets of one unit, and whether they begin a keyframe.
 static PACKETS: [(&[u8], bool); 9] = [
@@ -16,7 +23,7 @@ static PACKETS: [(&[u8], bool); 9] = [
 
 #[test]
 fn key_packets(rt: HostRuntime) {
-    tells(&rt, |packet| detect_h266_keyframe(packet), &PACKETS);
+    tells(&rt, &PACKETS);
 }
 
 /// Fragments, and whether they begin a keyframe.
@@ -31,7 +38,7 @@ static FRAGMENTS: [(&[u8], bool); 6] = [
 
 #[test]
 fn fragments(rt: HostRuntime) {
-    tells(&rt, |packet| detect_h266_keyframe(packet), &FRAGMENTS);
+    tells(&rt, &FRAGMENTS);
 }
 
 /// Aggregates, and whether they begin a keyframe.
@@ -59,5 +66,5 @@ static AGGREGATES: [(&[u8], bool); 6] = [
 
 #[test]
 fn aggregates(rt: HostRuntime) {
-    tells(&rt, |packet| detect_h266_keyframe(packet), &AGGREGATES);
+    tells(&rt, &AGGREGATES);
 }

@@ -1,4 +1,3 @@
-use crate::ends::same;
 use h26x_core::{H266FragmentationUnitHeader, H266NALUHeader};
 
 /// Two bytes; F, Z, the layer's id, the type and the temporal id.
@@ -16,16 +15,14 @@ static FIELDS: [(u8, u8, (bool, bool, u8, u8, u8)); 7] = [
 fn fields_of_headers(rt: HostRuntime) {
     for &(high, low, fields) in &FIELDS {
         let header = H266NALUHeader::new(high, low);
-        same(
-            &rt,
-            &(
+        assert!(rt;
+            (
                 header.f(),
                 header.z(),
                 header.layer_id(),
                 header.nalu_type(),
                 header.tid(),
-            ),
-            &fields,
+            ) == fields
         );
     }
 }
@@ -44,7 +41,7 @@ static HEADERS: [(u8, u8, u8, u16); 6] = [
 fn headers_by_their_fields(rt: HostRuntime) {
     for &(typ, layer_id, tid, word) in &HEADERS {
         let header = H266NALUHeader::new_with_type(typ, layer_id, tid);
-        same(&rt, &header, &H266NALUHeader(word));
+        assert!(rt; header == H266NALUHeader(word));
     }
 }
 
@@ -65,14 +62,12 @@ static TYPES: [(u8, (bool, bool, bool)); 9] = [
 fn types(rt: HostRuntime) {
     for &(typ, kinds) in &TYPES {
         let header = H266NALUHeader::new_with_type(typ, 0, 1);
-        same(
-            &rt,
-            &(
+        assert!(rt;
+            (
                 header.is_irap(),
                 header.is_aggregation_packet(),
                 header.is_fragmentation_unit(),
-            ),
-            &kinds,
+            ) == kinds
         );
     }
 }
@@ -90,32 +85,24 @@ static FRAGMENTS: [(bool, bool, bool, u8, u8); 5] = [
 fn fragment_headers(rt: HostRuntime) {
     for &(s, e, p, fu_type, word) in &FRAGMENTS {
         let header = H266FragmentationUnitHeader::new(s, e, p, fu_type);
-        same(
-            &rt,
-            &(
+        assert!(rt;
+            (
                 header.0,
                 header.s(),
                 header.e(),
                 header.p(),
                 header.fu_type(),
-            ),
-            &(word, s, e, p, fu_type),
+            ) == (word, s, e, p, fu_type)
         );
     }
     let masked = H266FragmentationUnitHeader::new(false, false, false, 0xe1);
-    same(&rt, &masked, &H266FragmentationUnitHeader(0x01));
+    assert!(rt; masked == H266FragmentationUnitHeader(0x01));
 }
 
 #[test]
 fn defaults_and_equality(rt: HostRuntime) {
-    assert_eq!(rt; H266NALUHeader::default(), H266NALUHeader(0));
-    assert_eq!(rt;
-        H266FragmentationUnitHeader::default(),
-        H266FragmentationUnitHeader(0)
-    );
-    assert_ne!(rt; H266NALUHeader(0x0539), H266NALUHeader(0x4539));
-    assert_ne!(rt;
-        H266FragmentationUnitHeader(0x27),
-        H266FragmentationUnitHeader(0x07)
-    );
+    assert!(rt; H266NALUHeader::default() == H266NALUHeader(0));
+    assert!(rt; H266FragmentationUnitHeader::default() == H266FragmentationUnitHeader(0));
+    assert!(rt; H266NALUHeader(0x0539) != H266NALUHeader(0x4539));
+    assert!(rt; H266FragmentationUnitHeader(0x27) != H266FragmentationUnitHeader(0x07));
 }
