@@ -202,21 +202,24 @@ const AGGREGATE: [u8; 11] = [
 /// What is written of it.
 const AGGREGATE_WRITTEN: [u8; 13] = [0, 0, 0, 1, 0x02, 0x01, 0xaa, 0, 0, 0, 1, 0x02, 0x01];
 
+/// Refuses each front of the aggregate, and then takes it whole.
+fn refuses_fronts_and_writes(
+    rt: &impl Abort,
+    alloc: Global,
+    d: &mut H265Depacketizer,
+    before: &H265Depacketizer,
+) -> Result<(), PacketError> {
+    let short = PacketError::ErrShortPacket;
+    refuses_fronts(rt, alloc, d, before, &AGGREGATE, short)?;
+    let packets: [&[u8]; 1] = [&AGGREGATE];
+    writes(rt, alloc, d, &packets, &AGGREGATE_WRITTEN, NO_KEY)
+}
+
 #[test]
-fn fronts_of_an_aggregate(rt: HostRuntime) -> Result<(), Fail> {
+fn fronts_of_an_aggregate(rt: HostRuntime) -> Result<(), PacketError> {
     let before = fresh(rt.alloc(), false);
     let mut d = fresh(rt.alloc(), false);
-    let short = PacketError::ErrShortPacket;
-    refuses_fronts(&rt, rt.alloc(), &mut d, &before, &AGGREGATE, short)?;
-    let packets: [&[u8]; 1] = [&AGGREGATE];
-    Ok(writes(
-        &rt,
-        rt.alloc(),
-        &mut d,
-        &packets,
-        &AGGREGATE_WRITTEN,
-        NO_KEY,
-    )?)
+    refuses_fronts_and_writes(&rt, rt.alloc(), &mut d, &before)
 }
 
 /// A unit in two fragments, and an aggregate and a PACI packet between them.
@@ -272,12 +275,22 @@ static REFUSED_WITHIN: [(&[u8], PacketError); 2] = [
     ),
 ];
 
+/// Refuses each of these packets, and then ends the run.
+fn refuses_within(
+    rt: &impl Abort,
+    alloc: Global,
+    d: &mut H265Depacketizer,
+    before: &H265Depacketizer,
+) -> Result<(), PacketError> {
+    refuses_each(rt, alloc, d, before, &REFUSED_WITHIN)?;
+    writes(rt, alloc, d, &[&END], &WRITTEN, A_KEY)
+}
+
 #[test]
 fn a_run_goes_on_behind_refusals(rt: HostRuntime) -> Result<(), Fail> {
     let mut d = with_a_run(rt.alloc())?;
     let before = with_a_run(rt.alloc())?;
-    refuses_each(&rt, rt.alloc(), &mut d, &before, &REFUSED_WITHIN)?;
-    Ok(writes(&rt, rt.alloc(), &mut d, &[&END], &WRITTEN, A_KEY)?)
+    Ok(refuses_within(&rt, rt.alloc(), &mut d, &before)?)
 }
 
 #[test]
