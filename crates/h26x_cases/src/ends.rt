@@ -48,6 +48,15 @@ pub(crate) fn sends_all<P: Packetizer>(
     Ok(())
 }
 
+/// The same of a packetizer that is for these calls alone.
+pub(crate) fn sends_once<P: Packetizer>(
+    rt: &impl Abort,
+    mut packetizer: P,
+    calls: &[Call],
+) -> Result<(), PacketError> {
+    sends_all(rt, &mut packetizer, calls)
+}
+
 /// The length of a packet, and what it begins with.
 pub(crate) type Front<'a> = (usize, &'a [u8]);
 
@@ -89,12 +98,12 @@ fn count<P: Packetizer>(
 /// A packetizer sends so many packets of a payload under the limit 0, under 1, and so on.
 pub(crate) fn sends_by_limit<P: Packetizer>(
     rt: &impl Abort,
-    packetizer: &mut P,
+    mut packetizer: P,
     payload: &[u8],
     counts: &[usize],
 ) -> Result<(), PacketError> {
     for (mtu, want) in (0..).zip(counts) {
-        assert!(rt; count(packetizer, mtu, payload)? == *want);
+        assert!(rt; count(&mut packetizer, mtu, payload)? == *want);
     }
     Ok(())
 }
@@ -128,6 +137,18 @@ pub(crate) fn writes<D: Depacketizer>(
     Ok(())
 }
 
+/// The same of a depacketizer that is for these packets alone.
+pub(crate) fn writes_once<D: Depacketizer>(
+    rt: &impl Abort,
+    alloc: Global,
+    mut depacketizer: D,
+    packets: &[&[u8]],
+    want: &[u8],
+    extra: CodecExtra,
+) -> Result<(), PacketError> {
+    writes(rt, alloc, &mut depacketizer, packets, want, extra)
+}
+
 /// What was told before a packet that is refused.
 const STOOD: CodecExtra = CodecExtra::H264(H264CodecExtra { is_keyframe: true });
 
@@ -156,6 +177,18 @@ pub(crate) fn refuses<D: Depacketizer + PartialEq>(
     let (answer, stands) = answer(depacketizer, packet, &mut out);
     assert!(rt; (answer, stands, *depacketizer == *before) == (Err(error), true, true));
     Ok(())
+}
+
+/// The same of a depacketizer that is for this packet alone, and of one that stays as it is.
+pub(crate) fn refuses_once<D: Depacketizer + PartialEq>(
+    rt: &impl Abort,
+    alloc: Global,
+    mut depacketizer: D,
+    before: D,
+    packet: &[u8],
+    error: PacketError,
+) -> Result<(), PacketError> {
+    refuses(rt, alloc, &mut depacketizer, &before, packet, error)
 }
 
 /// A depacketizer refuses each packet with its error, as `refuses` has it.

@@ -1,11 +1,10 @@
 use super::{FRONTS, begins_with};
-use crate::ends::writes;
+use crate::ends::writes_once;
 use h26x_codec::{Codec, CodecDepacketizer};
 use h26x_core::{
     CodecExtra, Depacketizer, H264CodecExtra, H265CodecExtra, H266CodecExtra, PacketError,
 };
 use std::alloc::Global;
-use std::process::Abort;
 use std::test::Fail;
 
 const CODECS: [Codec; 3] = [Codec::H264, Codec::H265, Codec::H266];
@@ -41,22 +40,11 @@ static KEY_UNITS: [(Codec, &[u8], [&[u8]; 2], &[u8]); 3] = [
     ),
 ];
 
-/// A new end of this codec writes this of packets, and tells of a keyframe.
-fn writes_anew(
-    rt: &impl Abort,
-    alloc: Global,
-    codec: Codec,
-    packets: &[&[u8]],
-    want: &[u8],
-) -> Result<(), PacketError> {
-    let mut d = CodecDepacketizer::new(alloc, codec);
-    writes(rt, alloc, &mut d, packets, want, key_of(codec))
-}
-
 #[test]
 fn each_packet_reaches_its_codec(rt: HostRuntime) -> Result<(), Fail> {
     for &(codec, unit, _, written) in &KEY_UNITS {
-        writes_anew(&rt, rt.alloc(), codec, &[unit], written)?;
+        let d = CodecDepacketizer::new(rt.alloc(), codec);
+        writes_once(&rt, rt.alloc(), d, &[unit], written, key_of(codec))?;
     }
     Ok(())
 }
@@ -64,7 +52,8 @@ fn each_packet_reaches_its_codec(rt: HostRuntime) -> Result<(), Fail> {
 #[test]
 fn each_fragment_reaches_its_codec(rt: HostRuntime) -> Result<(), Fail> {
     for &(codec, _, fragments, written) in &KEY_UNITS {
-        writes_anew(&rt, rt.alloc(), codec, &fragments, written)?;
+        let d = CodecDepacketizer::new(rt.alloc(), codec);
+        writes_once(&rt, rt.alloc(), d, &fragments, written, key_of(codec))?;
     }
     Ok(())
 }

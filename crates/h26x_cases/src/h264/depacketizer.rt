@@ -1,8 +1,7 @@
-use crate::ends::{refuses, writes};
+use crate::ends::{refuses_once, writes, writes_once};
 use h26x_core::{ANNEXB_NALUSTART_CODE, CodecExtra, Depacketizer, H264CodecExtra, PacketError};
 use h264_payload::H264Depacketizer;
 use std::alloc::Global;
-use std::process::Abort;
 use std::test::Fail;
 
 const STAP: [u8; 26] = [
@@ -41,22 +40,11 @@ static ONE_PACKET: [(&[u8], &[u8], CodecExtra); 6] = [
     (&[0x85], &[0x00, 0x00, 0x00, 0x01, 0x85], A_KEY),
 ];
 
-/// A new depacketizer writes this of packets, and tells this at last.
-fn writes_anew(
-    rt: &impl Abort,
-    alloc: Global,
-    packets: &[&[u8]],
-    want: &[u8],
-    extra: CodecExtra,
-) -> Result<(), PacketError> {
-    let mut d = H264Depacketizer::new(alloc);
-    writes(rt, alloc, &mut d, packets, want, extra)
-}
-
 #[test]
 fn one_packet(rt: HostRuntime) -> Result<(), Fail> {
     for &(packet, want, extra) in &ONE_PACKET {
-        writes_anew(&rt, rt.alloc(), &[packet], want, extra)?;
+        let d = H264Depacketizer::new(rt.alloc());
+        writes_once(&rt, rt.alloc(), d, &[packet], want, extra)?;
     }
     Ok(())
 }
@@ -94,7 +82,8 @@ static LISTS: [(&[&[u8]], &[u8]); 3] = [
 #[test]
 fn lists_of_packets(rt: HostRuntime) -> Result<(), Fail> {
     for &(packets, want) in &LISTS {
-        writes_anew(&rt, rt.alloc(), packets, want, A_KEY)?;
+        let d = H264Depacketizer::new(rt.alloc());
+        writes_once(&rt, rt.alloc(), d, packets, want, A_KEY)?;
     }
     Ok(())
 }
@@ -144,22 +133,12 @@ static REFUSED: [(&[u8], PacketError); 5] = [
     (&[0xff, 0x00, 0x00], PacketError::NaluTypeIsNotHandled(31)),
 ];
 
-/// A new depacketizer refuses this packet.
-fn refuses_anew(
-    rt: &impl Abort,
-    alloc: Global,
-    packet: &[u8],
-    error: PacketError,
-) -> Result<(), PacketError> {
-    let before = H264Depacketizer::new(alloc);
-    let mut d = H264Depacketizer::new(alloc);
-    refuses(rt, alloc, &mut d, &before, packet, error)
-}
-
 #[test]
 fn refused_packets(rt: HostRuntime) -> Result<(), Fail> {
     for &(packet, error) in &REFUSED {
-        refuses_anew(&rt, rt.alloc(), packet, error)?;
+        let d = H264Depacketizer::new(rt.alloc());
+        let before = H264Depacketizer::new(rt.alloc());
+        refuses_once(&rt, rt.alloc(), d, before, packet, error)?;
     }
     Ok(())
 }

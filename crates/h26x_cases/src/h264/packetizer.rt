@@ -1,4 +1,4 @@
-use crate::ends::{Call, sends, sends_all};
+use crate::ends::{Call, sends, sends_all, sends_once};
 use h26x_core::{PacketError, Packetizer};
 use h264_payload::H264Packetizer;
 use std::alloc::Global;
@@ -41,22 +41,10 @@ static CALLS: [Call; 11] = [
     ),
 ];
 
-/// A new packetizer sends these packets of a payload.
-fn sends_anew(
-    rt: &impl Abort,
-    alloc: Global,
-    mtu: usize,
-    payload: &[u8],
-    want: &[&[u8]],
-) -> Result<(), PacketError> {
-    let mut packetizer = H264Packetizer::new(alloc);
-    sends(rt, &mut packetizer, mtu, payload, want)
-}
-
 #[test]
 fn payloads_and_their_packets(rt: HostRuntime) -> Result<(), Fail> {
-    for &(mtu, payload, want) in &CALLS {
-        sends_anew(&rt, rt.alloc(), mtu, payload, want)?;
+    for call in &CALLS {
+        sends_once(&rt, H264Packetizer::new(rt.alloc()), &[*call])?;
     }
     Ok(())
 }

@@ -1,6 +1,6 @@
 use crate::ends::{
-    hand, refuses, refuses_each, refuses_fronts, sends, tells_heads, tells_hints, tells_tails,
-    writes,
+    hand, refuses, refuses_each, refuses_fronts, refuses_once, sends, tells_heads, tells_hints,
+    tells_tails, writes, writes_once,
 };
 use h26x_core::{CodecExtra, Depacketizer, H265CodecExtra, H265TSCI, PacketError};
 use h265_packets::H265Payload;
@@ -106,23 +106,11 @@ static ONE_PACKET: [(bool, &[u8], &[u8], CodecExtra); 11] = [
     ),
 ];
 
-/// A new depacketizer writes this of packets, and tells this at last.
-fn writes_anew(
-    rt: &impl Abort,
-    alloc: Global,
-    is_numbered: bool,
-    packets: &[&[u8]],
-    want: &[u8],
-    extra: CodecExtra,
-) -> Result<(), PacketError> {
-    let mut d = fresh(alloc, is_numbered);
-    writes(rt, alloc, &mut d, packets, want, extra)
-}
-
 #[test]
 fn one_packet(rt: HostRuntime) -> Result<(), Fail> {
     for &(is_numbered, packet, want, extra) in &ONE_PACKET {
-        writes_anew(&rt, rt.alloc(), is_numbered, &[packet], want, extra)?;
+        let d = fresh(rt.alloc(), is_numbered);
+        writes_once(&rt, rt.alloc(), d, &[packet], want, extra)?;
     }
     Ok(())
 }
@@ -173,23 +161,12 @@ static REFUSED: [(bool, &[u8], PacketError); 14] = [
     ),
 ];
 
-/// A new depacketizer refuses this packet.
-fn refuses_anew(
-    rt: &impl Abort,
-    alloc: Global,
-    is_numbered: bool,
-    packet: &[u8],
-    error: PacketError,
-) -> Result<(), PacketError> {
-    let before = fresh(alloc, is_numbered);
-    let mut d = fresh(alloc, is_numbered);
-    refuses(rt, alloc, &mut d, &before, packet, error)
-}
-
 #[test]
 fn refused_packets(rt: HostRuntime) -> Result<(), Fail> {
     for &(is_numbered, packet, error) in &REFUSED {
-        refuses_anew(&rt, rt.alloc(), is_numbered, packet, error)?;
+        let d = fresh(rt.alloc(), is_numbered);
+        let before = fresh(rt.alloc(), is_numbered);
+        refuses_once(&rt, rt.alloc(), d, before, packet, error)?;
     }
     Ok(())
 }

@@ -1,8 +1,9 @@
-use crate::ends::{refuses, tells_heads, tells_hints, tells_tails, writes};
+use crate::ends::{
+    refuses, refuses_once, tells_heads, tells_hints, tells_tails, writes, writes_once,
+};
 use h26x_core::{CodecExtra, Depacketizer, H266CodecExtra, PacketError};
 use h266_payload::H266Depacketizer;
 use std::alloc::Global;
-use std::process::Abort;
 use std::test::Fail;
 
 /// Three parameter sets in one aggregate.
@@ -73,23 +74,11 @@ static ONE_PACKET: [(&[u8], &[u8], CodecExtra); 8] = [
     (&[0x00, 0xe9, 0x40, 0xaa, 0xbb], &[], CodecExtra::None),
 ];
 
-/// A new depacketizer writes this of packets, and tells this at last.
-fn writes_anew(
-    rt: &impl Abort,
-    alloc: Global,
-    is_numbered: bool,
-    packets: &[&[u8]],
-    want: &[u8],
-    extra: CodecExtra,
-) -> Result<(), PacketError> {
-    let mut d = fresh(alloc, is_numbered);
-    writes(rt, alloc, &mut d, packets, want, extra)
-}
-
 #[test]
 fn one_packet(rt: HostRuntime) -> Result<(), Fail> {
     for &(packet, want, extra) in &ONE_PACKET {
-        writes_anew(&rt, rt.alloc(), false, &[packet], want, extra)?;
+        let d = fresh(rt.alloc(), false);
+        writes_once(&rt, rt.alloc(), d, &[packet], want, extra)?;
     }
     Ok(())
 }
@@ -115,7 +104,8 @@ static ONE_NUMBERED: [(&[u8], &[u8], CodecExtra); 2] = [
 #[test]
 fn one_packet_with_numbers(rt: HostRuntime) -> Result<(), Fail> {
     for &(packet, want, extra) in &ONE_NUMBERED {
-        writes_anew(&rt, rt.alloc(), true, &[packet], want, extra)?;
+        let d = fresh(rt.alloc(), true);
+        writes_once(&rt, rt.alloc(), d, &[packet], want, extra)?;
     }
     Ok(())
 }
@@ -169,23 +159,12 @@ static REFUSED: [(bool, &[u8], PacketError); 19] = [
     (true, &[0x00, 0xe9, 0x87, 0x00], SHORT),
 ];
 
-/// A new depacketizer refuses this packet.
-fn refuses_anew(
-    rt: &impl Abort,
-    alloc: Global,
-    is_numbered: bool,
-    packet: &[u8],
-    error: PacketError,
-) -> Result<(), PacketError> {
-    let before = fresh(alloc, is_numbered);
-    let mut d = fresh(alloc, is_numbered);
-    refuses(rt, alloc, &mut d, &before, packet, error)
-}
-
 #[test]
 fn refused_packets(rt: HostRuntime) -> Result<(), Fail> {
     for &(is_numbered, packet, error) in &REFUSED {
-        refuses_anew(&rt, rt.alloc(), is_numbered, packet, error)?;
+        let d = fresh(rt.alloc(), is_numbered);
+        let before = fresh(rt.alloc(), is_numbered);
+        refuses_once(&rt, rt.alloc(), d, before, packet, error)?;
     }
     Ok(())
 }

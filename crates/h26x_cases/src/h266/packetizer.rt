@@ -1,4 +1,4 @@
-use crate::ends::{Call, Front, sends_all, sends_by_limit};
+use crate::ends::{Call, Front, sends_all, sends_by_limit, sends_once};
 use h26x_core::{PacketError, Packetizer};
 use h266_payload::H266Packetizer;
 use std::alloc::{AllocError, Global};
@@ -115,22 +115,17 @@ static RUNS: [(bool, &[Call]); 9] = [
     ),
 ];
 
-/// A new packetizer, with numbers or without, sends these packets.
-fn sends_anew(
-    rt: &impl Abort,
-    alloc: Global,
-    is_numbered: bool,
-    calls: &[Call],
-) -> Result<(), PacketError> {
+/// A new packetizer, with numbers or without.
+fn fresh(alloc: Global, is_numbered: bool) -> H266Packetizer {
     let mut packetizer = H266Packetizer::new(alloc);
     packetizer.with_donl(is_numbered);
-    sends_all(rt, &mut packetizer, calls)
+    packetizer
 }
 
 #[test]
 fn payloads_and_their_packets(rt: HostRuntime) -> Result<(), Fail> {
     for &(is_numbered, calls) in &RUNS {
-        sends_anew(&rt, rt.alloc(), is_numbered, calls)?;
+        sends_once(&rt, fresh(rt.alloc(), is_numbered), calls)?;
     }
     Ok(())
 }
@@ -141,22 +136,11 @@ static COUNTS: [(bool, [usize; 11]); 2] = [
     (true, [0, 0, 0, 0, 0, 0, 3, 2, 2, 2, 1]),
 ];
 
-/// A new packetizer sends so many packets of the unit, limit by limit.
-fn sends_counts(
-    rt: &impl Abort,
-    alloc: Global,
-    is_numbered: bool,
-    counts: &[usize],
-) -> Result<(), PacketError> {
-    let mut packetizer = H266Packetizer::new(alloc);
-    packetizer.with_donl(is_numbered);
-    sends_by_limit(rt, &mut packetizer, &[0, 9, 1, 2, 3, 4, 5, 6], counts)
-}
-
 #[test]
 fn packets_by_limit(rt: HostRuntime) -> Result<(), Fail> {
     for (is_numbered, counts) in &COUNTS {
-        sends_counts(&rt, rt.alloc(), *is_numbered, counts)?;
+        let packetizer = fresh(rt.alloc(), *is_numbered);
+        sends_by_limit(&rt, packetizer, &[0, 9, 1, 2, 3, 4, 5, 6], counts)?;
     }
     Ok(())
 }
