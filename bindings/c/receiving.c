@@ -80,8 +80,8 @@ static void check_h266(struct tally *t)
 /* Lengths in place of start codes, and room that is too little. */
 static void check_avc_and_room(struct tally *t)
 {
-    h26x_depacketizer d = made(t, H26X_H264, false), e = made(t, H26X_H265, false);
-    struct bytes start = bytes_of("7c850102"), end = bytes_of("7c4503"), other = bytes_of("0201aa");
+    h26x_depacketizer d = made(t, H26X_H264, false);
+    struct bytes start = bytes_of("7c850102"), end = bytes_of("7c4503");
     uint8_t to[16] = {7}, extra = 0;
     size_t len;
     h26x_refusal why;
@@ -92,9 +92,23 @@ static void check_avc_and_room(struct tally *t)
     expect(t, h26x_written_copy(&d, to, 7) == 8 && to[0] == 7);
     expect(t, h26x_written_copy(&d, to, 16) == 8);
     expect(t, is_same(to, 8, "00000004 65010203"));
-    expect(t, h26x_depacketize(&e, true, other.at, other.len, to, 16, &len, &extra, &why)
-                  == H26X_NOT_OF_THIS_CODEC);
-    expect(t, len == 0 && extra == 2);
+    h26x_depacketizer_free(d);
+}
+
+/* Lengths for one packet, start codes for the next; the handle is the same after each. */
+static void check_lengths(struct tally *t, uint32_t codec, const char *packet, const char *lengths,
+                          const char *codes)
+{
+    h26x_depacketizer d = made(t, codec, false), e = made(t, codec, false);
+    struct bytes one = bytes_of(packet);
+    uint8_t to[32], extra = 0;
+    size_t len;
+    h26x_refusal why;
+    expect(t, h26x_depacketize(&d, true, one.at, one.len, to, 32, &len, &extra, &why) == H26X_OK);
+    expect(t, is_same(to, len, lengths));
+    takes(t, &e, packet, codes, extra);
+    expect(t, h26x_depacketizer_same(&d, &e));
+    takes(t, &d, packet, codes, extra);
     h26x_depacketizer_free(d);
     h26x_depacketizer_free(e);
 }
@@ -204,6 +218,12 @@ void check_receiving(struct tally *t)
     check_h265(t);
     check_h266(t);
     check_avc_and_room(t);
+    check_lengths(t, H26X_H264, "78 0002 6742 0001 68", "00000002 6742 00000001 68",
+                  "00000001 6742 00000001 68");
+    check_lengths(t, H26X_H265, "6001 0003 0201aa 0002 0201", "00000003 0201aa 00000002 0201",
+                  "00000001 0201aa 00000001 0201");
+    check_lengths(t, H26X_H266, "00e1 0003 0001aa 0003 0001bb", "00000003 0001aa 00000003 0001bb",
+                  "00000001 0001aa 00000001 0001bb");
     check_extra(t);
     check_copies(t, H26X_H264, h264, "00000001 65010203");
     check_copies(t, H26X_H265, h265, "00000001 2601aabbcc");

@@ -38,11 +38,11 @@ enum h26x_code {
     H26X_H265_CORRUPTED = 4,
     H26X_H265_PACI_PHES_TOO_LONG = 5,
     H26X_H266_CORRUPTED = 6,
-    H26X_AVC_UNIT_TOO_LONG = 7,       /* H.264 in AVC form: a unit of over 4,294,967,295 bytes */
+    H26X_AVC_UNIT_TOO_LONG = 7,       /* behind lengths: a unit of over 4,294,967,295 bytes */
     H26X_OUT_OF_MEMORY = 8,
     H26X_UNKNOWN_CODEC = 9,
     H26X_WRONG_END = 10,              /* a depacketizer where a packetizer is wanted, or the reverse */
-    H26X_NOT_OF_THIS_CODEC = 11,      /* decoding order numbers or a largest size for H.264, AVC form for another */
+    H26X_NOT_OF_THIS_CODEC = 11,      /* decoding order numbers or a largest size for H.264 */
     H26X_OUT_OF_RANGE = 12            /* a largest size under 4 */
 };
 
@@ -114,11 +114,12 @@ bool h26x_depacketizer_same(h26x_depacketizer *a, h26x_depacketizer *b);
 uint32_t h26x_depacketizer_set_numbers(h26x_depacketizer *d, bool numbers);
 
 /* Takes a packet. The units that it completes, each behind 00 00 00 01, or with `avc` behind its length in four bytes
- * (H.264), are copied to the front of `to` where they fit in `room` bytes; else `to` is left, and h26x_written_copy
- * has them up to the next packet that is accepted. *written is how many bytes they are.
+ * (as MP4 files have them: avc1, hvc1, vvc1; the highest byte first), are copied to the front of `to` where they fit in
+ * `room` bytes; else `to` is left, and h26x_written_copy has them up to the next packet that is accepted. *written is
+ * how many bytes they are. `avc` counts for this call alone.
  * *extra, in and out: 0 nothing told yet, 1 units but none of a keyframe, 2 a keyframe among them.
  * A refusal writes 0 to *written and its numbers to *why, and leaves all else: *extra, the open unit, and what the
- * packet before completed. H26X_NOT_OF_THIS_CODEC for `avc` with another codec than H.264; H26X_WRONG_END. */
+ * packet before completed. H26X_WRONG_END. */
 uint32_t h26x_depacketize(h26x_depacketizer *d, bool avc, const uint8_t *packet, size_t packet_len, uint8_t *to,
                           size_t room, size_t *written, uint8_t *extra, h26x_refusal *why);
 

@@ -95,6 +95,7 @@ h264 = record {
   least_mtu = 1;
   sized = false;
   header_len = 1;
+  may_bear_donl = false;
   numbered = false;
   sets_fit = sets_fit;
   sets_packet = sets_packet;

@@ -3,37 +3,16 @@
 ghost use Rattle.std.specs.Prelude.{◌≡◌, ◌+◌, IfOk, IfErr};
 ghost use Rattle.h26x_core.specs.H264Unit.{type_of, type_of_first};
 ghost use Rattle.h26x_core.specs.Reading.{Refused};
-ghost use Rattle.h264_payload.specs.H264.{h264, reference_bits};
-ghost use Rattle.h264_payload.specs.Packet.{reading_of, IsWhole};
+ghost use Rattle.h26x_payload.specs.Receiving.{IsReadAs};
+ghost use Rattle.h264_payload.specs.H264.{h264, reference_bits, stap_units};
 
+use crate::packetizer::H264;
 use crate::stap::check_stap;
 use h26x_core::{
-    FU_START_BITMASK, FUA_HEADER_SIZE, FUA_NALU_TYPE, NALU_TYPE_BITMASK, PacketError,
-    STAPA_HEADER_SIZE, STAPA_NALU_TYPE,
+    FU_START_BITMASK, FUA_HEADER_SIZE, FUA_NALU_TYPE, FUB_NALU_TYPE, NALU_TYPE_BITMASK,
+    PacketError, STAPA_HEADER_SIZE, STAPA_NALU_TYPE,
 };
-
-/// What a packet is, with slices of it.
-#[derive(Clone, Copy)]
-pub enum Packet<'a> {
-    /// A single NAL unit packet: the unit (RFC 6184, 5.6).
-    Single(&'a [u8]),
-
-    /// A STAP-A: the bytes behind its header, and how many its units take where they are written
-    /// (RFC 6184, 5.7.1).
-    Aggregate(&'a [u8], usize),
-
-    /// An FU-A (RFC 6184, 5.8).
-    Fragment {
-        /// The S bit.
-        start: bool,
-        /// The E bit.
-        end: bool,
-        /// The header of the unit that the fragment ends, if it ends one.
-        head: u8,
-        /// The data behind the indicator and the header.
-        body: &'a [u8],
-    },
-}
+use h26x_payload::{Fragment, PacketReader, Parts};
 
 /// The header of a unit with the NRI of an FU-A's indicator and the type of its header; F is clear
 /// (RFC 6184, 5.8).
@@ -43,40 +22,68 @@ fn unit_header(indicator: u8, header: u8) -> u8
     (indicator >> 5 & 3) * 32 + (header & NALU_TYPE_BITMASK)
 }
 
-/// Reads a packet: types 1 to 23 are units, 24 a STAP-A, 28 an FU-A, and no other is handled.
-pub fn read(packet: &[u8]) -> Result<Packet<'_>, PacketError>
-    ensures accepted { IfOk result (λ it. h264.read packet.now ≡ reading_of it) }
-    ensures whole { IfOk result (λ it. IsWhole it) }
-    ensures refused { IfErr result (λ e. h264.read packet.now ≡ Refused e) }
-{
-    if packet.is_empty() {
-        return Err(PacketError::ErrShortPacket);
-    }
-    match packet[0] & NALU_TYPE_BITMASK {
-        STAPA_NALU_TYPE => {
-            let bytes = &packet[STAPA_HEADER_SIZE..];
-            Ok(Packet::Aggregate(bytes, check_stap(bytes)?))
+impl PacketReader for H264 {
+    ghost use Rattle.std.specs.Prelude.{ℕ, List, Bool};
+    ghost use Rattle.h26x_core.specs.H264Frame.{is_head};
+
+    ghost begins = { λ codec. is_head };
+
+    ghost ends = { λ codec marker packet. marker };
+
+    // Types 1 to 23 are units, 24 a STAP-A, 28 an FU-A, and no other is handled.
+    #[inline]
+    fn read(self, packet: &[u8]) -> Result<Parts<'_>, PacketError> {
+        if packet.is_empty() {
+            return Err(PacketError::ErrShortPacket);
         }
-        FUA_NALU_TYPE => read_fragment(packet),
-        1..=23 => Ok(Packet::Single(packet)),
-        nalu_type => Err(PacketError::NaluTypeIsNotHandled(nalu_type)),
+        match packet[0] & NALU_TYPE_BITMASK {
+            STAPA_NALU_TYPE => read_stap(packet),
+            FUA_NALU_TYPE => read_fragment(packet),
+            1..=23 => Ok(Parts::Whole),
+            nalu_type => Err(PacketError::NaluTypeIsNotHandled(nalu_type)),
+        }
+    }
+
+    // FU-Bs count as fragments here too.
+    fn may_begin(self, packet: &[u8]) -> bool {
+        if packet.len() < 2 {
+            return false;
+        }
+        match packet[0] & NALU_TYPE_BITMASK {
+            FUA_NALU_TYPE | FUB_NALU_TYPE => packet[1] & FU_START_BITMASK != 0,
+            _ => true,
+        }
+    }
+
+    fn is_last(self, marker: bool, _packet: &[u8]) -> bool {
+        marker
     }
 }
 
+/// Reads a STAP-A.
+fn read_stap(packet: &[u8]) -> Result<Parts<'_>, PacketError>
+    requires { type_of_first packet.now ≡ 24 }
+    ensures accepted { IfOk result (λ parts. IsReadAs h264 stap_units packet.now parts) }
+    ensures refused { IfErr result (λ e. h264.read packet.now ≡ Refused e) }
+{
+    let bytes = &packet[STAPA_HEADER_SIZE..];
+    let size = check_stap(bytes)?;
+    Ok(Parts::Aggregate { bytes, size })
+}
+
 /// Reads an FU-A.
-fn read_fragment(packet: &[u8]) -> Result<Packet<'_>, PacketError>
+fn read_fragment(packet: &[u8]) -> Result<Parts<'_>, PacketError>
     requires { type_of_first packet.now ≡ 28 }
-    ensures accepted { IfOk result (λ it. h264.read packet.now ≡ reading_of it) }
-    ensures whole { IfOk result (λ it. IsWhole it) }
+    ensures accepted { IfOk result (λ parts. IsReadAs h264 stap_units packet.now parts) }
     ensures refused { IfErr result (λ e. h264.read packet.now ≡ Refused e) }
 {
     if packet.len() < FUA_HEADER_SIZE {
         return Err(PacketError::ErrShortPacket);
     }
-    Ok(Packet::Fragment {
+    Ok(Parts::Fragment(Fragment {
         start: packet[1] & FU_START_BITMASK != 0,
         end: packet[1] >> 6 & 1 != 0,
-        head: unit_header(packet[0], packet[1]),
+        head: [unit_header(packet[0], packet[1]), 0],
         body: &packet[FUA_HEADER_SIZE..],
-    })
+    }))
 }

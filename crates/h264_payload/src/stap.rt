@@ -4,7 +4,7 @@ ghost use Rattle.std.specs.Prelude.{◌≡◌, map, IfOk, IfErr};
 ghost use Rattle.h26x_core.specs.Pieces.{pieces_of};
 ghost use Rattle.h26x_core.specs.Reading.{Aggregate, Refused, unnumbered};
 ghost use Rattle.h264_payload.specs.H264.{aggregate_of, stap_units};
-ghost use Rattle.h264_payload.specs.Packet.{IsStapOf};
+ghost use Rattle.h26x_payload.specs.Run.{AreOfSize};
 
 use crate::packetizer::H264;
 use h26x_core::{PacketError, STAPA_NALU_LENGTH_SIZE, first_piece};
@@ -36,18 +36,18 @@ impl Aggregate for H264 {
 /// How many bytes the units of a STAP-A take where they are written, at most `usize::MAX`; one with
 /// a length that passes its end is refused.
 pub fn check_stap(bytes: &[u8]) -> Result<usize, PacketError>
-    ensures whole { IfOk result (λ len. aggregate_of (pieces_of bytes.now) ≡ Aggregate
+    ensures whole { IfOk result (λ size. aggregate_of (pieces_of bytes.now) ≡ Aggregate
         (map unnumbered (stap_units bytes.now))) }
-    ensures len { IfOk result (λ len. IsStapOf bytes.now len) }
+    ensures size { IfOk result (λ size. AreOfSize (stap_units bytes.now) size) }
     ensures refused { IfErr result (λ e. aggregate_of (pieces_of bytes.now) ≡ Refused e) }
 {
-    let mut len: usize = 0;
+    let mut size: usize = 0;
     let mut rest = bytes;
     while rest.len() >= STAPA_NALU_LENGTH_SIZE {
         match first_piece(rest) {
             Ok((unit, behind)) => {
                 if !unit.is_empty() {
-                    len = len.saturating_add(unit.len() + LEAD_SIZE);
+                    size = size.saturating_add(unit.len() + LEAD_SIZE);
                 }
                 rest = behind;
             }
@@ -57,5 +57,5 @@ pub fn check_stap(bytes: &[u8]) -> Result<usize, PacketError>
             }
         }
     }
-    Ok(len)
+    Ok(size)
 }

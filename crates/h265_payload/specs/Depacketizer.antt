@@ -1,25 +1,45 @@
 -- What an H.265 depacketizer is.
-use Rattle.std.specs.Prelude.{ℕ, Bool, false, List, Option}
+use Rattle.std.specs.Prelude.{ℕ, nat_eq, Bool, List, Option}
+use Rattle.std.specs.Bool.{beq}
+use Rattle.std.specs.Ordering.{eq_of_both, on}
+use Rattle.std.specs.Option.{option_eq}
+use Rattle.std.specs.Cmp.{IsEquivalence, and_equiv, on_equiv, nat_eq_equiv, bool_eq_equiv}
+use Rattle.std.specs.Cmp.Lexicographic.{pointwise, options_equiv, lists_equiv}
 use Rattle.h26x_core.specs.declared.extra.CodecExtra.{CodecExtra}
-use Rattle.h26x_core.specs.Receiver.{Receiver, Work, receiver_meaning}
-use Rattle.h265_payload.specs.H265.{h265}
+use Rattle.h26x_core.specs.Receiver.{Receiver, Work, at_work, receiver_meaning}
+use Rattle.h265_payload.specs.Setting.{format_with}
+use Rattle.h265_payload.specs.declared.packetizer.H265.{H265}
+use Rattle.h265_packets.specs.Equality.{payload_eq, payload_equiv}
 use Rattle.h265_packets.specs.declared.payload.H265Payload.{H265Payload}
 
--- whether packets bear decoding order numbers, the data of its open run, and what it shows of the
--- packet that it accepted last
+-- its setting, whether it writes lengths, the data of its open run, and what it shows of the packet
+-- that it accepted last
 pub record Depacketizer : Type 0 where
-  pub is_numbered : Bool
+  pub codec : H265
+  pub is_avc : Bool
   pub run : Option (List ℕ)
   pub payload : H265Payload
 
--- the same as a depacketizer of a format; it writes start codes
+-- the same as a depacketizer of a format
 abbrev pub receiver : Depacketizer → Receiver
-receiver d = record { format = h265 d.is_numbered; is_avc = false; run = d.run }
+receiver d = record { format = format_with d.codec; is_avc = d.is_avc; run = d.run }
 
 -- a depacketizer, what was written so far, and what is told
 abbrev pub work : Depacketizer → List ℕ → CodecExtra → Work
-work d out extra = record { receiver = receiver d; out = out; extra = extra }
+work d out extra = at_work (receiver d) out extra
 
 -- what later answers depend on
 abbrev pub meaning_of : Depacketizer → List (List ℕ)
 meaning_of d = receiver_meaning (receiver d)
+
+-- whether two are equal
+abbrev pub depacketizer_eq : Depacketizer → Depacketizer → Bool
+depacketizer_eq = eq_of_both (on (λ d. d.codec.numbered) beq) (eq_of_both (on (λ d. d.is_avc) beq)
+    (eq_of_both (on (λ d. d.run) (option_eq (pointwise nat_eq))) (on (λ d. d.payload) payload_eq)))
+
+-- an equivalence
+pub depacketizer_equiv : IsEquivalence depacketizer_eq
+depacketizer_equiv = and_equiv (on_equiv (λ d. d.codec.numbered) bool_eq_equiv) (and_equiv
+    (on_equiv (λ d. d.is_avc) bool_eq_equiv) (and_equiv
+    (on_equiv (λ d. d.run) (options_equiv (lists_equiv nat_eq_equiv)))
+    (on_equiv (λ d. d.payload) payload_equiv)))

@@ -118,6 +118,11 @@ abbrev pub has_key : CodecExtra → Bool  -- the H.265 variant with its flag tru
 has_key (extras.H265 extra) = extra.is_keyframe
 has_key extra = false
 
+-- whether a packet of two bytes or more is a fragment
+abbrev pub is_fragment : List ℕ → Bool
+is_fragment (high ∷ low ∷ rest) = type_of high == 49
+is_fragment packet = false
+
 -- Whether a key unit is known to stand in a packet, or to begin in it; numbers are not accounted
 -- for (the crate's rule).
 abbrev pub detects_fragment : List ℕ → Bool
@@ -140,6 +145,7 @@ h265 numbered = record {
   least_mtu = 4;
   sized = true;
   header_len = 2;
+  may_bear_donl = true;
   numbered = numbered;
   sets_fit = sets_fit numbered;
   sets_packet = sets_packet numbered;

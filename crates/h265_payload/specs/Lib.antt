@@ -3,6 +3,5 @@ pub mod Reading
 pub mod CodecFacts
 pub mod Shown
 pub mod Packet
-pub mod Frame
-pub mod Depacketizer
 pub mod Setting
+pub mod Depacketizer

@@ -1,7 +1,9 @@
 //! The units of an aggregation packet, as slices of it (RFC 7798, 4.4.2).
 
 ghost use Rattle.std.specs.Prelude.{◌≡◌, ◌-◌, ◌^◌, ◌<◌, ◌≤◌, ◌∷◌, [], true, false, min, length, None, IfSome, IfOk, IfErr};
-ghost use Rattle.h26x_payload.specs.Run.{written_len};
+ghost use Rattle.std.specs.List.{list_any};
+ghost use Rattle.h26x_core.specs.Outcome.{is_too_long};
+ghost use Rattle.h26x_payload.specs.Run.{AreOfSize};
 ghost use Rattle.h265_payload.specs.Shown.{others_of, units_in};
 
 use crate::packetizer::H265;
@@ -94,9 +96,8 @@ impl Aggregate for H265 {
 /// How many bytes the units of an aggregate take where they are written, at most `usize::MAX`;
 /// fewer than two are refused.
 pub fn check_aggregate(is_numbered: bool, bytes: &[u8]) -> Result<usize, PacketError>
-    ensures whole { IfOk result (λ len. 2 ≤ length (others_of is_numbered bytes.now)) }
-    ensures len { IfOk result (λ len. len ≡ min (written_len (units_in is_numbered bytes.now))
-        (2 ^ 64 - 1)) }
+    ensures whole { IfOk result (λ size. 2 ≤ length (others_of is_numbered bytes.now)) }
+    ensures size { IfOk result (λ size. AreOfSize (units_in is_numbered bytes.now) size) }
     ensures short { IfErr result (λ e. length (others_of is_numbered bytes.now) < 2) }
     ensures error { IfErr result (λ e. e ≡ PacketError.ErrShortPacket) }
 {

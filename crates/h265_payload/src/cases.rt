@@ -14,6 +14,7 @@ ghost use Rattle.h26x_core.specs.Facts.{AreCarried, IsPlanned, CanSend};
 ghost use Rattle.h26x_core.specs.Again.{NothingDropped};
 ghost use Rattle.h26x_core.specs.Sender.{counted_on};
 ghost use Rattle.h26x_core.specs.Received.{received};
+ghost use Rattle.h26x_core.specs.Receiver.{at_work, work_after, receiver_meaning};
 ghost use Rattle.h26x_core.specs.Text.{annex_b, text};
 ghost use Rattle.h26x_core.specs.Extra.{extra_after};
 ghost use Rattle.h265_payload.specs.H265.{h265};
@@ -570,4 +571,26 @@ pub fn a_counter_goes_round()
         ≡ (0x02 ∷ 0x01 ∷ 0xff ∷ 0xff ∷ 0xaa ∷ []) ∷ (0x02 ∷ 0x01 ∷ 0x00 ∷ 0x00 ∷ 0xbb ∷ []) ∷ [] }
     ensures counted { counted_on true 65535 2 ≡ 1 }
     ensures not_counted { counted_on false 0 2 ≡ 0 }
+{}
+
+/// What a depacketizer's later answers depend on: one byte for its settings, and the open run.
+pub fn a_depacketizers_meaning()
+    ensures plain { receiver_meaning
+        (record { format = h265 false; is_avc = false; run = None }) ≡ (0 ∷ []) ∷ [] }
+    ensures numbered { receiver_meaning
+        (record { format = h265 true; is_avc = false; run = None }) ≡ (1 ∷ []) ∷ [] }
+    ensures lengths { receiver_meaning
+        (record { format = h265 false; is_avc = true; run = Some [] }) ≡ (2 ∷ []) ∷ [] ∷ [] }
+    ensures both { receiver_meaning
+        (record { format = h265 true; is_avc = true; run = Some (0xaa ∷ []) })
+        ≡ (3 ∷ []) ∷ (0xaa ∷ []) ∷ [] }
+{}
+
+/// An end writes its unit behind its length.
+pub fn a_unit_behind_its_length()
+    ensures { work_after
+        (at_work (record { format = h265 false; is_avc = true; run = Some (0xaa ∷ []) })
+        (0xff ∷ []) extras.None) ((0x62 ∷ 0x01 ∷ 0x53 ∷ 0xbb ∷ []) ∷ [])
+        ≡ at_work (record { format = h265 false; is_avc = true; run = None })
+        (0xff ∷ 0x00 ∷ 0x00 ∷ 0x00 ∷ 0x04 ∷ 0x26 ∷ 0x01 ∷ 0xaa ∷ 0xbb ∷ []) ((h265 false).extra true) }
 {}

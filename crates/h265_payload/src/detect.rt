@@ -5,7 +5,7 @@ ghost use Rattle.h265_payload.specs.H265.{detects, detects_fragment};
 
 use crate::packetizer::{H265, header_of};
 use h26x_core::{H265FragmentationUnitHeader, H265NALUHeader};
-use h26x_payload::{Codec, holds_key};
+use h26x_payload::{PayloadFormat, holds_key};
 
 /// Whether what stands behind a fragment's header begins a key unit (RFC 7798, 4.4.3).
 fn begins_key(rest: &[u8]) -> bool

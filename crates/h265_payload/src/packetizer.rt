@@ -8,7 +8,7 @@ ghost use Rattle.h265_payload.specs.H265.{with_type_and_f};
 
 use h26x_core::{CodecExtra, H265CodecExtra, H265FragmentationUnitHeader, H265NALUHeader};
 use h26x_cut::{UnitSlices, ZeroRule};
-use h26x_payload::{Codec, NumberedCodec, PayloadPacketizer, Sets, UnitKind};
+use h26x_payload::{DonlFormat, PayloadFormat, PayloadPacketizer, Sets, UnitKind};
 use h265_packets::header::high_byte;
 use std::alloc::{AllocError, Global};
 
@@ -31,7 +31,7 @@ const AGGREGATE_TYPE: u8 = 48;
 const FRAGMENT_TYPE: u8 = 49;
 
 /// H.265 (RFC 7798), and whether packets bear decoding order numbers (4.6).
-#[derive(Debug, Clone, Copy)]
+#[derive(Debug, Clone, Copy, PartialEq, Eq)]
 pub struct H265 {
     pub(crate) numbered: bool,
 }
@@ -73,7 +73,7 @@ fn with_type(high: u8, nalu_type: u8) -> u8
     high_byte(high >> 7, nalu_type, high)
 }
 
-impl Codec for H265 {
+impl PayloadFormat for H265 {
     ghost use Rattle.h265_payload.specs.H265.{h265};
     ghost use Rattle.h265_payload.specs.CodecFacts.{has_header, header_tells, fits_limits, aggregate_numbers};
     ghost use Rattle.std.specs.Prelude.{refl, false};
@@ -180,10 +180,10 @@ impl Codec for H265 {
     ghost one_kind = { λ codec other unit. refl };
 }
 
-impl NumberedCodec for H265 {
-    ghost with_numbers_of = { λ codec numbered. record codec { numbered = numbered } };
+impl DonlFormat for H265 {
+    ghost with_donl_of = { λ codec numbered. record codec { numbered = numbered } };
 
-    fn with_numbers(self, numbered: bool) -> Self {
+    fn with_donl(self, numbered: bool) -> Self {
         H265 { numbered }
     }
 }

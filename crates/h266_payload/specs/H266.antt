@@ -123,6 +123,11 @@ abbrev pub has_key : CodecExtra → Bool  -- the H.266 variant with its flag tru
 has_key (extras.H266 extra) = extra.is_keyframe
 has_key extra = false
 
+-- whether a packet of two bytes or more is a fragment
+abbrev pub is_fragment : List ℕ → Bool
+is_fragment (high ∷ low ∷ rest) = type_of low == 29
+is_fragment packet = false
+
 -- Whether a key unit is known to stand in a packet, or to begin in it; numbers are not accounted
 -- for (the crate's rule).
 abbrev pub detects_fragment : List ℕ → Bool
@@ -145,6 +150,7 @@ h266 numbered = record {
   least_mtu = 4;
   sized = true;
   header_len = 2;
+  may_bear_donl = true;
   numbered = numbered;
   sets_fit = sets_fit numbered;
   sets_packet = sets_packet numbered;

@@ -1,10 +1,13 @@
 //! The units of an aggregation packet (RFC 9328, 4.3.2).
 
-ghost use Rattle.std.specs.Prelude.{◌≡◌, ◌<◌, ◌≤◌, ℕ, Option, length, IfOk, IfErr, Ok, Err};
+ghost use Rattle.std.specs.Prelude.{◌≡◌, ◌<◌, ◌≤◌, ◌-◌, ◌^◌, min, false, ℕ, Option, length, IfOk, IfErr, Ok, Err};
+ghost use Rattle.std.specs.List.{list_any};
+ghost use Rattle.h26x_core.specs.Outcome.{is_too_long};
 ghost use Rattle.h26x_core.specs.Pieces.{pieces_of, with_piece};
 ghost use Rattle.h26x_core.specs.Reading.{Refused};
 ghost use Rattle.h266_payload.specs.H266.{has_packet_type, with_unit, two_or_more};
-ghost use Rattle.h266_payload.specs.Packet.{aggregate_units, judged, units_len};
+ghost use Rattle.h26x_payload.specs.Run.{AreOfSize};
+ghost use Rattle.h266_payload.specs.Packet.{aggregate_units, judged};
 
 use crate::packetizer::{H266, header_of};
 use h26x_core::{PacketError, first_piece};
@@ -45,6 +48,7 @@ fn first_allowed(bytes: &[u8]) -> Result<(&[u8], &[u8]), PacketError>
     ensures whole { IfOk result (λ it. pieces_of bytes.now ≡ with_piece it.0.now
         (pieces_of it.1.now)) }
     ensures allowed { IfOk result (λ it. judged bytes.now ≡ with_unit it.0.now (judged it.1.now)) }
+    ensures short { IfOk result (λ it. is_too_long it.0.now ≡ false) }
     ensures less { IfOk result (λ it. length it.1.now < length bytes.now) }
     ensures refused { IfErr result (λ e. judged bytes.now ≡ Err e) }
 {
@@ -64,23 +68,23 @@ fn first_allowed(bytes: &[u8]) -> Result<(&[u8], &[u8]), PacketError>
 /// The fault furthest left refuses it: a lone byte, or a length under 2 or past the end; a unit that
 /// is an aggregate or a fragment. So do fewer than two units.
 pub fn check_aggregate(bytes: &[u8]) -> Result<usize, PacketError>
-    ensures units { IfOk result (λ len. judged bytes.now ≡ Ok (aggregate_units bytes.now)) }
-    ensures two { IfOk result (λ len. 2 ≤ length (aggregate_units bytes.now)) }
-    ensures len { IfOk result (λ len. len ≡ units_len bytes.now) }
+    ensures units { IfOk result (λ size. judged bytes.now ≡ Ok (aggregate_units bytes.now)) }
+    ensures two { IfOk result (λ size. 2 ≤ length (aggregate_units bytes.now)) }
+    ensures size { IfOk result (λ size. AreOfSize (aggregate_units bytes.now) size) }
     ensures refused { IfErr result (λ e. (number : Option ℕ) → two_or_more number (judged bytes.now)
         ≡ Refused e) }
 {
-    let mut len: usize = 0;
+    let mut size: usize = 0;
     let mut count: usize = 0;
     let mut rest = bytes;
     while !rest.is_empty() {
         let (unit, behind) = first_allowed(rest)?;
-        len = len.saturating_add(unit.len() + LEAD_SIZE);
+        size = size.saturating_add(unit.len() + LEAD_SIZE);
         count += 1;
         rest = behind;
     }
     if count < 2 {
         return Err(PacketError::ErrShortPacket);
     }
-    Ok(len)
+    Ok(size)
 }

@@ -11,6 +11,7 @@ ghost use Rattle.h26x_core.specs.Rival.{IsRival};
 ghost use Rattle.h26x_core.specs.Facts.{AreCarried, IsPlanned, CanSend};
 ghost use Rattle.h26x_core.specs.Again.{NothingDropped};
 ghost use Rattle.h26x_core.specs.Received.{received};
+ghost use Rattle.h26x_core.specs.Receiver.{at_work, work_after, receiver_meaning};
 ghost use Rattle.h26x_core.specs.Text.{annex_b};
 ghost use Rattle.h26x_core.specs.Extra.{extra_after};
 ghost use Rattle.h26x_core.specs.Calls.{call_at, packets_of, packets_of_payload};
@@ -447,4 +448,26 @@ pub fn nothing_dropped()
         (0x00 ∷ 0x39 ∷ 0xdd ∷ []) ∷ [])) → ⊥ }
     ensures unit_dropped { NothingDropped (h266 true)
         (entries_at 5 ((0x00 ∷ 0x39 ∷ 0xdd ∷ 0xdd ∷ []) ∷ [])) → ⊥ }
+{}
+
+/// What a depacketizer's later answers depend on: one byte for its settings, and the open run.
+pub fn a_depacketizers_meaning()
+    ensures plain { receiver_meaning
+        (record { format = h266 false; is_avc = false; run = None }) ≡ (0 ∷ []) ∷ [] }
+    ensures numbered { receiver_meaning
+        (record { format = h266 true; is_avc = false; run = None }) ≡ (1 ∷ []) ∷ [] }
+    ensures lengths { receiver_meaning
+        (record { format = h266 false; is_avc = true; run = Some [] }) ≡ (2 ∷ []) ∷ [] ∷ [] }
+    ensures both { receiver_meaning
+        (record { format = h266 true; is_avc = true; run = Some (0xaa ∷ []) })
+        ≡ (3 ∷ []) ∷ (0xaa ∷ []) ∷ [] }
+{}
+
+/// An end writes its unit behind its length.
+pub fn a_unit_behind_its_length()
+    ensures { work_after
+        (at_work (record { format = h266 false; is_avc = true; run = Some (0xaa ∷ []) })
+        (0xff ∷ []) CodecExtra.None) ((0x00 ∷ 0xe9 ∷ 0x47 ∷ 0xbb ∷ []) ∷ [])
+        ≡ at_work (record { format = h266 false; is_avc = true; run = None })
+        (0xff ∷ 0x00 ∷ 0x00 ∷ 0x00 ∷ 0x04 ∷ 0x00 ∷ 0x39 ∷ 0xaa ∷ 0xbb ∷ []) ((h266 false).extra true) }
 {}

@@ -6,7 +6,7 @@ ghost use Rattle.h266_payload.specs.H266.{detects, detects_fragment};
 use crate::packet::PACKET_HEADER_SIZE;
 use crate::packetizer::{H266, header_of};
 use h26x_core::{H266FragmentationUnitHeader, H266NALUHeader};
-use h26x_payload::{Codec, holds_key};
+use h26x_payload::{PayloadFormat, holds_key};
 
 /// Whether what stands behind a fragment's header begins a key unit (RFC 9328, 4.3.3).
 fn begins_key(rest: &[u8]) -> bool

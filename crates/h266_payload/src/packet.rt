@@ -4,12 +4,15 @@ ghost use Rattle.std.specs.Prelude.{◌≡◌, ◌≤◌, length, slice_index, S
 ghost use Rattle.h26x_core.specs.Word.{is_set};
 ghost use Rattle.h26x_core.specs.H266Unit.{type_of};
 ghost use Rattle.h26x_core.specs.Reading.{Refused};
+ghost use Rattle.h26x_payload.specs.Receiving.{IsReadAs};
+ghost use Rattle.h266_payload.specs.H266 as spec;
 ghost use Rattle.h266_payload.specs.H266.{h266, has_packet_type};
-ghost use Rattle.h266_payload.specs.Packet.{reading_of, split_number, IsChecked};
+ghost use Rattle.h266_payload.specs.Packet.{aggregate_units, behind_number};
 
 use crate::aggregate::check_aggregate;
-use crate::packetizer::{header_of, with_type};
+use crate::packetizer::{H266, header_of, with_type};
 use h26x_core::{H266FragmentationUnitHeader, PacketError};
+use h26x_payload::{Fragment, PacketReader, Parts, ends_frame, may_begin_frame};
 
 /// The bytes of a packet's header.
 pub const PACKET_HEADER_SIZE: usize = 2;
@@ -21,138 +24,115 @@ const NUMBERED_HEADER_SIZE: usize = 4;
 /// unit's type.
 const FRAGMENT_HEADER_SIZE: usize = 3;
 
-/// What a packet is, with slices of it.
-#[derive(Clone, Copy)]
-pub enum Packet<'a> {
-    /// A single NAL unit packet without a number: the unit (RFC 9328, 4.3.1).
-    Single(&'a [u8]),
-
-    /// One with a number between the unit's header and what is behind it.
-    NumberedSingle {
-        /// The header of the unit.
-        head: &'a [u8],
-        /// The unit's number.
-        donl: u16,
-        /// The unit without its header.
-        body: &'a [u8],
-    },
-
-    /// An aggregation packet (RFC 9328, 4.3.2).
-    Aggregate {
-        /// The number of the first unit.
-        donl: Option<u16>,
-        /// The units behind their lengths.
-        bytes: &'a [u8],
-        /// How many bytes the units take where they are written.
-        len: usize,
-    },
-
-    /// A fragmentation unit (RFC 9328, 4.3.3).
-    Fragment {
-        /// The S bit.
-        start: bool,
-        /// The E bit.
-        end: bool,
-        /// The header of the unit that the fragment ends, if it ends one.
-        head: [u8; 2],
-        /// The number of the unit that it starts.
-        donl: Option<u16>,
-        /// The data.
-        body: &'a [u8],
-    },
-}
-
-/// DONL and what stands behind it, if it is there; where none is borne, no number and all bytes.
-fn take_number(is_numbered: bool, bytes: &[u8]) -> Result<(Option<u16>, &[u8]), PacketError>
-    ensures there { IfOk result (λ it. split_number is_numbered bytes.now ≡ Some (it.0, it.1.now)) }
-    ensures none { IfErr result (λ e. split_number is_numbered bytes.now ≡ None) }
+/// What stands behind DONL, if it is there; where none is borne, all bytes.
+fn behind_number(is_numbered: bool, bytes: &[u8]) -> Result<&[u8], PacketError>
+    ensures there { IfOk result (λ it. behind_number is_numbered bytes.now ≡ Some it.now) }
+    ensures none { IfErr result (λ e. behind_number is_numbered bytes.now ≡ None) }
     ensures short { IfErr result (λ e. e ≡ PacketError.ErrShortPacket) }
 {
     if !is_numbered {
-        return Ok((None, bytes));
+        return Ok(bytes);
     }
     if bytes.len() < 2 {
         return Err(PacketError::ErrShortPacket);
     }
-    let donl = u16::from_be_bytes([bytes[0], bytes[1]]);
-    Ok((Some(donl), &bytes[2..]))
+    Ok(&bytes[2..])
 }
 
-/// Reads a packet: a type that is neither an aggregate's nor a fragment's is a unit's own.
-pub fn read(is_numbered: bool, packet: &[u8]) -> Result<Packet<'_>, PacketError>
-    ensures accepted { IfOk result (λ it. (h266 is_numbered).read packet.now ≡ reading_of it) }
-    ensures checked { IfOk result (λ it. IsChecked it) }
-    ensures refused { IfErr result (λ e. (h266 is_numbered).read packet.now ≡ Refused e) }
+/// Whether a packet is a fragmentation unit.
+fn is_fragment(packet: &[u8]) -> bool
+    ensures { result ≡ spec.is_fragment packet.now }
 {
-    if packet.len() <= PACKET_HEADER_SIZE {
-        return Err(PacketError::ErrShortPacket);
+    packet.len() >= PACKET_HEADER_SIZE && header_of(packet).is_fragmentation_unit()
+}
+
+impl PacketReader for H266 {
+    ghost use Rattle.h266_payload.specs.H266.{is_fragment};
+    ghost use Rattle.h26x_payload.specs.Frame as frame;
+
+    ghost begins = { λ codec packet. frame.may_begin (is_fragment packet) packet };
+
+    ghost ends = { λ codec marker packet. frame.is_last (is_fragment packet) marker packet };
+
+    // A type that is neither an aggregate's nor a fragment's is a unit's own.
+    #[inline]
+    fn read(self, packet: &[u8]) -> Result<Parts<'_>, PacketError> {
+        if packet.len() <= PACKET_HEADER_SIZE {
+            return Err(PacketError::ErrShortPacket);
+        }
+        let header = header_of(packet);
+        if header.f() {
+            return Err(PacketError::ErrH266CorruptedPacket);
+        }
+        if header.is_aggregation_packet() {
+            read_aggregate(self.numbered, packet)
+        } else if header.is_fragmentation_unit() {
+            read_fragment(self.numbered, packet)
+        } else {
+            read_single(self.numbered, packet)
+        }
     }
-    let header = header_of(packet);
-    if header.f() {
-        return Err(PacketError::ErrH266CorruptedPacket);
+
+    fn may_begin(self, packet: &[u8]) -> bool {
+        may_begin_frame(is_fragment(packet), packet)
     }
-    if header.is_aggregation_packet() {
-        read_aggregate(is_numbered, packet)
-    } else if header.is_fragmentation_unit() {
-        read_fragment(is_numbered, packet)
-    } else {
-        read_single(is_numbered, packet)
+
+    fn is_last(self, marker: bool, packet: &[u8]) -> bool {
+        ends_frame(is_fragment(packet), marker, packet)
     }
 }
 
 /// Reads a single NAL unit packet.
-fn read_single(is_numbered: bool, packet: &[u8]) -> Result<Packet<'_>, PacketError>
+fn read_single(is_numbered: bool, packet: &[u8]) -> Result<Parts<'_>, PacketError>
     requires long { 3 ≤ length packet.now }
     requires clear { is_set (slice_index packet.now 0) 7 ≡ false }
     requires own { has_packet_type packet.now ≡ false }
-    ensures accepted { IfOk result (λ it. (h266 is_numbered).read packet.now ≡ reading_of it) }
-    ensures checked { IfOk result (λ it. IsChecked it) }
+    ensures accepted { IfOk result (λ parts. IsReadAs (h266 is_numbered) aggregate_units
+        packet.now parts) }
     ensures refused { IfErr result (λ e. (h266 is_numbered).read packet.now ≡ Refused e) }
 {
     if !is_numbered {
-        return Ok(Packet::Single(packet));
+        return Ok(Parts::Whole);
     }
     if packet.len() < NUMBERED_HEADER_SIZE + 1 {
         return Err(PacketError::ErrShortPacket);
     }
-    Ok(Packet::NumberedSingle {
-        head: &packet[..PACKET_HEADER_SIZE],
-        donl: u16::from_be_bytes([packet[2], packet[3]]),
+    Ok(Parts::Unit {
+        head: [packet[0], packet[1]],
         body: &packet[NUMBERED_HEADER_SIZE..],
     })
 }
 
 /// Reads an aggregation packet.
-fn read_aggregate(is_numbered: bool, packet: &[u8]) -> Result<Packet<'_>, PacketError>
+fn read_aggregate(is_numbered: bool, packet: &[u8]) -> Result<Parts<'_>, PacketError>
     requires long { 3 ≤ length packet.now }
     requires clear { is_set (slice_index packet.now 0) 7 ≡ false }
     requires nalu_type { type_of (slice_index packet.now 1) ≡ 28 }
-    ensures accepted { IfOk result (λ it. (h266 is_numbered).read packet.now ≡ reading_of it) }
-    ensures checked { IfOk result (λ it. IsChecked it) }
+    ensures accepted { IfOk result (λ parts. IsReadAs (h266 is_numbered) aggregate_units
+        packet.now parts) }
     ensures refused { IfErr result (λ e. (h266 is_numbered).read packet.now ≡ Refused e) }
 {
-    let (donl, bytes) = take_number(is_numbered, &packet[PACKET_HEADER_SIZE..])?;
-    let len = check_aggregate(bytes)?;
-    Ok(Packet::Aggregate { donl, bytes, len })
+    let bytes = behind_number(is_numbered, &packet[PACKET_HEADER_SIZE..])?;
+    let size = check_aggregate(bytes)?;
+    Ok(Parts::Aggregate { bytes, size })
 }
 
 /// Reads a fragmentation unit; where packets bear numbers, a start bears one.
-fn read_fragment(is_numbered: bool, packet: &[u8]) -> Result<Packet<'_>, PacketError>
+fn read_fragment(is_numbered: bool, packet: &[u8]) -> Result<Parts<'_>, PacketError>
     requires long { 3 ≤ length packet.now }
     requires clear { is_set (slice_index packet.now 0) 7 ≡ false }
     requires nalu_type { type_of (slice_index packet.now 1) ≡ 29 }
-    ensures accepted { IfOk result (λ it. (h266 is_numbered).read packet.now ≡ reading_of it) }
-    ensures checked { IfOk result (λ it. IsChecked it) }
+    ensures accepted { IfOk result (λ parts. IsReadAs (h266 is_numbered) aggregate_units
+        packet.now parts) }
     ensures refused { IfErr result (λ e. (h266 is_numbered).read packet.now ≡ Refused e) }
 {
     let fu = H266FragmentationUnitHeader(packet[PACKET_HEADER_SIZE]);
     let rest = &packet[FRAGMENT_HEADER_SIZE..];
-    let (donl, body) = take_number(is_numbered && fu.s(), rest)?;
-    Ok(Packet::Fragment {
+    let body = behind_number(is_numbered && fu.s(), rest)?;
+    Ok(Parts::Fragment(Fragment {
         start: fu.s(),
         end: fu.e(),
         head: [packet[0], with_type(packet[1], fu.fu_type())],
-        donl,
         body,
-    })
+    }))
 }

@@ -10,7 +10,7 @@ ghost use Rattle.h266_payload.specs.H266 as spec;
 
 use h26x_core::{CodecExtra, H266CodecExtra, H266FragmentationUnitHeader, H266NALUHeader};
 use h26x_cut::{UnitSlices, ZeroRule};
-use h26x_payload::{Codec, NumberedCodec, PayloadPacketizer, Sets, UnitKind};
+use h26x_payload::{DonlFormat, PayloadFormat, PayloadPacketizer, Sets, UnitKind};
 use std::alloc::{AllocError, Global};
 
 /// The type of a VPS.
@@ -32,7 +32,7 @@ const AGGREGATE_TYPE: u8 = 28;
 const FRAGMENT_TYPE: u8 = 29;
 
 /// H.266 (RFC 9328), and whether packets bear decoding order numbers (4.4).
-#[derive(Debug, Clone, Copy)]
+#[derive(Debug, Clone, Copy, PartialEq, Eq)]
 pub struct H266 {
     pub(crate) numbered: bool,
 }
@@ -123,7 +123,7 @@ fn aggregate_low(sets: Sets<'_>) -> u8
     AGGREGATE_TYPE * 8 + lowest.max(1)
 }
 
-impl Codec for H266 {
+impl PayloadFormat for H266 {
     ghost use Rattle.h266_payload.specs.H266.{h266};
     ghost use Rattle.h266_payload.specs.CodecFacts.{has_header, header_tells, fits_limits, aggregate_numbers};
     ghost use Rattle.std.specs.Prelude.{refl, false};
@@ -228,10 +228,10 @@ impl Codec for H266 {
     ghost one_kind = { λ codec other unit. refl };
 }
 
-impl NumberedCodec for H266 {
-    ghost with_numbers_of = { λ codec numbered. record codec { numbered = numbered } };
+impl DonlFormat for H266 {
+    ghost with_donl_of = { λ codec numbered. record codec { numbered = numbered } };
 
-    fn with_numbers(self, numbered: bool) -> Self {
+    fn with_donl(self, numbered: bool) -> Self {
         H266 { numbered }
     }
 }

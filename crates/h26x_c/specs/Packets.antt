@@ -1,10 +1,9 @@
 -- What the payload formats say of a packet by itself.
 use Rattle.std.specs.Prelude.{ℕ, Bool, false, List, Option, Some, None}
 use Rattle.h26x_core.specs.H264Frame as h264_frame
+use Rattle.h26x_payload.specs.Frame.{may_begin, is_last}
 use Rattle.h264_payload.specs.H264 as h264
-use Rattle.h265_payload.specs.Frame as h265_frame
 use Rattle.h265_payload.specs.H265 as h265
-use Rattle.h266_payload.specs.Frame as h266_frame
 use Rattle.h266_payload.specs.H266 as h266
 use Rattle.h26x_codec.specs.declared.codec.Codec.{Codec}
 use Rattle.h26x_codec.specs.declared.codec.Codec.TheVariants as c
@@ -13,15 +12,15 @@ use Rattle.h26x_codec.specs.declared.codec.Codec.TheVariants as c
 abbrev pub is_head_of : Option Codec → List ℕ → Bool
 is_head_of None packet = false
 is_head_of (Some c.H264) packet = h264_frame.is_head packet
-is_head_of (Some c.H265) packet = h265_frame.is_head packet
-is_head_of (Some c.H266) packet = h266_frame.is_head packet
+is_head_of (Some c.H265) packet = may_begin (h265.is_fragment packet) packet
+is_head_of (Some c.H266) packet = may_begin (h266.is_fragment packet) packet
 
 -- whether it is the last of an access unit, with this marker bit
 abbrev pub is_tail_of : Option Codec → Bool → List ℕ → Bool
 is_tail_of None marker packet = false
 is_tail_of (Some c.H264) marker packet = marker
-is_tail_of (Some c.H265) marker packet = h265_frame.is_tail marker packet
-is_tail_of (Some c.H266) marker packet = h266_frame.is_tail marker packet
+is_tail_of (Some c.H265) marker packet = is_last (h265.is_fragment packet) marker packet
+is_tail_of (Some c.H266) marker packet = is_last (h266.is_fragment packet) marker packet
 
 -- whether it is known to hold a unit of a keyframe, or to be the first fragment of one
 abbrev pub is_key_of : Option Codec → List ℕ → Bool

@@ -1,8 +1,8 @@
 //! The calls of a depacketizer.
 
 ghost use Rattle.std.specs.Prelude.{◌≡◌, ◌≢◌, ◌⊎◌, ℕ, Bool, [], ◌∷◌, true, false, Some, None, Ok, Err, length};
-ghost use Rattle.h26x_core.specs.Receiver.{Receiver, work_after};
-ghost use Rattle.h26x_codec.specs.Codec.{format_with, fresh_receiver, at_work};
+ghost use Rattle.h26x_core.specs.Receiver.{Receiver, work_after, at_work};
+ghost use Rattle.h26x_codec.specs.Codec.{format_with, fresh_receiver};
 ghost use Rattle.h26x_codec.specs.declared.codec.Codec.{Codec};
 ghost use Rattle.h26x_c.specs.Answers.{IsAnswer};
 ghost use Rattle.h26x_ends.specs.Codes.{wanted, has_numbers, extra_told, number_told, ok, out_of_memory, wrong_end, not_of_this_codec};
@@ -108,7 +108,8 @@ pub extern "C" fn h26x_depacketizer_set_numbers(d: &mut Handle, numbers: bool) -
     }
 }
 
-/// Takes a packet, and copies what it completes where there is room for it.
+/// Takes a packet, and copies what it completes, behind lengths or behind start codes, where there
+/// is room for it.
 #[unsafe(no_mangle)]
 pub extern "C" fn h26x_depacketize(
     d: &mut Handle,
@@ -120,8 +121,6 @@ pub extern "C" fn h26x_depacketize(
     why: &mut Refusal,
 ) -> u32
     ensures wrong { is_sending d.old.value ≡ true → result ≡ wrong_end }
-    ensures form { is_sending d.old.value ≡ false → receiver_at is_avc d.old.value ≡ None →
-        result ≡ not_of_this_codec }
     ensures answer { (it : Receiver) → receiver_at is_avc d.old.value ≡ Some it →
         IsAnswer (at_work it [] (extra_told (codec_at d.old.value) extra.old)) packet.now result
         why.new.first why.new.second }
@@ -150,9 +149,6 @@ pub extern "C" fn h26x_depacketize(
         End::Sending(_) => return WRONG_END,
     };
     let codec = it.receiver.codec();
-    if is_avc && codec != Codec::H264 {
-        return NOT_OF_THIS_CODEC;
-    }
     let mut told = extra_of(codec, *extra);
     match it.depacketize(is_avc, packet, &mut told) {
         Ok(()) => {

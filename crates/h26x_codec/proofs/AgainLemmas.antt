@@ -17,7 +17,7 @@ use Rattle.h26x_core.specs.Again.{NothingDropped}
 use Rattle.h26x_core.specs.Text.{text, annex_b}
 use Rattle.h26x_core.specs.Plan.{sent}
 use Rattle.h26x_core.specs.Sender.{Sender, packets_by, after}
-use Rattle.h26x_core.specs.Receiver.{Receiver, Work, brought, work_after}
+use Rattle.h26x_core.specs.Receiver.{Receiver, Work, brought, work_after, at_work}
 use Rattle.h26x_core.specs.Ends.{SenderGoesOn, calls_like}
 use Rattle.h26x_cut.specs.declared.ZeroRule.{ZeroRule}
 use Rattle.h26x_cut.specs.declared.ZeroRule.TheVariants.{All, AtMostThree}
@@ -25,7 +25,7 @@ use Rattle.h26x_cut.specs.Cutting.{AreSeparable}
 use Rattle.h264_payload.specs.H264.{h264}
 use Rattle.h265_payload.specs.H265.{h265}
 use Rattle.h266_payload.specs.H266.{h266}
-use Rattle.h26x_codec.specs.Codec.{at_work, format_with}
+use Rattle.h26x_codec.specs.Codec.{format_with}
 use Rattle.h26x_codec.specs.Runs.{IsLeftOver}
 use Rattle.h26x_codec.specs.Repeating.{rule_of, IsFirstRefused}
 use Rattle.h26x_codec.specs.declared.codec.Codec.{Codec}

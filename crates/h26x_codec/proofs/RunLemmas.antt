@@ -26,9 +26,9 @@ use Rattle.h26x_core.specs.Plan.{units_of_item, plan, sent}
 use Rattle.h26x_core.specs.Waits.{Waiting, none_waiting, plan_with}
 use Rattle.h26x_core.specs.Packets.{packets}
 use Rattle.h26x_core.specs.Sender.{Sender, planned, sent_by, packets_by, after, has_no_effect}
-use Rattle.h26x_core.specs.Receiver.{Receiver, Work, brought, work_after, IsOutcomeAt, IsCause}
+use Rattle.h26x_core.specs.Receiver.{Receiver, Work, brought, work_after, IsOutcomeAt, IsCause, at_work}
 use Rattle.h26x_core.specs.Ends.{SenderGoesOn, ReceiverGoesOn, CarriesWhole}
-use Rattle.h26x_codec.specs.Codec.{at_work, call_by}
+use Rattle.h26x_codec.specs.Codec.{call_by}
 use Rattle.h26x_codec.specs.Runs.{entries_made, sent_of, AreMade, AreSent, IsSentCall, AreTaken, IsLeftOver, IsUnbegun, IsStoppedIn, IsStopped, AreWritten, IsFresh, AreCarriedWhole, calls_by}
 
 -- a beginning of a beginning is one of the whole

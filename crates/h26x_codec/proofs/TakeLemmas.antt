@@ -8,9 +8,8 @@ use Rattle.std.proofs.lemmas.Grind.{take_at_read}
 use Rattle.h26x_core.specs.declared.extra.CodecExtra.{CodecExtra}
 use Rattle.h26x_core.specs.declared.error.PacketError.{PacketError}
 use Rattle.h26x_core.specs.Front.{IsFrontOf}
-use Rattle.h26x_core.specs.Receiver.{Receiver, Work, work_after, IsOutcomeAt, accepted_of, HaveOutcomes, AreAllTaken}
+use Rattle.h26x_core.specs.Receiver.{Receiver, Work, work_after, IsOutcomeAt, accepted_of, HaveOutcomes, AreAllTaken, at_work}
 use Rattle.h26x_core.specs.Ends.{ReceiverGoesOn}
-use Rattle.h26x_codec.specs.Codec.{at_work}
 use Rattle.h26x_codec.proofs.RunLemmas.{still_front, same_work}
 
 -- one packet more, and its outcome

@@ -6,17 +6,16 @@ use Rattle.h26x_core.specs.Format.{Format}
 use Rattle.h26x_core.specs.Calls.{Call, first_largest}
 use Rattle.h26x_core.specs.Waits.{none_waiting}
 use Rattle.h26x_core.specs.Sender.{Sender}
-use Rattle.h26x_core.specs.Receiver.{Receiver, Work}
+use Rattle.h26x_core.specs.Receiver.{Receiver, Work, at_work}
 use Rattle.h26x_payload.specs.Held.{sender}
+use Rattle.h26x_payload.specs.Receiving.{receiver}
 use Rattle.h264_payload.specs.H264.{h264}
-use Rattle.h264_payload.specs.Depacketizer as h264_end
 use Rattle.h265_payload.specs.H265.{h265}
 use Rattle.h265_payload.specs.Setting as h265_setting
 use Rattle.h265_payload.specs.Depacketizer as h265_end
 use Rattle.h265_packets.specs.declared.payload.H265Payload.{H265Payload}
 use Rattle.h266_payload.specs.H266.{h266}
 use Rattle.h266_payload.specs.Setting as h266_setting
-use Rattle.h266_payload.specs.Depacketizer as h266_end
 use Rattle.h26x_codec.specs.declared.codec.Codec.{Codec}
 use Rattle.h26x_codec.specs.declared.codec.Codec.TheVariants as c
 use Rattle.h26x_codec.specs.declared.packetizer.CodecPacketizer.{CodecPacketizer}
@@ -83,9 +82,9 @@ with_largest n (p.Boxed it) = p.Boxed it
 
 -- the depacketizer of a codec
 abbrev pub receiver_of : {X : Type 0} {P : X → Type 0} → CodecDepacketizer X P → Option Receiver
-receiver_of (d.H264 it) = Some (h264_end.receiver it)
+receiver_of (d.H264 it) = Some (receiver h264 it)
 receiver_of (d.H265 it) = Some (h265_end.receiver it)
-receiver_of (d.H266 it) = Some (h266_end.receiver it)
+receiver_of (d.H266 it) = Some (receiver (h266_setting.format_with it.codec) it)
 receiver_of (d.Boxed it) = None
 
 -- the codec of a depacketizer
@@ -108,11 +107,7 @@ abbrev pub payload_of : {X : Type 0} {P : X → Type 0} → CodecDepacketizer X 
 payload_of (d.H265 it) = Some it.payload
 payload_of it = None
 
--- a depacketizer, what was written so far, and what is told
-abbrev pub at_work : Receiver → List ℕ → CodecExtra → Work
-at_work r out extra = record { receiver = r; out = out; extra = extra }
-
--- the same for the depacketizer of a codec
+-- the depacketizer of a codec, what was written so far, and what is told
 abbrev pub work_of : {X : Type 0} {P : X → Type 0} → CodecDepacketizer X P → List ℕ → CodecExtra →
     Option Work
 work_of it out extra = option_map (λ r. at_work r out extra) (receiver_of it)

@@ -1,18 +1,22 @@
 //! A depacketizer of any codec, or a caller's own.
 
-ghost use Rattle.std.specs.Prelude.{◌≡◌, [], ◌∷◌, true, Some, OnOk, OnErr, IsOk};
+ghost use Rattle.std.specs.Prelude.{◌≡◌, [], ◌∷◌, Bool, true, false, Some, OnOk, OnErr, IsOk};
 ghost use Rattle.h26x_core.specs.Facts.{IsPayloadFormat};
 ghost use Rattle.h26x_core.specs.Front.{IsFrontOf};
 ghost use Rattle.h26x_core.specs.Hint.{size_hint};
 ghost use Rattle.h26x_core.specs.Outcome.{is_startless};
-ghost use Rattle.h26x_core.specs.Receiver.{Receiver, Work, work_after, IsOutcomeAt};
+ghost use Rattle.h26x_core.specs.Receiver.{Receiver, Work, work_after, IsOutcomeAt, receiver_meaning};
 ghost use Rattle.h26x_core.specs.H264Frame as h264_frame;
-ghost use Rattle.h264_payload.specs.Depacketizer as h264_end;
+ghost use Rattle.h264_payload.specs.declared.packetizer.H264.{H264};
+ghost use Rattle.h264_payload.specs.H264.{h264};
 ghost use Rattle.h265_payload.specs.Depacketizer as h265_end;
-ghost use Rattle.h265_payload.specs.Frame as h265_frame;
+ghost use Rattle.h265_payload.specs.H265 as h265;
 ghost use Rattle.h265_payload.specs.Shown.{shown};
-ghost use Rattle.h266_payload.specs.Depacketizer as h266_end;
-ghost use Rattle.h266_payload.specs.Frame as h266_frame;
+ghost use Rattle.h26x_payload.specs.Frame.{may_begin, is_last};
+ghost use Rattle.h26x_payload.specs.Receiving.{Receiving, receiver};
+ghost use Rattle.h266_payload.specs.declared.packetizer.H266.{H266};
+ghost use Rattle.h266_payload.specs.Setting as h266_setting;
+ghost use Rattle.h266_payload.specs.H266 as h266;
 ghost use Rattle.h26x_codec.specs.Codec.{format_of, receiver_of, codec_received, fresh_receiver, work_of, payload_of, without_run};
 ghost use Rattle.h26x_codec.specs.declared.depacketizer.CodecDepacketizer.TheVariants as d;
 
@@ -107,9 +111,9 @@ impl CodecDepacketizer {
 impl Depacketizer for CodecDepacketizer {
     // What the later answers of the depacketizer that it holds depend on.
     ghost meaning = { elim [
-      | d.H264 it ↦ h264_end.meaning_of it
+      | d.H264 it ↦ receiver_meaning (receiver h264 it)
       | d.H265 it ↦ h265_end.meaning_of it
-      | d.H266 it ↦ h266_end.meaning_of it
+      | d.H266 it ↦ receiver_meaning (receiver (h266_setting.format_with it.codec) it)
       | d.Boxed it ↦ (Depacketizer-box it).Depacketizer.meaning it.value
     ] };
 
@@ -147,14 +151,14 @@ impl Depacketizer for CodecDepacketizer {
             OnErr result (self.new ≡ self.old) }
         ensures codec { codec_received self.new ≡ codec_received self.old }
         ensures shows { (it : h265_end.Depacketizer) → self.old ≡ d.H265 it →
-            OnOk result (payload_of self.new ≡ Some (shown it.is_numbered packet.now)) }
+            OnOk result (payload_of self.new ≡ Some (shown it.codec.numbered packet.now)) }
 
         // Such a packet of H.264 or H.266 takes no memory.
-        ensures startless_h264 { (it : h264_end.Depacketizer) → self.old ≡ d.H264 it →
-            is_startless it.run ((h264_end.receiver it).format.read packet.now) ≡ true →
+        ensures startless_h264 { (it : Receiving H264) → self.old ≡ d.H264 it →
+            is_startless it.run (h264.read packet.now) ≡ true →
             IsOk result }
-        ensures startless_h266 { (it : h266_end.Depacketizer) → self.old ≡ d.H266 it →
-            is_startless it.run ((h266_end.receiver it).format.read packet.now) ≡ true →
+        ensures startless_h266 { (it : Receiving H266) → self.old ≡ d.H266 it →
+            is_startless it.run ((h266_setting.format_with it.codec).read packet.now) ≡ true →
             IsOk result }
 
         // A depacketizer in a box too.
@@ -174,12 +178,12 @@ impl Depacketizer for CodecDepacketizer {
 
     /// Whether `packet` may be the first of a frame, as the depacketizer that it holds says.
     fn is_partition_head(&self, packet: &[u8]) -> bool
-        ensures h264 { (it : h264_end.Depacketizer) → self.now ≡ d.H264 it →
+        ensures h264 { (it : Receiving H264) → self.now ≡ d.H264 it →
             result ≡ h264_frame.is_head packet.now }
         ensures h265 { (it : h265_end.Depacketizer) → self.now ≡ d.H265 it →
-            result ≡ h265_frame.is_head packet.now }
-        ensures h266 { (it : h266_end.Depacketizer) → self.now ≡ d.H266 it →
-            result ≡ h266_frame.is_head packet.now }
+            result ≡ may_begin (h265.is_fragment packet.now) packet.now }
+        ensures h266 { (it : Receiving H266) → self.now ≡ d.H266 it →
+            result ≡ may_begin (h266.is_fragment packet.now) packet.now }
     {
         match self {
             CodecDepacketizer::H264(it) => it.is_partition_head(packet),
@@ -192,11 +196,11 @@ impl Depacketizer for CodecDepacketizer {
     /// Whether `packet` is the last of a frame, with the marker bit of its RTP packet given, as the
     /// depacketizer that it holds says.
     fn is_partition_tail(&self, marker: bool, packet: &[u8]) -> bool
-        ensures h264 { (it : h264_end.Depacketizer) → self.now ≡ d.H264 it → result ≡ marker }
+        ensures h264 { (it : Receiving H264) → self.now ≡ d.H264 it → result ≡ marker }
         ensures h265 { (it : h265_end.Depacketizer) → self.now ≡ d.H265 it →
-            result ≡ h265_frame.is_tail marker packet.now }
-        ensures h266 { (it : h266_end.Depacketizer) → self.now ≡ d.H266 it →
-            result ≡ h266_frame.is_tail marker packet.now }
+            result ≡ is_last (h265.is_fragment packet.now) marker packet.now }
+        ensures h266 { (it : Receiving H266) → self.now ≡ d.H266 it →
+            result ≡ is_last (h266.is_fragment packet.now) marker packet.now }
     {
         match self {
             CodecDepacketizer::H264(it) => it.is_partition_tail(marker, packet),

@@ -11,9 +11,9 @@ ghost use Rattle.h26x_core.specs.Received.{received};
 ghost use Rattle.h26x_core.specs.Rival.{TakesFewestFragments};
 ghost use Rattle.h26x_core.specs.declared.extra.CodecExtra.TheVariants as extras;
 ghost use Rattle.h26x_core.specs.Sender.{Sender, planned, packets_by, after, AreWithinLimits};
-ghost use Rattle.h26x_core.specs.Receiver.{Receiver, Work, work_after};
+ghost use Rattle.h26x_core.specs.Receiver.{Receiver, Work, work_after, at_work};
 ghost use Rattle.h26x_payload.specs.Sending.{contents};
-ghost use Rattle.h26x_codec.specs.Codec.{sender_of, receiver_of, at_work, work_of, call_by};
+ghost use Rattle.h26x_codec.specs.Codec.{sender_of, receiver_of, work_of, call_by};
 ghost use Rattle.h26x_codec.specs.Runs.{AreSent, IsSentCall, AreTaken, IsLeftOver, IsUnbegun, IsStoppedIn, IsStopped, AreMade, AreWritten, IsFresh, AreCarriedWhole, calls_by, entries_made, sent_of};
 
 use crate::carried::{Carried, Marks, Packets};

@@ -2,9 +2,9 @@
 
 ghost use Rattle.std.specs.Prelude.{◌≡◌, IfOk, OnErr, Err, IsErr, All, length, vec_len, Some, None};
 ghost use Rattle.h26x_core.specs.Front.{IsFrontOf};
-ghost use Rattle.h26x_core.specs.Receiver.{Receiver, AreAllTaken, accepted_of};
+ghost use Rattle.h26x_core.specs.Receiver.{Receiver, AreAllTaken, accepted_of, at_work};
 ghost use Rattle.h26x_payload.specs.Sending.{contents};
-ghost use Rattle.h26x_codec.specs.Codec.{receiver_of, at_work, work_of};
+ghost use Rattle.h26x_codec.specs.Codec.{receiver_of, work_of};
 ghost use Rattle.h26x_codec.specs.Taking.{AreReceivedAs, LossIsWithin};
 
 use crate::depacketizer::CodecDepacketizer;

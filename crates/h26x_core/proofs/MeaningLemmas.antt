@@ -1,14 +1,13 @@
 -- Equal meanings are equal states.
-use Rattle.std.proofs.Common.{◌≡◌, ℕ, ◌/◌, ◌%◌, ◌<◌, Bool, true, false, cond, List, [], ◌∷◌, Option, None, Some, refl, sym, ap, ◌∙◌, arith}
-use Rattle.std.specs.Prelude.{◌||◌}
+use Rattle.std.proofs.Common.{◌≡◌, ℕ, ◌+◌, ◌/◌, ◌%◌, ◌<◌, Bool, true, false, cond, List, [], ◌∷◌, Option, None, Some, refl, sym, ap, ◌∙◌, arith}
 use Rattle.std.specs.List.{flat_map}
 use Rattle.std.proofs.lemmas.List.{append-nil}
-use Rattle.h26x_core.specs.Word.{word}
+use Rattle.h26x_core.specs.Word.{word, flag}
 use Rattle.h26x_core.specs.Kind.{Kind, Skipped, is_vps, is_sps, is_pps}
 use Rattle.h26x_core.specs.Format.{Format}
 use Rattle.h26x_core.specs.Waits.{IsOneSet, NoSet, OneSet, AreSets}
 use Rattle.h26x_core.specs.Sender.{Sender, IsSender, IsSameSender, sender_meaning}
-use Rattle.h26x_core.specs.Receiver.{Receiver, runs_of, receiver_meaning}
+use Rattle.h26x_core.specs.Receiver.{Receiver, runs_of, setting_byte, receiver_meaning}
 
 -- a set that waits has a byte: no bytes are of a kind that is skipped
 some_byte : (is_it : Kind → Bool) (f : Format) (unit : List ℕ) → is_it Skipped ≡ false → f.kind [] ≡ Skipped → is_it (f.kind unit) ≡ true → unit ≡ [] → false ≡ true
@@ -66,13 +65,6 @@ same_run None (Some run) same = absurd cc
 same_run (Some run) None same = absurd cc
 same_run (Some run) (Some other) same = let is : run ≡ other = cc in ap Some is
 
--- settings with the same byte are the same
-same_flag : (a b : Bool) → cond {A = List ℕ} a (1 ∷ []) (0 ∷ []) ≡ cond {A = List ℕ} b (1 ∷ []) (0 ∷ []) → a ≡ b
-same_flag true true same = refl
-same_flag true false same = absurd cc
-same_flag false true same = absurd cc
-same_flag false false same = refl
-
 -- depacketizers with the same parts are the same
 same_parts : (a b : Receiver) → a.format ≡ b.format → a.is_avc ≡ b.is_avc → a.run ≡ b.run → a ≡ b
 same_parts a b format avc run =
@@ -80,23 +72,16 @@ same_parts a b format avc run =
     ∙ ap (λ x. record { format = b.format; is_avc = x; run = a.run }) avc
     ∙ ap (λ (x : Option (List ℕ)). record { format = b.format; is_avc = b.is_avc; run = x }) run
 
--- a test and one that fails
-or_none : (a b : Bool) → b ≡ false → (a || b) ≡ a
-or_none true b none = refl
-or_none false b none = none
+-- a format's setting as one byte tells whether AVC form is written
+one_form : (f : Format) (a b : Bool) → setting_byte f a ≡ setting_byte f b → a ≡ b
+one_form f true true same = refl
+one_form f false false same = refl
+one_form f true false same = absurd (elim f.may_bear_donl as (λ x. cond x (flag f.numbered 1 + 2) 1 ≡ cond x (flag f.numbered 1 + 0) 0 → ⊥) [ true ↦ λ e. omega arith | false ↦ λ e. omega arith ] same)
+one_form f false true same = absurd (elim f.may_bear_donl as (λ x. cond x (flag f.numbered 1 + 0) 0 ≡ cond x (flag f.numbered 1 + 2) 1 → ⊥) [ true ↦ λ e. omega arith | false ↦ λ e. omega arith ] same)
 
--- so with depacketizers whose packets bear no numbers
-pub same_receivers : (a b : Receiver) → a.format ≡ b.format → a.format.numbered ≡ false → receiver_meaning a ≡ receiver_meaning b → a ≡ b
-same_receivers a b format none same =
-    let also : b.format.numbered ≡ false = ap (λ (g : Format). g.numbered) (sym format) ∙ none in
-    let setting : cond {A = List ℕ} (a.is_avc || a.format.numbered) (1 ∷ []) (0 ∷ []) ≡ cond {A = List ℕ} (b.is_avc || b.format.numbered) (1 ∷ []) (0 ∷ []) = cc in
+-- so with depacketizers
+pub same_receivers : (a b : Receiver) → a.format ≡ b.format → receiver_meaning a ≡ receiver_meaning b → a ≡ b
+same_receivers a b format same =
+    let setting : setting_byte a.format a.is_avc ≡ setting_byte b.format b.is_avc = cc in
     let runs : runs_of a.run ≡ runs_of b.run = cc in
-    same_parts a b format
-    (sym (or_none a.is_avc a.format.numbered none) ∙ same_flag (a.is_avc || a.format.numbered) (b.is_avc || b.format.numbered) setting ∙ or_none b.is_avc b.format.numbered also)
-    (same_run a.run b.run runs)
-
--- and with those that write no AVC form
-pub same_numbered : (a b : Receiver) → a.format ≡ b.format → a.is_avc ≡ false → b.is_avc ≡ false → receiver_meaning a ≡ receiver_meaning b → a ≡ b
-same_numbered a b format no_avc also same =
-    let runs : runs_of a.run ≡ runs_of b.run = cc in
-    same_parts a b format (no_avc ∙ sym also) (same_run a.run b.run runs)
+    same_parts a b format (one_form a.format a.is_avc b.is_avc (rw (← format) at setting)) (same_run a.run b.run runs)

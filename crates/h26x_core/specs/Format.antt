@@ -18,7 +18,8 @@ pub record Format : Type 0 where
   pub sized : Bool
   -- the bytes of a unit's header
   pub header_len : ℕ
-  -- whether packets bear decoding order numbers
+  -- whether packets may bear decoding order numbers, and whether they do
+  pub may_bear_donl : Bool
   pub numbered : Bool
   -- whether parameter sets fit one packet
   pub sets_fit : ℕ → List (List ℕ) → Bool

@@ -1,11 +1,12 @@
 -- A depacketizer of any codec: what packets bring where it has any run open, and what stands after
 -- them.
-use Rattle.std.specs.Prelude.{◌≡◌, ℕ, Bool, false, List, [], ◌∷◌, ◌++◌, map, if◌then◌else◌, Option, Some, None, ◌||◌, Result, Err, is_ok, ◌⊎◌}
+use Rattle.std.specs.Prelude.{◌≡◌, ℕ, ◌+◌, Bool, false, List, [], ◌∷◌, ◌++◌, map, if◌then◌else◌, Option, Some, None, Result, Err, is_ok, ◌⊎◌}
 use Rattle.std.specs.List.{list_any}
 use Rattle.h26x_core.specs.declared.extra.CodecExtra.{CodecExtra}
 use Rattle.h26x_core.specs.declared.error.PacketError.{PacketError}
 use Rattle.h26x_core.specs.declared.error.PacketError.TheVariants.{OutOfMemory}
 use Rattle.h26x_core.specs.Text.{text}
+use Rattle.h26x_core.specs.Word.{flag}
 use Rattle.h26x_core.specs.Reading.{Reading}
 use Rattle.h26x_core.specs.Format.{Format}
 use Rattle.h26x_core.specs.Received.{run_after, units_with}
@@ -24,7 +25,7 @@ abbrev pub run_from : Option (List ℕ) → List Reading → Option (List ℕ)
 run_from run [] = run
 run_from run (reading ∷ readings) = run_from (run_after run reading) readings
 
--- a depacketizer: its format, its setting, and the data of its open run
+-- a depacketizer: its format, whether it writes AVC form, and the data of its open run
 pub record Receiver : Type 0 where
   pub format : Format
   pub is_avc : Bool
@@ -35,10 +36,14 @@ abbrev pub runs_of : Option (List ℕ) → List (List ℕ)
 runs_of None = []
 runs_of (Some run) = run ∷ []
 
--- what later answers depend on: one byte for the setting, AVC form or numbers, and the data of the
--- open run if there is one
+-- the setting as one byte: AVC form, or where packets may bear numbers whether they do, and 2 more
+-- in AVC form
+abbrev pub setting_byte : Format → Bool → ℕ
+setting_byte f avc = if f.may_bear_donl then flag f.numbered 1 + flag avc 2 else flag avc 1
+
+-- what later answers depend on: the setting, and the data of the open run if there is one
 abbrev pub receiver_meaning : Receiver → List (List ℕ)
-receiver_meaning r = (if r.is_avc || r.format.numbered then 1 ∷ [] else 0 ∷ []) ∷ runs_of r.run
+receiver_meaning r = (setting_byte r.format r.is_avc ∷ []) ∷ runs_of r.run
 
 -- the units that packets bring to it
 abbrev pub brought : Receiver → List (List ℕ) → List (List ℕ)
@@ -49,6 +54,10 @@ pub record Work : Type 0 where
   pub receiver : Receiver
   pub out : List ℕ
   pub extra : CodecExtra
+
+-- a depacketizer at work
+abbrev pub at_work : Receiver → List ℕ → CodecExtra → Work
+at_work r out extra = record { receiver = r; out = out; extra = extra }
 
 -- what stands after packets that were accepted
 abbrev pub work_after : Work → List (List ℕ) → Work

@@ -239,10 +239,7 @@ pub fn equal_meanings_are_equal_states()
     ensures senders { (a b : Sender) → a.format ≡ b.format → a.format.kind [] ≡ Skipped →
         IsSender a → IsSender b →
         sender_meaning a ≡ sender_meaning b → IsSameSender a b }
-    ensures receivers { (a b : Receiver) → a.format ≡ b.format → a.format.numbered ≡ false →
-        receiver_meaning a ≡ receiver_meaning b → a ≡ b }
-    ensures numbered { (a b : Receiver) → a.format ≡ b.format → a.is_avc ≡ false →
-        b.is_avc ≡ false →
+    ensures receivers { (a b : Receiver) → a.format ≡ b.format →
         receiver_meaning a ≡ receiver_meaning b → a ≡ b }
 {}
 

@@ -8,17 +8,15 @@ use Rattle.h26x_core.specs.Group.{Entry}
 use Rattle.h26x_core.specs.Calls.{entries_of_call}
 use Rattle.h26x_core.specs.Sender.{Sender}
 use Rattle.h26x_core.specs.Receiver.{Receiver}
+use Rattle.h26x_payload.specs.Receiving.{receiver}
 use Rattle.h26x_payload.specs.Held.{sender}
 use Rattle.h264_payload.specs.H264.{h264}
-use Rattle.h264_payload.specs.Depacketizer as h264_end
 use Rattle.h265_payload.specs.Setting as h265_setting
 use Rattle.h265_payload.specs.Depacketizer as h265_end
-use Rattle.h265_packets.specs.Equality.{payload_eq}
 use Rattle.h265_packets.specs.Payload.{empty_single}
 use Rattle.h265_packets.specs.declared.payload.H265Payload.TheVariants as p
 use Rattle.h265_payload.specs.Shown.{shown}
 use Rattle.h266_payload.specs.Setting as h266_setting
-use Rattle.h266_payload.specs.Depacketizer as h266_end
 use Rattle.h26x_codec.specs.Codec.{call_by}
 use Rattle.h26x_codec.specs.declared.codec.Codec.{Codec}
 use Rattle.h26x_codec.specs.declared.codec.Codec.TheVariants as c
@@ -56,12 +54,12 @@ resized n (s.H266 it) = s.H266 (record it { largest = n })
 abbrev pub entries_given : Sender → ℕ → List ℕ → List Entry
 entries_given it mtu payload = entries_of_call it.format (call_by it mtu payload)
 
--- the depacketizer of a codec, which writes in AVC form or behind start codes; H.264 alone has that
--- form
-abbrev pub receiver_in : Bool → CodecReceiver → Option Receiver
-receiver_in is_avc (r.H264 it) = Some (record (h264_end.receiver it) { is_avc = is_avc })
-receiver_in is_avc (r.H265 it) = if is_avc then None else Some (h265_end.receiver it)
-receiver_in is_avc (r.H266 it) = if is_avc then None else Some (h266_end.receiver it)
+-- the depacketizer of a codec, which writes units behind lengths or behind start codes
+abbrev pub receiver_in : Bool → CodecReceiver → Receiver
+receiver_in is_avc (r.H264 it) = receiver h264 (record it { is_avc = is_avc })
+receiver_in is_avc (r.H265 it) = h265_end.receiver (record it { is_avc = is_avc })
+receiver_in is_avc (r.H266 it) = receiver (h266_setting.format_with it.codec)
+    (record it { is_avc = is_avc })
 
 abbrev pub codec_received : CodecReceiver → Codec
 codec_received (r.H264 it) = c.H264
@@ -71,8 +69,8 @@ codec_received (r.H266 it) = c.H266
 -- a depacketizer that reads numbers or not; that of H.264 reads none
 abbrev pub rereading : Bool → CodecReceiver → CodecReceiver
 rereading numbers (r.H264 it) = r.H264 it
-rereading numbers (r.H265 it) = r.H265 (record it { is_numbered = numbers })
-rereading numbers (r.H266 it) = r.H266 (record it { is_numbered = numbers })
+rereading numbers (r.H265 it) = r.H265 (record it { codec = h265_setting.setting numbers })
+rereading numbers (r.H266 it) = r.H266 (record it { codec = h266_setting.setting numbers })
 
 -- a depacketizer without its open run
 abbrev pub closed : CodecReceiver → CodecReceiver
@@ -82,18 +80,23 @@ closed (r.H266 it) = r.H266 (record it { run = None })
 
 -- a new depacketizer, which reads numbers where its codec has them
 abbrev pub fresh_received : Codec → Bool → CodecReceiver
-fresh_received c.H264 numbers = r.H264 (record { is_avc = false; run = None })
+fresh_received c.H264 numbers = r.H264 (record { codec = record {}; is_avc = false; run = None })
 fresh_received c.H265 numbers = r.H265 (record {
-  is_numbered = numbers;
+  codec = h265_setting.setting numbers;
+  is_avc = false;
   run = None;
   payload = p.H265SingleNALUnitPacket empty_single;
 })
-fresh_received c.H266 numbers = r.H266 (record { is_numbered = numbers; run = None })
+fresh_received c.H266 numbers = r.H266 (record {
+  codec = h266_setting.setting numbers;
+  is_avc = false;
+  run = None;
+})
 
 -- a depacketizer that shows a packet, where its codec shows packets
 abbrev pub showing : List ℕ → CodecReceiver → CodecReceiver
 showing packet (r.H264 it) = r.H264 it
-showing packet (r.H265 it) = r.H265 (record it { payload = shown it.is_numbered packet })
+showing packet (r.H265 it) = r.H265 (record it { payload = shown it.codec.numbered packet })
 showing packet (r.H266 it) = r.H266 it
 
 -- the packetizer at an end
@@ -106,10 +109,10 @@ abbrev pub packets_at : End → List (List ℕ)
 packets_at (e.Sending it) = it.packets
 packets_at (e.Receiving it) = []
 
--- the depacketizer at an end, for this form
+-- the depacketizer at an end, which writes lengths or start codes
 abbrev pub receiver_at : Bool → End → Option Receiver
 receiver_at is_avc (e.Sending it) = None
-receiver_at is_avc (e.Receiving it) = receiver_in is_avc it.receiver
+receiver_at is_avc (e.Receiving it) = Some (receiver_in is_avc it.receiver)
 
 -- what its last accepted packet completed
 abbrev pub written_at : End → List ℕ
@@ -167,10 +170,9 @@ fresh_end codec numbers = e.Receiving (record {
 -- whether two depacketizers are of one codec, and equal
 abbrev pub is_same : CodecReceiver → CodecReceiver → Bool
 is_same (r.H264 a) (r.H264 b) = beq a.is_avc b.is_avc && option_eq (pointwise nat_eq) a.run b.run
-is_same (r.H265 a) (r.H265 b) = beq a.is_numbered b.is_numbered
-    && option_eq (pointwise nat_eq) a.run b.run && payload_eq a.payload b.payload
-is_same (r.H266 a) (r.H266 b) = beq a.is_numbered b.is_numbered
-    && option_eq (pointwise nat_eq) a.run b.run
+is_same (r.H265 a) (r.H265 b) = h265_end.depacketizer_eq a b
+is_same (r.H266 a) (r.H266 b) = beq a.codec.numbered b.codec.numbered && (beq a.is_avc b.is_avc
+    && option_eq (pointwise nat_eq) a.run b.run)
 is_same a b = false
 
 -- whether two ends are depacketizers that are the same

@@ -1,8 +1,7 @@
 //! A depacketizer, and what its last accepted packet completed.
 
 ghost use Rattle.std.specs.Prelude.{◌≡◌, [], ◌∷◌, Some, Err, IfOk, OnOk, OnErr};
-ghost use Rattle.h26x_core.specs.Receiver.{Receiver, work_after, IsOutcomeAt};
-ghost use Rattle.h26x_codec.specs.Codec.{at_work};
+ghost use Rattle.h26x_core.specs.Receiver.{Receiver, work_after, IsOutcomeAt, at_work};
 ghost use Rattle.h26x_ends.specs.Ends.{receiver_in, closed, fresh_received, showing};
 
 use crate::receiver::CodecReceiver;
@@ -56,24 +55,18 @@ impl Inbox {
         })
     }
 
-    /// Takes a packet, and keeps what it completes.
+    /// Takes a packet, and keeps what it completes, behind lengths or behind start codes.
     pub fn depacketize(
         &mut self,
         is_avc: bool,
         packet: &[u8],
         extra: &mut CodecExtra,
     ) -> Result<(), PacketError>
-        ensures outcome { (it : Receiver) → receiver_in is_avc self.old.receiver ≡ Some it →
-            IsOutcomeAt (at_work it [] extra.old) packet.now result }
-        ensures run { (it : Receiver) → receiver_in is_avc self.old.receiver ≡ Some it →
-            OnOk result (receiver_in is_avc self.new.receiver ≡ Some (work_after
-            (at_work it [] extra.old) (packet.now ∷ [])).receiver) }
-        ensures written { (it : Receiver) → receiver_in is_avc self.old.receiver ≡ Some it →
-            OnOk result (self.new.written ≡ (work_after (at_work it [] extra.old)
-            (packet.now ∷ [])).out) }
-        ensures extra { (it : Receiver) → receiver_in is_avc self.old.receiver ≡ Some it →
-            OnOk result (extra.new ≡ (work_after (at_work it [] extra.old)
-            (packet.now ∷ [])).extra) }
+        ensures outcome { IsOutcomeAt (at_work (receiver_in is_avc self.old.receiver) [] extra.old)
+            packet.now result }
+        ensures taken { OnOk result (at_work (receiver_in is_avc self.new.receiver) self.new.written
+            extra.new ≡ work_after (at_work (receiver_in is_avc self.old.receiver) [] extra.old)
+            (packet.now ∷ [])) }
         ensures rest { OnOk result (closed self.new.receiver
             ≡ closed (showing packet.now self.old.receiver)) }
         ensures kept { OnErr result (self.new ≡ self.old) }

@@ -2,14 +2,16 @@
 
 ghost use Rattle.std.specs.Prelude.{◌≡◌, [], ◌∷◌, false, Some, None, Err, IfOk, OnOk, OnErr};
 ghost use Rattle.std.specs.Option.{option_map};
-ghost use Rattle.h26x_core.specs.Receiver.{Receiver, work_after, IsOutcomeAt};
-ghost use Rattle.h26x_codec.specs.Codec.{at_work};
-ghost use Rattle.h264_payload.specs.Depacketizer as h264_end;
+ghost use Rattle.h26x_core.specs.Receiver.{Receiver, work_after, IsOutcomeAt, at_work};
+ghost use Rattle.h26x_payload.specs.Receiving.{work};
+ghost use Rattle.h265_payload.specs.Depacketizer as h265_end;
+ghost use Rattle.h265_payload.specs.Shown.{shown};
 ghost use Rattle.h26x_ends.specs.Ends.{receiver_in, codec_received, rereading, closed, is_same, fresh_received, showing};
 ghost use Rattle.h26x_ends.specs.Shown.{shown_in};
 
 use h26x_codec::Codec;
 use h26x_core::{CodecExtra, Depacketizer, PacketError};
+use h26x_payload::{PacketReader, PayloadDepacketizer};
 use h264_payload::H264Depacketizer;
 use h265_packets::H265Payload;
 use h265_payload::H265Depacketizer;
@@ -105,8 +107,8 @@ impl CodecReceiver {
         }
     }
 
-    /// Takes a packet, and writes in AVC form or behind start codes. H.264 alone has that form;
-    /// the others write start codes whatever `is_avc` is.
+    /// Takes a packet, and writes units behind lengths or behind start codes. The setting of the
+    /// depacketizer itself counts for nothing, and stays.
     pub fn depacketize(
         &mut self,
         is_avc: bool,
@@ -114,49 +116,71 @@ impl CodecReceiver {
         out: &mut Vec<u8>,
         extra: &mut CodecExtra,
     ) -> Result<(), PacketError>
-        ensures outcome { (it : Receiver) → receiver_in is_avc self.old ≡ Some it →
-            IsOutcomeAt (at_work it out.old.items extra.old) packet.now result }
-        ensures run { (it : Receiver) → receiver_in is_avc self.old ≡ Some it →
-            OnOk result (receiver_in is_avc self.new ≡ Some (work_after
-            (at_work it out.old.items extra.old) (packet.now ∷ [])).receiver) }
-        ensures out { (it : Receiver) → receiver_in is_avc self.old ≡ Some it →
-            OnOk result (out.new.items ≡ (work_after (at_work it out.old.items extra.old)
-            (packet.now ∷ [])).out) }
-        ensures extra { (it : Receiver) → receiver_in is_avc self.old ≡ Some it →
-            OnOk result (extra.new ≡ (work_after (at_work it out.old.items extra.old)
-            (packet.now ∷ [])).extra) }
+        ensures outcome { IsOutcomeAt (at_work (receiver_in is_avc self.old) out.old.items
+            extra.old) packet.now result }
+        ensures taken { OnOk result (at_work (receiver_in is_avc self.new) out.new.items extra.new
+            ≡ work_after (at_work (receiver_in is_avc self.old) out.old.items extra.old)
+            (packet.now ∷ [])) }
         ensures rest { OnOk result (closed self.new ≡ closed (showing packet.now self.old)) }
         ensures kept { OnErr result (self.new ≡ self.old) }
+        ensures kept_out { OnErr result (out.new.items ≡ out.old.items) }
         ensures kept_extra { OnErr result (extra.new ≡ extra.old) }
     {
         match self {
-            CodecReceiver::H264(it) => take_h264(it, is_avc, packet, out, extra),
-            CodecReceiver::H265(it) => it.depacketize(packet, out, extra),
-            CodecReceiver::H266(it) => it.depacketize(packet, out, extra),
+            CodecReceiver::H264(it) => take(it, is_avc, packet, out, extra),
+            CodecReceiver::H265(it) => take_h265(it, is_avc, packet, out, extra),
+            CodecReceiver::H266(it) => take(it, is_avc, packet, out, extra),
         }
     }
 }
 
-/// Takes a packet in this form; the setting of the depacketizer itself stays.
-fn take_h264(
-    it: &mut H264Depacketizer,
+/// Takes a packet, and writes units behind lengths or behind start codes; the setting stays.
+fn take<C: PacketReader>(
+    it: &mut PayloadDepacketizer<C>,
     is_avc: bool,
     packet: &[u8],
     out: &mut Vec<u8>,
     extra: &mut CodecExtra,
 ) -> Result<(), PacketError>
-    ensures outcome { IsOutcomeAt (at_work (record (h264_end.receiver it.old) { is_avc = is_avc })
+    ensures outcome { IsOutcomeAt (work (C.format it.old.codec) (record it.old { is_avc = is_avc })
         out.old.items extra.old) packet.now result }
-    ensures taken { OnOk result (at_work (record (h264_end.receiver it.new) { is_avc = is_avc })
-        out.new.items extra.new ≡ work_after (at_work (record (h264_end.receiver it.old)
-        { is_avc = is_avc }) out.old.items extra.old) (packet.now ∷ [])) }
-    ensures form { it.new.is_avc ≡ it.old.is_avc }
+    ensures taken { OnOk result (work (C.format it.new.codec) (record it.new { is_avc = is_avc })
+        out.new.items extra.new ≡ work_after (work (C.format it.old.codec)
+        (record it.old { is_avc = is_avc }) out.old.items extra.old) (packet.now ∷ [])) }
+    ensures setting { it.new ≡ record it.old { run = it.new.run } }
     ensures kept { OnErr result (it.new ≡ it.old) }
+    ensures kept_out { OnErr result (out.new.items ≡ out.old.items) }
     ensures kept_extra { OnErr result (extra.new ≡ extra.old) }
 {
     let setting = it.is_avc;
     it.is_avc = is_avc;
     let outcome = it.depacketize(packet, out, extra);
     it.is_avc = setting;
+    outcome
+}
+
+/// The same for H.265, which shows the packet too.
+fn take_h265(
+    it: &mut H265Depacketizer,
+    is_avc: bool,
+    packet: &[u8],
+    out: &mut Vec<u8>,
+    extra: &mut CodecExtra,
+) -> Result<(), PacketError>
+    ensures outcome { IsOutcomeAt (h265_end.work (record it.old { is_avc = is_avc }) out.old.items
+        extra.old) packet.now result }
+    ensures taken { OnOk result (h265_end.work (record it.new { is_avc = is_avc }) out.new.items
+        extra.new ≡ work_after (h265_end.work (record it.old { is_avc = is_avc }) out.old.items
+        extra.old) (packet.now ∷ [])) }
+    ensures setting { it.new ≡ record it.old { run = it.new.run; payload = it.new.payload } }
+    ensures shows { OnOk result (it.new.payload ≡ shown it.old.codec.numbered packet.now) }
+    ensures kept { OnErr result (it.new ≡ it.old) }
+    ensures kept_out { OnErr result (out.new.items ≡ out.old.items) }
+    ensures kept_extra { OnErr result (extra.new ≡ extra.old) }
+{
+    let before = it.is_avc;
+    it.is_avc = is_avc;
+    let outcome = it.depacketize(packet, out, extra);
+    it.is_avc = before;
     outcome
 }

@@ -24,7 +24,8 @@ pub fn set_numbers(
     }
 }
 
-/// Has units written in AVC form or behind start codes. H.264 has the AVC form.
+/// Has units of H.264 written behind their lengths, in AVC form, or behind start codes; no line
+/// sets that for another codec.
 pub fn set_avc(depacketizer: &mut CodecDepacketizer, is_on: bool) -> bool {
     match depacketizer {
         CodecDepacketizer::H264(depacketizer) => {

@@ -39,18 +39,6 @@ pub aggregate_outcome : (avc : Bool) (run : Option (List ℕ)) (reading : Readin
     reading ≡ Aggregate pairs → map (λ (u : List ℕ × Option ℕ). u.0) pairs ≡ units → (avc && list_any is_too_long units) ≡ false → (outcome ≡ Ok tt) ⊎ (outcome ≡ Err OutOfMemory) → IsOutcomeWith avc run reading outcome
 aggregate_outcome avc run reading pairs units outcome is same short either = rw (is, same, short) either
 
--- and what stands then, where its units are written and told
-pub aggregate_taken : (w : Work) (packet : List ℕ) (pairs : List (List ℕ × Option ℕ)) (units : List (List ℕ)) (outcome : Result (Unit {0}) PacketError) (out : List ℕ) (extra : CodecExtra) →
-    w.receiver.format.read packet ≡ Aggregate pairs → map (λ (u : List ℕ × Option ℕ). u.0) pairs ≡ units →
-    OnOk outcome (out ≡ w.out ++ text w.receiver.is_avc units) → OnOk outcome (extra ≡ extra_after w.receiver.format w.extra units) →
-    OnOk outcome (with_run w w.receiver.run out extra ≡ work_after w (packet ∷ []))
-aggregate_taken w packet pairs units (Err e) out extra is same written told = tt
-aggregate_taken w packet pairs units (Ok v) out extra is same written told =
-    let brings : units ≡ units_with w.receiver.run (w.receiver.format.read packet) = rw is (sym same) in
-    after_one w packet w.receiver.run out extra (rw is refl)
-    (written ∙ ap (λ (us : List (List ℕ)). w.out ++ text w.receiver.is_avc us) brings)
-    (told ∙ ap (extra_after w.receiver.format w.extra) brings)
-
 -- numbers put beside units and left out again
 pub units_only : (units : List (List ℕ)) → map (λ (u : List ℕ × Option ℕ). u.0) (map unnumbered units) ≡ units
 units_only [] = refl

@@ -12,8 +12,8 @@ use Rattle.h26x_payload.specs.declared.packetizer.Brought.{Brought}
 use Rattle.h26x_payload.specs.declared.sets.Sets.{Sets}
 use Rattle.h26x_payload.specs.declared.units.Due.{Due}
 use Rattle.h26x_payload.specs.declared.units.Due.TheVariants as d
-use Rattle.h26x_payload.specs.declared.codec.UnitKind.{UnitKind}
-use Rattle.h26x_payload.specs.declared.codec.UnitKind.TheVariants as k
+use Rattle.h26x_payload.specs.declared.format.UnitKind.{UnitKind}
+use Rattle.h26x_payload.specs.declared.format.UnitKind.TheVariants as k
 
 -- the bytes of each packet of a list
 abbrev pub contents : {A : Type 0} → List (Vec ℕ A) → List (List ℕ)

@@ -6,30 +6,31 @@ ghost use Rattle.h26x_core.specs.Text.{text};
 ghost use Rattle.h26x_core.specs.Extra.{extra_after};
 ghost use Rattle.h26x_core.specs.Outcome.{is_too_long};
 ghost use Rattle.h26x_core.specs.Pieces.{pieces_of};
-ghost use Rattle.h26x_payload.specs.Run.{written_len};
+ghost use Rattle.h26x_payload.specs.Run.{AreOfSize};
 
-use crate::codec::Codec;
 use crate::extra::told;
-use crate::text::{LEAD_SIZE, write_unit};
+use crate::format::PayloadFormat;
+use crate::text::{LEAD_SIZE, put_unit};
 use h26x_core::{CodecExtra, PacketError, first_piece};
 
 /// A codec's aggregates: how units stand behind each other (RFC 6184, 5.7.1; RFC 7798, 4.4.2; RFC
 /// 9328, 4.3.2).
-pub trait Aggregate: Codec {
+pub trait Aggregate: PayloadFormat {
     ghost units: { Self → List ℕ → List (List ℕ) };
 
     /// The first unit of bytes, and what stands behind it.
     fn first_unit(self, bytes: &[u8]) -> Option<(&[u8], &[u8])>
         ensures first { IfSome result (λ it. units self bytes.now ≡ it.0.now ∷
             units self it.1.now) }
+        ensures short { IfSome result (λ it. is_too_long it.0.now ≡ false) }
         ensures less { IfSome result (λ it. length it.1.now < length bytes.now) }
         ensures none { result ≡ None → units self bytes.now ≡ [] };
 }
 
 /// How many bytes the units of an aggregate take where they are written, at most `usize::MAX` (RFC
-/// 6184, 5.7.1; RFC 7798, 4.4.2; RFC 9328, 4.3.2).
+/// 6184, 5.7.1; RFC 7798, 4.4.2; RFC 9328, 4.3.2). None of them is too long for an AVC length.
 pub fn written_size<A: Aggregate>(codec: A, bytes: &[u8]) -> usize
-    ensures { result ≡ min (written_len (A.units codec bytes.now)) (2 ^ 64 - 1) }
+    ensures { AreOfSize (A.units codec bytes.now) result }
 {
     let mut size: usize = 0;
     let mut rest = bytes;
@@ -40,18 +41,17 @@ pub fn written_size<A: Aggregate>(codec: A, bytes: &[u8]) -> usize
     size
 }
 
-/// Appends the units of an aggregate, which take so many bytes, and tells of them (RFC 6184, 5.7.1;
+/// Writes the units of an aggregate, which take so many bytes, and tells of them (RFC 6184, 5.7.1;
 /// RFC 7798, 4.4.2; RFC 9328, 4.3.2).
-pub fn append_units<A: Aggregate>(
+pub fn write_units<A: Aggregate>(
     codec: A,
     is_avc: bool,
     bytes: &[u8],
-    len: usize,
+    size: usize,
     out: &mut Vec<u8>,
     codec_extra: &mut CodecExtra,
 ) -> Result<(), PacketError>
-    requires short { (is_avc && list_any is_too_long (A.units codec bytes.now)) ≡ false }
-    requires room { len ≡ min (written_len (A.units codec bytes.now)) (2 ^ 64 - 1) }
+    requires { AreOfSize (A.units codec bytes.now) size }
     ensures outcome { (result ≡ Ok tt) ⊎ (result ≡ Err PacketError.OutOfMemory) }
     ensures written { OnOk result (out.new.items ≡ out.old.items
         ++ text is_avc (A.units codec bytes.now)) }
@@ -60,14 +60,14 @@ pub fn append_units<A: Aggregate>(
     ensures kept { OnErr result (out.new.items ≡ out.old.items) }
     ensures kept_extra { OnErr result (codec_extra.new ≡ codec_extra.old) }
 {
-    out.reserve(len)?;
+    out.reserve(size)?;
     let mut counts = false;
     let mut key = false;
     let mut rest = bytes;
     while let Some((unit, behind)) = codec.first_unit(rest) {
         counts |= unit.len() >= codec.header_len();
         key |= codec.is_key(unit);
-        write_unit(is_avc, unit, out);
+        put_unit(is_avc, unit, out);
         rest = behind;
     }
     if counts {
@@ -78,7 +78,7 @@ pub fn append_units<A: Aggregate>(
 
 /// Whether a key unit stands in bytes behind its length, before the first unit that is not whole or
 /// that has no whole header (str0m's rule for RFC 7798, 4.4.2, and RFC 9328, 4.3.2).
-pub fn holds_key<C: Codec>(codec: C, bytes: &[u8]) -> bool
+pub fn holds_key<C: PayloadFormat>(codec: C, bytes: &[u8]) -> bool
     ensures { result ≡ list_any (C.format codec).is_key
         (take_while (λ unit. nat_le (C.format codec).header_len (length unit))
         (pieces_of bytes.now).whole) }

@@ -3,11 +3,11 @@
 ghost use Rattle.std.specs.Prelude.{◌≡◌, ◌||◌, Some};
 ghost use Rattle.h26x_core.specs.Hint.{size_hint};
 
-use crate::codec::Codec;
+use crate::format::PayloadFormat;
 use h26x_core::CodecExtra;
 
 /// The extra after units, with a key unit among them or not.
-pub fn told<C: Codec>(codec: C, extra: CodecExtra, key: bool) -> CodecExtra
+pub fn told<C: PayloadFormat>(codec: C, extra: CodecExtra, key: bool) -> CodecExtra
     ensures { result ≡ (C.format codec).extra (key || (C.format codec).has_key extra) }
 {
     codec.extra(key || codec.has_key(extra))

@@ -1,16 +1,17 @@
 //! Fragments as a depacketizer takes them (RFC 6184, 5.8; RFC 7798, 4.4.3; RFC 9328, 4.3.3).
 
-ghost use Rattle.std.specs.Prelude.{◌≡◌, ◌++◌, ℕ, List, length, false, None, OnOk, OnErr, IsOk};
+ghost use Rattle.std.specs.Prelude.{◌≡◌, ◌&&◌, ◌++◌, ℕ, List, length, false, None, OnOk, OnErr, IsOk};
+ghost use Rattle.std.specs.List.{list_any};
 ghost use Rattle.h26x_core.specs.Text.{text};
 ghost use Rattle.h26x_core.specs.Extra.{extra_after};
 ghost use Rattle.h26x_core.specs.Received.{units_with, run_after};
-ghost use Rattle.h26x_core.specs.Outcome.{IsOutcomeWith};
-ghost use Rattle.h26x_payload.specs.Run.{reading_of};
+ghost use Rattle.h26x_core.specs.Outcome.{is_too_long};
+ghost use Rattle.h26x_payload.specs.Run.{header_bytes, reading_of, IsWriteOutcome};
 
-use crate::codec::Codec;
 use crate::extra::told;
+use crate::format::PayloadFormat;
 use crate::run::OpenRun;
-use crate::text::append_parts;
+use crate::text::write_parts;
 use h26x_core::{CodecExtra, PacketError};
 
 /// A fragment of a unit (RFC 6184, 5.8; RFC 7798, 4.4.3; RFC 9328, 4.3.3).
@@ -20,16 +21,16 @@ pub struct Fragment<'a> {
     pub start: bool,
     /// Whether it is the last.
     pub end: bool,
-    /// The header that its unit has.
-    pub head: &'a [u8],
+    /// The header that its unit has: as many of these bytes as the codec's headers have.
+    pub head: [u8; 2],
     /// Its data.
     pub body: &'a [u8],
 }
 
 /// Takes a fragment: a start begins a run anew, another is added to the open run, an end closes it
-/// and appends its unit (RFC 6184, 5.8; RFC 7798, 4.4.3; RFC 9328, 4.3.3). One that doesn't start
+/// and writes its unit (RFC 6184, 5.8; RFC 7798, 4.4.3; RFC 9328, 4.3.3). One that doesn't start
 /// while no run is open does nothing, and takes no memory.
-pub fn take_fragment<C: Codec>(
+pub fn take_fragment<C: PayloadFormat>(
     codec: C,
     is_avc: bool,
     fragment: Fragment<'_>,
@@ -37,13 +38,16 @@ pub fn take_fragment<C: Codec>(
     out: &mut Vec<u8>,
     codec_extra: &mut CodecExtra,
 ) -> Result<(), PacketError>
-    requires whole { length fragment.head.now ≡ (C.format codec).header_len }
-    ensures outcome { IsOutcomeWith is_avc run.old (reading_of fragment.entry) result }
+    requires { length (header_bytes (C.format codec) fragment.head)
+        ≡ (C.format codec).header_len }
+    ensures outcome { IsWriteOutcome (is_avc && list_any is_too_long (units_with run.old
+        (reading_of (C.format codec) fragment.entry))) result }
     ensures written { OnOk result (out.new.items ≡ out.old.items
-        ++ text is_avc (units_with run.old (reading_of fragment.entry))) }
+        ++ text is_avc (units_with run.old (reading_of (C.format codec) fragment.entry))) }
     ensures told { OnOk result (codec_extra.new ≡ extra_after (C.format codec) codec_extra.old
-        (units_with run.old (reading_of fragment.entry))) }
-    ensures run { OnOk result (run.new ≡ run_after run.old (reading_of fragment.entry)) }
+        (units_with run.old (reading_of (C.format codec) fragment.entry))) }
+    ensures run { OnOk result (run.new
+        ≡ run_after run.old (reading_of (C.format codec) fragment.entry)) }
     ensures kept { OnErr result (out.new.items ≡ out.old.items) }
     ensures kept_extra { OnErr result (codec_extra.new ≡ codec_extra.old) }
     ensures kept_run { OnErr result (run.new ≡ run.old) }
@@ -53,9 +57,10 @@ pub fn take_fragment<C: Codec>(
         return Ok(());
     }
     if fragment.end {
+        let head = &fragment.head[..codec.header_len()];
         let data = if fragment.start { &[] } else { run.bytes() };
-        append_parts(is_avc, fragment.head, data, fragment.body, out)?;
-        *codec_extra = told(codec, *codec_extra, codec.is_key(fragment.head));
+        write_parts(is_avc, head, data, fragment.body, out)?;
+        *codec_extra = told(codec, *codec_extra, codec.is_key(head));
         run.close();
     } else if fragment.start {
         run.begin(fragment.body)?;

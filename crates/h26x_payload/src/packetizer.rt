@@ -9,9 +9,9 @@ ghost use Rattle.h26x_core.specs.Sender.{packets_by, is_skipped_kind, are_skippe
 ghost use Rattle.h26x_payload.specs.Sending.{contents, IsSent, listed, newest, waiting_with, items_due, is_nothing};
 ghost use Rattle.h26x_payload.specs.Held.{IsHeld, sender, fresh_with, call_of, entries_with, held_after};
 
-use crate::codec::{Codec, NumberedCodec, UnitKind};
+use crate::format::{DonlFormat, PayloadFormat, UnitKind};
 use crate::sets::Sets;
-use crate::units::{Due, append_due};
+use crate::units::{Due, push_due};
 use h26x_core::{PacketError, Packetizer, laws};
 use std::alloc::Global;
 use std::marker::Model;
@@ -33,7 +33,7 @@ pub struct Brought<'a> {
 /// A unit that fits goes alone, a longer one in fragments. Parameter sets wait, each the latest of
 /// its kind, and go before the next other unit once there are an SPS and a PPS.
 #[derive(Debug, Drop)]
-pub struct PayloadPacketizer<C: Codec> {
+pub struct PayloadPacketizer<C: PayloadFormat> {
     codec: C,
     vps: Option<Vec<u8>>,
     sps: Option<Vec<u8>>,
@@ -43,7 +43,7 @@ pub struct PayloadPacketizer<C: Codec> {
     alloc: Global,
 }
 
-impl<C: Codec> Model for PayloadPacketizer<C> {
+impl<C: PayloadFormat> Model for PayloadPacketizer<C> {
     ghost use Rattle.std.specs.Option.{option_map};
     ghost use Rattle.h26x_payload.specs.Held.{Held, IsHeld, held, sender};
 
@@ -106,7 +106,7 @@ fn replace_set(set: &mut Option<Vec<u8>>, taken: bool, brought: Option<Vec<u8>>)
     }
 }
 
-impl<C: Codec> PayloadPacketizer<C> {
+impl<C: PayloadFormat> PayloadPacketizer<C> {
     /// A packetizer for which nothing waits; its memory comes from `alloc`.
     pub fn new(alloc: Global) -> Self
         ensures { result ≡ fresh_with C.fresh }
@@ -209,7 +209,7 @@ impl<C: Codec> PayloadPacketizer<C> {
     }
 
     /// Appends the packets of a payload, and tells what it brought and the next number.
-    fn append_payload<'a>(
+    fn push_payload<'a>(
         &'a self,
         limit: usize,
         b: &'a [u8],
@@ -237,22 +237,22 @@ impl<C: Codec> PayloadPacketizer<C> {
         let mut number = self.counter;
         for unit in self.codec.units_in(b) {
             let due = self.take_unit(unit, &mut brought);
-            number = append_due(self.codec, self.alloc, limit, number, unit, due, made)?;
+            number = push_due(self.codec, self.alloc, limit, number, unit, due, made)?;
         }
         Ok((brought, number))
     }
 }
 
-impl<C: NumberedCodec> PayloadPacketizer<C> {
+impl<C: DonlFormat> PayloadPacketizer<C> {
     /// Turns decoding order numbers on, which begin at 0, or off (RFC 7798, 4.6; RFC 9328, 4.4).
     /// Sets that wait stay.
     pub fn with_donl(&mut self, has_donl: bool)
         ensures { self.new ≡ record self.old {
-          codec = C.with_numbers_of self.old.codec has_donl;
+          codec = C.with_donl_of self.old.codec has_donl;
           counter = 0;
         } }
     {
-        self.codec = self.codec.with_numbers(has_donl);
+        self.codec = self.codec.with_donl(has_donl);
         self.counter = 0;
     }
 
@@ -266,7 +266,7 @@ impl<C: NumberedCodec> PayloadPacketizer<C> {
     }
 }
 
-impl<C: Codec> Packetizer for PayloadPacketizer<C> {
+impl<C: PayloadFormat> Packetizer for PayloadPacketizer<C> {
     ghost use Rattle.h26x_core.specs.Sender.{sender_meaning};
     ghost use Rattle.h26x_payload.specs.Held.{sender};
 
@@ -305,7 +305,7 @@ impl<C: Codec> Packetizer for PayloadPacketizer<C> {
             return Ok(Vec::new(self.alloc));
         }
         let mut made = Vec::new(self.alloc);
-        let (brought, counter) = self.append_payload(self.limit(mtu), b, &mut made)?;
+        let (brought, counter) = self.push_payload(self.limit(mtu), b, &mut made)?;
         let taken = brought.taken;
         let vps = copied(self.alloc, brought.vps)?;
         let sps = copied(self.alloc, brought.sps)?;

@@ -6,8 +6,8 @@ ghost use Rattle.h26x_core.specs.Plan.{Alone, fits, items_alone, items_of_sets};
 ghost use Rattle.h26x_core.specs.Packets.{single};
 ghost use Rattle.h26x_payload.specs.Sending.{contents, IsSent, listed, sets_in, is_nothing, items_due};
 
-use crate::codec::Codec;
-use crate::fragments::{append_fragments, borne, number_len};
+use crate::format::PayloadFormat;
+use crate::fragments::{borne, number_len, push_fragments};
 use crate::sets::Sets;
 use h26x_core::{PacketError, laws};
 use std::alloc::{AllocError, Global};
@@ -25,7 +25,7 @@ pub enum Due<'a> {
 }
 
 /// A unit with its number behind its header.
-fn single_of<C: Codec>(
+fn single_of<C: PayloadFormat>(
     codec: C,
     alloc: Global,
     number: u16,
@@ -47,7 +47,7 @@ fn single_of<C: Codec>(
 }
 
 /// Whether a unit and its number go in one packet.
-fn fits_one<C: Codec>(codec: C, limit: usize, unit: &[u8]) -> bool
+fn fits_one<C: PayloadFormat>(codec: C, limit: usize, unit: &[u8]) -> bool
     ensures { result ≡ fits (C.format codec) limit unit.now }
 {
     unit.len() + number_len(codec) <= limit
@@ -55,7 +55,7 @@ fn fits_one<C: Codec>(codec: C, limit: usize, unit: &[u8]) -> bool
 
 /// Appends the packets of one unit: itself, or its fragments; none where no fragment has room for
 /// data.
-fn append_unit<C: Codec>(
+fn push_unit<C: PayloadFormat>(
     codec: C,
     alloc: Global,
     limit: usize,
@@ -71,7 +71,7 @@ fn append_unit<C: Codec>(
     if fits_one(codec, limit, unit) {
         made.push(single_of(codec, alloc, number, unit)?)?;
     } else if limit > codec.header_len() + 1 + number_len(codec) {
-        append_fragments(codec, alloc, limit, number, unit, made)?;
+        push_fragments(codec, alloc, limit, number, unit, made)?;
     } else {
         return Ok(number);
     }
@@ -79,7 +79,7 @@ fn append_unit<C: Codec>(
 }
 
 /// Appends the packet of a set alone, if there is one and it fits.
-fn append_set<C: Codec>(
+fn push_set<C: PayloadFormat>(
     codec: C,
     alloc: Global,
     limit: usize,
@@ -102,7 +102,7 @@ fn append_set<C: Codec>(
 }
 
 /// Appends the packets of sets: one if they fit it, else each that fits alone.
-fn append_sets<C: Codec>(
+fn push_sets<C: PayloadFormat>(
     codec: C,
     alloc: Global,
     limit: usize,
@@ -121,9 +121,9 @@ fn append_sets<C: Codec>(
         made.push(codec.sets_packet(alloc, number, sets, unit)?)?;
         return Ok(number.wrapping_add(sets.count()));
     }
-    let second = append_set(codec, alloc, limit, number, sets.vps, made)?;
-    let third = append_set(codec, alloc, limit, second, Some(sets.sps), made)?;
-    append_set(codec, alloc, limit, third, Some(sets.pps), made)
+    let second = push_set(codec, alloc, limit, number, sets.vps, made)?;
+    let third = push_set(codec, alloc, limit, second, Some(sets.sps), made)?;
+    push_set(codec, alloc, limit, third, Some(sets.pps), made)
 }
 
 /// Reserves room for the first packets at once, so that a list of many grows seldom.
@@ -137,7 +137,7 @@ fn reserve_first(made: &mut Vec<Vec<u8>>) -> Result<(), AllocError>
 }
 
 /// Appends the packets of what goes when a unit comes.
-pub(crate) fn append_due<C: Codec>(
+pub(crate) fn push_due<C: PayloadFormat>(
     codec: C,
     alloc: Global,
     limit: usize,
@@ -158,12 +158,12 @@ pub(crate) fn append_due<C: Codec>(
         Due::Nothing => Ok(number),
         Due::Unit => {
             reserve_first(made)?;
-            append_unit(codec, alloc, limit, number, unit, made)
+            push_unit(codec, alloc, limit, number, unit, made)
         }
         Due::SetsAndUnit(sets) => {
             reserve_first(made)?;
-            let next = append_sets(codec, alloc, limit, number, sets, unit, made)?;
-            append_unit(codec, alloc, limit, next, unit, made)
+            let next = push_sets(codec, alloc, limit, number, sets, unit, made)?;
+            push_unit(codec, alloc, limit, next, unit, made)
         }
     }
 }

@@ -15,6 +15,7 @@ mod again;
 mod carry;
 mod constants;
 mod h264;
+mod lengths;
 mod take;
 
 /// What is told where a unit of H.264 is one of a keyframe.

@@ -7,7 +7,7 @@ use crate::packet::Depacketizer;
 use crate::shown::{H265Payload, shown};
 use crate::sys::{self, Refusal};
 
-/// The bytes before a unit: a start code, or its length in AVC form.
+/// The bytes before a unit: a start code, or its length.
 const BEFORE_UNIT: usize = 4;
 
 /// What the depacketizers of all codecs do.
@@ -86,14 +86,17 @@ impl Handle<Receiving> {
 }
 
 macro_rules! depacketizer {
-    ($(#[$doc:meta])* $name:ident, $codec:expr $(, $(#[$avc_doc:meta])* $avc:ident)?) => {
+    ($(#[$doc:meta])* $name:ident, $codec:expr) => {
         $(#[$doc])*
         ///
-        /// `clone` copies the setting and the open unit. It and `default` panic where the library
+        /// `clone` copies the settings and the open unit. It and `default` panic where the library
         /// has no memory.
         #[derive(Debug, Clone, PartialEq, Eq)]
         pub struct $name {
-            $($(#[$avc_doc])* pub $avc: bool,)?
+            /// Whether units are written behind lengths of four bytes, as MP4 files have them
+            /// (ISO/IEC 14496-15: `avc1`, `hvc1`, `vvc1`), and not behind start codes. False at
+            /// first.
+            pub is_avc: bool,
             handle: Handle<Receiving>,
         }
 
@@ -101,7 +104,10 @@ macro_rules! depacketizer {
         impl Default for $name {
             fn default() -> Self {
                 let handle = Handle::new($codec);
-                $name { $($avc: false,)? handle }
+                $name {
+                    is_avc: false,
+                    handle,
+                }
             }
         }
 
@@ -128,8 +134,8 @@ macro_rules! depacketizer {
                 out: &mut Vec<u8>,
                 codec_extra: &mut CodecExtra,
             ) -> Result<(), PacketError> {
-                let avc = false $(|| self.$avc)?;
-                self.handle.depacketize(avc, packet, out, codec_extra)
+                self.handle
+                    .depacketize(self.is_avc, packet, out, codec_extra)
             }
 
             fn is_partition_head(&self, packet: &[u8]) -> bool {
@@ -144,8 +150,8 @@ macro_rules! depacketizer {
 }
 
 depacketizer! {
-    /// Writes the NAL units of H.264 packets (RFC 6184, 5 and 7), each behind `00 00 00 01`, or in
-    /// AVC form behind its length.
+    /// Writes the NAL units of H.264 packets (RFC 6184, 5 and 7), each behind `00 00 00 01`, or
+    /// behind its length where `is_avc` is set.
     ///
     /// Two are equal where `is_avc` and the open unit are.
     ///
@@ -161,15 +167,14 @@ depacketizer! {
     /// assert!(matches!(extra, CodecExtra::H264(told) if told.is_keyframe));
     /// # Ok::<(), emupedestal::PacketError>(())
     /// ```
-    H264Depacketizer, Codec::H264,
-    /// Whether units are written in AVC form (ISO/IEC 14496-15), behind lengths of four bytes.
-    is_avc
+    H264Depacketizer, Codec::H264
 }
 
 depacketizer! {
-    /// Writes the NAL units of H.265 packets (RFC 7798, 4.4), each behind `00 00 00 01`.
+    /// Writes the NAL units of H.265 packets (RFC 7798, 4.4), each behind `00 00 00 01`, or behind
+    /// its length where `is_avc` is set.
     ///
-    /// Two are equal where the setting, the open unit and the packet accepted last are.
+    /// Two are equal where the settings, the open unit and the packet accepted last are.
     ///
     /// ```
     /// use emupedestal::{CodecExtra, Depacketizer, H265Depacketizer};
@@ -184,9 +189,10 @@ depacketizer! {
 }
 
 depacketizer! {
-    /// Writes the NAL units of H.266 packets (RFC 9328, 4.3), each behind `00 00 00 01`.
+    /// Writes the NAL units of H.266 packets (RFC 9328, 4.3), each behind `00 00 00 01`, or behind
+    /// its length where `is_avc` is set.
     ///
-    /// Two are equal where the setting and the open unit are.
+    /// Two are equal where the settings and the open unit are.
     ///
     /// ```
     /// use emupedestal::{CodecExtra, Depacketizer, H266Depacketizer};

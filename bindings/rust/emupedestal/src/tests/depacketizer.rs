@@ -64,6 +64,38 @@ fn h264_units_behind_lengths() {
 }
 
 #[test]
+fn h265_units_behind_lengths() {
+    let mut end = H265Depacketizer::default();
+    end.is_avc = true;
+    writes(&mut end, &["0201aa"], "00000003 0201aa");
+    writes(
+        &mut end,
+        &["6001 0003 0201aa 0002 0201"],
+        "00000003 0201aa 00000002 0201",
+    );
+    writes(&mut end, &["64010200dd"], "00000003 0201dd");
+    writes(&mut end, &["620193aa", "620153bb"], "00000004 2601aabb");
+    end.is_avc = false; // the form is that of the packet that completes the unit
+    assert_eq!(received(&mut end, &["620193aa"]).0, vec![]);
+    end.is_avc = true;
+    writes(&mut end, &["620153bb"], "00000004 2601aabb");
+}
+
+#[test]
+fn h266_units_behind_lengths() {
+    let mut end = H266Depacketizer::default();
+    end.is_avc = true;
+    end.with_donl(true);
+    writes(&mut end, &["00390002dd"], "00000003 0039dd");
+    writes(
+        &mut end,
+        &["00e1 0000 0003 0079bb 0003 0081cc"],
+        "00000003 0079bb 00000003 0081cc",
+    );
+    writes(&mut end, &["00e987 0005 aa", "00e947bb"], "00000004 0039aabb");
+}
+
+#[test]
 fn h264_fragments() {
     let end = &mut H264Depacketizer::default();
     writes(

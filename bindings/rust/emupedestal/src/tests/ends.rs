@@ -93,11 +93,17 @@ fn settings_count_in_equality() {
     assert_ne!(h265, H265Depacketizer::default());
     h265.with_donl(false);
     assert_eq!(h265, H265Depacketizer::default());
+    h265.is_avc = true;
+    assert_ne!(h265, H265Depacketizer::default());
 
     let mut h266 = H266Depacketizer::default();
     h266.with_donl(true);
     assert_ne!(h266, H266Depacketizer::default());
     assert_eq!(h266.clone(), h266);
+    h266.with_donl(false);
+    h266.is_avc = true;
+    assert_ne!(h266, H266Depacketizer::default());
+    assert!(h266.clone().is_avc);
 }
 
 /// Only H.265 shows the packet that it accepted last.

@@ -11,8 +11,8 @@ abbrev pub invariant-loop-rest : goal.invariant-loop-rest
 invariant-loop-rest l = record {
   left : (pieces_of l.rest).left ≡ (pieces_of l.bytes).left;
   short : list_any is_too_long (stap_units l.rest) ≡ list_any is_too_long (stap_units l.bytes);
-  whole : min (l.len + written_len (stap_units l.rest)) (2 ^ 64 - 1) ≡ min (written_len (stap_units l.bytes)) (2 ^ 64 - 1);
-  fits : l.len ≤ 2 ^ 64 - 1;
+  whole : min (l.size + written_len (stap_units l.rest)) (2 ^ 64 - 1) ≡ min (written_len (stap_units l.bytes)) (2 ^ 64 - 1);
+  fits : l.size ≤ 2 ^ 64 - 1;
 }
 
 abbrev pub decreases-loop-rest : goal.decreases-loop-rest

@@ -1,4 +1,6 @@
 use Rattle.std.proofs.Common.{◌≡◌, ◌+◌, ◌-◌, ◌≤◌, ◌^◌, min, length}
+use Rattle.std.specs.List.{list_any}
+use Rattle.h26x_core.specs.Outcome.{is_too_long}
 use Rattle.h26x_payload.specs.Run.{written_len}
 use Rattle.h266_payload.specs.Packet.{aggregate_units, judged}
 use Rattle.h266_payload.proofs.JudgedLemmas.{fault_of}
@@ -10,8 +12,9 @@ invariant-loop-rest l = record {
   fault : fault_of (judged l.rest) ≡ fault_of (judged l.bytes);
   units : l.count + length (aggregate_units l.rest) ≡ length (aggregate_units l.bytes);
   long : l.count + length l.rest ≤ length l.bytes;
-  whole : min (l.len + written_len (aggregate_units l.rest)) (2 ^ 64 - 1) ≡ min (written_len (aggregate_units l.bytes)) (2 ^ 64 - 1);
-  fits : l.len ≤ 2 ^ 64 - 1;
+  whole : min (l.size + written_len (aggregate_units l.rest)) (2 ^ 64 - 1) ≡ min (written_len (aggregate_units l.bytes)) (2 ^ 64 - 1);
+  short : list_any is_too_long (aggregate_units l.rest) ≡ list_any is_too_long (aggregate_units l.bytes);
+  fits : l.size ≤ 2 ^ 64 - 1;
 }
 
 abbrev pub decreases-loop-rest : goal.decreases-loop-rest

@@ -9,9 +9,9 @@ use Rattle.h26x_core.specs.Plan.{units_of_item, sent}
 use Rattle.h26x_core.specs.Facts.{AreCarried}
 use Rattle.h26x_core.specs.Received.{received}
 use Rattle.h26x_core.specs.Sender.{sent_by, packets_by}
-use Rattle.h26x_core.specs.Receiver.{Receiver, brought}
+use Rattle.h26x_core.specs.Receiver.{Receiver, brought, at_work}
 use Rattle.h26x_core.specs.Ends.{ReceiverGoesOn, calls_like}
-use Rattle.h26x_codec.specs.Codec.{receiver_of, at_work, call_by}
+use Rattle.h26x_codec.specs.Codec.{receiver_of, call_by}
 use Rattle.h26x_codec.proofs.RunLemmas.{fresh_plan, fresh_packets}
 use Rattle.h26x_codec.proofs.AgainLemmas.{like_small, written_is, first_refused}
 use Rattle.h26x_codec.proofs.repeated.again_with.Goals as goal

@@ -3,10 +3,10 @@ use Rattle.std.specs.Option.{option_map}
 use Rattle.h26x_core.specs.declared.extra.CodecExtra.TheVariants as extras
 use Rattle.h26x_core.specs.Calls.{entries_of}
 use Rattle.h26x_core.specs.Loss.{kept}
-use Rattle.h26x_core.specs.Receiver.{Receiver, brought}
+use Rattle.h26x_core.specs.Receiver.{Receiver, brought, at_work}
 use Rattle.h26x_core.specs.Received.{received}
 use Rattle.h26x_core.specs.Ends.{SenderGoesOn, ReceiverGoesOn}
-use Rattle.h26x_codec.specs.Codec.{receiver_of, at_work, fresh_receiver}
+use Rattle.h26x_codec.specs.Codec.{receiver_of, fresh_receiver}
 use Rattle.h26x_codec.specs.Runs.{calls_by, sent_of}
 use Rattle.h26x_codec.proofs.RunLemmas.{if_ok, if_err, if_both, calls_small, written_of, stopped_run, of_fresh}
 use Rattle.h26x_codec.proofs.runs.carry.Goals as goal

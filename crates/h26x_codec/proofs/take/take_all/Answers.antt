@@ -5,10 +5,10 @@ use Rattle.std.specs.List.{flat_map}
 use Rattle.h26x_core.specs.Front.{IsFrontOf}
 use Rattle.h26x_core.specs.Facts.{IsPayloadFormat}
 use Rattle.h26x_core.specs.Format.{Format}
-use Rattle.h26x_core.specs.Receiver.{brought, accepted_of}
+use Rattle.h26x_core.specs.Receiver.{brought, accepted_of, at_work}
 use Rattle.h26x_core.specs.Received.{received}
 use Rattle.h26x_core.specs.Ends.{ReceiverGoesOn}
-use Rattle.h26x_codec.specs.Codec.{receiver_of, at_work}
+use Rattle.h26x_codec.specs.Codec.{receiver_of}
 use Rattle.h26x_codec.proofs.RunLemmas.{work_parts, written_of}
 use Rattle.h26x_codec.proofs.TakeLemmas.{left_by_refusal, taken_with, taken_to_end, kept_by_refusals, front_through}
 use Rattle.h26x_codec.proofs.take.take_all.Goals as goal

@@ -1,7 +1,7 @@
 use Rattle.std.proofs.Common.{◌≡◌, ◌≤◌, map, take, length, vec_len, vec_capacity, Some, IsErr, All}
 use Rattle.h26x_core.specs.Front.{IsFrontOf}
-use Rattle.h26x_core.specs.Receiver.{Receiver, AreAllTaken}
-use Rattle.h26x_codec.specs.Codec.{receiver_of, at_work, work_of}
+use Rattle.h26x_core.specs.Receiver.{Receiver, AreAllTaken, at_work}
+use Rattle.h26x_codec.specs.Codec.{receiver_of, work_of}
 use Rattle.h26x_codec.proofs.take.take_all.Given as goal
 
 -- the packets so far have their outcomes

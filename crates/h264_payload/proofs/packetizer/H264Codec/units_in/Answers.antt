@@ -1,6 +1,0 @@
-use Rattle.h26x_cut.specs.declared.ZeroRule.TheVariants.{All}
-use Rattle.h26x_payload.proofs.SendLemmas.{units_are}
-use Rattle.h264_payload.proofs.packetizer.H264Codec.units_in.Goals as goal
-
-pub returns : goal.returns
-returns c = units_are All c.args.payload.now _ c.units.ensures

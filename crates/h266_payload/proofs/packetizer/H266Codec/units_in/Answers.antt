@@ -1,6 +1,0 @@
-use Rattle.h26x_cut.specs.declared.ZeroRule.TheVariants.{AtMostThree}
-use Rattle.h26x_payload.proofs.SendLemmas.{units_are}
-use Rattle.h266_payload.proofs.packetizer.H266Codec.units_in.Goals as goal
-
-pub returns : goal.returns
-returns c = units_are AtMostThree c.args.payload.now _ c.units.ensures

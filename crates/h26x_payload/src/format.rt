@@ -1,0 +1,133 @@
+//! What sets one codec's packetizer apart.
+
+ghost use Rattle.std.specs.Prelude.{◌≡◌, ◌≤◌, ◌++◌, ℕ, Bool, true, List, length, IfOk, OnOk};
+ghost use Rattle.h26x_core.specs.Format.{Format};
+ghost use Rattle.h26x_core.specs.Facts.{FitsLimits, NumbersAreTwoBytes};
+ghost use Rattle.h26x_core.specs.Kind.{is_other};
+ghost use Rattle.h26x_payload.specs.Sending.{unit_kind, sets_in};
+
+use crate::sets::Sets;
+use h26x_core::CodecExtra;
+use h26x_cut::UnitSlices;
+use std::alloc::{AllocError, Global};
+use std::fmt;
+
+/// What a unit is to a packetizer, by its type (RFC 6184, 1.3; RFC 7798, 1.1.4; RFC 9328, 1.1.4).
+#[derive(Clone, Copy)]
+pub enum UnitKind {
+    /// Not sent, such as an access unit delimiter.
+    Skipped,
+    /// A video parameter set, which waits.
+    Vps,
+    /// A sequence parameter set, which waits.
+    Sps,
+    /// A picture parameter set, which waits.
+    Pps,
+    /// Every other unit: it is sent at once, behind the sets that are due.
+    Other,
+}
+
+/// What sets one codec's packetizer apart (RFC 6184, RFC 7798, RFC 9328). A value is the setting of
+/// a packetizer.
+pub trait PayloadFormat: Copy + fmt::Debug {
+    ghost format: { Self → Format };
+
+    ghost fresh: { Self };
+
+    /// The setting of a new packetizer.
+    fn new() -> Self
+        ensures { result ≡ fresh };
+
+    /// The bytes of a unit's header.
+    fn header_len(self) -> usize
+        ensures is { result ≡ (format self).header_len }
+        ensures short { result ≤ 2 };
+
+    /// Whether packets bear decoding order numbers.
+    fn is_numbered(self) -> bool
+        ensures { result ≡ (format self).numbered };
+
+    /// The `mtu` under which a call has no effect.
+    fn least_mtu(self) -> usize
+        ensures { result ≡ (format self).least_mtu };
+
+    /// Whether a packetizer's largest packet size limits its calls too.
+    fn is_sized(self) -> bool
+        ensures { result ≡ (format self).sized };
+
+    /// What a unit is.
+    fn kind_of(self, unit: &[u8]) -> UnitKind
+        ensures { unit_kind result ≡ (format self).kind unit.now };
+
+    /// The units of a payload.
+    fn units_in(self, payload: &[u8]) -> UnitSlices<'_>
+        ensures { result ≡ (format self).units payload.now };
+
+    /// Whether sets fit one packet.
+    fn sets_fit(self, limit: usize, sets: Sets<'_>) -> bool
+        ensures { result ≡ (format self).sets_fit limit (sets_in sets.entry) };
+
+    /// The packet of sets before a unit.
+    fn sets_packet(
+        self,
+        alloc: Global,
+        number: u16,
+        sets: Sets<'_>,
+        unit: &[u8],
+    ) -> Result<Vec<u8>, AllocError>
+        requires whole { (format self).header_len ≤ length unit.now }
+        ensures { IfOk result (λ packet. packet.items ≡ (format self).sets_packet number
+            (sets_in sets.entry) unit.now) };
+
+    /// Appends the header of a fragment of this unit.
+    fn push_fragment_header(
+        self,
+        unit: &[u8],
+        start: bool,
+        end: bool,
+        packet: &mut Vec<u8>,
+    ) -> Result<(), AllocError>
+        requires whole { (format self).header_len ≤ length unit.now }
+        ensures { OnOk result (packet.new.items ≡ packet.old.items
+            ++ (format self).fragment_header unit.now start end) };
+
+    /// Whether a unit is of a key type.
+    fn is_key(self, unit: &[u8]) -> bool
+        ensures { result ≡ (format self).is_key unit.now };
+
+    /// What is told of units, with a key unit among them or not.
+    fn extra(self, key: bool) -> CodecExtra
+        ensures { result ≡ (format self).extra key };
+
+    /// Whether a key unit was told of.
+    fn has_key(self, extra: CodecExtra) -> bool
+        ensures { result ≡ (format self).has_key extra };
+
+    // Headers are as long as they are counted, and sets that fit are within the limit.
+    ghost fits: { (codec : Self) → FitsLimits (format codec) };
+
+    // Two bytes hold a number.
+    ghost numbers: { (codec : Self) → NumbersAreTwoBytes (format codec) };
+
+    // An other unit has a whole header.
+    ghost headed: { (codec : Self) (unit : List ℕ) → is_other ((format codec).kind unit) ≡ true →
+        (format codec).header_len ≤ length unit };
+
+    // A header tells whether its unit is of a key type.
+    ghost keyed: { (codec : Self) (head rest : List ℕ) → length head ≡ (format codec).header_len →
+        (format codec).is_key (head ++ rest) ≡ (format codec).is_key head };
+
+    // No setting changes what a unit is.
+    ghost one_kind: { (codec other : Self) (unit : List ℕ) →
+        (format codec).kind unit ≡ (format other).kind unit };
+}
+
+/// A codec whose packets can bear decoding order numbers (RFC 7798, 4.6; RFC 9328, 4.4), and whose
+/// packetizers have a largest packet size.
+pub trait DonlFormat: PayloadFormat {
+    ghost with_donl_of: { Self → Bool → Self };
+
+    /// The same setting, with or without numbers.
+    fn with_donl(self, numbered: bool) -> Self
+        ensures { result ≡ with_donl_of self numbered };
+}
