@@ -1,7 +1,6 @@
-use Rattle.std.proofs.Common.{◌≡◌, ◌+◌, ◌≤◌, ◌++◌, ◌||◌, ◌&&◌, false, vec_len, vec_capacity, length, ℕ, List}
+use Rattle.std.proofs.Common.{◌≡◌, ◌+◌, ◌≤◌, ◌++◌, ◌||◌, vec_len, vec_capacity, length, ℕ, List}
 use Rattle.std.specs.Prelude.{nat_le}
 use Rattle.std.specs.List.{list_any}
-use Rattle.h26x_core.specs.Outcome.{is_too_long}
 use Rattle.h26x_core.specs.Text.{text}
 use Rattle.h26x_payload.specs.Run.{written_len}
 use Rattle.h26x_payload.proofs.aggregate.write_units.Given as goal

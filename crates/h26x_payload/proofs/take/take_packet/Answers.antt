@@ -1,6 +1,3 @@
-use Rattle.std.proofs.Common.{◌&&◌}
-use Rattle.std.specs.List.{list_any}
-use Rattle.h26x_core.specs.Outcome.{is_too_long}
 use Rattle.h26x_payload.specs.Receiving.{parts_reading}
 use Rattle.h26x_payload.proofs.ReceivingLemmas.{taken_brings, read_outcome}
 use Rattle.h26x_payload.proofs.take.take_packet.Goals as goal

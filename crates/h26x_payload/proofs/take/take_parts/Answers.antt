@@ -2,10 +2,9 @@ use Rattle.std.proofs.Common.{◌≡◌, false, refl}
 use Rattle.std.specs.List.{list_any}
 use Rattle.std.proofs.lemmas.Bool.{and_right}
 use Rattle.h26x_core.specs.Received.{units_with}
-use Rattle.h26x_core.specs.Reading.{unnumbered}
 use Rattle.h26x_core.specs.Outcome.{is_too_long}
 use Rattle.h26x_payload.specs.Receiving.{parts_reading}
-use Rattle.h26x_payload.proofs.AggregateLemmas.{aggregate_outcome, units_only}
+use Rattle.h26x_payload.proofs.AggregateLemmas.{units_only}
 use Rattle.h26x_payload.proofs.take.take_parts.Goals as goal
 
 -- an aggregate brings its units
