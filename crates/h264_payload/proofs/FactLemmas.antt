@@ -4,11 +4,11 @@ use Rattle.std.specs.Prelude.{IsTrue, nat_le, ◌&&◌}
 use Rattle.std.specs.List.{list_any, AllByRecursion}
 use Rattle.std.proofs.lemmas.Bool.Decides.{nat_tests}
 use Rattle.h26x_core.specs.H264Unit.{type_of, type_of_first, is_key}
-use Rattle.h26x_core.specs.Packets.{single}
-use Rattle.h26x_core.specs.Facts.{AreCarried, HeadersTakeRoom, MarksFragments, ExtraTells, KnowsKeyUnits, KeyUnitsAreOther, IsPayloadFormat}
+use Rattle.h26x_model.specs.Send.Packets.{single_packet}
+use Rattle.h26x_model.specs.Payload.Facts.{AreCarried, HeadersTakeRoom, MarksFragments, ExtraTells, KnowsKeyUnits, KeyUnitsAreOther, IsPayloadFormat}
 use Rattle.h26x_core.proofs.HeaderLemmas.{start_back, end_back, type_back}
 use Rattle.h26x_core.proofs.PieceLemmas.{pieces_back, pieces_long}
-use Rattle.h26x_core.proofs.SetsLemmas.{FitIsWithin, sets_leave_room}
+use Rattle.h26x_model.proofs.SetsLemmas.{FitIsWithin, sets_leave_room}
 use Rattle.h264_payload.specs.H264.{h264, carries, sets_fit, fragment_header}
 use Rattle.h264_payload.specs.CodecFacts.{fits_limits, no_numbers}
 use Rattle.h264_payload.proofs.HeaderLemmas.{type_below, type_fits, indicator_type, carried_first, unit_tests}
@@ -33,7 +33,7 @@ pub extra_tells : ExtraTells h264
 extra_tells = record { tells = λ key. refl; none = refl; whole = key_whole }
 
 -- a unit alone is detected where it is a key unit
-single_detected : (n : ℕ) (unit : List ℕ) → IsTrue (carries unit) → h264.detects (single h264 n unit) ≡ is_key unit
+single_detected : (n : ℕ) (unit : List ℕ) → IsTrue (carries unit) → h264.detects (single_packet h264 n unit) ≡ is_key unit
 single_detected n [] h = let e : false ≡ true = h in absurd cc
 single_detected n (first ∷ unit) h =
     let c = carried_first first unit h in
@@ -86,5 +86,5 @@ is_payload_format = record {
   extra = extra_tells;
   detects = knows_key_units;
   other = key_units_are_other;
-  numbers = no_numbers;
+  dons = no_numbers;
 }

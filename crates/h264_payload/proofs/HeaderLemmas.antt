@@ -4,7 +4,7 @@ use Rattle.std.specs.Prelude.{◌≢◌, IsTrue, nat_le, nat_lt, ◌&&◌}
 use Rattle.std.proofs.lemmas.Bool.{and_parts}
 use Rattle.std.proofs.lemmas.Bool.Decides.{nat_tests}
 use Rattle.h26x_core.specs.H264Unit.{type_of}
-use Rattle.h26x_core.specs.Reading.{Single, Refused}
+use Rattle.h26x_model.specs.Payload.Reading.{Single, Refused}
 use Rattle.h26x_core.specs.Pieces.{pieces_of}
 use Rattle.h26x_core.specs.declared.error.PacketError.TheVariants.{NaluTypeIsNotHandled}
 use Rattle.h264_payload.specs.H264.{read, carries, reference_bits, aggregate_of, fragment_of}

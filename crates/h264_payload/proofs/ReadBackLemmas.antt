@@ -3,13 +3,13 @@ use Rattle.std.proofs.Common.{◌≡◌, ℕ, ◌<◌, ◌≤◌, Bool, true, fa
 use Rattle.std.specs.Prelude.{IsTrue}
 use Rattle.std.proofs.lemmas.Bool.{cond_both}
 use Rattle.h26x_core.specs.H264Unit.{type_of}
-use Rattle.h26x_core.specs.Reading.{Single, Aggregate, Fragment}
-use Rattle.h26x_core.specs.Packets.{single}
-use Rattle.h26x_core.specs.Number.{number_borne, numbered_from}
-use Rattle.h26x_core.specs.Facts.{AreCarried, ReadsWhatItWrites}
+use Rattle.h26x_model.specs.Payload.Reading.{Single, Aggregate, Fragment}
+use Rattle.h26x_model.specs.Send.Packets.{single_packet}
+use Rattle.h26x_model.specs.Payload.Don.{don_sent, with_dons}
+use Rattle.h26x_model.specs.Payload.Facts.{AreCarried, ReadsWhatItWrites}
 use Rattle.h26x_core.proofs.HeaderLemmas.{start_back, end_back, type_back}
 use Rattle.h26x_core.proofs.PieceLemmas.{pieces_back}
-use Rattle.h26x_core.proofs.SetsLemmas.{plain_numbers}
+use Rattle.h26x_model.proofs.SetsLemmas.{plain_numbers}
 use Rattle.h264_payload.specs.H264.{h264, read, carries, fragment_header, sets_fit}
 use Rattle.h264_payload.proofs.HeaderLemmas.{type_below, type_fits, indicator_type, indicator_bits, byte_of_parts, carried_first, unit_is_read}
 use Rattle.h264_payload.proofs.SetLemmas.{fit_parts, none_is_empty}
@@ -20,7 +20,7 @@ header_there [] h = let e : false ≡ true = h in absurd cc
 header_there (first ∷ unit) h = omega arith
 
 -- a unit alone is read as it is
-single_back : (n : ℕ) (unit : List ℕ) → IsTrue (carries unit) → read (single h264 n unit) ≡ Single unit (number_borne h264 n)
+single_back : (n : ℕ) (unit : List ℕ) → IsTrue (carries unit) → read (single_packet h264 n unit) ≡ Single unit (don_sent h264 n)
 single_back n [] h = let e : false ≡ true = h in absurd cc
 single_back n (first ∷ unit) h = let c = carried_first first unit h in unit_is_read first unit c.1 c.2
 
@@ -42,7 +42,7 @@ fragment_back n (first ∷ unit) body start end h some =
 
 -- a STAP-A of sets that fit it is read as these sets
 sets_back : (n limit : ℕ) (sets : List (List ℕ)) (unit : List ℕ) → sets_fit limit sets ≡ true → AreCarried h264 sets →
-    read (h264.sets_packet n sets unit) ≡ Aggregate (numbered_from h264 n sets)
+    read (h264.sets_packet n sets unit) ≡ Aggregate (with_dons h264 n sets)
 sets_back n limit sets unit fit carried =
     rw (pieces_back sets (fit_parts limit sets fit).1, none_is_empty sets carried) (ap Aggregate (plain_numbers h264 refl n sets))
 

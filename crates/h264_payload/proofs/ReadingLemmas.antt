@@ -3,9 +3,9 @@ use Rattle.std.proofs.Common.{◌≡◌, ℕ, ◌+◌, ◌*◌, ◌<◌, ◌≤�
 use Rattle.std.specs.Prelude.{◌≢◌, map, filter}
 use Rattle.std.proofs.lemmas.Bool.{cases_lt, cases_eq}
 use Rattle.std.proofs.lemmas.List.{length-take, take-append-drop}
-use Rattle.h26x_core.specs.Text.{is_not_empty}
+use Rattle.h26x_core.specs.ByteStream.{is_not_empty}
 use Rattle.h26x_core.specs.H264Unit.{type_of}
-use Rattle.h26x_core.specs.Reading.{Reading, Single, Aggregate, unnumbered}
+use Rattle.h26x_model.specs.Payload.Reading.{Reading, Single, Aggregate, without_don}
 use Rattle.h26x_core.specs.Pieces.{ArePieces, HasNoPiece, Pieces, pieces_of}
 use Rattle.h26x_core.proofs.PieceLemmas.{pieces_are, pieces_short, only_pieces, none_past}
 use Rattle.h264_payload.specs.H264.{read, stap_of, aggregate_of, fragment_of}
@@ -28,7 +28,7 @@ none_in_one left few = subst HasNoPiece (ap (λ (p : Pieces). p.left) (pieces_sh
 
 -- pieces behind a STAP-A's header, and what is left, are its reading
 stap_of_is : (first : ℕ) (rest left : List ℕ) (pieces : List (List ℕ)) → type_of first ≡ 24 → ArePieces rest pieces left → HasNoPiece left →
-    IsReading (first ∷ rest) (stap_of (map unnumbered (filter is_not_empty pieces)) left)
+    IsReading (first ∷ rest) (stap_of (map without_don (filter is_not_empty pieces)) left)
 stap_of_is first rest [] pieces is are none = IsStap first rest [] pieces refl is are (omega arith) refl
 stap_of_is first rest (x ∷ []) pieces is are none = IsStap first rest (x ∷ []) pieces refl is are (omega arith) refl
 stap_of_is first rest (high ∷ low ∷ left) pieces is are none = IsCutStap first high low rest left pieces refl is are (passes_end high low left none) refl
@@ -66,7 +66,7 @@ has_reading (first ∷ rest) = elim (kinds (type_of first)) [
 
 -- the pieces of a STAP-A give its reading
 stap_is : (first : ℕ) (bytes left : List ℕ) (pieces : List (List ℕ)) → type_of first ≡ 24 → ArePieces bytes pieces left → HasNoPiece left →
-    read (first ∷ bytes) ≡ stap_of (map unnumbered (filter is_not_empty pieces)) left
+    read (first ∷ bytes) ≡ stap_of (map without_don (filter is_not_empty pieces)) left
 stap_is first bytes left pieces is are none = stap_is_read first bytes is ∙ ap aggregate_of (only_pieces bytes pieces left are none)
 
 -- at most one byte that is left over refuses nothing
@@ -80,7 +80,7 @@ pub only_reading : (packet : List ℕ) (reading : Reading) → IsReading packet 
 only_reading packet reading (IsEmpty is r) = ap read is ∙ sym r
 only_reading packet reading (IsUnit first rest is least most r) = ap read is ∙ unit_is_read first rest least most ∙ ap (λ (p : List ℕ). Single p None) (sym is) ∙ sym r
 only_reading packet reading (IsStap first bytes left pieces is type are few r) =
-    ap read is ∙ stap_is first bytes left pieces type are (none_in_one left few) ∙ few_left (map unnumbered (filter is_not_empty pieces)) left few ∙ sym r
+    ap read is ∙ stap_is first bytes left pieces type are (none_in_one left few) ∙ few_left (map without_don (filter is_not_empty pieces)) left few ∙ sym r
 only_reading packet reading (IsCutStap first high low bytes left pieces is type are past r) =
     ap read is ∙ stap_is first bytes (high ∷ low ∷ left) pieces type are (none_past high low left past) ∙ sym r
 only_reading packet reading (IsFragment first second body is type r) = ap read is ∙ fragment_is_read first (second ∷ body) type ∙ sym r

@@ -4,9 +4,9 @@ use Rattle.std.specs.Prelude.{nat_le, nat_lt, filter}
 use Rattle.std.specs.List.{flat_map, list_all, sum_by, AllByRecursion}
 use Rattle.std.proofs.lemmas.Bool.{and_parts}
 use Rattle.std.proofs.lemmas.Bool.Decides.{nat_tests}
-use Rattle.h26x_core.specs.Text.{is_not_empty}
+use Rattle.h26x_core.specs.ByteStream.{is_not_empty}
 use Rattle.h26x_core.specs.Pieces.{piece}
-use Rattle.h26x_core.specs.Facts.{AreCarried}
+use Rattle.h26x_model.specs.Payload.Facts.{AreCarried}
 use Rattle.h26x_core.proofs.PieceLemmas.{pieces_long}
 use Rattle.h264_payload.specs.H264.{h264, sets_fit}
 

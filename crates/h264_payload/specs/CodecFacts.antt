@@ -6,7 +6,7 @@ use Rattle.std.proofs.lemmas.Bool.{and_parts}
 use Rattle.std.proofs.lemmas.Bool.Decides.{nat_tests}
 use Rattle.h26x_core.specs.Kind.{is_other}
 use Rattle.h26x_core.specs.H264Unit.{kind, is_key}
-use Rattle.h26x_core.specs.Facts.{FitsLimits, NumbersAreTwoBytes}
+use Rattle.h26x_model.specs.Payload.Facts.{FitsLimits, DonlHasTwoBytes}
 use Rattle.h26x_core.proofs.PieceLemmas.{pieces_long}
 use Rattle.h264_payload.specs.H264.{h264, fragment_header, sets_fit, sets_packet}
 
@@ -39,5 +39,5 @@ pub fits_limits : FitsLimits h264
 fits_limits = record { header = header_long; sets = sets_within }
 
 -- a STAP-A bears no number
-pub no_numbers : NumbersAreTwoBytes h264
+pub no_numbers : DonlHasTwoBytes h264
 no_numbers = record { sets = λ n sets unit. refl; none = λ none n m sets unit. refl }

@@ -8,9 +8,9 @@ use Rattle.h26x_cut.specs.declared.ZeroRule.TheVariants.{All}
 use Rattle.h26x_cut.specs.Cutting.{units_of}
 use Rattle.h26x_core.specs.Word.{field, is_set, flag}
 use Rattle.h26x_core.specs.H264Unit.{type_of, type_of_first, kind, is_key}
-use Rattle.h26x_core.specs.Text.{is_not_empty}
-use Rattle.h26x_core.specs.Reading.{Reading, Single, Aggregate, Fragment, Refused, unnumbered}
-use Rattle.h26x_core.specs.Format.{Format}
+use Rattle.h26x_core.specs.ByteStream.{is_not_empty}
+use Rattle.h26x_model.specs.Payload.Reading.{Reading, Single, Aggregate, Fragment, Refused, without_don}
+use Rattle.h26x_model.specs.Payload.Format.{Format}
 use Rattle.h26x_core.specs.Pieces.{Pieces, pieces_of, piece}
 
 -- the two NRI bits of a header, in place
@@ -24,7 +24,7 @@ sets_fit limit sets = nat_le (1 + sum_by (λ set. 2 + length set) sets) limit
 
 -- a STAP-A: F clear, the highest NRI, type 24 (5.7.1)
 abbrev pub sets_packet : ℕ → List (List ℕ) → List ℕ → List ℕ
-sets_packet number sets unit = 0x78 ∷ flat_map piece sets
+sets_packet don sets unit = 0x78 ∷ flat_map piece sets
 
 -- an FU-A's indicator, with the unit's NRI, and its header: S, E and the unit's type (5.8)
 abbrev pub fragment_header : List ℕ → Bool → Bool → List ℕ
@@ -45,7 +45,7 @@ stap_units bytes = filter is_not_empty (pieces_of bytes).whole
 
 -- a STAP-A of these pieces
 abbrev pub aggregate_of : Pieces → Reading
-aggregate_of p = stap_of (map unnumbered (filter is_not_empty p.whole)) p.left
+aggregate_of p = stap_of (map without_don (filter is_not_empty p.whole)) p.left
 
 -- an FU-A, behind its first byte (5.8)
 abbrev pub fragment_of : ℕ → List ℕ → Reading
@@ -78,7 +78,7 @@ abbrev pub detects_fragment : ℕ → List ℕ → Bool
 detects_fragment type [] = false
 detects_fragment type (second ∷ body) = is_set second 7 && (type_of second == type)
 
--- whether a packet is known to hold a unit of this type, or to begin one (the crate's rule)
+-- whether a packet is known to hold a unit of this type, or to begin one (str0m's rule)
 abbrev pub detects : ℕ → List ℕ → Bool
 detects type [] = false
 detects type (first ∷ rest) =
@@ -93,10 +93,10 @@ h264 = record {
   kind = kind;
   is_key = is_key;
   least_mtu = 1;
-  sized = false;
+  has_max_packet_size = false;
   header_len = 1;
-  may_bear_donl = false;
-  numbered = false;
+  may_have_donl = false;
+  has_donl = false;
   sets_fit = sets_fit;
   sets_packet = sets_packet;
   fragment_header = fragment_header;

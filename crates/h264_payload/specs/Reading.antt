@@ -3,8 +3,8 @@ use Rattle.std.specs.Prelude.{◌≡◌, ◌≢◌, ℕ, ◌+◌, ◌*◌, ◌<�
 use Rattle.h26x_core.specs.declared.error.PacketError.TheVariants.{ErrShortPacket, NaluTypeIsNotHandled, StapASizeLargerThanBuffer}
 use Rattle.h26x_core.specs.Word.{is_set}
 use Rattle.h26x_core.specs.H264Unit.{type_of}
-use Rattle.h26x_core.specs.Text.{is_not_empty}
-use Rattle.h26x_core.specs.Reading.{Reading, Single, Aggregate, Fragment, Refused, unnumbered}
+use Rattle.h26x_core.specs.ByteStream.{is_not_empty}
+use Rattle.h26x_model.specs.Payload.Reading.{Reading, Single, Aggregate, Fragment, Refused, without_don}
 use Rattle.h26x_core.specs.Pieces.{ArePieces}
 use Rattle.h264_payload.specs.H264.{reference_bits}
 
@@ -21,7 +21,7 @@ pub data IsReading (packet : List ℕ) (reading : Reading) : Type 0 where
   IsStap : (first : ℕ) (bytes left : List ℕ) (pieces : List (List ℕ)) → packet ≡ first ∷ bytes →
       type_of first ≡ 24 →
       ArePieces bytes pieces left → length left ≤ 1 →
-      reading ≡ Aggregate (map unnumbered (filter is_not_empty pieces)) → IsReading packet reading
+      reading ≡ Aggregate (map without_don (filter is_not_empty pieces)) → IsReading packet reading
   -- a STAP-A with a length that passes its end: the length, and the bytes behind it
   IsCutStap : (first high low : ℕ) (bytes left : List ℕ) (pieces : List (List ℕ)) → packet ≡ first ∷
       bytes → type_of first ≡ 24 →

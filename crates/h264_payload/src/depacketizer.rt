@@ -14,8 +14,8 @@ use h26x_payload::PayloadDepacketizer;
 /// - `AvcUnitTooLong`: behind lengths, a unit of over `u32::MAX` bytes;
 /// - `OutOfMemory`.
 ///
-/// A packet of two bytes or more may be the first of a frame; a fragment (FU-A or FU-B), where its S
-/// bit is set. It is the last where its RTP packet bears the marker bit.
+/// A packet of two bytes or more may be the first of an access unit; a fragment (FU-A or FU-B),
+/// where its S bit is set. It is the last where its RTP packet bears the marker bit.
 ///
 /// ```rust
 /// let mut depacketizer = H264Depacketizer::new(alloc);

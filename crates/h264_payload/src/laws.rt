@@ -3,19 +3,19 @@
 ghost use Rattle.std.specs.Prelude.{◌≡◌, ◌+◌, ◌<◌, ◌≤◌, false, ℕ, List, [], ◌∷◌, length, drop, IsTrue};
 ghost use Rattle.std.specs.List.{AllByRecursion};
 ghost use Rattle.h26x_core.specs.Mark.{IsMark};
-ghost use Rattle.h26x_core.specs.Text.{is_not_empty, annex_b};
-ghost use Rattle.h26x_core.specs.Reading.{Reading};
-ghost use Rattle.h26x_core.specs.Calls.{Call, AreCalls, entries_of, packets_of};
-ghost use Rattle.h26x_core.specs.Plan.{Alone, is_dropped, sent};
-ghost use Rattle.h26x_core.specs.Packets.{packets_of_item, fragment_count, fragment, fragments};
-ghost use Rattle.h26x_core.specs.Fragments.{AreFragments, AreMarked};
-ghost use Rattle.h26x_core.specs.Rival.{IsRival};
-ghost use Rattle.h26x_core.specs.Loss.{LossStaysWithin};
-ghost use Rattle.h26x_core.specs.Again.{NothingDropped};
-ghost use Rattle.h26x_core.specs.Detection.{AreDetected};
-ghost use Rattle.h26x_core.specs.Facts.{IsPayloadFormat, AreCarried};
-ghost use Rattle.h26x_core.specs.Sender.{Sender, IsSender, planned, sent_by};
-ghost use Rattle.h26x_core.specs.Ends.{calls_like};
+ghost use Rattle.h26x_core.specs.ByteStream.{is_not_empty, annex_b};
+ghost use Rattle.h26x_model.specs.Payload.Reading.{Reading};
+ghost use Rattle.h26x_model.specs.Send.Calls.{Call, AreCalls, all_entries, all_packets};
+ghost use Rattle.h26x_model.specs.Send.Plan.{Alone, is_dropped, units_sent};
+ghost use Rattle.h26x_model.specs.Send.Packets.{item_packets, fragment_count, fragment, fragments};
+ghost use Rattle.h26x_model.specs.Send.Fragments.{AreFragments, AreMarked};
+ghost use Rattle.h26x_model.specs.Send.Rival.{IsRival};
+ghost use Rattle.h26x_model.specs.Carry.Loss.{LossStaysWithin};
+ghost use Rattle.h26x_model.specs.Send.Again.{NothingDropped};
+ghost use Rattle.h26x_model.specs.Carry.Detection.{AreDetected};
+ghost use Rattle.h26x_model.specs.Payload.Facts.{IsPayloadFormat, AreCarried};
+ghost use Rattle.h26x_model.specs.Send.PacketizerState.{PacketizerState, IsPacketizerState, state_plan, state_units};
+ghost use Rattle.h26x_model.specs.Carry.Laws.{calls_like};
 ghost use Rattle.h26x_cut.specs.declared.ZeroRule.TheVariants.{All};
 ghost use Rattle.h26x_cut.specs.Cutting.{IsUnit, AreSeparable};
 ghost use Rattle.h264_payload.specs.H264.{h264, read};
@@ -48,7 +48,7 @@ pub fn fragments_of_a_unit()
         limit < length unit → AreMarked h264 n limit unit }
     ensures sent { (n limit : ℕ) (unit : List ℕ) → 3 ≤ limit →
         limit < length unit →
-        packets_of_item h264 n (Alone limit unit) ≡ fragments h264 n limit unit }
+        item_packets h264 n (Alone limit unit) ≡ fragments h264 n limit unit }
     ensures full { (n limit : ℕ) (unit : List ℕ) (place : ℕ) → 3 ≤ limit →
         limit < length unit → place + 1 < fragment_count h264 limit unit →
         length (fragment h264 n limit unit place) ≡ limit }
@@ -69,9 +69,10 @@ pub fn fewest_fragments_and_least_loss()
 /// Of what calls send, whichever sets wait: the packet or the first fragment of each key unit is
 /// detected, and no other packet.
 pub fn key_units_are_detected()
-    ensures { (s : Sender) (calls : List Call) → s.format ≡ h264 → IsSender s → AreCalls calls →
-        AreCarried s.format (sent_by s (entries_of s.format calls)) →
-        AreDetected s.format s.counter (planned s (entries_of s.format calls)) }
+    ensures { (s : PacketizerState) (calls : List Call) → s.format ≡ h264 → IsPacketizerState s →
+        AreCalls calls →
+        AreCarried s.format (state_units s (all_entries s.format calls)) →
+        AreDetected s.format s.next_don (state_plan s (all_entries s.format calls)) }
 {}
 
 /// Each unit of a payload is not empty and holds no start code (Annex B of Rec. ITU-T H.264).
@@ -92,8 +93,8 @@ pub fn text_is_cut_into_its_units()
 /// written text is sent in one such call. No unit sent but the last may end in a zero.
 pub fn sent_again()
     ensures { (call : Call) (payloads units : List (List ℕ)) →
-        NothingDropped h264 (entries_of h264 (calls_like call payloads)) →
-        units ≡ sent h264 (entries_of h264 (calls_like call payloads)) → AreSeparable All units →
-        packets_of h264 0 (record call { payload = annex_b units } ∷ [])
-        ≡ packets_of h264 0 (calls_like call payloads) }
+        NothingDropped h264 (all_entries h264 (calls_like call payloads)) →
+        units ≡ units_sent h264 (all_entries h264 (calls_like call payloads)) → AreSeparable All units →
+        all_packets h264 0 (record call { payload = annex_b units } ∷ [])
+        ≡ all_packets h264 0 (calls_like call payloads) }
 {}

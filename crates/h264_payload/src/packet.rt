@@ -2,8 +2,8 @@
 
 ghost use Rattle.std.specs.Prelude.{◌≡◌, ◌+◌, IfOk, IfErr};
 ghost use Rattle.h26x_core.specs.H264Unit.{type_of, type_of_first};
-ghost use Rattle.h26x_core.specs.Reading.{Refused};
-ghost use Rattle.h26x_payload.specs.Receiving.{IsReadAs};
+ghost use Rattle.h26x_model.specs.Payload.Reading.{Refused};
+ghost use Rattle.h26x_payload.specs.DepacketizerView.{IsReadAs};
 ghost use Rattle.h264_payload.specs.H264.{h264, reference_bits, stap_units};
 
 use crate::packetizer::H264;
@@ -24,9 +24,9 @@ fn unit_header(indicator: u8, header: u8) -> u8
 
 impl PacketReader for H264 {
     ghost use Rattle.std.specs.Prelude.{ℕ, List, Bool};
-    ghost use Rattle.h26x_core.specs.H264Frame.{is_head};
+    ghost use Rattle.h26x_core.specs.H264AccessUnit.{may_begin_h264};
 
-    ghost begins = { λ codec. is_head };
+    ghost begins = { λ codec. may_begin_h264 };
 
     ghost ends = { λ codec marker packet. marker };
 

@@ -2,13 +2,13 @@
 
 ghost use Rattle.std.specs.Prelude.{◌≡◌, map, IfOk, IfErr};
 ghost use Rattle.h26x_core.specs.Pieces.{pieces_of};
-ghost use Rattle.h26x_core.specs.Reading.{Aggregate, Refused, unnumbered};
+ghost use Rattle.h26x_model.specs.Payload.Reading.{Aggregate, Refused, without_don};
 ghost use Rattle.h264_payload.specs.H264.{aggregate_of, stap_units};
 ghost use Rattle.h26x_payload.specs.Run.{AreOfSize};
 
 use crate::packetizer::H264;
 use h26x_core::{PacketError, STAPA_NALU_LENGTH_SIZE, first_piece};
-use h26x_payload::{Aggregate, LEAD_SIZE};
+use h26x_payload::{Aggregate, PREFIX_SIZE};
 
 impl Aggregate for H264 {
     ghost use Rattle.h264_payload.specs.H264.{stap_units};
@@ -37,7 +37,7 @@ impl Aggregate for H264 {
 /// a length that passes its end is refused.
 pub fn check_stap(bytes: &[u8]) -> Result<usize, PacketError>
     ensures whole { IfOk result (λ size. aggregate_of (pieces_of bytes.now) ≡ Aggregate
-        (map unnumbered (stap_units bytes.now))) }
+        (map without_don (stap_units bytes.now))) }
     ensures size { IfOk result (λ size. AreOfSize (stap_units bytes.now) size) }
     ensures refused { IfErr result (λ e. aggregate_of (pieces_of bytes.now) ≡ Refused e) }
 {
@@ -47,7 +47,7 @@ pub fn check_stap(bytes: &[u8]) -> Result<usize, PacketError>
         match first_piece(rest) {
             Ok((unit, behind)) => {
                 if !unit.is_empty() {
-                    size = size.saturating_add(unit.len() + LEAD_SIZE);
+                    size = size.saturating_add(unit.len() + PREFIX_SIZE);
                 }
                 rest = behind;
             }

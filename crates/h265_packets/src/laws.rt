@@ -9,8 +9,9 @@ ghost use Rattle.h265_packets.specs.Payload.{PaciPacket, tsci_word, tsci_in, tsc
 ghost use Rattle.h265_packets.specs.Payload.{SinglePacket, FragmentationPacket, FirstUnit, OtherUnit, AggregationPacket};
 ghost use Rattle.h265_packets.specs.Payload.{single_eq, fragmentation_eq, first_eq, other_eq, aggregation_eq, paci_eq};
 
-/// Of a packet with the fields of a packed one TSCI is shown where its extension has three bytes or more (RFC
-/// 7798, 4.5): TL0PICIDX is the first of them, IrapPicID the second; S, E and RES are the third.
+/// Of a packet with the fields of a packed one TSCI is shown where its extension has three bytes or
+/// more (RFC 7798, 4.5): TL0PICIDX is the first of them, IrapPicID the second; S, E and RES are the
+/// third.
 pub fn tsci_is_read_back()
     ensures tsci { (high : ℕ) (p : PaciPacket) → length p.phes ≤ 31 →
         p.fields ≡ paci_fields high p.phes → tsci_shown p ≡ tsci_in p.phes }

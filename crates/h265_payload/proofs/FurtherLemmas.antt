@@ -67,9 +67,9 @@ no_further (suc most) n (difference ∷ high ∷ low ∷ bytes) none =
 pub only_further : (most n : ℕ) (bytes : List ℕ) (pairs : List (List ℕ × Option ℕ)) (left : List ℕ) → length bytes ≤ most → AreFurther n bytes pairs left → HasNoFurther left →
     further_units most n bytes ≡ pairs
 only_further most n bytes [] left few same none = rw same (no_further most n left none)
-only_further zero n [] (pair ∷ pairs) left few (difference, high, low, behind, same, long, number, later) none = absurd cc
+only_further zero n [] (pair ∷ pairs) left few (difference, high, low, behind, same, long, don, later) none = absurd cc
 only_further zero n (x ∷ bytes) (pair ∷ pairs) left few are none = absurd (omega arith)
-only_further (suc most) n bytes (pair ∷ pairs) left few (difference, high, low, behind, same, long, number, later) none =
+only_further (suc most) n bytes (pair ∷ pairs) left few (difference, high, low, behind, same, long, don, later) none =
     let size : length bytes ≡ suc (suc (suc (length pair.0 + length behind))) = ap length same ∙ ap (λ k. suc (suc (suc k))) (length-append pair.0 behind) in
     rw (
       same,
@@ -79,4 +79,4 @@ only_further (suc most) n bytes (pair ∷ pairs) left few (difference, high, low
       drop_at pair.0 behind (length pair.0) refl,
       only_further most ((n + difference + 1) % 65536) behind pairs left (omega arith) later none,
     )
-    (ap (λ (x : Option ℕ). (pair.0, x) ∷ pairs) (sym number))
+    (ap (λ (x : Option ℕ). (pair.0, x) ∷ pairs) (sym don))

@@ -7,15 +7,15 @@ use Rattle.h26x_core.specs.declared.error.PacketError.TheVariants.{ErrH265Corrup
 use Rattle.h26x_core.specs.Word.{field, is_set}
 use Rattle.h26x_core.specs.Kind.{is_other}
 use Rattle.h26x_core.specs.H265Unit.{type_of, kind_of_type, is_key_type}
-use Rattle.h26x_core.specs.Reading.{Fragment, single_of}
+use Rattle.h26x_model.specs.Payload.Reading.{Fragment, two_byte_single}
 use Rattle.h26x_core.proofs.HeaderLemmas.{six_bits_back}
-use Rattle.h26x_core.proofs.TwoByteLemmas.{TwoBytes, IsTwoBytes, IsCarried}
+use Rattle.h26x_model.proofs.TwoByteLemmas.{TwoBytes, IsTwoBytes, IsCarried}
 use Rattle.h265_packets.specs.Header.{with_type}
 use Rattle.h265_payload.specs.H265.{with_type_and_f, aggregate_of, fragment_of, paci_of}
 
 -- what sets H.265 apart: types stand in the high byte, and have six bits
-abbrev pub two : (numbered : Bool) → TwoBytes numbered
-two numbered = record {
+abbrev pub two : (has_donl : Bool) → TwoBytes has_donl
+two has_donl = record {
   type_of = λ high low. type_of high;
   aggregate = 48;
   fragment = 49;
@@ -27,9 +27,9 @@ two numbered = record {
   kind = kind_of_type;
   is_key = is_key_type;
   corrupted = ErrH265CorruptedPacket;
-  aggregate_of = aggregate_of numbered;
-  fragment_of = fragment_of numbered;
-  own_of = λ high low rest. cond (type_of high == 50) (paci_of high low rest) (single_of numbered high low rest);
+  aggregate_of = aggregate_of has_donl;
+  fragment_of = fragment_of has_donl;
+  own_of = λ high low rest. cond (type_of high == 50) (paci_of high low rest) (two_byte_single has_donl high low rest);
 }
 
 -- another type leaves F clear
@@ -42,8 +42,8 @@ head_back : (b : ℕ) → b < 128 → with_type (with_type_and_f b 49) (type_of 
 head_back b h = omega arith
 
 -- a carried unit has F clear and is no packet of type 48 to 50
-pub carried : (numbered : Bool) (high low : ℕ) → (nat_lt high 0x80 && (nat_lt (type_of high) 48 || nat_lt 50 (type_of high))) ≡ true → IsCarried numbered (two numbered) high low
-carried numbered high low h =
+pub carried : (has_donl : Bool) (high low : ℕ) → (nat_lt high 0x80 && (nat_lt (type_of high) 48 || nat_lt 50 (type_of high))) ≡ true → IsCarried has_donl (two has_donl) high low
+carried has_donl high low h =
     let p = and_parts (nat_lt high 0x80) (nat_lt (type_of high) 48 || nat_lt 50 (type_of high)) h in
     let small : nat_lt high 0x80 ≡ true = p.0 in
     let own : (nat_lt (type_of high) 48 || nat_lt 50 (type_of high)) ≡ true = p.1 in
@@ -60,18 +60,18 @@ carried numbered high low h =
     }
 
 -- a fragment that bears no number
-pub some_fragment : (numbered start : Bool) (high low b : ℕ) (body : List ℕ) → (numbered && start) ≡ false → 1 ≤ length body →
-    fragment_of numbered start high low b body ≡ Fragment start (is_set b 6) (with_type high (field b 5 0) ∷ low ∷ []) None body
-some_fragment numbered start high low b [] n some = absurd (omega arith)
+pub some_fragment : (has_donl start : Bool) (high low b : ℕ) (body : List ℕ) → (has_donl && start) ≡ false → 1 ≤ length body →
+    fragment_of has_donl start high low b body ≡ Fragment start (is_set b 6) (with_type high (field b 5 0) ∷ low ∷ []) None body
+some_fragment has_donl start high low b [] n some = absurd (omega arith)
 some_fragment true true high low b (x ∷ body) n some = absurd cc
 some_fragment true false high low b (x ∷ body) n some = refl
 some_fragment false true high low b (x ∷ body) n some = refl
 some_fragment false false high low b (x ∷ body) n some = refl
 
 -- a start that bears one
-pub numbered_start : (numbered start : Bool) (high low b d e : ℕ) (body : List ℕ) → (numbered && start) ≡ true → 1 ≤ length body →
-    fragment_of numbered start high low b (d ∷ e ∷ body) ≡ Fragment true (is_set b 6) (with_type high (field b 5 0) ∷ low ∷ []) (Some (d * 256 + e)) body
-numbered_start numbered start high low b d e [] n some = absurd (omega arith)
+pub numbered_start : (has_donl start : Bool) (high low b d e : ℕ) (body : List ℕ) → (has_donl && start) ≡ true → 1 ≤ length body →
+    fragment_of has_donl start high low b (d ∷ e ∷ body) ≡ Fragment true (is_set b 6) (with_type high (field b 5 0) ∷ low ∷ []) (Some (d * 256 + e)) body
+numbered_start has_donl start high low b d e [] n some = absurd (omega arith)
 numbered_start true true high low b d e (x ∷ body) n some = refl
 numbered_start true false high low b d e (x ∷ body) n some = absurd cc
 numbered_start false start high low b d e (x ∷ body) n some = absurd cc
@@ -88,14 +88,14 @@ key_is_other t e =
     rw (no_35, no_32, no_33, no_34) refl
 
 -- H.265 is what is asked of formats whose headers have two bytes
-pub is_two_bytes : (numbered : Bool) → IsTwoBytes numbered (two numbered)
-is_two_bytes numbered = record {
+pub is_two_bytes : (has_donl : Bool) → IsTwoBytes has_donl (two has_donl)
+is_two_bytes has_donl = record {
   apart = refl;
   type_fits = λ high low. omega arith;
   marked = λ high low. omega arith;
   type_back = λ start end high low. six_bits_back start end (type_of high) (omega arith);
-  carried = carried numbered;
+  carried = carried has_donl;
   other = key_is_other;
-  plain = some_fragment numbered;
-  start = numbered_start numbered;
+  plain = some_fragment has_donl;
+  start = numbered_start has_donl;
 }

@@ -4,7 +4,7 @@ use Rattle.std.proofs.lemmas.List.{take_at, drop_at}
 use Rattle.std.proofs.lemmas.Bool.Decides.{nat_tests}
 use Rattle.h26x_core.specs.Word.{field, flag}
 use Rattle.h26x_core.specs.H265Unit.{is_forbidden, type_of}
-use Rattle.h26x_core.specs.Reading.{Paci}
+use Rattle.h26x_model.specs.Payload.Reading.{Paci}
 use Rattle.h265_packets.specs.Header.{with_type}
 use Rattle.h265_packets.specs.Paci.{paci_fields, paci_packet}
 use Rattle.h265_packets.specs.declared.payload.H265Payload.TheVariants.{H265PACIPacket}
@@ -36,21 +36,21 @@ head_back high low phes byte within =
     let f = fields_are high phes within in
     rw (f.a, f.ctype, f_bit high) (ap (λ (x : ℕ). x ∷ low ∷ []) (high_back high byte))
 
-pub read_back : (numbered : Bool) (high low : ℕ) (body phes : List ℕ) → high < 256 → 1 ≤ length body → length phes ≤ 31 →
-    read numbered (paci_packet (high ∷ low ∷ body) phes) ≡ Paci (high ∷ low ∷ []) (paci_fields high phes) phes body
-read_back numbered high low body phes byte some within =
+pub read_back : (has_donl : Bool) (high low : ℕ) (body phes : List ℕ) → high < 256 → 1 ≤ length body → length phes ≤ 31 →
+    read has_donl (paci_packet (high ∷ low ∷ body) phes) ≡ Paci (high ∷ low ∷ []) (paci_fields high phes) phes body
+read_back has_donl high low body phes byte some within =
     let f = fields_are high phes within in
     let w = word_back (paci_fields high phes) f.two_bytes in
-    only_reading numbered (paci_packet (high ∷ low ∷ body) phes) (Paci (high ∷ low ∷ []) (paci_fields high phes) phes body)
+    only_reading has_donl (paci_packet (high ∷ low ∷ body) phes) (Paci (high ∷ low ∷ []) (paci_fields high phes) phes body)
     (IsPaci (with_type high 50) low (paci_fields high phes / 256 % 256) (paci_fields high phes % 256) phes body
     (record { whole = refl; some = omega arith; clear = grind (arith, nat_tests) }) (omega arith) (rw w f.phs_size) some
     (rw w (rw (head_back high low phes byte within) refl)))
 
 -- and is shown as it was packed
-pub shown_back : (numbered : Bool) (high low : ℕ) (body phes : List ℕ) → length phes ≤ 31 →
-    shown numbered (paci_packet (high ∷ low ∷ body) phes)
+pub shown_back : (has_donl : Bool) (high low : ℕ) (body phes : List ℕ) → length phes ≤ 31 →
+    shown has_donl (paci_packet (high ∷ low ∷ body) phes)
     ≡ H265PACIPacket (record { header = with_type high 50 * 256 + low; fields = paci_fields high phes; phes = phes; payload = body })
-shown_back numbered high low body phes within =
+shown_back has_donl high low body phes within =
     let f = fields_are high phes within in
     let kind : type_of (with_type high 50) ≡ 50 = omega arith in
     rw (kind, word_back (paci_fields high phes) f.two_bytes, f.phs_size, take_at phes body (length phes) refl, drop_at phes body (length phes) refl) refl

@@ -3,11 +3,11 @@ use Rattle.std.proofs.Common.{◌≡◌, ◌≢◌, ℕ, ◌+◌, ◌*◌, Bool,
 use Rattle.std.specs.Prelude.{◌==◌, slice_index, drop}
 use Rattle.std.proofs.lemmas.Bool.Decides.{nat_tests}
 use Rattle.h26x_core.specs.H265Unit.{type_of}
-use Rattle.h26x_core.specs.Reading.{Reading}
-use Rattle.h26x_core.specs.Received.{units_with}
-use Rattle.h26x_payload.specs.Receiving.{taken_as, parts_reading}
-use Rattle.h26x_payload.specs.declared.parts.Parts.{Parts}
-use Rattle.h26x_payload.specs.declared.parts.Parts.TheVariants as p
+use Rattle.h26x_model.specs.Payload.Reading.{Reading}
+use Rattle.h26x_model.specs.Receive.Received.{reading_units}
+use Rattle.h26x_payload.specs.DepacketizerView.{taken_as, parts_reading}
+use Rattle.h26x_payload.specs.declared.receive.parts.Parts.{Parts}
+use Rattle.h26x_payload.specs.declared.receive.parts.Parts.TheVariants as p
 use Rattle.h26x_payload.proofs.AggregateLemmas.{units_only}
 use Rattle.h26x_payload.proofs.ReceivingLemmas.{taken_brings}
 use Rattle.h265_payload.specs.Shown.{shown, shown_single, shown_fragment, shown_paci, is_aggregate, units_of_aggregate, units_in, others_of, donl_of}
@@ -16,9 +16,9 @@ use Rattle.h265_payload.specs.Packet.{IsShownBy}
 use Rattle.h265_payload.proofs.AggregateLemmas.{units_shown_so}
 
 -- a fragment is shown as no aggregate
-fragment_apart : (numbered : Bool) (header : ℕ) (rest : List ℕ) → is_aggregate (shown_fragment numbered header rest) ≡ false
-fragment_apart numbered header [] = refl
-fragment_apart numbered header (fu ∷ rest) = refl
+fragment_apart : (has_donl : Bool) (header : ℕ) (rest : List ℕ) → is_aggregate (shown_fragment has_donl header rest) ≡ false
+fragment_apart has_donl header [] = refl
+fragment_apart has_donl header (fu ∷ rest) = refl
 
 -- nor is a PACI packet
 paci_apart : (header : ℕ) (rest : List ℕ) → is_aggregate (shown_paci header rest) ≡ false
@@ -27,26 +27,26 @@ paci_apart header (a ∷ []) = refl
 paci_apart header (a ∷ b ∷ rest) = refl
 
 -- nor is any packet of another type than 48
-other_apart : (numbered : Bool) (packet : List ℕ) → type_of (slice_index packet 0) ≢ 48 → is_aggregate (shown numbered packet) ≡ false
-other_apart numbered [] other = refl
-other_apart numbered (x ∷ []) other = refl
-other_apart numbered (high ∷ low ∷ rest) other =
+other_apart : (has_donl : Bool) (packet : List ℕ) → type_of (slice_index packet 0) ≢ 48 → is_aggregate (shown has_donl packet) ≡ false
+other_apart has_donl [] other = refl
+other_apart has_donl (x ∷ []) other = refl
+other_apart has_donl (high ∷ low ∷ rest) other =
     let header = high * 256 + low in
     let test : (type_of high == 48) ≡ false = grind (arith, nat_tests, other) in
-    let fragment = shown_fragment numbered header rest in
+    let fragment = shown_fragment has_donl header rest in
     let paci = shown_paci header rest in
-    let single = shown_single numbered header rest in
+    let single = shown_single has_donl header rest in
     rw test (elim (type_of high == 49) as (λ b. is_aggregate (cond b fragment (cond (type_of high == 50) paci single)) ≡ false) [
-      | true ↦ fragment_apart numbered header rest
+      | true ↦ fragment_apart has_donl header rest
       | false ↦ elim (type_of high == 50) as (λ b. is_aggregate (cond b paci single) ≡ false) [ true ↦ paci_apart header rest | false ↦ refl ]
     ])
 
 -- what an aggregate brings is what it shows
-pub brings_shown : (numbered : Bool) (packet : List ℕ) (parts : Parts) (run : Option (List ℕ)) (reading : Reading) → taken_as reading ≡ parts_reading (h265 numbered) (units_in numbered) packet parts →
-    IsShownBy numbered packet parts → is_aggregate (shown numbered packet) ≡ true → units_with run reading ≡ units_of_aggregate (shown numbered packet)
-brings_shown numbered packet p.Whole run reading same shows is = let none = other_apart numbered packet shows.other in absurd cc
-brings_shown numbered packet (p.Unit head body) run reading same shows is = let none = other_apart numbered packet shows.other in absurd cc
-brings_shown numbered packet (p.Fragment fragment) run reading same shows is = let none = other_apart numbered packet shows.other in absurd cc
-brings_shown numbered packet (p.Aggregate bytes size) run reading same shows is =
-    taken_brings run reading (parts_reading (h265 numbered) (units_in numbered) packet (p.Aggregate bytes size)) same ∙ units_only (units_in numbered bytes.now)
-    ∙ sym (ap units_of_aggregate shows.1 ∙ units_shown_so numbered (donl_of numbered (drop 2 packet)) (others_of numbered bytes.now))
+pub brings_shown : (has_donl : Bool) (packet : List ℕ) (parts : Parts) (run : Option (List ℕ)) (reading : Reading) → taken_as reading ≡ parts_reading (h265 has_donl) (units_in has_donl) packet parts →
+    IsShownBy has_donl packet parts → is_aggregate (shown has_donl packet) ≡ true → reading_units run reading ≡ units_of_aggregate (shown has_donl packet)
+brings_shown has_donl packet p.Whole run reading same shows is = let none = other_apart has_donl packet shows.other in absurd cc
+brings_shown has_donl packet (p.Unit head body) run reading same shows is = let none = other_apart has_donl packet shows.other in absurd cc
+brings_shown has_donl packet (p.Fragment fragment) run reading same shows is = let none = other_apart has_donl packet shows.other in absurd cc
+brings_shown has_donl packet (p.Aggregate bytes size) run reading same shows is =
+    taken_brings run reading (parts_reading (h265 has_donl) (units_in has_donl) packet (p.Aggregate bytes size)) same ∙ units_only (units_in has_donl bytes.now)
+    ∙ sym (ap units_of_aggregate shows.1 ∙ units_shown_so has_donl (donl_of has_donl (drop 2 packet)) (others_of has_donl bytes.now))

@@ -6,9 +6,9 @@ use Rattle.std.proofs.lemmas.Bool.Decides.{nat_tests}
 use Rattle.std.proofs.Math.Nat.{mod-mod}
 use Rattle.h26x_core.specs.Kind.{is_other}
 use Rattle.h26x_core.specs.H265Unit.{kind, is_key}
-use Rattle.h26x_core.specs.Facts.{FitsLimits, NumbersAreTwoBytes}
-use Rattle.h26x_core.proofs.SetsLemmas.{room_of, room_of-cons}
-use Rattle.h265_payload.specs.H265.{h265, fragment_header, sets_fit, sets_packet, further}
+use Rattle.h26x_model.specs.Payload.Facts.{FitsLimits, DonlHasTwoBytes}
+use Rattle.h26x_model.proofs.SetsLemmas.{room_of, room_of-cons}
+use Rattle.h265_payload.specs.H265.{h265, fragment_header, sets_fit, sets_packet, further_set}
 
 -- an other unit has a whole header
 pub has_header : (unit : List ℕ) → is_other (kind unit) ≡ true → 2 ≤ length unit
@@ -29,53 +29,53 @@ header_long (high ∷ []) start end = omega arith
 header_long (high ∷ low ∷ unit) start end = omega arith
 
 -- sets that fit an aggregate are within the limit
-pub fit_within : (numbered : Bool) (limit : ℕ) (sets : List (List ℕ)) →
-    sets_fit numbered limit sets ≡ true →
-    2 + cond numbered (length sets + 1) 0 + room_of sets ≤ limit
-fit_within numbered limit sets h = grind (arith, nat_tests)
+pub fit_within : (has_donl : Bool) (limit : ℕ) (sets : List (List ℕ)) →
+    sets_fit has_donl limit sets ≡ true →
+    2 + cond has_donl (length sets + 1) 0 + room_of sets ≤ limit
+fit_within has_donl limit sets h = grind (arith, nat_tests)
 
 -- the further sets take one byte more each where they bear numbers
-pub further_long : (numbered : Bool) (sets : List (List ℕ)) →
-    length (flat_map (further numbered) sets) ≡ cond numbered (length sets) 0 + room_of sets
+pub further_long : (has_donl : Bool) (sets : List (List ℕ)) →
+    length (flat_map (further_set has_donl) sets) ≡ cond has_donl (length sets) 0 + room_of sets
 further_long true [] = omega arith
 further_long false [] = omega arith
 further_long true (set ∷ sets) =
-    let h = further_long true sets in let l = length-append set (flat_map (further true) sets) in
+    let h = further_long true sets in let l = length-append set (flat_map (further_set true) sets) in
     let s = room_of-cons set sets in omega (arith, h, l, s)
 further_long false (set ∷ sets) =
-    let h = further_long false sets in let l = length-append set (flat_map (further false) sets) in
+    let h = further_long false sets in let l = length-append set (flat_map (further_set false) sets) in
     let s = room_of-cons set sets in omega (arith, h, l, s)
 
 -- an aggregate of sets that fit is within the limit
-sets_within : (numbered : Bool) (limit n : ℕ) (sets : List (List ℕ)) (unit : List ℕ) →
-    sets_fit numbered limit sets ≡ true → length (sets_packet numbered n sets unit) ≤ limit
-sets_within numbered limit n [] unit fit = omega arith
-sets_within numbered limit n (set ∷ sets) [] fit = omega arith
-sets_within numbered limit n (set ∷ sets) (high ∷ []) fit = omega arith
+sets_within : (has_donl : Bool) (limit n : ℕ) (sets : List (List ℕ)) (unit : List ℕ) →
+    sets_fit has_donl limit sets ≡ true → length (sets_packet has_donl n sets unit) ≤ limit
+sets_within has_donl limit n [] unit fit = omega arith
+sets_within has_donl limit n (set ∷ sets) [] fit = omega arith
+sets_within has_donl limit n (set ∷ sets) (high ∷ []) fit = omega arith
 sets_within true limit n (set ∷ sets) (high ∷ low ∷ unit) fit =
     let w = fit_within true limit (set ∷ sets) fit in
-    let h = further_long true sets in let l = length-append set (flat_map (further true) sets) in
+    let h = further_long true sets in let l = length-append set (flat_map (further_set true) sets) in
     let s = room_of-cons set sets in omega (arith, w, h, l, s)
 sets_within false limit n (set ∷ sets) (high ∷ low ∷ unit) fit =
     let w = fit_within false limit (set ∷ sets) fit in
-    let h = further_long false sets in let l = length-append set (flat_map (further false) sets) in
+    let h = further_long false sets in let l = length-append set (flat_map (further_set false) sets) in
     let s = room_of-cons set sets in omega (arith, w, h, l, s)
 
 -- headers are as long as they are counted, and aggregates are within the limit
-pub fits_limits : (numbered : Bool) → FitsLimits (h265 numbered)
-fits_limits numbered = record { header = header_long; sets = sets_within numbered }
+pub fits_limits : (has_donl : Bool) → FitsLimits (h265 has_donl)
+fits_limits has_donl = record { header = header_long; sets = sets_within has_donl }
 
 -- a number counts by its two bytes
-two_number_bytes : (numbered : Bool) (n : ℕ) (sets : List (List ℕ)) (unit : List ℕ) →
-    sets_packet numbered (n % 65536) sets unit ≡ sets_packet numbered n sets unit
-two_number_bytes numbered n [] unit = refl
-two_number_bytes numbered n (set ∷ sets) [] = refl
-two_number_bytes numbered n (set ∷ sets) (high ∷ []) = refl
-two_number_bytes numbered n (set ∷ sets) (high ∷ low ∷ unit) = rw (mod-mod n 65536) refl
+two_number_bytes : (has_donl : Bool) (n : ℕ) (sets : List (List ℕ)) (unit : List ℕ) →
+    sets_packet has_donl (n % 65536) sets unit ≡ sets_packet has_donl n sets unit
+two_number_bytes has_donl n [] unit = refl
+two_number_bytes has_donl n (set ∷ sets) [] = refl
+two_number_bytes has_donl n (set ∷ sets) (high ∷ []) = refl
+two_number_bytes has_donl n (set ∷ sets) (high ∷ low ∷ unit) = rw (mod-mod n 65536) refl
 
 -- an aggregate bears a number in two bytes, or none
-pub aggregate_numbers : (numbered : Bool) → NumbersAreTwoBytes (h265 numbered)
-aggregate_numbers numbered = record {
-  sets = two_number_bytes numbered;
+pub aggregate_numbers : (has_donl : Bool) → DonlHasTwoBytes (h265 has_donl)
+aggregate_numbers has_donl = record {
+  sets = two_number_bytes has_donl;
   none = λ none n m sets unit. rw none refl;
 }

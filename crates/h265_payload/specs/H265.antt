@@ -8,8 +8,8 @@ use Rattle.h26x_cut.specs.declared.ZeroRule.TheVariants.{All}
 use Rattle.h26x_cut.specs.Cutting.{units_of}
 use Rattle.h26x_core.specs.Word.{field, is_set, flag}
 use Rattle.h26x_core.specs.H265Unit.{type_of, kind, is_key, is_key_type}
-use Rattle.h26x_core.specs.Reading.{Reading, Aggregate, Fragment, Paci, Refused, unnumbered, single_of}
-use Rattle.h26x_core.specs.Format.{Format, number_bytes}
+use Rattle.h26x_model.specs.Payload.Reading.{Reading, Aggregate, Fragment, Paci, Refused, without_don, two_byte_single}
+use Rattle.h26x_model.specs.Payload.Format.{Format, donl_bytes}
 use Rattle.h26x_core.specs.Pieces.{pieces_of, piece}
 use Rattle.h265_packets.specs.Header.{with_type}
 
@@ -17,26 +17,26 @@ use Rattle.h265_packets.specs.Header.{with_type}
 abbrev pub with_type_and_f : ℕ → ℕ → ℕ
 with_type_and_f high type = field high 7 7 * 128 + with_type high type
 
-abbrev pub if_numbered : Bool → ℕ → ℕ  -- a length, where packets bear numbers
-if_numbered numbered n = if numbered then n else 0
+abbrev pub if_donl : Bool → ℕ → ℕ  -- a length, where packets bear numbers
+if_donl has_donl n = if has_donl then n else 0
 
 -- sets fit an aggregate: its header and number, and each set behind its length, from the second on
 -- behind a difference too
 abbrev pub sets_fit : Bool → ℕ → List (List ℕ) → Bool
-sets_fit numbered limit sets = nat_le (2 + if_numbered numbered (length sets + 1) + sum_by
+sets_fit has_donl limit sets = nat_le (2 + if_donl has_donl (length sets + 1) + sum_by
     (λ set. 2 + length set) sets) limit
 
 -- a set behind the difference of its number, less 1, from that of the set before (DOND, 4.4.2)
-abbrev pub further : Bool → List ℕ → List ℕ
-further numbered set = (if numbered then 0 ∷ [] else []) ++ piece set
+abbrev pub further_set : Bool → List ℕ → List ℕ
+further_set has_donl set = (if has_donl then 0 ∷ [] else []) ++ piece set
 
 -- an aggregate: the header of the unit behind the sets with type 48, the first set's number, the
 -- sets (4.4.2)
 abbrev pub sets_packet : Bool → ℕ → List (List ℕ) → List ℕ → List ℕ
-sets_packet numbered n (set ∷ sets) (high ∷ low ∷ unit) =
-    (with_type_and_f high 48 ∷ low ∷ []) ++ number_bytes numbered n ++ piece set
-    ++ flat_map (further numbered) sets
-sets_packet numbered n sets unit = []
+sets_packet has_donl n (set ∷ sets) (high ∷ low ∷ unit) =
+    (with_type_and_f high 48 ∷ low ∷ []) ++ donl_bytes has_donl n ++ piece set
+    ++ flat_map (further_set has_donl) sets
+sets_packet has_donl n sets unit = []
 
 -- a fragment's header: the unit's with type 49, and a byte of S, E and the unit's type (4.4.3)
 abbrev pub fragment_header : List ℕ → Bool → Bool → List ℕ
@@ -56,21 +56,21 @@ further_units (suc most) n (difference ∷ high ∷ low ∷ bytes) =
 further_units (suc most) n bytes = []
 
 -- the units of a numbered aggregate behind DONL
-abbrev pub units_from : ℕ → List ℕ → List (List ℕ × Option ℕ)
-units_from n (high ∷ low ∷ bytes) =
+abbrev pub units_behind_donl : ℕ → List ℕ → List (List ℕ × Option ℕ)
+units_behind_donl n (high ∷ low ∷ bytes) =
     if nat_le (high * 256 + low) (length bytes)
     then (take (high * 256 + low) bytes, Some n) ∷ further_units (length bytes) n
     (drop (high * 256 + low) bytes)
     else []
-units_from n bytes = []
+units_behind_donl n bytes = []
 
 abbrev pub two_or_more : List (List ℕ × Option ℕ) → Reading  -- an aggregate has two units or more
 two_or_more (first ∷ second ∷ units) = Aggregate (first ∷ second ∷ units)
 two_or_more units = Refused ErrShortPacket
 
 abbrev pub aggregate_of : Bool → List ℕ → Reading  -- an aggregate behind its header (4.4.2)
-aggregate_of false bytes = two_or_more (map unnumbered (pieces_of bytes).whole)
-aggregate_of true (high ∷ low ∷ bytes) = two_or_more (units_from (high * 256 + low) bytes)
+aggregate_of false bytes = two_or_more (map without_don (pieces_of bytes).whole)
+aggregate_of true (high ∷ low ∷ bytes) = two_or_more (units_behind_donl (high * 256 + low) bytes)
 aggregate_of true bytes = Refused ErrShortPacket
 
 -- a fragment behind its header, by its S bit (4.4.3)
@@ -78,9 +78,9 @@ abbrev pub fragment_of : Bool → Bool → ℕ → ℕ → ℕ → List ℕ → 
 fragment_of true true high low fu (d ∷ e ∷ b ∷ body) = Fragment true (is_set fu 6)
     (with_type high (field fu 5 0) ∷ low ∷ []) (Some (d * 256 + e)) (b ∷ body)
 fragment_of true true high low fu body = Refused ErrShortPacket
-fragment_of numbered start high low fu (b ∷ body) = Fragment start (is_set fu 6)
+fragment_of has_donl start high low fu (b ∷ body) = Fragment start (is_set fu 6)
     (with_type high (field fu 5 0) ∷ low ∷ []) None (b ∷ body)
-fragment_of numbered start high low fu body = Refused ErrShortPacket
+fragment_of has_donl start high low fu body = Refused ErrShortPacket
 
 -- the header that a PACI packet stands for: A as F, cType, and the packet's layer and temporal id
 -- (4.4.4; ours)
@@ -100,13 +100,13 @@ paci_of high low bytes = Refused ErrShortPacket
 
 -- the same as the relation `IsReading` of the file beside this one, computed
 abbrev pub read : Bool → List ℕ → Reading
-read numbered (high ∷ low ∷ b ∷ body) =
+read has_donl (high ∷ low ∷ b ∷ body) =
     if is_set high 7 then Refused ErrH265CorruptedPacket
-    else if type_of high == 48 then aggregate_of numbered (b ∷ body)
-    else if type_of high == 49 then fragment_of numbered (is_set b 7) high low b body
+    else if type_of high == 48 then aggregate_of has_donl (b ∷ body)
+    else if type_of high == 49 then fragment_of has_donl (is_set b 7) high low b body
     else if type_of high == 50 then paci_of high low (b ∷ body)
-    else single_of numbered high low (b ∷ body)
-read numbered packet = Refused ErrShortPacket
+    else two_byte_single has_donl high low (b ∷ body)
+read has_donl packet = Refused ErrShortPacket
 
 -- a unit of three bytes or more with F clear and a type of its own
 abbrev pub carries : List ℕ → Bool
@@ -124,7 +124,7 @@ is_fragment (high ∷ low ∷ rest) = type_of high == 49
 is_fragment packet = false
 
 -- Whether a key unit is known to stand in a packet, or to begin in it; numbers are not accounted
--- for (the crate's rule).
+-- for (str0m's rule).
 abbrev pub detects_fragment : List ℕ → Bool
 detects_fragment [] = false
 detects_fragment (fu ∷ body) = is_set fu 7 && is_key_type (field fu 5 0)
@@ -138,19 +138,19 @@ detects (high ∷ low ∷ rest) =
 detects packet = false
 
 abbrev pub h265 : Bool → Format  -- the format, with or without numbers
-h265 numbered = record {
+h265 has_donl = record {
   units = units_of All;
   kind = kind;
   is_key = is_key;
   least_mtu = 4;
-  sized = true;
+  has_max_packet_size = true;
   header_len = 2;
-  may_bear_donl = true;
-  numbered = numbered;
-  sets_fit = sets_fit numbered;
-  sets_packet = sets_packet numbered;
+  may_have_donl = true;
+  has_donl = has_donl;
+  sets_fit = sets_fit has_donl;
+  sets_packet = sets_packet has_donl;
   fragment_header = fragment_header;
-  read = read numbered;
+  read = read has_donl;
   carries = carries;
   extra = λ key. extras.H265 (record { is_keyframe = key });
   has_key = has_key;

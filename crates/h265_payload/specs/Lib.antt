@@ -4,4 +4,4 @@ pub mod CodecFacts
 pub mod Shown
 pub mod Packet
 pub mod Setting
-pub mod Depacketizer
+pub mod DepacketizerView

@@ -12,31 +12,31 @@ use Rattle.h265_packets.specs.declared.payload.H265Payload.TheVariants as p
 -- a number in two bytes, where there is one (DONL)
 abbrev pub donl_of : Bool → List ℕ → Option ℕ
 donl_of true (d ∷ e ∷ bytes) = Some (d * 256 + e)
-donl_of numbered bytes = None
+donl_of has_donl bytes = None
 
 -- what stands behind it
 abbrev pub behind_donl : Bool → List ℕ → List ℕ
-behind_donl numbered bytes = if numbered then drop 2 bytes else bytes
+behind_donl has_donl bytes = if has_donl then drop 2 bytes else bytes
 
 -- a single NAL unit packet: DONL behind the header, and then the rest (4.4.1)
 abbrev pub shown_single : Bool → ℕ → List ℕ → H265Payload
-shown_single numbered header rest = p.H265SingleNALUnitPacket (record {
+shown_single has_donl header rest = p.H265SingleNALUnitPacket (record {
   header = header;
-  donl = donl_of numbered rest;
-  payload = behind_donl numbered rest;
-  has_donl = numbered;
+  donl = donl_of has_donl rest;
+  payload = behind_donl has_donl rest;
+  has_donl = has_donl;
 })
 
 -- a fragmentation unit: the byte behind the header, DONL behind that where it starts a unit, and
 -- then the data (4.4.3)
 abbrev pub shown_fragment : Bool → ℕ → List ℕ → H265Payload
-shown_fragment numbered header [] = p.H265SingleNALUnitPacket empty_single
-shown_fragment numbered header (fu ∷ rest) = p.H265FragmentationUnitPacket (record {
+shown_fragment has_donl header [] = p.H265SingleNALUnitPacket empty_single
+shown_fragment has_donl header (fu ∷ rest) = p.H265FragmentationUnitPacket (record {
   header = header;
   fu_header = fu;
-  donl = donl_of (numbered && is_set fu 7) rest;
-  payload = behind_donl (numbered && is_set fu 7) rest;
-  has_donl = numbered;
+  donl = donl_of (has_donl && is_set fu 7) rest;
+  payload = behind_donl (has_donl && is_set fu 7) rest;
+  has_donl = has_donl;
 })
 
 -- units that each stand behind the difference of their number (DOND) and their length (4.4.2)
@@ -60,17 +60,17 @@ others_of true bytes = apart_within (length bytes) bytes
 
 -- the units of an aggregate behind DONL: the first behind its length, and the others
 abbrev pub aggregate_behind : Bool → Option ℕ → List ℕ → AggregationPacket
-aggregate_behind numbered donl (high ∷ low ∷ bytes) = record {
+aggregate_behind has_donl donl (high ∷ low ∷ bytes) = record {
   first = Some (record { donl = donl; nal_unit = take (high * 256 + low) bytes });
-  others = others_of numbered (drop (high * 256 + low) bytes);
-  has_donl = numbered;
+  others = others_of has_donl (drop (high * 256 + low) bytes);
+  has_donl = has_donl;
 }
-aggregate_behind numbered donl bytes = record { first = None; others = []; has_donl = numbered }
+aggregate_behind has_donl donl bytes = record { first = None; others = []; has_donl = has_donl }
 
 -- an aggregation packet: DONL behind the header, and then the units (4.4.2)
 abbrev pub aggregate_shown : Bool → List ℕ → AggregationPacket
-aggregate_shown numbered rest = aggregate_behind numbered (donl_of numbered rest)
-    (behind_donl numbered rest)
+aggregate_shown has_donl rest = aggregate_behind has_donl (donl_of has_donl rest)
+    (behind_donl has_donl rest)
 
 -- a PACI packet: its fields word behind the header, the extension that this word counts, and then
 -- the payload (4.4.4)
@@ -85,12 +85,12 @@ shown_paci header rest = p.H265SingleNALUnitPacket empty_single
 
 -- an accepted packet, by its type
 abbrev pub shown : Bool → List ℕ → H265Payload
-shown numbered (high ∷ low ∷ rest) =
-    if type_of high == 48 then p.H265AggregationPacket (aggregate_shown numbered rest)
-    else if type_of high == 49 then shown_fragment numbered (high * 256 + low) rest
+shown has_donl (high ∷ low ∷ rest) =
+    if type_of high == 48 then p.H265AggregationPacket (aggregate_shown has_donl rest)
+    else if type_of high == 49 then shown_fragment has_donl (high * 256 + low) rest
     else if type_of high == 50 then shown_paci (high * 256 + low) rest
-    else shown_single numbered (high * 256 + low) rest
-shown numbered packet = p.H265SingleNALUnitPacket empty_single
+    else shown_single has_donl (high * 256 + low) rest
+shown has_donl packet = p.H265SingleNALUnitPacket empty_single
 
 -- the units that an aggregate shows; none of another packet
 abbrev pub units_of_aggregate : H265Payload → List (List ℕ)
@@ -98,26 +98,26 @@ units_of_aggregate (p.H265AggregationPacket packet) = units_shown packet
 units_of_aggregate payload = []
 
 -- the number behind this one, by its difference (DOND, 4.4.2)
-abbrev pub next_number : ℕ → Option ℕ → Option ℕ
-next_number n None = None
-next_number n (Some difference) = Some ((n + difference + 1) % 65536)
+abbrev pub don_behind : ℕ → Option ℕ → Option ℕ
+don_behind n None = None
+don_behind n (Some difference) = Some ((n + difference + 1) % 65536)
 
 -- units behind another, each numbered by its difference: one more than that from the number before
-abbrev pub numbered_on : Option ℕ → List OtherUnit → List (List ℕ × Option ℕ)
-numbered_on number [] = []
-numbered_on None (other ∷ others) = (other.nal_unit, None) ∷ numbered_on None others
-numbered_on (Some n) (other ∷ others) = (other.nal_unit, next_number n other.dond) ∷
-    numbered_on (next_number n other.dond) others
+abbrev pub units_with_dons : Option ℕ → List OtherUnit → List (List ℕ × Option ℕ)
+units_with_dons don [] = []
+units_with_dons None (other ∷ others) = (other.nal_unit, None) ∷ units_with_dons None others
+units_with_dons (Some n) (other ∷ others) = (other.nal_unit, don_behind n other.dond) ∷
+    units_with_dons (don_behind n other.dond) others
 
 -- the units of an aggregate with their numbers: the first has DONL
 abbrev pub units_numbered : AggregationPacket → List (List ℕ × Option ℕ)
 units_numbered packet = option_map_or (λ first. (first.nal_unit, first.donl) ∷
-    numbered_on first.donl packet.others) packet.first []
+    units_with_dons first.donl packet.others) packet.first []
 
 -- the units of an aggregate: the first behind DONL's second byte, as the others stand behind DOND,
 -- where packets bear numbers
 abbrev pub units_in : Bool → List ℕ → List (List ℕ)
-units_in numbered bytes = map (λ other. other.nal_unit) (others_of numbered bytes)
+units_in has_donl bytes = map (λ other. other.nal_unit) (others_of has_donl bytes)
 
 -- whether it is an aggregate
 abbrev pub is_aggregate : H265Payload → Bool

@@ -2,7 +2,7 @@
 
 ghost use Rattle.std.specs.Prelude.{◌≡◌, ◌-◌, ◌^◌, ◌<◌, ◌≤◌, ◌∷◌, [], true, false, min, length, None, IfSome, IfOk, IfErr};
 ghost use Rattle.std.specs.List.{list_any};
-ghost use Rattle.h26x_core.specs.Outcome.{is_too_long};
+ghost use Rattle.h26x_model.specs.Receive.Outcome.{is_too_long};
 ghost use Rattle.h26x_payload.specs.Run.{AreOfSize};
 ghost use Rattle.h265_payload.specs.Shown.{others_of, units_in};
 
@@ -64,14 +64,14 @@ fn first_behind(bytes: &[u8]) -> Option<Other<'_>>
 }
 
 /// The first unit of these bytes.
-pub fn first_other(is_numbered: bool, bytes: &[u8]) -> Option<Other<'_>>
-    ensures first { IfSome result (λ it. others_of is_numbered bytes.now ≡
-        (record { dond = it.dond; nal_unit = it.unit.now }) ∷ others_of is_numbered it.behind.now) }
+pub fn first_other(has_donl: bool, bytes: &[u8]) -> Option<Other<'_>>
+    ensures first { IfSome result (λ it. others_of has_donl bytes.now ≡
+        (record { dond = it.dond; nal_unit = it.unit.now }) ∷ others_of has_donl it.behind.now) }
     ensures short { IfSome result (λ it. length it.unit.now < 65536) }
     ensures less { IfSome result (λ it. length it.behind.now < length bytes.now) }
-    ensures none { result ≡ None → others_of is_numbered bytes.now ≡ [] }
+    ensures none { result ≡ None → others_of has_donl bytes.now ≡ [] }
 {
-    if is_numbered {
+    if has_donl {
         first_apart(bytes)
     } else {
         first_behind(bytes)
@@ -83,10 +83,10 @@ impl Aggregate for H265 {
 
     // Of an aggregate with numbers, the bytes from DONL's second on, which stands where the others
     // have DOND.
-    ghost units = { λ codec. units_in codec.numbered };
+    ghost units = { λ codec. units_in codec.has_donl };
 
     fn first_unit(self, bytes: &[u8]) -> Option<(&[u8], &[u8])> {
-        match first_other(self.numbered, bytes) {
+        match first_other(self.has_donl, bytes) {
             Some(it) => Some((it.unit, it.behind)),
             None => None,
         }
@@ -95,20 +95,18 @@ impl Aggregate for H265 {
 
 /// How many bytes the units of an aggregate take where they are written, at most `usize::MAX`;
 /// fewer than two are refused.
-pub fn check_aggregate(is_numbered: bool, bytes: &[u8]) -> Result<usize, PacketError>
-    ensures whole { IfOk result (λ size. 2 ≤ length (others_of is_numbered bytes.now)) }
-    ensures size { IfOk result (λ size. AreOfSize (units_in is_numbered bytes.now) size) }
-    ensures short { IfErr result (λ e. length (others_of is_numbered bytes.now) < 2) }
+pub fn check_aggregate(has_donl: bool, bytes: &[u8]) -> Result<usize, PacketError>
+    ensures whole { IfOk result (λ size. 2 ≤ length (others_of has_donl bytes.now)) }
+    ensures size { IfOk result (λ size. AreOfSize (units_in has_donl bytes.now) size) }
+    ensures short { IfErr result (λ e. length (others_of has_donl bytes.now) < 2) }
     ensures error { IfErr result (λ e. e ≡ PacketError.ErrShortPacket) }
 {
-    let Some(first) = first_other(is_numbered, bytes) else {
+    let Some(first) = first_other(has_donl, bytes) else {
         return Err(PacketError::ErrShortPacket);
     };
-    if first_other(is_numbered, first.behind).is_none() {
+    if first_other(has_donl, first.behind).is_none() {
         return Err(PacketError::ErrShortPacket);
     }
-    let codec = H265 {
-        numbered: is_numbered,
-    };
+    let codec = H265 { has_donl: has_donl };
     Ok(written_size(codec, bytes))
 }

@@ -5,36 +5,36 @@ ghost use Rattle.std.specs.List.{range_with_len};
 ghost use Rattle.h26x_core.specs.Kind.{Skipped, Vps, Sps, Pps, Other};
 ghost use Rattle.h26x_core.specs.declared.error.PacketError.TheVariants.{ErrShortPacket, ErrH265CorruptedPacket};
 ghost use Rattle.h26x_core.specs.declared.extra.CodecExtra.TheVariants as extras;
-ghost use Rattle.h26x_core.specs.Reading.{Single, Aggregate, Refused};
-ghost use Rattle.h26x_core.specs.Calls.{call_at, packets_of, packets_of_payload};
-ghost use Rattle.h26x_core.specs.Plan.{Alone, Together};
-ghost use Rattle.h26x_core.specs.Waits.{AreSets, entries_at};
-ghost use Rattle.h26x_core.specs.Rival.{IsRival};
-ghost use Rattle.h26x_core.specs.Facts.{AreCarried, IsPlanned, CanSend};
-ghost use Rattle.h26x_core.specs.Again.{NothingDropped};
-ghost use Rattle.h26x_core.specs.Sender.{counted_on};
-ghost use Rattle.h26x_core.specs.Received.{received};
-ghost use Rattle.h26x_core.specs.Receiver.{at_work, work_after, receiver_meaning};
-ghost use Rattle.h26x_core.specs.Text.{annex_b, text};
-ghost use Rattle.h26x_core.specs.Extra.{extra_after};
+ghost use Rattle.h26x_model.specs.Payload.Reading.{Single, Aggregate, Refused};
+ghost use Rattle.h26x_model.specs.Send.Calls.{fresh_call, all_packets, payload_packets};
+ghost use Rattle.h26x_model.specs.Send.Plan.{Alone, Together};
+ghost use Rattle.h26x_model.specs.Send.WaitingSets.{AreWaitingSets, entries_with_limit};
+ghost use Rattle.h26x_model.specs.Send.Rival.{IsRival};
+ghost use Rattle.h26x_model.specs.Payload.Facts.{AreCarried, IsPlanned, CanSend};
+ghost use Rattle.h26x_model.specs.Send.Again.{NothingDropped};
+ghost use Rattle.h26x_model.specs.Send.PacketizerState.{don_after};
+ghost use Rattle.h26x_model.specs.Receive.Received.{received};
+ghost use Rattle.h26x_model.specs.Receive.DepacketizerState.{depacketization, after_packets, depacketizer_meaning};
+ghost use Rattle.h26x_core.specs.ByteStream.{annex_b, byte_stream};
+ghost use Rattle.h26x_model.specs.Payload.Extra.{extra_after};
 ghost use Rattle.h265_payload.specs.H265.{h265};
 
 /// A unit of five bytes goes in three fragments at a limit of 4: the first starts it, the last ends
 /// it.
 pub fn unit_in_fragments()
-    ensures { packets_of_payload (h265 false) 4 (0x26 ∷ 0x01 ∷ 0xaa ∷ 0xbb ∷ 0xcc ∷ [])
+    ensures { payload_packets (h265 false) 4 (0x26 ∷ 0x01 ∷ 0xaa ∷ 0xbb ∷ 0xcc ∷ [])
         ≡ (0x62 ∷ 0x01 ∷ 0x93 ∷ 0xaa ∷ []) ∷ (0x62 ∷ 0x01 ∷ 0x13 ∷ 0xbb ∷ []) ∷
         (0x62 ∷ 0x01 ∷ 0x53 ∷ 0xcc ∷ []) ∷ [] }
 {}
 
 /// An mtu under 4 has no effect: nothing is sent.
 pub fn small_mtu()
-    ensures { packets_of_payload (h265 false) 3 (0x02 ∷ 0x01 ∷ 0xaa ∷ []) ≡ [] }
+    ensures { payload_packets (h265 false) 3 (0x02 ∷ 0x01 ∷ 0xaa ∷ []) ≡ [] }
 {}
 
 /// No packet is longer than 1200 bytes, whatever the mtu.
 pub fn large_mtu()
-    ensures { packets_of_payload (h265 false) 5000 (0x26 ∷ 0x01 ∷ replicate 1199 0xaa)
+    ensures { payload_packets (h265 false) 5000 (0x26 ∷ 0x01 ∷ replicate 1199 0xaa)
         ≡ (0x62 ∷ 0x01 ∷ 0x93 ∷ replicate 1197 0xaa) ∷ (0x62 ∷ 0x01 ∷ 0x53 ∷ 0xaa ∷ 0xaa ∷ []) ∷
         [] }
 {}
@@ -43,10 +43,10 @@ pub fn large_mtu()
 /// would have no room for data, and one of three fits; at 6 the first fragment bears the number and
 /// one byte. A dropped unit takes no number.
 pub fn numbers_take_room()
-    ensures { packets_of (h265 true) 0 (
-        call_at 5 (0x02 ∷ 0x01 ∷ 0xaa ∷ 0xbb ∷ []) ∷
-        call_at 5 (0x02 ∷ 0x01 ∷ 0xaa ∷ []) ∷
-        call_at 6 (0x02 ∷ 0x01 ∷ 0xaa ∷ 0xbb ∷ 0xcc ∷ []) ∷ [])
+    ensures { all_packets (h265 true) 0 (
+        fresh_call 5 (0x02 ∷ 0x01 ∷ 0xaa ∷ 0xbb ∷ []) ∷
+        fresh_call 5 (0x02 ∷ 0x01 ∷ 0xaa ∷ []) ∷
+        fresh_call 6 (0x02 ∷ 0x01 ∷ 0xaa ∷ 0xbb ∷ 0xcc ∷ []) ∷ [])
         ≡ (0x02 ∷ 0x01 ∷ 0x00 ∷ 0x00 ∷ 0xaa ∷ []) ∷
         (0x62 ∷ 0x01 ∷ 0x81 ∷ 0x00 ∷ 0x01 ∷ 0xaa ∷ []) ∷ (0x62 ∷ 0x01 ∷ 0x41 ∷ 0xbb ∷ 0xcc ∷ []) ∷
         [] }
@@ -55,7 +55,7 @@ pub fn numbers_take_room()
 /// A VPS, an SPS and a PPS before a key unit go in one aggregate where it is within the limit, and
 /// alone at one byte less; with numbers each set behind the first bears the difference 0.
 pub fn sets_before_a_key_unit()
-    ensures together { packets_of_payload (h265 false) 17 (
+    ensures together { payload_packets (h265 false) 17 (
         0x00 ∷ 0x00 ∷ 0x01 ∷ 0x40 ∷ 0x01 ∷ 0x0c ∷
         0x00 ∷ 0x00 ∷ 0x01 ∷ 0x42 ∷ 0x01 ∷ 0x01 ∷
         0x00 ∷ 0x00 ∷ 0x01 ∷ 0x44 ∷ 0x01 ∷ 0xc1 ∷
@@ -65,14 +65,14 @@ pub fn sets_before_a_key_unit()
         0x00 ∷ 0x03 ∷ 0x42 ∷ 0x01 ∷ 0x01 ∷
         0x00 ∷ 0x03 ∷ 0x44 ∷ 0x01 ∷ 0xc1 ∷ []) ∷
         (0x26 ∷ 0x01 ∷ 0xaf ∷ []) ∷ [] }
-    ensures alone { packets_of_payload (h265 false) 16 (
+    ensures alone { payload_packets (h265 false) 16 (
         0x00 ∷ 0x00 ∷ 0x01 ∷ 0x40 ∷ 0x01 ∷ 0x0c ∷
         0x00 ∷ 0x00 ∷ 0x01 ∷ 0x42 ∷ 0x01 ∷ 0x01 ∷
         0x00 ∷ 0x00 ∷ 0x01 ∷ 0x44 ∷ 0x01 ∷ 0xc1 ∷
         0x00 ∷ 0x00 ∷ 0x01 ∷ 0x26 ∷ 0x01 ∷ 0xaf ∷ [])
         ≡ (0x40 ∷ 0x01 ∷ 0x0c ∷ []) ∷ (0x42 ∷ 0x01 ∷ 0x01 ∷ []) ∷ (0x44 ∷ 0x01 ∷ 0xc1 ∷ []) ∷
         (0x26 ∷ 0x01 ∷ 0xaf ∷ []) ∷ [] }
-    ensures numbered { packets_of_payload (h265 true) 100 (
+    ensures has_donl { payload_packets (h265 true) 100 (
         0x00 ∷ 0x00 ∷ 0x01 ∷ 0x40 ∷ 0x01 ∷ 0x0c ∷
         0x00 ∷ 0x00 ∷ 0x01 ∷ 0x42 ∷ 0x01 ∷ 0x01 ∷
         0x00 ∷ 0x00 ∷ 0x01 ∷ 0x44 ∷ 0x01 ∷ 0xc1 ∷
@@ -86,7 +86,7 @@ pub fn sets_before_a_key_unit()
 
 /// Where sets go alone and one of them doesn't fit, it is dropped and takes no number.
 pub fn dropped_set_takes_no_number()
-    ensures { packets_of_payload (h265 true) 5 (
+    ensures { payload_packets (h265 true) 5 (
         0x00 ∷ 0x00 ∷ 0x01 ∷ 0x42 ∷ 0x01 ∷ 0x01 ∷ 0x02 ∷
         0x00 ∷ 0x00 ∷ 0x01 ∷ 0x44 ∷ 0x01 ∷ 0xc1 ∷
         0x00 ∷ 0x00 ∷ 0x01 ∷ 0x26 ∷ 0x01 ∷ 0xaf ∷ [])
@@ -122,7 +122,7 @@ pub fn rest_of_an_aggregate()
 
 /// The numbers of an aggregate go round: 65535 and, with a difference of 1 and one more, 1.
 pub fn numbers_go_round()
-    ensures numbers { (h265 true).read (0x60 ∷ 0x01 ∷ 0xff ∷ 0xff ∷ 0x00 ∷ 0x02 ∷ 0x02 ∷ 0x01 ∷
+    ensures dons { (h265 true).read (0x60 ∷ 0x01 ∷ 0xff ∷ 0xff ∷ 0x00 ∷ 0x02 ∷ 0x02 ∷ 0x01 ∷
         0x01 ∷ 0x00 ∷ 0x03 ∷ 0x26 ∷ 0x01 ∷ 0xaf ∷ [])
         ≡ Aggregate ((0x02 ∷ 0x01 ∷ [], Some 65535) ∷ (0x26 ∷ 0x01 ∷ 0xaf ∷ [], Some 1) ∷ []) }
     ensures key { extra_after (h265 true) extras.None (received (map (h265 true).read (
@@ -172,10 +172,10 @@ pub fn key_unit_detected()
 
 /// How many packets a unit of eight bytes takes, at each limit up to 10.
 pub fn packets_by_limit()
-    ensures plain { map (λ mtu. length (packets_of_payload (h265 false) mtu (0x02 ∷ 0x01 ∷ 0x01 ∷
+    ensures plain { map (λ mtu. length (payload_packets (h265 false) mtu (0x02 ∷ 0x01 ∷ 0x01 ∷
         0x02 ∷ 0x03 ∷ 0x04 ∷ 0x05 ∷ 0x06 ∷ []))) (range_with_len 0 11)
         ≡ 0 ∷ 0 ∷ 0 ∷ 0 ∷ 6 ∷ 3 ∷ 2 ∷ 2 ∷ 1 ∷ 1 ∷ 1 ∷ [] }
-    ensures numbered { map (λ mtu. length (packets_of_payload (h265 true) mtu (0x02 ∷ 0x01 ∷ 0x01 ∷
+    ensures has_donl { map (λ mtu. length (payload_packets (h265 true) mtu (0x02 ∷ 0x01 ∷ 0x01 ∷
         0x02 ∷ 0x03 ∷ 0x04 ∷ 0x05 ∷ 0x06 ∷ []))) (range_with_len 0 11)
         ≡ 0 ∷ 0 ∷ 0 ∷ 0 ∷ 0 ∷ 0 ∷ 3 ∷ 2 ∷ 2 ∷ 2 ∷ 1 ∷ [] }
 {}
@@ -188,13 +188,14 @@ pub fn cut_and_empty_units()
     ensures whole { received (map (h265 false).read ((0x60 ∷ 0x01 ∷ 0x00 ∷ 0x03 ∷ 0x02 ∷ 0x01 ∷
         0xaa ∷ 0x00 ∷ 0x02 ∷ 0x02 ∷ 0x01 ∷ []) ∷ []))
         ≡ (0x02 ∷ 0x01 ∷ 0xaa ∷ []) ∷ (0x02 ∷ 0x01 ∷ []) ∷ [] }
-    ensures empty { text false (received (map (h265 false).read ((0x60 ∷ 0x01 ∷ 0x00 ∷ 0x00 ∷ 0x00 ∷
+    ensures empty { byte_stream false (received
+        (map (h265 false).read ((0x60 ∷ 0x01 ∷ 0x00 ∷ 0x00 ∷ 0x00 ∷
         0x00 ∷ []) ∷ [])))
         ≡ 0x00 ∷ 0x00 ∷ 0x00 ∷ 0x01 ∷ 0x00 ∷ 0x00 ∷ 0x00 ∷ 0x01 ∷ [] }
     ensures nothing_told { extra_after (h265 false) extras.None
         (received (map (h265 false).read ((0x60 ∷ 0x01 ∷ 0x00 ∷ 0x00 ∷ 0x00 ∷ 0x00 ∷ []) ∷ [])))
         ≡ extras.None }
-    ensures numbered { received (map (h265 true).read ((0x60 ∷ 0x01 ∷ 0x00 ∷ 0x00 ∷ 0x00 ∷ 0x00 ∷
+    ensures has_donl { received (map (h265 true).read ((0x60 ∷ 0x01 ∷ 0x00 ∷ 0x00 ∷ 0x00 ∷ 0x00 ∷
         0x00 ∷ 0x00 ∷ 0x00 ∷ []) ∷ [])) ≡ [] ∷ [] ∷ [] }
     ensures numbered_cut { (h265 true).read (0x60 ∷ 0x01 ∷ 0x00 ∷ 0x00 ∷ 0x00 ∷ 0x00 ∷ 0x00 ∷ 0x00 ∷
         []) ≡ Refused ErrShortPacket }
@@ -222,12 +223,12 @@ pub fn refusals_within_a_run()
 /// Where a set was dropped for its size, what was sent is not what is sent of it again: the other
 /// set waits.
 pub fn sets_sent_again()
-    ensures first { packets_of (h265 false) 0 (
-        call_at 4 (0x42 ∷ 0x01 ∷ 0x01 ∷ 0x02 ∷ 0x03 ∷ []) ∷
-        call_at 4 (0x44 ∷ 0x01 ∷ 0xc1 ∷ []) ∷
-        call_at 4 (0x02 ∷ 0x01 ∷ 0xaa ∷ []) ∷ [])
+    ensures first { all_packets (h265 false) 0 (
+        fresh_call 4 (0x42 ∷ 0x01 ∷ 0x01 ∷ 0x02 ∷ 0x03 ∷ []) ∷
+        fresh_call 4 (0x44 ∷ 0x01 ∷ 0xc1 ∷ []) ∷
+        fresh_call 4 (0x02 ∷ 0x01 ∷ 0xaa ∷ []) ∷ [])
         ≡ (0x44 ∷ 0x01 ∷ 0xc1 ∷ []) ∷ (0x02 ∷ 0x01 ∷ 0xaa ∷ []) ∷ [] }
-    ensures again { packets_of_payload (h265 false) 4 (annex_b ((0x44 ∷ 0x01 ∷ 0xc1 ∷ []) ∷
+    ensures again { payload_packets (h265 false) 4 (annex_b ((0x44 ∷ 0x01 ∷ 0xc1 ∷ []) ∷
         (0x02 ∷ 0x01 ∷ 0xaa ∷ []) ∷ []))
         ≡ (0x02 ∷ 0x01 ∷ 0xaa ∷ []) ∷ [] }
 {}
@@ -235,7 +236,7 @@ pub fn sets_sent_again()
 /// Sets go once, before the first unit that they are due for: a VPS does not go again with later
 /// sets.
 pub fn sets_go_once()
-    ensures once { packets_of_payload (h265 false) 100 (
+    ensures once { payload_packets (h265 false) 100 (
         0x00 ∷ 0x00 ∷ 0x01 ∷ 0x42 ∷ 0x01 ∷ 0x01 ∷
         0x00 ∷ 0x00 ∷ 0x01 ∷ 0x44 ∷ 0x01 ∷ 0xc1 ∷
         0x00 ∷ 0x00 ∷ 0x01 ∷ 0x26 ∷ 0x01 ∷ 0xaf ∷
@@ -243,7 +244,7 @@ pub fn sets_go_once()
         ≡ (0x60 ∷ 0x01 ∷ 0x00 ∷ 0x03 ∷ 0x42 ∷ 0x01 ∷ 0x01 ∷ 0x00 ∷ 0x03 ∷ 0x44 ∷ 0x01 ∷ 0xc1 ∷ []) ∷
         (0x26 ∷ 0x01 ∷ 0xaf ∷ []) ∷
         (0x02 ∷ 0x01 ∷ 0xaa ∷ []) ∷ [] }
-    ensures vps_once { packets_of_payload (h265 false) 100 (
+    ensures vps_once { payload_packets (h265 false) 100 (
         0x00 ∷ 0x00 ∷ 0x01 ∷ 0x40 ∷ 0x01 ∷ 0x0c ∷
         0x00 ∷ 0x00 ∷ 0x01 ∷ 0x42 ∷ 0x01 ∷ 0x01 ∷
         0x00 ∷ 0x00 ∷ 0x01 ∷ 0x44 ∷ 0x01 ∷ 0xc1 ∷
@@ -256,7 +257,7 @@ pub fn sets_go_once()
         (0x26 ∷ 0x01 ∷ 0xaf ∷ []) ∷
         (0x60 ∷ 0x01 ∷ 0x00 ∷ 0x03 ∷ 0x42 ∷ 0x01 ∷ 0x01 ∷ 0x00 ∷ 0x03 ∷ 0x44 ∷ 0x01 ∷ 0xc1 ∷ []) ∷
         (0x26 ∷ 0x01 ∷ 0xaf ∷ []) ∷ [] }
-    ensures latest { packets_of_payload (h265 false) 100 (
+    ensures latest { payload_packets (h265 false) 100 (
         0x00 ∷ 0x00 ∷ 0x01 ∷ 0x42 ∷ 0x01 ∷ 0x01 ∷
         0x00 ∷ 0x00 ∷ 0x01 ∷ 0x44 ∷ 0x01 ∷ 0xc1 ∷
         0x00 ∷ 0x00 ∷ 0x01 ∷ 0x42 ∷ 0x01 ∷ 0x02 ∷
@@ -267,7 +268,7 @@ pub fn sets_go_once()
 
 /// A unit in fragments takes one number.
 pub fn one_number_a_unit()
-    ensures { packets_of_payload (h265 true) 6 (
+    ensures { payload_packets (h265 true) 6 (
         0x00 ∷ 0x00 ∷ 0x01 ∷ 0x02 ∷ 0x01 ∷ 0xaa ∷ 0xbb ∷ 0xcc ∷
         0x00 ∷ 0x00 ∷ 0x01 ∷ 0x02 ∷ 0x01 ∷ 0xaa ∷ [])
         ≡ (0x62 ∷ 0x01 ∷ 0x81 ∷ 0x00 ∷ 0x00 ∷ 0xaa ∷ []) ∷
@@ -278,7 +279,7 @@ pub fn one_number_a_unit()
 /// Numbers and differences count in an aggregate: three sets of three bytes take 21 of them, and go
 /// alone at 20.
 pub fn numbers_take_room_in_an_aggregate()
-    ensures at_21 { packets_of_payload (h265 true) 21 (
+    ensures at_21 { payload_packets (h265 true) 21 (
         0x00 ∷ 0x00 ∷ 0x01 ∷ 0x40 ∷ 0x01 ∷ 0x0c ∷
         0x00 ∷ 0x00 ∷ 0x01 ∷ 0x42 ∷ 0x01 ∷ 0x01 ∷
         0x00 ∷ 0x00 ∷ 0x01 ∷ 0x44 ∷ 0x01 ∷ 0xc1 ∷
@@ -286,7 +287,7 @@ pub fn numbers_take_room_in_an_aggregate()
         ≡ (0x60 ∷ 0x01 ∷ 0x00 ∷ 0x00 ∷ 0x00 ∷ 0x03 ∷ 0x40 ∷ 0x01 ∷ 0x0c ∷ 0x00 ∷ 0x00 ∷ 0x03 ∷
         0x42 ∷ 0x01 ∷ 0x01 ∷ 0x00 ∷ 0x00 ∷ 0x03 ∷ 0x44 ∷ 0x01 ∷ 0xc1 ∷ []) ∷
         (0x26 ∷ 0x01 ∷ 0x00 ∷ 0x03 ∷ 0xaf ∷ []) ∷ [] }
-    ensures at_20 { packets_of_payload (h265 true) 20 (
+    ensures at_20 { payload_packets (h265 true) 20 (
         0x00 ∷ 0x00 ∷ 0x01 ∷ 0x40 ∷ 0x01 ∷ 0x0c ∷
         0x00 ∷ 0x00 ∷ 0x01 ∷ 0x42 ∷ 0x01 ∷ 0x01 ∷
         0x00 ∷ 0x00 ∷ 0x01 ∷ 0x44 ∷ 0x01 ∷ 0xc1 ∷
@@ -299,7 +300,7 @@ pub fn numbers_take_room_in_an_aggregate()
 
 /// A delimiter and a unit without a whole header are not sent.
 pub fn units_not_sent()
-    ensures { packets_of_payload (h265 false) 100 (
+    ensures { payload_packets (h265 false) 100 (
         0x00 ∷ 0x00 ∷ 0x01 ∷ 0x46 ∷ 0x01 ∷ 0x50 ∷
         0x00 ∷ 0x00 ∷ 0x01 ∷ 0x02 ∷
         0x00 ∷ 0x00 ∷ 0x01 ∷ 0x02 ∷ 0x01 ∷ 0xaa ∷ [])
@@ -309,17 +310,17 @@ pub fn units_not_sent()
 /// Packets have F, layer and temporal id of their unit, in fragments and in the aggregate before
 /// it.
 pub fn headers_of_packets()
-    ensures fragments { packets_of_payload (h265 false) 5 (0xa7 ∷ 0x0a ∷ 0xaa ∷ 0xbb ∷ 0xcc ∷ 0xdd ∷
+    ensures fragments { payload_packets (h265 false) 5 (0xa7 ∷ 0x0a ∷ 0xaa ∷ 0xbb ∷ 0xcc ∷ 0xdd ∷
         [])
         ≡ (0xe3 ∷ 0x0a ∷ 0x93 ∷ 0xaa ∷ 0xbb ∷ []) ∷
         (0xe3 ∷ 0x0a ∷ 0x53 ∷ 0xcc ∷ 0xdd ∷ []) ∷ [] }
-    ensures aggregate { packets_of_payload (h265 false) 100 (
+    ensures aggregate { payload_packets (h265 false) 100 (
         0x00 ∷ 0x00 ∷ 0x01 ∷ 0x42 ∷ 0x01 ∷ 0x01 ∷
         0x00 ∷ 0x00 ∷ 0x01 ∷ 0x44 ∷ 0x01 ∷ 0xc1 ∷
         0x00 ∷ 0x00 ∷ 0x01 ∷ 0x27 ∷ 0x0a ∷ 0xaf ∷ [])
         ≡ (0x61 ∷ 0x0a ∷ 0x00 ∷ 0x03 ∷ 0x42 ∷ 0x01 ∷ 0x01 ∷ 0x00 ∷ 0x03 ∷ 0x44 ∷ 0x01 ∷ 0xc1 ∷ []) ∷
         (0x27 ∷ 0x0a ∷ 0xaf ∷ []) ∷ [] }
-    ensures forbidden { packets_of_payload (h265 false) 100 (
+    ensures forbidden { payload_packets (h265 false) 100 (
         0x00 ∷ 0x00 ∷ 0x01 ∷ 0x42 ∷ 0x01 ∷ 0x01 ∷
         0x00 ∷ 0x00 ∷ 0x01 ∷ 0x44 ∷ 0x01 ∷ 0xc1 ∷
         0x00 ∷ 0x00 ∷ 0x01 ∷ 0xa6 ∷ 0x01 ∷ 0xaf ∷ [])
@@ -345,14 +346,14 @@ pub fn key_types_detected()
 
 /// A start code takes all zeros before it.
 pub fn zeros_before_a_start_code()
-    ensures { packets_of_payload (h265 false) 1200 (0x00 ∷ 0x00 ∷ 0x01 ∷ 0x00 ∷ 0x09 ∷ 0xaa ∷ 0x00 ∷
+    ensures { payload_packets (h265 false) 1200 (0x00 ∷ 0x00 ∷ 0x01 ∷ 0x00 ∷ 0x09 ∷ 0xaa ∷ 0x00 ∷
         0x00 ∷ 0x00 ∷ 0x00 ∷ 0x01 ∷ 0x00 ∷ 0x11 ∷ 0xbb ∷ []) ≡ (0x00 ∷ 0x09 ∷ 0xaa ∷ []) ∷
         (0x00 ∷ 0x11 ∷ 0xbb ∷ []) ∷ [] }
 {}
 
 /// A PACI bears no number, and stands for a unit with its A as F, and its layer and temporal id.
 pub fn headers_of_a_paci()
-    ensures numbered { received (map (h265 true).read ((0x64 ∷ 0x01 ∷ 0x60 ∷ 0x00 ∷ 0xaa ∷ []) ∷
+    ensures has_donl { received (map (h265 true).read ((0x64 ∷ 0x01 ∷ 0x60 ∷ 0x00 ∷ 0xaa ∷ []) ∷
         [])) ≡ (0x60 ∷ 0x01 ∷ 0xaa ∷ []) ∷ [] }
     ensures header { received (map (h265 false).read ((0x65 ∷ 0x0a ∷ 0xa6 ∷ 0x00 ∷ 0xbb ∷ []) ∷ []))
         ≡ (0xa7 ∷ 0x0a ∷ 0xbb ∷ []) ∷ [] }
@@ -361,7 +362,7 @@ pub fn headers_of_a_paci()
 /// Units of every type but the delimiter's are sent, of the packets' own types too; types from 51
 /// on are units to read.
 pub fn units_of_other_types()
-    ensures sent { packets_of_payload (h265 false) 100 (
+    ensures sent { payload_packets (h265 false) 100 (
         0x00 ∷ 0x00 ∷ 0x01 ∷ 0x60 ∷ 0x01 ∷ 0xaa ∷
         0x00 ∷ 0x00 ∷ 0x01 ∷ 0x4c ∷ 0x01 ∷ 0xff ∷ 0x80 ∷ [])
         ≡ (0x60 ∷ 0x01 ∷ 0xaa ∷ []) ∷
@@ -459,14 +460,14 @@ pub fn kinds_of_units()
 
 /// Of each kind one set waits, or none.
 pub fn sets_that_wait()
-    ensures three { AreSets (h265 false) (record {
+    ensures three { AreWaitingSets (h265 false) (record {
       vps = (0x40 ∷ 0x01 ∷ []) ∷ [];
       sps = (0x42 ∷ 0x01 ∷ []) ∷ [];
       pps = (0x44 ∷ 0x01 ∷ []) ∷ [];
     }) }
-    ensures vps_alone { AreSets (h265 false)
+    ensures vps_alone { AreWaitingSets (h265 false)
         (record { vps = (0x40 ∷ 0x01 ∷ []) ∷ []; sps = []; pps = [] }) }
-    ensures wrong_kind { AreSets (h265 false)
+    ensures wrong_kind { AreWaitingSets (h265 false)
         (record { vps = (0x42 ∷ 0x01 ∷ []) ∷ []; sps = []; pps = [] }) → ⊥ }
 {}
 
@@ -490,9 +491,9 @@ pub fn items_that_can_be_sent()
 /// more and smaller packets; not without a start.
 pub fn rivals()
     ensures own { IsRival (h265 false) 4 (0xaa ∷ 0xbb ∷ 0xcc ∷ [])
-        (packets_of_payload (h265 false) 4 (0x26 ∷ 0x01 ∷ 0xaa ∷ 0xbb ∷ 0xcc ∷ [])) }
-    ensures numbered { IsRival (h265 true) 6 (0xaa ∷ 0xbb ∷ 0xcc ∷ 0xdd ∷ 0xee ∷ [])
-        (packets_of_payload (h265 true) 6 (0x26 ∷ 0x01 ∷ 0xaa ∷ 0xbb ∷ 0xcc ∷ 0xdd ∷ 0xee ∷ [])) }
+        (payload_packets (h265 false) 4 (0x26 ∷ 0x01 ∷ 0xaa ∷ 0xbb ∷ 0xcc ∷ [])) }
+    ensures has_donl { IsRival (h265 true) 6 (0xaa ∷ 0xbb ∷ 0xcc ∷ 0xdd ∷ 0xee ∷ [])
+        (payload_packets (h265 true) 6 (0x26 ∷ 0x01 ∷ 0xaa ∷ 0xbb ∷ 0xcc ∷ 0xdd ∷ 0xee ∷ [])) }
     ensures more { IsRival (h265 true) 6 (0xaa ∷ 0xbb ∷ 0xcc ∷ 0xdd ∷ 0xee ∷ [])
         ((0x62 ∷ 0x01 ∷ 0x93 ∷ 0x00 ∷ 0x07 ∷ 0xaa ∷ []) ∷
         (0x62 ∷ 0x01 ∷ 0x53 ∷ 0xbb ∷ []) ∷
@@ -505,26 +506,26 @@ pub fn rivals()
 /// Nothing is dropped where sets go in one packet or each alone, and each other unit alone or in
 /// fragments.
 pub fn nothing_dropped()
-    ensures together { NothingDropped (h265 false) (entries_at 12 (
+    ensures together { NothingDropped (h265 false) (entries_with_limit 12 (
         (0x42 ∷ 0x01 ∷ 0x01 ∷ []) ∷ (0x44 ∷ 0x01 ∷ 0xc1 ∷ []) ∷ (0x26 ∷ 0x01 ∷ 0xaf ∷ []) ∷
         (0x02 ∷ 0x01 ∷ 0x01 ∷ 0x02 ∷ 0x03 ∷ 0x04 ∷ 0x05 ∷ 0x06 ∷
         0x07 ∷ 0x08 ∷ 0x09 ∷ 0x0a ∷ 0x0b ∷ []) ∷ [])) }
-    ensures each_alone { NothingDropped (h265 true) (entries_at 5 (
+    ensures each_alone { NothingDropped (h265 true) (entries_with_limit 5 (
         (0x42 ∷ 0x01 ∷ 0x01 ∷ []) ∷ (0x44 ∷ 0x01 ∷ 0xc1 ∷ []) ∷ (0x26 ∷ 0x01 ∷ 0xaf ∷ []) ∷ [])) }
-    ensures set_dropped { NothingDropped (h265 true) (entries_at 5 (
+    ensures set_dropped { NothingDropped (h265 true) (entries_with_limit 5 (
         (0x42 ∷ 0x01 ∷ 0x01 ∷ 0x02 ∷ []) ∷ (0x44 ∷ 0x01 ∷ 0xc1 ∷ []) ∷
         (0x26 ∷ 0x01 ∷ 0xaf ∷ []) ∷ [])) → ⊥ }
     ensures unit_dropped { NothingDropped (h265 true)
-        (entries_at 5 ((0x26 ∷ 0x01 ∷ 0xaf ∷ 0xbb ∷ []) ∷ [])) → ⊥ }
+        (entries_with_limit 5 ((0x26 ∷ 0x01 ∷ 0xaf ∷ 0xbb ∷ []) ∷ [])) → ⊥ }
 {}
 
 /// A unit with F set, and one of an aggregate's type, go in fragments too: the first alone starts
 /// it, the last alone ends it.
 pub fn fragments_of_units_that_are_not_carried()
-    ensures forbidden { packets_of_payload (h265 false) 4 (0xa6 ∷ 0x01 ∷ 0xaa ∷ 0xbb ∷ 0xcc ∷ [])
+    ensures forbidden { payload_packets (h265 false) 4 (0xa6 ∷ 0x01 ∷ 0xaa ∷ 0xbb ∷ 0xcc ∷ [])
         ≡ (0xe2 ∷ 0x01 ∷ 0x93 ∷ 0xaa ∷ []) ∷ (0xe2 ∷ 0x01 ∷ 0x13 ∷ 0xbb ∷ []) ∷
         (0xe2 ∷ 0x01 ∷ 0x53 ∷ 0xcc ∷ []) ∷ [] }
-    ensures aggregate { packets_of_payload (h265 false) 4 (0x60 ∷ 0x01 ∷ 0xaa ∷ 0xbb ∷ 0xcc ∷ [])
+    ensures aggregate { payload_packets (h265 false) 4 (0x60 ∷ 0x01 ∷ 0xaa ∷ 0xbb ∷ 0xcc ∷ [])
         ≡ (0x62 ∷ 0x01 ∷ 0xb0 ∷ 0xaa ∷ []) ∷ (0x62 ∷ 0x01 ∷ 0x30 ∷ 0xbb ∷ []) ∷
         (0x62 ∷ 0x01 ∷ 0x70 ∷ 0xcc ∷ []) ∷ [] }
 {}
@@ -533,64 +534,66 @@ pub fn fragments_of_units_that_are_not_carried()
 /// and 3 bytes go together at 1400, each alone at 1310, and the first is dropped at 1200. That of
 /// the last call counts, which brings the other unit.
 pub fn largest_packet_sizes()
-    ensures together { map length (packets_of (h265 false) 0 (
-        record { mtu = 5000; largest = 1400; payload = 0x42 ∷ 0x01 ∷ replicate 1300 0xaa } ∷
-        record { mtu = 5000; largest = 1400; payload = 0x44 ∷ 0x01 ∷ 0xc1 ∷ [] } ∷
-        record { mtu = 5000; largest = 1400; payload = 0x26 ∷ 0x01 ∷ 0xaf ∷ [] } ∷ [])) ≡ 1311 ∷ 3 ∷
+    ensures together { map length (all_packets (h265 false) 0 (
+        record { mtu = 5000; max_packet_size = 1400; payload = 0x42 ∷ 0x01 ∷ replicate 1300 0xaa } ∷
+        record { mtu = 5000; max_packet_size = 1400; payload = 0x44 ∷ 0x01 ∷ 0xc1 ∷ [] } ∷
+        record { mtu = 5000; max_packet_size = 1400; payload = 0x26 ∷ 0x01 ∷ 0xaf ∷ [] } ∷ []))
+        ≡ 1311 ∷ 3 ∷
         [] }
-    ensures each_alone { map length (packets_of (h265 false) 0 (
-        record { mtu = 5000; largest = 1310; payload = 0x42 ∷ 0x01 ∷ replicate 1300 0xaa } ∷
-        record { mtu = 5000; largest = 1310; payload = 0x44 ∷ 0x01 ∷ 0xc1 ∷ [] } ∷
-        record { mtu = 5000; largest = 1310; payload = 0x26 ∷ 0x01 ∷ 0xaf ∷ [] } ∷ [])) ≡ 1302 ∷ 3 ∷
+    ensures each_alone { map length (all_packets (h265 false) 0 (
+        record { mtu = 5000; max_packet_size = 1310; payload = 0x42 ∷ 0x01 ∷ replicate 1300 0xaa } ∷
+        record { mtu = 5000; max_packet_size = 1310; payload = 0x44 ∷ 0x01 ∷ 0xc1 ∷ [] } ∷
+        record { mtu = 5000; max_packet_size = 1310; payload = 0x26 ∷ 0x01 ∷ 0xaf ∷ [] } ∷ []))
+        ≡ 1302 ∷ 3 ∷
         3 ∷ [] }
-    ensures one_dropped { packets_of (h265 false) 0 (
-        record { mtu = 5000; largest = 1200; payload = 0x42 ∷ 0x01 ∷ replicate 1300 0xaa } ∷
-        record { mtu = 5000; largest = 1200; payload = 0x44 ∷ 0x01 ∷ 0xc1 ∷ [] } ∷
-        record { mtu = 5000; largest = 1200; payload = 0x26 ∷ 0x01 ∷ 0xaf ∷ [] } ∷ [])
+    ensures one_dropped { all_packets (h265 false) 0 (
+        record { mtu = 5000; max_packet_size = 1200; payload = 0x42 ∷ 0x01 ∷ replicate 1300 0xaa } ∷
+        record { mtu = 5000; max_packet_size = 1200; payload = 0x44 ∷ 0x01 ∷ 0xc1 ∷ [] } ∷
+        record { mtu = 5000; max_packet_size = 1200; payload = 0x26 ∷ 0x01 ∷ 0xaf ∷ [] } ∷ [])
         ≡ (0x44 ∷ 0x01 ∷ 0xc1 ∷ []) ∷ (0x26 ∷ 0x01 ∷ 0xaf ∷ []) ∷ [] }
-    ensures changed { packets_of (h265 false) 0 (
-        record { mtu = 5000; largest = 1400; payload = 0x42 ∷ 0x01 ∷ replicate 1300 0xaa } ∷
-        record { mtu = 5000; largest = 1400; payload = 0x44 ∷ 0x01 ∷ 0xc1 ∷ [] } ∷
-        record { mtu = 5000; largest = 1200; payload = 0x26 ∷ 0x01 ∷ 0xaf ∷ [] } ∷ [])
+    ensures changed { all_packets (h265 false) 0 (
+        record { mtu = 5000; max_packet_size = 1400; payload = 0x42 ∷ 0x01 ∷ replicate 1300 0xaa } ∷
+        record { mtu = 5000; max_packet_size = 1400; payload = 0x44 ∷ 0x01 ∷ 0xc1 ∷ [] } ∷
+        record { mtu = 5000; max_packet_size = 1200; payload = 0x26 ∷ 0x01 ∷ 0xaf ∷ [] } ∷ [])
         ≡ (0x44 ∷ 0x01 ∷ 0xc1 ∷ []) ∷ (0x26 ∷ 0x01 ∷ 0xaf ∷ []) ∷ [] }
-    ensures mtu { packets_of_payload (h265 false) 4 (0x26 ∷ 0x01 ∷ 0xaa ∷ 0xbb ∷ 0xcc ∷ [])
-        ≡ packets_of (h265 false) 0 (record {
+    ensures mtu { payload_packets (h265 false) 4 (0x26 ∷ 0x01 ∷ 0xaa ∷ 0xbb ∷ 0xcc ∷ [])
+        ≡ all_packets (h265 false) 0 (record {
           mtu = 5000;
-          largest = 4;
+          max_packet_size = 4;
           payload = 0x26 ∷ 0x01 ∷
               0xaa ∷ 0xbb ∷ 0xcc ∷ [];
         } ∷ []) }
 {}
 
-/// A counter goes round behind 65535, and calls without effect leave it.
+/// Decoding order numbers go round behind 65535, and calls without effect leave it.
 pub fn a_counter_goes_round()
-    ensures round { packets_of (h265 true) 65535 (
-        call_at 100 (0x02 ∷ 0x01 ∷ 0xaa ∷ []) ∷ call_at 3 (0x02 ∷ 0x01 ∷ 0xaa ∷ []) ∷
-        call_at 100 (0x46 ∷ 0x01 ∷ []) ∷
-        call_at 100 (0x02 ∷ 0x01 ∷ 0xbb ∷ []) ∷ [])
+    ensures round { all_packets (h265 true) 65535 (
+        fresh_call 100 (0x02 ∷ 0x01 ∷ 0xaa ∷ []) ∷ fresh_call 3 (0x02 ∷ 0x01 ∷ 0xaa ∷ []) ∷
+        fresh_call 100 (0x46 ∷ 0x01 ∷ []) ∷
+        fresh_call 100 (0x02 ∷ 0x01 ∷ 0xbb ∷ []) ∷ [])
         ≡ (0x02 ∷ 0x01 ∷ 0xff ∷ 0xff ∷ 0xaa ∷ []) ∷ (0x02 ∷ 0x01 ∷ 0x00 ∷ 0x00 ∷ 0xbb ∷ []) ∷ [] }
-    ensures counted { counted_on true 65535 2 ≡ 1 }
-    ensures not_counted { counted_on false 0 2 ≡ 0 }
+    ensures counted { don_after true 65535 2 ≡ 1 }
+    ensures not_counted { don_after false 0 2 ≡ 0 }
 {}
 
 /// What a depacketizer's later answers depend on: one byte for its settings, and the open run.
 pub fn a_depacketizers_meaning()
-    ensures plain { receiver_meaning
+    ensures plain { depacketizer_meaning
         (record { format = h265 false; is_avc = false; run = None }) ≡ (0 ∷ []) ∷ [] }
-    ensures numbered { receiver_meaning
+    ensures has_donl { depacketizer_meaning
         (record { format = h265 true; is_avc = false; run = None }) ≡ (1 ∷ []) ∷ [] }
-    ensures lengths { receiver_meaning
+    ensures lengths { depacketizer_meaning
         (record { format = h265 false; is_avc = true; run = Some [] }) ≡ (2 ∷ []) ∷ [] ∷ [] }
-    ensures both { receiver_meaning
+    ensures both { depacketizer_meaning
         (record { format = h265 true; is_avc = true; run = Some (0xaa ∷ []) })
         ≡ (3 ∷ []) ∷ (0xaa ∷ []) ∷ [] }
 {}
 
 /// An end writes its unit behind its length.
 pub fn a_unit_behind_its_length()
-    ensures { work_after
-        (at_work (record { format = h265 false; is_avc = true; run = Some (0xaa ∷ []) })
+    ensures { after_packets
+        (depacketization (record { format = h265 false; is_avc = true; run = Some (0xaa ∷ []) })
         (0xff ∷ []) extras.None) ((0x62 ∷ 0x01 ∷ 0x53 ∷ 0xbb ∷ []) ∷ [])
-        ≡ at_work (record { format = h265 false; is_avc = true; run = None })
+        ≡ depacketization (record { format = h265 false; is_avc = true; run = None })
         (0xff ∷ 0x00 ∷ 0x00 ∷ 0x00 ∷ 0x04 ∷ 0x26 ∷ 0x01 ∷ 0xaa ∷ 0xbb ∷ []) ((h265 false).extra true) }
 {}

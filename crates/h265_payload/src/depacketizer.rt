@@ -3,15 +3,15 @@
 ghost use Rattle.std.specs.Prelude.{◌≡◌, ◌++◌, true, false, [], ◌∷◌, Some, None, Err, IfOk, OnOk, OnErr};
 ghost use Rattle.h26x_core.specs.Front.{IsFrontOf};
 ghost use Rattle.h26x_core.specs.Hint.{size_hint};
-ghost use Rattle.h26x_core.specs.Text.{text};
-ghost use Rattle.h26x_core.specs.Extra.{extra_after};
-ghost use Rattle.h26x_core.specs.Receiver.{work_after, IsOutcomeAt};
+ghost use Rattle.h26x_core.specs.ByteStream.{byte_stream};
+ghost use Rattle.h26x_model.specs.Payload.Extra.{extra_after};
+ghost use Rattle.h26x_model.specs.Receive.DepacketizerState.{after_packets, IsPacketOutcome};
 ghost use Rattle.h265_packets.specs.Payload.{empty_single};
-ghost use Rattle.h26x_payload.specs.Frame.{may_begin, is_last};
+ghost use Rattle.h26x_payload.specs.AccessUnit.{may_begin, is_last};
 ghost use Rattle.h265_payload.specs.H265.{is_fragment};
-ghost use Rattle.h265_payload.specs.Setting.{setting, format_with};
+ghost use Rattle.h265_payload.specs.Setting.{setting, setting_format};
 ghost use Rattle.h265_payload.specs.Shown.{shown, is_aggregate, units_of_aggregate};
-ghost use Rattle.h265_payload.specs.Depacketizer.{work};
+ghost use Rattle.h265_payload.specs.DepacketizerView.{h265_depacketization};
 
 use crate::packetizer::H265;
 use crate::show::{prepare, show};
@@ -52,9 +52,9 @@ pub struct H265Depacketizer {
 }
 
 impl Model for H265Depacketizer {
-    ghost use Rattle.h265_payload.specs.Depacketizer.{Depacketizer};
+    ghost use Rattle.h265_payload.specs.DepacketizerView.{H265DepacketizerView};
 
-    ghost Value = { Depacketizer };
+    ghost Value = { H265DepacketizerView };
 
     ghost view = { λ a. record {
       codec = a.codec;
@@ -68,7 +68,7 @@ impl H265Depacketizer {
     /// A depacketizer of packets without decoding order numbers, which writes start codes, has no
     /// run open and shows the empty single NAL unit packet.
     pub fn new(alloc: Global) -> Self
-        ensures numbers { result.codec.numbered ≡ false }
+        ensures dons { result.codec.has_donl ≡ false }
         ensures avc { result.is_avc ≡ false }
         ensures run { result.run ≡ None }
         ensures payload { result.payload ≡ H265Payload.H265SingleNALUnitPacket empty_single }
@@ -127,7 +127,7 @@ impl H265Depacketizer {
 }
 
 impl PartialEq for H265Depacketizer {
-    ghost use Rattle.h265_payload.specs.Depacketizer.{depacketizer_eq, depacketizer_equiv};
+    ghost use Rattle.h265_payload.specs.DepacketizerView.{depacketizer_eq, depacketizer_equiv};
     ghost use Rattle.std.specs.Cmp.{partial_equiv_from_equiv};
 
     ghost eq = { depacketizer_eq };
@@ -143,13 +143,13 @@ impl PartialEq for H265Depacketizer {
 }
 
 impl Eq for H265Depacketizer {
-    ghost use Rattle.h265_payload.specs.Depacketizer.{depacketizer_equiv};
+    ghost use Rattle.h265_payload.specs.DepacketizerView.{depacketizer_equiv};
 
     ghost laws = { depacketizer_equiv };
 }
 
 impl Depacketizer for H265Depacketizer {
-    ghost use Rattle.h265_payload.specs.Depacketizer.{meaning_of};
+    ghost use Rattle.h265_payload.specs.DepacketizerView.{meaning_of};
 
     // The setting, and the data of the open run if there is one.
     ghost meaning = { meaning_of };
@@ -186,23 +186,25 @@ impl Depacketizer for H265Depacketizer {
         out: &mut Vec<u8>,
         codec_extra: &mut CodecExtra,
     ) -> Result<(), PacketError>
-        ensures outcome { IsOutcomeAt (work self.old out.old.items codec_extra.old) packet.now result }
-        ensures taken { OnOk result (work self.new out.new.items codec_extra.new
-            ≡ work_after (work self.old out.old.items codec_extra.old) (packet.now ∷ [])) }
+        ensures outcome { IsPacketOutcome (h265_depacketization self.old out.old.items
+            codec_extra.old) packet.now result }
+        ensures taken { OnOk result (h265_depacketization self.new out.new.items codec_extra.new
+            ≡ after_packets (h265_depacketization self.old out.old.items codec_extra.old)
+            (packet.now ∷ [])) }
         ensures setting { self.new ≡ record self.old {
           run = self.new.run;
           payload = self.new.payload;
         } }
         ensures shows { OnOk result (self.new.payload
-            ≡ shown self.old.codec.numbered packet.now) }
-        ensures kept { OnErr result (work self.new out.new.items codec_extra.new
-            ≡ work self.old out.old.items codec_extra.old) }
+            ≡ shown self.old.codec.has_donl packet.now) }
+        ensures kept { OnErr result (h265_depacketization self.new out.new.items codec_extra.new
+            ≡ h265_depacketization self.old out.old.items codec_extra.old) }
 
         // The units of an aggregate are those that are shown.
         ensures aggregate { OnOk result (is_aggregate self.new.payload ≡ true →
-            (out.new.items ≡ out.old.items ++ text self.old.is_avc
+            (out.new.items ≡ out.old.items ++ byte_stream self.old.is_avc
             (units_of_aggregate self.new.payload))
-            × (codec_extra.new ≡ extra_after (format_with self.old.codec) codec_extra.old
+            × (codec_extra.new ≡ extra_after (setting_format self.old.codec) codec_extra.old
             (units_of_aggregate self.new.payload))) }
 
         ensures accepted { OnOk result (IsFrontOf out.old.items out.new.items) }
@@ -214,24 +216,24 @@ impl Depacketizer for H265Depacketizer {
         let parts = codec.read(packet)?;
         let is_avc = self.is_avc;
         check_lengths(codec, is_avc, packet, parts, &self.run)?;
-        let ready = prepare(codec.numbered, packet, parts, &mut self.spare)?;
+        let ready = prepare(codec.has_donl, packet, parts, &mut self.spare)?;
         let run = &mut self.run;
         take_packet(codec, is_avc, packet, parts, run, out, codec_extra)?;
         let (payload, spare) = (&mut self.payload, &mut self.spare);
-        show(codec.numbered, packet, ready, payload, spare);
+        show(codec.has_donl, packet, ready, payload, spare);
         Ok(())
     }
 
-    /// Whether `packet` may be the first of a frame: it has two bytes or more and, where it is a
-    /// fragmentation unit with F clear, its S bit is set (RFC 7798, 4.4.3).
+    /// Whether `packet` may be the first of an access unit: it has two bytes or more and, where it
+    /// is a fragmentation unit with F clear, its S bit is set (RFC 7798, 4.4.3).
     fn is_partition_head(&self, packet: &[u8]) -> bool
         ensures { result ≡ may_begin (is_fragment packet.now) packet.now }
     {
         self.codec.may_begin(packet)
     }
 
-    /// Whether `packet` is the last of a frame: a fragmentation unit where its E bit is set (RFC
-    /// 7798, 4.4.3), another of two bytes or more where its RTP packet bears the marker bit.
+    /// Whether `packet` is the last of an access unit: a fragmentation unit where its E bit is set
+    /// (RFC 7798, 4.4.3), another of two bytes or more where its RTP packet bears the marker bit.
     fn is_partition_tail(&self, marker: bool, packet: &[u8]) -> bool
         ensures { result ≡ is_last (is_fragment packet.now) marker packet.now }
     {

@@ -3,8 +3,8 @@
 ghost use Rattle.std.specs.Prelude.{◌≡◌, ◌⊎◌, ◌+◌, ◌*◌, ◌<◌, ◌≤◌, true, false, length, slice_index, IfOk, IfErr};
 ghost use Rattle.h26x_core.specs.Word.{is_set};
 ghost use Rattle.h26x_core.specs.H265Unit.{type_of};
-ghost use Rattle.h26x_core.specs.Reading.{Refused};
-ghost use Rattle.h26x_payload.specs.Receiving.{IsReadAs};
+ghost use Rattle.h26x_model.specs.Payload.Reading.{Refused};
+ghost use Rattle.h26x_payload.specs.DepacketizerView.{IsReadAs};
 ghost use Rattle.h265_payload.specs.H265 as spec;
 ghost use Rattle.h265_payload.specs.H265.{h265};
 ghost use Rattle.h265_payload.specs.Reading.{IsUnitType};
@@ -14,7 +14,7 @@ ghost use Rattle.h265_payload.specs.Shown.{units_in};
 use crate::aggregate::check_aggregate;
 use crate::packetizer::{H265, header_of};
 use h26x_core::{H265FragmentationUnitHeader, H265NALUHeader, PacketError};
-use h26x_payload::{Fragment, PacketReader, Parts, ends_frame, may_begin_frame};
+use h26x_payload::{Fragment, PacketReader, Parts, ends_access_unit, may_begin_access_unit};
 use h265_packets::header::{high_byte, paci_f, paci_size, paci_type};
 
 /// Whether a packet is a fragmentation unit.
@@ -26,7 +26,7 @@ fn is_fragment(packet: &[u8]) -> bool
 
 impl PacketReader for H265 {
     ghost use Rattle.h265_payload.specs.H265.{is_fragment};
-    ghost use Rattle.h26x_payload.specs.Frame as frame;
+    ghost use Rattle.h26x_payload.specs.AccessUnit as frame;
 
     ghost begins = { λ codec packet. frame.may_begin (is_fragment packet) packet };
 
@@ -36,10 +36,10 @@ impl PacketReader for H265 {
     // aggregate, a fragment and a PACI packet, and all others are units.
     #[inline]
     fn read(self, packet: &[u8]) -> Result<Parts<'_>, PacketError>
-        ensures accepted { IfOk result (λ parts. IsReadAs (h265 self.numbered)
-            (units_in self.numbered) packet.now parts) }
-        ensures shows { IfOk result (λ parts. IsShownBy self.numbered packet.now parts) }
-        ensures refused { IfErr result (λ e. (h265 self.numbered).read packet.now ≡ Refused e) }
+        ensures accepted { IfOk result (λ parts. IsReadAs (h265 self.has_donl)
+            (units_in self.has_donl) packet.now parts) }
+        ensures shows { IfOk result (λ parts. IsShownBy self.has_donl packet.now parts) }
+        ensures refused { IfErr result (λ e. (h265 self.has_donl).read packet.now ≡ Refused e) }
     {
         if packet.len() < 3 {
             return Err(PacketError::ErrShortPacket);
@@ -49,36 +49,36 @@ impl PacketReader for H265 {
             return Err(PacketError::ErrH265CorruptedPacket);
         }
         if header.is_aggregation_packet() {
-            read_aggregate(self.numbered, packet)
+            read_aggregate(self.has_donl, packet)
         } else if header.is_fragmentation_unit() {
-            read_fragment(self.numbered, packet)
+            read_fragment(self.has_donl, packet)
         } else if header.is_paci_packet() {
-            read_paci(self.numbered, packet)
+            read_paci(self.has_donl, packet)
         } else {
-            read_single(self.numbered, packet)
+            read_single(self.has_donl, packet)
         }
     }
 
     fn may_begin(self, packet: &[u8]) -> bool {
-        may_begin_frame(is_fragment(packet), packet)
+        may_begin_access_unit(is_fragment(packet), packet)
     }
 
     fn is_last(self, marker: bool, packet: &[u8]) -> bool {
-        ends_frame(is_fragment(packet), marker, packet)
+        ends_access_unit(is_fragment(packet), marker, packet)
     }
 }
 
 /// Reads a packet that is one unit.
-fn read_single(is_numbered: bool, packet: &[u8]) -> Result<Parts<'_>, PacketError>
+fn read_single(has_donl: bool, packet: &[u8]) -> Result<Parts<'_>, PacketError>
     requires long { 3 ≤ length packet.now }
     requires clear { is_set (slice_index packet.now 0) 7 ≡ false }
     requires own { IsUnitType (type_of (slice_index packet.now 0)) }
-    ensures accepted { IfOk result (λ parts. IsReadAs (h265 is_numbered) (units_in is_numbered)
+    ensures accepted { IfOk result (λ parts. IsReadAs (h265 has_donl) (units_in has_donl)
         packet.now parts) }
-    ensures shows { IfOk result (λ parts. IsShownBy is_numbered packet.now parts) }
-    ensures refused { IfErr result (λ e. (h265 is_numbered).read packet.now ≡ Refused e) }
+    ensures shows { IfOk result (λ parts. IsShownBy has_donl packet.now parts) }
+    ensures refused { IfErr result (λ e. (h265 has_donl).read packet.now ≡ Refused e) }
 {
-    if !is_numbered {
+    if !has_donl {
         return Ok(Parts::Whole);
     }
     if packet.len() < 5 {
@@ -91,16 +91,16 @@ fn read_single(is_numbered: bool, packet: &[u8]) -> Result<Parts<'_>, PacketErro
 }
 
 /// Reads an aggregate.
-fn read_aggregate(is_numbered: bool, packet: &[u8]) -> Result<Parts<'_>, PacketError>
+fn read_aggregate(has_donl: bool, packet: &[u8]) -> Result<Parts<'_>, PacketError>
     requires long { 3 ≤ length packet.now }
     requires clear { is_set (slice_index packet.now 0) 7 ≡ false }
     requires kind { type_of (slice_index packet.now 0) ≡ 48 }
-    ensures accepted { IfOk result (λ parts. IsReadAs (h265 is_numbered) (units_in is_numbered)
+    ensures accepted { IfOk result (λ parts. IsReadAs (h265 has_donl) (units_in has_donl)
         packet.now parts) }
-    ensures shows { IfOk result (λ parts. IsShownBy is_numbered packet.now parts) }
-    ensures refused { IfErr result (λ e. (h265 is_numbered).read packet.now ≡ Refused e) }
+    ensures shows { IfOk result (λ parts. IsShownBy has_donl packet.now parts) }
+    ensures refused { IfErr result (λ e. (h265 has_donl).read packet.now ≡ Refused e) }
 {
-    if is_numbered {
+    if has_donl {
         read_numbered_aggregate(packet)
     } else {
         read_plain_aggregate(packet)
@@ -141,17 +141,17 @@ fn read_numbered_aggregate(packet: &[u8]) -> Result<Parts<'_>, PacketError>
 }
 
 /// Reads a fragment.
-fn read_fragment(is_numbered: bool, packet: &[u8]) -> Result<Parts<'_>, PacketError>
+fn read_fragment(has_donl: bool, packet: &[u8]) -> Result<Parts<'_>, PacketError>
     requires long { 3 ≤ length packet.now }
     requires clear { is_set (slice_index packet.now 0) 7 ≡ false }
     requires kind { type_of (slice_index packet.now 0) ≡ 49 }
-    ensures accepted { IfOk result (λ parts. IsReadAs (h265 is_numbered) (units_in is_numbered)
+    ensures accepted { IfOk result (λ parts. IsReadAs (h265 has_donl) (units_in has_donl)
         packet.now parts) }
-    ensures shows { IfOk result (λ parts. IsShownBy is_numbered packet.now parts) }
-    ensures refused { IfErr result (λ e. (h265 is_numbered).read packet.now ≡ Refused e) }
+    ensures shows { IfOk result (λ parts. IsShownBy has_donl packet.now parts) }
+    ensures refused { IfErr result (λ e. (h265 has_donl).read packet.now ≡ Refused e) }
 {
     let marks = H265FragmentationUnitHeader(packet[2]);
-    let place = if is_numbered && marks.s() { 5 } else { 3 };
+    let place = if has_donl && marks.s() { 5 } else { 3 };
     if packet.len() <= place {
         return Err(PacketError::ErrShortPacket);
     }
@@ -164,14 +164,14 @@ fn read_fragment(is_numbered: bool, packet: &[u8]) -> Result<Parts<'_>, PacketEr
 }
 
 /// Reads a PACI packet, which bears no number.
-fn read_paci(is_numbered: bool, packet: &[u8]) -> Result<Parts<'_>, PacketError>
+fn read_paci(has_donl: bool, packet: &[u8]) -> Result<Parts<'_>, PacketError>
     requires long { 3 ≤ length packet.now }
     requires clear { is_set (slice_index packet.now 0) 7 ≡ false }
     requires kind { type_of (slice_index packet.now 0) ≡ 50 }
-    ensures accepted { IfOk result (λ parts. IsReadAs (h265 is_numbered) (units_in is_numbered)
+    ensures accepted { IfOk result (λ parts. IsReadAs (h265 has_donl) (units_in has_donl)
         packet.now parts) }
-    ensures shows { IfOk result (λ parts. IsShownBy is_numbered packet.now parts) }
-    ensures refused { IfErr result (λ e. (h265 is_numbered).read packet.now ≡ Refused e) }
+    ensures shows { IfOk result (λ parts. IsShownBy has_donl packet.now parts) }
+    ensures refused { IfErr result (λ e. (h265 has_donl).read packet.now ≡ Refused e) }
 {
     if packet.len() < 4 {
         return Err(PacketError::ErrShortPacket);

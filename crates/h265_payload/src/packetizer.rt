@@ -33,7 +33,7 @@ const FRAGMENT_TYPE: u8 = 49;
 /// H.265 (RFC 7798), and whether packets bear decoding order numbers (4.6).
 #[derive(Debug, Clone, Copy, PartialEq, Eq)]
 pub struct H265 {
-    pub(crate) numbered: bool,
+    pub(crate) has_donl: bool,
 }
 
 /// Sends the NAL units of payloads (RFC 7798).
@@ -78,27 +78,27 @@ impl PayloadFormat for H265 {
     ghost use Rattle.h265_payload.specs.CodecFacts.{has_header, header_tells, fits_limits, aggregate_numbers};
     ghost use Rattle.std.specs.Prelude.{refl, false};
 
-    ghost format = { λ codec. h265 codec.numbered };
+    ghost format = { λ codec. h265 codec.has_donl };
 
-    ghost fresh = { record { numbered = false } };
+    ghost fresh = { record { has_donl = false } };
 
     fn new() -> Self {
-        H265 { numbered: false }
+        H265 { has_donl: false }
     }
 
     fn header_len(self) -> usize {
         2
     }
 
-    fn is_numbered(self) -> bool {
-        self.numbered
+    fn has_donl(self) -> bool {
+        self.has_donl
     }
 
     fn least_mtu(self) -> usize {
         4
     }
 
-    fn is_sized(self) -> bool {
+    fn has_max_packet_size(self) -> bool {
         true
     }
 
@@ -121,21 +121,21 @@ impl PayloadFormat for H265 {
 
     fn sets_fit(self, limit: usize, sets: Sets<'_>) -> bool {
         // DONL, and a DOND for each set but the first.
-        let numbers = if self.numbered { sets.count() + 1 } else { 0 };
-        2 + u128::from(numbers) + sets.size() <= limit as u128
+        let dons = if self.has_donl { sets.count() + 1 } else { 0 };
+        2 + u128::from(dons) + sets.size() <= limit as u128
     }
 
     fn sets_packet(
         self,
         alloc: Global,
-        number: u16,
+        don: u16,
         sets: Sets<'_>,
         unit: &[u8],
     ) -> Result<Vec<u8>, AllocError> {
         let mut packet = Vec::with_capacity(alloc, sets.capacity())?;
         packet.extend_from_slice(&[with_type(unit[0], AGGREGATE_TYPE), unit[1]])?;
-        if self.numbered {
-            packet.extend_from_slice(&number.to_be_bytes())?;
+        if self.has_donl {
+            packet.extend_from_slice(&don.to_be_bytes())?;
             sets.push(&[0], &mut packet)?;
         } else {
             sets.push(&[], &mut packet)?;
@@ -169,9 +169,9 @@ impl PayloadFormat for H265 {
         )
     }
 
-    ghost fits = { λ codec. fits_limits codec.numbered };
+    ghost fits = { λ codec. fits_limits codec.has_donl };
 
-    ghost numbers = { λ codec. aggregate_numbers codec.numbered };
+    ghost dons = { λ codec. aggregate_numbers codec.has_donl };
 
     ghost headed = { λ codec unit is. has_header unit is };
 
@@ -181,9 +181,9 @@ impl PayloadFormat for H265 {
 }
 
 impl DonlFormat for H265 {
-    ghost with_donl_of = { λ codec numbered. record codec { numbered = numbered } };
+    ghost with_donl_of = { λ codec has_donl. record codec { has_donl = has_donl } };
 
-    fn with_donl(self, numbered: bool) -> Self {
-        H265 { numbered }
+    fn with_donl(self, has_donl: bool) -> Self {
+        H265 { has_donl }
     }
 }

@@ -7,14 +7,14 @@ use Rattle.h26x_core.specs.declared.error.PacketError.TheVariants.{ErrH266Corrup
 use Rattle.h26x_core.specs.Word.{field, is_set}
 use Rattle.h26x_core.specs.Kind.{is_other}
 use Rattle.h26x_core.specs.H266Unit.{type_of, kind_of_type, is_key_type}
-use Rattle.h26x_core.specs.Reading.{Fragment, single_of}
+use Rattle.h26x_model.specs.Payload.Reading.{Fragment, two_byte_single}
 use Rattle.h26x_core.proofs.HeaderLemmas.{type_back}
-use Rattle.h26x_core.proofs.TwoByteLemmas.{TwoBytes, IsTwoBytes, IsCarried}
+use Rattle.h26x_model.proofs.TwoByteLemmas.{TwoBytes, IsTwoBytes, IsCarried}
 use Rattle.h266_payload.specs.H266.{with_type, aggregate_of, fragment_of}
 
 -- what sets H.266 apart: types stand in the low byte, and have five bits
-abbrev pub two : (numbered : Bool) → TwoBytes numbered
-two numbered = record {
+abbrev pub two : (has_donl : Bool) → TwoBytes has_donl
+two has_donl = record {
   type_of = λ high low. type_of low;
   aggregate = 28;
   fragment = 29;
@@ -26,9 +26,9 @@ two numbered = record {
   kind = kind_of_type;
   is_key = is_key_type;
   corrupted = ErrH266CorruptedPacket;
-  aggregate_of = aggregate_of numbered;
-  fragment_of = fragment_of numbered;
-  own_of = single_of numbered;
+  aggregate_of = aggregate_of has_donl;
+  fragment_of = fragment_of has_donl;
+  own_of = two_byte_single has_donl;
 }
 
 -- the low byte of an aggregate's header has type 28, whatever its temporal id
@@ -40,9 +40,9 @@ low_back : (low : ℕ) → low < 256 → with_type (with_type low 29) (type_of l
 low_back low h = omega arith
 
 -- a carried unit has F clear and is no packet of type 28 or 29
-pub carried : (numbered : Bool) (high low : ℕ) → (nat_lt high 0x80 && nat_lt low 0x100 && (nat_lt (type_of low) 28 || nat_lt 29 (type_of low))) ≡ true →
-    IsCarried numbered (two numbered) high low
-carried numbered high low h =
+pub carried : (has_donl : Bool) (high low : ℕ) → (nat_lt high 0x80 && nat_lt low 0x100 && (nat_lt (type_of low) 28 || nat_lt 29 (type_of low))) ≡ true →
+    IsCarried has_donl (two has_donl) high low
+carried has_donl high low h =
     let s = and_parts _ _ h in let t = and_parts (nat_lt high 0x80) (nat_lt low 0x100) s.0 in
     let small : nat_lt high 0x80 ≡ true = t.0 in
     let byte : nat_lt low 0x100 ≡ true = t.1 in
@@ -59,15 +59,15 @@ carried numbered high low h =
     }
 
 -- a fragment without a number keeps all its bytes
-pub plain_fragment : (numbered start : Bool) (high low fu : ℕ) (body : List ℕ) → (numbered && start) ≡ false →
-    fragment_of numbered start high low fu body ≡ Fragment start (is_set fu 6) (high ∷ with_type low (field fu 4 0) ∷ []) None body
+pub plain_fragment : (has_donl start : Bool) (high low fu : ℕ) (body : List ℕ) → (has_donl && start) ≡ false →
+    fragment_of has_donl start high low fu body ≡ Fragment start (is_set fu 6) (high ∷ with_type low (field fu 4 0) ∷ []) None body
 plain_fragment false start high low fu body none = refl
 plain_fragment true false high low fu body none = refl
 plain_fragment true true high low fu body none = absurd cc
 
 -- a start with a number keeps those behind it
-pub numbered_start : (numbered start : Bool) (high low fu d e : ℕ) (body : List ℕ) → (numbered && start) ≡ true →
-    fragment_of numbered start high low fu (d ∷ e ∷ body) ≡ Fragment true (is_set fu 6) (high ∷ with_type low (field fu 4 0) ∷ []) (Some (d * 256 + e)) body
+pub numbered_start : (has_donl start : Bool) (high low fu d e : ℕ) (body : List ℕ) → (has_donl && start) ≡ true →
+    fragment_of has_donl start high low fu (d ∷ e ∷ body) ≡ Fragment true (is_set fu 6) (high ∷ with_type low (field fu 4 0) ∷ []) (Some (d * 256 + e)) body
 numbered_start true true high low fu d e body both = refl
 numbered_start true false high low fu d e body both = absurd cc
 numbered_start false start high low fu d e body both = absurd cc
@@ -84,14 +84,14 @@ key_type_other type e =
     rw (aud, aggregate, fragment, vps, sps, pps) refl
 
 -- H.266 is what is asked of formats whose headers have two bytes
-pub is_two_bytes : (numbered : Bool) → IsTwoBytes numbered (two numbered)
-is_two_bytes numbered = record {
+pub is_two_bytes : (has_donl : Bool) → IsTwoBytes has_donl (two has_donl)
+is_two_bytes has_donl = record {
   apart = refl;
   type_fits = λ high low. omega arith;
   marked = λ high low. omega arith;
   type_back = λ start end high low. type_back start end (type_of low) (omega arith);
-  carried = carried numbered;
+  carried = carried has_donl;
   other = key_type_other;
-  plain = λ start high low fu body none some. plain_fragment numbered start high low fu body none;
-  start = λ start high low fu d e body both some. numbered_start numbered start high low fu d e body both;
+  plain = λ start high low fu body none some. plain_fragment has_donl start high low fu body none;
+  start = λ start high low fu d e body both some. numbered_start has_donl start high low fu d e body both;
 }

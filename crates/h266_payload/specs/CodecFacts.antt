@@ -5,9 +5,9 @@ use Rattle.std.proofs.lemmas.Bool.Decides.{nat_tests}
 use Rattle.std.proofs.Math.Nat.{mod-mod}
 use Rattle.h26x_core.specs.Kind.{is_other}
 use Rattle.h26x_core.specs.H266Unit.{kind, is_key}
-use Rattle.h26x_core.specs.Facts.{FitsLimits, NumbersAreTwoBytes}
+use Rattle.h26x_model.specs.Payload.Facts.{FitsLimits, DonlHasTwoBytes}
 use Rattle.h26x_core.proofs.PieceLemmas.{pieces_long}
-use Rattle.h26x_core.proofs.SetsLemmas.{room_of}
+use Rattle.h26x_model.proofs.SetsLemmas.{room_of}
 use Rattle.h266_payload.specs.H266.{h266, fragment_header, sets_fit, sets_packet}
 
 -- an other unit has a whole header
@@ -29,25 +29,25 @@ header_long (high ∷ []) start end = omega arith
 header_long (high ∷ low ∷ unit) start end = omega arith
 
 -- sets that fit an aggregate are within the limit
-pub fit_within : (numbered : Bool) (limit : ℕ) (sets : List (List ℕ)) →
-    sets_fit numbered limit sets ≡ true → 2 + cond numbered 2 0 + room_of sets ≤ limit
-fit_within numbered limit sets fit = grind (arith, nat_tests)
+pub fit_within : (has_donl : Bool) (limit : ℕ) (sets : List (List ℕ)) →
+    sets_fit has_donl limit sets ≡ true → 2 + cond has_donl 2 0 + room_of sets ≤ limit
+fit_within has_donl limit sets fit = grind (arith, nat_tests)
 
 -- and so is the aggregate
-sets_within : (numbered : Bool) (limit n : ℕ) (sets : List (List ℕ)) (unit : List ℕ) →
-    sets_fit numbered limit sets ≡ true → length (sets_packet numbered n sets unit) ≤ limit
+sets_within : (has_donl : Bool) (limit n : ℕ) (sets : List (List ℕ)) (unit : List ℕ) →
+    sets_fit has_donl limit sets ≡ true → length (sets_packet has_donl n sets unit) ≤ limit
 sets_within false limit n sets unit fit =
     let h = pieces_long sets in let w = fit_within false limit sets fit in omega (arith, h, w)
 sets_within true limit n sets unit fit =
     let h = pieces_long sets in let w = fit_within true limit sets fit in omega (arith, h, w)
 
 -- headers are as long as they are counted, and aggregates are within the limit
-pub fits_limits : (numbered : Bool) → FitsLimits (h266 numbered)
-fits_limits numbered = record { header = header_long; sets = sets_within numbered }
+pub fits_limits : (has_donl : Bool) → FitsLimits (h266 has_donl)
+fits_limits has_donl = record { header = header_long; sets = sets_within has_donl }
 
 -- an aggregate bears a number in two bytes, or none
-pub aggregate_numbers : (numbered : Bool) → NumbersAreTwoBytes (h266 numbered)
-aggregate_numbers numbered = record {
+pub aggregate_numbers : (has_donl : Bool) → DonlHasTwoBytes (h266 has_donl)
+aggregate_numbers has_donl = record {
   sets = λ n sets unit. rw (mod-mod n 65536) refl;
   none = λ none n m sets unit. rw none refl;
 }

@@ -9,8 +9,8 @@ use Rattle.h26x_cut.specs.declared.ZeroRule.TheVariants.{AtMostThree}
 use Rattle.h26x_cut.specs.Cutting.{units_of}
 use Rattle.h26x_core.specs.Word.{field, is_set, flag}
 use Rattle.h26x_core.specs.H266Unit.{type_of, kind, is_key, is_key_type}
-use Rattle.h26x_core.specs.Reading.{Reading, Aggregate, Fragment, Refused, unnumbered, single_of}
-use Rattle.h26x_core.specs.Format.{Format, number_bytes}
+use Rattle.h26x_model.specs.Payload.Reading.{Reading, Aggregate, Fragment, Refused, without_don, two_byte_single}
+use Rattle.h26x_model.specs.Payload.Format.{Format, donl_bytes}
 use Rattle.h26x_core.specs.Pieces.{pieces_of, piece}
 
 -- the low byte of a header with another type: the temporal id kept
@@ -19,7 +19,7 @@ with_type low type = type * 8 + field low 2 0
 
 -- sets fit an aggregate: its header and number, and each set behind its length
 abbrev pub sets_fit : Bool → ℕ → List (List ℕ) → Bool
-sets_fit numbered limit sets = nat_le (2 + (if numbered then 2 else 0) + sum_by
+sets_fit has_donl limit sets = nat_le (2 + (if has_donl then 2 else 0) + sum_by
     (λ set. 2 + length set) sets) limit
 
 abbrev pub has_forbidden_bit : List ℕ → Bool  -- whether F is set
@@ -42,10 +42,10 @@ least value (set ∷ second ∷ sets) = min (value set) (least value (second ∷
 -- an aggregate: F where a set has it, Z 0, the lowest layer, type 28, the lowest temporal id but at
 -- least 1 (4.3.2)
 abbrev pub sets_packet : Bool → ℕ → List (List ℕ) → List ℕ → List ℕ
-sets_packet numbered n sets unit =
+sets_packet has_donl n sets unit =
     (((if list_any has_forbidden_bit sets then 0x80 else 0) + least layer_of sets) ∷
     (28 * 8 + max 1 (least temporal_of sets)) ∷ [])
-    ++ number_bytes numbered n ++ flat_map piece sets
+    ++ donl_bytes has_donl n ++ flat_map piece sets
 
 -- a fragment's header: the unit's with type 29, and a byte of S, E, P clear and the unit's type
 -- (4.3.3)
@@ -78,17 +78,18 @@ units_within (suc most) (high ∷ low ∷ bytes) =
     (drop (high * 256 + low) bytes))
 
 -- units without numbers, or each numbered one more than the one before
-abbrev pub numbered_on : Option ℕ → List (List ℕ) → List (List ℕ × Option ℕ)
-numbered_on None units = map unnumbered units
-numbered_on (Some n) [] = []
-numbered_on (Some n) (unit ∷ units) = (unit, Some n) ∷ numbered_on (Some ((n + 1) % 65536)) units
+abbrev pub units_with_dons : Option ℕ → List (List ℕ) → List (List ℕ × Option ℕ)
+units_with_dons None units = map without_don units
+units_with_dons (Some n) [] = []
+units_with_dons (Some n) (unit ∷ units) = (unit, Some n) ∷
+    units_with_dons (Some ((n + 1) % 65536)) units
 
 -- an aggregate has two units or more
 abbrev pub two_or_more : Option ℕ → Result (List (List ℕ)) PacketError → Reading
-two_or_more number (Ok (first ∷ second ∷ units)) = Aggregate (numbered_on number (first ∷ second ∷
+two_or_more don (Ok (first ∷ second ∷ units)) = Aggregate (units_with_dons don (first ∷ second ∷
     units))
-two_or_more number (Ok units) = Refused ErrShortPacket
-two_or_more number (Err error) = Refused error
+two_or_more don (Ok units) = Refused ErrShortPacket
+two_or_more don (Err error) = Refused error
 
 abbrev pub aggregate_of : Bool → List ℕ → Reading  -- an aggregate behind its header (4.3.2)
 aggregate_of false bytes = two_or_more None (units_within (length bytes) bytes)
@@ -101,17 +102,17 @@ abbrev pub fragment_of : Bool → Bool → ℕ → ℕ → ℕ → List ℕ → 
 fragment_of true true high low fu (d ∷ e ∷ body) = Fragment true (is_set fu 6) (high ∷
     with_type low (field fu 4 0) ∷ []) (Some (d * 256 + e)) body
 fragment_of true true high low fu body = Refused ErrShortPacket
-fragment_of numbered start high low fu body = Fragment start (is_set fu 6) (high ∷
+fragment_of has_donl start high low fu body = Fragment start (is_set fu 6) (high ∷
     with_type low (field fu 4 0) ∷ []) None body
 
 -- the same as the relation `IsReading` of the file beside this one, computed
 abbrev pub read : Bool → List ℕ → Reading
-read numbered (high ∷ low ∷ b ∷ body) =
+read has_donl (high ∷ low ∷ b ∷ body) =
     if is_set high 7 then Refused ErrH266CorruptedPacket
-    else if type_of low == 28 then aggregate_of numbered (b ∷ body)
-    else if type_of low == 29 then fragment_of numbered (is_set b 7) high low b body
-    else single_of numbered high low (b ∷ body)
-read numbered packet = Refused ErrShortPacket
+    else if type_of low == 28 then aggregate_of has_donl (b ∷ body)
+    else if type_of low == 29 then fragment_of has_donl (is_set b 7) high low b body
+    else two_byte_single has_donl high low (b ∷ body)
+read has_donl packet = Refused ErrShortPacket
 
 -- a unit of three bytes or more with F clear and a type of its own; its header's bytes are bytes
 abbrev pub carries : List ℕ → Bool
@@ -129,7 +130,7 @@ is_fragment (high ∷ low ∷ rest) = type_of low == 29
 is_fragment packet = false
 
 -- Whether a key unit is known to stand in a packet, or to begin in it; numbers are not accounted
--- for (the crate's rule).
+-- for (str0m's rule).
 abbrev pub detects_fragment : List ℕ → Bool
 detects_fragment [] = false
 detects_fragment (fu ∷ body) = is_set fu 7 && is_key_type (field fu 4 0)
@@ -143,19 +144,19 @@ detects (high ∷ low ∷ rest) =
 detects packet = false
 
 abbrev pub h266 : Bool → Format  -- the format, with or without numbers
-h266 numbered = record {
+h266 has_donl = record {
   units = units_of AtMostThree;
   kind = kind;
   is_key = is_key;
   least_mtu = 4;
-  sized = true;
+  has_max_packet_size = true;
   header_len = 2;
-  may_bear_donl = true;
-  numbered = numbered;
-  sets_fit = sets_fit numbered;
-  sets_packet = sets_packet numbered;
+  may_have_donl = true;
+  has_donl = has_donl;
+  sets_fit = sets_fit has_donl;
+  sets_packet = sets_packet has_donl;
   fragment_header = fragment_header;
-  read = read numbered;
+  read = read has_donl;
   carries = carries;
   extra = λ key. extras.H266 (record { is_keyframe = key });
   has_key = has_key;

@@ -2,16 +2,16 @@
 
 ghost use Rattle.std.specs.Prelude.{◌≡◌, ◌<◌, ◌≤◌, ◌-◌, ◌^◌, min, false, ℕ, Option, length, IfOk, IfErr, Ok, Err};
 ghost use Rattle.std.specs.List.{list_any};
-ghost use Rattle.h26x_core.specs.Outcome.{is_too_long};
+ghost use Rattle.h26x_model.specs.Receive.Outcome.{is_too_long};
 ghost use Rattle.h26x_core.specs.Pieces.{pieces_of, with_piece};
-ghost use Rattle.h26x_core.specs.Reading.{Refused};
+ghost use Rattle.h26x_model.specs.Payload.Reading.{Refused};
 ghost use Rattle.h266_payload.specs.H266.{has_packet_type, with_unit, two_or_more};
 ghost use Rattle.h26x_payload.specs.Run.{AreOfSize};
-ghost use Rattle.h266_payload.specs.Packet.{aggregate_units, judged};
+ghost use Rattle.h266_payload.specs.Packet.{aggregate_units, aggregate_outcome};
 
 use crate::packetizer::{H266, header_of};
 use h26x_core::{PacketError, first_piece};
-use h26x_payload::{Aggregate, LEAD_SIZE};
+use h26x_payload::{Aggregate, PREFIX_SIZE};
 
 /// The bytes of a unit's length in an aggregate.
 const LENGTH_SIZE: usize = 2;
@@ -47,10 +47,11 @@ fn first_allowed(bytes: &[u8]) -> Result<(&[u8], &[u8]), PacketError>
     requires { 0 < length bytes.now }
     ensures whole { IfOk result (λ it. pieces_of bytes.now ≡ with_piece it.0.now
         (pieces_of it.1.now)) }
-    ensures allowed { IfOk result (λ it. judged bytes.now ≡ with_unit it.0.now (judged it.1.now)) }
+    ensures allowed { IfOk result (λ it. aggregate_outcome bytes.now
+        ≡ with_unit it.0.now (aggregate_outcome it.1.now)) }
     ensures short { IfOk result (λ it. is_too_long it.0.now ≡ false) }
     ensures less { IfOk result (λ it. length it.1.now < length bytes.now) }
-    ensures refused { IfErr result (λ e. judged bytes.now ≡ Err e) }
+    ensures refused { IfErr result (λ e. aggregate_outcome bytes.now ≡ Err e) }
 {
     if bytes.len() < LENGTH_SIZE {
         return Err(PacketError::ErrShortPacket);
@@ -68,10 +69,11 @@ fn first_allowed(bytes: &[u8]) -> Result<(&[u8], &[u8]), PacketError>
 /// The fault furthest left refuses it: a lone byte, or a length under 2 or past the end; a unit that
 /// is an aggregate or a fragment. So do fewer than two units.
 pub fn check_aggregate(bytes: &[u8]) -> Result<usize, PacketError>
-    ensures units { IfOk result (λ size. judged bytes.now ≡ Ok (aggregate_units bytes.now)) }
+    ensures units { IfOk result (λ size. aggregate_outcome bytes.now ≡ Ok (aggregate_units bytes.now)) }
     ensures two { IfOk result (λ size. 2 ≤ length (aggregate_units bytes.now)) }
     ensures size { IfOk result (λ size. AreOfSize (aggregate_units bytes.now) size) }
-    ensures refused { IfErr result (λ e. (number : Option ℕ) → two_or_more number (judged bytes.now)
+    ensures refused { IfErr result (λ e. (don : Option ℕ) →
+        two_or_more don (aggregate_outcome bytes.now)
         ≡ Refused e) }
 {
     let mut size: usize = 0;
@@ -79,7 +81,7 @@ pub fn check_aggregate(bytes: &[u8]) -> Result<usize, PacketError>
     let mut rest = bytes;
     while !rest.is_empty() {
         let (unit, behind) = first_allowed(rest)?;
-        size = size.saturating_add(unit.len() + LEAD_SIZE);
+        size = size.saturating_add(unit.len() + PREFIX_SIZE);
         count += 1;
         rest = behind;
     }

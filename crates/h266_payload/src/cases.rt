@@ -4,17 +4,17 @@
 ghost use Rattle.std.specs.Prelude.{map, ◌≡◌, [], ◌∷◌, true, false, Some, None, length, replicate};
 ghost use Rattle.std.specs.List.{range_with_len};
 ghost use Rattle.h26x_core.specs.Kind.{Skipped, Vps, Sps, Pps, Other};
-ghost use Rattle.h26x_core.specs.Reading.{Aggregate, Refused};
-ghost use Rattle.h26x_core.specs.Plan.{Alone, Together};
-ghost use Rattle.h26x_core.specs.Waits.{AreSets, entries_at};
-ghost use Rattle.h26x_core.specs.Rival.{IsRival};
-ghost use Rattle.h26x_core.specs.Facts.{AreCarried, IsPlanned, CanSend};
-ghost use Rattle.h26x_core.specs.Again.{NothingDropped};
-ghost use Rattle.h26x_core.specs.Received.{received};
-ghost use Rattle.h26x_core.specs.Receiver.{at_work, work_after, receiver_meaning};
-ghost use Rattle.h26x_core.specs.Text.{annex_b};
-ghost use Rattle.h26x_core.specs.Extra.{extra_after};
-ghost use Rattle.h26x_core.specs.Calls.{call_at, packets_of, packets_of_payload};
+ghost use Rattle.h26x_model.specs.Payload.Reading.{Aggregate, Refused};
+ghost use Rattle.h26x_model.specs.Send.Plan.{Alone, Together};
+ghost use Rattle.h26x_model.specs.Send.WaitingSets.{AreWaitingSets, entries_with_limit};
+ghost use Rattle.h26x_model.specs.Send.Rival.{IsRival};
+ghost use Rattle.h26x_model.specs.Payload.Facts.{AreCarried, IsPlanned, CanSend};
+ghost use Rattle.h26x_model.specs.Send.Again.{NothingDropped};
+ghost use Rattle.h26x_model.specs.Receive.Received.{received};
+ghost use Rattle.h26x_model.specs.Receive.DepacketizerState.{depacketization, after_packets, depacketizer_meaning};
+ghost use Rattle.h26x_core.specs.ByteStream.{annex_b};
+ghost use Rattle.h26x_model.specs.Payload.Extra.{extra_after};
+ghost use Rattle.h26x_model.specs.Send.Calls.{fresh_call, all_packets, payload_packets};
 ghost use Rattle.h266_payload.specs.H266.{h266};
 
 use h26x_core::{CodecExtra, PacketError};
@@ -22,16 +22,16 @@ use h26x_core::{CodecExtra, PacketError};
 /// Sets before a unit go in one packet; where packets bear numbers, it has the first set's, and the
 /// unit has its own.
 pub fn sets_and_a_unit()
-    ensures three { packets_of_payload (h266 false) 1200
+    ensures three { payload_packets (h266 false) 1200
         (0x00 ∷ 0x00 ∷ 0x01 ∷ 0x00 ∷ 0x71 ∷ 0xaa ∷ 0x00 ∷ 0x00 ∷ 0x01 ∷ 0x00 ∷ 0x79 ∷ 0xbb
         ∷ 0x00 ∷ 0x00 ∷ 0x01 ∷ 0x00 ∷ 0x81 ∷ 0xcc ∷ 0x00 ∷ 0x00 ∷ 0x01 ∷ 0x00 ∷ 0x39 ∷ 0xdd ∷ [])
         ≡ (0x00 ∷ 0xe1 ∷ 0x00 ∷ 0x03 ∷ 0x00 ∷ 0x71 ∷ 0xaa ∷ 0x00 ∷ 0x03 ∷ 0x00 ∷ 0x79 ∷ 0xbb ∷
         0x00 ∷ 0x03 ∷ 0x00 ∷ 0x81 ∷ 0xcc ∷ []) ∷ (0x00 ∷ 0x39 ∷ 0xdd ∷ []) ∷ [] }
-    ensures layers { packets_of_payload (h266 false) 1200 (0x00 ∷ 0x00 ∷ 0x01 ∷ 0x02 ∷ 0x7a ∷ 0xbb ∷
+    ensures layers { payload_packets (h266 false) 1200 (0x00 ∷ 0x00 ∷ 0x01 ∷ 0x02 ∷ 0x7a ∷ 0xbb ∷
         0x00 ∷ 0x00 ∷ 0x01 ∷ 0x01 ∷ 0x83 ∷ 0xcc ∷ 0x00 ∷ 0x00 ∷ 0x01 ∷ 0x00 ∷ 0x39 ∷ 0xdd ∷ [])
         ≡ (0x01 ∷ 0xe2 ∷ 0x00 ∷ 0x03 ∷ 0x02 ∷ 0x7a ∷ 0xbb ∷ 0x00 ∷ 0x03 ∷ 0x01 ∷ 0x83 ∷ 0xcc ∷ []) ∷
         (0x00 ∷ 0x39 ∷ 0xdd ∷ []) ∷ [] }
-    ensures numbered { packets_of_payload (h266 true) 1200 (0x00 ∷ 0x00 ∷ 0x01 ∷ 0x00 ∷ 0x79 ∷
+    ensures has_donl { payload_packets (h266 true) 1200 (0x00 ∷ 0x00 ∷ 0x01 ∷ 0x00 ∷ 0x79 ∷
         0xbb ∷ 0x00 ∷ 0x00 ∷ 0x01 ∷ 0x00 ∷ 0x81 ∷ 0xcc ∷ 0x00 ∷ 0x00 ∷ 0x01 ∷ 0x00 ∷ 0x39 ∷ 0xdd ∷
         [])
         ≡ (0x00 ∷ 0xe1 ∷ 0x00 ∷ 0x00 ∷ 0x00 ∷ 0x03 ∷ 0x00 ∷ 0x79 ∷ 0xbb ∷ 0x00 ∷ 0x03 ∷ 0x00 ∷
@@ -40,22 +40,22 @@ pub fn sets_and_a_unit()
 
 /// Of the zeros before 00 00 01 a start code takes one; the others stay with the unit before it.
 pub fn zeros_before_a_start_code()
-    ensures one_taken { packets_of_payload (h266 false) 1200 (0x00 ∷ 0x00 ∷ 0x01 ∷ 0x00 ∷ 0x09 ∷
+    ensures one_taken { payload_packets (h266 false) 1200 (0x00 ∷ 0x00 ∷ 0x01 ∷ 0x00 ∷ 0x09 ∷
         0xaa ∷ 0x00 ∷ 0x00 ∷ 0x00 ∷ 0x00 ∷ 0x01 ∷ 0x00 ∷ 0x11 ∷ 0xbb ∷ [])
         ≡ (0x00 ∷ 0x09 ∷ 0xaa ∷ 0x00 ∷ []) ∷ (0x00 ∷ 0x11 ∷ 0xbb ∷ []) ∷ [] }
 {}
 
 /// An mtu under 4 has no effect: nothing is sent.
 pub fn small_mtu()
-    ensures { packets_of_payload (h266 false) 3 (0x00 ∷ 0x01 ∷ 0xaa ∷ []) ≡ [] }
+    ensures { payload_packets (h266 false) 3 (0x00 ∷ 0x01 ∷ 0xaa ∷ []) ≡ [] }
 {}
 
 /// At a small limit a unit goes in fragments of few bytes, and in none where there is no room for
 /// data.
 pub fn tiny_limits()
-    ensures none { packets_of_payload (h266 false) 3 (0x00 ∷ 0x09 ∷ 0x01 ∷ 0x02 ∷ 0x03 ∷ 0x04 ∷
+    ensures none { payload_packets (h266 false) 3 (0x00 ∷ 0x09 ∷ 0x01 ∷ 0x02 ∷ 0x03 ∷ 0x04 ∷
         0x05 ∷ 0x06 ∷ []) ≡ [] }
-    ensures six { packets_of_payload (h266 false) 4 (0x00 ∷ 0x09 ∷ 0x01 ∷ 0x02 ∷ 0x03 ∷ 0x04 ∷
+    ensures six { payload_packets (h266 false) 4 (0x00 ∷ 0x09 ∷ 0x01 ∷ 0x02 ∷ 0x03 ∷ 0x04 ∷
         0x05 ∷ 0x06 ∷ [])
         ≡ (0x00 ∷ 0xe9 ∷ 0x81 ∷ 0x01 ∷ [])
         ∷ (0x00 ∷ 0xe9 ∷ 0x01 ∷ 0x02 ∷ [])
@@ -64,12 +64,12 @@ pub fn tiny_limits()
         ∷ (0x00 ∷ 0xe9 ∷ 0x01 ∷ 0x05 ∷ [])
         ∷ (0x00 ∷ 0xe9 ∷ 0x41 ∷ 0x06 ∷ [])
         ∷ [] }
-    ensures one { packets_of_payload (h266 false) 8 (0x00 ∷ 0x09 ∷ 0x01 ∷ 0x02 ∷ 0x03 ∷ 0x04 ∷
+    ensures one { payload_packets (h266 false) 8 (0x00 ∷ 0x09 ∷ 0x01 ∷ 0x02 ∷ 0x03 ∷ 0x04 ∷
         0x05 ∷ 0x06 ∷ [])
         ≡ (0x00 ∷ 0x09 ∷ 0x01 ∷ 0x02 ∷ 0x03 ∷ 0x04 ∷ 0x05 ∷ 0x06 ∷ []) ∷ [] }
-    ensures numbered_none { packets_of_payload (h266 true) 5 (0x00 ∷ 0x09 ∷ 0x01 ∷ 0x02 ∷ 0x03 ∷
+    ensures numbered_none { payload_packets (h266 true) 5 (0x00 ∷ 0x09 ∷ 0x01 ∷ 0x02 ∷ 0x03 ∷
         0x04 ∷ 0x05 ∷ 0x06 ∷ []) ≡ [] }
-    ensures numbered_three { packets_of_payload (h266 true) 6 (0x00 ∷ 0x09 ∷ 0x01 ∷ 0x02 ∷ 0x03 ∷
+    ensures numbered_three { payload_packets (h266 true) 6 (0x00 ∷ 0x09 ∷ 0x01 ∷ 0x02 ∷ 0x03 ∷
         0x04 ∷ 0x05 ∷ 0x06 ∷ [])
         ≡ (0x00 ∷ 0xe9 ∷ 0x81 ∷ 0x00 ∷ 0x00 ∷ 0x01 ∷ []) ∷ (0x00 ∷ 0xe9 ∷ 0x01 ∷ 0x02 ∷ 0x03 ∷
         0x04 ∷ []) ∷ (0x00 ∷ 0xe9 ∷ 0x41 ∷ 0x05 ∷ 0x06 ∷ []) ∷ [] }
@@ -126,10 +126,10 @@ pub fn key_unit_detected()
 
 /// How many packets a unit of eight bytes takes, at each limit up to 10.
 pub fn packets_by_limit()
-    ensures plain { map (λ mtu. length (packets_of_payload (h266 false) mtu (0x00 ∷ 0x09 ∷ 0x01 ∷
+    ensures plain { map (λ mtu. length (payload_packets (h266 false) mtu (0x00 ∷ 0x09 ∷ 0x01 ∷
         0x02 ∷ 0x03 ∷ 0x04 ∷ 0x05 ∷ 0x06 ∷ []))) (range_with_len 0 11)
         ≡ 0 ∷ 0 ∷ 0 ∷ 0 ∷ 6 ∷ 3 ∷ 2 ∷ 2 ∷ 1 ∷ 1 ∷ 1 ∷ [] }
-    ensures numbered { map (λ mtu. length (packets_of_payload (h266 true) mtu (0x00 ∷ 0x09 ∷ 0x01 ∷
+    ensures has_donl { map (λ mtu. length (payload_packets (h266 true) mtu (0x00 ∷ 0x09 ∷ 0x01 ∷
         0x02 ∷ 0x03 ∷ 0x04 ∷ 0x05 ∷ 0x06 ∷ []))) (range_with_len 0 11)
         ≡ 0 ∷ 0 ∷ 0 ∷ 0 ∷ 0 ∷ 0 ∷ 3 ∷ 2 ∷ 2 ∷ 2 ∷ 1 ∷ [] }
 {}
@@ -138,23 +138,23 @@ pub fn packets_by_limit()
 /// goes alone and one of 101 in two fragments; sets that don't fit one packet go alone; a delimiter
 /// is not sent.
 pub fn lengths_of_packets()
-    ensures fits { map (λ packet. length packet) (packets_of_payload (h266 false) 100 (0x00 ∷ 0x01 ∷
+    ensures fits { map (λ packet. length packet) (payload_packets (h266 false) 100 (0x00 ∷ 0x01 ∷
         replicate 98 0xaa)) ≡ 100 ∷ [] }
-    ensures fragments { map (λ packet. length packet) (packets_of_payload (h266 false) 100 (0x00 ∷
+    ensures fragments { map (λ packet. length packet) (payload_packets (h266 false) 100 (0x00 ∷
         0x01 ∷ replicate 99 0xaa)) ≡ 100 ∷ 5 ∷ [] }
-    ensures longest { map (λ packet. length packet) (packets_of_payload (h266 false) 5000 (0x00 ∷
+    ensures longest { map (λ packet. length packet) (payload_packets (h266 false) 5000 (0x00 ∷
         0x09 ∷ replicate 1199 0xaa)) ≡ 1200 ∷ 5 ∷ [] }
-    ensures sixteen { length (packets_of_payload (h266 false) 200 (0x00 ∷ 0x49 ∷
+    ensures sixteen { length (payload_packets (h266 false) 200 (0x00 ∷ 0x49 ∷
         replicate 2998 0xaa)) ≡ 16 }
-    ensures sets { map (λ packet. length packet) (packets_of (h266 false) 0 (
-        call_at 700 (0x00 ∷ 0x79 ∷ replicate 598 0xaa) ∷
-        call_at 700 (0x00 ∷ 0x81 ∷ replicate 598 0xaa) ∷
-        call_at 700 (0x00 ∷ 0x39 ∷ replicate 48 0xaa) ∷ []))
+    ensures sets { map (λ packet. length packet) (all_packets (h266 false) 0 (
+        fresh_call 700 (0x00 ∷ 0x79 ∷ replicate 598 0xaa) ∷
+        fresh_call 700 (0x00 ∷ 0x81 ∷ replicate 598 0xaa) ∷
+        fresh_call 700 (0x00 ∷ 0x39 ∷ replicate 48 0xaa) ∷ []))
         ≡ 600 ∷ 600 ∷ 50 ∷ [] }
-    ensures delimiter { map (λ packet. length packet) (packets_of (h266 false) 0 (
-        call_at 1200 (0x00 ∷ 0xa1 ∷ replicate 2 0xaa) ∷
-        call_at 1200 (0x00 ∷ 0x01 ∷ replicate 6 0xaa) ∷
-        call_at 1200 (0x00 ∷ 0xc9 ∷ replicate 8 0xaa) ∷ []))
+    ensures delimiter { map (λ packet. length packet) (all_packets (h266 false) 0 (
+        fresh_call 1200 (0x00 ∷ 0xa1 ∷ replicate 2 0xaa) ∷
+        fresh_call 1200 (0x00 ∷ 0x01 ∷ replicate 6 0xaa) ∷
+        fresh_call 1200 (0x00 ∷ 0xc9 ∷ replicate 8 0xaa) ∷ []))
         ≡ 8 ∷ 10 ∷ [] }
 {}
 
@@ -171,11 +171,11 @@ pub fn refusals_within_a_run()
 
 /// A zero at the end of a unit stays with it where it is sent again.
 pub fn sent_again()
-    ensures first { packets_of (h266 false) 0 (
-        call_at 100 (0x00 ∷ 0x09 ∷ 0xaa ∷ 0x00 ∷ []) ∷
-        call_at 100 (0x00 ∷ 0x11 ∷ 0xbb ∷ []) ∷ [])
+    ensures first { all_packets (h266 false) 0 (
+        fresh_call 100 (0x00 ∷ 0x09 ∷ 0xaa ∷ 0x00 ∷ []) ∷
+        fresh_call 100 (0x00 ∷ 0x11 ∷ 0xbb ∷ []) ∷ [])
         ≡ (0x00 ∷ 0x09 ∷ 0xaa ∷ 0x00 ∷ []) ∷ (0x00 ∷ 0x11 ∷ 0xbb ∷ []) ∷ [] }
-    ensures again { packets_of_payload (h266 false) 100 (annex_b ((0x00 ∷ 0x09 ∷ 0xaa ∷ 0x00 ∷ []) ∷
+    ensures again { payload_packets (h266 false) 100 (annex_b ((0x00 ∷ 0x09 ∷ 0xaa ∷ 0x00 ∷ []) ∷
         (0x00 ∷ 0x11 ∷ 0xbb ∷ []) ∷ []))
         ≡ (0x00 ∷ 0x09 ∷ 0xaa ∷ 0x00 ∷ []) ∷ (0x00 ∷ 0x11 ∷ 0xbb ∷ []) ∷ [] }
 {}
@@ -183,27 +183,27 @@ pub fn sent_again()
 /// Sets of three bytes take twelve bytes in one packet, and fourteen with their number; at one less
 /// they go alone.
 pub fn sets_at_their_limit()
-    ensures at_12 { packets_of_payload (h266 false) 12 (
+    ensures at_12 { payload_packets (h266 false) 12 (
         0x00 ∷ 0x00 ∷ 0x01 ∷ 0x00 ∷ 0x79 ∷ 0xbb ∷
         0x00 ∷ 0x00 ∷ 0x01 ∷ 0x00 ∷ 0x81 ∷ 0xcc ∷
         0x00 ∷ 0x00 ∷ 0x01 ∷ 0x00 ∷ 0x39 ∷ 0xdd ∷ [])
         ≡ (0x00 ∷ 0xe1 ∷ 0x00 ∷ 0x03 ∷ 0x00 ∷ 0x79 ∷ 0xbb ∷ 0x00 ∷ 0x03 ∷ 0x00 ∷ 0x81 ∷ 0xcc ∷ []) ∷
         (0x00 ∷ 0x39 ∷ 0xdd ∷ []) ∷ [] }
-    ensures at_11 { packets_of_payload (h266 false) 11 (
+    ensures at_11 { payload_packets (h266 false) 11 (
         0x00 ∷ 0x00 ∷ 0x01 ∷ 0x00 ∷ 0x79 ∷ 0xbb ∷
         0x00 ∷ 0x00 ∷ 0x01 ∷ 0x00 ∷ 0x81 ∷ 0xcc ∷
         0x00 ∷ 0x00 ∷ 0x01 ∷ 0x00 ∷ 0x39 ∷ 0xdd ∷ [])
         ≡ (0x00 ∷ 0x79 ∷ 0xbb ∷ []) ∷
         (0x00 ∷ 0x81 ∷ 0xcc ∷ []) ∷
         (0x00 ∷ 0x39 ∷ 0xdd ∷ []) ∷ [] }
-    ensures numbered_at_14 { packets_of_payload (h266 true) 14 (
+    ensures numbered_at_14 { payload_packets (h266 true) 14 (
         0x00 ∷ 0x00 ∷ 0x01 ∷ 0x00 ∷ 0x79 ∷ 0xbb ∷
         0x00 ∷ 0x00 ∷ 0x01 ∷ 0x00 ∷ 0x81 ∷ 0xcc ∷
         0x00 ∷ 0x00 ∷ 0x01 ∷ 0x00 ∷ 0x39 ∷ 0xdd ∷ [])
         ≡ (0x00 ∷ 0xe1 ∷ 0x00 ∷ 0x00 ∷ 0x00 ∷ 0x03 ∷ 0x00 ∷ 0x79 ∷ 0xbb ∷ 0x00 ∷ 0x03 ∷ 0x00 ∷
         0x81 ∷ 0xcc ∷ []) ∷
         (0x00 ∷ 0x39 ∷ 0x00 ∷ 0x02 ∷ 0xdd ∷ []) ∷ [] }
-    ensures numbered_at_13 { packets_of_payload (h266 true) 13 (
+    ensures numbered_at_13 { payload_packets (h266 true) 13 (
         0x00 ∷ 0x00 ∷ 0x01 ∷ 0x00 ∷ 0x79 ∷ 0xbb ∷
         0x00 ∷ 0x00 ∷ 0x01 ∷ 0x00 ∷ 0x81 ∷ 0xcc ∷
         0x00 ∷ 0x00 ∷ 0x01 ∷ 0x00 ∷ 0x39 ∷ 0xdd ∷ [])
@@ -214,13 +214,13 @@ pub fn sets_at_their_limit()
 
 /// The packet of sets has F where one of them has it, and a temporal id of 1 at least.
 pub fn header_of_sets()
-    ensures forbidden { packets_of_payload (h266 false) 100 (
+    ensures forbidden { payload_packets (h266 false) 100 (
         0x00 ∷ 0x00 ∷ 0x01 ∷ 0x00 ∷ 0x79 ∷ 0xbb ∷
         0x00 ∷ 0x00 ∷ 0x01 ∷ 0x80 ∷ 0x81 ∷ 0xcc ∷
         0x00 ∷ 0x00 ∷ 0x01 ∷ 0x00 ∷ 0x39 ∷ 0xdd ∷ [])
         ≡ (0x80 ∷ 0xe1 ∷ 0x00 ∷ 0x03 ∷ 0x00 ∷ 0x79 ∷ 0xbb ∷ 0x00 ∷ 0x03 ∷ 0x80 ∷ 0x81 ∷ 0xcc ∷ []) ∷
         (0x00 ∷ 0x39 ∷ 0xdd ∷ []) ∷ [] }
-    ensures temporal { packets_of_payload (h266 false) 100 (
+    ensures temporal { payload_packets (h266 false) 100 (
         0x00 ∷ 0x00 ∷ 0x01 ∷ 0x00 ∷ 0x78 ∷ 0xbb ∷
         0x00 ∷ 0x00 ∷ 0x01 ∷ 0x00 ∷ 0x80 ∷ 0xcc ∷
         0x00 ∷ 0x00 ∷ 0x01 ∷ 0x00 ∷ 0x39 ∷ 0xdd ∷ [])
@@ -230,7 +230,7 @@ pub fn header_of_sets()
 
 /// A delimiter, units of the packets' own types and a unit without a whole header are not sent.
 pub fn units_not_sent()
-    ensures { packets_of_payload (h266 false) 100 (
+    ensures { payload_packets (h266 false) 100 (
         0x00 ∷ 0x00 ∷ 0x01 ∷ 0x00 ∷ 0xa1 ∷ 0xaa ∷
         0x00 ∷ 0x00 ∷ 0x01 ∷ 0x00 ∷ 0xe1 ∷ 0xaa ∷
         0x00 ∷ 0x00 ∷ 0x01 ∷ 0x00 ∷ 0xe9 ∷ 0xaa ∷
@@ -245,7 +245,7 @@ pub fn units_of_an_aggregate()
         0x01 ∷ 0xbb ∷ []) ≡ Refused PacketError.ErrShortPacket }
     ensures fragment_within { (h266 false).read (0x00 ∷ 0xe1 ∷ 0x00 ∷ 0x03 ∷ 0x00 ∷ 0x01 ∷ 0xaa ∷
         0x00 ∷ 0x02 ∷ 0x00 ∷ 0xe9 ∷ []) ≡ Refused PacketError.ErrH266CorruptedPacket }
-    ensures numbers { (h266 true).read (0x00 ∷ 0xe1 ∷ 0xff ∷ 0xff ∷ 0x00 ∷ 0x03 ∷ 0x00 ∷ 0x01 ∷
+    ensures dons { (h266 true).read (0x00 ∷ 0xe1 ∷ 0xff ∷ 0xff ∷ 0x00 ∷ 0x03 ∷ 0x00 ∷ 0x01 ∷
         0xaa ∷ 0x00 ∷ 0x03 ∷ 0x00 ∷ 0x01 ∷ 0xbb ∷ [])
         ≡ Aggregate ((0x00 ∷ 0x01 ∷ 0xaa ∷ [], Some 65535) ∷ (0x00 ∷ 0x01 ∷ 0xbb ∷ [], Some 0) ∷
         []) }
@@ -280,13 +280,13 @@ pub fn rest_of_an_aggregate()
 
 /// The packet of sets has their lowest layer and temporal id, of whichever set, and Z clear.
 pub fn layers_of_sets()
-    ensures lowest { packets_of_payload (h266 false) 1200 (
+    ensures lowest { payload_packets (h266 false) 1200 (
         0x00 ∷ 0x00 ∷ 0x01 ∷ 0x01 ∷ 0x7b ∷ 0xbb ∷
         0x00 ∷ 0x00 ∷ 0x01 ∷ 0x02 ∷ 0x82 ∷ 0xcc ∷
         0x00 ∷ 0x00 ∷ 0x01 ∷ 0x00 ∷ 0x39 ∷ 0xdd ∷ [])
         ≡ (0x01 ∷ 0xe2 ∷ 0x00 ∷ 0x03 ∷ 0x01 ∷ 0x7b ∷ 0xbb ∷ 0x00 ∷ 0x03 ∷ 0x02 ∷ 0x82 ∷ 0xcc ∷ []) ∷
         (0x00 ∷ 0x39 ∷ 0xdd ∷ []) ∷ [] }
-    ensures z_clear { packets_of_payload (h266 false) 100 (
+    ensures z_clear { payload_packets (h266 false) 100 (
         0x00 ∷ 0x00 ∷ 0x01 ∷ 0x40 ∷ 0x79 ∷ 0xbb ∷
         0x00 ∷ 0x00 ∷ 0x01 ∷ 0x40 ∷ 0x81 ∷ 0xcc ∷
         0x00 ∷ 0x00 ∷ 0x01 ∷ 0x00 ∷ 0x39 ∷ 0xdd ∷ [])
@@ -296,7 +296,7 @@ pub fn layers_of_sets()
 
 /// Fragments keep F, Z, layer and temporal id of their unit, and P of a fragment is not looked at.
 pub fn headers_of_fragments()
-    ensures sent { packets_of_payload (h266 false) 4 (0xc5 ∷ 0x0a ∷ 0x01 ∷ 0x02 ∷ 0x03 ∷ [])
+    ensures sent { payload_packets (h266 false) 4 (0xc5 ∷ 0x0a ∷ 0x01 ∷ 0x02 ∷ 0x03 ∷ [])
         ≡ (0xc5 ∷ 0xea ∷ 0x81 ∷ 0x01 ∷ []) ∷
         (0xc5 ∷ 0xea ∷ 0x01 ∷ 0x02 ∷ []) ∷
         (0xc5 ∷ 0xea ∷ 0x41 ∷ 0x03 ∷ []) ∷ [] }
@@ -323,7 +323,7 @@ pub fn short_before_corrupted()
         []) ≡ Refused PacketError.ErrShortPacket }
     ensures corrupted { (h266 false).read (0x80 ∷ 0x09 ∷ 0xaa ∷
         []) ≡ Refused PacketError.ErrH266CorruptedPacket }
-    ensures sent { packets_of_payload (h266 false) 100 (0x00 ∷ 0xf1 ∷ 0xaa ∷ []) ≡ (0x00 ∷ 0xf1 ∷
+    ensures sent { payload_packets (h266 false) 100 (0x00 ∷ 0xf1 ∷ 0xaa ∷ []) ≡ (0x00 ∷ 0xf1 ∷
         0xaa ∷ []) ∷ [] }
     ensures read { received (map (h266 false).read ((0x00 ∷ 0xf1 ∷ 0xaa ∷ []) ∷ [])) ≡ (0x00 ∷
         0xf1 ∷ 0xaa ∷ []) ∷ [] }
@@ -391,14 +391,14 @@ pub fn kinds_of_units()
 
 /// Of each kind one set waits, or none.
 pub fn sets_that_wait()
-    ensures three { AreSets (h266 false) (record {
+    ensures three { AreWaitingSets (h266 false) (record {
       vps = (0x00 ∷ 0x71 ∷ []) ∷ [];
       sps = (0x00 ∷ 0x79 ∷ []) ∷ [];
       pps = (0x00 ∷ 0x81 ∷ []) ∷ [];
     }) }
-    ensures vps_alone { AreSets (h266 false)
+    ensures vps_alone { AreWaitingSets (h266 false)
         (record { vps = (0x00 ∷ 0x71 ∷ []) ∷ []; sps = []; pps = [] }) }
-    ensures wrong_kind { AreSets (h266 false)
+    ensures wrong_kind { AreWaitingSets (h266 false)
         (record { vps = (0x00 ∷ 0x79 ∷ []) ∷ []; sps = []; pps = [] }) → ⊥ }
 {}
 
@@ -422,9 +422,9 @@ pub fn items_that_can_be_sent()
 /// more and smaller packets; not without a start.
 pub fn rivals()
     ensures own { IsRival (h266 false) 4 (0x01 ∷ 0x02 ∷ 0x03 ∷ [])
-        (packets_of_payload (h266 false) 4 (0x00 ∷ 0x09 ∷ 0x01 ∷ 0x02 ∷ 0x03 ∷ [])) }
-    ensures numbered { IsRival (h266 true) 6 (0x01 ∷ 0x02 ∷ 0x03 ∷ 0x04 ∷ 0x05 ∷ [])
-        (packets_of_payload (h266 true) 6 (0x00 ∷ 0x09 ∷ 0x01 ∷ 0x02 ∷ 0x03 ∷ 0x04 ∷ 0x05 ∷ [])) }
+        (payload_packets (h266 false) 4 (0x00 ∷ 0x09 ∷ 0x01 ∷ 0x02 ∷ 0x03 ∷ [])) }
+    ensures has_donl { IsRival (h266 true) 6 (0x01 ∷ 0x02 ∷ 0x03 ∷ 0x04 ∷ 0x05 ∷ [])
+        (payload_packets (h266 true) 6 (0x00 ∷ 0x09 ∷ 0x01 ∷ 0x02 ∷ 0x03 ∷ 0x04 ∷ 0x05 ∷ [])) }
     ensures more { IsRival (h266 true) 6 (0x01 ∷ 0x02 ∷ 0x03 ∷ 0x04 ∷ 0x05 ∷ [])
         ((0x00 ∷ 0xe9 ∷ 0x81 ∷ 0x00 ∷ 0x07 ∷ []) ∷
         (0x00 ∷ 0xe9 ∷ 0x41 ∷ 0x01 ∷ 0x02 ∷ []) ∷
@@ -437,37 +437,37 @@ pub fn rivals()
 /// Nothing is dropped where sets go in one packet or each alone, and each other unit alone or in
 /// fragments.
 pub fn nothing_dropped()
-    ensures together { NothingDropped (h266 false) (entries_at 12 (
+    ensures together { NothingDropped (h266 false) (entries_with_limit 12 (
         (0x00 ∷ 0x79 ∷ 0xbb ∷ []) ∷ (0x00 ∷ 0x81 ∷ 0xcc ∷ []) ∷ (0x00 ∷ 0x39 ∷ 0xdd ∷ []) ∷
         (0x00 ∷ 0x09 ∷ 0x01 ∷ 0x02 ∷ 0x03 ∷ 0x04 ∷ 0x05 ∷ 0x06 ∷
         0x07 ∷ 0x08 ∷ 0x09 ∷ 0x0a ∷ 0x0b ∷ []) ∷ [])) }
-    ensures each_alone { NothingDropped (h266 true) (entries_at 5 (
+    ensures each_alone { NothingDropped (h266 true) (entries_with_limit 5 (
         (0x00 ∷ 0x79 ∷ 0xbb ∷ []) ∷ (0x00 ∷ 0x81 ∷ 0xcc ∷ []) ∷ (0x00 ∷ 0x39 ∷ 0xdd ∷ []) ∷ [])) }
-    ensures set_dropped { NothingDropped (h266 true) (entries_at 5 (
+    ensures set_dropped { NothingDropped (h266 true) (entries_with_limit 5 (
         (0x00 ∷ 0x79 ∷ 0xbb ∷ 0xbb ∷ []) ∷ (0x00 ∷ 0x81 ∷ 0xcc ∷ []) ∷
         (0x00 ∷ 0x39 ∷ 0xdd ∷ []) ∷ [])) → ⊥ }
     ensures unit_dropped { NothingDropped (h266 true)
-        (entries_at 5 ((0x00 ∷ 0x39 ∷ 0xdd ∷ 0xdd ∷ []) ∷ [])) → ⊥ }
+        (entries_with_limit 5 ((0x00 ∷ 0x39 ∷ 0xdd ∷ 0xdd ∷ []) ∷ [])) → ⊥ }
 {}
 
 /// What a depacketizer's later answers depend on: one byte for its settings, and the open run.
 pub fn a_depacketizers_meaning()
-    ensures plain { receiver_meaning
+    ensures plain { depacketizer_meaning
         (record { format = h266 false; is_avc = false; run = None }) ≡ (0 ∷ []) ∷ [] }
-    ensures numbered { receiver_meaning
+    ensures has_donl { depacketizer_meaning
         (record { format = h266 true; is_avc = false; run = None }) ≡ (1 ∷ []) ∷ [] }
-    ensures lengths { receiver_meaning
+    ensures lengths { depacketizer_meaning
         (record { format = h266 false; is_avc = true; run = Some [] }) ≡ (2 ∷ []) ∷ [] ∷ [] }
-    ensures both { receiver_meaning
+    ensures both { depacketizer_meaning
         (record { format = h266 true; is_avc = true; run = Some (0xaa ∷ []) })
         ≡ (3 ∷ []) ∷ (0xaa ∷ []) ∷ [] }
 {}
 
 /// An end writes its unit behind its length.
 pub fn a_unit_behind_its_length()
-    ensures { work_after
-        (at_work (record { format = h266 false; is_avc = true; run = Some (0xaa ∷ []) })
+    ensures { after_packets
+        (depacketization (record { format = h266 false; is_avc = true; run = Some (0xaa ∷ []) })
         (0xff ∷ []) CodecExtra.None) ((0x00 ∷ 0xe9 ∷ 0x47 ∷ 0xbb ∷ []) ∷ [])
-        ≡ at_work (record { format = h266 false; is_avc = true; run = None })
+        ≡ depacketization (record { format = h266 false; is_avc = true; run = None })
         (0xff ∷ 0x00 ∷ 0x00 ∷ 0x00 ∷ 0x04 ∷ 0x00 ∷ 0x39 ∷ 0xaa ∷ 0xbb ∷ []) ((h266 false).extra true) }
 {}

@@ -3,16 +3,16 @@
 ghost use Rattle.std.specs.Prelude.{◌≡◌, ◌≤◌, length, slice_index, Some, None, IfOk, IfErr, false};
 ghost use Rattle.h26x_core.specs.Word.{is_set};
 ghost use Rattle.h26x_core.specs.H266Unit.{type_of};
-ghost use Rattle.h26x_core.specs.Reading.{Refused};
-ghost use Rattle.h26x_payload.specs.Receiving.{IsReadAs};
+ghost use Rattle.h26x_model.specs.Payload.Reading.{Refused};
+ghost use Rattle.h26x_payload.specs.DepacketizerView.{IsReadAs};
 ghost use Rattle.h266_payload.specs.H266 as spec;
 ghost use Rattle.h266_payload.specs.H266.{h266, has_packet_type};
-ghost use Rattle.h266_payload.specs.Packet.{aggregate_units, behind_number};
+ghost use Rattle.h266_payload.specs.Packet.{aggregate_units, rest_behind_donl};
 
 use crate::aggregate::check_aggregate;
 use crate::packetizer::{H266, header_of, with_type};
 use h26x_core::{H266FragmentationUnitHeader, PacketError};
-use h26x_payload::{Fragment, PacketReader, Parts, ends_frame, may_begin_frame};
+use h26x_payload::{Fragment, PacketReader, Parts, ends_access_unit, may_begin_access_unit};
 
 /// The bytes of a packet's header.
 pub const PACKET_HEADER_SIZE: usize = 2;
@@ -25,12 +25,12 @@ const NUMBERED_HEADER_SIZE: usize = 4;
 const FRAGMENT_HEADER_SIZE: usize = 3;
 
 /// What stands behind DONL, if it is there; where none is borne, all bytes.
-fn behind_number(is_numbered: bool, bytes: &[u8]) -> Result<&[u8], PacketError>
-    ensures there { IfOk result (λ it. behind_number is_numbered bytes.now ≡ Some it.now) }
-    ensures none { IfErr result (λ e. behind_number is_numbered bytes.now ≡ None) }
+fn rest_behind_donl(has_donl: bool, bytes: &[u8]) -> Result<&[u8], PacketError>
+    ensures there { IfOk result (λ it. rest_behind_donl has_donl bytes.now ≡ Some it.now) }
+    ensures none { IfErr result (λ e. rest_behind_donl has_donl bytes.now ≡ None) }
     ensures short { IfErr result (λ e. e ≡ PacketError.ErrShortPacket) }
 {
-    if !is_numbered {
+    if !has_donl {
         return Ok(bytes);
     }
     if bytes.len() < 2 {
@@ -48,7 +48,7 @@ fn is_fragment(packet: &[u8]) -> bool
 
 impl PacketReader for H266 {
     ghost use Rattle.h266_payload.specs.H266.{is_fragment};
-    ghost use Rattle.h26x_payload.specs.Frame as frame;
+    ghost use Rattle.h26x_payload.specs.AccessUnit as frame;
 
     ghost begins = { λ codec packet. frame.may_begin (is_fragment packet) packet };
 
@@ -65,33 +65,33 @@ impl PacketReader for H266 {
             return Err(PacketError::ErrH266CorruptedPacket);
         }
         if header.is_aggregation_packet() {
-            read_aggregate(self.numbered, packet)
+            read_aggregate(self.has_donl, packet)
         } else if header.is_fragmentation_unit() {
-            read_fragment(self.numbered, packet)
+            read_fragment(self.has_donl, packet)
         } else {
-            read_single(self.numbered, packet)
+            read_single(self.has_donl, packet)
         }
     }
 
     fn may_begin(self, packet: &[u8]) -> bool {
-        may_begin_frame(is_fragment(packet), packet)
+        may_begin_access_unit(is_fragment(packet), packet)
     }
 
     fn is_last(self, marker: bool, packet: &[u8]) -> bool {
-        ends_frame(is_fragment(packet), marker, packet)
+        ends_access_unit(is_fragment(packet), marker, packet)
     }
 }
 
 /// Reads a single NAL unit packet.
-fn read_single(is_numbered: bool, packet: &[u8]) -> Result<Parts<'_>, PacketError>
+fn read_single(has_donl: bool, packet: &[u8]) -> Result<Parts<'_>, PacketError>
     requires long { 3 ≤ length packet.now }
     requires clear { is_set (slice_index packet.now 0) 7 ≡ false }
     requires own { has_packet_type packet.now ≡ false }
-    ensures accepted { IfOk result (λ parts. IsReadAs (h266 is_numbered) aggregate_units
+    ensures accepted { IfOk result (λ parts. IsReadAs (h266 has_donl) aggregate_units
         packet.now parts) }
-    ensures refused { IfErr result (λ e. (h266 is_numbered).read packet.now ≡ Refused e) }
+    ensures refused { IfErr result (λ e. (h266 has_donl).read packet.now ≡ Refused e) }
 {
-    if !is_numbered {
+    if !has_donl {
         return Ok(Parts::Whole);
     }
     if packet.len() < NUMBERED_HEADER_SIZE + 1 {
@@ -104,31 +104,31 @@ fn read_single(is_numbered: bool, packet: &[u8]) -> Result<Parts<'_>, PacketErro
 }
 
 /// Reads an aggregation packet.
-fn read_aggregate(is_numbered: bool, packet: &[u8]) -> Result<Parts<'_>, PacketError>
+fn read_aggregate(has_donl: bool, packet: &[u8]) -> Result<Parts<'_>, PacketError>
     requires long { 3 ≤ length packet.now }
     requires clear { is_set (slice_index packet.now 0) 7 ≡ false }
     requires nalu_type { type_of (slice_index packet.now 1) ≡ 28 }
-    ensures accepted { IfOk result (λ parts. IsReadAs (h266 is_numbered) aggregate_units
+    ensures accepted { IfOk result (λ parts. IsReadAs (h266 has_donl) aggregate_units
         packet.now parts) }
-    ensures refused { IfErr result (λ e. (h266 is_numbered).read packet.now ≡ Refused e) }
+    ensures refused { IfErr result (λ e. (h266 has_donl).read packet.now ≡ Refused e) }
 {
-    let bytes = behind_number(is_numbered, &packet[PACKET_HEADER_SIZE..])?;
+    let bytes = rest_behind_donl(has_donl, &packet[PACKET_HEADER_SIZE..])?;
     let size = check_aggregate(bytes)?;
     Ok(Parts::Aggregate { bytes, size })
 }
 
 /// Reads a fragmentation unit; where packets bear numbers, a start bears one.
-fn read_fragment(is_numbered: bool, packet: &[u8]) -> Result<Parts<'_>, PacketError>
+fn read_fragment(has_donl: bool, packet: &[u8]) -> Result<Parts<'_>, PacketError>
     requires long { 3 ≤ length packet.now }
     requires clear { is_set (slice_index packet.now 0) 7 ≡ false }
     requires nalu_type { type_of (slice_index packet.now 1) ≡ 29 }
-    ensures accepted { IfOk result (λ parts. IsReadAs (h266 is_numbered) aggregate_units
+    ensures accepted { IfOk result (λ parts. IsReadAs (h266 has_donl) aggregate_units
         packet.now parts) }
-    ensures refused { IfErr result (λ e. (h266 is_numbered).read packet.now ≡ Refused e) }
+    ensures refused { IfErr result (λ e. (h266 has_donl).read packet.now ≡ Refused e) }
 {
     let fu = H266FragmentationUnitHeader(packet[PACKET_HEADER_SIZE]);
     let rest = &packet[FRAGMENT_HEADER_SIZE..];
-    let body = behind_number(is_numbered && fu.s(), rest)?;
+    let body = rest_behind_donl(has_donl && fu.s(), rest)?;
     Ok(Parts::Fragment(Fragment {
         start: fu.s(),
         end: fu.e(),

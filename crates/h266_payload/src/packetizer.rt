@@ -5,7 +5,7 @@ ghost use Rattle.std.specs.Prelude.{◌≡◌, ◌+◌, ◌*◌, ◌<◌, ◌≤
 ghost use Rattle.std.specs.List.{list_any};
 ghost use Rattle.h26x_core.specs.Word.{field, is_set};
 ghost use Rattle.h26x_core.specs.H266Unit.{type_of};
-ghost use Rattle.h26x_payload.specs.Sending.{sets_in};
+ghost use Rattle.h26x_payload.specs.Sending.{sets_list};
 ghost use Rattle.h266_payload.specs.H266 as spec;
 
 use h26x_core::{CodecExtra, H266CodecExtra, H266FragmentationUnitHeader, H266NALUHeader};
@@ -34,7 +34,7 @@ const FRAGMENT_TYPE: u8 = 29;
 /// H.266 (RFC 9328), and whether packets bear decoding order numbers (4.4).
 #[derive(Debug, Clone, Copy, PartialEq, Eq)]
 pub struct H266 {
-    pub(crate) numbered: bool,
+    pub(crate) has_donl: bool,
 }
 
 /// Sends the NAL units of payloads (RFC 9328).
@@ -99,8 +99,8 @@ fn temporal(unit: &[u8]) -> u8
 
 /// The first byte of an aggregate: F where a set has it, Z clear, the lowest layer.
 fn aggregate_high(sets: Sets<'_>) -> u8
-    ensures { result ≡ (if list_any spec.has_forbidden_bit (sets_in sets.entry) then 0x80 else 0)
-        + spec.least spec.layer_of (sets_in sets.entry) }
+    ensures { result ≡ (if list_any spec.has_forbidden_bit (sets_list sets.entry) then 0x80 else 0)
+        + spec.least spec.layer_of (sets_list sets.entry) }
 {
     let mut forbidden = is_forbidden(sets.sps) || is_forbidden(sets.pps);
     let mut lowest = layer(sets.sps).min(layer(sets.pps));
@@ -114,7 +114,7 @@ fn aggregate_high(sets: Sets<'_>) -> u8
 
 /// The second byte of an aggregate: its type, and the lowest temporal id but at least 1.
 fn aggregate_low(sets: Sets<'_>) -> u8
-    ensures { result ≡ 28 * 8 + max 1 (spec.least spec.temporal_of (sets_in sets.entry)) }
+    ensures { result ≡ 28 * 8 + max 1 (spec.least spec.temporal_of (sets_list sets.entry)) }
 {
     let mut lowest = temporal(sets.sps).min(temporal(sets.pps));
     if let Some(vps) = sets.vps {
@@ -128,27 +128,27 @@ impl PayloadFormat for H266 {
     ghost use Rattle.h266_payload.specs.CodecFacts.{has_header, header_tells, fits_limits, aggregate_numbers};
     ghost use Rattle.std.specs.Prelude.{refl, false};
 
-    ghost format = { λ codec. h266 codec.numbered };
+    ghost format = { λ codec. h266 codec.has_donl };
 
-    ghost fresh = { record { numbered = false } };
+    ghost fresh = { record { has_donl = false } };
 
     fn new() -> Self {
-        H266 { numbered: false }
+        H266 { has_donl: false }
     }
 
     fn header_len(self) -> usize {
         2
     }
 
-    fn is_numbered(self) -> bool {
-        self.numbered
+    fn has_donl(self) -> bool {
+        self.has_donl
     }
 
     fn least_mtu(self) -> usize {
         4
     }
 
-    fn is_sized(self) -> bool {
+    fn has_max_packet_size(self) -> bool {
         true
     }
 
@@ -170,21 +170,21 @@ impl PayloadFormat for H266 {
     }
 
     fn sets_fit(self, limit: usize, sets: Sets<'_>) -> bool {
-        let number = if self.numbered { 2 } else { 0 };
-        2 + number + sets.size() <= limit as u128
+        let don = if self.has_donl { 2 } else { 0 };
+        2 + don + sets.size() <= limit as u128
     }
 
     fn sets_packet(
         self,
         alloc: Global,
-        number: u16,
+        don: u16,
         sets: Sets<'_>,
         _unit: &[u8],
     ) -> Result<Vec<u8>, AllocError> {
         let mut packet = Vec::with_capacity(alloc, sets.capacity())?;
         packet.extend_from_slice(&[aggregate_high(sets), aggregate_low(sets)])?;
-        if self.numbered {
-            packet.extend_from_slice(&number.to_be_bytes())?;
+        if self.has_donl {
+            packet.extend_from_slice(&don.to_be_bytes())?;
         }
         sets.push(&[], &mut packet)?;
         Ok(packet)
@@ -217,9 +217,9 @@ impl PayloadFormat for H266 {
         )
     }
 
-    ghost fits = { λ codec. fits_limits codec.numbered };
+    ghost fits = { λ codec. fits_limits codec.has_donl };
 
-    ghost numbers = { λ codec. aggregate_numbers codec.numbered };
+    ghost dons = { λ codec. aggregate_numbers codec.has_donl };
 
     ghost headed = { λ codec unit is. has_header unit is };
 
@@ -229,9 +229,9 @@ impl PayloadFormat for H266 {
 }
 
 impl DonlFormat for H266 {
-    ghost with_donl_of = { λ codec numbered. record codec { numbered = numbered } };
+    ghost with_donl_of = { λ codec has_donl. record codec { has_donl = has_donl } };
 
-    fn with_donl(self, numbered: bool) -> Self {
-        H266 { numbered }
+    fn with_donl(self, has_donl: bool) -> Self {
+        H266 { has_donl }
     }
 }

@@ -1,10 +1,10 @@
 -- What a call answers of a packet.
 use Rattle.std.specs.Prelude.{◌≡◌, ℕ, List, Some, Result}
 use Rattle.h26x_core.specs.declared.error.PacketError.{PacketError}
-use Rattle.h26x_core.specs.Receiver.{Work, IsOutcomeAt}
-use Rattle.h26x_ends.specs.Codes.{outcome_of}
+use Rattle.h26x_model.specs.Receive.DepacketizerState.{Depacketization, IsPacketOutcome}
+use Rattle.h26x_handles.specs.Codes.{outcome_of}
 
 -- the code and its two numbers say an outcome, and the packet may have that one
-abbrev pub IsAnswer : Work → List ℕ → ℕ → ℕ → ℕ → Type 0
+abbrev pub IsAnswer : Depacketization → List ℕ → ℕ → ℕ → ℕ → Type 0
 IsAnswer w packet code first second = (outcome : Result (Unit {0}) PacketError)
-    × (outcome_of code first second ≡ Some outcome) × IsOutcomeAt w packet outcome
+    × (outcome_of code first second ≡ Some outcome) × IsPacketOutcome w packet outcome

@@ -2,14 +2,14 @@
 use base.Fml.{Fml}
 use Rattle.std.specs.Borrow.{MutBor, Lends}
 use Rattle.h26x_c.specs.declared.handle.Handle.{Handle}
-use Rattle.h26x_ends.specs.declared.end.End.{End}
+use Rattle.h26x_handles.specs.declared.endpoint.Endpoint.{Endpoint}
 use Rattle.h26x_c.specs.contracts.handle.Handle as Handle
-use Rattle.h26x_ends.specs.contracts.end.End as End
+use Rattle.h26x_handles.specs.contracts.endpoint.Endpoint as Endpoint
 
 -- the handle once this is what it holds
-abbrev pub handle_with : Handle → End → Handle
+abbrev pub handle_with : Handle → Endpoint → Handle
 handle_with h it = record { ptr = h.ptr; alloc = h.alloc; value = it }
 
 -- the handle ends with the last value of what was lent
-abbrev pub LendsEnd : MutBor Handle → MutBor End → Fml
-LendsEnd h lent = Lends Handle.the_row End.the_row h lent (handle_with h.now)
+abbrev pub LendsEnd : MutBor Handle → MutBor Endpoint → Fml
+LendsEnd h lent = Lends Handle.the_row Endpoint.the_row h lent (handle_with h.now)

@@ -7,18 +7,18 @@ use Rattle.std.specs.Box.Ownership.{box_owns}
 use Rattle.std.specs.Global.{Global}
 use Rattle.std.specs.Coded.{coded_option}
 use Rattle.std_heap.specs.contracts.GlobalAllocator.TheImpl.{ghosts}
-use Rattle.h26x_ends.specs.contracts.end.End as End
+use Rattle.h26x_handles.specs.contracts.endpoint.Endpoint as Endpoint
 
-abbrev pub end_owned : Global → Ptr → End.the_row.Denot → Fml
-end_owned alloc = box_owns (ghosts.dealloc_token alloc) End.the_row
+abbrev pub end_owned : Global → Ptr → Endpoint.the_row.Denot → Fml
+end_owned alloc = box_owns (ghosts.dealloc_token alloc) Endpoint.the_row
 
-abbrev pub end_coded : Coded End.the_row.Denot
-end_coded = End.the_row.coded
+abbrev pub end_coded : Coded Endpoint.the_row.Denot
+end_coded = Endpoint.the_row.coded
 
 -- a place owns nothing before a handle was written into it
-abbrev pub place_owned : Global → Ptr → Option End.the_row.Denot → Fml
+abbrev pub place_owned : Global → Ptr → Option Endpoint.the_row.Denot → Fml
 place_owned alloc p None = ftrue
 place_owned alloc p (Some it) = end_owned alloc p it
 
-abbrev pub place_coded : Coded (Option End.the_row.Denot)
-place_coded = coded_option End.the_row.coded
+abbrev pub place_coded : Coded (Option Endpoint.the_row.Denot)
+place_coded = coded_option Endpoint.the_row.coded

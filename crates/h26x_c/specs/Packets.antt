@@ -1,7 +1,7 @@
 -- What the payload formats say of a packet by itself.
 use Rattle.std.specs.Prelude.{ℕ, Bool, false, List, Option, Some, None}
-use Rattle.h26x_core.specs.H264Frame as h264_frame
-use Rattle.h26x_payload.specs.Frame.{may_begin, is_last}
+use Rattle.h26x_core.specs.H264AccessUnit as h264_frame
+use Rattle.h26x_payload.specs.AccessUnit.{may_begin, is_last}
 use Rattle.h264_payload.specs.H264 as h264
 use Rattle.h265_payload.specs.H265 as h265
 use Rattle.h266_payload.specs.H266 as h266
@@ -11,7 +11,7 @@ use Rattle.h26x_codec.specs.declared.codec.Codec.TheVariants as c
 -- whether it may be the first of an access unit
 abbrev pub is_head_of : Option Codec → List ℕ → Bool
 is_head_of None packet = false
-is_head_of (Some c.H264) packet = h264_frame.is_head packet
+is_head_of (Some c.H264) packet = h264_frame.may_begin_h264 packet
 is_head_of (Some c.H265) packet = may_begin (h265.is_fragment packet) packet
 is_head_of (Some c.H266) packet = may_begin (h266.is_fragment packet) packet
 

@@ -1,21 +1,21 @@
 //! What C holds of an end: the pointer of a box.
 
 ghost use Rattle.std.specs.Prelude.{◌≡◌};
-ghost use Rattle.h26x_ends.specs.declared.end.End.{End};
+ghost use Rattle.h26x_handles.specs.declared.endpoint.Endpoint.{Endpoint};
 ghost use Rattle.h26x_c.specs.Owned.{end_owned, end_coded};
 
 mod lends;
 
-use h26x_ends::end::End;
+use h26x_handles::endpoint::Endpoint;
 use std::alloc::Global;
 use std::marker::Model;
 
-/// A handle, which owns the end behind it.
+/// A handle, which owns the endpoint behind it.
 #[repr(C)]
 pub struct Handle {
     pub(super) ptr: *mut (),
     alloc: Global,
-    pub ghost value: { End } by { end_coded },
+    pub ghost value: { Endpoint } by { end_coded },
 }
 
 impl Model for Handle {
@@ -27,10 +27,10 @@ unsafe impl Send for Handle {}
 
 impl Handle {
     /// The box whose pointer it is.
-    pub fn into_box(self) -> Box<End>
+    pub fn into_box(self) -> Box<Endpoint>
         ensures { result.value ≡ self.value }
     {
         let Handle { ptr, alloc } = self;
-        unsafe { Box::from_raw(alloc, ptr as *mut End) }
+        unsafe { Box::from_raw(alloc, ptr as *mut Endpoint) }
     }
 }

@@ -1,7 +1,7 @@
 //! The C library. `bindings/include/h26x.h` declares its calls, and says what a caller owes.
 //!
-//! A handle is a struct of one pointer to an `End` of `h26x_ends`, a packetizer or a depacketizer of
-//! one codec. Each call states what it answers in the words of the payload formats.
+//! A handle is a struct of one pointer to an `Endpoint` of `h26x_handles`, a packetizer or a
+//! depacketizer of one codec. Each call states what it answers in the words of the payload formats.
 #![tactic(auto)]
 
 mod handle;

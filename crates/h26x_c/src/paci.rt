@@ -2,12 +2,12 @@
 
 ghost use Rattle.std.specs.Prelude.{◌≡◌, ◌≢◌, ◌⊎◌, ◌≤◌, ◌<◌, length};
 ghost use Rattle.h265_packets.specs.Paci.{paci_packet};
-ghost use Rattle.h26x_ends.specs.Codes.{ok, short_packet, extension_too_long, out_of_memory};
-ghost use Rattle.h26x_ends.specs.Copies.{copied};
+ghost use Rattle.h26x_handles.specs.Codes.{ok, short_packet, extension_too_long, out_of_memory};
+ghost use Rattle.h26x_handles.specs.Copies.{with_front};
 
 use h26x_core::PacketError;
-use h26x_ends::code::{EXTENSION_TOO_LONG, OK, OUT_OF_MEMORY, SHORT_PACKET};
-use h26x_ends::copy::copy_where_room;
+use h26x_handles::code::{EXTENSION_TOO_LONG, OK, OUT_OF_MEMORY, SHORT_PACKET};
+use h26x_handles::copy::copy_where_room;
 use h265_packets::H265PACIPacket;
 use std::alloc::Global;
 
@@ -26,7 +26,7 @@ pub extern "C" fn h26x_h265_paci_packet(
     ensures answer { 2 ≤ length unit.now → length extension.now ≤ 31 →
         (result ≡ ok) ⊎ (result ≡ out_of_memory) }
     ensures len { result ≡ ok → len.new ≡ length (paci_packet unit.now extension.now) }
-    ensures copied { result ≡ ok → to.new ≡ copied (paci_packet unit.now extension.now) to.old }
+    ensures copied { result ≡ ok → to.new ≡ with_front (paci_packet unit.now extension.now) to.old }
     ensures kept { result ≢ ok → (to.new ≡ to.old) × (len.new ≡ len.old) }
 {
     if unit.len() < 2 {

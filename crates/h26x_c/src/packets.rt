@@ -3,12 +3,12 @@
 ghost use Rattle.std.specs.Prelude.{◌≡◌};
 ghost use Rattle.h26x_core.specs.Hint.{size_hint};
 ghost use Rattle.h264_payload.specs.H264.{detects};
-ghost use Rattle.h26x_ends.specs.Codes.{codec_numbered};
+ghost use Rattle.h26x_handles.specs.Codes.{codec_with_number};
 ghost use Rattle.h26x_c.specs.Packets.{is_head_of, is_tail_of, is_key_of};
 
 use h26x_codec::Codec;
 use h26x_core::Depacketizer;
-use h26x_ends::code::codec_of;
+use h26x_handles::code::codec_of;
 use h264_payload::{H264Depacketizer, detect_h264_keyframe, detect_h264_nalu};
 use h265_payload::{H265Depacketizer, detect_h265_keyframe};
 use h266_payload::{H266Depacketizer, detect_h266_keyframe};
@@ -17,7 +17,7 @@ use std::alloc::Global;
 /// Whether a packet may be the first of an access unit.
 #[unsafe(no_mangle)]
 pub extern "C" fn h26x_is_partition_head(alloc: Global, codec: u32, packet: &[u8]) -> bool
-    ensures { result ≡ is_head_of (codec_numbered codec) packet.now }
+    ensures { result ≡ is_head_of (codec_with_number codec) packet.now }
 {
     match codec_of(codec) {
         Some(Codec::H264) => H264Depacketizer::new(alloc).is_partition_head(packet),
@@ -35,7 +35,7 @@ pub extern "C" fn h26x_is_partition_tail(
     marker: bool,
     packet: &[u8],
 ) -> bool
-    ensures { result ≡ is_tail_of (codec_numbered codec) marker packet.now }
+    ensures { result ≡ is_tail_of (codec_with_number codec) marker packet.now }
 {
     match codec_of(codec) {
         Some(Codec::H264) => H264Depacketizer::new(alloc).is_partition_tail(marker, packet),
@@ -49,7 +49,7 @@ pub extern "C" fn h26x_is_partition_tail(
 /// fragment of one.
 #[unsafe(no_mangle)]
 pub extern "C" fn h26x_detect_keyframe(codec: u32, packet: &[u8]) -> bool
-    ensures { result ≡ is_key_of (codec_numbered codec) packet.now }
+    ensures { result ≡ is_key_of (codec_with_number codec) packet.now }
 {
     match codec_of(codec) {
         Some(Codec::H264) => detect_h264_keyframe(packet),

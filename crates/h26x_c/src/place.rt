@@ -1,12 +1,12 @@
 //! Where a call writes a handle.
 
 ghost use Rattle.std.specs.Prelude.{◌≡◌, ◌≢◌, ◌⊎◌, Option, Some, None};
-ghost use Rattle.h26x_ends.specs.declared.end.End.{End};
-ghost use Rattle.h26x_ends.specs.Codes.{ok, out_of_memory};
+ghost use Rattle.h26x_handles.specs.declared.endpoint.Endpoint.{Endpoint};
+ghost use Rattle.h26x_handles.specs.Codes.{ok, out_of_memory};
 ghost use Rattle.h26x_c.specs.Owned.{place_owned, place_coded};
 
-use h26x_ends::code::{OK, OUT_OF_MEMORY};
-use h26x_ends::end::End;
+use h26x_handles::code::{OK, OUT_OF_MEMORY};
+use h26x_handles::endpoint::Endpoint;
 use std::alloc::Global;
 use std::marker::Model;
 
@@ -16,7 +16,7 @@ use std::marker::Model;
 pub struct Place {
     ptr: *mut (),
     alloc: Global,
-    pub ghost value: { Option End } by { place_coded },
+    pub ghost value: { Option Endpoint } by { place_coded },
 }
 
 impl Model for Place {
@@ -25,7 +25,7 @@ impl Model for Place {
 
 impl Place {
     /// The handle of a box, which is not freed here.
-    pub fn of(boxed: Box<End>) -> Place
+    pub fn of(boxed: Box<Endpoint>) -> Place
         ensures { result.value ≡ Some boxed.value }
     {
         let (ptr, alloc) = Box::into_raw_with_allocator(boxed);
@@ -36,8 +36,8 @@ impl Place {
     }
 }
 
-/// Puts an end behind a new handle.
-pub fn put(alloc: Global, end: End, made: &mut Place) -> u32
+/// Puts an endpoint behind a new handle.
+pub fn put(alloc: Global, end: Endpoint, made: &mut Place) -> u32
     ensures answer { (result ≡ ok) ⊎ (result ≡ out_of_memory) }
     ensures made { result ≡ ok → made.new.value ≡ Some end }
     ensures kept { result ≢ ok → made.new ≡ made.old }

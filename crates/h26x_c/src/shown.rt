@@ -2,16 +2,16 @@
 
 ghost use Rattle.std.specs.Prelude.{◌≡◌, ◌≢◌, true, false, [], ◌++◌, None, Some, length, map};
 ghost use Rattle.h265_packets.specs.declared.payload.H265Payload.{H265Payload};
-ghost use Rattle.h26x_ends.specs.Codes.{ok, wrong_end, not_of_this_codec};
-ghost use Rattle.h26x_ends.specs.Copies.{copied};
-ghost use Rattle.h26x_ends.specs.Ends.{is_sending};
-ghost use Rattle.h26x_ends.specs.Shown.{unnumbered, first_part, other_part, parts_of, kind_of, header_of, word_of, nth_part, number_shown, shown_at, parts_in, parts_at};
+ghost use Rattle.h26x_handles.specs.Codes.{ok, wrong_end, not_of_this_codec};
+ghost use Rattle.h26x_handles.specs.Copies.{with_front};
+ghost use Rattle.h26x_handles.specs.States.{is_sending};
+ghost use Rattle.h26x_handles.specs.Shown.{part_without_don, first_part, other_part, payload_parts, payload_kind_number, payload_header, payload_word, nth_part, don_number, endpoint_shown, any_depacketizer_parts, endpoint_parts};
 
 use crate::handle::Handle;
-use h26x_ends::code::{NOT_OF_THIS_CODEC, OK, WRONG_END};
-use h26x_ends::copy::copy_where_room;
-use h26x_ends::end::End;
-use h26x_ends::receiver::CodecReceiver;
+use h26x_handles::code::{NOT_OF_THIS_CODEC, OK, WRONG_END};
+use h26x_handles::copy::copy_where_room;
+use h26x_handles::depacketizer::AnyDepacketizer;
+use h26x_handles::endpoint::Endpoint;
 use h265_packets::{H265AggregationPacket, H265AggregationUnit, H265Payload};
 
 /// What is told where no number was read before a part.
@@ -31,25 +31,25 @@ pub struct Shown {
 #[unsafe(no_mangle)]
 pub extern "C" fn h26x_h265_shown(d: &mut Handle, shown: &mut Shown) -> u32
     ensures wrong { is_sending d.old.value ≡ true → result ≡ wrong_end }
-    ensures none { is_sending d.old.value ≡ false → shown_at d.old.value ≡ None →
+    ensures none { is_sending d.old.value ≡ false → endpoint_shown d.old.value ≡ None →
         result ≡ not_of_this_codec }
-    ensures answer { (it : H265Payload) → shown_at d.old.value ≡ Some it → result ≡ ok }
-    ensures kind { (it : H265Payload) → shown_at d.old.value ≡ Some it →
-        shown.new.kind ≡ kind_of it }
-    ensures header { (it : H265Payload) → shown_at d.old.value ≡ Some it →
-        shown.new.header ≡ header_of it }
-    ensures word { (it : H265Payload) → shown_at d.old.value ≡ Some it →
-        shown.new.word ≡ word_of it }
-    ensures parts { (it : H265Payload) → shown_at d.old.value ≡ Some it →
-        shown.new.parts ≡ length (parts_of it) }
+    ensures answer { (it : H265Payload) → endpoint_shown d.old.value ≡ Some it → result ≡ ok }
+    ensures kind { (it : H265Payload) → endpoint_shown d.old.value ≡ Some it →
+        shown.new.kind ≡ payload_kind_number it }
+    ensures header { (it : H265Payload) → endpoint_shown d.old.value ≡ Some it →
+        shown.new.header ≡ payload_header it }
+    ensures word { (it : H265Payload) → endpoint_shown d.old.value ≡ Some it →
+        shown.new.word ≡ payload_word it }
+    ensures parts { (it : H265Payload) → endpoint_shown d.old.value ≡ Some it →
+        shown.new.parts ≡ length (payload_parts it) }
     ensures kept { result ≢ ok → shown.new ≡ shown.old }
     ensures left { d.new.value ≡ d.old.value }
 {
     let it = match d.get_mut() {
-        End::Receiving(it) => it,
-        End::Sending(_) => return WRONG_END,
+        Endpoint::Receiving(it) => it,
+        Endpoint::Sending(_) => return WRONG_END,
     };
-    match it.receiver.shown() {
+    match it.depacketizer.shown() {
         Some(packet) => {
             *shown = in_numbers(packet);
             OK
@@ -67,22 +67,22 @@ pub extern "C" fn h26x_h265_part_copy(
     to: &mut [u8],
     number: &mut u32,
 ) -> usize
-    ensures len { result ≡ length (nth_part i (parts_at d.old.value)).bytes }
-    ensures copied { to.new ≡ copied (nth_part i (parts_at d.old.value)).bytes to.old }
-    ensures number { number.new ≡ number_shown (nth_part i (parts_at d.old.value)).number }
+    ensures len { result ≡ length (nth_part i (endpoint_parts d.old.value)).bytes }
+    ensures copied { to.new ≡ with_front (nth_part i (endpoint_parts d.old.value)).bytes to.old }
+    ensures number { number.new ≡ don_number (nth_part i (endpoint_parts d.old.value)).number }
     ensures left { d.new.value ≡ d.old.value }
 {
     match d.get_mut() {
-        End::Receiving(it) => copy_part(shown_part(&it.receiver, i), to, number),
-        End::Sending(_) => copy_part(Part::unnumbered(&[]), to, number),
+        Endpoint::Receiving(it) => copy_part(shown_part(&it.depacketizer, i), to, number),
+        Endpoint::Sending(_) => copy_part(Part::part_without_don(&[]), to, number),
     }
 }
 
 /// Copies a part where there is room for it, and writes its number; its length.
 fn copy_part(part: Part<'_>, to: &mut [u8], number: &mut u32) -> usize
     ensures len { result ≡ length part.entry.bytes.now }
-    ensures copied { to.new ≡ copied part.entry.bytes.now to.old }
-    ensures number { number.new ≡ number_shown part.entry.number }
+    ensures copied { to.new ≡ with_front part.entry.bytes.now to.old }
+    ensures number { number.new ≡ don_number part.entry.number }
 {
     *number = part.number.map_or(NO_NUMBER, u32::from);
     copy_where_room(part.bytes, to)
@@ -90,10 +90,10 @@ fn copy_part(part: Part<'_>, to: &mut [u8], number: &mut u32) -> usize
 
 /// A packet in numbers.
 fn in_numbers(packet: &H265Payload) -> Shown
-    ensures kind { result.kind ≡ kind_of packet.now }
-    ensures header { result.header ≡ header_of packet.now }
-    ensures word { result.word ≡ word_of packet.now }
-    ensures parts { result.parts ≡ length (parts_of packet.now) }
+    ensures kind { result.kind ≡ payload_kind_number packet.now }
+    ensures header { result.header ≡ payload_header packet.now }
+    ensures word { result.word ≡ payload_word packet.now }
+    ensures parts { result.parts ≡ length (payload_parts packet.now) }
 {
     let (kind, header, word, parts) = match packet {
         H265Payload::H265SingleNALUnitPacket(it) => (1, it.payload_header().0, 0, 1),
@@ -127,7 +127,7 @@ struct Part<'a> {
 
 impl<'a> Part<'a> {
     /// Bytes before which no number was read.
-    fn unnumbered(bytes: &'a [u8]) -> Self
+    fn part_without_don(bytes: &'a [u8]) -> Self
         ensures number { result.number ≡ None }
         ensures bytes { result.bytes.now ≡ bytes.now }
     {
@@ -140,20 +140,20 @@ impl<'a> Part<'a> {
 
 /// A part of what a depacketizer shows, counted from 0; without bytes past the last one, and where
 /// nothing is shown.
-fn shown_part(receiver: &CodecReceiver, i: usize) -> Part<'_>
-    ensures number { result.number ≡ (nth_part i (parts_in receiver.now)).number }
-    ensures bytes { result.bytes.now ≡ (nth_part i (parts_in receiver.now)).bytes }
+fn shown_part(depacketizer: &AnyDepacketizer, i: usize) -> Part<'_>
+    ensures number { result.number ≡ (nth_part i (any_depacketizer_parts depacketizer.now)).number }
+    ensures bytes { result.bytes.now ≡ (nth_part i (any_depacketizer_parts depacketizer.now)).bytes }
 {
-    match receiver.shown() {
+    match depacketizer.shown() {
         Some(packet) => part_of(packet, i),
-        None => Part::unnumbered(&[]),
+        None => Part::part_without_don(&[]),
     }
 }
 
 /// A part of a packet, counted from 0; past the last one without bytes.
 fn part_of(packet: &H265Payload, i: usize) -> Part<'_>
-    ensures number { result.number ≡ (nth_part i (parts_of packet.now)).number }
-    ensures bytes { result.bytes.now ≡ (nth_part i (parts_of packet.now)).bytes }
+    ensures number { result.number ≡ (nth_part i (payload_parts packet.now)).number }
+    ensures bytes { result.bytes.now ≡ (nth_part i (payload_parts packet.now)).bytes }
 {
     match (packet, i) {
         (H265Payload::H265SingleNALUnitPacket(it), 0) => Part {
@@ -165,9 +165,9 @@ fn part_of(packet: &H265Payload, i: usize) -> Part<'_>
             bytes: it.payload(),
         },
         (H265Payload::H265AggregationPacket(it), _) => unit_of(it, i),
-        (H265Payload::H265PACIPacket(it), 0) => Part::unnumbered(it.phes()),
-        (H265Payload::H265PACIPacket(it), 1) => Part::unnumbered(it.payload()),
-        _ => Part::unnumbered(&[]),
+        (H265Payload::H265PACIPacket(it), 0) => Part::part_without_don(it.phes()),
+        (H265Payload::H265PACIPacket(it), 1) => Part::part_without_don(it.payload()),
+        _ => Part::part_without_don(&[]),
     }
 }
 
@@ -198,6 +198,6 @@ fn other_unit_of(units: &[H265AggregationUnit], i: usize) -> Part<'_>
             number: unit.dond().map(u16::from),
             bytes: unit.nal_unit(),
         },
-        None => Part::unnumbered(&[]),
+        None => Part::part_without_don(&[]),
     }
 }

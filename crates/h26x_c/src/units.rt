@@ -2,12 +2,12 @@
 
 ghost use Rattle.std.specs.Prelude.{◌≡◌, [], true, false, None, Some, drop};
 ghost use Rattle.h26x_cut.specs.Cutting.{IsNextUnit};
-ghost use Rattle.h26x_codec.specs.Codec.{format_with};
+ghost use Rattle.h26x_codec.specs.Codec.{codec_format};
 ghost use Rattle.h26x_codec.specs.declared.codec.Codec.{Codec};
-ghost use Rattle.h26x_ends.specs.Codes.{codec_numbered};
+ghost use Rattle.h26x_handles.specs.Codes.{codec_with_number};
 
 use h26x_cut::next_unit;
-use h26x_ends::code::codec_of;
+use h26x_handles::code::codec_of;
 
 /// Where the next unit of a payload stands, from a place on.
 #[unsafe(no_mangle)]
@@ -18,11 +18,11 @@ pub extern "C" fn h26x_next_unit(
     begin: &mut usize,
     end: &mut usize,
 ) -> bool
-    ensures unknown { codec_numbered codec ≡ None → result ≡ false }
-    ensures none { (c : Codec) → codec_numbered codec ≡ Some c → result ≡ false →
-        (format_with c false).units (drop from payload.now) ≡ [] }
-    ensures unit { (c : Codec) → codec_numbered codec ≡ Some c → result ≡ true →
-        IsNextUnit (format_with c false).units payload.now from begin.new end.new }
+    ensures unknown { codec_with_number codec ≡ None → result ≡ false }
+    ensures none { (c : Codec) → codec_with_number codec ≡ Some c → result ≡ false →
+        (codec_format c false).units (drop from payload.now) ≡ [] }
+    ensures unit { (c : Codec) → codec_with_number codec ≡ Some c → result ≡ true →
+        IsNextUnit (codec_format c false).units payload.now from begin.new end.new }
     ensures kept { result ≡ false → (begin.new ≡ begin.old) × (end.new ≡ end.old) }
 {
     let Some(codec) = codec_of(codec) else {

@@ -6,7 +6,7 @@ use std::alloc::Global;
 use std::fmt;
 use std::test::Fail;
 
-/// What the debug text of an end of each codec begins with.
+/// What the debug text of one of each codec begins with.
 const FRONTS: [(Codec, &str); 3] = [
     (Codec::H264, "H264("),
     (Codec::H265, "H265("),

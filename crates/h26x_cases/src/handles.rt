@@ -1,5 +1,5 @@
 mod code;
 mod copy;
-mod end;
-mod inbox;
-mod outbox;
+mod endpoint;
+mod receiving;
+mod sending;

@@ -8,29 +8,29 @@ use Rattle.std.proofs.lemmas.Grind.{take_at_read}
 use Rattle.h26x_core.specs.declared.extra.CodecExtra.{CodecExtra}
 use Rattle.h26x_core.specs.declared.error.PacketError.{PacketError}
 use Rattle.h26x_core.specs.Front.{IsFrontOf}
-use Rattle.h26x_core.specs.Receiver.{Receiver, Work, work_after, IsOutcomeAt, accepted_of, HaveOutcomes, AreAllTaken, at_work}
-use Rattle.h26x_core.specs.Ends.{ReceiverGoesOn}
+use Rattle.h26x_model.specs.Receive.DepacketizerState.{DepacketizerState, Depacketization, after_packets, IsPacketOutcome, accepted_packets, HaveOutcomes, AreAllTaken, depacketization}
+use Rattle.h26x_model.specs.Carry.Laws.{DepacketizerGoesOn}
 use Rattle.h26x_codec.proofs.RunLemmas.{still_front, same_work}
 
 -- one packet more, and its outcome
-outcomes_more : (w : Work) (before packets : List (List ℕ)) (outcomes : List (Result (Unit {0}) PacketError)) (packet : List ℕ) (outcome : Result (Unit {0}) PacketError) →
-    HaveOutcomes w before packets outcomes → IsOutcomeAt (work_after w (before ++ accepted_of packets outcomes)) packet outcome →
+outcomes_more : (w : Depacketization) (before packets : List (List ℕ)) (outcomes : List (Result (Unit {0}) PacketError)) (packet : List ℕ) (outcome : Result (Unit {0}) PacketError) →
+    HaveOutcomes w before packets outcomes → IsPacketOutcome (after_packets w (before ++ accepted_packets packets outcomes)) packet outcome →
     HaveOutcomes w before (packets ++ packet ∷ []) (outcomes ++ outcome ∷ [])
-outcomes_more w before [] [] packet outcome each here = (subst (λ (x : List (List ℕ)). IsOutcomeAt (work_after w x) packet outcome) (append-nil before) here, tt)
+outcomes_more w before [] [] packet outcome each here = (subst (λ (x : List (List ℕ)). IsPacketOutcome (after_packets w x) packet outcome) (append-nil before) here, tt)
 outcomes_more w before [] (o ∷ outcomes) packet outcome each here = absurd each
 outcomes_more w before (p ∷ packets) [] packet outcome each here = absurd each
 outcomes_more w before (p ∷ packets) (Ok v ∷ outcomes) packet outcome (first, later) here = (
   first,
   outcomes_more w (before ++ p ∷ []) packets outcomes packet outcome later
-      (subst (λ (x : List (List ℕ)). IsOutcomeAt (work_after w x) packet outcome) (sym (append_assoc before (p ∷ []) (accepted_of packets outcomes))) here),
+      (subst (λ (x : List (List ℕ)). IsPacketOutcome (after_packets w x) packet outcome) (sym (append_assoc before (p ∷ []) (accepted_packets packets outcomes))) here),
 )
 outcomes_more w before (p ∷ packets) (Err e ∷ outcomes) packet outcome (first, later) here =
     (first, outcomes_more w before packets outcomes packet outcome later here)
 
 -- the accepted ones with it
-accepted_more : (w : Work) (before packets : List (List ℕ)) (outcomes : List (Result (Unit {0}) PacketError)) (packet : List ℕ) (outcome : Result (Unit {0}) PacketError) →
+accepted_more : (w : Depacketization) (before packets : List (List ℕ)) (outcomes : List (Result (Unit {0}) PacketError)) (packet : List ℕ) (outcome : Result (Unit {0}) PacketError) →
     HaveOutcomes w before packets outcomes →
-    accepted_of (packets ++ packet ∷ []) (outcomes ++ outcome ∷ []) ≡ accepted_of packets outcomes ++ cond (is_ok outcome) (packet ∷ []) []
+    accepted_packets (packets ++ packet ∷ []) (outcomes ++ outcome ∷ []) ≡ accepted_packets packets outcomes ++ cond (is_ok outcome) (packet ∷ []) []
 accepted_more w before [] [] packet (Ok v) each = refl
 accepted_more w before [] [] packet (Err e) each = refl
 accepted_more w before [] (o ∷ outcomes) packet outcome each = absurd each
@@ -39,40 +39,40 @@ accepted_more w before (p ∷ packets) (Ok v ∷ outcomes) packet outcome (first
 accepted_more w before (p ∷ packets) (Err e ∷ outcomes) packet outcome (first, later) = accepted_more w before packets outcomes packet outcome later
 
 -- what a packet leaves: it is taken, or all is as it was
-pub record IsStep (w : Work) (packet : List ℕ) (outcome : Result (Unit {0}) PacketError) (new : Option Work) : Type 0 where
-  pub outcome_is : IsOutcomeAt w packet outcome
-  pub taken : OnOk outcome (new ≡ Some (work_after w (packet ∷ [])))
+pub record IsStep (w : Depacketization) (packet : List ℕ) (outcome : Result (Unit {0}) PacketError) (new : Option Depacketization) : Type 0 where
+  pub outcome_is : IsPacketOutcome w packet outcome
+  pub taken : OnOk outcome (new ≡ Some (after_packets w (packet ∷ [])))
   pub left : OnErr outcome (new ≡ Some w)
 
 -- a refusal leaves the depacketizer, what was written and what is told
-pub left_by_refusal : {D : Type 0} (of : D → Option Receiver) (outcome : Result (Unit {0}) PacketError) (d new : D) (out new_out : List ℕ) (extra new_extra : CodecExtra) (w : Work) →
-    OnErr outcome (new ≡ d) → OnErr outcome (new_out ≡ out) → OnErr outcome (new_extra ≡ extra) → option_map (λ r. at_work r out extra) (of d) ≡ Some w →
-    OnErr outcome (option_map (λ r. at_work r new_out new_extra) (of new) ≡ Some w)
+pub left_by_refusal : {D : Type 0} (of : D → Option DepacketizerState) (outcome : Result (Unit {0}) PacketError) (d new : D) (out new_out : List ℕ) (extra new_extra : CodecExtra) (w : Depacketization) →
+    OnErr outcome (new ≡ d) → OnErr outcome (new_out ≡ out) → OnErr outcome (new_extra ≡ extra) → option_map (λ r. depacketization r out extra) (of d) ≡ Some w →
+    OnErr outcome (option_map (λ r. depacketization r new_out new_extra) (of new) ≡ Some w)
 left_by_refusal of (Ok v) d new out new_out extra new_extra w same written told is = same
 left_by_refusal of (Err e) d new out new_out extra new_extra w same written told is = same_work (of d) (of new) out new_out extra new_extra (ap of same) written told ∙ is
 
 -- what stands after a packet that is taken or left
-stands_after : (w : Work) (before : List (List ℕ)) (packet : List ℕ) (outcome : Result (Unit {0}) PacketError) (new : Option Work) → ReceiverGoesOn w →
-    IsStep (work_after w before) packet outcome new → new ≡ Some (work_after w (before ++ cond (is_ok outcome) (packet ∷ []) []))
+stands_after : (w : Depacketization) (before : List (List ℕ)) (packet : List ℕ) (outcome : Result (Unit {0}) PacketError) (new : Option Depacketization) → DepacketizerGoesOn w →
+    IsStep (after_packets w before) packet outcome new → new ≡ Some (after_packets w (before ++ cond (is_ok outcome) (packet ∷ []) []))
 stands_after w before packet (Ok v) new law step = step.taken ∙ ap Some (law.more before (packet ∷ []))
-stands_after w before packet (Err e) new law step = step.left ∙ ap (λ (x : List (List ℕ)). Some (work_after w x)) (sym (append-nil before))
+stands_after w before packet (Err e) new law step = step.left ∙ ap (λ (x : List (List ℕ)). Some (after_packets w x)) (sym (append-nil before))
 
 -- one packet more
-pub taken_with : (w : Work) (packets : List (List ℕ)) (i : ℕ) (outcomes : List (Result (Unit {0}) PacketError)) (outcome : Result (Unit {0}) PacketError) (old new : Option Work) →
-    ReceiverGoesOn w → i < length packets → AreAllTaken w (take i packets) outcomes old →
-    IsStep (work_after w (accepted_of (take i packets) outcomes)) (get_or packets i []) outcome new →
+pub taken_with : (w : Depacketization) (packets : List (List ℕ)) (i : ℕ) (outcomes : List (Result (Unit {0}) PacketError)) (outcome : Result (Unit {0}) PacketError) (old new : Option Depacketization) →
+    DepacketizerGoesOn w → i < length packets → AreAllTaken w (take i packets) outcomes old →
+    IsStep (after_packets w (accepted_packets (take i packets) outcomes)) (get_or packets i []) outcome new →
     AreAllTaken w (take (i + 1) packets) (outcomes ++ outcome ∷ []) new
 taken_with w packets i outcomes outcome old new law within so_far step =
     let packet = get_or packets i [] in
     let front = take i packets in
     subst (λ (x : List (List ℕ)). AreAllTaken w x (outcomes ++ outcome ∷ []) new) (sym (take_at_read packets i [] within).1) (record {
       each = outcomes_more w [] front outcomes packet outcome so_far.each step.outcome_is;
-      taken = stands_after w (accepted_of front outcomes) packet outcome new law step
-          ∙ ap (λ (x : List (List ℕ)). Some (work_after w x)) (sym (accepted_more w [] front outcomes packet outcome so_far.each));
+      taken = stands_after w (accepted_packets front outcomes) packet outcome new law step
+          ∙ ap (λ (x : List (List ℕ)). Some (after_packets w x)) (sym (accepted_more w [] front outcomes packet outcome so_far.each));
     })
 
 -- all packets
-pub taken_to_end : (w : Work) (packets : List (List ℕ)) (i : ℕ) (outcomes : List (Result (Unit {0}) PacketError)) (new : Option Work) →
+pub taken_to_end : (w : Depacketization) (packets : List (List ℕ)) (i : ℕ) (outcomes : List (Result (Unit {0}) PacketError)) (new : Option Depacketization) →
     length packets ≤ i → AreAllTaken w (take i packets) outcomes new → AreAllTaken w packets outcomes new
 taken_to_end w packets i outcomes new past all = subst (λ (x : List (List ℕ)). AreAllTaken w x outcomes new) (take_all i packets past) all
 

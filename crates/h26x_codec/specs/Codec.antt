@@ -1,18 +1,19 @@
--- What the ends of the codecs are. Of an end in a box nothing is known but the laws of its trait.
+-- What packetizers and depacketizers of the codecs are. Of one in a box nothing is known but the
+-- laws of its trait.
 use Rattle.std.specs.Prelude.{ℕ, ◌==◌, Bool, false, true, if◌then◌else◌, List, Option, Some, None}
 use Rattle.std.specs.Option.{option_map, option_map_or}
 use Rattle.h26x_core.specs.declared.extra.CodecExtra.{CodecExtra}
-use Rattle.h26x_core.specs.Format.{Format}
-use Rattle.h26x_core.specs.Calls.{Call, first_largest}
-use Rattle.h26x_core.specs.Waits.{none_waiting}
-use Rattle.h26x_core.specs.Sender.{Sender}
-use Rattle.h26x_core.specs.Receiver.{Receiver, Work, at_work}
-use Rattle.h26x_payload.specs.Held.{sender}
-use Rattle.h26x_payload.specs.Receiving.{receiver}
+use Rattle.h26x_model.specs.Payload.Format.{Format}
+use Rattle.h26x_model.specs.Send.Calls.{Call, default_max_packet_size}
+use Rattle.h26x_model.specs.Send.WaitingSets.{no_waiting_sets}
+use Rattle.h26x_model.specs.Send.PacketizerState.{PacketizerState}
+use Rattle.h26x_model.specs.Receive.DepacketizerState.{DepacketizerState, Depacketization, depacketization}
+use Rattle.h26x_payload.specs.PacketizerView.{packetizer_state}
+use Rattle.h26x_payload.specs.DepacketizerView.{depacketizer_state}
 use Rattle.h264_payload.specs.H264.{h264}
 use Rattle.h265_payload.specs.H265.{h265}
 use Rattle.h265_payload.specs.Setting as h265_setting
-use Rattle.h265_payload.specs.Depacketizer as h265_end
+use Rattle.h265_payload.specs.DepacketizerView as h265_end
 use Rattle.h265_packets.specs.declared.payload.H265Payload.{H265Payload}
 use Rattle.h266_payload.specs.H266.{h266}
 use Rattle.h266_payload.specs.Setting as h266_setting
@@ -24,75 +25,78 @@ use Rattle.h26x_codec.specs.declared.depacketizer.CodecDepacketizer.{CodecDepack
 use Rattle.h26x_codec.specs.declared.depacketizer.CodecDepacketizer.TheVariants as d
 
 -- the payload format of a codec, with decoding order numbers or without; H.264 has none
-abbrev pub format_with : Codec → Bool → Format
-format_with c.H264 numbered = h264
-format_with c.H265 numbered = h265 numbered
-format_with c.H266 numbered = h266 numbered
+abbrev pub codec_format : Codec → Bool → Format
+codec_format c.H264 has_donl = h264
+codec_format c.H265 has_donl = h265 has_donl
+codec_format c.H266 has_donl = h266 has_donl
 
 -- that without numbers
-abbrev pub format_of : Codec → Format
-format_of codec = format_with codec false
+abbrev pub default_format : Codec → Format
+default_format codec = codec_format codec false
 
 -- the packetizer of a codec
-abbrev pub sender_of : {X : Type 0} {P : X → Type 0} → CodecPacketizer X P → Option Sender
-sender_of (p.H264 it) = Some (sender h264 it)
-sender_of (p.H265 it) = Some (sender (h265_setting.format_with it.codec) it)
-sender_of (p.H266 it) = Some (sender (h266_setting.format_with it.codec) it)
-sender_of (p.Boxed it) = None
+abbrev pub codec_packetizer_state : {X : Type 0} {P : X → Type 0} → CodecPacketizer X P →
+    Option PacketizerState
+codec_packetizer_state (p.H264 it) = Some (packetizer_state h264 it)
+codec_packetizer_state (p.H265 it) = Some (packetizer_state (h265_setting.setting_format it.codec) it)
+codec_packetizer_state (p.H266 it) = Some (packetizer_state (h266_setting.setting_format it.codec) it)
+codec_packetizer_state (p.Boxed it) = None
 
 -- the codec of a packetizer
-abbrev pub codec_of : {X : Type 0} {P : X → Type 0} → CodecPacketizer X P → Option Codec
-codec_of (p.H264 it) = Some c.H264
-codec_of (p.H265 it) = Some c.H265
-codec_of (p.H266 it) = Some c.H266
-codec_of (p.Boxed it) = None
+abbrev pub packetizer_codec : {X : Type 0} {P : X → Type 0} → CodecPacketizer X P → Option Codec
+packetizer_codec (p.H264 it) = Some c.H264
+packetizer_codec (p.H265 it) = Some c.H265
+packetizer_codec (p.H266 it) = Some c.H266
+packetizer_codec (p.Boxed it) = None
 
 -- a packetizer without numbers for which nothing waits
-abbrev pub fresh_sender : Format → Sender
-fresh_sender f = record {
+abbrev pub fresh_packetizer_state : Format → PacketizerState
+fresh_packetizer_state f = record {
   format = f;
-  waiting = none_waiting;
-  counter = 0;
-  largest = first_largest;
+  waiting = no_waiting_sets;
+  next_don = 0;
+  max_packet_size = default_max_packet_size;
 }
 
 -- a call of a packetizer
-abbrev pub call_by : Sender → ℕ → List ℕ → Call
-call_by s mtu payload = record { mtu = mtu; largest = s.largest; payload = payload }
+abbrev pub next_call : PacketizerState → ℕ → List ℕ → Call
+next_call s mtu payload = record { mtu = mtu; max_packet_size = s.max_packet_size; payload = payload }
 
 -- a packetizer with decoding order numbers, which begin at 0; H.264 has none
-abbrev pub with_numbers : {X : Type 0} {P : X → Type 0} → CodecPacketizer X P → CodecPacketizer X P
-with_numbers (p.H264 it) = p.H264 it
-with_numbers (p.H265 it) = p.H265 (record it { codec = h265_setting.setting true; counter = 0 })
-with_numbers (p.H266 it) = p.H266 (record it { codec = h266_setting.setting true; counter = 0 })
-with_numbers (p.Boxed it) = p.Boxed it
+abbrev pub with_donl : {X : Type 0} {P : X → Type 0} → CodecPacketizer X P → CodecPacketizer X P
+with_donl (p.H264 it) = p.H264 it
+with_donl (p.H265 it) = p.H265 (record it { codec = h265_setting.setting true; next_don = 0 })
+with_donl (p.H266 it) = p.H266 (record it { codec = h266_setting.setting true; next_don = 0 })
+with_donl (p.Boxed it) = p.Boxed it
 
 -- a packetizer set up for the greatest distance of decoding order that is told, 0 where none is
-abbrev pub configured : {X : Type 0} {P : X → Type 0} → Option ℕ → CodecPacketizer X P →
+abbrev pub with_max_don_diff : {X : Type 0} {P : X → Type 0} → Option ℕ → CodecPacketizer X P →
     CodecPacketizer X P
-configured told it = if option_map_or (λ n. n) told 0 == 0 then it else with_numbers it
+with_max_don_diff told it = if option_map_or (λ n. n) told 0 == 0 then it else with_donl it
 
 -- a packetizer with this largest packet size; that of H.264 has none
-abbrev pub with_largest : {X : Type 0} {P : X → Type 0} → ℕ → CodecPacketizer X P →
+abbrev pub with_max_packet_size : {X : Type 0} {P : X → Type 0} → ℕ → CodecPacketizer X P →
     CodecPacketizer X P
-with_largest n (p.H264 it) = p.H264 it
-with_largest n (p.H265 it) = p.H265 (record it { largest = n })
-with_largest n (p.H266 it) = p.H266 (record it { largest = n })
-with_largest n (p.Boxed it) = p.Boxed it
+with_max_packet_size n (p.H264 it) = p.H264 it
+with_max_packet_size n (p.H265 it) = p.H265 (record it { max_packet_size = n })
+with_max_packet_size n (p.H266 it) = p.H266 (record it { max_packet_size = n })
+with_max_packet_size n (p.Boxed it) = p.Boxed it
 
 -- the depacketizer of a codec
-abbrev pub receiver_of : {X : Type 0} {P : X → Type 0} → CodecDepacketizer X P → Option Receiver
-receiver_of (d.H264 it) = Some (receiver h264 it)
-receiver_of (d.H265 it) = Some (h265_end.receiver it)
-receiver_of (d.H266 it) = Some (receiver (h266_setting.format_with it.codec) it)
-receiver_of (d.Boxed it) = None
+abbrev pub codec_depacketizer_state : {X : Type 0} {P : X → Type 0} → CodecDepacketizer X P →
+    Option DepacketizerState
+codec_depacketizer_state (d.H264 it) = Some (depacketizer_state h264 it)
+codec_depacketizer_state (d.H265 it) = Some (h265_end.h265_state it)
+codec_depacketizer_state (d.H266 it) = Some (depacketizer_state
+    (h266_setting.setting_format it.codec) it)
+codec_depacketizer_state (d.Boxed it) = None
 
 -- the codec of a depacketizer
-abbrev pub codec_received : {X : Type 0} {P : X → Type 0} → CodecDepacketizer X P → Option Codec
-codec_received (d.H264 it) = Some c.H264
-codec_received (d.H265 it) = Some c.H265
-codec_received (d.H266 it) = Some c.H266
-codec_received (d.Boxed it) = None
+abbrev pub depacketizer_codec : {X : Type 0} {P : X → Type 0} → CodecDepacketizer X P → Option Codec
+depacketizer_codec (d.H264 it) = Some c.H264
+depacketizer_codec (d.H265 it) = Some c.H265
+depacketizer_codec (d.H266 it) = Some c.H266
+depacketizer_codec (d.Boxed it) = None
 
 -- a depacketizer without its open run
 abbrev pub without_run : {X : Type 0} {P : X → Type 0} → CodecDepacketizer X P →
@@ -103,15 +107,17 @@ without_run (d.H266 it) = d.H266 (record it { run = None })
 without_run (d.Boxed it) = d.Boxed it
 
 -- what a depacketizer of H.265 shows
-abbrev pub payload_of : {X : Type 0} {P : X → Type 0} → CodecDepacketizer X P → Option H265Payload
-payload_of (d.H265 it) = Some it.payload
-payload_of it = None
+abbrev pub shown_payload : {X : Type 0} {P : X → Type 0} → CodecDepacketizer X P → Option H265Payload
+shown_payload (d.H265 it) = Some it.payload
+shown_payload it = None
 
 -- the depacketizer of a codec, what was written so far, and what is told
-abbrev pub work_of : {X : Type 0} {P : X → Type 0} → CodecDepacketizer X P → List ℕ → CodecExtra →
-    Option Work
-work_of it out extra = option_map (λ r. at_work r out extra) (receiver_of it)
+abbrev pub codec_depacketization : {X : Type 0} {P : X → Type 0} → CodecDepacketizer X P → List ℕ →
+    CodecExtra →
+    Option Depacketization
+codec_depacketization it out extra = option_map (λ r. depacketization r out extra)
+    (codec_depacketizer_state it)
 
 -- a depacketizer without numbers that writes start codes and has no run open
-abbrev pub fresh_receiver : Format → Receiver
-fresh_receiver f = record { format = f; is_avc = false; run = None }
+abbrev pub fresh_depacketizer_state : Format → DepacketizerState
+fresh_depacketizer_state f = record { format = f; is_avc = false; run = None }

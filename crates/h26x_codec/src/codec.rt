@@ -2,8 +2,8 @@
 
 ghost use Rattle.std.specs.Prelude.{◌≡◌, Bool};
 ghost use Rattle.h26x_cut.specs.Cutting.{units_of};
-ghost use Rattle.h26x_codec.specs.Codec.{format_with};
-ghost use Rattle.h26x_codec.specs.Repeating.{rule_of};
+ghost use Rattle.h26x_codec.specs.Codec.{codec_format};
+ghost use Rattle.h26x_codec.specs.Repeating.{zero_rule};
 
 use h26x_cut::ZeroRule;
 
@@ -21,9 +21,9 @@ pub enum Codec {
 impl Codec {
     /// How payloads of the codec are cut at their start codes (Annex B of H.264, H.265 and H.266).
     pub fn zero_rule(self) -> ZeroRule
-        ensures rule { result ≡ rule_of self }
-        ensures units { (numbers : Bool) →
-            (format_with self numbers).units ≡ units_of result }
+        ensures rule { result ≡ zero_rule self }
+        ensures units { (dons : Bool) →
+            (codec_format self dons).units ≡ units_of result }
     {
         match self {
             Codec::H264 | Codec::H265 => ZeroRule::All,

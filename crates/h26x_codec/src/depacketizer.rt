@@ -1,23 +1,23 @@
 //! A depacketizer of any codec, or a caller's own.
 
 ghost use Rattle.std.specs.Prelude.{◌≡◌, [], ◌∷◌, Bool, true, false, Some, OnOk, OnErr, IsOk};
-ghost use Rattle.h26x_core.specs.Facts.{IsPayloadFormat};
+ghost use Rattle.h26x_model.specs.Payload.Facts.{IsPayloadFormat};
 ghost use Rattle.h26x_core.specs.Front.{IsFrontOf};
 ghost use Rattle.h26x_core.specs.Hint.{size_hint};
-ghost use Rattle.h26x_core.specs.Outcome.{is_startless};
-ghost use Rattle.h26x_core.specs.Receiver.{Receiver, Work, work_after, IsOutcomeAt, receiver_meaning};
-ghost use Rattle.h26x_core.specs.H264Frame as h264_frame;
+ghost use Rattle.h26x_model.specs.Receive.Outcome.{is_startless};
+ghost use Rattle.h26x_model.specs.Receive.DepacketizerState.{DepacketizerState, Depacketization, after_packets, IsPacketOutcome, depacketizer_meaning};
+ghost use Rattle.h26x_core.specs.H264AccessUnit as h264_frame;
 ghost use Rattle.h264_payload.specs.declared.packetizer.H264.{H264};
 ghost use Rattle.h264_payload.specs.H264.{h264};
-ghost use Rattle.h265_payload.specs.Depacketizer as h265_end;
+ghost use Rattle.h265_payload.specs.DepacketizerView as h265_end;
 ghost use Rattle.h265_payload.specs.H265 as h265;
 ghost use Rattle.h265_payload.specs.Shown.{shown};
-ghost use Rattle.h26x_payload.specs.Frame.{may_begin, is_last};
-ghost use Rattle.h26x_payload.specs.Receiving.{Receiving, receiver};
+ghost use Rattle.h26x_payload.specs.AccessUnit.{may_begin, is_last};
+ghost use Rattle.h26x_payload.specs.DepacketizerView.{DepacketizerView, depacketizer_state};
 ghost use Rattle.h266_payload.specs.declared.packetizer.H266.{H266};
 ghost use Rattle.h266_payload.specs.Setting as h266_setting;
 ghost use Rattle.h266_payload.specs.H266 as h266;
-ghost use Rattle.h26x_codec.specs.Codec.{format_of, receiver_of, codec_received, fresh_receiver, work_of, payload_of, without_run};
+ghost use Rattle.h26x_codec.specs.Codec.{default_format, codec_depacketizer_state, depacketizer_codec, fresh_depacketizer_state, codec_depacketization, shown_payload, without_run};
 ghost use Rattle.h26x_codec.specs.declared.depacketizer.CodecDepacketizer.TheVariants as d;
 
 use crate::codec::Codec;
@@ -67,8 +67,9 @@ impl CodecDepacketizer {
     /// A depacketizer of a codec that reads packets without decoding order numbers, writes start
     /// codes and has no run open. Its memory comes from `alloc`; none is taken here.
     pub fn new(alloc: Global, codec: Codec) -> Self
-        ensures codec { codec_received result ≡ Some codec }
-        ensures fresh { receiver_of result ≡ Some (fresh_receiver (format_of codec)) }
+        ensures codec { depacketizer_codec result ≡ Some codec }
+        ensures fresh { codec_depacketizer_state result
+            ≡ Some (fresh_depacketizer_state (default_format codec)) }
     {
         match codec {
             Codec::H264 => CodecDepacketizer::H264(H264Depacketizer::new(alloc)),
@@ -93,34 +94,21 @@ impl CodecDepacketizer {
             CodecDepacketizer::Boxed(_) => {}
         }
     }
-
-    /// A law of every depacketizer of a codec: its format meets the facts on which the laws of
-    /// every format stand.
-    pub fn is_receiver(&self)
-        ensures { (r : Receiver) → receiver_of self.now ≡ Some r → IsPayloadFormat r.format }
-    {
-        match self {
-            CodecDepacketizer::H264(_) => h264_payload::laws::meets_the_facts(),
-            CodecDepacketizer::H265(_) => h265_payload::laws::meets_the_facts(),
-            CodecDepacketizer::H266(_) => h266_payload::laws::meets_the_facts(),
-            CodecDepacketizer::Boxed(_) => {}
-        }
-    }
 }
 
 impl Depacketizer for CodecDepacketizer {
     // What the later answers of the depacketizer that it holds depend on.
     ghost meaning = { elim [
-      | d.H264 it ↦ receiver_meaning (receiver h264 it)
+      | d.H264 it ↦ depacketizer_meaning (depacketizer_state h264 it)
       | d.H265 it ↦ h265_end.meaning_of it
-      | d.H266 it ↦ receiver_meaning (receiver (h266_setting.format_with it.codec) it)
+      | d.H266 it ↦ depacketizer_meaning (depacketizer_state (h266_setting.setting_format it.codec) it)
       | d.Boxed it ↦ (Depacketizer-box it).Depacketizer.meaning it.value
     ] };
 
     /// How many bytes the units of packets of this many bytes may take when they are written. Of a
     /// codec: these bytes, four more, and four for each whole 1200 of them; at most `usize::MAX`.
     fn out_size_hint(&self, packets_size: usize) -> Option<usize>
-        ensures { (r : Receiver) → receiver_of self.now ≡ Some r →
+        ensures { (r : DepacketizerState) → codec_depacketizer_state self.now ≡ Some r →
             result ≡ Some (size_hint packets_size) }
     {
         match self {
@@ -142,23 +130,25 @@ impl Depacketizer for CodecDepacketizer {
         out: &mut Vec<u8>,
         codec_extra: &mut CodecExtra,
     ) -> Result<(), PacketError>
-        ensures outcome { (w : Work) → work_of self.old out.old.items codec_extra.old ≡ Some w →
-            IsOutcomeAt w packet.now result }
-        ensures taken { (w : Work) → work_of self.old out.old.items codec_extra.old ≡ Some w →
-            OnOk result (work_of self.new out.new.items codec_extra.new
-            ≡ Some (work_after w (packet.now ∷ []))) }
-        ensures kept { (r : Receiver) → receiver_of self.old ≡ Some r →
+        ensures outcome { (w : Depacketization) →
+            codec_depacketization self.old out.old.items codec_extra.old ≡ Some w →
+            IsPacketOutcome w packet.now result }
+        ensures taken { (w : Depacketization) →
+            codec_depacketization self.old out.old.items codec_extra.old ≡ Some w →
+            OnOk result (codec_depacketization self.new out.new.items codec_extra.new
+            ≡ Some (after_packets w (packet.now ∷ []))) }
+        ensures kept { (r : DepacketizerState) → codec_depacketizer_state self.old ≡ Some r →
             OnErr result (self.new ≡ self.old) }
-        ensures codec { codec_received self.new ≡ codec_received self.old }
-        ensures shows { (it : h265_end.Depacketizer) → self.old ≡ d.H265 it →
-            OnOk result (payload_of self.new ≡ Some (shown it.codec.numbered packet.now)) }
+        ensures codec { depacketizer_codec self.new ≡ depacketizer_codec self.old }
+        ensures shows { (it : h265_end.H265DepacketizerView) → self.old ≡ d.H265 it →
+            OnOk result (shown_payload self.new ≡ Some (shown it.codec.has_donl packet.now)) }
 
         // Such a packet of H.264 or H.266 takes no memory.
-        ensures startless_h264 { (it : Receiving H264) → self.old ≡ d.H264 it →
+        ensures startless_h264 { (it : DepacketizerView H264) → self.old ≡ d.H264 it →
             is_startless it.run (h264.read packet.now) ≡ true →
             IsOk result }
-        ensures startless_h266 { (it : Receiving H266) → self.old ≡ d.H266 it →
-            is_startless it.run ((h266_setting.format_with it.codec).read packet.now) ≡ true →
+        ensures startless_h266 { (it : DepacketizerView H266) → self.old ≡ d.H266 it →
+            is_startless it.run ((h266_setting.setting_format it.codec).read packet.now) ≡ true →
             IsOk result }
 
         // A depacketizer in a box too.
@@ -176,13 +166,13 @@ impl Depacketizer for CodecDepacketizer {
         }
     }
 
-    /// Whether `packet` may be the first of a frame, as the depacketizer that it holds says.
+    /// Whether `packet` may be the first of an access unit, as the depacketizer that it holds says.
     fn is_partition_head(&self, packet: &[u8]) -> bool
-        ensures h264 { (it : Receiving H264) → self.now ≡ d.H264 it →
-            result ≡ h264_frame.is_head packet.now }
-        ensures h265 { (it : h265_end.Depacketizer) → self.now ≡ d.H265 it →
+        ensures h264 { (it : DepacketizerView H264) → self.now ≡ d.H264 it →
+            result ≡ h264_frame.may_begin_h264 packet.now }
+        ensures h265 { (it : h265_end.H265DepacketizerView) → self.now ≡ d.H265 it →
             result ≡ may_begin (h265.is_fragment packet.now) packet.now }
-        ensures h266 { (it : Receiving H266) → self.now ≡ d.H266 it →
+        ensures h266 { (it : DepacketizerView H266) → self.now ≡ d.H266 it →
             result ≡ may_begin (h266.is_fragment packet.now) packet.now }
     {
         match self {
@@ -193,13 +183,13 @@ impl Depacketizer for CodecDepacketizer {
         }
     }
 
-    /// Whether `packet` is the last of a frame, with the marker bit of its RTP packet given, as the
-    /// depacketizer that it holds says.
+    /// Whether `packet` is the last of an access unit, with the marker bit of its RTP packet given,
+    /// as the depacketizer that it holds says.
     fn is_partition_tail(&self, marker: bool, packet: &[u8]) -> bool
-        ensures h264 { (it : Receiving H264) → self.now ≡ d.H264 it → result ≡ marker }
-        ensures h265 { (it : h265_end.Depacketizer) → self.now ≡ d.H265 it →
+        ensures h264 { (it : DepacketizerView H264) → self.now ≡ d.H264 it → result ≡ marker }
+        ensures h265 { (it : h265_end.H265DepacketizerView) → self.now ≡ d.H265 it →
             result ≡ is_last (h265.is_fragment packet.now) marker packet.now }
-        ensures h266 { (it : Receiving H266) → self.now ≡ d.H266 it →
+        ensures h266 { (it : DepacketizerView H266) → self.now ≡ d.H266 it →
             result ≡ is_last (h266.is_fragment packet.now) marker packet.now }
     {
         match self {

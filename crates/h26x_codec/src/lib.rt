@@ -18,6 +18,7 @@
 mod carried;
 mod codec;
 mod depacketizer;
+pub mod laws;
 mod packetizer;
 mod repeated;
 mod runs;

@@ -1,18 +1,18 @@
 //! A packetizer of any codec, or a caller's own.
 
 ghost use Rattle.std.specs.Prelude.{◌≡◌, ◌≤◌, [], true, Some, None, Err, IfOk, OnOk, OnErr, IsOk};
-ghost use Rattle.h26x_core.specs.Facts.{IsPayloadFormat};
-ghost use Rattle.h26x_core.specs.Limit.{AreWithin};
-ghost use Rattle.h26x_core.specs.Calls.{limit_of_call, entries_of_call};
-ghost use Rattle.h26x_core.specs.Sender.{Sender, IsSender, packets_by, after, has_no_effect};
+ghost use Rattle.h26x_model.specs.Payload.Facts.{IsPayloadFormat};
+ghost use Rattle.h26x_model.specs.Send.Limit.{AreWithinLimit};
+ghost use Rattle.h26x_model.specs.Send.Calls.{call_limit, call_entries};
+ghost use Rattle.h26x_model.specs.Send.PacketizerState.{PacketizerState, IsPacketizerState, state_packets, after_entries, has_no_effect};
 ghost use Rattle.h26x_payload.specs.Sending.{contents};
-ghost use Rattle.h26x_codec.specs.Codec.{format_of, sender_of, codec_of, fresh_sender, call_by, configured, with_largest};
+ghost use Rattle.h26x_codec.specs.Codec.{default_format, codec_packetizer_state, packetizer_codec, fresh_packetizer_state, next_call, with_max_don_diff, with_max_packet_size};
 ghost use Rattle.h26x_codec.specs.declared.packetizer.CodecPacketizer.TheVariants as p;
 ghost use Rattle.h264_payload.specs.H264.{h264};
 ghost use Rattle.h265_payload.specs.Setting as h265_setting;
 ghost use Rattle.h266_payload.specs.Setting as h266_setting;
-ghost use Rattle.h26x_payload.specs.Held.{sender};
-ghost use Rattle.h26x_core.specs.Sender.{sender_meaning};
+ghost use Rattle.h26x_payload.specs.PacketizerView.{packetizer_state};
+ghost use Rattle.h26x_model.specs.Send.PacketizerState.{packetizer_meaning};
 
 use crate::codec::Codec;
 use h26x_core::{PacketError, Packetizer};
@@ -62,8 +62,9 @@ impl CodecPacketizer {
     /// decoding order numbers, and with 1200 bytes as the largest packet size. Its memory comes
     /// from `alloc`; none is taken here.
     pub fn new(alloc: Global, codec: Codec) -> Self
-        ensures codec { codec_of result ≡ Some codec }
-        ensures fresh { sender_of result ≡ Some (fresh_sender (format_of codec)) }
+        ensures codec { packetizer_codec result ≡ Some codec }
+        ensures fresh { codec_packetizer_state result
+            ≡ Some (fresh_packetizer_state (default_format codec)) }
     {
         match codec {
             Codec::H264 => CodecPacketizer::H264(H264Packetizer::new(alloc)),
@@ -79,7 +80,7 @@ impl CodecPacketizer {
     /// begin at 0, and sets that wait stay. None and 0 change nothing, and neither does any value
     /// for H.264 or a packetizer in a box. It takes no memory.
     pub fn configure_for(&mut self, sprop_max_don_diff: Option<u32>)
-        ensures { self.new ≡ configured sprop_max_don_diff self.old }
+        ensures { self.new ≡ with_max_don_diff sprop_max_don_diff self.old }
     {
         if sprop_max_don_diff.unwrap_or(0) == 0 {
             return;
@@ -95,7 +96,7 @@ impl CodecPacketizer {
     /// call is longer. For H.264 and a packetizer in a box it changes nothing. It takes no memory.
     pub fn with_max_packet_size(&mut self, n: u16)
         requires { 4 ≤ n }
-        ensures { self.new ≡ with_largest n self.old }
+        ensures { self.new ≡ with_max_packet_size n self.old }
     {
         match self {
             CodecPacketizer::H265(it) => it.with_max_packet_size(n),
@@ -103,38 +104,14 @@ impl CodecPacketizer {
             CodecPacketizer::H264(_) | CodecPacketizer::Boxed(_) => {}
         }
     }
-
-    /// A law of every packetizer of a codec: at most one set of each kind waits, its counter and
-    /// its largest packet size are numbers of two bytes, and its format meets the facts on which
-    /// the laws of every format stand.
-    pub fn is_sender(&self)
-        ensures sender { (s : Sender) → sender_of self.now ≡ Some s → IsSender s }
-        ensures format { (s : Sender) → sender_of self.now ≡ Some s → IsPayloadFormat s.format }
-    {
-        match self {
-            CodecPacketizer::H264(it) => {
-                it.is_sender();
-                h264_payload::laws::meets_the_facts();
-            }
-            CodecPacketizer::H265(it) => {
-                it.is_sender();
-                h265_payload::laws::meets_the_facts();
-            }
-            CodecPacketizer::H266(it) => {
-                it.is_sender();
-                h266_payload::laws::meets_the_facts();
-            }
-            CodecPacketizer::Boxed(_) => {}
-        }
-    }
 }
 
 impl Packetizer for CodecPacketizer {
     // What the later answers of the packetizer that it holds depend on.
     ghost meaning = { elim [
-      | p.H264 it ↦ sender_meaning (sender h264 it)
-      | p.H265 it ↦ sender_meaning (sender (h265_setting.format_with it.codec) it)
-      | p.H266 it ↦ sender_meaning (sender (h266_setting.format_with it.codec) it)
+      | p.H264 it ↦ packetizer_meaning (packetizer_state h264 it)
+      | p.H265 it ↦ packetizer_meaning (packetizer_state (h265_setting.setting_format it.codec) it)
+      | p.H266 it ↦ packetizer_meaning (packetizer_state (h266_setting.setting_format it.codec) it)
       | p.Boxed it ↦ (Packetizer-box it).Packetizer.meaning it.value
     ] };
 
@@ -143,27 +120,27 @@ impl Packetizer for CodecPacketizer {
     /// Of a codec: each is within the limit of the call, the lesser of `mtu` and for H.265 and
     /// H.266 the largest packet size. `OutOfMemory` is the only error, and leaves everything.
     fn packetize(&mut self, mtu: usize, b: &[u8]) -> Result<Vec<Vec<u8>>, PacketError>
-        ensures packets { (s : Sender) → sender_of self.old ≡ Some s →
+        ensures packets { (s : PacketizerState) → codec_packetizer_state self.old ≡ Some s →
             IfOk result (λ made. contents made.items
-            ≡ packets_by s (entries_of_call s.format (call_by s mtu b.now))) }
-        ensures after { (s : Sender) → sender_of self.old ≡ Some s →
-            OnOk result (sender_of self.new
-            ≡ Some (after s (entries_of_call s.format (call_by s mtu b.now)))) }
-        ensures within { (s : Sender) → sender_of self.old ≡ Some s →
-            IfOk result (λ made. AreWithin (limit_of_call s.format (call_by s mtu b.now))
+            ≡ state_packets s (call_entries s.format (next_call s mtu b.now))) }
+        ensures after { (s : PacketizerState) → codec_packetizer_state self.old ≡ Some s →
+            OnOk result (codec_packetizer_state self.new
+            ≡ Some (after_entries s (call_entries s.format (next_call s mtu b.now)))) }
+        ensures within { (s : PacketizerState) → codec_packetizer_state self.old ≡ Some s →
+            IfOk result (λ made. AreWithinLimit (call_limit s.format (next_call s mtu b.now))
             (contents made.items)) }
-        ensures codec { codec_of self.new ≡ codec_of self.old }
+        ensures codec { packetizer_codec self.new ≡ packetizer_codec self.old }
 
-        ensures kept { (s : Sender) → sender_of self.old ≡ Some s →
+        ensures kept { (s : PacketizerState) → codec_packetizer_state self.old ≡ Some s →
             OnErr result (self.new ≡ self.old) }
-        ensures memory { (s : Sender) → sender_of self.old ≡ Some s →
+        ensures memory { (s : PacketizerState) → codec_packetizer_state self.old ≡ Some s →
             OnErr result (result ≡ Err PacketError.OutOfMemory) }
 
         // Calls without effect take no memory.
-        ensures free { (s : Sender) → sender_of self.old ≡ Some s →
-            has_no_effect s.format (call_by s mtu b.now) ≡ true → IsOk result }
-        ensures without_effect { (s : Sender) → sender_of self.old ≡ Some s →
-            has_no_effect s.format (call_by s mtu b.now) ≡ true →
+        ensures free { (s : PacketizerState) → codec_packetizer_state self.old ≡ Some s →
+            has_no_effect s.format (next_call s mtu b.now) ≡ true → IsOk result }
+        ensures without_effect { (s : PacketizerState) → codec_packetizer_state self.old ≡ Some s →
+            has_no_effect s.format (next_call s mtu b.now) ≡ true →
             IfOk result (λ made. (made.items ≡ []) × (self.new ≡ self.old)) }
 
         // A packetizer in a box too.
@@ -179,11 +156,12 @@ impl Packetizer for CodecPacketizer {
     }
 
     /// Whether a packet bears the marker bit, as the packetizer that it holds says. Of a codec: the
-    /// last packet of a frame.
+    /// last packet of an access unit.
     fn is_marker(&mut self, data: &[u8], previous: Option<&[u8]>, last: bool) -> bool
-        ensures is { (s : Sender) → sender_of self.old ≡ Some s → result ≡ last }
-        ensures kept { (s : Sender) → sender_of self.old ≡ Some s → self.new ≡ self.old }
-        ensures codec { codec_of self.new ≡ codec_of self.old }
+        ensures is { (s : PacketizerState) → codec_packetizer_state self.old ≡ Some s → result ≡ last }
+        ensures kept { (s : PacketizerState) → codec_packetizer_state self.old ≡ Some s →
+            self.new ≡ self.old }
+        ensures codec { packetizer_codec self.new ≡ packetizer_codec self.old }
 
         // A packetizer in a box too.
         ensures kept_meaning { ⟦<CodecPacketizer as Packetizer>⟧.meaning self.new

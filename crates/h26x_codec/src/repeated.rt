@@ -1,25 +1,27 @@
 //! Payloads sent, written, and sent again.
 
 ghost use Rattle.std.specs.Prelude.{◌≡◌, ◌≤◌, ◌⊎◌, [], ◌∷◌, false, IfOk, IfErr, OnErr, Err, map, Some, None};
-ghost use Rattle.h26x_core.specs.Text.{text, annex_b};
-ghost use Rattle.h26x_core.specs.Calls.{entries_of, packets_of};
-ghost use Rattle.h26x_core.specs.Plan.{sent};
-ghost use Rattle.h26x_core.specs.Facts.{AreCarried};
-ghost use Rattle.h26x_core.specs.Received.{received};
-ghost use Rattle.h26x_core.specs.Sender.{Sender, packets_by};
-ghost use Rattle.h26x_core.specs.Receiver.{Receiver};
-ghost use Rattle.h26x_core.specs.Ends.{calls_like};
+ghost use Rattle.h26x_core.specs.ByteStream.{byte_stream, annex_b};
+ghost use Rattle.h26x_model.specs.Send.Calls.{all_entries, all_packets};
+ghost use Rattle.h26x_model.specs.Send.Plan.{units_sent};
+ghost use Rattle.h26x_model.specs.Payload.Facts.{AreCarried};
+ghost use Rattle.h26x_model.specs.Receive.Received.{received};
+ghost use Rattle.h26x_model.specs.Send.PacketizerState.{PacketizerState, state_packets};
+ghost use Rattle.h26x_model.specs.Receive.DepacketizerState.{DepacketizerState};
+ghost use Rattle.h26x_model.specs.Carry.Laws.{calls_like};
 ghost use Rattle.h26x_payload.specs.Sending.{contents};
-ghost use Rattle.h26x_codec.specs.Codec.{format_with, sender_of, receiver_of, fresh_receiver, call_by};
+ghost use Rattle.h26x_codec.specs.Codec.{codec_format, codec_packetizer_state, codec_depacketizer_state, fresh_depacketizer_state, next_call};
 ghost use Rattle.h26x_codec.specs.Runs.{IsFresh};
-ghost use Rattle.h26x_codec.specs.Repeating.{rule_of, starting, call_with, calls_with, MayBeRepeated, IsFirstRefused};
+ghost use Rattle.h26x_codec.specs.Repeating.{zero_rule, starting_packetizer, repeated_call, repeated_calls, MayBeRepeated, IsFirstRefused};
 
 use crate::carried::Packets;
 use crate::codec::Codec;
 use crate::depacketizer::CodecDepacketizer;
+use crate::laws::{depacketizer_states, packetizer_states};
 use crate::packetizer::CodecPacketizer;
 use crate::runs::deliver;
-use h26x_core::{CodecExtra, PacketError, Packetizer, laws};
+use h26x_core::{CodecExtra, PacketError, Packetizer};
+use h26x_model::laws;
 use h264_payload::{H264Depacketizer, H264Packetizer};
 use h265_payload::{H265Depacketizer, H265Packetizer};
 use h266_payload::{H266Depacketizer, H266Packetizer};
@@ -28,7 +30,7 @@ use std::alloc::Global;
 /// A packetizer of a codec with this setting for numbers and this largest packet size.
 fn packetizer_with(alloc: Global, codec: Codec, donl: bool, max_packet_size: u16) -> CodecPacketizer
     requires { 4 ≤ max_packet_size }
-    ensures { sender_of result ≡ Some (starting codec donl max_packet_size) }
+    ensures { codec_packetizer_state result ≡ Some (starting_packetizer codec donl max_packet_size) }
 {
     match codec {
         Codec::H264 => CodecPacketizer::H264(H264Packetizer::new(alloc)),
@@ -49,7 +51,8 @@ fn packetizer_with(alloc: Global, codec: Codec, donl: bool, max_packet_size: u16
 
 /// A depacketizer of a codec with this setting for numbers.
 fn depacketizer_with(alloc: Global, codec: Codec, donl: bool) -> CodecDepacketizer
-    ensures { receiver_of result ≡ Some (fresh_receiver (format_with codec donl)) }
+    ensures { codec_depacketizer_state result ≡ Some
+        (fresh_depacketizer_state (codec_format codec donl)) }
 {
     match codec {
         Codec::H264 => CodecDepacketizer::H264(H264Depacketizer::new(alloc)),
@@ -73,13 +76,13 @@ fn packetize_all(
     limit: usize,
     payloads: &[Vec<u8>],
 ) -> Result<Vec<Vec<u8>>, PacketError>
-    ensures sent { (s : Sender) → sender_of p.old ≡ Some s →
-        IfOk result (λ made. contents made.items ≡ packets_by s
-        (entries_of s.format (calls_like (call_by s limit []) (contents payloads.now)))) }
-    ensures memory { (s : Sender) → sender_of p.old ≡ Some s →
+    ensures sent { (s : PacketizerState) → codec_packetizer_state p.old ≡ Some s →
+        IfOk result (λ made. contents made.items ≡ state_packets s
+        (all_entries s.format (calls_like (next_call s limit []) (contents payloads.now)))) }
+    ensures memory { (s : PacketizerState) → codec_packetizer_state p.old ≡ Some s →
         OnErr result (result ≡ Err PacketError.OutOfMemory) }
 {
-    p.is_sender();
+    packetizer_states(p);
     laws::packetizers_go_on();
     let mut packets = Vec::new(alloc);
     for payload in payloads {
@@ -109,30 +112,33 @@ fn again_with(
     limit: usize,
     payloads: &[Vec<u8>],
 ) -> Result<Repeated, PacketError>
-    ensures first { (s : Sender) → sender_of p.old ≡ Some s → IsFresh s →
+    ensures first { (s : PacketizerState) → codec_packetizer_state p.old ≡ Some s → IsFresh s →
         IfOk result (λ it. it.first
-        ≡ packets_of s.format 0 (calls_like (call_by s limit []) (contents payloads.now))) }
-    ensures written { (r : Receiver) → receiver_of d.old ≡ Some r → r.run ≡ None →
+        ≡ all_packets s.format 0 (calls_like (next_call s limit []) (contents payloads.now))) }
+    ensures written { (r : DepacketizerState) → codec_depacketizer_state d.old ≡ Some r → r.run ≡ None →
         IfOk result (λ it. it.written.items
-        ≡ text r.is_avc (received (map r.format.read it.first))) }
-    ensures second { (t : Sender) → sender_of q.old ≡ Some t → IsFresh t →
+        ≡ byte_stream r.is_avc (received (map r.format.read it.first))) }
+    ensures second { (t : PacketizerState) → codec_packetizer_state q.old ≡ Some t → IsFresh t →
         IfOk result (λ it. it.second
-        ≡ packets_of t.format 0 (call_by t limit it.written.items ∷ [])) }
-    ensures carried { (s : Sender) (r : Receiver) → sender_of p.old ≡ Some s →
-        receiver_of d.old ≡ Some r → IsFresh s → r.format ≡ s.format →
+        ≡ all_packets t.format 0 (next_call t limit it.written.items ∷ [])) }
+    ensures carried { (s : PacketizerState) (r : DepacketizerState) →
+        codec_packetizer_state p.old ≡ Some s →
+        codec_depacketizer_state d.old ≡ Some r → IsFresh s → r.format ≡ s.format →
         AreCarried s.format
-        (sent s.format (entries_of s.format (calls_like (call_by s limit [])
+        (units_sent s.format (all_entries s.format (calls_like (next_call s limit [])
         (contents payloads.now)))) →
-        IfOk result (λ it. it.written.items ≡ text r.is_avc
-        (sent s.format (entries_of s.format (calls_like (call_by s limit [])
+        IfOk result (λ it. it.written.items ≡ byte_stream r.is_avc
+        (units_sent s.format (all_entries s.format (calls_like (next_call s limit [])
         (contents payloads.now))))) }
-    ensures refused { (s : Sender) (r : Receiver) (t : Sender) → sender_of p.old ≡ Some s →
-        receiver_of d.old ≡ Some r → sender_of q.old ≡ Some t → IsFresh s → r.is_avc ≡ false →
+    ensures refused { (s : PacketizerState) (r : DepacketizerState) (t : PacketizerState) →
+        codec_packetizer_state p.old ≡ Some s →
+        codec_depacketizer_state d.old ≡ Some r → codec_packetizer_state q.old ≡ Some t →
+        IsFresh s → r.is_avc ≡ false →
         IfErr result (λ error. (error ≡ PacketError.OutOfMemory) ⊎ IsFirstRefused r.format
-        (packets_of s.format 0 (calls_like (call_by s limit []) (contents payloads.now))) error) }
+        (all_packets s.format 0 (calls_like (next_call s limit []) (contents payloads.now))) error) }
 {
-    p.is_sender();
-    d.is_receiver();
+    packetizer_states(p);
+    depacketizer_states(d);
     laws::depacketizers_go_on();
     laws::what_calls_send_is_carried();
     laws::plans_unit_by_unit();
@@ -170,18 +176,18 @@ pub fn again(
     payloads: &[Vec<u8>],
 ) -> Result<Repeated, PacketError>
     requires { 4 ≤ max_packet_size }
-    ensures first { IfOk result (λ it. it.first ≡ packets_of (format_with codec donl) 0
-        (calls_with codec max_packet_size limit (contents payloads.now))) }
+    ensures first { IfOk result (λ it. it.first ≡ all_packets (codec_format codec donl) 0
+        (repeated_calls codec max_packet_size limit (contents payloads.now))) }
     ensures written { IfOk result (λ it. it.written.items
-        ≡ annex_b (received (map (format_with codec donl).read it.first))) }
-    ensures second { IfOk result (λ it. it.second ≡ packets_of (format_with codec donl) 0
-        (call_with codec max_packet_size limit it.written.items ∷ [])) }
-    ensures same { MayBeRepeated (format_with codec donl) (rule_of codec)
-        (calls_with codec max_packet_size limit (contents payloads.now)) →
+        ≡ annex_b (received (map (codec_format codec donl).read it.first))) }
+    ensures second { IfOk result (λ it. it.second ≡ all_packets (codec_format codec donl) 0
+        (repeated_call codec max_packet_size limit it.written.items ∷ [])) }
+    ensures same { MayBeRepeated (codec_format codec donl) (zero_rule codec)
+        (repeated_calls codec max_packet_size limit (contents payloads.now)) →
         IfOk result (λ it. it.second ≡ it.first) }
     ensures refused { IfErr result (λ error. (error ≡ PacketError.OutOfMemory) ⊎ IsFirstRefused
-        (format_with codec donl) (packets_of (format_with codec donl) 0
-        (calls_with codec max_packet_size limit (contents payloads.now))) error) }
+        (codec_format codec donl) (all_packets (codec_format codec donl) 0
+        (repeated_calls codec max_packet_size limit (contents payloads.now))) error) }
 {
     h264_payload::laws::sent_again();
     h265_payload::laws::sent_again();

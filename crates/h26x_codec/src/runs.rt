@@ -1,25 +1,27 @@
 //! Whole runs: calls of a packetizer, and their packets through a depacketizer.
 
 ghost use Rattle.std.specs.Prelude.{◌≡◌, ◌⊎◌, IfOk, IfErr, length, map, Some, None};
-ghost use Rattle.h26x_core.specs.Calls.{entries_of_call};
-ghost use Rattle.h26x_core.specs.Loss.{kept};
+ghost use Rattle.h26x_model.specs.Send.Calls.{call_entries};
+ghost use Rattle.h26x_model.specs.Carry.Loss.{keep};
 ghost use Rattle.h26x_core.specs.Front.{IsFrontOf};
-ghost use Rattle.h26x_core.specs.Facts.{AreCarried};
-ghost use Rattle.h26x_core.specs.Number.{NumbersInOrder};
-ghost use Rattle.h26x_core.specs.Detection.{AreDetected};
-ghost use Rattle.h26x_core.specs.Received.{received};
-ghost use Rattle.h26x_core.specs.Rival.{TakesFewestFragments};
+ghost use Rattle.h26x_model.specs.Payload.Facts.{AreCarried};
+ghost use Rattle.h26x_model.specs.Payload.Don.{DonsInOrder};
+ghost use Rattle.h26x_model.specs.Carry.Detection.{AreDetected};
+ghost use Rattle.h26x_model.specs.Receive.Received.{received};
+ghost use Rattle.h26x_model.specs.Send.Rival.{TakesFewestFragments};
 ghost use Rattle.h26x_core.specs.declared.extra.CodecExtra.TheVariants as extras;
-ghost use Rattle.h26x_core.specs.Sender.{Sender, planned, packets_by, after, AreWithinLimits};
-ghost use Rattle.h26x_core.specs.Receiver.{Receiver, Work, work_after, at_work};
+ghost use Rattle.h26x_model.specs.Send.PacketizerState.{PacketizerState, state_plan, state_packets, after_entries, AreWithinLimits};
+ghost use Rattle.h26x_model.specs.Receive.DepacketizerState.{DepacketizerState, Depacketization, after_packets, depacketization};
 ghost use Rattle.h26x_payload.specs.Sending.{contents};
-ghost use Rattle.h26x_codec.specs.Codec.{sender_of, receiver_of, work_of, call_by};
-ghost use Rattle.h26x_codec.specs.Runs.{AreSent, IsSentCall, AreTaken, IsLeftOver, IsUnbegun, IsStoppedIn, IsStopped, AreMade, AreWritten, IsFresh, AreCarriedWhole, calls_by, entries_made, sent_of};
+ghost use Rattle.h26x_codec.specs.Codec.{codec_packetizer_state, codec_depacketizer_state, codec_depacketization, next_call};
+ghost use Rattle.h26x_codec.specs.Runs.{AreSent, IsSentCall, AreTaken, IsLeftOver, IsUnbegun, IsStoppedIn, IsStopped, AreMade, AreWritten, IsFresh, AreCarriedWhole, next_calls, made_entries, made_units};
 
 use crate::carried::{Carried, Marks, Packets};
 use crate::depacketizer::CodecDepacketizer;
+use crate::laws::{depacketizer_states, packetizer_states};
 use crate::packetizer::CodecPacketizer;
-use h26x_core::{CodecExtra, Depacketizer, PacketError, Packetizer, laws};
+use h26x_core::{CodecExtra, Depacketizer, PacketError, Packetizer};
+use h26x_model::laws;
 use std::alloc::Global;
 
 /// Gives packets to a depacketizer in order, up to the first that is refused.
@@ -29,15 +31,17 @@ pub(crate) fn deliver(
     out: &mut Vec<u8>,
     extra: &mut CodecExtra,
 ) -> Result<(), PacketError>
-    ensures taken { (w : Work) → work_of d.old out.old.items extra.old ≡ Some w →
-        IfOk result (λ done. work_of d.new out.new.items extra.new
-        ≡ Some (work_after w (contents packets.now))) }
-    ensures stopped { (w : Work) → work_of d.old out.old.items extra.old ≡ Some w →
+    ensures taken { (w : Depacketization) → codec_depacketization d.old out.old.items extra.old
+        ≡ Some w →
+        IfOk result (λ done. codec_depacketization d.new out.new.items extra.new
+        ≡ Some (after_packets w (contents packets.now))) }
+    ensures stopped { (w : Depacketization) → codec_depacketization d.old out.old.items extra.old
+        ≡ Some w →
         IfErr result (λ error. IsLeftOver w (contents packets.now) error
-        (work_of d.new out.new.items extra.new)) }
+        (codec_depacketization d.new out.new.items extra.new)) }
     ensures kept { IsFrontOf out.old.items out.new.items }
 {
-    d.is_receiver();
+    depacketizer_states(d);
     laws::depacketizers_go_on();
     for packet in packets {
         d.depacketize(packet, out, extra)?;
@@ -56,20 +60,22 @@ fn carry_call(
     out: &mut Vec<u8>,
     extra: &mut CodecExtra,
 ) -> Result<bool, PacketError>
-    ensures sent { (s : Sender) → sender_of p.old ≡ Some s →
-        IsSentCall s (call_by s mtu payload.now) result (contents packets.old.items)
-        (contents packets.new.items) (sender_of p.new) }
-    ensures taken { (w : Work) → work_of d.old out.old.items extra.old ≡ Some w →
+    ensures sent { (s : PacketizerState) → codec_packetizer_state p.old ≡ Some s →
+        IsSentCall s (next_call s mtu payload.now) result (contents packets.old.items)
+        (contents packets.new.items) (codec_packetizer_state p.new) }
+    ensures taken { (w : Depacketization) → codec_depacketization d.old out.old.items extra.old
+        ≡ Some w →
         IfOk result (λ made. AreTaken w (contents packets.old.items) (contents packets.new.items)
-        (work_of d.new out.new.items extra.new)) }
-    ensures stopped { (s : Sender) (w : Work) → sender_of p.old ≡ Some s →
-        work_of d.old out.old.items extra.old ≡ Some w →
+        (codec_depacketization d.new out.new.items extra.new)) }
+    ensures stopped { (s : PacketizerState) (w : Depacketization) →
+        codec_packetizer_state p.old ≡ Some s →
+        codec_depacketization d.old out.old.items extra.old ≡ Some w →
         IfErr result (λ error. IsLeftOver w
-        (packets_by s (entries_of_call s.format (call_by s mtu payload.now))) error
-        (work_of d.new out.new.items extra.new)) }
+        (state_packets s (call_entries s.format (next_call s mtu payload.now))) error
+        (codec_depacketization d.new out.new.items extra.new)) }
     ensures kept { IsFrontOf out.old.items out.new.items }
 {
-    d.is_receiver();
+    depacketizer_states(d);
     laws::depacketizers_go_on();
     match p.packetize(mtu, payload) {
         Ok(mut made) => {
@@ -92,22 +98,24 @@ fn run_calls(
     extra: &mut CodecExtra,
 ) -> Result<Carried, PacketError>
     ensures each { IfOk result (λ carried. length carried.made ≡ length calls.now) }
-    ensures sent { (s : Sender) → sender_of p.old ≡ Some s →
-        IfOk result (λ carried. AreSent s (calls_by s calls.now) carried.made carried.packets
-        (sender_of p.new)) }
-    ensures taken { (w : Work) → work_of d.old out.old.items extra.old ≡ Some w →
-        IfOk result (λ carried. work_of d.new out.new.items extra.new
-        ≡ Some (work_after w carried.packets)) }
-    ensures stopped { (s : Sender) (w : Work) → sender_of p.old ≡ Some s →
-        work_of d.old out.old.items extra.old ≡ Some w →
-        IfErr result (λ error. IsUnbegun s w error (sender_of p.new)
-        (work_of d.new out.new.items extra.new)
-        ⊎ IsStoppedIn s w (calls_by s calls.now) error (sender_of p.new)
-        (work_of d.new out.new.items extra.new)) }
+    ensures sent { (s : PacketizerState) → codec_packetizer_state p.old ≡ Some s →
+        IfOk result (λ carried. AreSent s (next_calls s calls.now) carried.made carried.packets
+        (codec_packetizer_state p.new)) }
+    ensures taken { (w : Depacketization) → codec_depacketization d.old out.old.items extra.old
+        ≡ Some w →
+        IfOk result (λ carried. codec_depacketization d.new out.new.items extra.new
+        ≡ Some (after_packets w carried.packets)) }
+    ensures stopped { (s : PacketizerState) (w : Depacketization) →
+        codec_packetizer_state p.old ≡ Some s →
+        codec_depacketization d.old out.old.items extra.old ≡ Some w →
+        IfErr result (λ error. IsUnbegun s w error (codec_packetizer_state p.new)
+        (codec_depacketization d.new out.new.items extra.new)
+        ⊎ IsStoppedIn s w (next_calls s calls.now) error (codec_packetizer_state p.new)
+        (codec_depacketization d.new out.new.items extra.new)) }
     ensures kept { IsFrontOf out.old.items out.new.items }
 {
-    p.is_sender();
-    d.is_receiver();
+    packetizer_states(p);
+    depacketizer_states(d);
     laws::packetizers_go_on();
     laws::depacketizers_go_on();
     let mut packets = Vec::new(alloc);
@@ -144,66 +152,73 @@ pub fn carry(
     out: &mut Vec<u8>,
     extra: &mut CodecExtra,
 ) -> Result<Carried, PacketError>
-    // What is made, whatever waited and wherever the counter stood: one mark a call, true for each
-    // without effect; the packets of the plan of the sets that waited and the made calls' units,
-    // numbered on; each within its call's limit; and what waits afterwards.
+    // What is made, whatever waited and whatever the next decoding order number was: one mark a
+    // call, true for each without effect; the packets of the plan of the sets that waited and the
+    // made calls' units, numbered on; each within its call's limit; and what waits afterwards.
     ensures each { IfOk result (λ carried. length carried.made ≡ length calls.now) }
-    ensures made { (s : Sender) → sender_of p.old ≡ Some s →
-        IfOk result (λ carried. AreMade s.format carried.made (calls_by s calls.now)) }
-    ensures packets { (s : Sender) → sender_of p.old ≡ Some s →
+    ensures made { (s : PacketizerState) → codec_packetizer_state p.old ≡ Some s →
+        IfOk result (λ carried. AreMade s.format carried.made (next_calls s calls.now)) }
+    ensures packets { (s : PacketizerState) → codec_packetizer_state p.old ≡ Some s →
         IfOk result (λ carried. carried.packets
-        ≡ packets_by s (entries_made s.format carried.made (calls_by s calls.now))) }
-    ensures within { (s : Sender) → sender_of p.old ≡ Some s →
-        IfOk result (λ carried. AreWithinLimits s (kept carried.made (calls_by s calls.now))) }
-    ensures waits { (s : Sender) → sender_of p.old ≡ Some s →
-        IfOk result (λ carried. sender_of p.new
-        ≡ Some (after s (entries_made s.format carried.made (calls_by s calls.now)))) }
+        ≡ state_packets s (made_entries s.format carried.made (next_calls s calls.now))) }
+    ensures within { (s : PacketizerState) → codec_packetizer_state p.old ≡ Some s →
+        IfOk result (λ carried. AreWithinLimits s (keep carried.made (next_calls s calls.now))) }
+    ensures waits { (s : PacketizerState) → codec_packetizer_state p.old ≡ Some s →
+        IfOk result (λ carried. codec_packetizer_state p.new
+        ≡ Some (after_entries s (made_entries s.format carried.made (next_calls s calls.now)))) }
 
     // A unit that is fragmented takes the fewest fragments that any rival could.
-    ensures fewest { (s : Sender) → sender_of p.old ≡ Some s → TakesFewestFragments s.format }
+    ensures fewest { (s : PacketizerState) → codec_packetizer_state p.old ≡ Some s →
+        TakesFewestFragments s.format }
 
     // Where packets can carry each unit sent, whatever run was open: what is sent is written, and
     // nothing else; its numbers are in order; its key units are detected.
-    ensures whole { (s : Sender) (r : Receiver) → sender_of p.old ≡ Some s →
-        receiver_of d.old ≡ Some r → r.format ≡ s.format →
-        IfOk result (λ carried. AreCarried s.format (sent_of s carried.made (calls_by s calls.now)) →
-        AreWritten (at_work r out.old.items extra.old)
-        (sent_of s carried.made (calls_by s calls.now)) out.new.items extra.new) }
-    ensures numbers { (s : Sender) → sender_of p.old ≡ Some s →
-        IfOk result (λ carried. AreCarried s.format (sent_of s carried.made (calls_by s calls.now)) →
-        NumbersInOrder s.format s.counter
-        (planned s (entries_made s.format carried.made (calls_by s calls.now)))) }
-    ensures detected { (s : Sender) → sender_of p.old ≡ Some s →
-        IfOk result (λ carried. AreCarried s.format (sent_of s carried.made (calls_by s calls.now)) →
-        AreDetected s.format s.counter
-        (planned s (entries_made s.format carried.made (calls_by s calls.now)))) }
+    ensures whole { (s : PacketizerState) (r : DepacketizerState) →
+        codec_packetizer_state p.old ≡ Some s →
+        codec_depacketizer_state d.old ≡ Some r → r.format ≡ s.format →
+        IfOk result (λ carried. AreCarried s.format
+        (made_units s carried.made (next_calls s calls.now)) →
+        AreWritten (depacketization r out.old.items extra.old)
+        (made_units s carried.made (next_calls s calls.now)) out.new.items extra.new) }
+    ensures dons { (s : PacketizerState) → codec_packetizer_state p.old ≡ Some s →
+        IfOk result (λ carried. AreCarried s.format
+        (made_units s carried.made (next_calls s calls.now)) →
+        DonsInOrder s.format s.next_don
+        (state_plan s (made_entries s.format carried.made (next_calls s calls.now)))) }
+    ensures detected { (s : PacketizerState) → codec_packetizer_state p.old ≡ Some s →
+        IfOk result (λ carried. AreCarried s.format
+        (made_units s carried.made (next_calls s calls.now)) →
+        AreDetected s.format s.next_don
+        (state_plan s (made_entries s.format carried.made (next_calls s calls.now)))) }
 
     // Whatever the packets are: all of them were taken; where no run was open what is received of
     // them is written.
-    ensures taken { (r : Receiver) → receiver_of d.old ≡ Some r →
-        IfOk result (λ carried. work_of d.new out.new.items extra.new
-        ≡ Some (work_after (at_work r out.old.items extra.old) carried.packets)) }
-    ensures any { (r : Receiver) → receiver_of d.old ≡ Some r → r.run ≡ None →
-        IfOk result (λ carried. AreWritten (at_work r out.old.items extra.old)
+    ensures taken { (r : DepacketizerState) → codec_depacketizer_state d.old ≡ Some r →
+        IfOk result (λ carried. codec_depacketization d.new out.new.items extra.new
+        ≡ Some (after_packets (depacketization r out.old.items extra.old) carried.packets)) }
+    ensures any { (r : DepacketizerState) → codec_depacketizer_state d.old ≡ Some r → r.run ≡ None →
+        IfOk result (λ carried. AreWritten (depacketization r out.old.items extra.old)
         (received (map r.format.read carried.packets)) out.new.items extra.new) }
 
     // After a refusal: what a front of the packets wrote, in which call it stopped, and why.
-    ensures stopped { (s : Sender) (r : Receiver) → sender_of p.old ≡ Some s →
-        receiver_of d.old ≡ Some r →
-        IfErr result (λ error. IsStopped s (at_work r out.old.items extra.old)
-        (calls_by s calls.now) error (sender_of p.new)
-        (work_of d.new out.new.items extra.new)) }
+    ensures stopped { (s : PacketizerState) (r : DepacketizerState) →
+        codec_packetizer_state p.old ≡ Some s →
+        codec_depacketizer_state d.old ≡ Some r →
+        IfErr result (λ error. IsStopped s (depacketization r out.old.items extra.old)
+        (next_calls s calls.now) error (codec_packetizer_state p.new)
+        (codec_depacketization d.new out.new.items extra.new)) }
     ensures kept { IsFrontOf out.old.items out.new.items }
 
     // The headline, for a fresh pair.
-    ensures headline { (s : Sender) (r : Receiver) → sender_of p.old ≡ Some s →
-        receiver_of d.old ≡ Some r → IsFresh s → r.run ≡ None → r.format ≡ s.format →
+    ensures headline { (s : PacketizerState) (r : DepacketizerState) →
+        codec_packetizer_state p.old ≡ Some s →
+        codec_depacketizer_state d.old ≡ Some r → IsFresh s → r.run ≡ None → r.format ≡ s.format →
         extra.old ≡ extras.None →
-        IfOk result (λ carried. AreCarriedWhole s (at_work r out.old.items extra.old)
-        (kept carried.made (calls_by s calls.now)) carried.packets out.new.items extra.new) }
+        IfOk result (λ carried. AreCarriedWhole s (depacketization r out.old.items extra.old)
+        (keep carried.made (next_calls s calls.now)) carried.packets out.new.items extra.new) }
 {
-    p.is_sender();
-    d.is_receiver();
+    packetizer_states(p);
+    depacketizer_states(d);
     laws::packetizers_go_on();
     laws::depacketizers_go_on();
     laws::what_calls_send_is_carried();

@@ -2,13 +2,15 @@
 
 ghost use Rattle.std.specs.Prelude.{◌≡◌, IfOk, OnErr, Err, IsErr, All, length, vec_len, Some, None};
 ghost use Rattle.h26x_core.specs.Front.{IsFrontOf};
-ghost use Rattle.h26x_core.specs.Receiver.{Receiver, AreAllTaken, accepted_of, at_work};
+ghost use Rattle.h26x_model.specs.Receive.DepacketizerState.{DepacketizerState, AreAllTaken, accepted_packets, depacketization};
 ghost use Rattle.h26x_payload.specs.Sending.{contents};
-ghost use Rattle.h26x_codec.specs.Codec.{receiver_of, work_of};
+ghost use Rattle.h26x_codec.specs.Codec.{codec_depacketizer_state, codec_depacketization};
 ghost use Rattle.h26x_codec.specs.Taking.{AreReceivedAs, LossIsWithin};
 
 use crate::depacketizer::CodecDepacketizer;
-use h26x_core::{CodecExtra, Depacketizer, PacketError, laws};
+use crate::laws::depacketizer_states;
+use h26x_core::{CodecExtra, Depacketizer, PacketError};
+use h26x_model::laws;
 use std::alloc::Global;
 
 /// Gives every packet to a depacketizer, in order, and answers what became of each. One that is
@@ -32,19 +34,20 @@ pub fn take_all(
 
     // From any open run: the outcome of each by what those accepted before it left; what stands
     // after the accepted ones.
-    ensures taken { (r : Receiver) → receiver_of d.old ≡ Some r →
-        IfOk result (λ outcomes. AreAllTaken (at_work r out.old.items extra.old)
-        (contents packets.now) outcomes.items (work_of d.new out.new.items extra.new)) }
+    ensures taken { (r : DepacketizerState) → codec_depacketizer_state d.old ≡ Some r →
+        IfOk result (λ outcomes. AreAllTaken (depacketization r out.old.items extra.old)
+        (contents packets.now) outcomes.items (codec_depacketization d.new out.new.items extra.new)) }
 
     // Where no run was open, what is received of the accepted ones is written.
-    ensures received { (r : Receiver) → receiver_of d.old ≡ Some r → r.run ≡ None →
-        IfOk result (λ outcomes. AreReceivedAs (at_work r out.old.items extra.old)
-        (accepted_of (contents packets.now) outcomes.items) out.new.items extra.new) }
+    ensures received { (r : DepacketizerState) → codec_depacketizer_state d.old ≡ Some r →
+        r.run ≡ None →
+        IfOk result (λ outcomes. AreReceivedAs (depacketization r out.old.items extra.old)
+        (accepted_packets (contents packets.now) outcomes.items) out.new.items extra.new) }
 
     // Where the accepted ones are some of what calls send, a lost one hurts no item but its own.
-    ensures loss { (r : Receiver) → receiver_of d.old ≡ Some r →
-        IfOk result (λ outcomes. LossIsWithin (at_work r out.old.items extra.old)
-        (accepted_of (contents packets.now) outcomes.items) out.new.items extra.new) }
+    ensures loss { (r : DepacketizerState) → codec_depacketizer_state d.old ≡ Some r →
+        IfOk result (λ outcomes. LossIsWithin (depacketization r out.old.items extra.old)
+        (accepted_packets (contents packets.now) outcomes.items) out.new.items extra.new) }
 
     // Bytes that stood in `out` stay, and where all are refused all is as it was, `out` and the extra
     // of a depacketizer in a box too.
@@ -53,7 +56,7 @@ pub fn take_all(
         out.new.items ≡ out.old.items) }
     ensures refused_extra { IfOk result (λ outcomes. All (λ o. IsErr o) outcomes.items →
         extra.new ≡ extra.old) }
-    ensures refused { (r : Receiver) → receiver_of d.old ≡ Some r →
+    ensures refused { (r : DepacketizerState) → codec_depacketizer_state d.old ≡ Some r →
         IfOk result (λ outcomes. All (λ o. IsErr o) outcomes.items → d.new ≡ d.old) }
 
     // Without room for the outcomes nothing was taken.
@@ -62,7 +65,7 @@ pub fn take_all(
     ensures left_out { OnErr result (out.new ≡ out.old) }
     ensures left_extra { OnErr result (extra.new ≡ extra.old) }
 {
-    d.is_receiver();
+    depacketizer_states(d);
     laws::depacketizers_go_on();
     laws::received_by_places();
     laws::what_is_left_is_brought();

@@ -1,4 +1,4 @@
--- The room that units may take when packets are written out (the crate's rule).
+-- The room that units may take when packets are written out (str0m's rule).
 use Rattle.std.specs.Prelude.{ℕ, ◌+◌, ◌-◌, ◌*◌, ◌/◌, ◌^◌, min}
 
 -- the bytes of the packets, four more, and four for each whole 1200 of them; a usize at most

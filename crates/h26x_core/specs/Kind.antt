@@ -1,4 +1,4 @@
--- What a NAL unit is to a packetizer (the crate's rule).
+-- What a NAL unit is to a packetizer (str0m's rule).
 use Rattle.std.specs.Prelude.{Bool, true, false}
 
 -- Skipped units are not sent. Parameter sets wait for the next other unit. Every other unit is sent

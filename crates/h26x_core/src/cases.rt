@@ -1,36 +1,9 @@
 //! Worked cases of definitions for every payload format. Each is the contract of a function
 //! without a result.
 
-ghost use Rattle.std.specs.Prelude.{◌≡◌, ℕ, ◌≤◌, true, false, List, [], ◌∷◌, map, length, Some, None, Ok, Err};
+ghost use Rattle.std.specs.Prelude.{[], ◌∷◌, length};
 ghost use Rattle.h26x_core.specs.Mark.{IsMark};
 ghost use Rattle.h26x_core.specs.Pieces.{ArePieces, HasNoPiece};
-ghost use Rattle.h26x_core.specs.Reading.{Single, Aggregate, Fragment, Paci, Refused};
-ghost use Rattle.h26x_core.specs.Format.{Format};
-ghost use Rattle.h26x_core.specs.Kind.{Skipped, Vps, Sps, Pps, Other};
-ghost use Rattle.h26x_core.specs.Sender.{is_skipped_kind};
-ghost use Rattle.h26x_core.specs.Waits.{entries_at};
-ghost use Rattle.h26x_core.specs.Again.{NothingDropped};
-ghost use Rattle.h26x_core.specs.Rival.{IsRival};
-ghost use Rattle.h26x_core.specs.Received.{IsOpenRun};
-ghost use Rattle.h26x_core.specs.Run.{IsRun, AreReceived};
-ghost use Rattle.h26x_core.specs.Outcome.{is_startless, IsOutcomeWith};
-ghost use Rattle.h26x_core.specs.declared.error.PacketError.TheVariants.{AvcUnitTooLong, ErrShortPacket, OutOfMemory};
-
-/// Where no run is open, a fragment that doesn't start has none to add to, whether it ends or not.
-pub fn fragments_without_a_start()
-    ensures none_open { map (is_startless None) (
-        Fragment false false (0x65 ∷ []) None (0x01 ∷ []) ∷
-        Fragment false true (0x65 ∷ []) None (0x01 ∷ []) ∷
-        Fragment true false (0x65 ∷ []) None (0x01 ∷ []) ∷
-        Fragment true true (0x65 ∷ []) None (0x01 ∷ []) ∷
-        Single (0x65 ∷ []) None ∷
-        Refused ErrShortPacket ∷ [])
-        ≡ true ∷ true ∷ false ∷ false ∷ false ∷ false ∷ [] }
-    ensures open { map (is_startless (Some [])) (
-        Fragment false false (0x65 ∷ []) None (0x01 ∷ []) ∷
-        Fragment false true (0x65 ∷ []) None (0x01 ∷ []) ∷ [])
-        ≡ false ∷ false ∷ [] }
-{}
 
 /// A mark is the 01 of `00 00 01`, at the beginning of bytes and behind zeros.
 pub fn marks()
@@ -51,85 +24,4 @@ pub fn pieces()
     ensures lone_byte { HasNoPiece (0x00 ∷ []) }
     ensures past_the_end { HasNoPiece (0x00 ∷ 0x02 ∷ 0x67 ∷ []) }
     ensures empty_piece { HasNoPiece (0x00 ∷ 0x00 ∷ []) → ⊥ }
-{}
-
-/// A packet that is refused has its refusal; every other one is accepted, or memory lacks, but for
-/// a unit in AVC form that is too long.
-pub fn outcomes()
-    ensures refused { IsOutcomeWith false None (Refused ErrShortPacket) (Err ErrShortPacket) }
-    ensures accepted { IsOutcomeWith true None (Single (0x65 ∷ []) None) (Ok tt) }
-    ensures no_memory { IsOutcomeWith true None (Single (0x65 ∷ []) None) (Err OutOfMemory) }
-    ensures no_refusal { IsOutcomeWith true None (Single (0x65 ∷ []) None)
-        (Err ErrShortPacket) → ⊥ }
-    ensures too_long { (unit : List ℕ) → 4294967296 ≤ length unit →
-        IsOutcomeWith true None (Single unit None) (Err AvcUnitTooLong) }
-    ensures long { (unit : List ℕ) → length unit ≡ 4294967295 →
-        IsOutcomeWith true None (Single unit None) (Ok tt) }
-    ensures with_start_codes { (unit : List ℕ) →
-        IsOutcomeWith false None (Single unit None) (Ok tt) }
-{}
-
-/// The open run is that of the latest start, through other packets; a start that ends opens none.
-pub fn open_runs()
-    ensures runs { IsOpenRun (
-        Fragment false false (0x65 ∷ []) None (0x03 ∷ []) ∷
-        Single (0x61 ∷ []) None ∷
-        Fragment true false (0x65 ∷ []) None (0x02 ∷ []) ∷
-        Fragment true false (0x65 ∷ []) None (0x01 ∷ []) ∷ []) (0x02 ∷ 0x03 ∷ []) }
-    ensures no_data { IsOpenRun (Fragment true false (0x65 ∷ []) None [] ∷ []) [] }
-    ensures ended { (run : List ℕ) →
-        IsOpenRun (Fragment true true (0x65 ∷ []) None (0x01 ∷ []) ∷ []) run → ⊥ }
-{}
-
-/// A run goes from the latest start to an end, through other packets, and may be one fragment.
-pub fn runs()
-    ensures three { IsRun (
-        Fragment false true (0x65 ∷ []) None (0x01 ∷ []) ∷
-        Fragment true false (0x65 ∷ []) None (0x02 ∷ []) ∷
-        Fragment true false (0x65 ∷ []) None (0x03 ∷ []) ∷
-        Single (0x61 ∷ []) None ∷
-        Fragment false false (0x65 ∷ []) None (0x04 ∷ []) ∷
-        Fragment false true (0x65 ∷ []) None (0x05 ∷ []) ∷ []) 2 5 }
-    ensures not_latest { IsRun (
-        Fragment true false (0x65 ∷ []) None (0x02 ∷ []) ∷
-        Fragment true false (0x65 ∷ []) None (0x03 ∷ []) ∷
-        Fragment false true (0x65 ∷ []) None (0x05 ∷ []) ∷ []) 0 2 → ⊥ }
-    ensures one { IsRun (Fragment true true (0x65 ∷ []) None (0x01 ∷ []) ∷ []) 0 0 }
-{}
-
-/// What is received, by places: units alone and in aggregates, units of runs, nothing of a fragment
-/// without its start and of a refused packet.
-pub fn received_units()
-    ensures { AreReceived (
-        Fragment false true (0x65 ∷ []) None (0x01 ∷ []) ∷
-        Fragment true false (0x65 ∷ []) None (0x02 ∷ []) ∷
-        Aggregate ((0x67 ∷ [], None) ∷ (0x68 ∷ [], None) ∷ []) ∷
-        Refused ErrShortPacket ∷
-        Fragment false true (0x61 ∷ []) None (0x03 ∷ []) ∷
-        Paci (0x65 ∷ []) 0 [] (0x04 ∷ []) ∷
-        Single (0x66 ∷ []) None ∷ [])
-        ((0x67 ∷ []) ∷ (0x68 ∷ []) ∷ (0x61 ∷ 0x02 ∷ 0x03 ∷ []) ∷
-        (0x65 ∷ 0x04 ∷ []) ∷ (0x66 ∷ []) ∷ []) }
-{}
-
-/// A start and an end within the limit are a rival, where their data joined are the bytes.
-pub fn a_rival_of_two()
-    ensures { (f : Format) → f.read (0x01 ∷ []) ≡ Fragment true false [] None (0x0a ∷ []) →
-        f.read (0x02 ∷ []) ≡ Fragment false true [] None (0x0b ∷ []) →
-        IsRival f 1 (0x0a ∷ 0x0b ∷ []) ((0x01 ∷ []) ∷ (0x02 ∷ []) ∷ []) }
-{}
-
-/// Nothing is dropped of a group whose sets fit one packet, and of a unit that fits.
-pub fn nothing_dropped()
-    ensures { (f : Format) →
-        f.kind (0x01 ∷ []) ≡ Sps → f.kind (0x02 ∷ []) ≡ Pps → f.kind (0x03 ∷ []) ≡ Other →
-        f.numbered ≡ false → f.sets_fit 9 ((0x01 ∷ []) ∷ (0x02 ∷ []) ∷ []) ≡ true →
-        NothingDropped f (entries_at 9 (
-        (0x01 ∷ []) ∷ (0x02 ∷ []) ∷ (0x03 ∷ []) ∷ (0x03 ∷ []) ∷ [])) }
-{}
-
-/// Skipped units alone are skipped.
-pub fn skipped_kinds()
-    ensures { map is_skipped_kind (Skipped ∷ Vps ∷ Sps ∷ Pps ∷ Other ∷ [])
-        ≡ true ∷ false ∷ false ∷ false ∷ false ∷ [] }
 {}

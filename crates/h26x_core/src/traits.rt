@@ -21,8 +21,8 @@ pub trait Packetizer: fmt::Debug + Drop {
         ensures refused { OnErr result (meaning self.new ≡ meaning self.old) };
 
     /// Whether the RTP packet with the payload `data` bears the marker bit (RFC 6184, 5.1; RFC
-    /// 7798, 4.1; RFC 9328, 4.1): `last` says that it is the last of its frame, `previous` is the
-    /// payload before it.
+    /// 7798, 4.1; RFC 9328, 4.1): `last` says that it is the last of its access unit, `previous` is
+    /// the payload before it.
     fn is_marker(&mut self, data: &[u8], previous: Option<&[u8]>, last: bool) -> bool
         ensures { meaning self.new ≡ meaning self.old };
 
@@ -65,10 +65,10 @@ pub trait Depacketizer: fmt::Debug + Drop {
         ensures refused_extra { OnErr result (codec_extra.new ≡ codec_extra.old) }
         ensures refused_meaning { OnErr result (meaning self.new ≡ meaning self.old) };
 
-    /// Whether `packet` may be the first of a frame.
+    /// Whether `packet` may be the first of an access unit.
     fn is_partition_head(&self, packet: &[u8]) -> bool;
 
-    /// Whether `packet` is the last of a frame, with the marker bit of its RTP packet given (RFC
-    /// 6184, 5.1; RFC 7798, 4.1; RFC 9328, 4.1).
+    /// Whether `packet` is the last of an access unit, with the marker bit of its RTP packet given
+    /// (RFC 6184, 5.1; RFC 7798, 4.1; RFC 9328, 4.1).
     fn is_partition_tail(&self, marker: bool, packet: &[u8]) -> bool;
 }

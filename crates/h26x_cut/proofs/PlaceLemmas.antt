@@ -5,7 +5,7 @@ use Rattle.std.proofs.lemmas.List.{drop-drop, length-drop, length-take-le}
 use Rattle.h26x_cut.specs.declared.ZeroRule.{ZeroRule}
 use Rattle.h26x_cut.specs.Cutting.{HoldsStartCode, IsNextUnit, cut_of, trimmed, trimmed_but_last, units_of}
 use Rattle.std.specs.Prelude.{filter}
-use Rattle.h26x_core.specs.Text.{is_not_empty}
+use Rattle.h26x_core.specs.ByteStream.{is_not_empty}
 use Rattle.h26x_cut.specs.Slices.{IsFirstCode, units_behind}
 use Rattle.h26x_cut.proofs.CuttingLemmas.{FirstCode, first_code_of, cut_next, cut_none, trims}
 use Rattle.h26x_cut.proofs.SliceLemmas.{more_than_one, units_from}

@@ -6,7 +6,7 @@ use Rattle.std.proofs.lemmas.List.{append-nil, length-drop, drop-drop, get_or-dr
 use Rattle.h26x_cut.specs.declared.ZeroRule.{ZeroRule}
 use Rattle.h26x_cut.specs.Cutting.{begins_code, cut_at, cut_of, trimmed_by, trimmed, without_zeros, without_zero, trimmed_but_last, units_of_pieces, units_of}
 use Rattle.h26x_cut.specs.Slices.{IsFirstCode, units_behind}
-use Rattle.h26x_core.specs.Text.{is_not_empty}
+use Rattle.h26x_core.specs.ByteStream.{is_not_empty}
 use Rattle.h26x_cut.proofs.CuttingLemmas.{begins_with, without_zero_of}
 
 -- where a start code begins stand 00, 00 and 01

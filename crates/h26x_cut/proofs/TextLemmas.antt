@@ -2,7 +2,7 @@
 use Rattle.std.proofs.Common.{◌≡◌, ℕ, true, false, List, [], ◌∷◌, ◌++◌, refl, sym, ap, inr, append_assoc}
 use Rattle.std.proofs.lemmas.List.{append-nil}
 use Rattle.std.specs.List.{AllByRecursion, filter}
-use Rattle.h26x_core.specs.Text.{is_not_empty, annex_b}
+use Rattle.h26x_core.specs.ByteStream.{is_not_empty, annex_b}
 use Rattle.h26x_cut.specs.declared.ZeroRule.{ZeroRule}
 use Rattle.h26x_cut.specs.declared.ZeroRule.TheVariants.{All, AtMostThree}
 use Rattle.h26x_cut.specs.Cutting.{IsCutting, IsStartCode, IsUnit, AreSeparable, AreUnits}

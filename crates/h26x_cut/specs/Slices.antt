@@ -1,6 +1,6 @@
 -- What an iterator over units has left.
 use Rattle.std.specs.Prelude.{◌≡◌, ℕ, ◌+◌, ◌≤◌, List, [], ◌∷◌, length, take, drop, filter, Option, Some, None}
-use Rattle.h26x_core.specs.Text.{is_not_empty}
+use Rattle.h26x_core.specs.ByteStream.{is_not_empty}
 use Rattle.h26x_cut.specs.declared.ZeroRule.{ZeroRule}
 use Rattle.h26x_cut.specs.Cutting.{cut_of, cut_pieces}
 

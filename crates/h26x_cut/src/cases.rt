@@ -48,8 +48,10 @@ pub fn separable_units()
 
 /// Units by their places: from the front, from the end of one, and where none is left.
 pub fn places()
-    ensures first { IsNextUnit (units_of All) (0xbb ∷ 0 ∷ 0 ∷ 1 ∷ 0xaa ∷ 0xcc ∷ 0 ∷ 0 ∷ 0 ∷ 1 ∷ 0xaa ∷ []) 0 4 6 }
-    ensures next { IsNextUnit (units_of All) (0xbb ∷ 0 ∷ 0 ∷ 1 ∷ 0xaa ∷ 0xcc ∷ 0 ∷ 0 ∷ 0 ∷ 1 ∷ 0xaa ∷ []) 6 10 11 }
+    ensures first { IsNextUnit (units_of All) (0xbb ∷ 0 ∷ 0 ∷ 1 ∷ 0xaa ∷ 0xcc ∷ 0 ∷ 0 ∷ 0 ∷ 1 ∷
+        0xaa ∷ []) 0 4 6 }
+    ensures next { IsNextUnit (units_of All) (0xbb ∷ 0 ∷ 0 ∷ 1 ∷ 0xaa ∷ 0xcc ∷ 0 ∷ 0 ∷ 0 ∷ 1 ∷
+        0xaa ∷ []) 6 10 11 }
     ensures zero { IsNextUnit (units_of AtMostThree) (0 ∷ 0 ∷ 1 ∷ 0xaa ∷ 0 ∷ 0 ∷ 0 ∷ 0 ∷ 1 ∷ []) 0 3 5 }
     ensures one { IsNextUnit (units_of All) (0xaa ∷ 0 ∷ []) 0 0 2 }
     ensures other { IsNextUnit (units_of All) (0 ∷ 0 ∷ 1 ∷ 0xaa ∷ 0 ∷ 0 ∷ 1 ∷ 0xaa ∷ []) 0 7 8 → ⊥ }

@@ -3,7 +3,7 @@
 ghost use Rattle.std.specs.Prelude.{◌≡◌, ℕ, List};
 ghost use Rattle.std.specs.List.{AllByRecursion};
 ghost use Rattle.h26x_core.specs.Mark.{IsMark};
-ghost use Rattle.h26x_core.specs.Text.{annex_b};
+ghost use Rattle.h26x_core.specs.ByteStream.{annex_b};
 ghost use Rattle.h26x_cut.specs.Cutting.{EndsCodeAt, IsCutting, cut_pieces, AreUnits, IsUnit, AreSeparable, units_of};
 
 use crate::ZeroRule;

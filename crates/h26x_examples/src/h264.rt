@@ -1,4 +1,4 @@
-//! The examples of `h264_payload`'s documents; that of both ends is the one of `first`.
+//! The examples of `h264_payload`'s documents; that of both together is the one of `first`.
 
 use crate::stand_ins::send;
 use h26x_core::{CodecExtra, Depacketizer, PacketError, Packetizer};

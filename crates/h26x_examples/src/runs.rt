@@ -1,4 +1,5 @@
-//! The examples of `h26x_codec`'s documents: the ends of any codec, and whole runs through them.
+//! The examples of `h26x_codec`'s documents: packetizers and depacketizers of any codec, and whole
+//! runs through both.
 
 use crate::stand_ins::send;
 use h26x_codec::{Codec, CodecDepacketizer, CodecPacketizer, Repeated, again, carry, take_all};

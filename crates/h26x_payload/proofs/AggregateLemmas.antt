@@ -3,7 +3,7 @@ use Rattle.std.proofs.Common.{◌≡◌, ℕ, Bool, true, false, List, [], ◌�
 use Rattle.std.specs.Prelude.{take_while}
 use Rattle.std.specs.List.{list_any}
 use Rattle.std.proofs.lemmas.List.Sums.{take_while-cons}
-use Rattle.h26x_core.specs.Reading.{unnumbered}
+use Rattle.h26x_model.specs.Payload.Reading.{without_don}
 use Rattle.h26x_core.specs.Pieces.{Pieces, with_piece}
 
 -- a long unit is the first that is looked at
@@ -26,6 +26,6 @@ found_first has long unit pieces behind answer same is this h =
     sym (ap (list_any has) (first_kept long unit pieces behind same is) ∙ found) ∙ h
 
 -- numbers put beside units and left out again
-pub units_only : (units : List (List ℕ)) → map (λ (u : List ℕ × Option ℕ). u.0) (map unnumbered units) ≡ units
+pub units_only : (units : List (List ℕ)) → map (λ (u : List ℕ × Option ℕ). u.0) (map without_don units) ≡ units
 units_only [] = refl
 units_only (unit ∷ units) = ap (λ (x : List (List ℕ)). unit ∷ x) (units_only units)

@@ -1,12 +1,12 @@
 //! What sets one codec's packetizer apart.
 
 ghost use Rattle.std.specs.Prelude.{◌≡◌, ◌≤◌, ◌++◌, ℕ, Bool, true, List, length, IfOk, OnOk};
-ghost use Rattle.h26x_core.specs.Format.{Format};
-ghost use Rattle.h26x_core.specs.Facts.{FitsLimits, NumbersAreTwoBytes};
+ghost use Rattle.h26x_model.specs.Payload.Format.{Format};
+ghost use Rattle.h26x_model.specs.Payload.Facts.{FitsLimits, DonlHasTwoBytes};
 ghost use Rattle.h26x_core.specs.Kind.{is_other};
-ghost use Rattle.h26x_payload.specs.Sending.{unit_kind, sets_in};
+ghost use Rattle.h26x_payload.specs.Sending.{unit_kind, sets_list};
 
-use crate::sets::Sets;
+use crate::send::sets::Sets;
 use h26x_core::CodecExtra;
 use h26x_cut::UnitSlices;
 use std::alloc::{AllocError, Global};
@@ -44,16 +44,16 @@ pub trait PayloadFormat: Copy + fmt::Debug {
         ensures short { result ≤ 2 };
 
     /// Whether packets bear decoding order numbers.
-    fn is_numbered(self) -> bool
-        ensures { result ≡ (format self).numbered };
+    fn has_donl(self) -> bool
+        ensures { result ≡ (format self).has_donl };
 
     /// The `mtu` under which a call has no effect.
     fn least_mtu(self) -> usize
         ensures { result ≡ (format self).least_mtu };
 
     /// Whether a packetizer's largest packet size limits its calls too.
-    fn is_sized(self) -> bool
-        ensures { result ≡ (format self).sized };
+    fn has_max_packet_size(self) -> bool
+        ensures { result ≡ (format self).has_max_packet_size };
 
     /// What a unit is.
     fn kind_of(self, unit: &[u8]) -> UnitKind
@@ -65,19 +65,19 @@ pub trait PayloadFormat: Copy + fmt::Debug {
 
     /// Whether sets fit one packet.
     fn sets_fit(self, limit: usize, sets: Sets<'_>) -> bool
-        ensures { result ≡ (format self).sets_fit limit (sets_in sets.entry) };
+        ensures { result ≡ (format self).sets_fit limit (sets_list sets.entry) };
 
     /// The packet of sets before a unit.
     fn sets_packet(
         self,
         alloc: Global,
-        number: u16,
+        don: u16,
         sets: Sets<'_>,
         unit: &[u8],
     ) -> Result<Vec<u8>, AllocError>
         requires whole { (format self).header_len ≤ length unit.now }
-        ensures { IfOk result (λ packet. packet.items ≡ (format self).sets_packet number
-            (sets_in sets.entry) unit.now) };
+        ensures { IfOk result (λ packet. packet.items ≡ (format self).sets_packet don
+            (sets_list sets.entry) unit.now) };
 
     /// Appends the header of a fragment of this unit.
     fn push_fragment_header(
@@ -107,7 +107,7 @@ pub trait PayloadFormat: Copy + fmt::Debug {
     ghost fits: { (codec : Self) → FitsLimits (format codec) };
 
     // Two bytes hold a number.
-    ghost numbers: { (codec : Self) → NumbersAreTwoBytes (format codec) };
+    ghost dons: { (codec : Self) → DonlHasTwoBytes (format codec) };
 
     // An other unit has a whole header.
     ghost headed: { (codec : Self) (unit : List ℕ) → is_other ((format codec).kind unit) ≡ true →
@@ -128,6 +128,6 @@ pub trait DonlFormat: PayloadFormat {
     ghost with_donl_of: { Self → Bool → Self };
 
     /// The same setting, with or without numbers.
-    fn with_donl(self, numbered: bool) -> Self
-        ensures { result ≡ with_donl_of self numbered };
+    fn with_donl(self, has_donl: bool) -> Self
+        ensures { result ≡ with_donl_of self has_donl };
 }

@@ -1,9 +1,9 @@
-//! The program: reads lines and prints the answers, as `h26x_lines` does them.
+//! The program: reads lines and prints the answers, as `h26x_session` does them.
 #![tactic(auto)]
 
 pub mod plain;
 
-use h26x_lines::run;
+use h26x_session::run;
 use std::io;
 use std::process::ExitCode;
 

@@ -41,7 +41,7 @@ impl Packetizer for PlainPacketizer {
         Ok(packets)
     }
 
-    /// The last packet of a frame bears the marker bit.
+    /// The last packet of an access unit bears the marker bit.
     fn is_marker(&mut self, _data: &[u8], _previous: Option<&[u8]>, last: bool) -> bool
         ensures is { result ≡ last }
         ensures kept { self.new ≡ self.old }
@@ -100,14 +100,14 @@ impl Depacketizer for PlainDepacketizer {
         Ok(())
     }
 
-    /// Every packet may be the first of a frame.
+    /// Every packet may be the first of an access unit.
     fn is_partition_head(&self, _packet: &[u8]) -> bool
         ensures { result ≡ true }
     {
         true
     }
 
-    /// The packet with the marker bit is the last of a frame.
+    /// The packet with the marker bit is the last of an access unit.
     fn is_partition_tail(&self, marker: bool, _packet: &[u8]) -> bool
         ensures { result ≡ marker }
     {

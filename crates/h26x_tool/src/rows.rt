@@ -115,8 +115,8 @@ fn told(codec: Codec, is_keyframe: bool) -> CodecExtra {
     }
 }
 
-/// Carries calls through fresh ends of H.264, whose units are written in AVC form or behind start
-/// codes. What is written goes behind `out`.
+/// Carries calls through a fresh packetizer and depacketizer of H.264, whose units are written in
+/// AVC form or behind start codes. What is written goes behind `out`.
 fn carry_fresh(
     alloc: Global,
     is_avc: bool,

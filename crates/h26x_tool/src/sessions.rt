@@ -1,7 +1,7 @@
 //! Sessions: lines, and the answers to them.
 
 use crate::rows::same;
-use h26x_lines::{RunError, run};
+use h26x_session::{RunError, run};
 use std::alloc::Global;
 use std::process::Abort;
 use std::test::Fail;

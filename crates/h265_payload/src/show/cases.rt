@@ -12,7 +12,7 @@ pub fn packets_of_one_unit_shown()
       payload = 0xaa ∷ [];
       has_donl = false;
     }) }
-    ensures numbered { shown true (0x02 ∷ 0x01 ∷ 0x00 ∷ 0x05 ∷ 0xaa ∷ [])
+    ensures has_donl { shown true (0x02 ∷ 0x01 ∷ 0x00 ∷ 0x05 ∷ 0xaa ∷ [])
         ≡ p.H265SingleNALUnitPacket (record {
           header = 0x0201;
           donl = Some 5;
@@ -51,13 +51,13 @@ pub fn paci_packets_shown()
 /// Aggregates: with numbers, which go round; without, and with a rest that is no whole unit; and of
 /// units without a byte.
 pub fn aggregates_shown()
-    ensures numbered { aggregate_shown true (0xff ∷ 0xff ∷ 0x00 ∷ 0x02 ∷ 0x02 ∷ 0x01 ∷ 0x01 ∷
+    ensures has_donl { aggregate_shown true (0xff ∷ 0xff ∷ 0x00 ∷ 0x02 ∷ 0x02 ∷ 0x01 ∷ 0x01 ∷
         0x00 ∷ 0x03 ∷ 0x26 ∷ 0x01 ∷ 0xaf ∷ []) ≡ record {
           first = Some (record { donl = Some 65535; nal_unit = 0x02 ∷ 0x01 ∷ [] });
           others = record { dond = Some 1; nal_unit = 0x26 ∷ 0x01 ∷ 0xaf ∷ [] } ∷ [];
           has_donl = true;
         } }
-    ensures numbers { units_numbered (aggregate_shown true (0xff ∷ 0xff ∷ 0x00 ∷ 0x02 ∷ 0x02 ∷
+    ensures dons { units_numbered (aggregate_shown true (0xff ∷ 0xff ∷ 0x00 ∷ 0x02 ∷ 0x02 ∷
         0x01 ∷ 0x01 ∷ 0x00 ∷ 0x03 ∷ 0x26 ∷ 0x01 ∷ 0xaf ∷ []))
         ≡ (0x02 ∷ 0x01 ∷ [], Some 65535) ∷ (0x26 ∷ 0x01 ∷ 0xaf ∷ [], Some 1) ∷ [] }
     ensures rest { aggregate_shown false (0x00 ∷ 0x03 ∷ 0x02 ∷ 0x01 ∷ 0xaa ∷ 0x00 ∷ 0x02 ∷ 0x02 ∷

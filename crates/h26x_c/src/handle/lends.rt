@@ -5,14 +5,14 @@ ghost use types.Logic.{sem};
 ghost use Rattle.h26x_c.specs.Lent.{LendsEnd};
 
 use super::Handle;
-use h26x_ends::end::End;
+use h26x_handles::endpoint::Endpoint;
 
 impl Handle {
     /// What it holds.
-    pub fn get_mut(&mut self) -> &mut End
+    pub fn get_mut(&mut self) -> &mut Endpoint
         ensures* writes_back { sem 𝓛 (LendsEnd self.entry result) }
         ensures value { result.now ≡ self.old.value }
     {
-        unsafe { &mut *(self.ptr as *mut End) }
+        unsafe { &mut *(self.ptr as *mut Endpoint) }
     }
 }

@@ -82,7 +82,7 @@ fn a_refusal_leaves_what_was_written_and_told(rt: HostRuntime) -> Result<(), Fai
     Ok(())
 }
 
-/// How much room packets of 2400 bytes may need in an end of this codec.
+/// How much room packets of 2400 bytes may need in one of this codec.
 fn hint(alloc: Global, codec: Codec) -> Option<usize> {
     CodecDepacketizer::new(alloc, codec).out_size_hint(2400)
 }
@@ -171,8 +171,8 @@ static HEADS_AND_TAILS: [(&[u8], [[bool; 3]; 3]); 6] = [
     ),
 ];
 
-/// What an end of this codec answers of a packet: whether it is a head, and whether it is a tail
-/// without the marker bit and with it.
+/// What one of this codec answers of a packet: whether it is a head, and whether it is a
+/// tail without the marker bit and with it.
 fn head_and_tails(alloc: Global, codec: Codec, packet: &[u8]) -> [bool; 3] {
     let depacketizer = CodecDepacketizer::new(alloc, codec);
     [
@@ -182,7 +182,7 @@ fn head_and_tails(alloc: Global, codec: Codec, packet: &[u8]) -> [bool; 3] {
     ]
 }
 
-/// The same of an end of each codec.
+/// The same of one of each codec.
 fn by_codec(alloc: Global, packet: &[u8]) -> [[bool; 3]; 3] {
     [
         head_and_tails(alloc, Codec::H264, packet),

@@ -16,19 +16,15 @@ const NO_KEY: CodecExtra = CodecExtra::H265(H265CodecExtra { is_keyframe: false 
 const A_KEY: CodecExtra = CodecExtra::H265(H265CodecExtra { is_keyframe: true });
 
 /// A depacketizer of packets with numbers, or without.
-fn fresh(alloc: Global, is_numbered: bool) -> H265Depacketizer {
+fn fresh(alloc: Global, has_donl: bool) -> H265Depacketizer {
     let mut depacketizer = H265Depacketizer::new(alloc);
-    depacketizer.with_donl(is_numbered);
+    depacketizer.with_donl(has_donl);
     depacketizer
 }
 
 /// A depacketizer that has taken packets with numbers, or without.
-fn take(
-    alloc: Global,
-    is_numbered: bool,
-    packets: &[&[u8]],
-) -> Result<H265Depacketizer, PacketError> {
-    let mut depacketizer = fresh(alloc, is_numbered);
+fn take(alloc: Global, has_donl: bool, packets: &[&[u8]]) -> Result<H265Depacketizer, PacketError> {
+    let mut depacketizer = fresh(alloc, has_donl);
     let mut out = Vec::new(alloc);
     hand(&mut depacketizer, packets, &mut out, &mut CodecExtra::None)?;
     Ok(depacketizer)
@@ -108,8 +104,8 @@ static ONE_PACKET: [(bool, &[u8], &[u8], CodecExtra); 11] = [
 
 #[test]
 fn one_packet(rt: HostRuntime) -> Result<(), Fail> {
-    for &(is_numbered, packet, want, extra) in &ONE_PACKET {
-        let d = fresh(rt.alloc(), is_numbered);
+    for &(has_donl, packet, want, extra) in &ONE_PACKET {
+        let d = fresh(rt.alloc(), has_donl);
         writes_once(&rt, rt.alloc(), d, &[packet], want, extra)?;
     }
     Ok(())
@@ -163,9 +159,9 @@ static REFUSED: [(bool, &[u8], PacketError); 14] = [
 
 #[test]
 fn refused_packets(rt: HostRuntime) -> Result<(), Fail> {
-    for &(is_numbered, packet, error) in &REFUSED {
-        let d = fresh(rt.alloc(), is_numbered);
-        let before = fresh(rt.alloc(), is_numbered);
+    for &(has_donl, packet, error) in &REFUSED {
+        let d = fresh(rt.alloc(), has_donl);
+        let before = fresh(rt.alloc(), has_donl);
         refuses_once(&rt, rt.alloc(), d, before, packet, error)?;
     }
     Ok(())

@@ -125,16 +125,16 @@ static RUNS: [(bool, &[Call]); 13] = [
 ];
 
 /// A new packetizer, with numbers or without.
-fn fresh(alloc: Global, is_numbered: bool) -> H265Packetizer {
+fn fresh(alloc: Global, has_donl: bool) -> H265Packetizer {
     let mut packetizer = H265Packetizer::new(alloc);
-    packetizer.with_donl(is_numbered);
+    packetizer.with_donl(has_donl);
     packetizer
 }
 
 #[test]
 fn payloads_and_their_packets(rt: HostRuntime) -> Result<(), Fail> {
-    for &(is_numbered, calls) in &RUNS {
-        sends_once(&rt, fresh(rt.alloc(), is_numbered), calls)?;
+    for &(has_donl, calls) in &RUNS {
+        sends_once(&rt, fresh(rt.alloc(), has_donl), calls)?;
     }
     Ok(())
 }
@@ -147,18 +147,22 @@ static COUNTS: [(bool, [usize; 11]); 2] = [
 
 #[test]
 fn packets_by_limit(rt: HostRuntime) -> Result<(), Fail> {
-    for (is_numbered, counts) in &COUNTS {
-        let packetizer = fresh(rt.alloc(), *is_numbered);
+    for (has_donl, counts) in &COUNTS {
+        let packetizer = fresh(rt.alloc(), *has_donl);
         sends_by_limit(&rt, packetizer, &[2, 1, 1, 2, 3, 4, 5, 6], counts)?;
     }
     Ok(())
 }
 
 /// A copy of a packetizer with this largest size, which is 4 or more.
-fn of_size(rt: &impl Abort, alloc: Global, largest: u16) -> Result<H265Packetizer, PacketError> {
-    assert!(rt; largest >= 4);
+fn of_size(
+    rt: &impl Abort,
+    alloc: Global,
+    max_packet_size: u16,
+) -> Result<H265Packetizer, PacketError> {
+    assert!(rt; max_packet_size >= 4);
     let mut packetizer = H265Packetizer::new(alloc);
-    packetizer.with_max_packet_size(largest);
+    packetizer.with_max_packet_size(max_packet_size);
     packetizer.clone()
 }
 
@@ -172,8 +176,8 @@ fn sends_by_size(
     payload: &[u8],
     rows: &[OfSize],
 ) -> Result<(), PacketError> {
-    for &(largest, want) in rows {
-        let mut packetizer = of_size(rt, alloc, largest)?;
+    for &(max_packet_size, want) in rows {
+        let mut packetizer = of_size(rt, alloc, max_packet_size)?;
         sends_fronts(rt, &mut packetizer, 5000, payload, want)?;
     }
     Ok(())

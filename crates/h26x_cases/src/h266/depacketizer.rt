@@ -19,9 +19,9 @@ const A_KEY: CodecExtra = CodecExtra::H266(H266CodecExtra { is_keyframe: true })
 const NO_KEY: CodecExtra = CodecExtra::H266(H266CodecExtra { is_keyframe: false });
 
 /// A depacketizer of packets with numbers, or without.
-fn fresh(alloc: Global, is_numbered: bool) -> H266Depacketizer {
+fn fresh(alloc: Global, has_donl: bool) -> H266Depacketizer {
     let mut depacketizer = H266Depacketizer::new(alloc);
-    depacketizer.with_donl(is_numbered);
+    depacketizer.with_donl(has_donl);
     depacketizer
 }
 
@@ -161,9 +161,9 @@ static REFUSED: [(bool, &[u8], PacketError); 19] = [
 
 #[test]
 fn refused_packets(rt: HostRuntime) -> Result<(), Fail> {
-    for &(is_numbered, packet, error) in &REFUSED {
-        let d = fresh(rt.alloc(), is_numbered);
-        let before = fresh(rt.alloc(), is_numbered);
+    for &(has_donl, packet, error) in &REFUSED {
+        let d = fresh(rt.alloc(), has_donl);
+        let before = fresh(rt.alloc(), has_donl);
         refuses_once(&rt, rt.alloc(), d, before, packet, error)?;
     }
     Ok(())

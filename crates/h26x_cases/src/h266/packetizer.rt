@@ -116,16 +116,16 @@ static RUNS: [(bool, &[Call]); 9] = [
 ];
 
 /// A new packetizer, with numbers or without.
-fn fresh(alloc: Global, is_numbered: bool) -> H266Packetizer {
+fn fresh(alloc: Global, has_donl: bool) -> H266Packetizer {
     let mut packetizer = H266Packetizer::new(alloc);
-    packetizer.with_donl(is_numbered);
+    packetizer.with_donl(has_donl);
     packetizer
 }
 
 #[test]
 fn payloads_and_their_packets(rt: HostRuntime) -> Result<(), Fail> {
-    for &(is_numbered, calls) in &RUNS {
-        sends_once(&rt, fresh(rt.alloc(), is_numbered), calls)?;
+    for &(has_donl, calls) in &RUNS {
+        sends_once(&rt, fresh(rt.alloc(), has_donl), calls)?;
     }
     Ok(())
 }
@@ -138,8 +138,8 @@ static COUNTS: [(bool, [usize; 11]); 2] = [
 
 #[test]
 fn packets_by_limit(rt: HostRuntime) -> Result<(), Fail> {
-    for (is_numbered, counts) in &COUNTS {
-        let packetizer = fresh(rt.alloc(), *is_numbered);
+    for (has_donl, counts) in &COUNTS {
+        let packetizer = fresh(rt.alloc(), *has_donl);
         sends_by_limit(&rt, packetizer, &[0, 9, 1, 2, 3, 4, 5, 6], counts)?;
     }
     Ok(())
@@ -255,10 +255,14 @@ fn long_units(alloc: Global, units: &[(u8, usize)]) -> Result<Vec<u8>, AllocErro
 }
 
 /// A copy of a packetizer with this largest size, which is 4 or more.
-fn of_size(rt: &impl Abort, alloc: Global, largest: u16) -> Result<H266Packetizer, PacketError> {
-    assert!(rt; largest >= 4);
+fn of_size(
+    rt: &impl Abort,
+    alloc: Global,
+    max_packet_size: u16,
+) -> Result<H266Packetizer, PacketError> {
+    assert!(rt; max_packet_size >= 4);
     let mut packetizer = H266Packetizer::new(alloc);
-    packetizer.with_max_packet_size(largest);
+    packetizer.with_max_packet_size(max_packet_size);
     packetizer.clone()
 }
 
@@ -278,8 +282,8 @@ fn sends_long(
 
 #[test]
 fn long_units_and_largest_packet_sizes(rt: HostRuntime) -> Result<(), Fail> {
-    for &(units, largest, mtu, count, first, last) in &LONG_UNITS {
-        let mut packetizer = of_size(&rt, rt.alloc(), largest)?;
+    for &(units, max_packet_size, mtu, count, first, last) in &LONG_UNITS {
+        let mut packetizer = of_size(&rt, rt.alloc(), max_packet_size)?;
         sends_long(
             &rt,
             rt.alloc(),

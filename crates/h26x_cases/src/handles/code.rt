@@ -1,6 +1,6 @@
 use h26x_codec::Codec;
 use h26x_core::{CodecExtra, H264CodecExtra, H265CodecExtra, H266CodecExtra, PacketError};
-use h26x_ends::code::{
+use h26x_handles::code::{
     NOT_OF_THIS_CODEC, Refusal, UNKNOWN_CODEC, code_of, codec_of, codec_wanted, extra_of, number_of,
 };
 use std::test::Fail;

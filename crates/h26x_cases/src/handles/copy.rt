@@ -1,4 +1,4 @@
-use h26x_ends::copy::{copy_packets, copy_where_room};
+use h26x_handles::copy::{copy_packets, copy_where_room};
 use std::alloc::{AllocError, Global};
 use std::test::Fail;
 

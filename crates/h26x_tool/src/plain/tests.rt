@@ -7,8 +7,8 @@ use std::test::Fail;
 
 const PAYLOAD: [u8; 3] = [2, 1, 0xaa];
 
-/// The packets that an end in a box makes of a payload, also when it is set to numbers and to a
-/// size of packets. It has neither.
+/// The packets that one in a box makes of a payload, also when it is set to numbers and to
+/// a size of packets. It has neither.
 fn packets_from_a_box(
     alloc: Global,
     is_set: bool,
@@ -28,7 +28,7 @@ fn text_of<T: fmt::Debug>(alloc: Global, it: &T) -> Result<String, Fail> {
     Ok(format!(in alloc; "{it:?}")?)
 }
 
-/// What an end in a box says of markers, talkspurts and packets that are sent again.
+/// What one in a box says of markers, talkspurts and packets that are sent again.
 fn marks_of_a_box(alloc: Global) -> Result<[bool; 4], Fail> {
     let plain = PlainPacketizer::new(alloc);
     let mut packetizer = CodecPacketizer::Boxed(Box::new(alloc, plain)?);
@@ -73,7 +73,7 @@ fn a_packetizer_in_a_box(rt: HostRuntime) -> Result<(), Fail> {
 
 const TOLD: CodecExtra = CodecExtra::H265(H265CodecExtra { is_keyframe: true });
 
-/// What an end in a box answers to a packet and to an empty one.
+/// What one in a box answers to a packet and to an empty one.
 fn take_in_a_box(
     alloc: Global,
     out: &mut Vec<u8>,
@@ -87,7 +87,7 @@ fn take_in_a_box(
     ])
 }
 
-/// What an end in a box says of heads and tails, and how much it writes of 2400 bytes.
+/// What one in a box says of heads and tails, and how much it writes of 2400 bytes.
 fn places_of_a_box(alloc: Global) -> Result<([bool; 3], Option<usize>), Fail> {
     let plain = PlainDepacketizer::new(alloc);
     let depacketizer = CodecDepacketizer::Boxed(Box::new(alloc, plain)?);
@@ -134,7 +134,7 @@ fn heads_and_tails_of_an_end_in_a_box(rt: HostRuntime) -> Result<(), Fail> {
     Ok(())
 }
 
-/// Carries calls through ends in boxes.
+/// Carries calls through a packetizer and a depacketizer in boxes.
 fn carry_in_boxes(
     alloc: Global,
     calls: &[(usize, Vec<u8>)],

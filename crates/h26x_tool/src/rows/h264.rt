@@ -396,7 +396,7 @@ fn compare_hints(rt: &impl Abort, depacketizer: &H264Depacketizer) {
     }
 }
 
-/// Packets, and whether they may be the first of a frame.
+/// Packets, and whether they may be the first of an access unit.
 const HEADS: [(&[u8], bool); 9] = [
     (&[0x01, 0x00], true),
     (&[0x18, 0x00], true),

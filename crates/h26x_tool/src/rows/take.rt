@@ -141,7 +141,7 @@ fn packets_lost_cut_and_refused(rt: HostRuntime) -> Result<(), Fail> {
     Ok(())
 }
 
-/// Takes packets by an end in a box.
+/// Takes packets by one in a box.
 fn take_in_a_box(alloc: Global, packets: &[Vec<u8>]) -> Result<Taken, Fail> {
     let plain = PlainDepacketizer::new(alloc);
     let mut depacketizer = CodecDepacketizer::Boxed(Box::new(alloc, plain)?);

@@ -1,7 +1,7 @@
 use crate::rows::same;
 use h26x_core::PacketError;
-use h26x_lines::RunError;
-use h26x_lines::answers::Answers;
+use h26x_session::RunError;
+use h26x_session::answers::Answers;
 use std::alloc::{AllocError, Global};
 use std::test::Fail;
 

@@ -1,6 +1,6 @@
 use crate::rows::same;
 use h26x_core::PacketError;
-use h26x_lines::{RunError, run};
+use h26x_session::{RunError, run};
 use std::alloc::Global;
 use std::io::{Read, Write};
 use std::process::Abort;

@@ -1,8 +1,8 @@
-//! Lines for which memory lacks; `h26x_memory` says how these tests are run.
+//! Lines for which memory lacks; `h26x_memory_tests` says how these tests are run.
 
 use h26x_core::PacketError;
-use h26x_lines::answers::Answers;
-use h26x_lines::{RunError, run};
+use h26x_session::answers::Answers;
+use h26x_session::{RunError, run};
 use std::alloc::Global;
 use std::process::Abort;
 use std::test::Fail;

@@ -1,6 +1,6 @@
 use Rattle.std.proofs.Common.{[], ◌∷◌, refl}
-use Rattle.h26x_core.specs.Waits.{NoSet, OneSet, entries_at}
-use Rattle.h26x_core.proofs.GroupLemmas.{split_is}
+use Rattle.h26x_model.specs.Send.WaitingSets.{NoSet, OneSet, entries_with_limit}
+use Rattle.h26x_model.proofs.GroupLemmas.{split_is}
 use Rattle.h264_payload.specs.H264.{h264}
 use Rattle.h264_payload.proofs.cases.sets_and_groups.Goals as goal
 
@@ -12,4 +12,4 @@ returns-clause-none c = record { vps = NoSet; sps = NoSet; pps = NoSet }
 
 pub returns-clause-groups : goal.returns-clause-groups
 returns-clause-groups c = split_is h264
-    (entries_at 9 ((0x65 ∷ []) ∷ (0x68 ∷ []) ∷ (0x67 ∷ []) ∷ (0x09 ∷ []) ∷ (0x65 ∷ []) ∷ (0x67 ∷ []) ∷ (0x61 ∷ []) ∷ []))
+    (entries_with_limit 9 ((0x65 ∷ []) ∷ (0x68 ∷ []) ∷ (0x67 ∷ []) ∷ (0x09 ∷ []) ∷ (0x65 ∷ []) ∷ (0x67 ∷ []) ∷ (0x61 ∷ []) ∷ []))

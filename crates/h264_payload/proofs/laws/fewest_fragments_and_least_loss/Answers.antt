@@ -1,6 +1,6 @@
 use Rattle.std.proofs.Common.{arith}
-use Rattle.h26x_core.proofs.CodecLawLemmas.{long_fewest}
-use Rattle.h26x_core.proofs.LossLemmas.{items_left}
+use Rattle.h26x_model.proofs.CodecLawLemmas.{long_fewest}
+use Rattle.h26x_model.proofs.LossLemmas.{items_left}
 use Rattle.h264_payload.specs.H264.{h264}
 use Rattle.h264_payload.proofs.ReadBackLemmas.{reads_what_it_writes}
 use Rattle.h264_payload.proofs.FactLemmas.{headers_take_room}

@@ -1,5 +1,5 @@
 use Rattle.std.proofs.Common.{◌≡◌, ℕ, ◌<◌, ◌≤◌, Bool, List, [], ◌∷◌, length, refl, arith}
-use Rattle.h26x_core.proofs.CodecLawLemmas.{IsLong, long_header, long_fragments, long_marked, long_sent, long_full, long_within}
+use Rattle.h26x_model.proofs.CodecLawLemmas.{IsLong, long_header, long_fragments, long_marked, long_sent, long_full, long_within}
 use Rattle.h264_payload.specs.H264.{h264}
 use Rattle.h264_payload.proofs.FactLemmas.{is_payload_format}
 use Rattle.h264_payload.proofs.laws.fragments_of_a_unit.Goals as goal

@@ -1,6 +1,6 @@
 use Rattle.std.proofs.Common.{refl, sym, ap, ◌∙◌}
-use Rattle.h26x_core.specs.Text.{annex_b}
-use Rattle.h26x_core.proofs.SourceLemmas.{sent_again}
+use Rattle.h26x_core.specs.ByteStream.{annex_b}
+use Rattle.h26x_model.proofs.SourceLemmas.{sent_again}
 use Rattle.h26x_cut.specs.declared.ZeroRule.TheVariants.{All}
 use Rattle.h26x_cut.specs.Cutting.{IsUnit, cut_pieces, units_of, units_of_pieces}
 use Rattle.h26x_cut.proofs.CuttingLemmas.{has_cutting, cutting_is}

@@ -1,5 +1,5 @@
 use Rattle.std.proofs.Common.{sym, ap, ◌∙◌}
-use Rattle.h26x_core.specs.Text.{annex_b}
+use Rattle.h26x_core.specs.ByteStream.{annex_b}
 use Rattle.h26x_cut.specs.declared.ZeroRule.TheVariants.{All}
 use Rattle.h26x_cut.specs.Cutting.{units_of_pieces}
 use Rattle.h26x_cut.proofs.CuttingLemmas.{cutting_is}

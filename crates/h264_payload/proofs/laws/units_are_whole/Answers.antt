@@ -1,8 +1,8 @@
 use Rattle.std.proofs.Common.{refl, ℕ}
 use Rattle.std.specs.Prelude.{IsTrue}
 use Rattle.h26x_core.specs.Mark.{IsMark}
-use Rattle.h26x_core.specs.Text.{is_not_empty}
-use Rattle.h26x_core.proofs.CodecLawLemmas.{all_weaker}
+use Rattle.h26x_core.specs.ByteStream.{is_not_empty}
+use Rattle.h26x_model.proofs.CodecLawLemmas.{all_weaker}
 use Rattle.h26x_cut.specs.declared.ZeroRule.TheVariants.{All}
 use Rattle.h26x_cut.specs.Cutting.{IsUnit, cut_pieces, units_of}
 use Rattle.h26x_cut.proofs.CuttingLemmas.{has_cutting}

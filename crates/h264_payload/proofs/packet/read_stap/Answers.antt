@@ -2,8 +2,8 @@ use Rattle.std.proofs.Common.{arith, ◌≡◌, ◌-◌, ◌∙◌, ap, refl, Li
 use Rattle.std.proofs.lemmas.List.{length-drop, take_all}
 use Rattle.h26x_core.specs.H264Unit.{type_of, type_of_first}
 use Rattle.h26x_core.specs.Pieces.{pieces_of}
-use Rattle.h26x_core.specs.Reading.{unnumbered}
-use Rattle.h26x_payload.specs.Receiving.{taken_as}
+use Rattle.h26x_model.specs.Payload.Reading.{without_don}
+use Rattle.h26x_payload.specs.DepacketizerView.{taken_as}
 use Rattle.h26x_payload.proofs.AggregateLemmas.{units_only}
 use Rattle.h26x_payload.proofs.ReceivingLemmas.{units_taken}
 use Rattle.h264_payload.specs.H264.{read, aggregate_of, stap_units}
@@ -20,6 +20,6 @@ returns-clause-accepted c =
     let all = take_all (length packet - 1) (drop 1 packet) (simp length-drop (omega arith)) in
     let units = stap_units (take (length packet - 1) (drop 1 packet)) in
     record {
-      reading = ap taken_as (stap_read packet _ c.requires all ∙ c.in_ok-size.ensures.whole) ∙ units_taken (map unnumbered units) units (units_only units);
+      reading = ap taken_as (stap_read packet _ c.requires all ∙ c.in_ok-size.ensures.whole) ∙ units_taken (map without_don units) units (units_only units);
       checked = c.in_ok-size.ensures.size;
     }

@@ -1,6 +1,6 @@
 use Rattle.std.proofs.Common.{◌≡◌, ◌+◌, ◌-◌, ◌≤◌, ◌^◌, min, length}
 use Rattle.std.specs.List.{list_any}
-use Rattle.h26x_core.specs.Outcome.{is_too_long}
+use Rattle.h26x_model.specs.Receive.Outcome.{is_too_long}
 use Rattle.h26x_core.specs.Pieces.{pieces_of}
 use Rattle.h26x_payload.specs.Run.{written_len}
 use Rattle.h264_payload.specs.H264.{stap_units}

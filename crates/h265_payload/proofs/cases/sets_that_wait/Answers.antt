@@ -1,5 +1,5 @@
 use Rattle.std.proofs.Common.{refl}
-use Rattle.h26x_core.specs.Waits.{NoSet, OneSet}
+use Rattle.h26x_model.specs.Send.WaitingSets.{NoSet, OneSet}
 use Rattle.h265_payload.proofs.cases.sets_that_wait.Goals as goal
 
 pub returns-clause-three : goal.returns-clause-three

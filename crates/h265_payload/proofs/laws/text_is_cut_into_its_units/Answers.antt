@@ -1,5 +1,5 @@
 use Rattle.std.proofs.Common.{sym, ap, ◌∙◌}
-use Rattle.h26x_core.specs.Text.{annex_b}
+use Rattle.h26x_core.specs.ByteStream.{annex_b}
 use Rattle.h26x_cut.specs.declared.ZeroRule.TheVariants.{All}
 use Rattle.h26x_cut.specs.Cutting.{units_of_pieces}
 use Rattle.h26x_cut.proofs.CuttingLemmas.{cutting_is}
@@ -7,6 +7,6 @@ use Rattle.h26x_cut.proofs.TextLemmas.{units_of_text}
 use Rattle.h265_payload.proofs.laws.text_is_cut_into_its_units.Goals as goal
 
 pub returns : goal.returns
-returns c = λ numbered units each apart.
+returns c = λ has_donl units each apart.
     let (pieces, cut, same) = units_of_text All units each apart in
     sym (same ∙ ap units_of_pieces (cutting_is All (annex_b units) pieces cut))

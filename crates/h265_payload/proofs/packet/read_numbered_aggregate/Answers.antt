@@ -1,7 +1,7 @@
 use Rattle.std.proofs.Common.{rules, ◌-◌, ◌≤◌, ◌∙◌, ap, arith, true, take, drop, length}
 use Rattle.std.proofs.lemmas.List.{length-drop, take_all}
 use Rattle.std.proofs.lemmas.Bool.Decides.{nat_tests}
-use Rattle.h26x_payload.specs.Receiving.{taken_as}
+use Rattle.h26x_payload.specs.DepacketizerView.{taken_as}
 use Rattle.h26x_payload.proofs.ReceivingLemmas.{units_taken}
 use Rattle.h265_payload.specs.Shown.{others_of, donl_of}
 use Rattle.h265_payload.proofs.AggregateLemmas.{numbered_accepted, numbered_shown, numbered_short, units_without}

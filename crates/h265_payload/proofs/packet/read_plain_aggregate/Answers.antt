@@ -1,6 +1,6 @@
 use Rattle.std.proofs.Common.{◌-◌, ◌∙◌, ap, arith, false, None, take, drop, length}
 use Rattle.std.proofs.lemmas.List.{length-drop, take_all}
-use Rattle.h26x_payload.specs.Receiving.{taken_as}
+use Rattle.h26x_payload.specs.DepacketizerView.{taken_as}
 use Rattle.h26x_payload.proofs.ReceivingLemmas.{units_taken}
 use Rattle.h265_payload.specs.Shown.{others_of}
 use Rattle.h265_payload.proofs.AggregateLemmas.{plain_accepted, plain_shown, units_without}

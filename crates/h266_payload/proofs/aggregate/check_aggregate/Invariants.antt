@@ -1,15 +1,15 @@
 use Rattle.std.proofs.Common.{◌≡◌, ◌+◌, ◌-◌, ◌≤◌, ◌^◌, min, length}
 use Rattle.std.specs.List.{list_any}
-use Rattle.h26x_core.specs.Outcome.{is_too_long}
+use Rattle.h26x_model.specs.Receive.Outcome.{is_too_long}
 use Rattle.h26x_payload.specs.Run.{written_len}
-use Rattle.h266_payload.specs.Packet.{aggregate_units, judged}
+use Rattle.h266_payload.specs.Packet.{aggregate_units, aggregate_outcome}
 use Rattle.h266_payload.proofs.JudgedLemmas.{fault_of}
 use Rattle.h266_payload.proofs.aggregate.check_aggregate.Given as goal
 
 -- no unit before here is a fault; they and their length are counted
 abbrev pub invariant-loop-rest : goal.invariant-loop-rest
 invariant-loop-rest l = record {
-  fault : fault_of (judged l.rest) ≡ fault_of (judged l.bytes);
+  fault : fault_of (aggregate_outcome l.rest) ≡ fault_of (aggregate_outcome l.bytes);
   units : l.count + length (aggregate_units l.rest) ≡ length (aggregate_units l.bytes);
   long : l.count + length l.rest ≤ length l.bytes;
   whole : min (l.size + written_len (aggregate_units l.rest)) (2 ^ 64 - 1) ≡ min (written_len (aggregate_units l.bytes)) (2 ^ 64 - 1);

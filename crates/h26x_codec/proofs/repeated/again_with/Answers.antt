@@ -3,15 +3,15 @@ use Rattle.std.specs.Option.{option_map}
 use Rattle.std.specs.List.{flat_map}
 use Rattle.std.proofs.lemmas.Result.{err_from_is_err_and}
 use Rattle.h26x_core.specs.declared.extra.CodecExtra.TheVariants as extras
-use Rattle.h26x_core.specs.Text.{text}
-use Rattle.h26x_core.specs.Calls.{entries_of, packets_of}
-use Rattle.h26x_core.specs.Plan.{units_of_item, sent}
-use Rattle.h26x_core.specs.Facts.{AreCarried}
-use Rattle.h26x_core.specs.Received.{received}
-use Rattle.h26x_core.specs.Sender.{sent_by, packets_by}
-use Rattle.h26x_core.specs.Receiver.{Receiver, brought, at_work}
-use Rattle.h26x_core.specs.Ends.{ReceiverGoesOn, calls_like}
-use Rattle.h26x_codec.specs.Codec.{receiver_of, call_by}
+use Rattle.h26x_core.specs.ByteStream.{byte_stream}
+use Rattle.h26x_model.specs.Send.Calls.{all_entries, all_packets}
+use Rattle.h26x_model.specs.Send.Plan.{item_units, units_sent}
+use Rattle.h26x_model.specs.Payload.Facts.{AreCarried}
+use Rattle.h26x_model.specs.Receive.Received.{received}
+use Rattle.h26x_model.specs.Send.PacketizerState.{state_units, state_packets}
+use Rattle.h26x_model.specs.Receive.DepacketizerState.{DepacketizerState, units_brought, depacketization}
+use Rattle.h26x_model.specs.Carry.Laws.{DepacketizerGoesOn, calls_like}
+use Rattle.h26x_codec.specs.Codec.{codec_depacketizer_state, next_call}
 use Rattle.h26x_codec.proofs.RunLemmas.{fresh_plan, fresh_packets}
 use Rattle.h26x_codec.proofs.AgainLemmas.{like_small, written_is, first_refused}
 use Rattle.h26x_codec.proofs.repeated.again_with.Goals as goal
@@ -19,38 +19,38 @@ use Rattle.h26x_codec.proofs.repeated.again_with.Goals as goal
 pub returns-in_err-deliver-clause-refused : goal.returns-in_err-deliver-clause-refused
 returns-in_err-deliver-clause-refused g c = λ s r t p_is d_is q_is fresh avc.
     let start = c.new-written.result.items in
-    let w = at_work r start extras.None in
+    let w = depacketization r start extras.None in
     let made = map (λ (p : Vec ℕ Global). p.items) c.deref.result.now in
-    let calls = calls_like (call_by s c.args.limit []) (map (λ (p : Vec ℕ Global). p.items) c.args.payloads.now) in
-    let all : made ≡ packets_of s.format 0 calls =
+    let calls = calls_like (next_call s c.args.limit []) (map (λ (p : Vec ℕ Global). p.items) c.args.payloads.now) in
+    let all : made ≡ all_packets s.format 0 calls =
     ap (map (λ (p : Vec ℕ Global). p.items)) c.deref.ensures.value ∙ c.in_ok-first.ensures.sent s p_is
-    ∙ fresh_packets s (entries_of s.format calls) fresh (c.plans_unit_by_unit.ensures.plan s.format (entries_of s.format calls)) in
+    ∙ fresh_packets s (all_entries s.format calls) fresh (c.plans_unit_by_unit.ensures.plan s.format (all_entries s.format calls)) in
     let (e, err, same) = err_from_is_err_and c.from_residual-in_err-deliver.result c.from_residual-in_err-deliver.ensures.1 in
-    rw (err, same) (first_refused w made (packets_of s.format 0 calls) c.in_err-deliver.field-0.0 _ avc all
-    (c.in_err-deliver.ensures.stopped w (ap (option_map (λ (x : Receiver). at_work x start extras.None)) d_is)))
+    rw (err, same) (first_refused w made (all_packets s.format 0 calls) c.in_err-deliver.field-0.0 _ avc all
+    (c.in_err-deliver.ensures.stopped w (ap (option_map (λ (x : DepacketizerState). depacketization x start extras.None)) d_is)))
 
 pub returns-clause-written : goal.returns-clause-written
 returns-clause-written g c = λ r d_is none.
     let start = c.new-written.result.items in
-    let w = at_work r start extras.None in
-    let law : ReceiverGoesOn w = c.depacketizers_go_on.ensures w (c.is_receiver.ensures r d_is) in
+    let w = depacketization r start extras.None in
+    let law : DepacketizerGoesOn w = c.depacketizers_go_on.ensures w (c.depacketizer_states.ensures r d_is) in
     let made = map (λ (p : Vec ℕ Global). p.items) c.deref.result.now in
     let same : made ≡ c.from_vec.result = ap (map (λ (p : Vec ℕ Global). p.items)) c.deref.ensures.value ∙ sym c.from_vec.ensures in
-    written_is (receiver_of c.deliver.new.d) r start c.deliver.new.out.items extras.None c.deliver.new.extra made (received (map r.format.read c.from_vec.result))
-    c.new-written.ensures.items (c.in_ok-deliver.ensures.taken w (ap (option_map (λ (x : Receiver). at_work x start extras.None)) d_is))
+    written_is (codec_depacketizer_state c.deliver.new.d) r start c.deliver.new.out.items extras.None c.deliver.new.extra made (received (map r.format.read c.from_vec.result))
+    c.new-written.ensures.items (c.in_ok-deliver.ensures.taken w (ap (option_map (λ (x : DepacketizerState). depacketization x start extras.None)) d_is))
     (law.brings none made ∙ ap (λ (x : List (List ℕ)). received (map r.format.read x)) same)
 
 pub returns-clause-carried : goal.returns-clause-carried
 returns-clause-carried g c = λ s r p_is d_is fresh fmt can.
     let start = c.new-written.result.items in
-    let w = at_work r start extras.None in
-    let is = c.is_sender.ensures.sender s p_is in
-    let calls = calls_like (call_by s c.args.limit []) (map (λ (p : Vec ℕ Global). p.items) c.args.payloads.now) in
-    let entries = entries_of s.format calls in
-    let units : sent s.format entries ≡ sent_by s entries = ap (flat_map units_of_item) (sym (fresh_plan s entries fresh (c.plans_unit_by_unit.ensures.plan s.format entries))) in
-    let whole = c.what_calls_send_is_carried.ensures s w calls (c.is_sender.ensures.format s p_is) is (like_small (call_by s c.args.limit []) (map (λ (p : Vec ℕ Global). p.items) c.args.payloads.now) is.size) fmt (subst (AreCarried s.format) units can) in
+    let w = depacketization r start extras.None in
+    let is = c.packetizer_states.ensures.state s p_is in
+    let calls = calls_like (next_call s c.args.limit []) (map (λ (p : Vec ℕ Global). p.items) c.args.payloads.now) in
+    let entries = all_entries s.format calls in
+    let units : units_sent s.format entries ≡ state_units s entries = ap (flat_map item_units) (sym (fresh_plan s entries fresh (c.plans_unit_by_unit.ensures.plan s.format entries))) in
+    let whole = c.what_calls_send_is_carried.ensures s w calls (c.packetizer_states.ensures.format s p_is) is (like_small (next_call s c.args.limit []) (map (λ (p : Vec ℕ Global). p.items) c.args.payloads.now) is.size) fmt (subst (AreCarried s.format) units can) in
     let made = map (λ (p : Vec ℕ Global). p.items) c.deref.result.now in
-    let same : made ≡ packets_by s entries = ap (map (λ (p : Vec ℕ Global). p.items)) c.deref.ensures.value ∙ c.in_ok-first.ensures.sent s p_is in
-    written_is (receiver_of c.deliver.new.d) r start c.deliver.new.out.items extras.None c.deliver.new.extra made (sent_by s entries)
-    c.new-written.ensures.items (c.in_ok-deliver.ensures.taken w (ap (option_map (λ (x : Receiver). at_work x start extras.None)) d_is))
-    (ap (brought r) same ∙ whole.received) ∙ ap (text r.is_avc) (sym units)
+    let same : made ≡ state_packets s entries = ap (map (λ (p : Vec ℕ Global). p.items)) c.deref.ensures.value ∙ c.in_ok-first.ensures.sent s p_is in
+    written_is (codec_depacketizer_state c.deliver.new.d) r start c.deliver.new.out.items extras.None c.deliver.new.extra made (state_units s entries)
+    c.new-written.ensures.items (c.in_ok-deliver.ensures.taken w (ap (option_map (λ (x : DepacketizerState). depacketization x start extras.None)) d_is))
+    (ap (units_brought r) same ∙ whole.received) ∙ ap (byte_stream r.is_avc) (sym units)

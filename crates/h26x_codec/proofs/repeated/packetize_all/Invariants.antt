@@ -1,15 +1,15 @@
 use Rattle.std.proofs.Common.{◌≡◌, [], map, take, Some}
-use Rattle.h26x_core.specs.Calls.{entries_of}
-use Rattle.h26x_core.specs.Sender.{Sender, packets_by, after}
-use Rattle.h26x_core.specs.Ends.{calls_like}
-use Rattle.h26x_codec.specs.Codec.{sender_of, call_by}
+use Rattle.h26x_model.specs.Send.Calls.{all_entries}
+use Rattle.h26x_model.specs.Send.PacketizerState.{PacketizerState, state_packets, after_entries}
+use Rattle.h26x_model.specs.Carry.Laws.{calls_like}
+use Rattle.h26x_codec.specs.Codec.{codec_packetizer_state, next_call}
 use Rattle.h26x_codec.proofs.repeated.packetize_all.Given as goal
 
 -- the payloads so far were sent
 abbrev pub invariant-loop-payload : goal.invariant-loop-payload
 invariant-loop-payload g l = record {
-  sent : (s : Sender) → sender_of l.fn.p ≡ Some s →
-      map (λ p. p.items) l.packets.items ≡ packets_by s (entries_of s.format (calls_like (call_by s l.limit []) (take l.payload-index (map (λ p. p.items) l.payloads))));
-  stands : (s : Sender) → sender_of l.fn.p ≡ Some s →
-      sender_of l.p ≡ Some (after s (entries_of s.format (calls_like (call_by s l.limit []) (take l.payload-index (map (λ p. p.items) l.payloads)))));
+  sent : (s : PacketizerState) → codec_packetizer_state l.fn.p ≡ Some s →
+      map (λ p. p.items) l.packets.items ≡ state_packets s (all_entries s.format (calls_like (next_call s l.limit []) (take l.payload-index (map (λ p. p.items) l.payloads))));
+  stands : (s : PacketizerState) → codec_packetizer_state l.fn.p ≡ Some s →
+      codec_packetizer_state l.p ≡ Some (after_entries s (all_entries s.format (calls_like (next_call s l.limit []) (take l.payload-index (map (λ p. p.items) l.payloads)))));
 }

@@ -2,18 +2,18 @@ use Rattle.std.proofs.Common.{rules, arith, ◌≡◌, ◌∙◌, ◌++◌, ◌�
 use Rattle.std.proofs.lemmas.List.{map-append}
 use Rattle.std.proofs.lemmas.Result.{err_from_is_err_and}
 use Rattle.h26x_core.specs.declared.error.PacketError.TheVariants.{OutOfMemory}
-use Rattle.h26x_core.specs.Calls.{entries_of_call}
-use Rattle.h26x_core.specs.Sender.{packets_by}
-use Rattle.h26x_core.specs.Ends.{ReceiverGoesOn}
-use Rattle.h26x_codec.specs.Codec.{receiver_of, call_by}
+use Rattle.h26x_model.specs.Send.Calls.{call_entries}
+use Rattle.h26x_model.specs.Send.PacketizerState.{state_packets}
+use Rattle.h26x_model.specs.Carry.Laws.{DepacketizerGoesOn}
+use Rattle.h26x_codec.specs.Codec.{codec_depacketizer_state, next_call}
 use Rattle.h26x_codec.proofs.RunLemmas.{work_parts, none_mapped, none_taken}
 use Rattle.h26x_codec.proofs.runs.carry_call.Goals as goal
 
 pub returns-in_err-reserve-in-Ok-clause-stopped : goal.returns-in_err-reserve-in-Ok-clause-stopped
 returns-in_err-reserve-in-Ok-clause-stopped g c = λ s w p_is d_is.
-    let takes : ReceiverGoesOn w = c.depacketizers_go_on.ensures w (c.is_receiver.ensures w.receiver (work_parts (receiver_of c.args.d.now) c.args.out.now.items c.args.extra.now w d_is).is_receiver) in
+    let takes : DepacketizerGoesOn w = c.depacketizers_go_on.ensures w (c.depacketizer_states.ensures w.state (work_parts (codec_depacketizer_state c.args.d.now) c.args.out.now.items c.args.extra.now w d_is).is_state) in
     let memory : c.from_residual.result ≡ Err OutOfMemory = search rules in
-    let is : map (λ (p : Vec ℕ Global). p.items) c.in-Ok.made.items ≡ packets_by s (entries_of_call s.format (call_by s c.args.mtu c.args.payload.now)) = c.in-Ok.ensures.packets s p_is in
+    let is : map (λ (p : Vec ℕ Global). p.items) c.in-Ok.made.items ≡ state_packets s (call_entries s.format (next_call s c.args.mtu c.args.payload.now)) = c.in-Ok.ensures.packets s p_is in
     rw memory (none_taken w _ _ takes d_is (λ none.
     let empty : length c.in-Ok.made.items ≡ 0 = none_mapped (λ (p : Vec ℕ Global). p.items) c.in-Ok.made.items (is ∙ none) in
     let count : c.len.result ≡ length c.in-Ok.made.items = search rules in
@@ -23,7 +23,7 @@ returns-in_err-reserve-in-Ok-clause-stopped g c = λ s w p_is d_is.
 
 pub returns-in_err-deliver-in-Ok-clause-stopped : goal.returns-in_err-deliver-in-Ok-clause-stopped
 returns-in_err-deliver-in-Ok-clause-stopped g c = λ s w p_is d_is.
-    let is : map (λ (p : Vec ℕ Global). p.items) c.deref.result.now ≡ packets_by s (entries_of_call s.format (call_by s c.args.mtu c.args.payload.now)) =
+    let is : map (λ (p : Vec ℕ Global). p.items) c.deref.result.now ≡ state_packets s (call_entries s.format (next_call s c.args.mtu c.args.payload.now)) =
     ap (map (λ (p : Vec ℕ Global). p.items)) c.deref.ensures.value ∙ c.in-Ok.ensures.packets s p_is in
     let (e, err, same) = err_from_is_err_and c.from_residual-in_err-deliver-in-Ok.result c.from_residual-in_err-deliver-in-Ok.ensures.1 in
     rw (err, same, ← is) (c.in_err-deliver-in-Ok.ensures.stopped w d_is)

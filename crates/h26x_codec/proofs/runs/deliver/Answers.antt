@@ -1,9 +1,9 @@
 use Rattle.std.proofs.Common.{◌≡◌, ◌∙◌, ◌<◌, sym, ap, ℕ, [], Some, Vec, Global, map, get_or, length, take}
 use Rattle.std.proofs.lemmas.List.{get_or-map, length-map, append-nil}
 use Rattle.std.proofs.lemmas.Result.{err_from_is_err_and}
-use Rattle.h26x_core.specs.Receiver.{work_after}
-use Rattle.h26x_core.specs.Ends.{ReceiverGoesOn}
-use Rattle.h26x_codec.specs.Codec.{receiver_of}
+use Rattle.h26x_model.specs.Receive.DepacketizerState.{after_packets}
+use Rattle.h26x_model.specs.Carry.Laws.{DepacketizerGoesOn}
+use Rattle.h26x_codec.specs.Codec.{codec_depacketizer_state}
 use Rattle.h26x_codec.proofs.RunLemmas.{still_front, work_parts, same_work, one_more, read_more, stopped, finished}
 use Rattle.h26x_codec.proofs.runs.deliver.Goals as goal
 
@@ -11,7 +11,7 @@ pub loop-packet-init : goal.loop-packet-init
 loop-packet-init g c = record {
   kept = ([], sym (append-nil c.args.out.now.items));
   taken = λ w is.
-      let law : ReceiverGoesOn w = c.depacketizers_go_on.ensures w (c.is_receiver.ensures w.receiver (work_parts (receiver_of c.args.d.now) c.args.out.now.items c.args.extra.now w is).is_receiver) in
+      let law : DepacketizerGoesOn w = c.depacketizers_go_on.ensures w (c.depacketizer_states.ensures w.state (work_parts (codec_depacketizer_state c.args.d.now) c.args.out.now.items c.args.extra.now w is).is_state) in
       is ∙ ap Some (sym law.none);
   read = λ w is. tt;
 }
@@ -26,7 +26,7 @@ loop-packet-preserved g c =
     record {
       kept = still_front c.args.out.now.items c.loop-packet.out.items c.depacketize.new.out.items c.loop-packet.invariant.kept c.in_ok-depacketize.ensures.accepted;
       taken = λ w is.
-          let law : ReceiverGoesOn w = c.depacketizers_go_on.ensures w (c.is_receiver.ensures w.receiver (work_parts (receiver_of c.args.d.now) c.args.out.now.items c.args.extra.now w is).is_receiver) in
+          let law : DepacketizerGoesOn w = c.depacketizers_go_on.ensures w (c.depacketizer_states.ensures w.state (work_parts (codec_depacketizer_state c.args.d.now) c.args.out.now.items c.args.extra.now w is).is_state) in
           one_more w bytes i _ law within (rw (← here) (c.in_ok-depacketize.ensures.taken _ (c.loop-packet.invariant.taken w is)));
       read = λ w is. read_more w bytes i within (c.loop-packet.invariant.read w is) (rw (← here) (c.in_ok-depacketize.ensures.outcome _ (c.loop-packet.invariant.taken w is)));
     }
@@ -40,9 +40,9 @@ returns-in_err-depacketize-clause-stopped g c = λ w is.
     ∙ sym (get_or-map (λ (p : Vec ℕ Global). p.items) c.args.packets.now i c.packet-item.result [] c.loop-packet-test.true) in
     let (e, err, same) = err_from_is_err_and c.from_residual.result c.from_residual.ensures.1 in
     let so_far = c.loop-packet.invariant.taken w is in
-    let parts = work_parts (receiver_of c.loop-packet.d) c.loop-packet.out.items c.loop-packet.extra (work_after w (take i bytes)) so_far in
+    let parts = work_parts (codec_depacketizer_state c.loop-packet.d) c.loop-packet.out.items c.loop-packet.extra (after_packets w (take i bytes)) so_far in
     rw (err, same) (stopped w bytes i c.in_err-depacketize.field-0.0 _ within
-    (same_work (receiver_of c.loop-packet.d) _ c.loop-packet.out.items _ c.loop-packet.extra _ (ap receiver_of (c.in_err-depacketize.ensures.kept _ parts.is_receiver)) c.in_err-depacketize.ensures.kept_out c.in_err-depacketize.ensures.kept_extra ∙ so_far)
+    (same_work (codec_depacketizer_state c.loop-packet.d) _ c.loop-packet.out.items _ c.loop-packet.extra _ (ap codec_depacketizer_state (c.in_err-depacketize.ensures.kept _ parts.is_state)) c.in_err-depacketize.ensures.kept_out c.in_err-depacketize.ensures.kept_extra ∙ so_far)
     (c.loop-packet.invariant.read w is) (rw (← here) (c.in_err-depacketize.ensures.outcome _ so_far)))
 
 pub returns-clause-taken : goal.returns-clause-taken

@@ -1,7 +1,7 @@
 use Rattle.std.proofs.Common.{◌≡◌, ◌≤◌, map, take, length, vec_len, vec_capacity, Some, IsErr, All}
 use Rattle.h26x_core.specs.Front.{IsFrontOf}
-use Rattle.h26x_core.specs.Receiver.{Receiver, AreAllTaken, at_work}
-use Rattle.h26x_codec.specs.Codec.{receiver_of, work_of}
+use Rattle.h26x_model.specs.Receive.DepacketizerState.{DepacketizerState, AreAllTaken, depacketization}
+use Rattle.h26x_codec.specs.Codec.{codec_depacketizer_state, codec_depacketization}
 use Rattle.h26x_codec.proofs.take.take_all.Given as goal
 
 -- the packets so far have their outcomes
@@ -12,7 +12,7 @@ invariant-loop-packet g l = record {
   kept : IsFrontOf l.fn.out.items l.out.items;
   same_out : All (λ o. IsErr o) l.outcomes.items → l.out.items ≡ l.fn.out.items;
   same_extra : All (λ o. IsErr o) l.outcomes.items → l.extra ≡ l.fn.extra;
-  same : (r : Receiver) → receiver_of l.fn.d ≡ Some r → All (λ o. IsErr o) l.outcomes.items → l.d ≡ l.fn.d;
-  taken : (r : Receiver) → receiver_of l.fn.d ≡ Some r →
-      AreAllTaken (at_work r l.fn.out.items l.fn.extra) (take l.packet-index (map (λ p. p.items) l.packets)) l.outcomes.items (work_of l.d l.out.items l.extra);
+  same : (r : DepacketizerState) → codec_depacketizer_state l.fn.d ≡ Some r → All (λ o. IsErr o) l.outcomes.items → l.d ≡ l.fn.d;
+  taken : (r : DepacketizerState) → codec_depacketizer_state l.fn.d ≡ Some r →
+      AreAllTaken (depacketization r l.fn.out.items l.fn.extra) (take l.packet-index (map (λ p. p.items) l.packets)) l.outcomes.items (codec_depacketization l.d l.out.items l.extra);
 }

@@ -1,4 +1,4 @@
--- A handle goes to another thread with the end that it owns, and the right to free its block.
+-- A handle goes to another thread with the endpoint that it owns, and the right to free its block.
 use denote.Memory.{lone}
 use denote.Param.Send.{AllSend, IsSend, owning_send, sendable, struct_send}
 use denote.Struct.Owning.{fields, shape, to}
@@ -7,8 +7,8 @@ use mir.Raw.{raw}
 use Rattle.std.proofs.Crossing as heap
 use Rattle.std_alloc.proofs.SendSync.{lies, quiet}
 use Rattle.std_heap.proofs.Global.TheSendSync as allocator
-use Rattle.h26x_ends.specs.contracts.end.End as held
-use Rattle.h26x_ends.proofs.end.End.TheSendSync.{the_send}
+use Rattle.h26x_handles.specs.contracts.endpoint.Endpoint as held
+use Rattle.h26x_handles.proofs.endpoint.Endpoint.TheSendSync.{the_send}
 use Rattle.h26x_c.specs.contracts.handle.Handle.{the_row, the_type}
 
 pub send : IsSend the_row

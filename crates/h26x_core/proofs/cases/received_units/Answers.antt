@@ -1,5 +1,0 @@
-use Rattle.h26x_core.proofs.PlaceLemmas.{are_received}
-use Rattle.h26x_core.proofs.cases.received_units.Goals as goal
-
-pub returns : goal.returns
-returns c = are_received _

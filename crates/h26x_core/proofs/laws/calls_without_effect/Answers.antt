@@ -1,5 +1,0 @@
-use Rattle.h26x_core.proofs.EndLemmas.{left_out}
-use Rattle.h26x_core.proofs.laws.calls_without_effect.Goals as goal
-
-pub returns : goal.returns
-returns c = left_out

@@ -1,5 +1,0 @@
-use Rattle.h26x_core.proofs.EndLemmas.{receiver_goes_on}
-use Rattle.h26x_core.proofs.laws.depacketizers_go_on.Goals as goal
-
-pub returns : goal.returns
-returns c = receiver_goes_on

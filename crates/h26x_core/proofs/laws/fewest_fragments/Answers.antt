@@ -1,5 +1,0 @@
-use Rattle.h26x_core.proofs.FewestLemmas.{takes_fewest}
-use Rattle.h26x_core.proofs.laws.fewest_fragments.Goals as goal
-
-pub returns : goal.returns
-returns c = takes_fewest

@@ -1,5 +1,0 @@
-use Rattle.h26x_core.proofs.DetectionLemmas.{are_detected}
-use Rattle.h26x_core.proofs.laws.key_units_are_detected.Goals as goal
-
-pub returns : goal.returns
-returns c = are_detected

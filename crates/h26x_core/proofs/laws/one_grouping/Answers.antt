@@ -1,5 +1,0 @@
-use Rattle.h26x_core.proofs.GroupLemmas.{split_is, only_groups}
-use Rattle.h26x_core.proofs.laws.one_grouping.Goals as goal
-
-pub returns : goal.returns
-returns c = record { is = split_is; only = only_groups }

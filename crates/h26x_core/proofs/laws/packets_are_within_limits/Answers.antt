@@ -1,5 +1,0 @@
-use Rattle.h26x_core.proofs.LimitLemmas.{plan_within}
-use Rattle.h26x_core.proofs.laws.packets_are_within_limits.Goals as goal
-
-pub returns : goal.returns
-returns c = plan_within

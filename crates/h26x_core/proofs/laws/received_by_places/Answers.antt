@@ -1,5 +1,0 @@
-use Rattle.h26x_core.proofs.PlaceLemmas.{are_received, only_received}
-use Rattle.h26x_core.proofs.laws.received_by_places.Goals as goal
-
-pub returns : goal.returns
-returns c = record { are = are_received; only = only_received }

@@ -1,5 +1,0 @@
-use Rattle.h26x_core.proofs.ReceiverLemmas.{after_is_from}
-use Rattle.h26x_core.proofs.laws.received_from_a_run.Goals as goal
-
-pub returns : goal.returns
-returns c = after_is_from

@@ -1,5 +1,0 @@
-use Rattle.h26x_core.proofs.NextPlaceLemmas.{next_brings}
-use Rattle.h26x_core.proofs.laws.the_next_by_its_place.Goals as goal
-
-pub returns : goal.returns
-returns c = next_brings

@@ -1,5 +1,0 @@
-use Rattle.h26x_core.proofs.EndLemmas.{carries_whole}
-use Rattle.h26x_core.proofs.laws.what_calls_send_is_carried.Goals as goal
-
-pub returns : goal.returns
-returns c = carries_whole

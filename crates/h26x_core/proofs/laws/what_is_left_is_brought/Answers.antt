@@ -1,5 +1,0 @@
-use Rattle.h26x_core.proofs.RunLawLemmas.{loses_little}
-use Rattle.h26x_core.proofs.laws.what_is_left_is_brought.Goals as goal
-
-pub returns : goal.returns
-returns c = loses_little

@@ -1,6 +1,0 @@
-use Rattle.h26x_core.proofs.AcceptedLemmas.{all_read}
-use Rattle.h26x_core.proofs.SentLemmas.{all_received}
-use Rattle.h26x_core.proofs.laws.what_is_sent_is_received.Goals as goal
-
-pub returns : goal.returns
-returns c = record { items = all_received; read = all_read }

@@ -1,5 +1,0 @@
-use Rattle.h26x_core.proofs.SteadyLemmas.{steady}
-use Rattle.h26x_core.proofs.laws.what_was_sent_is_sent_again.Goals as goal
-
-pub returns : goal.returns
-returns c = steady

@@ -1,5 +1,0 @@
-pub mod Codes
-pub mod Copies
-pub mod Boxes
-pub mod Ends
-pub mod Shown

@@ -1,0 +1,88 @@
+-- The numbers that stand for codecs, answers and what is told (the library's rule).
+use Rattle.std.specs.Prelude.{ℕ, ◌==◌, ◌&&◌, not, Bool, true, false, if◌then◌else◌, Option, Some, None, Result, Ok, Err}
+use Rattle.h26x_core.specs.declared.error.PacketError.{PacketError}
+use Rattle.h26x_core.specs.declared.error.PacketError.TheVariants as error
+use Rattle.h26x_core.specs.declared.extra.CodecExtra.{CodecExtra}
+use Rattle.h26x_core.specs.declared.extra.CodecExtra.TheVariants as extra
+use Rattle.h26x_codec.specs.declared.codec.Codec.{Codec}
+use Rattle.h26x_codec.specs.declared.codec.Codec.TheVariants as c
+
+-- the codec with a number: that of its standard, H.264 to H.266
+abbrev pub codec_with_number : ℕ → Option Codec
+codec_with_number n =
+    if n == 264 then Some c.H264 else if n == 265 then Some c.H265
+    else if n == 266 then Some c.H266 else None
+
+-- whether packets of a codec may bear decoding order numbers; those also have a largest size
+abbrev pub may_have_donl : Codec → Bool
+may_have_donl c.H264 = false
+may_have_donl c.H265 = true
+may_have_donl c.H266 = true
+
+-- the call was carried out
+abbrev pub ok : ℕ
+ok = 0
+
+-- a packet, or a unit that is to be packed, is too short
+abbrev pub short_packet : ℕ
+short_packet = 1
+
+-- the extension of a PACI packet has over 31 bytes
+abbrev pub extension_too_long : ℕ
+extension_too_long = 5
+
+abbrev pub out_of_memory : ℕ
+out_of_memory = 8
+
+abbrev pub unknown_codec : ℕ
+unknown_codec = 9
+
+abbrev pub wrong_end : ℕ
+wrong_end = 10
+
+abbrev pub not_of_this_codec : ℕ
+not_of_this_codec = 11
+
+abbrev pub out_of_range : ℕ
+out_of_range = 12
+
+-- the refusal of a packet with a code and two numbers, if the code is of one
+abbrev pub refusal_of : ℕ → ℕ → ℕ → Option PacketError
+refusal_of code first second =
+    if code == 1 then Some error.ErrShortPacket
+    else if code == 2 then Some (error.NaluTypeIsNotHandled first)
+    else if code == 3 then Some (error.StapASizeLargerThanBuffer first second)
+    else if code == 4 then Some error.ErrH265CorruptedPacket
+    else if code == 5 then Some error.ErrH265PACIPHESTooLong
+    else if code == 6 then Some error.ErrH266CorruptedPacket
+    else if code == 7 then Some error.AvcUnitTooLong
+    else if code == 8 then Some error.OutOfMemory
+    else None
+
+-- what a code and its numbers say became of a packet, if they say it
+abbrev pub outcome_of : ℕ → ℕ → ℕ → Option (Result (Unit {0}) PacketError)
+outcome_of code first second = if code == ok then Some (Ok tt) else elim (refusal_of code first
+    second) [ None ↦ None | Some e ↦ Some (Err e) ]
+
+-- what a number tells of units of a codec: 0 of none yet, 2 that a keyframe is among them
+abbrev pub extra_with_number : Codec → ℕ → CodecExtra
+extra_with_number codec n = if n == 0 then extra.None else elim codec [
+  | c.H264 ↦ extra.H264 (record { is_keyframe = n == 2 })
+  | c.H265 ↦ extra.H265 (record { is_keyframe = n == 2 })
+  | c.H266 ↦ extra.H266 (record { is_keyframe = n == 2 })
+]
+
+-- the number that tells it
+abbrev pub extra_number : CodecExtra → ℕ
+extra_number extra.None = 0
+extra_number (extra.H264 it) = if it.is_keyframe then 2 else 1
+extra_number (extra.H265 it) = if it.is_keyframe then 2 else 1
+extra_number (extra.H266 it) = if it.is_keyframe then 2 else 1
+
+-- the codec of an endpoint that is to be made, or the code that says why there is none: no codec
+-- has this number, or packets of this codec bear no decoding order numbers
+abbrev pub codec_or_code : ℕ → Bool → Result Codec ℕ
+codec_or_code number has_donl = elim (codec_with_number number) [
+  | None ↦ Err unknown_codec
+  | Some codec ↦ if has_donl && not (may_have_donl codec) then Err not_of_this_codec else Ok codec
+]

@@ -1,0 +1,5 @@
+pub mod Codes
+pub mod Copies
+pub mod Endpoint
+pub mod States
+pub mod Shown

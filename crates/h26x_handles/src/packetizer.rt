@@ -1,0 +1,106 @@
+//! A packetizer of any codec.
+
+ghost use Rattle.std.specs.Prelude.{◌≡◌, ◌≤◌, true, Err, IfOk, OnOk, OnErr, IsOk};
+ghost use Rattle.h26x_model.specs.Send.PacketizerState.{state_packets, after_entries, has_no_effect};
+ghost use Rattle.h26x_payload.specs.Sending.{contents};
+ghost use Rattle.h26x_codec.specs.Codec.{codec_format, fresh_packetizer_state, next_call};
+ghost use Rattle.h26x_handles.specs.States.{any_packetizer_state, any_packetizer_codec, any_packetizer_with_donl, any_packetizer_with_max_packet_size, payload_entries};
+
+use h26x_codec::Codec;
+use h26x_core::{PacketError, Packetizer};
+use h264_payload::H264Packetizer;
+use h265_payload::H265Packetizer;
+use h266_payload::H266Packetizer;
+use std::alloc::Global;
+
+/// A packetizer of one of the codecs, which may go from thread to thread.
+#[derive(Drop)]
+pub enum AnyPacketizer {
+    H264(H264Packetizer),
+    H265(H265Packetizer),
+    H266(H266Packetizer),
+}
+
+impl AnyPacketizer {
+    /// A packetizer for which nothing waits, with numbers where its codec has them.
+    pub fn new(alloc: Global, codec: Codec, has_donl: bool) -> Self
+        ensures codec { any_packetizer_codec result ≡ codec }
+        ensures fresh { any_packetizer_state result
+            ≡ fresh_packetizer_state (codec_format codec has_donl) }
+    {
+        let mut it = match codec {
+            Codec::H264 => AnyPacketizer::H264(H264Packetizer::new(alloc)),
+            Codec::H265 => AnyPacketizer::H265(H265Packetizer::new(alloc)),
+            Codec::H266 => AnyPacketizer::H266(H266Packetizer::new(alloc)),
+        };
+        it.with_donl(has_donl);
+        it
+    }
+
+    /// The same packetizer again.
+    pub fn clone(&self) -> Result<Self, PacketError>
+        ensures same { IfOk result (λ it. it ≡ self.now) }
+        ensures memory { OnErr result (result ≡ Err PacketError.OutOfMemory) }
+    {
+        match self {
+            AnyPacketizer::H264(it) => Ok(AnyPacketizer::H264(it.clone()?)),
+            AnyPacketizer::H265(it) => Ok(AnyPacketizer::H265(it.clone()?)),
+            AnyPacketizer::H266(it) => Ok(AnyPacketizer::H266(it.clone()?)),
+        }
+    }
+
+    /// Its codec.
+    pub fn codec(&self) -> Codec
+        ensures { result ≡ any_packetizer_codec self.now }
+    {
+        match self {
+            AnyPacketizer::H264(_) => Codec::H264,
+            AnyPacketizer::H265(_) => Codec::H265,
+            AnyPacketizer::H266(_) => Codec::H266,
+        }
+    }
+
+    /// Turns numbers on, from 0, or off; that of H.264 stays as it is.
+    pub fn with_donl(&mut self, has_donl: bool)
+        ensures { self.new ≡ any_packetizer_with_donl has_donl self.old }
+    {
+        match self {
+            AnyPacketizer::H264(_) => {}
+            AnyPacketizer::H265(it) => it.with_donl(has_donl),
+            AnyPacketizer::H266(it) => it.with_donl(has_donl),
+        }
+    }
+
+    /// Sets the largest packet size, in bytes; that of H.264 stays as it is.
+    pub fn with_max_packet_size(&mut self, bytes: u16)
+        requires { 4 ≤ bytes }
+        ensures { self.new ≡ any_packetizer_with_max_packet_size bytes self.old }
+    {
+        match self {
+            AnyPacketizer::H264(_) => {}
+            AnyPacketizer::H265(it) => it.with_max_packet_size(bytes),
+            AnyPacketizer::H266(it) => it.with_max_packet_size(bytes),
+        }
+    }
+
+    /// The packets of a payload.
+    pub fn packetize(&mut self, mtu: usize, payload: &[u8]) -> Result<Vec<Vec<u8>>, PacketError>
+        ensures packets { IfOk result (λ made. contents made.items
+            ≡ state_packets (any_packetizer_state self.old)
+            (payload_entries (any_packetizer_state self.old) mtu payload.now)) }
+        ensures after { OnOk result (any_packetizer_state self.new
+            ≡ after_entries (any_packetizer_state self.old)
+            (payload_entries (any_packetizer_state self.old) mtu payload.now)) }
+        ensures codec { any_packetizer_codec self.new ≡ any_packetizer_codec self.old }
+        ensures kept { OnErr result (self.new ≡ self.old) }
+        ensures memory { OnErr result (result ≡ Err PacketError.OutOfMemory) }
+        ensures free { has_no_effect (any_packetizer_state self.old).format
+            (next_call (any_packetizer_state self.old) mtu payload.now) ≡ true → IsOk result }
+    {
+        match self {
+            AnyPacketizer::H264(it) => it.packetize(mtu, payload),
+            AnyPacketizer::H265(it) => it.packetize(mtu, payload),
+            AnyPacketizer::H266(it) => it.packetize(mtu, payload),
+        }
+    }
+}

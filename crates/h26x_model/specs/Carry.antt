@@ -1,0 +1,4 @@
+-- Both together: what is sent is received, and what is lost hurts no more than it must.
+pub mod Loss
+pub mod Detection
+pub mod Laws

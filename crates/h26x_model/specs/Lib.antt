@@ -1,0 +1,4 @@
+pub mod Payload
+pub mod Send
+pub mod Receive
+pub mod Carry

@@ -1,0 +1,88 @@
+-- A packetizer of any codec: what it sends of entries, and what it is afterwards.
+use Rattle.std.specs.Prelude.{◌≡◌, ℕ, ◌+◌, ◌%◌, ◌<◌, ◌≤◌, nat_lt, Bool, true, false, ◌||◌, if◌then◌else◌, List, [], ◌∷◌, ◌++◌, length}
+use Rattle.std.specs.List.{flat_map, list_all}
+use Rattle.h26x_core.specs.Word.{word}
+use Rattle.h26x_core.specs.Kind.{Kind, Skipped}
+use Rattle.h26x_model.specs.Payload.Format.{Format}
+use Rattle.h26x_model.specs.Send.Group.{Entry}
+use Rattle.h26x_model.specs.Send.Calls.{Call, call_limit, call_entries}
+use Rattle.h26x_model.specs.Send.Plan.{Item, item_units}
+use Rattle.h26x_model.specs.Send.WaitingSets.{WaitingSets, AreWaitingSets, plan_with_waiting, waiting_after}
+use Rattle.h26x_model.specs.Send.Packets.{plan_packets}
+use Rattle.h26x_model.specs.Send.Limit.{AreWithinLimit}
+
+-- a packetizer: its format, the sets that wait, the next unit's decoding order number, and its
+-- largest packet size
+pub record PacketizerState : Type 0 where
+  pub format : Format
+  pub waiting : WaitingSets
+  pub next_don : ℕ
+  pub max_packet_size : ℕ
+
+-- what holds of each: at most one set of a kind waits, and the next decoding order number and the
+-- largest size are numbers of two bytes
+pub record IsPacketizerState (s : PacketizerState) : Type 0 where
+  pub sets : AreWaitingSets s.format s.waiting
+  pub small : s.next_don < 65536
+  pub size : s.max_packet_size ≤ 65535
+
+-- what it sends of entries
+abbrev pub state_plan : PacketizerState → List Entry → List Item
+state_plan s entries = plan_with_waiting s.format s.waiting entries
+
+-- the units of that
+abbrev pub state_units : PacketizerState → List Entry → List (List ℕ)
+state_units s entries = flat_map item_units (state_plan s entries)
+
+-- the packets of that, with decoding order numbers from its next one on
+abbrev pub state_packets : PacketizerState → List Entry → List (List ℕ)
+state_packets s entries = plan_packets s.format s.next_don (state_plan s entries)
+
+-- the next decoding order number after so many units: it goes round, and stands still where packets
+-- bear none
+abbrev pub don_after : Bool → ℕ → ℕ → ℕ
+don_after has_donl n count = if has_donl then (n + count) % 65536 else n
+
+-- the packetizer after entries
+abbrev pub after_entries : PacketizerState → List Entry → PacketizerState
+after_entries s entries = record {
+  format = s.format;
+  waiting = waiting_after s.format s.waiting entries;
+  next_don = don_after s.format.has_donl s.next_don (length (state_units s entries));
+  max_packet_size = s.max_packet_size;
+}
+
+-- whether units of this kind are not sent, and none waits for them
+abbrev pub is_skipped : Kind → Bool
+is_skipped Skipped = true
+is_skipped kind = false
+
+-- no unit but skipped ones
+abbrev pub are_skipped : Format → List (List ℕ) → Bool
+are_skipped f units = list_all (λ unit. is_skipped (f.kind unit)) units
+
+-- a call without effect: its mtu is under the least, or its payload has no unit but skipped ones
+abbrev pub has_no_effect : Format → Call → Bool
+has_no_effect f call = nat_lt call.mtu f.least_mtu || are_skipped f (f.units call.payload)
+
+-- of each call, the packets that it makes where it comes are within its limit
+abbrev pub AreWithinLimits : PacketizerState → List Call → Type 0
+AreWithinLimits s [] = Unit {0}
+AreWithinLimits s (call ∷ calls) =
+    AreWithinLimit (call_limit s.format call) (state_packets s (call_entries s.format call))
+    × AreWithinLimits (after_entries s (call_entries s.format call)) calls
+
+-- what later answers depend on: the sets that wait, the next decoding order number where packets
+-- bear them, and the largest packet size where it limits calls
+abbrev pub packetizer_meaning : PacketizerState → List (List ℕ)
+packetizer_meaning s =
+    (flat_map (λ set. set) s.waiting.vps ∷ flat_map (λ set. set) s.waiting.sps ∷
+    flat_map (λ set. set) s.waiting.pps
+    ∷ (if s.format.has_donl then word s.next_don else []) ∷ []) ++ (if s.format.has_max_packet_size
+    then word s.max_packet_size ∷ [] else [])
+
+-- the same state, as far as the format has it
+pub record IsSamePacketizerState (a b : PacketizerState) : Type 0 where
+  pub waiting : a.waiting ≡ b.waiting
+  pub next_don : a.format.has_donl ≡ true → a.next_don ≡ b.next_don
+  pub max_packet_size : a.format.has_max_packet_size ≡ true → a.max_packet_size ≡ b.max_packet_size

@@ -1,0 +1,254 @@
+//! Laws of the definitions, for every payload format that meets the facts that they ask for. Each
+//! is the contract of a function without a result. The crates of the codecs show the facts of
+//! theirs.
+
+ghost use Rattle.std.specs.Prelude.{◌≡◌, true, ◌%◌, ℕ, Bool, List, [], ◌∷◌, ◌++◌, Some, None, ◌+◌, ◌≤◌, false, length, IsTrue, ◌<◌, map};
+ghost use Rattle.std.specs.List.{AllByRecursion, Contains, flat_map};
+ghost use Rattle.h26x_model.specs.Payload.Reading.{Reading, IsRead};
+ghost use Rattle.h26x_model.specs.Payload.Format.{Format, donl_len, fragment_header_len};
+ghost use Rattle.h26x_model.specs.Send.Calls.{Call, AreCalls, all_entries};
+ghost use Rattle.h26x_model.specs.Send.Group.{Entry, Group, split, AreGroups, latest_sets};
+ghost use Rattle.h26x_model.specs.Send.Plan.{plan, PlansCallByCall, WaitsCallByCall, Item, fits_one_packet, is_dropped, item_units, KeepsLast};
+ghost use Rattle.h26x_model.specs.Send.WaitingSets.{WaitingSets, AreWaitingSets, entries_with_limit, plan_with_waiting, no_waiting_sets, waiting_after, sets_waiting};
+ghost use Rattle.h26x_model.specs.Send.Packets.{plan_packets};
+ghost use Rattle.h26x_model.specs.Send.Fragments.{AreFragments, ReadsFragments, AreMarked};
+ghost use Rattle.h26x_model.specs.Send.Limit.{ItemIsWithinLimit};
+ghost use Rattle.h26x_model.specs.Payload.Don.{DonsInOrder};
+ghost use Rattle.h26x_model.specs.Send.Rival.{TakesFewestFragments};
+ghost use Rattle.h26x_model.specs.Receive.Run.{AreReceived, PlaceBrings};
+ghost use Rattle.h26x_model.specs.Receive.Received.{open_run, IsOpenRun, units_after, received, reading_units};
+ghost use Rattle.h26x_core.specs.Kind.{Skipped};
+ghost use Rattle.h26x_model.specs.Payload.Facts.{MarksFragments, DonlHasTwoBytes, IsPayloadFormat, FitsLimits, HeadersTakeRoom, ReadsWhatItWrites, CanSend, IsPlanned, KnowsKeyUnits, AreCarried, KeyUnitsAreOther, SetsLeaveRoom};
+ghost use Rattle.h26x_model.specs.Carry.Loss.{LossStaysWithin};
+ghost use Rattle.h26x_model.specs.Send.Again.{NothingDropped, IsSteady};
+ghost use Rattle.h26x_model.specs.Carry.Detection.{AreDetected};
+ghost use Rattle.h26x_model.specs.Send.PacketizerState.{PacketizerState, IsPacketizerState, IsSamePacketizerState, state_plan, state_units, state_packets, after_entries, has_no_effect, packetizer_meaning};
+ghost use Rattle.h26x_model.specs.Receive.DepacketizerState.{DepacketizerState, Depacketization, readings_units, run_after_readings, depacketizer_meaning};
+ghost use Rattle.h26x_model.specs.Carry.Laws.{PacketizerGoesOn, DepacketizerGoesOn, CarriesWhole, LosesLittle, SendsAgain};
+
+/// A list of units is groups and a rest in one way, and `split` finds it.
+pub fn one_grouping()
+    ensures is { (f : Format) (entries : List Entry) → AreGroups f entries (split f entries).groups
+        (split f entries).rest }
+    ensures only { (f : Format) (entries : List Entry) (groups : List Group) (rest : List Entry) →
+        AreGroups f entries groups rest → split f entries ≡ record {
+          groups = groups;
+          rest = rest;
+        } }
+{}
+
+/// A plan may be made call by call, by the sets that wait; so may the sets that wait in the end.
+pub fn plans_call_by_call()
+    ensures plan { (f : Format) → PlansCallByCall f }
+    ensures waits { (f : Format) → WaitsCallByCall f }
+{}
+
+/// A plan may be made unit by unit, by the sets that wait.
+pub fn plans_unit_by_unit()
+    ensures plan { (f : Format) (entries : List Entry) →
+        plan f entries ≡ plan_with_waiting f no_waiting_sets entries }
+    ensures waits { (f : Format) (entries : List Entry) →
+        latest_sets f (split f entries).rest ≡ sets_waiting (waiting_after f no_waiting_sets entries) }
+    ensures plan_with { (f : Format) (limit : ℕ) (w : WaitingSets) (entries : List Entry) →
+        AreWaitingSets f w →
+        plan f (entries_with_limit limit (sets_waiting w) ++ entries) ≡ plan_with_waiting f w entries }
+    ensures waits_with { (f : Format) (limit : ℕ) (w : WaitingSets) (entries : List Entry) →
+        AreWaitingSets f w →
+        latest_sets f (split f (entries_with_limit limit (sets_waiting w) ++ entries)).rest
+        ≡ sets_waiting
+        (waiting_after f w entries) }
+    ensures sets { (f : Format) (w : WaitingSets) (entries : List Entry) → AreWaitingSets f w →
+        AreWaitingSets f (waiting_after f w entries) }
+{}
+
+/// Only sets are dropped for size where a fragment has room for data; and the last unit of a group
+/// whose sets fit one packet is sent.
+pub fn only_sets_are_dropped()
+    ensures room { (f : Format) (limit : ℕ) (unit : List ℕ) →
+        fragment_header_len f + donl_len f < limit → is_dropped f limit unit ≡ false }
+    ensures last { (f : Format) → SetsLeaveRoom f → (entries : List Entry) →
+        AllByRecursion (KeepsLast f) (split f entries).groups }
+{}
+
+/// No packet of a plan is longer than the limit of the call that sends it.
+pub fn packets_are_within_limits()
+    ensures { (f : Format) → FitsLimits f → (entries : List Entry) →
+        AllByRecursion (ItemIsWithinLimit f) (plan f entries) }
+{}
+
+/// The fragments of a unit, place by place, and the marks that they bear.
+pub fn fragments_by_place()
+    ensures are { (f : Format) (n limit : ℕ) (unit : List ℕ) → fits_one_packet f limit unit ≡ false →
+        is_dropped f limit unit ≡ false → f.header_len ≤ length unit → AreFragments f n limit unit }
+    ensures read { (f : Format) → ReadsWhatItWrites f → (n limit : ℕ) (unit : List ℕ) →
+        fits_one_packet f limit unit ≡ false → is_dropped f limit unit ≡ false →
+        IsTrue (f.carries unit) →
+        ReadsFragments f n limit unit }
+    ensures marked { (f : Format) → MarksFragments f → (n limit : ℕ) (unit : List ℕ) →
+        fits_one_packet f limit unit ≡ false → is_dropped f limit unit ≡ false →
+        f.header_len ≤ length unit →
+        AreMarked f n limit unit }
+{}
+
+/// A unit takes the fewest fragments that there could be.
+pub fn fewest_fragments()
+    ensures { (f : Format) → HeadersTakeRoom f → TakesFewestFragments f }
+{}
+
+/// The unit at place i of the units sent has number n + i, and numbers go on from call to call.
+pub fn dons_in_order()
+    ensures dons { (f : Format) → ReadsWhatItWrites f → (n : ℕ) (items : List Item) →
+        AllByRecursion (CanSend f) items → DonsInOrder f n items }
+    ensures call_by_call { (f : Format) (n : ℕ) (a b : List Item) →
+        plan_packets f n (a ++ b) ≡ plan_packets f n a
+        ++ plan_packets f (n + length (flat_map item_units a)) b }
+{}
+
+/// The open run is the one from the latest start on, with no end since.
+pub fn one_open_run()
+    ensures computed { (readings : List Reading) (run : List ℕ) → open_run readings ≡ Some run →
+        IsOpenRun readings run }
+    ensures only { (readings : List Reading) (run : List ℕ) → IsOpenRun readings run →
+        open_run readings ≡ Some run }
+{}
+
+/// What is received by places, by runs from a latest start to an end, is what is computed, and
+/// nothing else.
+pub fn received_by_places()
+    ensures are { (readings : List Reading) → AreReceived readings (received readings) }
+    ensures only { (readings : List Reading) (units : List (List ℕ)) → AreReceived readings units →
+        units ≡ received readings }
+{}
+
+/// What is planned of calls whose units sent are carried can be sent.
+pub fn what_is_carried_can_be_sent()
+    ensures planned { (s : PacketizerState) (calls : List Call) → IsPacketizerState s →
+        SetsLeaveRoom s.format →
+        KeyUnitsAreOther s.format → AreCalls calls →
+        AreCarried s.format (state_units s (all_entries s.format calls)) →
+        AllByRecursion (IsPlanned s.format) (state_plan s (all_entries s.format calls)) }
+    ensures can_send { (f : Format) → ReadsWhatItWrites f → (items : List Item) →
+        AllByRecursion (IsPlanned f) items → AllByRecursion (CanSend f) items }
+{}
+
+/// From all packets what is sent is received, whatever came before; and none of them is refused for
+/// what it is.
+pub fn what_is_sent_is_received()
+    ensures items { (f : Format) → ReadsWhatItWrites f →
+        (n : ℕ) (items : List Item) (earlier : List Reading) → AllByRecursion (CanSend f) items →
+        units_after earlier (map f.read (plan_packets f n items)) ≡ flat_map item_units items }
+    ensures read { (f : Format) → ReadsWhatItWrites f → (n : ℕ) (items : List Item) →
+        AllByRecursion (CanSend f) items →
+        AllByRecursion (λ packet. IsRead (f.read packet)) (plan_packets f n items) }
+{}
+
+/// A lost packet hurts no item but its own, whatever came before.
+pub fn loss_stays_within()
+    ensures { (f : Format) → ReadsWhatItWrites f → LossStaysWithin f }
+{}
+
+/// The plan of what was sent, at one limit with nothing dropped, is the plan; so what is sent is
+/// sent again.
+pub fn what_was_sent_is_sent_again()
+    ensures { (f : Format) (limit : ℕ) (units : List (List ℕ)) →
+        NothingDropped f (entries_with_limit limit units) → IsSteady f limit units }
+{}
+
+/// A key unit is detected in its packet or its first fragment, and in no other packet made, but for
+/// aggregates that bear numbers.
+pub fn key_units_are_detected()
+    ensures { (f : Format) → KnowsKeyUnits f → ReadsWhatItWrites f → (n : ℕ) (items : List Item) →
+        AllByRecursion (IsPlanned f) items → AreDetected f n items }
+{}
+
+/// Numbers are two bytes: packets numbered on from n are those numbered on from its remainder;
+/// without numbers n counts for nothing.
+pub fn donl_has_two_bytes()
+    ensures round { (f : Format) → DonlHasTwoBytes f → (n : ℕ) (items : List Item) →
+        plan_packets f (n % 65536) items ≡ plan_packets f n items }
+    ensures none { (f : Format) → DonlHasTwoBytes f → f.has_donl ≡ false →
+        (n m : ℕ) (items : List Item) → plan_packets f n items ≡ plan_packets f m items }
+{}
+
+/// What packets bring after others is what they bring where the run of these is open.
+pub fn received_from_a_run()
+    ensures { (earlier readings : List Reading) →
+        units_after earlier readings ≡ readings_units (open_run earlier) readings }
+{}
+
+/// A packetizer goes on from call to call; what it plans is what is planned of the sets that wait
+/// and then the entries.
+pub fn packetizers_go_on()
+    ensures goes_on { (s : PacketizerState) → FitsLimits s.format → DonlHasTwoBytes s.format →
+        IsPacketizerState s → PacketizerGoesOn s }
+    ensures planned { (s : PacketizerState) (entries : List Entry) → IsPacketizerState s → (limit : ℕ) →
+        plan s.format (entries_with_limit limit (sets_waiting s.waiting) ++ entries)
+        ≡ state_plan s entries }
+{}
+
+/// A call without effect may be left out, wherever it stands: plan, and so what is sent and its
+/// packets, and what waits and the next decoding order number are the same.
+pub fn calls_without_effect()
+    ensures { (s : PacketizerState) → IsPayloadFormat s.format → IsPacketizerState s →
+        (before later : List Call) (call : Call) → has_no_effect s.format call ≡ true →
+        (state_plan s (all_entries s.format (before ++ call ∷ later))
+        ≡ state_plan s (all_entries s.format
+        (before ++ later)))
+        × (after_entries s (all_entries s.format (before ++ call ∷ later))
+        ≡ after_entries s (all_entries s.format
+        (before ++ later))) }
+{}
+
+/// A depacketizer goes on from packets to packets.
+pub fn depacketizers_go_on()
+    ensures { (w : Depacketization) → IsPayloadFormat w.state.format → DepacketizerGoesOn w }
+{}
+
+/// Where the units that calls send can be carried, they are carried whole, whatever waited,
+/// whatever the next decoding order number was and whatever run was open.
+pub fn what_calls_send_is_carried()
+    ensures { (s : PacketizerState) (w : Depacketization) (calls : List Call) →
+        IsPayloadFormat s.format → IsPacketizerState s →
+        AreCalls calls → w.state.format ≡ s.format →
+        AreCarried s.format (state_units s (all_entries s.format calls)) → CarriesWhole s w calls }
+{}
+
+/// What some of the packets that calls send bring, in order: item by item what is left of it,
+/// whatever run was open.
+pub fn what_is_left_is_brought()
+    ensures { (s : PacketizerState) (w : Depacketization) (calls : List Call) →
+        IsPayloadFormat s.format → IsPacketizerState s →
+        AreCalls calls → w.state.format ≡ s.format →
+        AreCarried s.format (state_units s (all_entries s.format calls)) → (mask : List Bool) →
+        length mask ≡ length (state_packets s (all_entries s.format calls)) →
+        LosesLittle s w calls mask }
+{}
+
+/// Payloads at one mtu, and the text of what was sent of them: they have the same packets.
+pub fn what_was_written_is_sent_again()
+    ensures { (f : Format) → SendsAgain f }
+{}
+
+/// Packetizers of one format that have the same meaning are in the same state, and so are
+/// depacketizers.
+pub fn equal_meanings_are_equal_states()
+    ensures packetizers { (a b : PacketizerState) → a.format ≡ b.format → a.format.kind [] ≡ Skipped →
+        IsPacketizerState a → IsPacketizerState b →
+        packetizer_meaning a ≡ packetizer_meaning b → IsSamePacketizerState a b }
+    ensures depacketizers { (a b : DepacketizerState) → a.format ≡ b.format →
+        depacketizer_meaning a ≡ depacketizer_meaning b → a ≡ b }
+{}
+
+/// What the next packet brings, where the run of those before it is open, is what its place brings.
+pub fn the_next_by_its_place()
+    ensures { (earlier : List Reading) (reading : Reading) →
+        PlaceBrings (earlier ++ reading ∷ []) (length earlier) (Some reading)
+        (reading_units (run_after_readings None earlier) reading) }
+{}
+
+/// Each unit that a packetizer sends is a set that waited or a unit that came.
+pub fn what_is_sent_came()
+    ensures { (s : PacketizerState) (entries : List Entry) →
+        AllByRecursion (Contains (sets_waiting s.waiting ++ map (λ e. e.unit) entries))
+        (state_units s entries) }
+{}

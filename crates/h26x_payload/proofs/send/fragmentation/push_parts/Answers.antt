@@ -1,0 +1,50 @@
+use Rattle.std.proofs.Common.{rules, map, false, ◌≡◌, ℕ, ◌+◌, ◌<◌, length, ◌-◌, ◌*◌, vec_len, refl, sym, ap, ◌∙◌, arith, drop, min, eqb, Vec, Global, ◌++◌}
+use Rattle.std.specs.List.{range_with_len}
+use Rattle.std.proofs.lemmas.Grind.{common_steps}
+use Rattle.std.proofs.lemmas.Bool.Decides.{nat_tests}
+use Rattle.h26x_model.specs.Send.Packets.{fragment, fragmented_bytes, fragment_room}
+use Rattle.h26x_payload.proofs.FragmentLemmas.{packets_more, fragment_at, rest_more, count_more, all_taken}
+use Rattle.h26x_payload.proofs.send.fragmentation.push_parts.Goals as goal
+
+pub loop-donl-preserved : goal.loop-donl-preserved
+loop-donl-preserved g c =
+    let f = g.C.PayloadFormat.format c.args.codec in
+    let fragment = fragment f c.args.don c.args.limit c.args.unit.now in
+    let before = map (λ (p : Vec ℕ Global). p.items) c.args.made.now.items in
+    let h = c.header_len-header_len.ensures.is in
+    let space = c.args.limit - (c.header_len-header_len.result + 1) in
+    let same : space ≡ fragment_room f c.args.limit = ap (λ k. c.args.limit - (k + 1)) h in
+    let j = vec_len c.loop-donl.made - vec_len c.args.made.now in
+    let donl = c.loop-donl.donl.now in
+    let rest = c.loop-donl.rest.now in
+    let packet = c.in_ok-fragment_of.field-0.items in
+    let inv = c.loop-donl.invariant in
+    let taken : c.min-taken.result ≡ min (length rest) (space - length donl) = search rules in
+    let some : 0 < length rest = grind (arith, common_steps) in
+    let next : vec_len c.push.new.self - vec_len c.args.made.now ≡ j + 1 = omega (arith, c.in_ok-push.ensures.len, inv.before) in
+    let here : packet ≡ fragment j = fragment_at f c.args.don c.args.limit space c.args.unit.now donl rest packet j c.min-taken.result c.loop-donl.start (eqb c.min-taken.result (length rest))
+    same inv.donl inv.rest some taken inv.start refl (c.in_ok-fragment_of.ensures) in
+    record {
+      packets = ap (map (λ (p : Vec ℕ Global). p.items)) c.in_ok-push.ensures.items
+          ∙ packets_more (λ (p : Vec ℕ Global). p.items) fragment before c.loop-donl.made.items c.in_ok-fragment_of.field-0 j inv.packets here
+          ∙ ap (λ k. before ++ map fragment (range_with_len 0 k)) (sym next);
+      rest = rest_more f c.args.don c.args.limit space c.args.unit.now donl rest j c.min-taken.result _ same inv.donl inv.rest taken refl ∙ ap (λ k. drop (k * fragment_room f c.args.limit) (fragmented_bytes f c.args.don c.args.unit.now)) (sym next);
+      donl = omega (arith, inv.donl);
+      few = omega arith;
+      count = let a = count_more f c.args.don c.args.limit space c.args.unit.now donl rest j same inv.donl inv.rest some in omega (arith, a, next);
+      start = let later : false ≡ eqb (j + 1) 0 = grind (arith, nat_tests) in later ∙ ap (λ k. eqb k 0) (sym next);
+      before = omega (arith, c.in_ok-push.ensures.len, inv.before);
+    }
+
+pub returns : goal.returns
+returns g c =
+    let f = g.C.PayloadFormat.format c.args.codec in
+    let fragment = fragment f c.args.don c.args.limit c.args.unit.now in
+    let before = map (λ (p : Vec ℕ Global). p.items) c.args.made.now.items in
+    let space = c.args.limit - (c.header_len-header_len.result + 1) in
+    let same : space ≡ fragment_room f c.args.limit = ap (λ k. c.args.limit - (k + 1)) c.header_len-header_len.ensures.is in
+    let j = vec_len c.loop-donl.made - vec_len c.args.made.now in
+    let inv = c.loop-donl.invariant in
+    let none : length c.loop-donl.rest.now ≡ 0 = grind (arith, common_steps) in
+    let all = all_taken f c.args.don c.args.limit space c.args.unit.now c.loop-donl.donl.now c.loop-donl.rest.now j same (omega (arith, inv.donl)) inv.rest none inv.few inv.count in
+    inv.packets ∙ ap (λ n. before ++ map fragment (range_with_len 0 n)) all

@@ -1,0 +1,114 @@
+//! Units as they are written: behind start codes (Annex B of H.264, H.265 and H.266), or behind their
+//! lengths (ISO/IEC 14496-15).
+
+ghost use Rattle.std.specs.Prelude.{◌≡◌, ◌≤◌, ◌+◌, ◌^◌, nat_le, false, ◌&&◌, if◌then◌else◌, ◌⊎◌, [], ◌∷◌, ◌++◌, length, vec_len, vec_capacity, Ok, Err, OnOk, OnErr};
+ghost use Rattle.h26x_core.specs.ByteStream.{unit_prefix, byte_stream};
+ghost use Rattle.h26x_core.specs.Word.{long_word};
+ghost use Rattle.h26x_model.specs.Receive.Outcome.{is_too_long};
+ghost use Rattle.h26x_payload.specs.Run.{IsWriteOutcome};
+
+use h26x_core::{ANNEXB_NALUSTART_CODE, PacketError};
+
+/// The bytes before a unit that is written: a start code (Annex B of H.264, H.265 and H.266), or its
+/// length (ISO/IEC 14496-15).
+pub const PREFIX_SIZE: usize = 4;
+
+/// Writes what stands before a unit of this length, where there is room for it.
+#[inline(always)]
+fn put_prefix(is_avc: bool, len: usize, out: &mut Vec<u8>)
+    requires room { vec_len out.old + 4 ≤ vec_capacity out.old }
+    requires fits { (is_avc && nat_le (2 ^ 32) len) ≡ false }
+    ensures written { out.new.items ≡ out.old.items ++ (if is_avc then long_word len else 0 ∷ 0 ∷
+        0 ∷ 1 ∷ []) }
+    ensures capacity { vec_capacity out.old ≤ vec_capacity out.new }
+{
+    let prefix = if is_avc {
+        (len as u32).to_be_bytes()
+    } else {
+        ANNEXB_NALUSTART_CODE
+    };
+    out.extend_from_slice(&prefix).unwrap();
+}
+
+/// Whether four bytes don't hold a unit's length.
+#[inline]
+pub(crate) fn is_too_long(len: usize) -> bool
+    ensures { result ≡ nat_le (2 ^ 32) len }
+{
+    len > u32::MAX as usize
+}
+
+/// Writes a whole unit, where there is room for it.
+#[inline(always)]
+pub(crate) fn put_unit(is_avc: bool, unit: &[u8], out: &mut Vec<u8>)
+    requires room { vec_len out.old + (4 + length unit.now) ≤ vec_capacity out.old }
+    requires fits { (is_avc && is_too_long unit.now) ≡ false }
+    ensures written { out.new.items ≡ out.old.items ++ (unit_prefix is_avc unit.now ++ unit.now) }
+    ensures capacity { vec_capacity out.old ≤ vec_capacity out.new }
+{
+    put_prefix(is_avc, unit.len(), out);
+    out.extend_from_slice(unit).unwrap();
+}
+
+/// Writes a whole unit, behind a start code (Annex B of H.264, H.265 and H.266) or behind its length
+/// (ISO/IEC 14496-15). A unit over `u32::MAX` bytes has no length of four bytes; else memory may
+/// lack.
+#[inline(always)]
+pub fn write_unit(is_avc: bool, unit: &[u8], out: &mut Vec<u8>) -> Result<(), PacketError>
+    ensures outcome { IsWriteOutcome (is_avc && is_too_long unit.now) result }
+    ensures written { OnOk result (out.new.items ≡ out.old.items
+        ++ byte_stream is_avc (unit.now ∷ [])) }
+    ensures kept { OnErr result (out.new.items ≡ out.old.items) }
+{
+    if is_avc && is_too_long(unit.len()) {
+        return Err(PacketError::AvcUnitTooLong);
+    }
+    out.reserve(unit.len().saturating_add(PREFIX_SIZE))?;
+    put_unit(is_avc, unit, out);
+    Ok(())
+}
+
+/// Writes a unit of these parts, where there is room for it.
+fn put_parts(is_avc: bool, head: &[u8], run: &[u8], body: &[u8], out: &mut Vec<u8>)
+    requires room { vec_len out.old + (4 + (length head.now + (length run.now
+        + length body.now))) ≤ vec_capacity out.old }
+    requires fits { (is_avc && is_too_long (head.now ++ (run.now ++ body.now))) ≡ false }
+    ensures written { out.new.items ≡ out.old.items
+        ++ (unit_prefix is_avc (head.now ++ (run.now ++ body.now))
+        ++ (head.now ++ (run.now ++ body.now))) }
+    ensures capacity { vec_capacity out.old ≤ vec_capacity out.new }
+{
+    put_prefix(is_avc, head.len() + run.len() + body.len(), out);
+    out.extend_from_slice(head).unwrap();
+    if !run.is_empty() {
+        out.extend_from_slice(run).unwrap();
+    }
+    out.extend_from_slice(body).unwrap();
+}
+
+/// Writes a unit of these parts, as `write_unit` does: its header, the data of its run, and the last
+/// of its data (RFC 6184, 5.8; RFC 7798, 4.4.3; RFC 9328, 4.3.3).
+pub fn write_parts(
+    is_avc: bool,
+    head: &[u8],
+    run: &[u8],
+    body: &[u8],
+    out: &mut Vec<u8>,
+) -> Result<(), PacketError>
+    ensures outcome { IsWriteOutcome (is_avc && is_too_long (head.now ++ (run.now ++ body.now)))
+        result }
+    ensures written { OnOk result (out.new.items ≡ out.old.items
+        ++ byte_stream is_avc ((head.now ++ (run.now ++ body.now)) ∷ [])) }
+    ensures kept { OnErr result (out.new.items ≡ out.old.items) }
+{
+    let len = head
+        .len()
+        .saturating_add(run.len())
+        .saturating_add(body.len());
+    if is_avc && is_too_long(len) {
+        return Err(PacketError::AvcUnitTooLong);
+    }
+    out.reserve(len.saturating_add(PREFIX_SIZE))?;
+    put_parts(is_avc, head, run, body, out);
+    Ok(())
+}

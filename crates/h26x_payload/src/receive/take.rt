@@ -1,0 +1,175 @@
+//! What a packet brings to a depacketizer, for every codec (RFC 6184, 7; RFC 7798, 6; RFC 9328, 6).
+
+ghost use Rattle.std.specs.Prelude.{◌≡◌, ◌⊎◌, ◌&&◌, ◌++◌, ◌^◌, nat_le, true, false, length, Ok, Err, OnOk, OnErr, IsOk};
+ghost use Rattle.std.specs.List.{list_any};
+ghost use Rattle.h26x_core.specs.ByteStream.{byte_stream};
+ghost use Rattle.h26x_model.specs.Payload.Extra.{extra_after};
+ghost use Rattle.h26x_model.specs.Receive.Received.{reading_units, run_after};
+ghost use Rattle.h26x_model.specs.Receive.Outcome.{IsReadingOutcome, is_startless, is_too_long};
+ghost use Rattle.h26x_payload.specs.Run.{header_bytes, fragment_reading, IsWriteOutcome};
+ghost use Rattle.h26x_payload.specs.DepacketizerView.{parts_reading, AreChecked, IsReadAs};
+
+use crate::format::PayloadFormat;
+use crate::receive::aggregate::write_units;
+use crate::receive::byte_stream::{is_too_long, write_parts, write_unit};
+use crate::receive::extra::told;
+use crate::receive::parts::Parts;
+use crate::receive::reader::PacketReader;
+use crate::receive::reassembly::{Fragment, take_fragment};
+use crate::receive::run::OpenRun;
+use h26x_core::{CodecExtra, PacketError};
+
+/// The bytes of the unit that a fragment completes, at most `usize::MAX`; 0 where it completes none.
+fn fragment_completes<C: PayloadFormat>(codec: C, fragment: Fragment<'_>, run: &OpenRun) -> usize
+    requires { length (header_bytes (C.format codec) fragment.head) ≡ (C.format codec).header_len }
+    ensures { nat_le (2 ^ 32) result ≡ list_any is_too_long (reading_units run.now
+        (fragment_reading (C.format codec) fragment.entry)) }
+{
+    if !fragment.end || !fragment.start && !run.is_open() {
+        return 0;
+    }
+    let data = if fragment.start { &[] } else { run.bytes() };
+    data.len()
+        .saturating_add(fragment.body.len())
+        .saturating_add(codec.header_len())
+}
+
+/// The bytes of the unit that a packet completes, at most `usize::MAX`; 0 where it completes none,
+/// and for an aggregate, whose lengths have two bytes.
+fn completed_len<C: PacketReader>(codec: C, packet: &[u8], parts: Parts<'_>, run: &OpenRun) -> usize
+    requires { AreChecked (C.format codec) (C.units codec) packet.now parts }
+    ensures { nat_le (2 ^ 32) result ≡ list_any is_too_long (reading_units run.now
+        (parts_reading (C.format codec) (C.units codec) packet.now parts.entry)) }
+{
+    match parts {
+        Parts::Whole => packet.len(),
+        Parts::Unit { body, .. } => body.len().saturating_add(codec.header_len()),
+        Parts::Aggregate { .. } => 0,
+        Parts::Fragment(fragment) => fragment_completes(codec, fragment, run),
+    }
+}
+
+/// Whether a packet completes a unit of over `u32::MAX` bytes, where units are written behind
+/// lengths.
+#[inline]
+fn completes_long_unit<C: PacketReader>(
+    codec: C,
+    is_avc: bool,
+    packet: &[u8],
+    parts: Parts<'_>,
+    run: &OpenRun,
+) -> bool
+    requires { IsReadAs (C.format codec) (C.units codec) packet.now parts }
+    ensures { result ≡ (is_avc && list_any is_too_long
+        (reading_units run.now ((C.format codec).read packet.now))) }
+{
+    is_avc && is_too_long(completed_len(codec, packet, parts, run))
+}
+
+/// Refuses a packet that completes a unit of over `u32::MAX` bytes, where units are written behind
+/// lengths of four bytes (ISO/IEC 14496-15). It takes no memory.
+#[inline]
+pub fn check_lengths<C: PacketReader>(
+    codec: C,
+    is_avc: bool,
+    packet: &[u8],
+    parts: Parts<'_>,
+    run: &OpenRun,
+) -> Result<(), PacketError>
+    requires { IsReadAs (C.format codec) (C.units codec) packet.now parts }
+    ensures refused { OnErr result (IsReadingOutcome is_avc run.now
+        ((C.format codec).read packet.now) result) }
+
+    // Behind lengths that fit, want of memory is an outcome; a fragment that doesn't start while no
+    // run is open completes nothing.
+    ensures memory { OnOk result (IsReadingOutcome is_avc run.now ((C.format codec).read packet.now)
+        (Err PacketError.OutOfMemory)) }
+    ensures startless { is_startless run.now ((C.format codec).read packet.now) ≡ true →
+        IsOk result }
+{
+    if completes_long_unit(codec, is_avc, packet, parts, run) {
+        return Err(PacketError::AvcUnitTooLong);
+    }
+    Ok(())
+}
+
+/// Takes the parts of a packet: writes the units that it completes, tells of them, and keeps its
+/// run.
+#[inline]
+fn take_parts<C: PacketReader>(
+    codec: C,
+    is_avc: bool,
+    packet: &[u8],
+    parts: Parts<'_>,
+    run: &mut OpenRun,
+    out: &mut Vec<u8>,
+    codec_extra: &mut CodecExtra,
+) -> Result<(), PacketError>
+    requires { AreChecked (C.format codec) (C.units codec) packet.now parts }
+    ensures outcome { IsWriteOutcome (is_avc && list_any is_too_long (reading_units run.old
+        (parts_reading (C.format codec) (C.units codec) packet.now parts.entry))) result }
+    ensures written { OnOk result (out.new.items ≡ out.old.items
+        ++ byte_stream is_avc (reading_units run.old
+        (parts_reading (C.format codec) (C.units codec) packet.now parts.entry))) }
+    ensures told { OnOk result (codec_extra.new ≡ extra_after (C.format codec) codec_extra.old
+        (reading_units run.old
+        (parts_reading (C.format codec) (C.units codec) packet.now parts.entry))) }
+    ensures run { OnOk result (run.new ≡ run_after run.old
+        (parts_reading (C.format codec) (C.units codec) packet.now parts.entry)) }
+    ensures kept { OnErr result (out.new.items ≡ out.old.items) }
+    ensures kept_extra { OnErr result (codec_extra.new ≡ codec_extra.old) }
+    ensures kept_run { OnErr result (run.new ≡ run.old) }
+    ensures startless { is_startless run.old
+        (parts_reading (C.format codec) (C.units codec) packet.now parts.entry) ≡ true → IsOk result }
+{
+    match parts {
+        Parts::Whole => {
+            write_unit(is_avc, packet, out)?;
+            *codec_extra = told(codec, *codec_extra, codec.is_key(packet));
+            Ok(())
+        }
+        Parts::Unit { head, body } => {
+            let head = &head[..codec.header_len()];
+            write_parts(is_avc, head, &[], body, out)?;
+            *codec_extra = told(codec, *codec_extra, codec.is_key(head));
+            Ok(())
+        }
+        Parts::Aggregate { bytes, size } => {
+            write_units(codec, is_avc, bytes, size, out, codec_extra)
+        }
+        Parts::Fragment(fragment) => {
+            take_fragment(codec, is_avc, fragment, run, out, codec_extra)
+        }
+    }
+}
+
+/// Takes a packet that was read: writes the units that it completes, behind start codes or behind
+/// their lengths, tells of them, and keeps its run.
+///
+/// Behind lengths a unit over `u32::MAX` bytes is refused; else memory may lack. A fragment that
+/// doesn't start while no run is open takes none. A refusal leaves everything.
+#[inline]
+pub fn take_packet<C: PacketReader>(
+    codec: C,
+    is_avc: bool,
+    packet: &[u8],
+    parts: Parts<'_>,
+    run: &mut OpenRun,
+    out: &mut Vec<u8>,
+    codec_extra: &mut CodecExtra,
+) -> Result<(), PacketError>
+    requires { IsReadAs (C.format codec) (C.units codec) packet.now parts }
+    ensures outcome { IsReadingOutcome is_avc run.old ((C.format codec).read packet.now) result }
+    ensures written { OnOk result (out.new.items ≡ out.old.items ++ byte_stream is_avc
+        (reading_units run.old ((C.format codec).read packet.now))) }
+    ensures told { OnOk result (codec_extra.new ≡ extra_after (C.format codec) codec_extra.old
+        (reading_units run.old ((C.format codec).read packet.now))) }
+    ensures run { OnOk result (run.new ≡ run_after run.old ((C.format codec).read packet.now)) }
+    ensures kept { OnErr result (out.new.items ≡ out.old.items) }
+    ensures kept_extra { OnErr result (codec_extra.new ≡ codec_extra.old) }
+    ensures kept_run { OnErr result (run.new ≡ run.old) }
+    ensures startless { is_startless run.old ((C.format codec).read packet.now) ≡ true →
+        IsOk result }
+{
+    take_parts(codec, is_avc, packet, parts, run, out, codec_extra)
+}

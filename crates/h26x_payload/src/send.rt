@@ -1,0 +1,7 @@
+//! The sending half: payloads are cut into packets (RFC 6184, 5 and 6; RFC 7798, 4.4 and 5; RFC
+//! 9328, 4.3 and 5).
+
+pub mod fragmentation;
+pub mod packetizer;
+pub mod sets;
+pub mod units;

@@ -1,0 +1,335 @@
+//! The packets of payloads, for every codec.
+
+ghost use Rattle.std.specs.Prelude.{◌≡◌, ◌≤◌, ◌∷◌, ℕ, [], true, false, OnOk, OnErr, IfOk, IsOk, None, map, length, Err};
+ghost use Rattle.std.specs.Option.{option_map};
+ghost use Rattle.h26x_model.specs.Send.Limit.{AreWithinLimit};
+ghost use Rattle.h26x_model.specs.Send.Calls.{packet_limit, call_limit};
+ghost use Rattle.h26x_model.specs.Send.WaitingSets.{waiting_after_unit, due_items, plan_with_waiting, waiting_after, entries_with_limit, no_waiting_sets};
+ghost use Rattle.h26x_model.specs.Send.PacketizerState.{state_packets, is_skipped, are_skipped, has_no_effect};
+ghost use Rattle.h26x_payload.specs.Sending.{contents, ArePushed, set_list, latest_set, waiting_with_brought, due_to_items, is_nothing};
+ghost use Rattle.h26x_payload.specs.PacketizerView.{IsPacketizer, packetizer_state, fresh_packetizer, view_call, view_entries, view_after};
+
+use crate::format::{DonlFormat, PayloadFormat, UnitKind};
+use crate::send::sets::Sets;
+use crate::send::units::{Due, push_due};
+use h26x_core::{PacketError, Packetizer};
+use h26x_model::laws;
+use std::alloc::Global;
+use std::marker::Model;
+
+/// The largest packet size of a new packetizer, in bytes.
+const FIRST_LARGEST: u16 = 1200;
+
+/// What a payload has brought so far: whether the sets from before were sent, and the sets since.
+#[derive(Clone, Copy)]
+pub struct Brought<'a> {
+    taken: bool,
+    vps: Option<&'a [u8]>,
+    sps: Option<&'a [u8]>,
+    pps: Option<&'a [u8]>,
+}
+
+/// Sends the units of payloads (RFC 6184, 5 and 6.3; RFC 7798, 4.4 and 5; RFC 9328, 4.3 and 5).
+///
+/// A unit that fits goes alone, a longer one in fragments. Parameter sets wait, each the latest of
+/// its kind, and go before the next other unit once there are an SPS and a PPS.
+#[derive(Debug, Drop)]
+pub struct PayloadPacketizer<C: PayloadFormat> {
+    codec: C,
+    vps: Option<Vec<u8>>,
+    sps: Option<Vec<u8>>,
+    pps: Option<Vec<u8>>,
+    next_don: u16,
+    max_packet_size: u16,
+    alloc: Global,
+}
+
+impl<C: PayloadFormat> Model for PayloadPacketizer<C> {
+    ghost use Rattle.std.specs.Option.{option_map};
+    ghost use Rattle.h26x_payload.specs.PacketizerView.{PacketizerView, IsPacketizer, packetizer_view, packetizer_state};
+
+    ghost Value = { PacketizerView C };
+
+    ghost view = { λ a. packetizer_view a.codec (option_map (λ v. v.items) a.vps)
+        (option_map (λ v. v.items) a.sps) (option_map (λ v. v.items) a.pps) a.next_don
+        a.max_packet_size };
+
+    ghost invariant = { λ a. IsPacketizer (C.format a.codec) (packetizer_state (C.format a.codec)
+        (packetizer_view a.codec (option_map (λ v. v.items) a.vps) (option_map (λ v. v.items) a.sps)
+        (option_map (λ v. v.items) a.pps) a.next_don a.max_packet_size)) };
+}
+
+/// The latest set, if one waits.
+fn newest_of<'a>(
+    old: &'a Option<Vec<u8>>,
+    taken: bool,
+    brought: Option<&'a [u8]>,
+) -> Option<&'a [u8]>
+    ensures { set_list (option_map (λ s. s.now) result) ≡ latest_set
+        (set_list (option_map (λ v. v.items) old.now)) taken
+        (set_list (option_map (λ s. s.now) brought.entry)) }
+{
+    match brought {
+        Some(set) => Some(set),
+        None => {
+            if taken {
+                None
+            } else {
+                match old {
+                    Some(set) => Some(set.as_slice()),
+                    None => None,
+                }
+            }
+        }
+    }
+}
+
+/// A copy of a set, if there is one.
+fn copied(alloc: Global, set: Option<&[u8]>) -> Result<Option<Vec<u8>>, PacketError>
+    ensures same { IfOk result (λ it. option_map (λ v. v.items) it ≡ option_map
+        (λ s. s.now) set.entry) }
+    ensures none { set.entry ≡ None → IsOk result }
+    ensures memory { OnErr result (result ≡ Err PacketError.OutOfMemory) }
+{
+    match set {
+        Some(set) => Ok(Some(set.to_vec(alloc)?)),
+        None => Ok(None),
+    }
+}
+
+/// Puts the latest set in place.
+fn replace_set(set: &mut Option<Vec<u8>>, taken: bool, brought: Option<Vec<u8>>)
+    ensures { set_list (option_map (λ v. v.items) set.new) ≡ latest_set
+        (set_list (option_map (λ v. v.items) set.old)) taken
+        (set_list (option_map (λ v. v.items) brought)) }
+{
+    if taken || brought.is_some() {
+        *set = brought;
+    }
+}
+
+impl<C: PayloadFormat> PayloadPacketizer<C> {
+    /// A packetizer for which nothing waits; its memory comes from `alloc`.
+    pub fn new(alloc: Global) -> Self
+        ensures { result ≡ fresh_packetizer C.fresh }
+    {
+        PayloadPacketizer {
+            codec: C::new(),
+            vps: None,
+            sps: None,
+            pps: None,
+            next_don: 0,
+            max_packet_size: FIRST_LARGEST,
+            alloc,
+        }
+    }
+
+    /// A packetizer with the same setting, sets that wait, next number and largest packet size.
+    /// `OutOfMemory` is its only error.
+    pub fn clone(&self) -> Result<Self, PacketError>
+        ensures same { IfOk result (λ it. it ≡ self.now) }
+        ensures none { self.now.waiting ≡ no_waiting_sets → IsOk result }
+        ensures memory { OnErr result (result ≡ Err PacketError.OutOfMemory) }
+    {
+        let vps = copied(self.alloc, self.vps.as_deref())?;
+        let sps = copied(self.alloc, self.sps.as_deref())?;
+        let pps = copied(self.alloc, self.pps.as_deref())?;
+        Ok(PayloadPacketizer {
+            codec: self.codec,
+            vps,
+            sps,
+            pps,
+            next_don: self.next_don,
+            max_packet_size: self.max_packet_size,
+            alloc: self.alloc,
+        })
+    }
+
+    /// The limit of a call.
+    fn limit(&self, mtu: usize) -> usize
+        ensures { result ≡ packet_limit (C.format self.now.codec) self.now.max_packet_size mtu }
+    {
+        if self.codec.has_max_packet_size() {
+            mtu.min(usize::from(self.max_packet_size))
+        } else {
+            mtu
+        }
+    }
+
+    /// Takes the next unit of a payload, and tells what goes.
+    fn take_unit<'a>(&'a self, unit: &'a [u8], brought: &mut Brought<'a>) -> Due<'a>
+        ensures sent { (limit : ℕ) → due_to_items (C.format self.now.codec) limit unit.now result
+            ≡ due_items (C.format self.now.codec) (waiting_with_brought self.now.waiting brought.old)
+            (record { unit = unit.now; limit = limit }) }
+        ensures waits { waiting_with_brought self.now.waiting brought.new ≡ waiting_after_unit
+            (C.format self.now.codec) (waiting_with_brought self.now.waiting brought.old) unit.now }
+        ensures whole { is_nothing result ≡ false →
+            (C.format self.now.codec).header_len ≤ length unit.now }
+        ensures skipped { is_skipped ((C.format self.now.codec).kind unit.now) ≡ true →
+            (result ≡ Due.Nothing) × (brought.new ≡ brought.old) }
+    {
+        match self.codec.kind_of(unit) {
+            UnitKind::Skipped => Due::Nothing,
+            UnitKind::Vps => {
+                brought.vps = Some(unit);
+                Due::Nothing
+            }
+            UnitKind::Sps => {
+                brought.sps = Some(unit);
+                Due::Nothing
+            }
+            UnitKind::Pps => {
+                brought.pps = Some(unit);
+                Due::Nothing
+            }
+            UnitKind::Other => {
+                let vps = newest_of(&self.vps, brought.taken, brought.vps);
+                let sps = newest_of(&self.sps, brought.taken, brought.sps);
+                let pps = newest_of(&self.pps, brought.taken, brought.pps);
+                match (sps, pps) {
+                    (Some(sps), Some(pps)) => {
+                        *brought = Brought {
+                            taken: true,
+                            vps: None,
+                            sps: None,
+                            pps: None,
+                        };
+                        Due::SetsAndUnit(Sets { vps, sps, pps })
+                    }
+                    _ => Due::Unit,
+                }
+            }
+        }
+    }
+
+    /// Appends the packets of a payload, and tells what it brought and the next number.
+    fn push_payload<'a>(
+        &'a self,
+        limit: usize,
+        b: &'a [u8],
+        made: &mut Vec<Vec<u8>>,
+    ) -> Result<(Brought<'a>, u16), PacketError>
+        ensures sent { IfOk result (λ it. ArePushed (C.format self.now.codec) self.now.next_don
+            (plan_with_waiting (C.format self.now.codec) self.now.waiting
+            (entries_with_limit limit ((C.format self.now.codec).units b.now)))
+            (contents made.old.items) (contents made.new.items) it.1) }
+        ensures waits { IfOk result (λ it. waiting_with_brought self.now.waiting it.0 ≡ waiting_after
+            (C.format self.now.codec) self.now.waiting
+            (entries_with_limit limit ((C.format self.now.codec).units b.now))) }
+        ensures skipped { are_skipped (C.format self.now.codec)
+            ((C.format self.now.codec).units b.now) ≡ true → IfOk result (λ it. (it.0.vps ≡ None)
+            × (it.0.sps ≡ None) × (it.0.pps ≡ None)) × IsOk result }
+        ensures memory { OnErr result (result ≡ Err PacketError.OutOfMemory) }
+    {
+        let mut brought = Brought {
+            taken: false,
+            vps: None,
+            sps: None,
+            pps: None,
+        };
+        laws::donl_has_two_bytes();
+        let mut don = self.next_don;
+        for unit in self.codec.units_in(b) {
+            let due = self.take_unit(unit, &mut brought);
+            don = push_due(self.codec, self.alloc, limit, don, unit, due, made)?;
+        }
+        Ok((brought, don))
+    }
+}
+
+/// A law of every packetizer: at most one set of each kind waits, its next decoding order number is
+/// of two bytes, and where packets bear none that number is 0.
+pub fn packetizer_states<C: PayloadFormat>(packetizer: &PayloadPacketizer<C>)
+    ensures { IsPacketizer (C.format packetizer.now.codec)
+        (packetizer_state (C.format packetizer.now.codec) packetizer.now) }
+{
+    let _ = &packetizer.codec;
+}
+
+impl<C: DonlFormat> PayloadPacketizer<C> {
+    /// Turns decoding order numbers on, which begin at 0, or off (RFC 7798, 4.6; RFC 9328, 4.4).
+    /// Sets that wait stay.
+    pub fn with_donl(&mut self, has_donl: bool)
+        ensures { self.new ≡ record self.old {
+          codec = C.with_donl_of self.old.codec has_donl;
+          next_don = 0;
+        } }
+    {
+        self.codec = self.codec.with_donl(has_donl);
+        self.next_don = 0;
+    }
+
+    /// Sets the largest packet size, in bytes, 4 or more: no packet of a later call is longer. It
+    /// is 1200 at first.
+    pub fn with_max_packet_size(&mut self, n: u16)
+        requires { 4 ≤ n }
+        ensures { self.new ≡ record self.old { max_packet_size = n } }
+    {
+        self.max_packet_size = n;
+    }
+}
+
+impl<C: PayloadFormat> Packetizer for PayloadPacketizer<C> {
+    ghost use Rattle.h26x_model.specs.Send.PacketizerState.{packetizer_meaning};
+    ghost use Rattle.h26x_payload.specs.PacketizerView.{packetizer_state};
+
+    ghost meaning = { λ packetizer_view. packetizer_meaning
+        (packetizer_state (C.format packetizer_view.codec) packetizer_view) };
+
+    /// The packets of a payload, in order, each within the limit of the call.
+    ///
+    /// Sets that wait from earlier calls go before the first unit that makes them due. Where no
+    /// fragment has room for data a longer unit is dropped. A payload of skipped units alone, or
+    /// any under the least `mtu`, has no packets, takes no memory and changes nothing.
+    ///
+    /// `OutOfMemory` is its only error, and leaves everything.
+    fn packetize(&mut self, mtu: usize, b: &[u8]) -> Result<Vec<Vec<u8>>, PacketError>
+        ensures packets { IfOk result (λ made. contents made.items
+            ≡ state_packets (packetizer_state (C.format self.old.codec) self.old)
+            (view_entries (C.format self.old.codec) self.old mtu b.now)) }
+        ensures after { OnOk result (self.new
+            ≡ view_after (C.format self.old.codec) self.old
+            (view_entries (C.format self.old.codec) self.old mtu b.now)) }
+        ensures within { IfOk result (λ made.
+            AreWithinLimit (call_limit (C.format self.old.codec) (view_call self.old mtu b.now))
+            (contents made.items)) }
+
+        ensures kept { OnErr result (self.new ≡ self.old) }
+        ensures memory { OnErr result (result ≡ Err PacketError.OutOfMemory) }
+
+        // Calls without effect take no memory.
+        ensures free { has_no_effect (C.format self.old.codec) (view_call self.old mtu b.now) ≡ true →
+            IsOk result }
+        ensures without_effect { has_no_effect (C.format self.old.codec)
+            (view_call self.old mtu b.now) ≡ true →
+            IfOk result (λ made. (made.items ≡ []) × (self.new ≡ self.old)) }
+    {
+        laws::packetizers_go_on();
+        if mtu < self.codec.least_mtu() {
+            return Ok(Vec::new(self.alloc));
+        }
+        let mut made = Vec::new(self.alloc);
+        let (brought, next_don) = self.push_payload(self.limit(mtu), b, &mut made)?;
+        let taken = brought.taken;
+        let vps = copied(self.alloc, brought.vps)?;
+        let sps = copied(self.alloc, brought.sps)?;
+        let pps = copied(self.alloc, brought.pps)?;
+        replace_set(&mut self.vps, taken, vps);
+        replace_set(&mut self.sps, taken, sps);
+        replace_set(&mut self.pps, taken, pps);
+        if self.codec.has_donl() {
+            self.next_don = next_don;
+        }
+        Ok(made)
+    }
+
+    /// The marker bit stands on the last packet of an access unit (RFC 6184, 5.1; RFC 7798, 4.1;
+    /// RFC 9328,
+    /// 4.1).
+    fn is_marker(&mut self, data: &[u8], previous: Option<&[u8]>, last: bool) -> bool
+        ensures is { result ≡ last }
+        ensures kept { self.new ≡ self.old }
+    {
+        last
+    }
+}
