@@ -171,7 +171,10 @@ uint32_t h26x_h265_paci_packet(const uint8_t *unit, size_t unit_len, const uint8
 /* Whether a packet may be the first of an access unit; false for an unknown codec. */
 bool h26x_is_partition_head(uint32_t codec, const uint8_t *packet, size_t packet_len);
 
-/* Whether a packet is the last of an access unit, its marker bit given; false for an unknown codec. */
+/* Whether a packet is the last of an access unit, its marker bit given: of H.264 the marker; of H.265 and H.266 the E
+ * bit of a fragment, whatever the marker, and the marker of every other packet. E is set where a unit ends, so an access
+ * unit with a fragmented SEI message has more than one such packet: its end is told by the marker alone. False for an
+ * unknown codec. */
 bool h26x_is_partition_tail(uint32_t codec, bool marker, const uint8_t *packet, size_t packet_len);
 
 /* Whether a packet without numbers is known to hold a unit of a keyframe, or to be the first fragment of one; false for
@@ -186,7 +189,9 @@ bool h26x_detect_h264_nalu(const uint8_t *packet, size_t packet_len, uint8_t typ
  * out. False where no unit is left, or for an unknown codec. */
 bool h26x_next_unit(uint32_t codec, const uint8_t *payload, size_t payload_len, size_t from, size_t *begin, size_t *end);
 
-/* How many bytes the units of packets of this many bytes may take when they are written. */
+/* About how many bytes the units of packets of this many bytes take when they are written: these bytes, four more, and
+ * four for each whole 1200 of them. It is no bound, since each unit of a short packet or an aggregate has four bytes
+ * before it: 50 units of 100 bytes take 5200, and the hint is 5020. */
 size_t h26x_out_size_hint(size_t packets_size);
 
 /* ---- Profiles and levels, as SDP names them ---- */

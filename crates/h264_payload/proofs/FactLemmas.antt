@@ -5,7 +5,7 @@ use Rattle.std.specs.List.{list_any, AllByRecursion}
 use Rattle.std.proofs.lemmas.Bool.Decides.{nat_tests}
 use Rattle.h26x_core.specs.H264Unit.{type_of, type_of_first, is_key}
 use Rattle.h26x_model.specs.Send.Packets.{single_packet}
-use Rattle.h26x_model.specs.Payload.Facts.{AreCarried, HeadersTakeRoom, MarksFragments, ExtraTells, KnowsKeyUnits, KeyUnitsAreOther, IsPayloadFormat}
+use Rattle.h26x_model.specs.Payload.Facts.{AreCarried, HeadersTakeRoom, HeadersAreWhole, MarksFragments, ExtraTells, KnowsKeyUnits, KeyUnitsAreOther, IsPayloadFormat}
 use Rattle.h26x_core.proofs.HeaderLemmas.{start_back, end_back, type_back}
 use Rattle.h26x_core.proofs.PieceLemmas.{pieces_back, pieces_long}
 use Rattle.h26x_model.proofs.SetsLemmas.{FitIsWithin, sets_leave_room}
@@ -70,6 +70,11 @@ knows_key_units = record {
 pub key_units_are_other : KeyUnitsAreOther h264
 key_units_are_other = search rules
 
+-- an FU-A's header is two bytes
+headers_are_whole : HeadersAreWhole h264
+headers_are_whole [] start end whole = absurd (omega arith)
+headers_are_whole (first ∷ unit) start end whole = refl
+
 -- an FU-A bears its marks in its second byte
 marks_fragments : MarksFragments h264
 marks_fragments [] behind start end header = absurd (omega arith)
@@ -81,6 +86,7 @@ is_payload_format = record {
   headers = headers_take_room;
   reads = reads_what_it_writes;
   limits = fits_limits;
+  whole = headers_are_whole;
   marks = marks_fragments;
   sets = sets_leave_room h264 fit_is_within;
   extra = extra_tells;

@@ -1,4 +1,4 @@
-//! What an H.264 packet is (RFC 6184, 5.2).
+//! What an H.264 packet is (RFC 6184, 5.2): a single unit, a STAP-A or an FU-A.
 
 ghost use Rattle.std.specs.Prelude.{◌≡◌, ◌+◌, IfOk, IfErr};
 ghost use Rattle.h26x_core.specs.H264Unit.{type_of, type_of_first};
@@ -60,7 +60,14 @@ impl PacketReader for H264 {
     }
 }
 
-/// Reads a STAP-A.
+/// Reads a STAP-A (RFC 6184, 5.7.1).
+///
+/// ```text
+///  0 1 2 3 4 5 6 7
+/// +-+-+-+-+-+-+-+-+-+-+-+-+-+-+-+-+-+-+-+-+-+-+-+-+- - - - - - - -+- - - - - - - - - - - -
+/// |F|NRI| type 24 |            length             |     unit      | length, unit, ..
+/// +-+-+-+-+-+-+-+-+-+-+-+-+-+-+-+-+-+-+-+-+-+-+-+-+- - - - - - - -+- - - - - - - - - - - -
+/// ```
 fn read_stap(packet: &[u8]) -> Result<Parts<'_>, PacketError>
     requires { type_of_first packet.now ≡ 24 }
     ensures accepted { IfOk result (λ parts. IsReadAs h264 stap_units packet.now parts) }
@@ -71,7 +78,14 @@ fn read_stap(packet: &[u8]) -> Result<Parts<'_>, PacketError>
     Ok(Parts::Aggregate { bytes, size })
 }
 
-/// Reads an FU-A.
+/// Reads an FU-A (RFC 6184, 5.8). Its unit's header is F clear, NRI, and the type of the second byte.
+///
+/// ```text
+///  0 1 2 3 4 5 6 7 0 1 2 3 4 5 6 7
+/// +-+-+-+-+-+-+-+-+-+-+-+-+-+-+-+-+- - - - - - - - - - - - - - - -
+/// |F|NRI| type 28 |S|E|R|  type   | a part of the unit
+/// +-+-+-+-+-+-+-+-+-+-+-+-+-+-+-+-+- - - - - - - - - - - - - - - -
+/// ```
 fn read_fragment(packet: &[u8]) -> Result<Parts<'_>, PacketError>
     requires { type_of_first packet.now ≡ 28 }
     ensures accepted { IfOk result (λ parts. IsReadAs h264 stap_units packet.now parts) }

@@ -11,21 +11,17 @@ use Rattle.h26x_model.specs.Payload.Reading.{Fragment, two_byte_single}
 use Rattle.h26x_core.proofs.HeaderLemmas.{six_bits_back}
 use Rattle.h26x_model.proofs.TwoByteLemmas.{TwoBytes, IsTwoBytes, IsCarried}
 use Rattle.h265_packets.specs.Header.{with_type}
-use Rattle.h265_payload.specs.H265.{with_type_and_f, aggregate_of, fragment_of, paci_of}
+use Rattle.h265_payload.specs.H265.{h265_header, with_type_and_f, aggregate_of, fragment_of, paci_of}
 
 -- what sets H.265 apart: types stand in the high byte, and have six bits
 abbrev pub two : (has_donl : Bool) → TwoBytes has_donl
 two has_donl = record {
-  type_of = λ high low. type_of high;
-  aggregate = 48;
-  fragment = 49;
+  header = h265_header;
   mark_high = λ high. with_type_and_f high 49;
   mark_low = λ low. low;
-  unit_type = λ fu. field fu 5 0;
   with_type = λ high low type. with_type high type ∷ low ∷ [];
   carries = λ high low. nat_lt high 0x80 && (nat_lt (type_of high) 48 || nat_lt 50 (type_of high));
   kind = kind_of_type;
-  is_key = is_key_type;
   corrupted = ErrH265CorruptedPacket;
   aggregate_of = aggregate_of has_donl;
   fragment_of = fragment_of has_donl;

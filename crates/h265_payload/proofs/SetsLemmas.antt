@@ -13,7 +13,8 @@ use Rattle.h26x_core.proofs.PieceLemmas.{word_back, pieces_back, enough, number_
 use Rattle.h26x_model.proofs.SetsLemmas.{FitIsWithin, sets_short, plain_numbers, next_number}
 use Rattle.h26x_model.proofs.TwoByteLemmas.{IsCarried, of_carried, sets_undetected}
 use Rattle.h265_payload.specs.CodecFacts.{fit_within, further_long}
-use Rattle.h265_payload.specs.H265.{h265, carries, read, sets_fit, sets_packet, with_type_and_f, further_set, further_units, units_behind_donl, two_or_more, detects}
+use Rattle.h26x_model.specs.Payload.TwoBytes.{two_byte_detects}
+use Rattle.h265_payload.specs.H265.{h265, carries, read, sets_fit, sets_packet, with_type_and_f, further_set, further_units, units_behind_donl, two_or_more, h265_header}
 use Rattle.h265_payload.proofs.HeaderLemmas.{two, is_two_bytes, clear_as}
 
 -- the number of a first set takes no more
@@ -78,10 +79,10 @@ sets_back has_donl n limit sets unit is fit many h = of_carried has_donl (two ha
 
 -- an aggregate of sets without numbers is not detected
 pub undetected : (has_donl : Bool) (n limit : ℕ) (sets : List (List ℕ)) (unit : List ℕ) → has_donl ≡ false → IsLimit (h265 has_donl) limit →
-    sets_fit has_donl limit sets ≡ true → IsTrue (carries unit) → AllByRecursion (λ set. is_key set ≡ false) sets → detects (sets_packet has_donl n sets unit) ≡ false
+    sets_fit has_donl limit sets ≡ true → IsTrue (carries unit) → AllByRecursion (λ set. is_key set ≡ false) sets → two_byte_detects h265_header (sets_packet has_donl n sets unit) ≡ false
 undetected true n limit sets unit none is fit h all = absurd cc
 undetected false n limit [] unit none is fit h all = refl
 undetected false n limit (set ∷ sets) unit none is fit h all =
-    of_carried false (two false) (is_two_bytes false) (λ unit. detects (sets_packet false n (set ∷ sets) unit) ≡ false)
+    of_carried false (two false) (is_two_bytes false) (λ unit. two_byte_detects h265_header (sets_packet false n (set ∷ sets) unit) ≡ false)
     (λ high low b unit c. sets_undetected false (two false) (is_two_bytes false) (with_type_and_f high 48) low (set ∷ sets) (sets_type high)
     (sets_short (h265 false) (fit_is_within false) limit (set ∷ sets) (is refl) fit) all) unit h

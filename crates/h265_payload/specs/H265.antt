@@ -1,6 +1,6 @@
 -- The payload format of H.265 (RFC 7798), with and without decoding order numbers.
-use Rattle.std.specs.Prelude.{ℕ, zero, suc, ◌+◌, ◌*◌, ◌%◌, nat_le, nat_lt, Bool, true, false, ◌&&◌, ◌||◌, ◌==◌, if◌then◌else◌, List, [], ◌∷◌, ◌++◌, length, map, take, drop, take_while, Option, Some, None}
-use Rattle.std.specs.List.{flat_map, list_any, sum_by}
+use Rattle.std.specs.Prelude.{ℕ, zero, suc, ◌+◌, ◌*◌, ◌%◌, nat_le, nat_lt, Bool, true, false, ◌&&◌, ◌||◌, ◌==◌, if◌then◌else◌, List, [], ◌∷◌, ◌++◌, length, map, take, drop, Option, Some, None}
+use Rattle.std.specs.List.{flat_map, sum_by}
 use Rattle.h26x_core.specs.declared.extra.CodecExtra.{CodecExtra}
 use Rattle.h26x_core.specs.declared.extra.CodecExtra.TheVariants as extras
 use Rattle.h26x_core.specs.declared.error.PacketError.TheVariants.{ErrShortPacket, ErrH265CorruptedPacket}
@@ -10,6 +10,7 @@ use Rattle.h26x_core.specs.Word.{field, is_set, flag}
 use Rattle.h26x_core.specs.H265Unit.{type_of, kind, is_key, is_key_type}
 use Rattle.h26x_model.specs.Payload.Reading.{Reading, Aggregate, Fragment, Paci, Refused, without_don, two_byte_single}
 use Rattle.h26x_model.specs.Payload.Format.{Format, donl_bytes}
+use Rattle.h26x_model.specs.Payload.TwoBytes.{TwoByteHeader, two_byte_detects}
 use Rattle.h26x_core.specs.Pieces.{pieces_of, piece}
 use Rattle.h265_packets.specs.Header.{with_type}
 
@@ -118,24 +119,14 @@ abbrev pub has_key : CodecExtra → Bool  -- the H.265 variant with its flag tru
 has_key (extras.H265 extra) = extra.is_keyframe
 has_key extra = false
 
--- whether a packet of two bytes or more is a fragment
-abbrev pub is_fragment : List ℕ → Bool
-is_fragment (high ∷ low ∷ rest) = type_of high == 49
-is_fragment packet = false
-
--- Whether a key unit is known to stand in a packet, or to begin in it; numbers are not accounted
--- for (str0m's rule).
-abbrev pub detects_fragment : List ℕ → Bool
-detects_fragment [] = false
-detects_fragment (fu ∷ body) = is_set fu 7 && is_key_type (field fu 5 0)
-
-abbrev pub detects : List ℕ → Bool  -- whether a packet holds or begins a key unit
-detects (high ∷ low ∷ rest) =
-    if type_of high == 48 then list_any is_key (take_while (λ unit. nat_le 2 (length unit))
-    (pieces_of rest).whole)
-    else if type_of high == 49 then detects_fragment rest
-    else is_key_type (type_of high)
-detects packet = false
+abbrev pub h265_header : TwoByteHeader  -- what the headers of units and packets say
+h265_header = record {
+  type_of = λ high low. type_of high;
+  aggregate = 48;
+  fragment = 49;
+  unit_type = λ fu. field fu 5 0;
+  is_key_type = is_key_type;
+}
 
 abbrev pub h265 : Bool → Format  -- the format, with or without numbers
 h265 has_donl = record {
@@ -154,5 +145,5 @@ h265 has_donl = record {
   carries = carries;
   extra = λ key. extras.H265 (record { is_keyframe = key });
   has_key = has_key;
-  detects = detects;
+  detects = two_byte_detects h265_header;
 }

@@ -1,10 +1,13 @@
 -- What `payload` shows of an accepted packet: its words, and its bytes at their places (RFC 7798,
 -- 4.4).
-use Rattle.std.specs.Prelude.{ℕ, zero, suc, ◌+◌, ◌*◌, ◌%◌, nat_le, Bool, true, false, ◌&&◌, ◌==◌, if◌then◌else◌, List, [], ◌∷◌, length, map, take, drop, Option, Some, None}
+use Rattle.std.specs.Prelude.{◌≡◌, ℕ, zero, suc, ◌+◌, ◌*◌, ◌%◌, nat_le, Bool, true, false, ◌&&◌, ◌==◌, if◌then◌else◌, List, [], ◌∷◌, length, map, take, drop, Option, Some, None}
 use Rattle.std.specs.Option.{option_map_or}
 use Rattle.h26x_core.specs.Word.{field, is_set}
 use Rattle.h26x_core.specs.H265Unit.{type_of}
 use Rattle.h26x_core.specs.Pieces.{pieces_of}
+use Rattle.h26x_model.specs.Payload.Reading.{Reading, Single, Aggregate, Fragment, Paci, Refused}
+use Rattle.h265_packets.specs.Header.{with_type}
+use Rattle.h265_payload.specs.H265.{paci_head}
 use Rattle.h265_packets.specs.Payload.{OtherUnit, AggregationPacket, units_shown, empty_single}
 use Rattle.h265_packets.specs.declared.payload.H265Payload.{H265Payload}
 use Rattle.h265_packets.specs.declared.payload.H265Payload.TheVariants as p
@@ -123,3 +126,35 @@ units_in has_donl bytes = map (λ other. other.nal_unit) (others_of has_donl byt
 abbrev pub is_aggregate : H265Payload → Bool
 is_aggregate (p.H265AggregationPacket packet) = true
 is_aggregate payload = false
+
+-- What is shown of a packet that is read, by its header's bytes: the kind of its reading, and the
+-- reading's number and bytes; of an aggregate all units with their numbers; the byte behind a
+-- fragment's header, which has its marks and its unit's type (RFC 7798, 4.4).
+abbrev pub ShowsReading : Bool → ℕ → ℕ → Reading → H265Payload → Type 0
+ShowsReading has_donl high low (Single unit don) payload =
+    payload ≡ p.H265SingleNALUnitPacket (record {
+      header = high * 256 + low;
+      donl = don;
+      payload = drop 2 unit;
+      has_donl = has_donl;
+    })
+ShowsReading has_donl high low (Aggregate units) payload =
+    (packet : AggregationPacket) × (payload ≡ p.H265AggregationPacket packet)
+    × (packet.has_donl ≡ has_donl) × (units_numbered packet ≡ units)
+ShowsReading has_donl high low (Fragment start end head don body) payload =
+    (fu : ℕ) × (payload ≡ p.H265FragmentationUnitPacket (record {
+      header = high * 256 + low;
+      fu_header = fu;
+      donl = don;
+      payload = body;
+      has_donl = has_donl;
+    })) × (is_set fu 7 ≡ start) × (is_set fu 6 ≡ end)
+    × (head ≡ with_type high (field fu 5 0) ∷ low ∷ [])
+ShowsReading has_donl high low (Paci head fields extension body) payload =
+    (payload ≡ p.H265PACIPacket (record {
+      header = high * 256 + low;
+      fields = fields;
+      phes = extension;
+      payload = body;
+    })) × (head ≡ paci_head high low fields)
+ShowsReading has_donl high low (Refused error) payload = Unit {0}

@@ -8,7 +8,8 @@ ghost use Rattle.h26x_model.specs.Payload.Extra.{extra_after};
 ghost use Rattle.h26x_model.specs.Receive.DepacketizerState.{after_packets, IsPacketOutcome};
 ghost use Rattle.h265_packets.specs.Payload.{empty_single};
 ghost use Rattle.h26x_payload.specs.AccessUnit.{may_begin, is_last};
-ghost use Rattle.h265_payload.specs.H265.{is_fragment};
+ghost use Rattle.h26x_model.specs.Payload.TwoBytes.{is_two_byte_fragment};
+ghost use Rattle.h265_payload.specs.H265.{h265_header};
 ghost use Rattle.h265_payload.specs.Setting.{setting, setting_format};
 ghost use Rattle.h265_payload.specs.Shown.{shown, is_aggregate, units_of_aggregate};
 ghost use Rattle.h265_payload.specs.DepacketizerView.{h265_depacketization};
@@ -47,7 +48,8 @@ pub struct H265Depacketizer {
     pub is_avc: bool,
     run: OpenRun,
     payload: H265Payload,
-    /// The buffer that what is shown next stands in.
+    /// A second buffer: the next packet's data go here first, and it changes places with the one
+    /// that is shown when nothing can fail any more.
     spare: Vec<u8>,
 }
 
@@ -174,8 +176,8 @@ impl Depacketizer for H265Depacketizer {
     /// their unit is written without their data.
     ///
     /// A refusal leaves `out`, `codec_extra`, the open unit and `payload`:
-    /// - `ErrShortPacket`: two bytes or fewer; no room for DONL, where the packet bears it, or
-    ///   nothing behind it in a single packet or a fragment; an aggregate of fewer than two whole
+    /// - `ErrShortPacket`: two bytes or fewer; no room for DONL where the packet bears it; no data
+    ///   in a fragment, or behind DONL in a single packet; an aggregate of fewer than two whole
     ///   units; a PACI packet with nothing behind its extension;
     /// - `ErrH265CorruptedPacket`: F is set;
     /// - `AvcUnitTooLong`: behind lengths, a unit of over `u32::MAX` bytes;
@@ -210,7 +212,7 @@ impl Depacketizer for H265Depacketizer {
         ensures accepted { OnOk result (IsFrontOf out.old.items out.new.items) }
         ensures kept_out { OnErr result (out.new.items ≡ out.old.items) }
         ensures kept_extra { OnErr result (codec_extra.new ≡ codec_extra.old) }
-        ensures kept_run { OnErr result (self.new ≡ self.old) }
+        ensures kept_self { OnErr result (self.new ≡ self.old) }
     {
         let codec = self.codec;
         let parts = codec.read(packet)?;
@@ -227,7 +229,8 @@ impl Depacketizer for H265Depacketizer {
     /// Whether `packet` may be the first of an access unit: it has two bytes or more and, where it
     /// is a fragmentation unit with F clear, its S bit is set (RFC 7798, 4.4.3).
     fn is_partition_head(&self, packet: &[u8]) -> bool
-        ensures { result ≡ may_begin (is_fragment packet.now) packet.now }
+        ensures { result ≡ may_begin (is_two_byte_fragment h265_header packet.now)
+            packet.now }
     {
         self.codec.may_begin(packet)
     }
@@ -235,7 +238,8 @@ impl Depacketizer for H265Depacketizer {
     /// Whether `packet` is the last of an access unit: a fragmentation unit where its E bit is set
     /// (RFC 7798, 4.4.3), another of two bytes or more where its RTP packet bears the marker bit.
     fn is_partition_tail(&self, marker: bool, packet: &[u8]) -> bool
-        ensures { result ≡ is_last (is_fragment packet.now) marker packet.now }
+        ensures { result ≡ is_last (is_two_byte_fragment h265_header packet.now)
+            marker packet.now }
     {
         self.codec.is_last(marker, packet)
     }

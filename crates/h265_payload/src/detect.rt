@@ -1,7 +1,8 @@
 //! Whether a packet is known to hold a key unit, or to begin one (str0m's rule).
 
 ghost use Rattle.std.specs.Prelude.{◌≡◌};
-ghost use Rattle.h265_payload.specs.H265.{detects, detects_fragment};
+ghost use Rattle.h26x_model.specs.Payload.TwoBytes.{two_byte_detects, two_byte_detects_fragment};
+ghost use Rattle.h265_payload.specs.H265.{h265_header};
 
 use crate::packetizer::{H265, header_of};
 use h26x_core::{H265FragmentationUnitHeader, H265NALUHeader};
@@ -9,7 +10,7 @@ use h26x_payload::{PayloadFormat, holds_key};
 
 /// Whether what stands behind a fragment's header begins a key unit (RFC 7798, 4.4.3).
 fn begins_key(rest: &[u8]) -> bool
-    ensures { result ≡ detects_fragment rest.now }
+    ensures { result ≡ two_byte_detects_fragment h265_header rest.now }
 {
     if rest.is_empty() {
         return false;
@@ -29,7 +30,7 @@ fn begins_key(rest: &[u8]) -> bool
 /// assert!(rt; !detect_h265_keyframe(&[0x02, 0x01, 0xaf]));
 /// ```
 pub fn detect_h265_keyframe(payload: &[u8]) -> bool
-    ensures { result ≡ detects payload.now }
+    ensures { result ≡ two_byte_detects h265_header payload.now }
 {
     if payload.len() < 2 {
         return false;

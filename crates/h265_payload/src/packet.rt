@@ -5,8 +5,8 @@ ghost use Rattle.h26x_core.specs.Word.{is_set};
 ghost use Rattle.h26x_core.specs.H265Unit.{type_of};
 ghost use Rattle.h26x_model.specs.Payload.Reading.{Refused};
 ghost use Rattle.h26x_payload.specs.DepacketizerView.{IsReadAs};
-ghost use Rattle.h265_payload.specs.H265 as spec;
-ghost use Rattle.h265_payload.specs.H265.{h265};
+ghost use Rattle.h26x_model.specs.Payload.TwoBytes.{is_two_byte_fragment};
+ghost use Rattle.h265_payload.specs.H265.{h265_header, h265};
 ghost use Rattle.h265_payload.specs.Reading.{IsUnitType};
 ghost use Rattle.h265_payload.specs.Packet.{IsShownBy};
 ghost use Rattle.h265_payload.specs.Shown.{units_in};
@@ -19,18 +19,21 @@ use h265_packets::header::{high_byte, paci_f, paci_size, paci_type};
 
 /// Whether a packet is a fragmentation unit.
 fn is_fragment(packet: &[u8]) -> bool
-    ensures { result ≡ spec.is_fragment packet.now }
+    ensures { result ≡ is_two_byte_fragment h265_header packet.now }
 {
     packet.len() >= 2 && header_of(packet).is_fragmentation_unit()
 }
 
 impl PacketReader for H265 {
-    ghost use Rattle.h265_payload.specs.H265.{is_fragment};
-    ghost use Rattle.h26x_payload.specs.AccessUnit as frame;
+    ghost use Rattle.h265_payload.specs.H265.{h265_header};
+    ghost use Rattle.h26x_model.specs.Payload.TwoBytes.{is_two_byte_fragment};
+    ghost use Rattle.h26x_payload.specs.AccessUnit as access_unit;
 
-    ghost begins = { λ codec packet. frame.may_begin (is_fragment packet) packet };
+    ghost begins = { λ codec packet. access_unit.may_begin (is_two_byte_fragment h265_header packet)
+        packet };
 
-    ghost ends = { λ codec marker packet. frame.is_last (is_fragment packet) marker packet };
+    ghost ends = { λ codec marker packet. access_unit.is_last
+        (is_two_byte_fragment h265_header packet) marker packet };
 
     // Two bytes or fewer are too short, and F is clear in every other; types 48, 49 and 50 are an
     // aggregate, a fragment and a PACI packet, and all others are units.
@@ -68,7 +71,15 @@ impl PacketReader for H265 {
     }
 }
 
-/// Reads a packet that is one unit.
+/// Reads a single NAL unit packet (RFC 7798, 4.4.1). DONL is there where packets bear numbers, and no
+/// part of the unit.
+///
+/// ```text
+///  0 1 2 3 4 5 6 7 0 1 2 3 4 5 6 7
+/// +-+-+-+-+-+-+-+-+-+-+-+-+-+-+-+-+-+-+-+-+-+-+-+-+-+-+-+-+-+-+-+-+- - - - - - - -
+/// |F|   type    |   layer   | TID |             DONL              | the unit's rest
+/// +-+-+-+-+-+-+-+-+-+-+-+-+-+-+-+-+-+-+-+-+-+-+-+-+-+-+-+-+-+-+-+-+- - - - - - - -
+/// ```
 fn read_single(has_donl: bool, packet: &[u8]) -> Result<Parts<'_>, PacketError>
     requires long { 3 ≤ length packet.now }
     requires clear { is_set (slice_index packet.now 0) 7 ≡ false }
@@ -90,7 +101,19 @@ fn read_single(has_donl: bool, packet: &[u8]) -> Result<Parts<'_>, PacketError>
     })
 }
 
-/// Reads an aggregate.
+/// Reads an aggregation packet (RFC 7798, 4.4.2). DONL and each DOND are there where packets bear
+/// numbers.
+///
+/// ```text
+///  0 1 2 3 4 5 6 7 0 1 2 3 4 5 6 7
+/// +-+-+-+-+-+-+-+-+-+-+-+-+-+-+-+-+-+-+-+-+-+-+-+-+-+-+-+-+-+-+-+-+
+/// |F|  type 48  |   layer   | TID |             DONL              |
+/// +-+-+-+-+-+-+-+-+-+-+-+-+-+-+-+-+-+-+-+-+-+-+-+-+-+-+-+-+-+-+-+-+- - - - - - - -
+/// |            length             | the first unit, of that length
+/// +-+-+-+-+-+-+-+-+-+-+-+-+-+-+-+-+-+-+-+-+-+-+-+-+- - - - - - - - - - - - - - - -
+/// |     DOND      |            length             | the next unit, and so on
+/// +-+-+-+-+-+-+-+-+-+-+-+-+-+-+-+-+-+-+-+-+-+-+-+-+- - - - - - - - - - - - - - - -
+/// ```
 fn read_aggregate(has_donl: bool, packet: &[u8]) -> Result<Parts<'_>, PacketError>
     requires long { 3 ≤ length packet.now }
     requires clear { is_set (slice_index packet.now 0) 7 ≡ false }
@@ -140,7 +163,15 @@ fn read_numbered_aggregate(packet: &[u8]) -> Result<Parts<'_>, PacketError>
     Ok(Parts::Aggregate { bytes, size })
 }
 
-/// Reads a fragment.
+/// Reads a fragmentation unit (RFC 7798, 4.4.3). A start has DONL where packets bear numbers. Its
+/// unit's header is the packet's with the type of the third byte.
+///
+/// ```text
+///  0 1 2 3 4 5 6 7 0 1 2 3 4 5 6 7 0 1 2 3 4 5 6 7
+/// +-+-+-+-+-+-+-+-+-+-+-+-+-+-+-+-+-+-+-+-+-+-+-+-+-+-+-+-+-+-+-+-+-+-+-+-+-+-+-+-+- - - - - -
+/// |F|  type 49  |   layer   | TID |S|E|   type    |             DONL              | a part ..
+/// +-+-+-+-+-+-+-+-+-+-+-+-+-+-+-+-+-+-+-+-+-+-+-+-+-+-+-+-+-+-+-+-+-+-+-+-+-+-+-+-+- - - - - -
+/// ```
 fn read_fragment(has_donl: bool, packet: &[u8]) -> Result<Parts<'_>, PacketError>
     requires long { 3 ≤ length packet.now }
     requires clear { is_set (slice_index packet.now 0) 7 ≡ false }
@@ -163,7 +194,15 @@ fn read_fragment(has_donl: bool, packet: &[u8]) -> Result<Parts<'_>, PacketError
     }))
 }
 
-/// Reads a PACI packet, which bears no number.
+/// Reads a PACI packet, which bears no number (RFC 7798, 4.4.4): an extension of PHSsize bytes, and a
+/// unit whose header is F as A, type as cType, and the packet's layer and temporal id.
+///
+/// ```text
+///  0 1 2 3 4 5 6 7 0 1 2 3 4 5 6 7 0 1 2 3 4 5 6 7 0 1 2 3 4 5 6 7
+/// +-+-+-+-+-+-+-+-+-+-+-+-+-+-+-+-+-+-+-+-+-+-+-+-+-+-+-+-+-+-+-+-+- - - - - -+- - - - - - - -
+/// |F|  type 50  |   layer   | TID |A|   cType   | PHSsize |0|1|2|Y| extension | the unit's rest
+/// +-+-+-+-+-+-+-+-+-+-+-+-+-+-+-+-+-+-+-+-+-+-+-+-+-+-+-+-+-+-+-+-+- - - - - -+- - - - - - - -
+/// ```
 fn read_paci(has_donl: bool, packet: &[u8]) -> Result<Parts<'_>, PacketError>
     requires long { 3 ≤ length packet.now }
     requires clear { is_set (slice_index packet.now 0) 7 ≡ false }

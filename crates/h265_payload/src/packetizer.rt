@@ -6,29 +6,14 @@ ghost use Rattle.h26x_core.specs.Word.{field};
 ghost use Rattle.h26x_core.specs.H265Unit.{type_of};
 ghost use Rattle.h265_payload.specs.H265.{with_type_and_f};
 
+use h26x_core::h265_types::{
+    AGGREGATION_PACKET, AUD_NUT, FRAGMENTATION_UNIT, PPS_NUT, SPS_NUT, VPS_NUT,
+};
 use h26x_core::{CodecExtra, H265CodecExtra, H265FragmentationUnitHeader, H265NALUHeader};
 use h26x_cut::{UnitSlices, ZeroRule};
 use h26x_payload::{DonlFormat, PayloadFormat, PayloadPacketizer, Sets, UnitKind};
 use h265_packets::header::high_byte;
 use std::alloc::{AllocError, Global};
-
-/// The type of a VPS.
-const VPS_TYPE: u8 = 32;
-
-/// The type of an SPS.
-const SPS_TYPE: u8 = 33;
-
-/// The type of a PPS.
-const PPS_TYPE: u8 = 34;
-
-/// The type of an access unit delimiter.
-const AUD_TYPE: u8 = 35;
-
-/// The type of an aggregate.
-const AGGREGATE_TYPE: u8 = 48;
-
-/// The type of a fragment.
-const FRAGMENT_TYPE: u8 = 49;
 
 /// H.265 (RFC 7798), and whether packets bear decoding order numbers (4.6).
 #[derive(Debug, Clone, Copy, PartialEq, Eq)]
@@ -107,10 +92,10 @@ impl PayloadFormat for H265 {
             return UnitKind::Skipped;
         }
         match header_of(unit).nalu_type() {
-            AUD_TYPE => UnitKind::Skipped,
-            VPS_TYPE => UnitKind::Vps,
-            SPS_TYPE => UnitKind::Sps,
-            PPS_TYPE => UnitKind::Pps,
+            AUD_NUT => UnitKind::Skipped,
+            VPS_NUT => UnitKind::Vps,
+            SPS_NUT => UnitKind::Sps,
+            PPS_NUT => UnitKind::Pps,
             _ => UnitKind::Other,
         }
     }
@@ -133,7 +118,7 @@ impl PayloadFormat for H265 {
         unit: &[u8],
     ) -> Result<Vec<u8>, AllocError> {
         let mut packet = Vec::with_capacity(alloc, sets.capacity())?;
-        packet.extend_from_slice(&[with_type(unit[0], AGGREGATE_TYPE), unit[1]])?;
+        packet.extend_from_slice(&[with_type(unit[0], AGGREGATION_PACKET), unit[1]])?;
         if self.has_donl {
             packet.extend_from_slice(&don.to_be_bytes())?;
             sets.push(&[0], &mut packet)?;
@@ -151,7 +136,7 @@ impl PayloadFormat for H265 {
         packet: &mut Vec<u8>,
     ) -> Result<(), AllocError> {
         let marks = H265FragmentationUnitHeader::new(start, end, header_of(unit).nalu_type());
-        packet.extend_from_slice(&[with_type(unit[0], FRAGMENT_TYPE), unit[1], marks.0])
+        packet.extend_from_slice(&[with_type(unit[0], FRAGMENTATION_UNIT), unit[1], marks.0])
     }
 
     fn is_key(self, unit: &[u8]) -> bool {

@@ -10,21 +10,17 @@ use Rattle.h26x_core.specs.H266Unit.{type_of, kind_of_type, is_key_type}
 use Rattle.h26x_model.specs.Payload.Reading.{Fragment, two_byte_single}
 use Rattle.h26x_core.proofs.HeaderLemmas.{type_back}
 use Rattle.h26x_model.proofs.TwoByteLemmas.{TwoBytes, IsTwoBytes, IsCarried}
-use Rattle.h266_payload.specs.H266.{with_type, aggregate_of, fragment_of}
+use Rattle.h266_payload.specs.H266.{h266_header, with_type, aggregate_of, fragment_of}
 
 -- what sets H.266 apart: types stand in the low byte, and have five bits
 abbrev pub two : (has_donl : Bool) → TwoBytes has_donl
 two has_donl = record {
-  type_of = λ high low. type_of low;
-  aggregate = 28;
-  fragment = 29;
+  header = h266_header;
   mark_high = λ high. high;
   mark_low = λ low. with_type low 29;
-  unit_type = λ fu. field fu 4 0;
   with_type = λ high low type. high ∷ with_type low type ∷ [];
   carries = λ high low. nat_lt high 0x80 && nat_lt low 0x100 && (nat_lt (type_of low) 28 || nat_lt 29 (type_of low));
   kind = kind_of_type;
-  is_key = is_key_type;
   corrupted = ErrH266CorruptedPacket;
   aggregate_of = aggregate_of has_donl;
   fragment_of = fragment_of has_donl;

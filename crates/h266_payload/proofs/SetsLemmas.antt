@@ -14,8 +14,9 @@ use Rattle.h26x_core.proofs.PieceLemmas.{word_back, number_back}
 use Rattle.h26x_model.proofs.SetsLemmas.{FitIsWithin, sets_short, plain_numbers, next_number}
 use Rattle.h26x_model.proofs.TwoByteLemmas.{of_carried, header_there, aggregate_read, sets_undetected}
 use Rattle.h266_payload.specs.CodecFacts.{fit_within}
+use Rattle.h26x_model.specs.Payload.TwoBytes.{two_byte_detects}
 use Rattle.h266_payload.specs.H266.{h266, read, carries, sets_fit, sets_packet, has_forbidden_bit, layer_of, temporal_of, least}
-use Rattle.h266_payload.specs.H266.{has_packet_type, with_unit, units_within, units_with_dons, two_or_more, aggregate_of, detects}
+use Rattle.h266_payload.specs.H266.{has_packet_type, with_unit, units_within, units_with_dons, two_or_more, aggregate_of, h266_header}
 use Rattle.h266_payload.proofs.HeaderLemmas.{two, is_two_bytes, aggregate_type}
 use Rattle.h266_payload.proofs.WithinLemmas.{unit_within}
 
@@ -111,7 +112,7 @@ sets_back true n limit (first ∷ second ∷ sets) unit is fit many carried =
 
 -- an aggregate of sets without numbers is not detected
 pub undetected : (has_donl : Bool) (n limit : ℕ) (sets : List (List ℕ)) (unit : List ℕ) → has_donl ≡ false → IsLimit (h266 has_donl) limit →
-    sets_fit has_donl limit sets ≡ true → AllByRecursion (λ set. is_key set ≡ false) sets → detects (sets_packet has_donl n sets unit) ≡ false
+    sets_fit has_donl limit sets ≡ true → AllByRecursion (λ set. is_key set ≡ false) sets → two_byte_detects h266_header (sets_packet has_donl n sets unit) ≡ false
 undetected true n limit sets unit none is fit each = absurd cc
 undetected false n limit sets unit none is fit each =
     sets_undetected false (two false) (is_two_bytes false) (cond (list_any has_forbidden_bit sets) 0x80 0 + least layer_of sets) (28 * 8 + max 1 (least temporal_of sets)) sets (sets_type sets)

@@ -4,11 +4,12 @@ use Rattle.std.proofs.Common.{arith, cond}
 use Rattle.std.proofs.lemmas.Bool.Decides.{nat_tests}
 use Rattle.std.proofs.Math.Nat.{mod-mod}
 use Rattle.h26x_core.specs.Kind.{is_other}
-use Rattle.h26x_core.specs.H266Unit.{kind, is_key}
+use Rattle.h26x_core.specs.H266Unit.{type_of, kind, is_key}
 use Rattle.h26x_model.specs.Payload.Facts.{FitsLimits, DonlHasTwoBytes}
 use Rattle.h26x_core.proofs.PieceLemmas.{pieces_long}
 use Rattle.h26x_model.proofs.SetsLemmas.{room_of}
-use Rattle.h266_payload.specs.H266.{h266, fragment_header, sets_fit, sets_packet}
+use Rattle.h26x_model.proofs.TwoByteLemmas.{fragment_header_long}
+use Rattle.h266_payload.specs.H266.{h266, with_type, sets_fit, sets_packet}
 
 -- an other unit has a whole header
 pub has_header : (unit : List ℕ) → is_other (kind unit) ≡ true → 2 ≤ length unit
@@ -21,12 +22,6 @@ pub header_tells : (head rest : List ℕ) → length head ≡ 2 → is_key (head
 header_tells [] rest two = absurd (omega arith)
 header_tells (high ∷ []) rest two = absurd (omega arith)
 header_tells (high ∷ low ∷ head) rest two = refl
-
--- a fragment's header has three bytes at most
-header_long : (unit : List ℕ) (start end : Bool) → length (fragment_header unit start end) ≤ 3
-header_long [] start end = omega arith
-header_long (high ∷ []) start end = omega arith
-header_long (high ∷ low ∷ unit) start end = omega arith
 
 -- sets that fit an aggregate are within the limit
 pub fit_within : (has_donl : Bool) (limit : ℕ) (sets : List (List ℕ)) →
@@ -43,7 +38,10 @@ sets_within true limit n sets unit fit =
 
 -- headers are as long as they are counted, and aggregates are within the limit
 pub fits_limits : (has_donl : Bool) → FitsLimits (h266 has_donl)
-fits_limits has_donl = record { header = header_long; sets = sets_within has_donl }
+fits_limits has_donl = record {
+  header = fragment_header_long (λ high low. type_of low) (λ high. high) (λ low. with_type low 29);
+  sets = sets_within has_donl;
+}
 
 -- an aggregate bears a number in two bytes, or none
 pub aggregate_numbers : (has_donl : Bool) → DonlHasTwoBytes (h266 has_donl)

@@ -11,6 +11,7 @@ use Rattle.h26x_core.specs.Word.{field, is_set, flag}
 use Rattle.h26x_core.specs.H266Unit.{type_of, kind, is_key, is_key_type}
 use Rattle.h26x_model.specs.Payload.Reading.{Reading, Aggregate, Fragment, Refused, without_don, two_byte_single}
 use Rattle.h26x_model.specs.Payload.Format.{Format, donl_bytes}
+use Rattle.h26x_model.specs.Payload.TwoBytes.{TwoByteHeader, two_byte_detects}
 use Rattle.h26x_core.specs.Pieces.{pieces_of, piece}
 
 -- the low byte of a header with another type: the temporal id kept
@@ -124,24 +125,14 @@ abbrev pub has_key : CodecExtra → Bool  -- the H.266 variant with its flag tru
 has_key (extras.H266 extra) = extra.is_keyframe
 has_key extra = false
 
--- whether a packet of two bytes or more is a fragment
-abbrev pub is_fragment : List ℕ → Bool
-is_fragment (high ∷ low ∷ rest) = type_of low == 29
-is_fragment packet = false
-
--- Whether a key unit is known to stand in a packet, or to begin in it; numbers are not accounted
--- for (str0m's rule).
-abbrev pub detects_fragment : List ℕ → Bool
-detects_fragment [] = false
-detects_fragment (fu ∷ body) = is_set fu 7 && is_key_type (field fu 4 0)
-
-abbrev pub detects : List ℕ → Bool  -- whether a packet holds or begins a key unit
-detects (high ∷ low ∷ rest) =
-    if type_of low == 28 then list_any is_key (take_while (λ unit. nat_le 2 (length unit))
-    (pieces_of rest).whole)
-    else if type_of low == 29 then detects_fragment rest
-    else is_key_type (type_of low)
-detects packet = false
+abbrev pub h266_header : TwoByteHeader  -- what the headers of units and packets say
+h266_header = record {
+  type_of = λ high low. type_of low;
+  aggregate = 28;
+  fragment = 29;
+  unit_type = λ fu. field fu 4 0;
+  is_key_type = is_key_type;
+}
 
 abbrev pub h266 : Bool → Format  -- the format, with or without numbers
 h266 has_donl = record {
@@ -160,5 +151,5 @@ h266 has_donl = record {
   carries = carries;
   extra = λ key. extras.H266 (record { is_keyframe = key });
   has_key = has_key;
-  detects = detects;
+  detects = two_byte_detects h266_header;
 }

@@ -1,7 +1,8 @@
 //! Whether a packet is known to hold a key unit, or to begin one (str0m's rule).
 
 ghost use Rattle.std.specs.Prelude.{◌≡◌, ◌≤◌, length};
-ghost use Rattle.h266_payload.specs.H266.{detects, detects_fragment};
+ghost use Rattle.h26x_model.specs.Payload.TwoBytes.{two_byte_detects, two_byte_detects_fragment};
+ghost use Rattle.h266_payload.specs.H266.{h266_header};
 
 use crate::packet::PACKET_HEADER_SIZE;
 use crate::packetizer::{H266, header_of};
@@ -10,7 +11,7 @@ use h26x_payload::{PayloadFormat, holds_key};
 
 /// Whether what stands behind a fragment's header begins a key unit (RFC 9328, 4.3.3).
 fn begins_key(rest: &[u8]) -> bool
-    ensures { result ≡ detects_fragment rest.now }
+    ensures { result ≡ two_byte_detects_fragment h266_header rest.now }
 {
     if rest.is_empty() {
         return false;
@@ -30,7 +31,7 @@ fn begins_key(rest: &[u8]) -> bool
 /// assert!(rt; !detect_h266_keyframe(&[0x00, 0x09, 0x80]));
 /// ```
 pub fn detect_h266_keyframe(payload: &[u8]) -> bool
-    ensures { result ≡ detects payload.now }
+    ensures { result ≡ two_byte_detects h266_header payload.now }
 {
     if payload.len() < PACKET_HEADER_SIZE {
         return false;

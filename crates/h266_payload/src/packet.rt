@@ -5,8 +5,8 @@ ghost use Rattle.h26x_core.specs.Word.{is_set};
 ghost use Rattle.h26x_core.specs.H266Unit.{type_of};
 ghost use Rattle.h26x_model.specs.Payload.Reading.{Refused};
 ghost use Rattle.h26x_payload.specs.DepacketizerView.{IsReadAs};
-ghost use Rattle.h266_payload.specs.H266 as spec;
-ghost use Rattle.h266_payload.specs.H266.{h266, has_packet_type};
+ghost use Rattle.h26x_model.specs.Payload.TwoBytes.{is_two_byte_fragment};
+ghost use Rattle.h266_payload.specs.H266.{h266_header, h266, has_packet_type};
 ghost use Rattle.h266_payload.specs.Packet.{aggregate_units, rest_behind_donl};
 
 use crate::aggregate::check_aggregate;
@@ -41,18 +41,21 @@ fn rest_behind_donl(has_donl: bool, bytes: &[u8]) -> Result<&[u8], PacketError>
 
 /// Whether a packet is a fragmentation unit.
 fn is_fragment(packet: &[u8]) -> bool
-    ensures { result ≡ spec.is_fragment packet.now }
+    ensures { result ≡ is_two_byte_fragment h266_header packet.now }
 {
     packet.len() >= PACKET_HEADER_SIZE && header_of(packet).is_fragmentation_unit()
 }
 
 impl PacketReader for H266 {
-    ghost use Rattle.h266_payload.specs.H266.{is_fragment};
-    ghost use Rattle.h26x_payload.specs.AccessUnit as frame;
+    ghost use Rattle.h266_payload.specs.H266.{h266_header};
+    ghost use Rattle.h26x_model.specs.Payload.TwoBytes.{is_two_byte_fragment};
+    ghost use Rattle.h26x_payload.specs.AccessUnit as access_unit;
 
-    ghost begins = { λ codec packet. frame.may_begin (is_fragment packet) packet };
+    ghost begins = { λ codec packet. access_unit.may_begin (is_two_byte_fragment h266_header packet)
+        packet };
 
-    ghost ends = { λ codec marker packet. frame.is_last (is_fragment packet) marker packet };
+    ghost ends = { λ codec marker packet. access_unit.is_last
+        (is_two_byte_fragment h266_header packet) marker packet };
 
     // A type that is neither an aggregate's nor a fragment's is a unit's own.
     #[inline]
@@ -82,7 +85,15 @@ impl PacketReader for H266 {
     }
 }
 
-/// Reads a single NAL unit packet.
+/// Reads a single NAL unit packet (RFC 9328, 4.3.1). DONL is there where packets bear numbers, and no
+/// part of the unit.
+///
+/// ```text
+///  0 1 2 3 4 5 6 7 0 1 2 3 4 5 6 7
+/// +-+-+-+-+-+-+-+-+-+-+-+-+-+-+-+-+-+-+-+-+-+-+-+-+-+-+-+-+-+-+-+-+- - - - - - - -
+/// |F|Z|   layer   |  type   | TID |             DONL              | the unit's rest
+/// +-+-+-+-+-+-+-+-+-+-+-+-+-+-+-+-+-+-+-+-+-+-+-+-+-+-+-+-+-+-+-+-+- - - - - - - -
+/// ```
 fn read_single(has_donl: bool, packet: &[u8]) -> Result<Parts<'_>, PacketError>
     requires long { 3 ≤ length packet.now }
     requires clear { is_set (slice_index packet.now 0) 7 ≡ false }
@@ -103,7 +114,17 @@ fn read_single(has_donl: bool, packet: &[u8]) -> Result<Parts<'_>, PacketError>
     })
 }
 
-/// Reads an aggregation packet.
+/// Reads an aggregation packet (RFC 9328, 4.3.2). DONL, the first unit's number, is there where
+/// packets bear numbers; each later unit's is one more.
+///
+/// ```text
+///  0 1 2 3 4 5 6 7 0 1 2 3 4 5 6 7
+/// +-+-+-+-+-+-+-+-+-+-+-+-+-+-+-+-+-+-+-+-+-+-+-+-+-+-+-+-+-+-+-+-+
+/// |F|Z|   layer   | type 28 | TID |             DONL              |
+/// +-+-+-+-+-+-+-+-+-+-+-+-+-+-+-+-+-+-+-+-+-+-+-+-+-+-+-+-+-+-+-+-+- - - - - - - -
+/// |            length             | a unit of that length, and so on to the end
+/// +-+-+-+-+-+-+-+-+-+-+-+-+-+-+-+-+- - - - - - - - - - - - - - - - - - - - - - - -
+/// ```
 fn read_aggregate(has_donl: bool, packet: &[u8]) -> Result<Parts<'_>, PacketError>
     requires long { 3 ≤ length packet.now }
     requires clear { is_set (slice_index packet.now 0) 7 ≡ false }
@@ -117,7 +138,15 @@ fn read_aggregate(has_donl: bool, packet: &[u8]) -> Result<Parts<'_>, PacketErro
     Ok(Parts::Aggregate { bytes, size })
 }
 
-/// Reads a fragmentation unit; where packets bear numbers, a start bears one.
+/// Reads a fragmentation unit (RFC 9328, 4.3.3). A start has DONL where packets bear numbers. Its
+/// unit's header is the packet's with the type of the third byte.
+///
+/// ```text
+///  0 1 2 3 4 5 6 7 0 1 2 3 4 5 6 7 0 1 2 3 4 5 6 7
+/// +-+-+-+-+-+-+-+-+-+-+-+-+-+-+-+-+-+-+-+-+-+-+-+-+-+-+-+-+-+-+-+-+-+-+-+-+-+-+-+-+- - - - - -
+/// |F|Z|   layer   | type 29 | TID |S|E|P|  type   |             DONL              | a part ..
+/// +-+-+-+-+-+-+-+-+-+-+-+-+-+-+-+-+-+-+-+-+-+-+-+-+-+-+-+-+-+-+-+-+-+-+-+-+-+-+-+-+- - - - - -
+/// ```
 fn read_fragment(has_donl: bool, packet: &[u8]) -> Result<Parts<'_>, PacketError>
     requires long { 3 ≤ length packet.now }
     requires clear { is_set (slice_index packet.now 0) 7 ≡ false }

@@ -8,28 +8,13 @@ ghost use Rattle.h26x_core.specs.H266Unit.{type_of};
 ghost use Rattle.h26x_payload.specs.Sending.{sets_list};
 ghost use Rattle.h266_payload.specs.H266 as spec;
 
+use h26x_core::h266_types::{
+    AGGREGATION_PACKET, AUD_NUT, FRAGMENTATION_UNIT, PPS_NUT, SPS_NUT, VPS_NUT,
+};
 use h26x_core::{CodecExtra, H266CodecExtra, H266FragmentationUnitHeader, H266NALUHeader};
 use h26x_cut::{UnitSlices, ZeroRule};
 use h26x_payload::{DonlFormat, PayloadFormat, PayloadPacketizer, Sets, UnitKind};
 use std::alloc::{AllocError, Global};
-
-/// The type of a VPS.
-const VPS_TYPE: u8 = 14;
-
-/// The type of an SPS.
-const SPS_TYPE: u8 = 15;
-
-/// The type of a PPS.
-const PPS_TYPE: u8 = 16;
-
-/// The type of an access unit delimiter.
-const AUD_TYPE: u8 = 20;
-
-/// The type of an aggregate.
-const AGGREGATE_TYPE: u8 = 28;
-
-/// The type of a fragment.
-const FRAGMENT_TYPE: u8 = 29;
 
 /// H.266 (RFC 9328), and whether packets bear decoding order numbers (4.4).
 #[derive(Debug, Clone, Copy, PartialEq, Eq)]
@@ -120,7 +105,7 @@ fn aggregate_low(sets: Sets<'_>) -> u8
     if let Some(vps) = sets.vps {
         lowest = temporal(vps).min(lowest);
     }
-    AGGREGATE_TYPE * 8 + lowest.max(1)
+    AGGREGATION_PACKET * 8 + lowest.max(1)
 }
 
 impl PayloadFormat for H266 {
@@ -157,10 +142,10 @@ impl PayloadFormat for H266 {
             return UnitKind::Skipped;
         }
         match header_of(unit).nalu_type() {
-            AUD_TYPE | AGGREGATE_TYPE | FRAGMENT_TYPE => UnitKind::Skipped,
-            VPS_TYPE => UnitKind::Vps,
-            SPS_TYPE => UnitKind::Sps,
-            PPS_TYPE => UnitKind::Pps,
+            AUD_NUT | AGGREGATION_PACKET | FRAGMENTATION_UNIT => UnitKind::Skipped,
+            VPS_NUT => UnitKind::Vps,
+            SPS_NUT => UnitKind::Sps,
+            PPS_NUT => UnitKind::Pps,
             _ => UnitKind::Other,
         }
     }
@@ -199,7 +184,7 @@ impl PayloadFormat for H266 {
     ) -> Result<(), AllocError> {
         let nalu_type = header_of(unit).nalu_type();
         let marks = H266FragmentationUnitHeader::new(start, end, false, nalu_type);
-        packet.extend_from_slice(&[unit[0], with_type(unit[1], FRAGMENT_TYPE), marks.0])
+        packet.extend_from_slice(&[unit[0], with_type(unit[1], FRAGMENTATION_UNIT), marks.0])
     }
 
     fn is_key(self, unit: &[u8]) -> bool {

@@ -10,21 +10,14 @@ use Rattle.h26x_core.specs.declared.error.PacketError.{PacketError}
 use Rattle.h26x_core.specs.declared.error.PacketError.TheVariants.{OutOfMemory}
 use Rattle.h26x_model.specs.Payload.Format.{Format}
 use Rattle.h26x_model.specs.Send.Group.{Entry}
-use Rattle.h26x_model.specs.Send.Calls.{Call, AreCalls, call_entries, all_entries, all_packets}
+use Rattle.h26x_model.specs.Send.Calls.{Call, AreCalls, call_entries, all_entries}
 use Rattle.h26x_model.specs.Payload.Reading.{Reading, Single, Aggregate, Fragment, Paci, Refused}
 use Rattle.h26x_model.specs.Receive.Outcome.{IsReadingOutcome}
-use Rattle.h26x_model.specs.Send.Again.{NothingDropped}
-use Rattle.h26x_core.specs.ByteStream.{byte_stream, annex_b}
-use Rattle.h26x_model.specs.Send.Plan.{units_sent}
+use Rattle.h26x_core.specs.ByteStream.{byte_stream}
 use Rattle.h26x_model.specs.Send.PacketizerState.{PacketizerState, state_packets, after_entries}
 use Rattle.h26x_model.specs.Receive.DepacketizerState.{DepacketizerState, Depacketization, units_brought, after_packets, depacketization}
 use Rattle.h26x_model.specs.Carry.Laws.{PacketizerGoesOn, calls_like}
-use Rattle.h26x_cut.specs.declared.ZeroRule.{ZeroRule}
-use Rattle.h26x_cut.specs.declared.ZeroRule.TheVariants.{All, AtMostThree}
-use Rattle.h26x_cut.specs.Cutting.{AreSeparable}
-use Rattle.h264_payload.specs.H264.{h264}
-use Rattle.h265_payload.specs.H265.{h265}
-use Rattle.h266_payload.specs.H266.{h266}
+use Rattle.h26x_payload.specs.Units.{CutsBy}
 use Rattle.h26x_codec.specs.Codec.{codec_format}
 use Rattle.h26x_codec.specs.Runs.{IsLeftOver}
 use Rattle.h26x_codec.specs.Repeating.{zero_rule, IsFirstRefused}
@@ -112,15 +105,8 @@ first_refused w given all e new avc same over =
     (subst (λ b. IsReadingOutcome b (after_packets w over.taken).state.run (w.state.format.read packet) (Err e)) avc outcome)))
     over.cause
 
--- what each codec's law says of calls like one
-abbrev pub SendsAgainApart : Format → ZeroRule → Type 0
-SendsAgainApart f rule = (call : Call) (payloads units : List (List ℕ)) → NothingDropped f (all_entries f (calls_like call payloads)) →
-    units ≡ units_sent f (all_entries f (calls_like call payloads)) → AreSeparable rule units →
-    all_packets f 0 (call_for call (annex_b units) ∷ []) ≡ all_packets f 0 (calls_like call payloads)
-
--- so of each codec
-pub of_each_codec : (codec : Codec) (has_donl : Bool) → SendsAgainApart h264 All → ((b : Bool) → SendsAgainApart (h265 b) All) →
-    ((b : Bool) → SendsAgainApart (h266 b) AtMostThree) → SendsAgainApart (codec_format codec has_donl) (zero_rule codec)
-of_each_codec c.H264 has_donl a b d = a
-of_each_codec c.H265 has_donl a b d = b has_donl
-of_each_codec c.H266 has_donl a b d = d has_donl
+-- each codec cuts payloads by its rule
+pub cuts_by_its_rule : (codec : Codec) (has_donl : Bool) → CutsBy (codec_format codec has_donl) (zero_rule codec)
+cuts_by_its_rule c.H264 has_donl payload = refl
+cuts_by_its_rule c.H265 has_donl payload = refl
+cuts_by_its_rule c.H266 has_donl payload = refl

@@ -25,7 +25,7 @@ use Rattle.h26x_model.specs.Payload.Extra.{extra_after, first_extra}
 use Rattle.h26x_model.specs.Send.Plan.{item_units, plan, units_sent}
 use Rattle.h26x_model.specs.Send.WaitingSets.{WaitingSets, no_waiting_sets, plan_with_waiting}
 use Rattle.h26x_model.specs.Send.Packets.{plan_packets}
-use Rattle.h26x_model.specs.Send.PacketizerState.{PacketizerState, state_plan, state_units, state_packets, after_entries, has_no_effect}
+use Rattle.h26x_model.specs.Send.PacketizerState.{PacketizerState, state_plan, state_units, state_packets, after_entries, has_no_effect, AreWithinLimits}
 use Rattle.h26x_model.specs.Receive.DepacketizerState.{DepacketizerState, Depacketization, units_brought, after_packets, IsPacketOutcome, IsRefusalCause, depacketization}
 use Rattle.h26x_model.specs.Carry.Laws.{PacketizerGoesOn, DepacketizerGoesOn, CarriesWhole}
 use Rattle.h26x_codec.specs.Codec.{next_call}
@@ -285,7 +285,7 @@ of_fresh s w calls made out told pair goes fewest planned_is law is whole =
     let units : units_sent f entries ≡ state_units s entries = ap (flat_map item_units) (sym (fresh_plan s entries pair.fresh planned_is)) in
     record {
       packets_are = is ∙ fresh_packets s entries pair.fresh planned_is;
-      within = goes.within calls;
+      within = subst (AreWithinLimits s calls) (sym is) (goes.within calls);
       fewest = fewest;
       written = λ carried. (whole (subst (AreCarried f) units carried)).0 ∙ ap (λ (us : List (List ℕ)). w.out ++ byte_stream w.state.is_avc us) (sym units);
       tells = λ carried. (whole (subst (AreCarried f) units carried)).1

@@ -14,7 +14,9 @@ use Rattle.h264_payload.specs.H264.{h264}
 use Rattle.h265_payload.specs.H265.{h265}
 use Rattle.h265_payload.specs.Setting as h265_setting
 use Rattle.h265_payload.specs.DepacketizerView as h265_end
+use Rattle.h265_packets.specs.Payload.{empty_single}
 use Rattle.h265_packets.specs.declared.payload.H265Payload.{H265Payload}
+use Rattle.h265_packets.specs.declared.payload.H265Payload.TheVariants as shows
 use Rattle.h266_payload.specs.H266.{h266}
 use Rattle.h266_payload.specs.Setting as h266_setting
 use Rattle.h26x_codec.specs.declared.codec.Codec.{Codec}
@@ -110,6 +112,12 @@ without_run (d.Boxed it) = d.Boxed it
 abbrev pub shown_payload : {X : Type 0} {P : X → Type 0} → CodecDepacketizer X P → Option H265Payload
 shown_payload (d.H265 it) = Some it.payload
 shown_payload it = None
+
+-- what a new one shows: of H.265 the empty single packet
+abbrev pub payload_at_first : Codec → Option H265Payload
+payload_at_first c.H264 = None
+payload_at_first c.H265 = Some (shows.H265SingleNALUnitPacket empty_single)
+payload_at_first c.H266 = None
 
 -- the depacketizer of a codec, what was written so far, and what is told
 abbrev pub codec_depacketization : {X : Type 0} {P : X → Type 0} → CodecDepacketizer X P → List ℕ →

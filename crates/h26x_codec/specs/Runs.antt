@@ -130,7 +130,7 @@ IsFresh s = (s.waiting ≡ no_waiting_sets) × (s.next_don ≡ 0)
 pub record AreCarriedWhole (s : PacketizerState) (w : Depacketization) (calls : List Call)
     (packets : List (List ℕ)) (out : List ℕ) (told : CodecExtra) : Type 0 where
   pub packets_are : packets ≡ all_packets s.format 0 calls
-  pub within : AreWithinLimits s calls
+  pub within : AreWithinLimits s calls packets
   pub fewest : TakesFewestFragments s.format
   pub written : AreCarried s.format (units_sent s.format (all_entries s.format calls)) →
       out ≡ w.out ++ byte_stream w.state.is_avc (units_sent s.format (all_entries s.format calls))

@@ -6,9 +6,10 @@ ghost use Rattle.h26x_core.specs.Front.{IsFrontOf};
 ghost use Rattle.h26x_core.specs.Hint.{size_hint};
 ghost use Rattle.h26x_model.specs.Receive.Outcome.{is_startless};
 ghost use Rattle.h26x_model.specs.Receive.DepacketizerState.{DepacketizerState, Depacketization, after_packets, IsPacketOutcome, depacketizer_meaning};
-ghost use Rattle.h26x_core.specs.H264AccessUnit as h264_frame;
+ghost use Rattle.h26x_core.specs.H264AccessUnit as h264_access_unit;
 ghost use Rattle.h264_payload.specs.declared.packetizer.H264.{H264};
 ghost use Rattle.h264_payload.specs.H264.{h264};
+ghost use Rattle.h26x_model.specs.Payload.TwoBytes.{is_two_byte_fragment};
 ghost use Rattle.h265_payload.specs.DepacketizerView as h265_end;
 ghost use Rattle.h265_payload.specs.H265 as h265;
 ghost use Rattle.h265_payload.specs.Shown.{shown};
@@ -17,7 +18,7 @@ ghost use Rattle.h26x_payload.specs.DepacketizerView.{DepacketizerView, depacket
 ghost use Rattle.h266_payload.specs.declared.packetizer.H266.{H266};
 ghost use Rattle.h266_payload.specs.Setting as h266_setting;
 ghost use Rattle.h266_payload.specs.H266 as h266;
-ghost use Rattle.h26x_codec.specs.Codec.{default_format, codec_depacketizer_state, depacketizer_codec, fresh_depacketizer_state, codec_depacketization, shown_payload, without_run};
+ghost use Rattle.h26x_codec.specs.Codec.{default_format, codec_depacketizer_state, depacketizer_codec, fresh_depacketizer_state, codec_depacketization, shown_payload, payload_at_first, without_run};
 ghost use Rattle.h26x_codec.specs.declared.depacketizer.CodecDepacketizer.TheVariants as d;
 
 use crate::codec::Codec;
@@ -65,11 +66,13 @@ impl fmt::Debug for CodecDepacketizer {
 
 impl CodecDepacketizer {
     /// A depacketizer of a codec that reads packets without decoding order numbers, writes start
-    /// codes and has no run open. Its memory comes from `alloc`; none is taken here.
+    /// codes and has no run open; of H.265 it shows the empty single NAL unit packet. Its memory
+    /// comes from `alloc`; none is taken here.
     pub fn new(alloc: Global, codec: Codec) -> Self
         ensures codec { depacketizer_codec result ≡ Some codec }
         ensures fresh { codec_depacketizer_state result
             ≡ Some (fresh_depacketizer_state (default_format codec)) }
+        ensures shows { shown_payload result ≡ payload_at_first codec }
     {
         match codec {
             Codec::H264 => CodecDepacketizer::H264(H264Depacketizer::new(alloc)),
@@ -169,11 +172,11 @@ impl Depacketizer for CodecDepacketizer {
     /// Whether `packet` may be the first of an access unit, as the depacketizer that it holds says.
     fn is_partition_head(&self, packet: &[u8]) -> bool
         ensures h264 { (it : DepacketizerView H264) → self.now ≡ d.H264 it →
-            result ≡ h264_frame.may_begin_h264 packet.now }
+            result ≡ h264_access_unit.may_begin_h264 packet.now }
         ensures h265 { (it : h265_end.H265DepacketizerView) → self.now ≡ d.H265 it →
-            result ≡ may_begin (h265.is_fragment packet.now) packet.now }
+            result ≡ may_begin (is_two_byte_fragment h265.h265_header packet.now) packet.now }
         ensures h266 { (it : DepacketizerView H266) → self.now ≡ d.H266 it →
-            result ≡ may_begin (h266.is_fragment packet.now) packet.now }
+            result ≡ may_begin (is_two_byte_fragment h266.h266_header packet.now) packet.now }
     {
         match self {
             CodecDepacketizer::H264(it) => it.is_partition_head(packet),
@@ -188,9 +191,9 @@ impl Depacketizer for CodecDepacketizer {
     fn is_partition_tail(&self, marker: bool, packet: &[u8]) -> bool
         ensures h264 { (it : DepacketizerView H264) → self.now ≡ d.H264 it → result ≡ marker }
         ensures h265 { (it : h265_end.H265DepacketizerView) → self.now ≡ d.H265 it →
-            result ≡ is_last (h265.is_fragment packet.now) marker packet.now }
+            result ≡ is_last (is_two_byte_fragment h265.h265_header packet.now) marker packet.now }
         ensures h266 { (it : DepacketizerView H266) → self.now ≡ d.H266 it →
-            result ≡ is_last (h266.is_fragment packet.now) marker packet.now }
+            result ≡ is_last (is_two_byte_fragment h266.h266_header packet.now) marker packet.now }
     {
         match self {
             CodecDepacketizer::H264(it) => it.is_partition_tail(marker, packet),

@@ -1,12 +1,18 @@
 //! Laws of packetizers and depacketizers of any codec. Each is the contract of a function without a
 //! result.
 
-ghost use Rattle.std.specs.Prelude.{◌≡◌, Some};
-ghost use Rattle.h26x_model.specs.Payload.Facts.{IsPayloadFormat};
-ghost use Rattle.h26x_model.specs.Send.PacketizerState.{PacketizerState, IsPacketizerState};
+ghost use Rattle.std.specs.Prelude.{◌≡◌, ℕ, Bool, List, Some};
+ghost use Rattle.h26x_model.specs.Payload.Facts.{IsPayloadFormat, AreCarried};
+ghost use Rattle.h26x_model.specs.Send.Again.{NothingDropped};
+ghost use Rattle.h26x_model.specs.Send.Calls.{Call, AreCalls, all_entries};
+ghost use Rattle.h26x_model.specs.Send.PacketizerState.{PacketizerState, IsPacketizerState, state_plan, state_units};
+ghost use Rattle.h26x_model.specs.Send.Plan.{units_sent};
+ghost use Rattle.h26x_model.specs.Send.WaitingSets.{entries_with_limit};
+ghost use Rattle.h26x_model.specs.Carry.Detection.{AreDetected};
 ghost use Rattle.h26x_model.specs.Receive.DepacketizerState.{DepacketizerState};
-ghost use Rattle.h26x_codec.specs.Codec.{codec_packetizer_state, codec_depacketizer_state};
+ghost use Rattle.h26x_codec.specs.Codec.{codec_format, codec_packetizer_state, codec_depacketizer_state};
 
+use crate::codec::Codec;
 use crate::depacketizer::CodecDepacketizer;
 use crate::packetizer::CodecPacketizer;
 use h26x_payload::packetizer_states as payload_packetizer_states;
@@ -49,4 +55,37 @@ pub fn depacketizer_states(depacketizer: &CodecDepacketizer)
         CodecDepacketizer::H266(_) => h266_payload::laws::meets_the_facts(),
         CodecDepacketizer::Boxed(_) => {}
     }
+}
+
+/// The format of each codec meets the facts on which the laws of every format stand, with decoding
+/// order numbers and without.
+pub fn formats_meet_the_facts()
+    ensures { (codec : Codec) (has_donl : Bool) → IsPayloadFormat (codec_format codec has_donl) }
+{
+    h264_payload::laws::meets_the_facts();
+    h265_payload::laws::meets_the_facts();
+    h266_payload::laws::meets_the_facts();
+}
+
+/// What was sent at one limit, with nothing dropped for its size, is sent again.
+pub fn what_was_sent_is_sent_again()
+    ensures { (codec : Codec) (has_donl : Bool) (limit : ℕ) (units sent : List (List ℕ)) →
+        NothingDropped (codec_format codec has_donl) (entries_with_limit limit units) →
+        sent ≡ units_sent (codec_format codec has_donl) (entries_with_limit limit units) →
+        units_sent (codec_format codec has_donl) (entries_with_limit limit sent) ≡ sent }
+{
+    h26x_model::laws::what_was_sent_is_sent_again();
+}
+
+/// Of what calls send, whichever sets wait and whatever the next decoding order number is, the packet
+/// or the first fragment of each key unit is detected, and no other packet but aggregates that bear
+/// numbers.
+pub fn key_units_are_detected()
+    ensures { (codec : Codec) (has_donl : Bool) (s : PacketizerState) (calls : List Call) →
+        s.format ≡ codec_format codec has_donl → IsPacketizerState s → AreCalls calls →
+        AreCarried s.format (state_units s (all_entries s.format calls)) →
+        AreDetected s.format s.next_don (state_plan s (all_entries s.format calls)) }
+{
+    formats_meet_the_facts();
+    h26x_model::laws::what_calls_send_is_in_order_and_detected();
 }

@@ -1,6 +1,6 @@
 //! A packetizer of any codec, or a caller's own.
 
-ghost use Rattle.std.specs.Prelude.{◌≡◌, ◌≤◌, [], true, Some, None, Err, IfOk, OnOk, OnErr, IsOk};
+ghost use Rattle.std.specs.Prelude.{◌≡◌, ◌≤◌, [], true, false, Some, None, Err, IfOk, OnOk, OnErr, IsOk};
 ghost use Rattle.h26x_model.specs.Payload.Facts.{IsPayloadFormat};
 ghost use Rattle.h26x_model.specs.Send.Limit.{AreWithinLimit};
 ghost use Rattle.h26x_model.specs.Send.Calls.{call_limit, call_entries};
@@ -175,8 +175,12 @@ impl Packetizer for CodecPacketizer {
         }
     }
 
-    /// Whether the marker bit marks the start of a talkspurt. It does so for no video codec.
-    fn marks_talkspurt(&self) -> bool {
+    /// Whether the marker bit marks the start of a talkspurt, as the packetizer that it holds says.
+    /// It does so for no video codec.
+    fn marks_talkspurt(&self) -> bool
+        ensures { (s : PacketizerState) → codec_packetizer_state self.now ≡ Some s →
+            result ≡ false }
+    {
         match self {
             CodecPacketizer::H264(it) => it.marks_talkspurt(),
             CodecPacketizer::H265(it) => it.marks_talkspurt(),
@@ -185,8 +189,12 @@ impl Packetizer for CodecPacketizer {
         }
     }
 
-    /// Whether a receiver may ask for a lost packet again.
-    fn nackable(&self) -> bool {
+    /// Whether a receiver may ask for a lost packet again, as the packetizer that it holds says. Of
+    /// a codec it may.
+    fn nackable(&self) -> bool
+        ensures { (s : PacketizerState) → codec_packetizer_state self.now ≡ Some s →
+            result ≡ true }
+    {
         match self {
             CodecPacketizer::H264(it) => it.nackable(),
             CodecPacketizer::H265(it) => it.nackable(),

@@ -189,9 +189,7 @@ pub fn again(
         (codec_format codec donl) (all_packets (codec_format codec donl) 0
         (repeated_calls codec max_packet_size limit (contents payloads.now))) error) }
 {
-    h264_payload::laws::sent_again();
-    h265_payload::laws::sent_again();
-    h266_payload::laws::sent_again();
+    h26x_payload::laws::sent_again();
     let mut p = packetizer_with(alloc, codec, donl, max_packet_size);
     let mut d = depacketizer_with(alloc, codec, donl);
     let mut q = packetizer_with(alloc, codec, donl, max_packet_size);

@@ -154,7 +154,8 @@ pub fn carry(
 ) -> Result<Carried, PacketError>
     // What is made, whatever waited and whatever the next decoding order number was: one mark a
     // call, true for each without effect; the packets of the plan of the sets that waited and the
-    // made calls' units, numbered on; each within its call's limit; and what waits afterwards.
+    // made calls' units, numbered on; call by call, each within its call's limit; and what waits
+    // afterwards.
     ensures each { IfOk result (λ carried. length carried.made ≡ length calls.now) }
     ensures made { (s : PacketizerState) → codec_packetizer_state p.old ≡ Some s →
         IfOk result (λ carried. AreMade s.format carried.made (next_calls s calls.now)) }
@@ -162,7 +163,8 @@ pub fn carry(
         IfOk result (λ carried. carried.packets
         ≡ state_packets s (made_entries s.format carried.made (next_calls s calls.now))) }
     ensures within { (s : PacketizerState) → codec_packetizer_state p.old ≡ Some s →
-        IfOk result (λ carried. AreWithinLimits s (keep carried.made (next_calls s calls.now))) }
+        IfOk result (λ carried. AreWithinLimits s (keep carried.made (next_calls s calls.now))
+        carried.packets) }
     ensures waits { (s : PacketizerState) → codec_packetizer_state p.old ≡ Some s →
         IfOk result (λ carried. codec_packetizer_state p.new
         ≡ Some (after_entries s (made_entries s.format carried.made (next_calls s calls.now)))) }

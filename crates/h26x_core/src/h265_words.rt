@@ -4,14 +4,10 @@ ghost use Rattle.std.specs.Prelude.{◌≡◌, false, nat_lt, ◌<◌, ◌+◌, 
 ghost use Rattle.h26x_core.specs.Word.{field, is_set, flag};
 ghost use Rattle.h26x_core.specs.H265Unit.{type_of, is_key_type};
 
-/// The type of an aggregation packet (RFC 7798, 4.4.2).
-const AGGREGATION_PACKET: u8 = 48;
-
-/// The type of a fragmentation unit (RFC 7798, 4.4.3).
-const FRAGMENTATION_UNIT: u8 = 49;
-
-/// The type of a PACI packet (RFC 7798, 4.4.4).
-const PACI_PACKET: u8 = 50;
+use crate::h265_types::{
+    AGGREGATION_PACKET, BLA_W_LP, CRA_NUT, FRAGMENTATION_UNIT, IDR_N_LP, IDR_W_RADL, PACI_PACKET,
+    VPS_NUT,
+};
 
 /// The header of a NAL unit or of a packet: F, type, layer and temporal id (RFC 7798, 1.1.4).
 #[derive(Debug, Clone, Copy, Default, PartialEq, Eq)]
@@ -73,7 +69,7 @@ impl H265NALUHeader {
     pub fn is_type_vcl_unit(&self) -> bool
         ensures { result ≡ nat_lt (field self.now.0 14 9) 32 }
     {
-        self.nalu_type() < 32
+        self.nalu_type() < VPS_NUT
     }
 
     /// Whether this is the header of an aggregation packet, type 48 (RFC 7798, 4.4.2).
@@ -101,14 +97,14 @@ impl H265NALUHeader {
     pub fn is_idr_picture(&self) -> bool
         ensures { result ≡ ((field self.now.0 14 9 == 19) || (field self.now.0 14 9 == 20)) }
     {
-        matches!(self.nalu_type(), 19 | 20)
+        matches!(self.nalu_type(), IDR_W_RADL | IDR_N_LP)
     }
 
     /// Whether the type is one of a slice of an IRAP picture, 16 to 21 (RFC 7798, 1.1.4).
     pub fn is_irap(&self) -> bool
         ensures { result ≡ is_key_type (field self.now.0 14 9) }
     {
-        matches!(self.nalu_type(), 16..=21)
+        matches!(self.nalu_type(), BLA_W_LP..=CRA_NUT)
     }
 }
 

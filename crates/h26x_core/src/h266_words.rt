@@ -4,11 +4,7 @@ ghost use Rattle.std.specs.Prelude.{◌≡◌, ◌+◌, ◌*◌, ◌==◌, false
 ghost use Rattle.h26x_core.specs.Word.{field, is_set, flag};
 ghost use Rattle.h26x_core.specs.H266Unit.{type_of, is_key_type};
 
-/// The type of an aggregation packet (RFC 9328, 4.3.2).
-const AGGREGATION_PACKET: u8 = 28;
-
-/// The type of a fragmentation unit (RFC 9328, 4.3.3).
-const FRAGMENTATION_UNIT: u8 = 29;
+use crate::h266_types::{AGGREGATION_PACKET, CRA_NUT, FRAGMENTATION_UNIT, IDR_W_RADL};
 
 /// The header of a NAL unit or of a packet: F, Z, layer, type and temporal id (RFC 9328, 1.1.4).
 #[derive(Debug, Clone, Copy, Default, PartialEq, Eq)]
@@ -78,7 +74,7 @@ impl H266NALUHeader {
     pub fn is_irap(&self) -> bool
         ensures { result ≡ is_key_type (field self.now.0 7 3) }
     {
-        matches!(self.nalu_type(), 7..=9)
+        matches!(self.nalu_type(), IDR_W_RADL..=CRA_NUT)
     }
 
     /// Whether this is the header of an aggregation packet, type 28 (RFC 9328, 4.3.2).

@@ -1,6 +1,6 @@
 //! Packetizers and depacketizers of any codec, and the laws that each keeps.
 
-ghost use Rattle.std.specs.Prelude.{◌≡◌, ℕ, List, true, false, OnOk, OnErr};
+ghost use Rattle.std.specs.Prelude.{◌≡◌, ℕ, List, OnOk, OnErr};
 ghost use Rattle.h26x_core.specs.Front.{IsFrontOf};
 
 use crate::error::PacketError;
@@ -27,17 +27,13 @@ pub trait Packetizer: fmt::Debug + Drop {
         ensures { meaning self.new ≡ meaning self.old };
 
     /// Whether the marker bit marks the start of a talkspurt (RFC 3551, 4.1). It does so for no
-    /// video codec.
-    fn marks_talkspurt(&self) -> bool
-        ensures { result ≡ false }
-    {
+    /// video codec; an audio codec says otherwise.
+    fn marks_talkspurt(&self) -> bool {
         false
     }
 
     /// Whether a receiver may ask for a lost packet again, by a generic NACK (RFC 4585, 6.2.1).
-    fn nackable(&self) -> bool
-        ensures { result ≡ true }
-    {
+    fn nackable(&self) -> bool {
         true
     }
 }

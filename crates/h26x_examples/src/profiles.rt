@@ -319,6 +319,16 @@ fn values_of_h265_as_text(rt: HostRuntime) -> Result<(), Fail> {
     are_written_as(&rt, rt.alloc(), &H265_LEVELS)
 }
 
+/// The ids of these levels: 30 times their numbers (Rec. ITU-T H.265, table A.8).
+static H265_LEVEL_IDS: [u8; 13] = [30, 60, 63, 90, 93, 120, 123, 150, 153, 156, 180, 183, 186];
+
+#[test]
+fn every_level_of_h265(rt: HostRuntime) {
+    for (i, (level, _)) in H265_LEVELS.iter().enumerate() {
+        assert!(rt; H265Level::from_id(H265_LEVEL_IDS[i]) == Some(*level));
+    }
+}
+
 /// Profiles of H.266, and how serde writes them.
 static H266_PROFILES: [(H266Profile, &str); 8] = [
     (H266Profile::Main10, "Main10"),
@@ -367,4 +377,18 @@ fn values_of_h266_as_text(rt: HostRuntime) -> Result<(), Fail> {
     are_written_as(&rt, rt.alloc(), &H266_PROFILES)?;
     are_written_as(&rt, rt.alloc(), &H266_TIERS)?;
     are_written_as(&rt, rt.alloc(), &H266_LEVELS)
+}
+
+/// The ids of these levels: 16 times the number before the point and 3 times the one behind it, but
+/// 255 for level 15.5 (Rec.
+/// ITU-T H.266, A.4).
+static H266_LEVEL_IDS: [u8; 15] = [
+    16, 32, 35, 48, 51, 64, 67, 80, 83, 86, 96, 99, 102, 105, 255,
+];
+
+#[test]
+fn every_level_of_h266(rt: HostRuntime) {
+    for (i, (level, _)) in H266_LEVELS.iter().enumerate() {
+        assert!(rt; H266Level::from_id(H266_LEVEL_IDS[i]) == Some(*level));
+    }
 }

@@ -2,8 +2,9 @@
 //! memory pass. This crate has no code but these.
 //!
 //! `tools/refuse-memory` runs the tests with each request for memory refused in turn; run as they
-//! are, nothing is refused. A test whose name ends in `_at_once` makes no call again: it passes as
-//! soon as none of its requests is refused, which tells where to stop. Every other has to pass.
+//! are, nothing is refused. A test whose name ends in `_at_once` makes no call again, and has to fail
+//! where one of its requests is refused; one whose name ends in `_take_no_memory` makes no request.
+//! Every other has to pass.
 #![tactic(auto)]
 
 #[cfg(test)]
@@ -18,6 +19,10 @@ mod h264;
 mod h265;
 #[cfg(test)]
 mod h266;
+#[cfg(test)]
+mod kept;
+#[cfg(test)]
+mod none;
 #[cfg(test)]
 mod shown;
 #[cfg(test)]

@@ -19,7 +19,7 @@ use Rattle.h26x_model.specs.Payload.Reading.{Reading, Single, Aggregate, Fragmen
 use Rattle.h26x_model.specs.Receive.Received.{run_after, reading_units}
 use Rattle.h26x_model.specs.Receive.Outcome.{is_too_long, IsReadingOutcome}
 use Rattle.h26x_model.specs.Payload.Facts.{FitsLimits, DonlHasTwoBytes, IsPayloadFormat, AreCarried}
-use Rattle.h26x_model.specs.Send.PacketizerState.{PacketizerState, IsPacketizerState, state_plan, state_units, state_packets, don_after, after_entries, is_skipped, has_no_effect, AreWithinLimits}
+use Rattle.h26x_model.specs.Send.PacketizerState.{PacketizerState, IsPacketizerState, state_plan, state_units, state_packets, don_after, after_entries, is_skipped, has_no_effect, IsSentAsPlanned, AreOfCalls}
 use Rattle.h26x_model.specs.Receive.DepacketizerState.{DepacketizerState, Depacketization, readings_units, run_after_readings, units_brought, after_packets, IsRefusalCause}
 use Rattle.h26x_model.specs.Carry.Laws.{PacketizerGoesOn, DepacketizerGoesOn, CarriesWhole}
 use Rattle.h26x_model.proofs.LimitLemmas.{all_both}
@@ -29,7 +29,8 @@ use Rattle.h26x_model.proofs.AcceptedLemmas.{all_read}
 use Rattle.h26x_model.proofs.ExtraLemmas.{first_is_told}
 use Rattle.h26x_model.proofs.SentLemmas.{all_parts, all_received, can_send, entries_of_calls}
 use Rattle.std.proofs.lemmas.List.Concat.{flat_map-append}
-use Rattle.h26x_model.proofs.SenderLemmas.{plan_with-append, sent_by-append, packets_by-append, after-append, still_sender, sender_plans, sender_within}
+use Rattle.h26x_model.proofs.WaitLemmas.{waits-waiting}
+use Rattle.h26x_model.proofs.SenderLemmas.{as_plan, plan_with-append, sent_by-append, packets_by-append, after-append, still_sender, sender_plans, sender_within}
 use Rattle.h26x_model.proofs.ReceiverLemmas.{whatever_run, after_is_from, work_after-nil, work_after-append, brought-append}
 
 -- a kind that is skipped
@@ -129,14 +130,46 @@ items_within f n limit (item ∷ items) (is, have) (here, later) =
     all_both (λ packet. length packet ≤ limit) (item_packets f n item) (plan_packets f (n + length (item_units item)) items)
     (subst (λ l. AreWithinLimit l (item_packets f n item)) is (here n)) (items_within f (n + length (item_units item)) limit items have later)
 
--- the packets of each call are within its limit
-calls_within : (s : PacketizerState) (calls : List Call) → IsPacketizerState s → FitsLimits s.format → AreWithinLimits s calls
-calls_within s [] is ok = tt
-calls_within s (call ∷ calls) is ok =
+-- what a call does, by the plan of the sets that waited and its units
+sent_as_planned : (s : PacketizerState) → FitsLimits s.format → IsPacketizerState s → (call : Call) → IsSentAsPlanned s call (state_packets s (call_entries s.format call)) (after_entries s (call_entries s.format call))
+sent_as_planned s fits is call =
+    let f = s.format in
+    let limit = call_limit f call in
+    let entries = call_entries f call in
+    let planned = as_plan s entries is limit in
+    record {
+      packets_are = ap (plan_packets f s.next_don) (sym planned);
+      within = items_within f s.next_don limit (state_plan s entries) (items_of_call_limit f s.waiting call) (sender_within s is fits entries);
+      waits = sym (waits-waiting f limit s.waiting entries is.sets);
+      next_don = ap (λ (items : List Item). don_after f.has_donl s.next_don (length (flat_map item_units items))) (sym planned);
+      format = refl;
+      max_packet_size = refl;
+    }
+
+-- the packets of calls, call by call
+call_lists : PacketizerState → List Call → List (List (List ℕ))
+call_lists s [] = []
+call_lists s (call ∷ calls) = state_packets s (call_entries s.format call) ∷ call_lists (after_entries s (call_entries s.format call)) calls
+
+-- those of each call are within its limit
+lists_within : (s : PacketizerState) (calls : List Call) → IsPacketizerState s → FitsLimits s.format → AreOfCalls s calls (call_lists s calls)
+unfolding call_lists
+lists_within s [] is ok = tt
+lists_within s (call ∷ calls) is ok =
     let entries = call_entries s.format call in (
-      items_within s.format s.next_don (call_limit s.format call) (state_plan s entries) (items_of_call_limit s.format s.waiting call) (sender_within s is ok entries),
-      calls_within (after_entries s entries) calls (still_sender s entries is) ok,
+      refl,
+      (sent_as_planned s ok is call).within,
+      lists_within (after_entries s entries) calls (still_sender s entries is) ok,
     )
+
+-- and joined they are the packets of all calls
+lists_joined : (s : PacketizerState) (calls : List Call) → DonlHasTwoBytes s.format → flat_map (λ (list : List (List ℕ)). list) (call_lists s calls) ≡ state_packets s (all_entries s.format calls)
+unfolding call_lists
+lists_joined s [] dons = refl
+lists_joined s (call ∷ calls) dons =
+    let entries = call_entries s.format call in
+    ap (λ (x : List (List ℕ)). state_packets s entries ++ x) (lists_joined (after_entries s entries) calls dons)
+    ∙ sym (packets_by-append s dons entries (all_entries s.format calls))
 
 -- a packetizer goes on
 pub sender_goes_on : (s : PacketizerState) → FitsLimits s.format → DonlHasTwoBytes s.format → IsPacketizerState s → PacketizerGoesOn s
@@ -147,7 +180,12 @@ sender_goes_on s fits dons is = record {
   stays = λ a. still_sender s a is;
   none = same_sender s [] is (refl, refl);
   no_effect = λ call none. let h = call_without s.format s.waiting call none in (h.0, same_sender s (call_entries s.format call) is h);
-  within = λ calls. calls_within s calls is fits;
+  planned = sent_as_planned s fits is;
+  within = λ calls. record {
+    lists = call_lists s calls;
+    of_calls = lists_within s calls is fits;
+    joined = lists_joined s calls dons;
+  };
 }
 
 -- a depacketizer goes on

@@ -2,7 +2,7 @@
 use Rattle.std.proofs.Common.{◌≡◌, ℕ, ◌+◌, ◌≤◌, Bool, true, false, List, [], ◌∷◌, ◌++◌, length, length-append, map, take, drop, Option, refl, sym, ap, ◌∙◌, subst, arith}
 use Rattle.std.specs.Prelude.{nat_lt}
 use Rattle.std.specs.List.{flat_map}
-use Rattle.std.proofs.lemmas.List.{append-nil, length-take, length-drop, map-append}
+use Rattle.std.proofs.lemmas.List.{append-nil, length-take, length-drop, map-append, take-append-drop}
 use Rattle.std.proofs.lemmas.Bool.Decides.{nat_tests}
 use Rattle.h26x_model.specs.Payload.Format.{Format}
 use Rattle.h26x_core.specs.ByteStream.{annex_b}
@@ -37,6 +37,15 @@ masks_of f n [] mask = []
 masks_of f n (item ∷ items) mask =
     take (length (item_packets f n item)) mask ∷ masks_of f (n + length (item_units item)) items (drop (length (item_packets f n item)) mask)
 
+-- behind the mask of an item is one of the packets of the others
+rest_long : (f : Format) (n : ℕ) (item : Item) (items : List Item) (mask : List Bool) → length mask ≡ length (plan_packets f n (item ∷ items)) →
+    length (drop (length (item_packets f n item)) mask) ≡ length (plan_packets f (n + length (item_units item)) items)
+rest_long f n item items mask long =
+    let here = length (item_packets f n item) in
+    let whole = length-append (item_packets f n item) (plan_packets f (n + length (item_units item)) items) in
+    let d = length-drop here mask in
+    omega (arith, long, whole, d)
+
 -- it has one mask for each item
 masks_fit : (f : Format) (n : ℕ) (items : List Item) (mask : List Bool) → length mask ≡ length (plan_packets f n items) → AreMasks f n items (masks_of f n items mask)
 masks_fit f n [] mask long = tt
@@ -45,10 +54,17 @@ masks_fit f n (item ∷ items) mask long =
     let later = plan_packets f (n + length (item_units item)) items in
     let whole = length-append (item_packets f n item) later in
     let t = length-take here mask in
-    let d = length-drop here mask in
     let first : length (take here mask) ≡ here = omega (arith, long, whole, t) in
-    let rest : length (drop here mask) ≡ length later = omega (arith, long, whole, d) in
-    (first, masks_fit f (n + length (item_units item)) items (drop here mask) rest)
+    (first, masks_fit f (n + length (item_units item)) items (drop here mask) (rest_long f n item items mask long))
+
+-- joined they are the mask
+masks_joined : (f : Format) (n : ℕ) (items : List Item) (mask : List Bool) → length mask ≡ length (plan_packets f n items) → flat_map (λ (m : List Bool). m) (masks_of f n items mask) ≡ mask
+masks_joined f n [] [] long = refl
+masks_joined f n [] (b ∷ mask) long = absurd (omega (arith, long))
+masks_joined f n (item ∷ items) mask long =
+    let here = length (item_packets f n item) in
+    ap (λ (m : List Bool). take here mask ++ m) (masks_joined f (n + length (item_units item)) items (drop here mask) (rest_long f n item items mask long))
+    ∙ take-append-drop here mask
 
 -- and keeps the same packets
 masks_keep : (f : Format) (n : ℕ) (items : List Item) (mask : List Bool) → packets_left f n items (masks_of f n items mask) ≡ keep mask (plan_packets f n items)
@@ -77,6 +93,7 @@ loses_little s w calls ok is small same carried mask long =
       written = written;
       of_items = fit;
       same = same_left;
+      joined = masks_joined f s.next_don items mask long;
       left = left;
       brings = ap (λ (g : Format). readings_units run (map g.read (keep mask (state_packets s (all_entries f calls))))) same
           ∙ ap (λ (x : List (List ℕ)). readings_units run (map f.read x)) (sym same_left)

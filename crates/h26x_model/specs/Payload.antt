@@ -4,3 +4,4 @@ pub mod Format
 pub mod Don
 pub mod Extra
 pub mod Facts
+pub mod TwoBytes

@@ -11,7 +11,7 @@ ghost use Rattle.h26x_model.specs.Send.Group.{Entry, Group, split, AreGroups, la
 ghost use Rattle.h26x_model.specs.Send.Plan.{plan, PlansCallByCall, WaitsCallByCall, Item, fits_one_packet, is_dropped, item_units, KeepsLast};
 ghost use Rattle.h26x_model.specs.Send.WaitingSets.{WaitingSets, AreWaitingSets, entries_with_limit, plan_with_waiting, no_waiting_sets, waiting_after, sets_waiting};
 ghost use Rattle.h26x_model.specs.Send.Packets.{plan_packets};
-ghost use Rattle.h26x_model.specs.Send.Fragments.{AreFragments, ReadsFragments, AreMarked};
+ghost use Rattle.h26x_model.specs.Send.Fragments.{AreFragments, ReadsFragments, AreMarked, IsLong, GoesInFragments};
 ghost use Rattle.h26x_model.specs.Send.Limit.{ItemIsWithinLimit};
 ghost use Rattle.h26x_model.specs.Payload.Don.{DonsInOrder};
 ghost use Rattle.h26x_model.specs.Send.Rival.{TakesFewestFragments};
@@ -90,6 +90,13 @@ pub fn fragments_by_place()
         AreMarked f n limit unit }
 {}
 
+/// A unit that is longer, with its number, than its limit goes in fragments where the limit leaves
+/// these room for data (RFC 6184, 5.8; RFC 7798, 4.4.3; RFC 9328, 4.3.3).
+pub fn long_units_go_in_fragments()
+    ensures { (f : Format) → IsPayloadFormat f → (n limit : ℕ) (unit : List ℕ) →
+        IsLong f limit unit → GoesInFragments f n limit unit }
+{}
+
 /// A unit takes the fewest fragments that there could be.
 pub fn fewest_fragments()
     ensures { (f : Format) → HeadersTakeRoom f → TakesFewestFragments f }
@@ -159,6 +166,20 @@ pub fn what_was_sent_is_sent_again()
 pub fn key_units_are_detected()
     ensures { (f : Format) → KnowsKeyUnits f → ReadsWhatItWrites f → (n : ℕ) (items : List Item) →
         AllByRecursion (IsPlanned f) items → AreDetected f n items }
+{}
+
+/// Of what calls send, whichever sets wait and whatever the next decoding order number is: numbers
+/// go on by one from unit to unit (RFC 7798, 4.6; RFC 9328, 4.4); the packet or the first fragment of
+/// each key unit is detected, and no other packet but aggregates that bear numbers.
+pub fn what_calls_send_is_in_order_and_detected()
+    ensures dons { (s : PacketizerState) (calls : List Call) → IsPayloadFormat s.format →
+        IsPacketizerState s → AreCalls calls →
+        AreCarried s.format (state_units s (all_entries s.format calls)) →
+        DonsInOrder s.format s.next_don (state_plan s (all_entries s.format calls)) }
+    ensures detected { (s : PacketizerState) (calls : List Call) → IsPayloadFormat s.format →
+        IsPacketizerState s → AreCalls calls →
+        AreCarried s.format (state_units s (all_entries s.format calls)) →
+        AreDetected s.format s.next_don (state_plan s (all_entries s.format calls)) }
 {}
 
 /// Numbers are two bytes: packets numbered on from n are those numbered on from its remainder;

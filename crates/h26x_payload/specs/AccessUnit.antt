@@ -1,6 +1,5 @@
--- Where an access unit begins and ends among packets with headers of two bytes (RFC 7798, 4.4.3;
--- RFC 9328,
--- 4.3.3; the crate's rule).
+-- Where an access unit begins and ends among packets with headers of two bytes (RFC 7798, 4.4.3; RFC
+-- 9328, 4.3.3; str0m's rule).
 use Rattle.std.specs.Prelude.{ℕ, Bool, false, if◌then◌else◌, List, [], ◌∷◌, ◌||◌, not}
 use Rattle.h26x_core.specs.Word.{is_set}
 

@@ -3,7 +3,7 @@
 
 pub mod plain;
 
-use h26x_session::run;
+pub use h26x_session::run;
 use std::io;
 use std::process::ExitCode;
 
@@ -17,6 +17,8 @@ fn main(rt: HostRuntime) -> ExitCode {
     }
 }
 
+#[cfg(test)]
+mod handles;
 #[cfg(test)]
 mod rows;
 #[cfg(test)]

@@ -13,19 +13,16 @@ use std::test::Fail;
 
 mod again;
 mod carry;
+mod codec;
 mod constants;
+mod ends;
 mod h264;
-mod lengths;
+mod h265;
+mod h266;
 mod take;
 
-/// What is told where a unit of H.264 is one of a keyframe.
-const KEY: CodecExtra = CodecExtra::H264(H264CodecExtra { is_keyframe: true });
-
-/// What is told where none is.
-const NOT_KEY: CodecExtra = CodecExtra::H264(H264CodecExtra { is_keyframe: false });
-
 /// Bytes by two digits each; spaces may stand between them.
-fn bytes_of(alloc: Global, text: &str) -> Result<Vec<u8>, AllocError> {
+pub(crate) fn bytes_of(alloc: Global, text: &str) -> Result<Vec<u8>, AllocError> {
     let mut bytes = Vec::new(alloc);
     let mut high = None;
     for digit in text.chars().filter_map(|digit| digit.to_digit(16)) {
@@ -52,7 +49,7 @@ pub(crate) fn calls_of(alloc: Global, text: &str) -> Result<Vec<(usize, Vec<u8>)
 }
 
 /// Lists of bytes with a space between each two, `-` for none, as in `6501 - 41`.
-fn list_of(alloc: Global, text: &str) -> Result<Vec<Vec<u8>>, Fail> {
+pub(crate) fn list_of(alloc: Global, text: &str) -> Result<Vec<Vec<u8>>, AllocError> {
     let mut list = Vec::new(alloc);
     for word in text.split(' ').filter(|word| !word.is_empty()) {
         list.push(bytes_of(alloc, word)?)?;

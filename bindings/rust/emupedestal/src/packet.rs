@@ -1,7 +1,6 @@
 //! The two traits of the payload layer, as in str0m.
 
-use crate::codec::CodecExtra;
-use crate::error::PacketError;
+use super::{CodecExtra, PacketError};
 use std::fmt;
 
 /// Cuts encoded video into RTP payloads.
@@ -28,7 +27,9 @@ pub trait Packetizer: fmt::Debug {
 
 /// Puts units together from RTP payloads.
 pub trait Depacketizer: fmt::Debug {
-    /// How many bytes the units of packets of this many bytes may take when they are written.
+    /// About how many bytes the units of packets of this many bytes take when they are written: these
+    /// bytes, four more, and four for each whole 1200 of them. It is no bound: each unit of a short
+    /// packet or an aggregate has four bytes before it.
     fn out_size_hint(&self, packets_size: usize) -> Option<usize>;
 
     /// Takes a packet, and appends the units that it completes to `out`.
@@ -45,6 +46,8 @@ pub trait Depacketizer: fmt::Debug {
     /// Whether a packet may be the first of an access unit.
     fn is_partition_head(&self, packet: &[u8]) -> bool;
 
-    /// Whether a packet is the last of an access unit; `marker` is its marker bit.
+    /// Whether a packet is the last of an access unit; `marker` is its marker bit. Of a fragment of
+    /// H.265 or H.266 it is E, whatever the marker; E ends a unit, so the end of an access unit with
+    /// a fragmented SEI message is told by the marker alone.
     fn is_partition_tail(&self, marker: bool, packet: &[u8]) -> bool;
 }

@@ -16,10 +16,11 @@ use Rattle.h26x_core.specs.ByteStream.{annex_b}
 use Rattle.h26x_model.specs.Send.Plan.{units_sent}
 use Rattle.h26x_model.specs.Send.Again.{NothingDropped}
 use Rattle.h26x_model.specs.Carry.Loss.{keep, AreMasks, AreAllUnitsLeft, packets_left}
-use Rattle.h26x_model.specs.Send.PacketizerState.{PacketizerState, IsPacketizerState, state_plan, state_units, state_packets, after_entries, has_no_effect, AreWithinLimits}
+use Rattle.h26x_model.specs.Send.PacketizerState.{PacketizerState, IsPacketizerState, state_plan, state_units, state_packets, after_entries, has_no_effect, IsSentAsPlanned, AreWithinLimits}
 use Rattle.h26x_model.specs.Receive.DepacketizerState.{Depacketization, units_brought, after_packets, IsRefusalCause, HaveAvcLengths}
 
--- A packetizer goes on from entries to entries, and a call without effect changes nothing.
+-- A packetizer goes on from entries to entries, a call without effect changes nothing, and what a
+-- call does is what is planned of whole lists.
 pub record PacketizerGoesOn (s : PacketizerState) : Type 0 where
   pub sent : (a b : List Entry) → state_units s (a ++ b) ≡ state_units s a
       ++ state_units (after_entries s a) b
@@ -31,7 +32,10 @@ pub record PacketizerGoesOn (s : PacketizerState) : Type 0 where
   pub no_effect : (call : Call) → has_no_effect s.format call ≡ true →
       (state_plan s (call_entries s.format call) ≡ [])
       × (after_entries s (call_entries s.format call) ≡ s)
+  pub planned : (call : Call) → IsSentAsPlanned s call (state_packets s (call_entries s.format call))
+      (after_entries s (call_entries s.format call))
   pub within : (calls : List Call) → AreWithinLimits s calls
+      (state_packets s (all_entries s.format calls))
 
 -- A depacketizer goes on from packets to packets; where no run was open they bring what is received
 -- of them.
@@ -66,7 +70,7 @@ pub record CarriesWhole (s : PacketizerState) (w : Depacketization) (calls : Lis
       × (error ≡ AvcUnitTooLong))
 
 -- What some of the packets of a plan bring, in order: item by item what is left of it. The mask
--- keeps those packets.
+-- keeps those packets; it is one mask for each item, joined.
 pub record LosesLittle (s : PacketizerState) (w : Depacketization) (calls : List Call)
     (mask : List Bool) : Type 0 where
   pub masks : List (List Bool)
@@ -74,6 +78,7 @@ pub record LosesLittle (s : PacketizerState) (w : Depacketization) (calls : List
   pub of_items : AreMasks s.format s.next_don (state_plan s (all_entries s.format calls)) masks
   pub same : packets_left s.format s.next_don (state_plan s (all_entries s.format calls)) masks
       ≡ keep mask (state_packets s (all_entries s.format calls))
+  pub joined : flat_map (λ mask. mask) masks ≡ mask
   pub left : AreAllUnitsLeft s.format s.next_don (state_plan s (all_entries s.format calls)) masks
       written
   pub brings : units_brought w.state (keep mask (state_packets s (all_entries s.format calls)))

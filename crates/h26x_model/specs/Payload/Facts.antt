@@ -34,12 +34,17 @@ pub record ReadsWhatItWrites (f : Format) : Type 0 where
       AreCarried f sets → IsTrue (f.carries unit) → f.read (f.sets_packet n sets unit) ≡ Aggregate
       (with_dons f n sets)
 
--- a fragment's header is as long as it is counted, and sets that fit are within the limit
+-- a fragment's header is no longer than it is counted, and sets that fit are within the limit
 pub record FitsLimits (f : Format) : Type 0 where
   pub header : (unit : List ℕ) (start end : Bool) →
       length (f.fragment_header unit start end) ≤ fragment_header_len f
   pub sets : (limit n : ℕ) (sets : List (List ℕ)) (unit : List ℕ) → f.sets_fit limit sets ≡ true →
       length (f.sets_packet n sets unit) ≤ limit
+
+-- a fragment's header is as long as it is counted, where its unit has a whole header
+abbrev pub HeadersAreWhole : Format → Type 0
+HeadersAreWhole f = (unit : List ℕ) (start end : Bool) → f.header_len ≤ length unit →
+    length (f.fragment_header unit start end) ≡ fragment_header_len f
 
 -- a fragment bears the marks that it was made with
 abbrev pub MarksFragments : Format → Type 0
@@ -102,6 +107,7 @@ pub record IsPayloadFormat (f : Format) : Type 0 where
   pub headers : HeadersTakeRoom f
   pub reads : ReadsWhatItWrites f
   pub limits : FitsLimits f
+  pub whole : HeadersAreWhole f
   pub marks : MarksFragments f
   pub sets : SetsLeaveRoom f
   pub extra : ExtraTells f

@@ -1,5 +1,5 @@
 -- What a packet is to a depacketizer (RFC 6184, 5.2; RFC 7798, 4.4; RFC 9328, 4.3).
-use Rattle.std.specs.Prelude.{ℕ, ◌+◌, ◌*◌, Bool, true, false, List, [], ◌∷◌, Option, Some, None}
+use Rattle.std.specs.Prelude.{◌≡◌, ℕ, ◌+◌, ◌*◌, Bool, true, false, List, [], ◌∷◌, Option, Some, None}
 use Rattle.h26x_core.specs.declared.error.PacketError.{PacketError}
 use Rattle.h26x_core.specs.declared.error.PacketError.TheVariants.{ErrShortPacket}
 
@@ -53,3 +53,10 @@ head_of reading = []
 abbrev pub body_of : Reading → List ℕ
 body_of (Fragment start end head don body) = body
 body_of reading = []
+
+-- by this relation a packet has one reading, and the function finds it
+pub record HasOneReading (IsReading : List ℕ → Reading → Type 0) (read : List ℕ → Reading) : Type 0
+  where
+    pub is : (packet : List ℕ) → IsReading packet (read packet)
+    pub only : (packet : List ℕ) (reading : Reading) → IsReading packet reading →
+        read packet ≡ reading

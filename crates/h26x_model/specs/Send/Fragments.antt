@@ -2,8 +2,10 @@
 use Rattle.std.specs.Prelude.{◌≡◌, ℕ, ◌+◌, ◌-◌, ◌*◌, ◌<◌, ◌≤◌, false, ◌==◌, ◌&&◌, if◌then◌else◌, List, ◌++◌, length, take, drop, None}
 use Rattle.std.specs.List.{flat_map, range_with_len}
 use Rattle.h26x_model.specs.Payload.Reading.{Fragment}
-use Rattle.h26x_model.specs.Payload.Format.{Format, donl, donl_len, has_s_bit, has_e_bit}
-use Rattle.h26x_model.specs.Send.Packets.{fragment_room, fragment, fragment_count, fragment_part}
+use Rattle.h26x_model.specs.Payload.Format.{Format, donl, donl_len, fragment_header_len, has_s_bit, has_e_bit}
+use Rattle.h26x_model.specs.Send.Plan.{Alone, is_dropped}
+use Rattle.h26x_model.specs.Send.Packets.{fragment_room, fragment, fragments, fragment_count, fragment_part, item_packets}
+use Rattle.h26x_model.specs.Send.Rival.{IsRival}
 use Rattle.h26x_model.specs.Payload.Don.{don_sent}
 
 -- the data of the fragment at place j: the first leaves room for the number
@@ -45,3 +47,27 @@ pub record AreMarked (f : Format) (n limit : ℕ) (unit : List ℕ) : Type 0 whe
       ≡ (j + 1 == fragment_count f limit unit)
   pub apart : (j : ℕ) → j < fragment_count f limit unit → (has_s_bit f (fragment f n limit unit j)
       && has_e_bit f (fragment f n limit unit j)) ≡ false
+
+-- a unit that is longer, with its number, than its limit, which leaves a fragment room for data
+pub record IsLong (f : Format) (limit : ℕ) (unit : List ℕ) : Type 0 where
+  pub room : fragment_header_len f + donl_len f < limit
+  pub long : limit < length unit + donl_len f
+
+-- It goes in these fragments: each but the last is as long as the limit, none is longer, and no rival
+-- has fewer.
+pub record GoesInFragments (f : Format) (n limit : ℕ) (unit : List ℕ) : Type 0 where
+  pub sent : item_packets f n (Alone limit unit) ≡ fragments f n limit unit
+  pub are : AreFragments f n limit unit
+  pub marked : AreMarked f n limit unit
+  pub full : (j : ℕ) → j + 1 < fragment_count f limit unit → length (fragment f n limit unit j)
+      ≡ limit
+  pub within : (j : ℕ) → length (fragment f n limit unit j) ≤ limit
+  pub fewest : (rival : List (List ℕ)) → IsRival f limit (drop f.header_len unit) rival →
+      fragment_count f limit unit ≤ length rival
+
+-- From this limit on a fragment has room for data: only sets are dropped for size, and each longer
+-- unit is long.
+pub record HasRoomFrom (f : Format) (least : ℕ) : Type 0 where
+  pub dropped : (limit : ℕ) (unit : List ℕ) → least ≤ limit → is_dropped f limit unit ≡ false
+  pub long : (limit : ℕ) (unit : List ℕ) → least ≤ limit → limit < length unit + donl_len f →
+      IsLong f limit unit

@@ -4,10 +4,10 @@ use Rattle.std.specs.List.{flat_map, list_all}
 use Rattle.h26x_core.specs.Word.{word}
 use Rattle.h26x_core.specs.Kind.{Kind, Skipped}
 use Rattle.h26x_model.specs.Payload.Format.{Format}
-use Rattle.h26x_model.specs.Send.Group.{Entry}
+use Rattle.h26x_model.specs.Send.Group.{Entry, split, latest_sets}
 use Rattle.h26x_model.specs.Send.Calls.{Call, call_limit, call_entries}
-use Rattle.h26x_model.specs.Send.Plan.{Item, item_units}
-use Rattle.h26x_model.specs.Send.WaitingSets.{WaitingSets, AreWaitingSets, plan_with_waiting, waiting_after}
+use Rattle.h26x_model.specs.Send.Plan.{Item, item_units, plan, units_sent}
+use Rattle.h26x_model.specs.Send.WaitingSets.{WaitingSets, AreWaitingSets, sets_waiting, entries_with_limit, plan_with_waiting, waiting_after}
 use Rattle.h26x_model.specs.Send.Packets.{plan_packets}
 use Rattle.h26x_model.specs.Send.Limit.{AreWithinLimit}
 
@@ -65,12 +65,41 @@ are_skipped f units = list_all (λ unit. is_skipped (f.kind unit)) units
 abbrev pub has_no_effect : Format → Call → Bool
 has_no_effect f call = nat_lt call.mtu f.least_mtu || are_skipped f (f.units call.payload)
 
--- of each call, the packets that it makes where it comes are within its limit
-abbrev pub AreWithinLimits : PacketizerState → List Call → Type 0
-AreWithinLimits s [] = Unit {0}
-AreWithinLimits s (call ∷ calls) =
-    AreWithinLimit (call_limit s.format call) (state_packets s (call_entries s.format call))
-    × AreWithinLimits (after_entries s (call_entries s.format call)) calls
+-- the sets that wait, and behind them the units of a call, all at its limit
+abbrev pub waiting_and_call_entries : PacketizerState → Call → List Entry
+waiting_and_call_entries s call = entries_with_limit (call_limit s.format call)
+    (sets_waiting s.waiting) ++ call_entries s.format call
+
+-- What a call does, in the words of whole lists: its packets are those of the plan of the sets that
+-- waited and the call's units, numbered on, none longer than its limit; afterwards the latest sets
+-- of the rest wait, numbers go on behind the units sent, and the settings stay.
+pub record IsSentAsPlanned (s : PacketizerState) (call : Call) (packets : List (List ℕ))
+    (new : PacketizerState) : Type 0 where
+  pub packets_are : packets ≡ plan_packets s.format s.next_don
+      (plan s.format (waiting_and_call_entries s call))
+  pub within : AreWithinLimit (call_limit s.format call) packets
+  pub waits : sets_waiting new.waiting ≡ latest_sets s.format
+      (split s.format (waiting_and_call_entries s call)).rest
+  pub next_don : new.next_don ≡ don_after s.format.has_donl s.next_don
+      (length (units_sent s.format (waiting_and_call_entries s call)))
+  pub format : new.format ≡ s.format
+  pub max_packet_size : new.max_packet_size ≡ s.max_packet_size
+
+-- one list for each call: the packets that it makes where it comes, none longer than its limit
+abbrev pub AreOfCalls : PacketizerState → List Call → List (List (List ℕ)) → Type 0
+AreOfCalls s [] [] = Unit {0}
+AreOfCalls s (call ∷ calls) (packets ∷ lists) =
+    (packets ≡ state_packets s (call_entries s.format call))
+    × AreWithinLimit (call_limit s.format call) packets
+    × AreOfCalls (after_entries s (call_entries s.format call)) calls lists
+AreOfCalls s calls lists = ⊥
+
+-- packets that are such lists, joined
+pub record AreWithinLimits (s : PacketizerState) (calls : List Call) (packets : List (List ℕ)) :
+    Type 0 where
+  pub lists : List (List (List ℕ))
+  pub of_calls : AreOfCalls s calls lists
+  pub joined : flat_map (λ list. list) lists ≡ packets
 
 -- what later answers depend on: the sets that wait, the next decoding order number where packets
 -- bear them, and the largest packet size where it limits calls

@@ -41,7 +41,7 @@ pub fn written_size<A: Aggregate>(codec: A, bytes: &[u8]) -> usize
     size
 }
 
-/// Writes the units of an aggregate, which take so many bytes, and tells of them (RFC 6184, 5.7.1;
+/// Writes the units of an aggregate, which take `size` bytes, and tells of them (RFC 6184, 5.7.1;
 /// RFC 7798, 4.4.2; RFC 9328, 4.3.2).
 pub fn write_units<A: Aggregate>(
     codec: A,

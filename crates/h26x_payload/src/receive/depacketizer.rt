@@ -168,7 +168,7 @@ impl<C: PacketReader> Depacketizer for PayloadDepacketizer<C> {
         ensures accepted { OnOk result (IsFrontOf out.old.items out.new.items) }
         ensures kept_out { OnErr result (out.new.items ≡ out.old.items) }
         ensures kept_extra { OnErr result (codec_extra.new ≡ codec_extra.old) }
-        ensures kept_run { OnErr result (self.new ≡ self.old) }
+        ensures kept_self { OnErr result (self.new ≡ self.old) }
     {
         let codec = self.codec;
         let parts = codec.read(packet)?;

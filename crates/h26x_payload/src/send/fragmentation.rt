@@ -24,7 +24,7 @@ pub(crate) fn donl_bytes<'a>(has_donl: bool, don: u16, bytes: &'a mut [u8; 2]) -
     if has_donl { bytes.as_slice() } else { &[] }
 }
 
-/// A fragment of this data, behind these bytes of a number.
+/// One fragment: its header, then `donl`, then `part`.
 fn fragment_of<C: PayloadFormat>(
     codec: C,
     alloc: Global,

@@ -324,12 +324,25 @@ impl<C: PayloadFormat> Packetizer for PayloadPacketizer<C> {
     }
 
     /// The marker bit stands on the last packet of an access unit (RFC 6184, 5.1; RFC 7798, 4.1;
-    /// RFC 9328,
-    /// 4.1).
+    /// RFC 9328, 4.1).
     fn is_marker(&mut self, data: &[u8], previous: Option<&[u8]>, last: bool) -> bool
         ensures is { result ≡ last }
         ensures kept { self.new ≡ self.old }
     {
         last
+    }
+
+    /// The marker bit marks no talkspurt.
+    fn marks_talkspurt(&self) -> bool
+        ensures { result ≡ false }
+    {
+        false
+    }
+
+    /// A receiver may ask for a lost packet again (RFC 4585, 6.2.1).
+    fn nackable(&self) -> bool
+        ensures { result ≡ true }
+    {
+        true
     }
 }

@@ -1,6 +1,6 @@
 //! Parameter sets that go before a unit.
 
-ghost use Rattle.std.specs.Prelude.{◌≡◌, ◌+◌, ◌++◌, OnOk, nat_lt, length};
+ghost use Rattle.std.specs.Prelude.{◌≡◌, ◌≤◌, ◌+◌, ◌++◌, OnOk, nat_lt, length};
 ghost use Rattle.std.specs.List.{sum_by, list_all};
 ghost use Rattle.h26x_core.specs.Pieces.{piece};
 ghost use Rattle.h26x_payload.specs.Sending.{sets_list, sets_behind_lengths};
@@ -60,8 +60,10 @@ impl<'a> Sets<'a> {
         }
     }
 
-    /// About the bytes that they take in a packet.
-    pub fn capacity(self) -> usize {
+    /// About the bytes that they take in a packet; at most 12 more than they have.
+    pub fn capacity(self) -> usize
+        ensures { result ≤ sum_by length (sets_list self.entry) + 12 }
+    {
         let vps = match self.vps {
             Some(vps) => vps.len(),
             None => 0,
@@ -71,7 +73,7 @@ impl<'a> Sets<'a> {
             .saturating_add(12)
     }
 
-    /// Appends the sets behind their lengths, and from the second on behind these bytes too.
+    /// Appends each set behind its length; `gap` goes before the length of each but the first.
     pub fn push(self, gap: &[u8], packet: &mut Vec<u8>) -> Result<(), AllocError>
         ensures { OnOk result (packet.new.items ≡ packet.old.items
             ++ sets_behind_lengths gap.now (sets_list self.entry)) }

@@ -1,3 +1,5 @@
+ghost use Rattle.std.specs.Prelude.{[]};
+
 use super::*;
 use crate::rows::{calls_of, same, same_bytes, same_packets};
 use h26x_codec::{Carried, CodecDepacketizer, CodecPacketizer, carry};
@@ -28,16 +30,20 @@ fn text_of<T: fmt::Debug>(alloc: Global, it: &T) -> Result<String, Fail> {
     Ok(format!(in alloc; "{it:?}")?)
 }
 
-/// What one in a box says of markers, talkspurts and packets that are sent again.
-fn marks_of_a_box(alloc: Global) -> Result<[bool; 4], Fail> {
-    let plain = PlainPacketizer::new(alloc);
-    let mut packetizer = CodecPacketizer::Boxed(Box::new(alloc, plain)?);
-    Ok([
+/// What a packetizer says of markers, talkspurts and packets that are sent again.
+fn marks_of<P: Packetizer>(packetizer: &mut P) -> [bool; 4] {
+    [
         packetizer.is_marker(&PAYLOAD, None, true),
         packetizer.is_marker(&PAYLOAD, None, false),
         packetizer.marks_talkspurt(),
         packetizer.nackable(),
-    ])
+    ]
+}
+
+fn marks_of_a_box(alloc: Global) -> Result<[bool; 4], Fail> {
+    let plain = PlainPacketizer::new(alloc);
+    let mut packetizer = CodecPacketizer::Boxed(Box::new(alloc, plain)?);
+    Ok(marks_of(&mut packetizer))
 }
 
 fn text_of_a_packetizer(alloc: Global) -> Result<String, Fail> {
@@ -87,16 +93,20 @@ fn take_in_a_box(
     ])
 }
 
-/// What one in a box says of heads and tails, and how much it writes of 2400 bytes.
-fn places_of_a_box(alloc: Global) -> Result<([bool; 3], Option<usize>), Fail> {
-    let plain = PlainDepacketizer::new(alloc);
-    let depacketizer = CodecDepacketizer::Boxed(Box::new(alloc, plain)?);
+/// What a depacketizer says of heads and tails, and how much it writes of 2400 bytes.
+fn places_of<D: Depacketizer>(depacketizer: &D) -> ([bool; 3], Option<usize>) {
     let places = [
         depacketizer.is_partition_head(&[]),
         depacketizer.is_partition_tail(true, &[]),
         depacketizer.is_partition_tail(false, &[1]),
     ];
-    Ok((places, depacketizer.out_size_hint(2400)))
+    (places, depacketizer.out_size_hint(2400))
+}
+
+fn places_of_a_box(alloc: Global) -> Result<([bool; 3], Option<usize>), Fail> {
+    let plain = PlainDepacketizer::new(alloc);
+    let depacketizer = CodecDepacketizer::Boxed(Box::new(alloc, plain)?);
+    Ok(places_of(&depacketizer))
 }
 
 fn text_of_a_depacketizer(alloc: Global) -> Result<String, Fail> {
@@ -157,5 +167,74 @@ fn carried_by_ends_in_boxes(rt: HostRuntime) -> Result<(), Fail> {
     assert!(rt; carried.made.as_slice() == [true; 3].as_slice());
     same_bytes(&rt, &out, &[0xaa, 0xbb, 0xcc], "boxes");
     same(&rt, &extra, &CodecExtra::None, "boxes");
+    Ok(())
+}
+
+/// An end that answers otherwise than those of any codec, as an audio codec's does.
+#[derive(Debug, Drop)]
+struct Contrary;
+
+impl Packetizer for Contrary {
+    ghost meaning = { λ it. [] };
+
+    fn packetize(&mut self, _mtu: usize, _b: &[u8]) -> Result<Vec<Vec<u8>>, PacketError> {
+        Err(PacketError::OutOfMemory)
+    }
+
+    fn is_marker(&mut self, _data: &[u8], _previous: Option<&[u8]>, last: bool) -> bool {
+        !last
+    }
+
+    fn marks_talkspurt(&self) -> bool {
+        true
+    }
+
+    fn nackable(&self) -> bool {
+        false
+    }
+}
+
+impl Depacketizer for Contrary {
+    ghost meaning = { λ it. [] };
+
+    fn out_size_hint(&self, _packets_size: usize) -> Option<usize> {
+        None
+    }
+
+    fn depacketize(
+        &mut self,
+        _packet: &[u8],
+        _out: &mut Vec<u8>,
+        _codec_extra: &mut CodecExtra,
+    ) -> Result<(), PacketError> {
+        Err(PacketError::ErrShortPacket)
+    }
+
+    fn is_partition_head(&self, packet: &[u8]) -> bool {
+        !packet.is_empty()
+    }
+
+    fn is_partition_tail(&self, marker: bool, _packet: &[u8]) -> bool {
+        !marker
+    }
+}
+
+fn contrary_marks(alloc: Global) -> Result<[bool; 4], Fail> {
+    let mut packetizer = CodecPacketizer::Boxed(Box::new(alloc, Contrary)?);
+    Ok(marks_of(&mut packetizer))
+}
+
+fn contrary_places(alloc: Global) -> Result<([bool; 3], Option<usize>), Fail> {
+    let depacketizer = CodecDepacketizer::Boxed(Box::new(alloc, Contrary)?);
+    Ok(places_of(&depacketizer))
+}
+
+// No box answers for the end that it holds.
+#[test]
+fn an_end_in_a_box_is_asked(rt: HostRuntime) -> Result<(), Fail> {
+    let marks = contrary_marks(rt.alloc())?;
+    same(&rt, &marks, &[false, true, true, false], "a box");
+    let want = ([false, false, true], None);
+    same(&rt, &contrary_places(rt.alloc())?, &want, "a box");
     Ok(())
 }

@@ -1,6 +1,6 @@
 use super::{bytes_of, list_of, same, same_bytes};
-use h26x_codec::{Codec, CodecPacketizer, Repeated, again};
-use h26x_core::{PacketError, Packetizer};
+use h26x_codec::{Codec, Repeated, again};
+use h26x_core::PacketError;
 use std::alloc::Global;
 use std::process::Abort;
 use std::test::Fail;
@@ -150,74 +150,5 @@ fn a_unit_that_is_sent_and_refused(rt: HostRuntime) -> Result<(), Fail> {
         &Some(PacketError::ErrShortPacket),
         "0201",
     );
-    Ok(())
-}
-
-/// How many packets a unit of eight bytes makes at each limit from 0 to 10.
-const COUNTS: [(Codec, bool, [u8; 8], [usize; 11]); 5] = [
-    (
-        Codec::H264,
-        false,
-        [0x65, 1, 2, 3, 4, 5, 6, 7],
-        [0, 0, 0, 7, 4, 3, 2, 2, 1, 1, 1],
-    ),
-    (
-        Codec::H265,
-        false,
-        [0x02, 1, 1, 2, 3, 4, 5, 6],
-        [0, 0, 0, 0, 6, 3, 2, 2, 1, 1, 1],
-    ),
-    (
-        Codec::H266,
-        false,
-        [0x00, 9, 1, 2, 3, 4, 5, 6],
-        [0, 0, 0, 0, 6, 3, 2, 2, 1, 1, 1],
-    ),
-    (
-        Codec::H265,
-        true,
-        [0x02, 1, 1, 2, 3, 4, 5, 6],
-        [0, 0, 0, 0, 0, 0, 3, 2, 2, 2, 1],
-    ),
-    (
-        Codec::H266,
-        true,
-        [0x00, 9, 1, 2, 3, 4, 5, 6],
-        [0, 0, 0, 0, 0, 0, 3, 2, 2, 2, 1],
-    ),
-];
-
-/// How many packets a fresh packetizer makes of a unit.
-fn count(
-    alloc: Global,
-    codec: Codec,
-    donl: bool,
-    limit: usize,
-    unit: &[u8],
-) -> Result<usize, PacketError> {
-    let mut packetizer = CodecPacketizer::new(alloc, codec);
-    packetizer.configure_for(if donl { Some(1) } else { None });
-    Ok(packetizer.packetize(limit, unit)?.len())
-}
-
-fn compare_counts(
-    rt: &impl Abort,
-    alloc: Global,
-    (codec, donl): (Codec, bool),
-    unit: &[u8],
-    counts: &[usize],
-) -> Result<(), Fail> {
-    for (limit, want) in counts.iter().enumerate() {
-        let made = count(alloc, codec, donl, limit, unit)?;
-        same(rt, &(limit, made), &(limit, *want), "a tiny limit");
-    }
-    Ok(())
-}
-
-#[test]
-fn packets_at_tiny_limits(rt: HostRuntime) -> Result<(), Fail> {
-    for (codec, donl, unit, counts) in &COUNTS {
-        compare_counts(&rt, rt.alloc(), (*codec, *donl), unit, counts)?;
-    }
     Ok(())
 }

@@ -1,4 +1,5 @@
-use super::{KEY, bytes_of, calls_of, carry_fresh, long_unit, same, same_bytes, same_packets};
+use super::{bytes_of, calls_of, carry_fresh, long_unit, same, same_bytes, same_packets, told};
+use h26x_codec::Codec;
 use h26x_core::CodecExtra;
 use std::alloc::Global;
 use std::process::Abort;
@@ -12,7 +13,7 @@ fn carry_sets(rt: &impl Abort, alloc: Global, sets: &[u8]) -> Result<Vec<u8>, Fa
     let carried = carry_fresh(alloc, false, &calls, &mut out, &mut extra)?;
     same_packets(rt, carried.packets.as_slice(), &[sets, &[5, 4, 5]]);
     assert!(rt; carried.made.into_vec().as_slice() == [true; 3].as_slice());
-    same(rt, &extra, &KEY, "three calls");
+    same(rt, &extra, &told(Codec::H264, true), "three calls");
     Ok(out)
 }
 
@@ -50,7 +51,7 @@ fn carry_long(
     let mut extra = CodecExtra::None;
     let carried = carry_fresh(alloc, is_avc, &calls, &mut out, &mut extra)?;
     assert!(rt; carried.made.as_slice() == [true].as_slice());
-    same(rt, &extra, &KEY, "a long unit");
+    same(rt, &extra, &told(Codec::H264, true), "a long unit");
     Ok(out)
 }
 

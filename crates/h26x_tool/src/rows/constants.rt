@@ -28,16 +28,18 @@ fn numbers_of_h264(rt: HostRuntime) {
     for (name, number, want) in &NUMBERS {
         same(&rt, number, want, name);
     }
-    assert_eq!(rt;
-        (FUA_HEADER_SIZE, STAPA_HEADER_SIZE, STAPA_NALU_LENGTH_SIZE),
-        (2, 1, 2)
-    );
+    assert!(rt; [FUA_HEADER_SIZE, STAPA_HEADER_SIZE, STAPA_NALU_LENGTH_SIZE] == [2, 1, 2]);
 }
 
 #[test]
 fn the_start_code(rt: HostRuntime) {
-    assert_eq!(rt; ANNEXB_NALUSTART_CODE, [0, 0, 0, 1]);
-    assert_eq!(rt; h264_payload::ANNEXB_NALUSTART_CODE, [0, 0, 0, 1]);
+    let names = [
+        ANNEXB_NALUSTART_CODE,
+        h264_payload::ANNEXB_NALUSTART_CODE,
+        h265_payload::ANNEXB_NALUSTART_CODE,
+        h266_payload::ANNEXB_NALUSTART_CODE,
+    ];
+    assert!(rt; names == [[0, 0, 0, 1]; 4]);
 }
 
 #[test]

@@ -1,7 +1,8 @@
+use super::ends::{refuses_plainly, writes_once};
 use super::{bytes_of, fresh, list_of, same, same_bytes, told};
 use crate::plain::PlainDepacketizer;
 use h26x_codec::{Codec, CodecDepacketizer, take_all};
-use h26x_core::{CodecExtra, Depacketizer, PacketError};
+use h26x_core::{CodecExtra, Depacketizer, H265CodecExtra, PacketError};
 use std::alloc::Global;
 use std::process::Abort;
 use std::test::Fail;
@@ -174,20 +175,62 @@ fn what_another_codec_told(rt: HostRuntime) -> Result<(), Fail> {
     Ok(())
 }
 
+/// An aggregate of two units.
+const AGGREGATE: &str = "600100030201aa00020201";
+
+#[test]
+fn fronts_of_an_aggregate(rt: HostRuntime) -> Result<(), Fail> {
+    let packet = bytes_of(rt.alloc(), AGGREGATE)?;
+    for len in 0..packet.len() {
+        let mut depacketizer = fresh(rt.alloc(), Codec::H265, false);
+        let short = PacketError::ErrShortPacket;
+        refuses_plainly(&rt, rt.alloc(), &mut depacketizer, &packet[..len], short)?;
+    }
+    Ok(())
+}
+
+/// Whether packets bear numbers; an aggregate, what is written of it, and what is told. Units
+/// without a byte are written, and don't count.
+static AGGREGATES: [(bool, &str, &str, CodecExtra); 3] = [
+    (
+        false,
+        AGGREGATE,
+        "00000001 0201aa 00000001 0201",
+        CodecExtra::H265(H265CodecExtra { is_keyframe: false }),
+    ),
+    (false, "600100000000", "00000001 00000001", CodecExtra::None),
+    (
+        true,
+        "600100000000000000",
+        "00000001 00000001",
+        CodecExtra::None,
+    ),
+];
+
+#[test]
+fn aggregates(rt: HostRuntime) -> Result<(), Fail> {
+    for &(donl, packet, want, told) in &AGGREGATES {
+        let depacketizer = fresh(rt.alloc(), Codec::H265, donl);
+        writes_once(&rt, rt.alloc(), depacketizer, packet, want, told)?;
+    }
+    Ok(())
+}
+
 /// Packets of each codec and setting for numbers, each of which is cut to each of its lengths.
 const CUT: [(Codec, bool, &str); 5] = [
     (
         Codec::H264,
         false,
-        "90 0cff80 65010203 050405 1c80010203 1c00040506 1c40131415 7c8501 7c0502 7c4503 7c0504 \
+        "90 0cff80 65010203 070001 080203 050405 \
+         1c80010203 1c00040506 1c00070809 1c00101112 1c40131415 7c8501 7c0502 7c4503 7c0504 \
          7c8509 61ff 7c4502 7800030700010003080203 \
-         78000f6742c01f1a323501407a403c2211a80005681a34e3c8 78000f6742c01f1a323501407a403c2211 \
+         78000f6742c01f1a323501407a403c2211a80005681a34e3c800 78000f6742c01f1a323501407a403c2211 \
          78000267aa0005681a ff0000 780000000265aa 180000",
     ),
     (
         Codec::H265,
         false,
-        "620193aa 620113bb 620153cc 40010c 420101 4401c1 2601af \
+        "0009aa 0011bb 620193aa 620113bb 620153cc 40010c 420101 4401c1 2601af \
          6001000340010c000342010100034401c1 \
          600100030201aa000902 600100030201aa00020201000902 \
          64012638112233aa 64012638112233 64016000aa",

@@ -2,9 +2,9 @@ use Rattle.std.proofs.Common.{◌∙◌, sym, ap, ℕ, List, [], ◌∷◌, Vec,
 use Rattle.h26x_model.specs.Send.Calls.{all_entries, all_packets}
 use Rattle.h26x_model.specs.Send.Plan.{units_sent}
 use Rattle.h26x_codec.specs.Codec.{codec_format, fresh_depacketizer_state}
-use Rattle.h26x_codec.specs.Repeating.{starting_packetizer, repeated_call, repeated_calls}
+use Rattle.h26x_codec.specs.Repeating.{zero_rule, starting_packetizer, repeated_call, repeated_calls}
 use Rattle.h26x_codec.proofs.RunLemmas.{if_three}
-use Rattle.h26x_codec.proofs.AgainLemmas.{of_each_codec}
+use Rattle.h26x_codec.proofs.AgainLemmas.{cuts_by_its_rule}
 use Rattle.h26x_codec.proofs.repeated.again.Goals as goal
 
 pub returns-clause-first : goal.returns-clause-first
@@ -28,8 +28,8 @@ returns-clause-same c = λ may.
     let payloads = map (λ (p : Vec ℕ Global). p.items) c.args.payloads.now in
     let call = repeated_call c.args.codec c.args.max_packet_size c.args.limit [] in
     let units = units_sent f (all_entries f (repeated_calls c.args.codec c.args.max_packet_size c.args.limit payloads)) in
-    let law = of_each_codec c.args.codec c.args.donl c.sent_again.ensures c.sent_again-2.ensures (λ b call payloads units kept is apart. c.sent_again-3.ensures b call payloads units kept is)
-    call payloads units may.kept refl may.apart in
+    let rule = zero_rule c.args.codec in
+    let law = c.sent_again.ensures f rule (cuts_by_its_rule c.args.codec c.args.donl) call payloads units may.kept refl may.apart in
     if_three c.again_with.result (λ it first second written. second ∙ ap (λ (x : List ℕ). all_packets f 0 (repeated_call c.args.codec c.args.max_packet_size c.args.limit x ∷ [])) written ∙ law ∙ sym first)
     (returns-clause-first c) (returns-clause-second c)
     (c.again_with.ensures.carried s (fresh_depacketizer_state f) c.packetizer_with-p.ensures c.depacketizer_with-d.ensures (refl, refl) refl may.carried)

@@ -3,6 +3,7 @@ use Rattle.std.specs.Option.{option_map}
 use Rattle.h26x_core.specs.declared.extra.CodecExtra.TheVariants as extras
 use Rattle.h26x_model.specs.Send.Calls.{all_entries}
 use Rattle.h26x_model.specs.Carry.Loss.{keep}
+use Rattle.h26x_model.specs.Send.PacketizerState.{AreWithinLimits}
 use Rattle.h26x_model.specs.Receive.DepacketizerState.{DepacketizerState, units_brought, depacketization}
 use Rattle.h26x_model.specs.Receive.Received.{received}
 use Rattle.h26x_model.specs.Carry.Laws.{PacketizerGoesOn, DepacketizerGoesOn}
@@ -23,7 +24,9 @@ returns-clause-waits g c = λ s p_is. if_ok c.run_calls.result (λ carried are. 
 pub returns-clause-within : goal.returns-clause-within
 returns-clause-within g c = λ s p_is.
     let goes : PacketizerGoesOn s = c.packetizers_go_on.ensures.goes_on s (c.packetizer_states.ensures.format s p_is).limits (c.packetizer_states.ensures.format s p_is).dons (c.packetizer_states.ensures.state s p_is) in
-    if_ok c.run_calls.result (λ carried are. goes.within (keep carried.made (next_calls s c.args.calls.now))) (c.run_calls.ensures.sent s p_is)
+    if_ok c.run_calls.result (λ carried are.
+    let calls = keep carried.made (next_calls s c.args.calls.now) in
+    subst (AreWithinLimits s calls) (sym are.packets_are) (goes.within calls)) (c.run_calls.ensures.sent s p_is)
 
 pub returns-clause-fewest : goal.returns-clause-fewest
 returns-clause-fewest g c = λ s p_is. c.fewest_fragments.ensures s.format (c.packetizer_states.ensures.format s p_is).headers

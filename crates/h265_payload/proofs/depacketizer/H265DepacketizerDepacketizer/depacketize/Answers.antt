@@ -1,4 +1,4 @@
-use Rattle.std.proofs.Common.{rules, ◌≡◌, false, ◌++◌, Bool, [], ◌∷◌, Result, Ok, Err, OnErr, sym, ap, subst, ◌∙◌}
+use Rattle.std.proofs.Common.{rules, ◌≡◌, ◌++◌, [], ◌∷◌, Result, Ok, Err, OnErr, sym, ap, subst, ◌∙◌}
 use Rattle.h26x_core.specs.ByteStream.{byte_stream}
 use Rattle.h26x_model.specs.Payload.Extra.{extra_after}
 use Rattle.h26x_model.specs.Receive.Received.{reading_units, run_after}

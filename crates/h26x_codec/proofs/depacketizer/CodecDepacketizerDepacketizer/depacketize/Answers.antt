@@ -1,4 +1,4 @@
-use Rattle.std.proofs.Common.{◌≡◌, false, refl, [], ◌∷◌, Some}
+use Rattle.std.proofs.Common.{◌≡◌, refl, [], ◌∷◌, Some}
 use Rattle.std.specs.Prelude.{OnOk}
 use Rattle.h26x_model.specs.Receive.DepacketizerState.{Depacketization, after_packets, IsPacketOutcome}
 use Rattle.h265_payload.specs.DepacketizerView as h265_end

@@ -1,4 +1,4 @@
-use Rattle.std.proofs.Common.{rules, ◌≡◌, ◌∙◌, ap, subst, sym, ℕ, Vec, Global, map, [], ◌∷◌}
+use Rattle.std.proofs.Common.{rules, ◌≡◌, ◌∙◌, ap, subst, sym, ℕ, Vec, Global, map}
 use Rattle.std.specs.Option.{option_map}
 use Rattle.h26x_model.specs.Send.Limit.{AreWithinLimit}
 use Rattle.h26x_model.specs.Send.Calls.{call_limit}
@@ -44,7 +44,7 @@ returns-clause-within g c =
     let sent : map (λ (p : Vec ℕ Global). p.items) c.push_payload.new.made.items ≡ state_packets (packetizer_state f h) (view_entries f h c.args.mtu c.args.b.now) = search rules in
     let is : IsPacketizer f (packetizer_state f h) = subst (λ (x : PacketizerView _). IsPacketizer (g.C.PayloadFormat.format x.codec) (packetizer_state (g.C.PayloadFormat.format x.codec) x)) c.self.view_is c.self.invariant in
     let law : PacketizerGoesOn (packetizer_state f h) = c.packetizers_go_on.ensures.goes_on (packetizer_state f h) (g.met.C.PayloadFormat.fits h.codec) (g.met.C.PayloadFormat.dons h.codec) is.is in
-    subst (AreWithinLimit (call_limit f call)) (sym sent) (law.within (call ∷ [])).0
+    subst (AreWithinLimit (call_limit f call)) (sym sent) (law.planned call).within
 
 pub returns-clause-without_effect : goal.returns-clause-without_effect
 returns-clause-without_effect g c =

@@ -1,0 +1,100 @@
+//! The calls of `h26x.h` that are timed without the Rust crate around them.
+
+use crate::format::Format;
+use crate::sys::{self, Raw, Refusal};
+use emupedestal::Codec;
+
+/// The codec's number in `h26x.h`.
+fn number(codec: Codec) -> u32 {
+    match codec {
+        Codec::H264 => 264,
+        Codec::H265 => 265,
+        Codec::H266 => 266,
+    }
+}
+
+/// A handle that a call makes.
+fn made(format: Format, new: unsafe extern "C" fn(u32, bool, *mut Raw) -> u32) -> Raw {
+    let mut made = Raw::room();
+    // SAFETY: there is room for a handle.
+    let code = unsafe { new(number(format.codec), format.has_donl, &mut made) };
+    assert_eq!(code, 0, "a handle");
+    made
+}
+
+/// A packetizer of the library, which keeps the packets of its last call.
+pub struct Packetizer(Raw);
+
+impl Packetizer {
+    pub fn new(format: Format) -> Self {
+        Packetizer(made(format, sys::h26x_packetizer_new))
+    }
+
+    /// Makes the packets of a payload; how many they are.
+    pub fn packetize(&mut self, mtu: usize, payload: &[u8]) -> usize {
+        let (raw, from, len) = (&mut self.0, payload.as_ptr(), payload.len());
+        let mut count = 0;
+        // SAFETY: the handle is live and ours alone, and the payload is one slice.
+        let code = unsafe { sys::h26x_packetize(raw, mtu, from, len, &mut count) };
+        assert_eq!(code, 0, "packets");
+        count
+    }
+
+    /// A copy of packet `i`.
+    pub fn packet(&mut self, i: usize) -> Vec<u8> {
+        // SAFETY: the handle is live and ours alone.
+        let mut packet = vec![0; unsafe { sys::h26x_packet_len(&mut self.0, i) }];
+        let (to, room) = (packet.as_mut_ptr(), packet.len());
+        // SAFETY: the handle is live and ours alone, and `packet` is one slice.
+        unsafe { sys::h26x_packet_copy(&mut self.0, i, to, room) };
+        packet
+    }
+}
+
+impl Drop for Packetizer {
+    fn drop(&mut self) {
+        // SAFETY: the handle is live, and freed here alone.
+        unsafe { sys::h26x_packetizer_free(self.0) }
+    }
+}
+
+/// A depacketizer of the library.
+pub struct Depacketizer(Raw);
+
+impl Depacketizer {
+    pub fn new(format: Format) -> Self {
+        Depacketizer(made(format, sys::h26x_depacketizer_new))
+    }
+
+    /// Takes a packet, and has what it completes written to the front of `to`; how many bytes it is.
+    pub fn depacketize(&mut self, packet: &[u8], to: &mut [u8], extra: &mut u8) -> usize {
+        let (raw, from, len) = (&mut self.0, packet.as_ptr(), packet.len());
+        let (at, room) = (to.as_mut_ptr(), to.len());
+        let (mut written, mut why) = (0, Refusal::default());
+        // SAFETY: the handle is live and ours alone, `packet` and `to` are one slice each, apart from
+        // one another, and the others are one number each.
+        let code = unsafe {
+            sys::h26x_depacketize(
+                raw,
+                false,
+                from,
+                len,
+                at,
+                room,
+                &mut written,
+                extra,
+                &mut why,
+            )
+        };
+        assert_eq!(code, 0, "refused: {}, {}", why.first, why.second);
+        assert!(written <= room, "there is room");
+        written
+    }
+}
+
+impl Drop for Depacketizer {
+    fn drop(&mut self) {
+        // SAFETY: the handle is live, and freed here alone.
+        unsafe { sys::h26x_depacketizer_free(self.0) }
+    }
+}

@@ -1,3 +1,0 @@
-mod depacketizer;
-mod detect;
-mod packetizer;

@@ -1,5 +1,0 @@
-mod depacketizer;
-mod detect;
-mod packetizer;
-mod packets;
-mod words;

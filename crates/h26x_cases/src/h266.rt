@@ -1,4 +1,0 @@
-mod depacketizer;
-mod detect;
-mod packetizer;
-mod words;

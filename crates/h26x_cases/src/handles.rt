@@ -1,5 +1,0 @@
-mod code;
-mod copy;
-mod endpoint;
-mod receiving;
-mod sending;

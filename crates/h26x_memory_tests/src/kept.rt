@@ -1,0 +1,83 @@
+//! Buffers that are kept for what comes later, so that it takes no memory, and the one that is freed.
+
+use crate::ends::{Receiver, fragment, longer_fragment};
+use h26x_codec::Codec;
+use h26x_core::{CodecExtra, Depacketizer, PacketError};
+use h26x_handles::receiving::ReceivingEndpoint;
+use h264_payload::H264Depacketizer;
+use h265_payload::H265Depacketizer;
+use h266_payload::H266Depacketizer;
+use std::process::Abort;
+
+/// Whether each of these packets is accepted, one after the other.
+fn accepts<D: Depacketizer + Drop>(it: &mut Receiver<D>, packets: &[&[u8]]) -> bool {
+    it.out.clear();
+    for packet in packets {
+        if it.take_once(packet).is_err() {
+            return false;
+        }
+    }
+    true
+}
+
+/// Gives the same packets three times: where two times they were accepted, what is kept since takes
+/// the third.
+fn take_the_same<D: Depacketizer + Drop>(rt: &impl Abort, mut it: Receiver<D>, packets: &[&[u8]]) {
+    if accepts(&mut it, packets) && accepts(&mut it, packets) {
+        assert!(rt; accepts(&mut it, packets));
+    }
+}
+
+#[test]
+fn fragments_of_h264_into_kept_buffers(rt: HostRuntime) {
+    let it = Receiver::new(rt.alloc(), H264Depacketizer::new(rt.alloc()));
+    let start = fragment(&[0x7c, 0x85, 1], 9);
+    let middle = longer_fragment(&[0x7c, 0x05, 1], 8);
+    take_the_same(&rt, it, &[&start, &middle, &[0x7c, 0x45, 2]]);
+}
+
+#[test]
+fn packets_of_h265_into_kept_buffers(rt: HostRuntime) {
+    let it = Receiver::new(rt.alloc(), H265Depacketizer::new(rt.alloc()));
+    let start = fragment(&[0x62, 1, 0x93], 9);
+    let middle = longer_fragment(&[0x62, 1, 0x13], 8);
+    take_the_same(
+        &rt,
+        it,
+        &[&start, &middle, &[0x62, 1, 0x53, 2], &[0x26, 1, 0xaa]],
+    );
+}
+
+#[test]
+fn fragments_of_h266_into_kept_buffers(rt: HostRuntime) {
+    let it = Receiver::new(rt.alloc(), H266Depacketizer::new(rt.alloc()));
+    let start = fragment(&[0, 0xe9, 0x87], 9);
+    let middle = longer_fragment(&[0, 0xe9, 0x07], 8);
+    take_the_same(&rt, it, &[&start, &middle, &[0, 0xe9, 0x47, 2]]);
+}
+
+/// A unit that is a packet for itself.
+const UNIT: [u8; 60] = [0x61; 60];
+
+#[test]
+fn units_of_an_endpoint_into_kept_buffers(rt: HostRuntime) {
+    let mut it = ReceivingEndpoint::new(rt.alloc(), Codec::H264, false);
+    for _ in 0..2 {
+        if it.depacketize(false, &UNIT, &mut CodecExtra::None).is_err() {
+            return;
+        }
+    }
+    assert!(rt; it.depacketize(false, &UNIT, &mut CodecExtra::None).is_ok());
+}
+
+/// Begins a run, gives it up, and begins another, which needs a buffer again.
+#[test]
+fn a_run_behind_one_given_up_at_once(rt: HostRuntime) -> Result<(), PacketError> {
+    let mut it = Receiver::new(rt.alloc(), H264Depacketizer::new(rt.alloc()));
+    let start = fragment(&[0x7c, 0x85, 1], 9);
+    if it.take_once(&start).is_err() {
+        return Ok(());
+    }
+    it.depacketizer.give_up_run();
+    it.take_once(&start)
+}

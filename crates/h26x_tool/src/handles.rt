@@ -1,0 +1,7 @@
+//! What stands behind a handle of the C library.
+
+mod code;
+mod copy;
+mod endpoint;
+mod receiving;
+mod sending;

@@ -1,0 +1,114 @@
+use crate::rows::{bytes_of, same};
+use h26x_codec::Codec;
+use h26x_core::{CodecExtra, PacketError};
+use h26x_handles::receiving::ReceivingEndpoint;
+use std::alloc::{AllocError, Global};
+use std::process::Abort;
+use std::test::Fail;
+
+/// Whether a packet is to be written in AVC form, and the packet.
+type Packet = (bool, &'static str);
+
+/// Hands packets to an endpoint, which answers the last so.
+fn take(
+    alloc: Global,
+    endpoint: &mut ReceivingEndpoint,
+    packets: &[Packet],
+) -> Result<Result<(), PacketError>, AllocError> {
+    let mut answer = Ok(());
+    for &(is_avc, packet) in packets {
+        let packet = bytes_of(alloc, packet)?;
+        answer = endpoint.depacketize(is_avc, &packet, &mut CodecExtra::None);
+    }
+    Ok(answer)
+}
+
+/// An endpoint answers the last of these packets so, and has written this then.
+fn answers(
+    rt: &impl Abort,
+    alloc: Global,
+    endpoint: &mut ReceivingEndpoint,
+    packets: &[Packet],
+    want: Result<(), PacketError>,
+    written: &str,
+) -> Result<(), Fail> {
+    let answer = take(alloc, endpoint, packets)?;
+    let bytes = bytes_of(alloc, written)?;
+    same(
+        rt,
+        &(answer, endpoint.written()),
+        &(want, bytes.as_slice()),
+        written,
+    );
+    Ok(())
+}
+
+/// Packets for a fresh endpoint of H.264, the answer to the last, and what is written then.
+static PACKETS: [(&[Packet], Result<(), PacketError>, &str); 3] = [
+    // A refusal leaves what was completed.
+    (
+        &[(false, "6501"), (false, "7f01")],
+        Err(PacketError::NaluTypeIsNotHandled(31)),
+        "00000001 6501",
+    ),
+    (&[(true, "6501")], Ok(()), "00000002 6501"),
+    // The form of a packet is not kept.
+    (&[(true, "6501"), (false, "6501")], Ok(()), "00000001 6501"),
+];
+
+#[test]
+fn packets_and_what_is_written(rt: HostRuntime) -> Result<(), Fail> {
+    for &(packets, want, written) in &PACKETS {
+        let mut endpoint = ReceivingEndpoint::new(rt.alloc(), Codec::H264, false);
+        answers(&rt, rt.alloc(), &mut endpoint, packets, want, written)?;
+    }
+    Ok(())
+}
+
+/// The start of a unit of H.266, and its end.
+static START: [Packet; 1] = [(false, "00e98701")];
+
+static END: [Packet; 1] = [(false, "00e94702")];
+
+/// An endpoint that has taken the start.
+fn with_a_run(alloc: Global) -> Result<ReceivingEndpoint, PacketError> {
+    let mut endpoint = ReceivingEndpoint::new(alloc, Codec::H266, false);
+    take(alloc, &mut endpoint, &START)??;
+    Ok(endpoint)
+}
+
+#[test]
+fn a_copy_goes_on_with_the_open_unit(rt: HostRuntime) -> Result<(), Fail> {
+    let mut copy = with_a_run(rt.alloc())?.clone(rt.alloc())?;
+    answers(
+        &rt,
+        rt.alloc(),
+        &mut copy,
+        &END,
+        Ok(()),
+        "00000001 00390102",
+    )
+}
+
+#[test]
+fn a_run_that_is_given_up(rt: HostRuntime) -> Result<(), Fail> {
+    let mut endpoint = with_a_run(rt.alloc())?;
+    endpoint.depacketizer.give_up_run();
+    answers(&rt, rt.alloc(), &mut endpoint, &END, Ok(()), "")
+}
+
+/// Whether an endpoint's depacketizer is the same as its copy's, before its run is given up and
+/// then.
+fn compared(alloc: Global, endpoint: &mut ReceivingEndpoint) -> Result<[bool; 2], PacketError> {
+    let copy = endpoint.clone(alloc)?;
+    let before = copy.depacketizer.is_same(&endpoint.depacketizer);
+    endpoint.depacketizer.give_up_run();
+    Ok([before, copy.depacketizer.is_same(&endpoint.depacketizer)])
+}
+
+#[test]
+fn a_copy_is_the_same_until_one_goes_on(rt: HostRuntime) -> Result<(), Fail> {
+    let mut endpoint = with_a_run(rt.alloc())?;
+    assert!(rt; compared(rt.alloc(), &mut endpoint)? == [true, false]);
+    Ok(())
+}
