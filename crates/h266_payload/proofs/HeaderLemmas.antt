@@ -19,7 +19,7 @@ two has_donl = record {
   mark_high = λ high. high;
   mark_low = λ low. with_type low 29;
   with_type = λ high low type. high ∷ with_type low type ∷ [];
-  carries = λ high low. nat_lt high 0x80 && nat_lt low 0x100 && (nat_lt (type_of low) 28 || nat_lt 29 (type_of low));
+  carries = λ high low. nat_lt high 0x80 && (nat_lt (type_of low) 28 || nat_lt 29 (type_of low));
   kind = kind_of_type;
   corrupted = ErrH266CorruptedPacket;
   aggregate_of = aggregate_of has_donl;
@@ -31,17 +31,16 @@ two has_donl = record {
 pub aggregate_type : (temporal : ℕ) → temporal < 8 → type_of (28 * 8 + max 1 temporal) ≡ 28
 aggregate_type temporal h = omega arith
 
--- a low byte is its type and its temporal id
-low_back : (low : ℕ) → low < 256 → with_type (with_type low 29) (type_of low) ≡ low
-low_back low h = omega arith
+-- a low byte with the type of a fragment, and then with its own again
+low_back : (low : ℕ) → with_type (with_type low 29) (type_of low) ≡ low
+low_back low = omega arith
 
 -- a carried unit has F clear and is no packet of type 28 or 29
-pub carried : (has_donl : Bool) (high low : ℕ) → (nat_lt high 0x80 && nat_lt low 0x100 && (nat_lt (type_of low) 28 || nat_lt 29 (type_of low))) ≡ true →
+pub carried : (has_donl : Bool) (high low : ℕ) → (nat_lt high 0x80 && (nat_lt (type_of low) 28 || nat_lt 29 (type_of low))) ≡ true →
     IsCarried has_donl (two has_donl) high low
 carried has_donl high low h =
-    let s = and_parts _ _ h in let t = and_parts (nat_lt high 0x80) (nat_lt low 0x100) s.0 in
-    let small : nat_lt high 0x80 ≡ true = t.0 in
-    let byte : nat_lt low 0x100 ≡ true = t.1 in
+    let s = and_parts _ _ h in
+    let small : nat_lt high 0x80 ≡ true = s.0 in
     let own : (nat_lt (type_of low) 28 || nat_lt 29 (type_of low)) ≡ true = s.1 in
     let below : high < 128 = grind (arith, nat_tests) in
     let clear : is_set high 7 ≡ false = grind (arith, nat_tests) in
@@ -51,7 +50,7 @@ carried has_donl high low h =
       no_fragment = grind (arith, nat_tests);
       own = λ rest. refl;
       mark_clear = clear;
-      back = ap (λ (x : ℕ). high ∷ x ∷ []) (low_back low (grind (arith, nat_tests)));
+      back = ap (λ (x : ℕ). high ∷ x ∷ []) (low_back low);
     }
 
 -- a fragment without a number keeps all its bytes

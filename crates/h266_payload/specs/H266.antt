@@ -1,5 +1,5 @@
 -- The payload format of H.266 (RFC 9328), with and without decoding order numbers.
-use Rattle.std.specs.Prelude.{ℕ, zero, suc, ◌+◌, ◌*◌, ◌%◌, nat_le, nat_lt, min, max, Bool, true, false, ◌&&◌, ◌||◌, ◌==◌, if◌then◌else◌, List, [], ◌∷◌, ◌++◌, length, map, take, drop, take_while, Option, Some, None, Result, Ok, Err}
+use Rattle.std.specs.Prelude.{ℕ, zero, suc, ◌+◌, ◌-◌, ◌*◌, ◌%◌, nat_le, nat_lt, min, max, Bool, true, false, ◌&&◌, ◌||◌, ◌==◌, if◌then◌else◌, List, [], ◌∷◌, ◌++◌, length, map, take, drop, Option, Some, None, Result, Ok, Err}
 use Rattle.std.specs.List.{flat_map, sum_by, list_any}
 use Rattle.h26x_core.specs.declared.extra.CodecExtra.{CodecExtra}
 use Rattle.h26x_core.specs.declared.extra.CodecExtra.TheVariants as extras
@@ -12,11 +12,11 @@ use Rattle.h26x_core.specs.H266Unit.{type_of, kind, is_key, is_key_type}
 use Rattle.h26x_model.specs.Payload.Reading.{Reading, Aggregate, Fragment, Refused, without_don, two_byte_single}
 use Rattle.h26x_model.specs.Payload.Format.{Format, donl_bytes}
 use Rattle.h26x_model.specs.Payload.TwoBytes.{TwoByteHeader, two_byte_detects}
-use Rattle.h26x_core.specs.Pieces.{pieces_of, piece}
+use Rattle.h26x_core.specs.Pieces.{piece}
 
--- the low byte of a header with another type: the temporal id kept
+-- the low byte of a header with another type: all else kept
 abbrev pub with_type : ℕ → ℕ → ℕ
-with_type low type = type * 8 + field low 2 0
+with_type low type = low - type_of low * 8 + type * 8
 
 -- sets fit an aggregate: its header and number, and each set behind its length
 abbrev pub sets_fit : Bool → ℕ → List (List ℕ) → Bool
@@ -115,9 +115,9 @@ read has_donl (high ∷ low ∷ b ∷ body) =
     else two_byte_single has_donl high low (b ∷ body)
 read has_donl packet = Refused ErrShortPacket
 
--- a unit of three bytes or more with F clear and a type of its own; its header's bytes are bytes
+-- a unit of three bytes or more with F clear and a type of its own
 abbrev pub carries : List ℕ → Bool
-carries (high ∷ low ∷ b ∷ unit) = nat_lt high 0x80 && nat_lt low 0x100
+carries (high ∷ low ∷ b ∷ unit) = nat_lt high 0x80
     && (nat_lt (type_of low) 28 || nat_lt 29 (type_of low))
 carries unit = false
 

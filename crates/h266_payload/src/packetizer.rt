@@ -53,7 +53,7 @@ pub(crate) fn header_of(unit: &[u8]) -> H266NALUHeader
     H266NALUHeader::new(unit[0], unit[1])
 }
 
-/// The second byte of a header with another type: the temporal id is kept.
+/// The second byte of a header with another type; the temporal id is kept.
 pub(crate) fn with_type(low: u8, nalu_type: u8) -> u8
     requires { nalu_type < 32 }
     ensures { result ≡ spec.with_type low nalu_type }

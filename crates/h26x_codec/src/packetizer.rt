@@ -4,7 +4,8 @@ ghost use Rattle.std.specs.Prelude.{◌≡◌, ◌≤◌, [], true, false, Some,
 ghost use Rattle.h26x_model.specs.Payload.Facts.{IsPayloadFormat};
 ghost use Rattle.h26x_model.specs.Send.Limit.{AreWithinLimit};
 ghost use Rattle.h26x_model.specs.Send.Calls.{call_limit, call_entries};
-ghost use Rattle.h26x_model.specs.Send.PacketizerState.{PacketizerState, IsPacketizerState, state_packets, after_entries, has_no_effect};
+ghost use Rattle.h26x_model.specs.Send.PacketizerState.{PacketizerState, IsPacketizerState, state_packets, after_entries, has_no_effect, IsSentAsPlanned};
+ghost use Rattle.h26x_model.specs.Send.Rival.{TakesFewestFragments};
 ghost use Rattle.h26x_payload.specs.Sending.{contents};
 ghost use Rattle.h26x_codec.specs.Codec.{default_format, codec_packetizer_state, packetizer_codec, fresh_packetizer_state, next_call, with_max_don_diff, with_max_packet_size};
 ghost use Rattle.h26x_codec.specs.declared.packetizer.CodecPacketizer.TheVariants as p;
@@ -15,6 +16,7 @@ ghost use Rattle.h26x_payload.specs.PacketizerView.{packetizer_state};
 ghost use Rattle.h26x_model.specs.Send.PacketizerState.{packetizer_meaning};
 
 use crate::codec::Codec;
+use crate::laws::formats_meet_the_facts;
 use h26x_core::{PacketError, Packetizer};
 use h264_payload::H264Packetizer;
 use h265_payload::H265Packetizer;
@@ -126,6 +128,11 @@ impl Packetizer for CodecPacketizer {
         ensures after { (s : PacketizerState) → codec_packetizer_state self.old ≡ Some s →
             OnOk result (codec_packetizer_state self.new
             ≡ Some (after_entries s (call_entries s.format (next_call s mtu b.now)))) }
+        ensures planned { (s after : PacketizerState) → codec_packetizer_state self.old ≡ Some s →
+            codec_packetizer_state self.new ≡ Some after → IfOk result (λ made.
+            IsSentAsPlanned s (next_call s mtu b.now) (contents made.items) after) }
+        ensures fewest { (s : PacketizerState) → codec_packetizer_state self.old ≡ Some s →
+            TakesFewestFragments s.format }
         ensures within { (s : PacketizerState) → codec_packetizer_state self.old ≡ Some s →
             IfOk result (λ made. AreWithinLimit (call_limit s.format (next_call s mtu b.now))
             (contents made.items)) }
@@ -147,6 +154,8 @@ impl Packetizer for CodecPacketizer {
         ensures refused { OnErr result (⟦<CodecPacketizer as Packetizer>⟧.meaning self.new
             ≡ ⟦<CodecPacketizer as Packetizer>⟧.meaning self.old) }
     {
+        formats_meet_the_facts();
+        h26x_model::laws::fewest_fragments();
         match self {
             CodecPacketizer::H264(it) => it.packetize(mtu, b),
             CodecPacketizer::H265(it) => it.packetize(mtu, b),

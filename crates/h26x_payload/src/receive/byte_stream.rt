@@ -1,7 +1,7 @@
 //! Units as they are written: behind start codes (Annex B of H.264, H.265 and H.266), or behind their
 //! lengths (ISO/IEC 14496-15).
 
-ghost use Rattle.std.specs.Prelude.{◌≡◌, ◌≤◌, ◌+◌, ◌^◌, nat_le, false, ◌&&◌, if◌then◌else◌, ◌⊎◌, [], ◌∷◌, ◌++◌, length, vec_len, vec_capacity, Ok, Err, OnOk, OnErr};
+ghost use Rattle.std.specs.Prelude.{◌≡◌, ◌≤◌, ◌+◌, ◌^◌, nat_le, true, false, ◌&&◌, if◌then◌else◌, ◌⊎◌, [], ◌∷◌, ◌++◌, length, vec_len, vec_capacity, Ok, Err, OnOk, OnErr};
 ghost use Rattle.h26x_core.specs.ByteStream.{unit_prefix, byte_stream};
 ghost use Rattle.h26x_core.specs.Word.{long_word};
 ghost use Rattle.h26x_model.specs.Receive.Outcome.{is_too_long};
@@ -50,9 +50,39 @@ pub(crate) fn put_unit(is_avc: bool, unit: &[u8], out: &mut Vec<u8>)
     out.extend_from_slice(unit).unwrap();
 }
 
-/// Writes a whole unit, behind a start code (Annex B of H.264, H.265 and H.266) or behind its length
-/// (ISO/IEC 14496-15). A unit over `u32::MAX` bytes has no length of four bytes; else memory may
-/// lack.
+/// Writes a whole unit behind its length (ISO/IEC 14496-15).
+#[inline(always)]
+fn write_behind_length(unit: &[u8], out: &mut Vec<u8>) -> Result<(), PacketError>
+    ensures outcome { IsWriteOutcome (is_too_long unit.now) result }
+    ensures written { OnOk result (out.new.items ≡ out.old.items
+        ++ byte_stream true (unit.now ∷ [])) }
+    ensures kept { OnErr result (out.new.items ≡ out.old.items) }
+{
+    if is_too_long(unit.len()) {
+        return Err(PacketError::AvcUnitTooLong);
+    }
+    out.reserve(unit.len().saturating_add(PREFIX_SIZE))?;
+    put_unit(true, unit, out);
+    Ok(())
+}
+
+/// Writes a whole unit behind a start code (Annex B of H.264, H.265 and H.266).
+#[inline(always)]
+fn write_behind_start_code(unit: &[u8], out: &mut Vec<u8>) -> Result<(), PacketError>
+    ensures outcome { IsWriteOutcome false result }
+    ensures written { OnOk result (out.new.items ≡ out.old.items
+        ++ byte_stream false (unit.now ∷ [])) }
+    ensures kept { OnErr result (out.new.items ≡ out.old.items) }
+{
+    out.reserve(unit.len().saturating_add(PREFIX_SIZE))?;
+    put_unit(false, unit, out);
+    Ok(())
+}
+
+/// Writes a whole unit, behind a start code or behind its length. A unit over `u32::MAX` bytes has no
+/// length of four bytes; else memory may lack.
+///
+/// Each form is a copy of its own, so that small units are written without a branch in between.
 #[inline(always)]
 pub fn write_unit(is_avc: bool, unit: &[u8], out: &mut Vec<u8>) -> Result<(), PacketError>
     ensures outcome { IsWriteOutcome (is_avc && is_too_long unit.now) result }
@@ -60,12 +90,11 @@ pub fn write_unit(is_avc: bool, unit: &[u8], out: &mut Vec<u8>) -> Result<(), Pa
         ++ byte_stream is_avc (unit.now ∷ [])) }
     ensures kept { OnErr result (out.new.items ≡ out.old.items) }
 {
-    if is_avc && is_too_long(unit.len()) {
-        return Err(PacketError::AvcUnitTooLong);
+    if is_avc {
+        write_behind_length(unit, out)
+    } else {
+        write_behind_start_code(unit, out)
     }
-    out.reserve(unit.len().saturating_add(PREFIX_SIZE))?;
-    put_unit(is_avc, unit, out);
-    Ok(())
 }
 
 /// Writes a unit of these parts, where there is room for it.

@@ -5,7 +5,7 @@ ghost use Rattle.std.specs.Option.{option_map};
 ghost use Rattle.h26x_model.specs.Send.Limit.{AreWithinLimit};
 ghost use Rattle.h26x_model.specs.Send.Calls.{packet_limit, call_limit};
 ghost use Rattle.h26x_model.specs.Send.WaitingSets.{waiting_after_unit, due_items, plan_with_waiting, waiting_after, entries_with_limit, no_waiting_sets};
-ghost use Rattle.h26x_model.specs.Send.PacketizerState.{state_packets, is_skipped, are_skipped, has_no_effect};
+ghost use Rattle.h26x_model.specs.Send.PacketizerState.{state_packets, is_skipped, are_skipped, has_no_effect, IsSentAsPlanned};
 ghost use Rattle.h26x_payload.specs.Sending.{contents, ArePushed, set_list, latest_set, waiting_with_brought, due_to_items, is_nothing};
 ghost use Rattle.h26x_payload.specs.PacketizerView.{IsPacketizer, packetizer_state, fresh_packetizer, view_call, view_entries, view_after};
 
@@ -290,6 +290,9 @@ impl<C: PayloadFormat> Packetizer for PayloadPacketizer<C> {
         ensures after { OnOk result (self.new
             ≡ view_after (C.format self.old.codec) self.old
             (view_entries (C.format self.old.codec) self.old mtu b.now)) }
+        ensures planned { IfOk result (λ made. IsSentAsPlanned
+            (packetizer_state (C.format self.old.codec) self.old) (view_call self.old mtu b.now)
+            (contents made.items) (packetizer_state (C.format self.new.codec) self.new)) }
         ensures within { IfOk result (λ made.
             AreWithinLimit (call_limit (C.format self.old.codec) (view_call self.old mtu b.now))
             (contents made.items)) }

@@ -5,7 +5,7 @@ use Rattle.h265_payload.specs.DepacketizerView as h265_end
 use Rattle.h26x_payload.specs.DepacketizerView.{view_depacketization}
 use Rattle.h266_payload.specs.Setting as h266_setting
 use Rattle.h26x_codec.specs.Codec.{codec_depacketization}
-use Rattle.h26x_codec.proofs.StateLemmas.{of_state, then_some}
+use Rattle.h26x_codec.proofs.StateLemmas.{of_state, then_mapped}
 use Rattle.h26x_codec.proofs.depacketizer.CodecDepacketizerDepacketizer.depacketize.Goals as goal
 
 pub returns-in-H265-clause-outcome : goal.returns-in-H265-clause-outcome
@@ -21,7 +21,7 @@ returns-in-H265-clause-taken g c = λ w is.
     (Some (h265_end.h265_depacketization c.depacketize-in-H265.new.self c.depacketize-in-H265.new.out.items c.depacketize-in-H265.new.codec_extra) ≡ Some (after_packets x (c.args.packet.now ∷ []))))
     (codec_depacketization c.args.self.now c.args.out.now.items c.args.codec_extra.now)
     (h265_end.h265_depacketization c.in-H265.it c.args.out.now.items c.args.codec_extra.now) w (rw c.in-H265.is refl) is
-    (then_some _ _ c.depacketize-in-H265.result c.depacketize-in-H265.ensures.taken)
+    (then_mapped Some _ _ c.depacketize-in-H265.result c.depacketize-in-H265.ensures.taken)
 
 pub returns-in-H266-clause-outcome : goal.returns-in-H266-clause-outcome
 returns-in-H266-clause-outcome g c = λ w is.
@@ -36,4 +36,4 @@ returns-in-H266-clause-taken g c = λ w is.
     (Some (view_depacketization (h266_setting.setting_format c.depacketize-in-H266.new.self.codec) c.depacketize-in-H266.new.self c.depacketize-in-H266.new.out.items c.depacketize-in-H266.new.codec_extra) ≡ Some (after_packets x (c.args.packet.now ∷ []))))
     (codec_depacketization c.args.self.now c.args.out.now.items c.args.codec_extra.now)
     (view_depacketization (h266_setting.setting_format c.in-H266.it.codec) c.in-H266.it c.args.out.now.items c.args.codec_extra.now) w (rw c.in-H266.is refl) is
-    (then_some _ _ c.depacketize-in-H266.result c.depacketize-in-H266.ensures.taken)
+    (then_mapped Some _ _ c.depacketize-in-H266.result c.depacketize-in-H266.ensures.taken)
