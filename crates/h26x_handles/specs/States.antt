@@ -1,6 +1,6 @@
 -- What an endpoint is in the words of the payload formats: a packetizer with its packets, or a
 -- depacketizer with what it wrote.
-use Rattle.std.specs.Prelude.{ℕ, nat_eq, Bool, true, false, ◌&&◌, if◌then◌else◌, List, [], Option, Some, None}
+use Rattle.std.specs.Prelude.{ℕ, nat_eq, Bool, true, false, ◌&&◌, List, [], Option, Some, None}
 use Rattle.std.specs.Bool.{beq}
 use Rattle.std.specs.Option.{option_eq}
 use Rattle.std.specs.Cmp.Lexicographic.{pointwise}
