@@ -10,6 +10,8 @@ ghost use Rattle.h26x_model.specs.Send.Calls.{fresh_call, all_packets, payload_p
 ghost use Rattle.h26x_model.specs.Send.Plan.{Alone, Together};
 ghost use Rattle.h26x_model.specs.Send.WaitingSets.{AreWaitingSets, entries_with_limit};
 ghost use Rattle.h26x_model.specs.Send.Rival.{IsRival};
+ghost use Rattle.h26x_model.specs.Payload.Don.{DonsInOrder};
+ghost use Rattle.h26x_model.specs.Carry.Detection.{AreDetected};
 ghost use Rattle.h26x_model.specs.Payload.Facts.{AreCarried, IsPlanned, CanSend};
 ghost use Rattle.h26x_model.specs.Send.Again.{NothingDropped};
 ghost use Rattle.h26x_model.specs.Send.PacketizerState.{don_after};
@@ -423,6 +425,10 @@ pub fn carried_units()
         (0x66 ∷ 0x01 ∷ 0xaa ∷ []) ∷
         (0x7f ∷ 0x01 ∷ 0xaa ∷ []) ∷ [])
         ≡ true ∷ true ∷ false ∷ false ∷ false ∷ true ∷ true ∷ [] }
+    ensures layers_and_temporal_ids { map (h265 false).carries (
+        (0x02 ∷ 0x07 ∷ 0xaa ∷ []) ∷ (0x27 ∷ 0xff ∷ 0xaf ∷ []) ∷ (0x02 ∷ 0x00 ∷ 0xaa ∷ []) ∷ [])
+        ≡ true ∷ true ∷ true ∷ [] }
+    ensures long { (h265 false).carries (0x26 ∷ 0x01 ∷ replicate 2000 0xaa) ≡ true }
     ensures forbidden { map (h265 false).carries (
         (0x80 ∷ 0x01 ∷ 0xaa ∷ []) ∷ (0xff ∷ 0x01 ∷ 0xaa ∷ []) ∷ [])
         ≡ false ∷ false ∷ [] }
@@ -431,6 +437,28 @@ pub fn carried_units()
         ≡ false ∷ false ∷ false ∷ true ∷ [] }
     ensures all { AreCarried (h265 true)
         ((0x42 ∷ 0x01 ∷ 0x01 ∷ []) ∷ (0x26 ∷ 0x01 ∷ 0xaf ∷ []) ∷ []) }
+{}
+
+/// The numbers of units go on round from the next one; a packet that begins another unit with another
+/// number is out of order.
+pub fn numbers_in_order()
+    ensures round { DonsInOrder (h265 true) 65535 (
+        Alone 6 (0x02 ∷ 0x01 ∷ 0xaa ∷ []) ∷
+        Alone 6 (0x02 ∷ 0x01 ∷ 0xaa ∷ 0xbb ∷ 0xcc ∷ []) ∷
+        Alone 6 (0x02 ∷ 0x01 ∷ 0xbb ∷ []) ∷ []) }
+    ensures none { DonsInOrder (h265 false) 7 (Alone 6 (0x02 ∷ 0x01 ∷ 0xaa ∷ []) ∷ []) }
+    ensures another { DonsInOrder (h265 true) 0x8000
+        (Alone 9 (0x62 ∷ 0x01 ∷ 0xaa ∷ 0xbb ∷ 0xcc ∷ []) ∷ []) → ⊥ }
+{}
+
+/// Key units are detected with numbers too; a packet of another unit that is taken for one is no
+/// detection.
+pub fn detected_items()
+    ensures key { AreDetected (h265 true) 7 (
+        Alone 6 (0x02 ∷ 0x01 ∷ 0xaa ∷ []) ∷
+        Alone 6 (0x26 ∷ 0x01 ∷ 0xaa ∷ 0xbb ∷ 0xcc ∷ []) ∷ []) }
+    ensures another { AreDetected (h265 true) 3
+        (Alone 9 (0x60 ∷ 0x01 ∷ 0x26 ∷ 0x01 ∷ 0xaf ∷ []) ∷ []) → ⊥ }
 {}
 
 /// Only the variant of H.265 with its flag tells of a key unit.
@@ -499,6 +527,8 @@ pub fn rivals()
         (0x62 ∷ 0x01 ∷ 0x53 ∷ 0xbb ∷ []) ∷
         (0x62 ∷ 0x01 ∷ 0xd3 ∷ 0xff ∷ 0xff ∷ 0xcc ∷ []) ∷
         (0x63 ∷ 0x01 ∷ 0x02 ∷ 0xdd ∷ 0xee ∷ []) ∷ []) }
+    ensures first_ends { IsRival (h265 false) 4 (0xaa ∷ 0xbb ∷ [])
+        ((0x62 ∷ 0x01 ∷ 0xd3 ∷ 0xaa ∷ []) ∷ (0x62 ∷ 0x01 ∷ 0x13 ∷ 0xbb ∷ []) ∷ []) }
     ensures startless { IsRival (h265 false) 4 (0xaa ∷ 0xbb ∷ [])
         ((0x62 ∷ 0x01 ∷ 0x13 ∷ 0xaa ∷ []) ∷ (0x62 ∷ 0x01 ∷ 0x53 ∷ 0xbb ∷ []) ∷ []) → ⊥ }
 {}
@@ -512,6 +542,8 @@ pub fn nothing_dropped()
         0x07 ∷ 0x08 ∷ 0x09 ∷ 0x0a ∷ 0x0b ∷ []) ∷ [])) }
     ensures each_alone { NothingDropped (h265 true) (entries_with_limit 5 (
         (0x42 ∷ 0x01 ∷ 0x01 ∷ []) ∷ (0x44 ∷ 0x01 ∷ 0xc1 ∷ []) ∷ (0x26 ∷ 0x01 ∷ 0xaf ∷ []) ∷ [])) }
+    ensures many { NothingDropped (h265 true)
+        (entries_with_limit 6 (replicate 20 (0x26 ∷ 0x01 ∷ 0xaf ∷ []))) }
     ensures set_dropped { NothingDropped (h265 true) (entries_with_limit 5 (
         (0x42 ∷ 0x01 ∷ 0x01 ∷ 0x02 ∷ []) ∷ (0x44 ∷ 0x01 ∷ 0xc1 ∷ []) ∷
         (0x26 ∷ 0x01 ∷ 0xaf ∷ []) ∷ [])) → ⊥ }

@@ -354,6 +354,10 @@ pub fn carried_units()
         (0x40 ∷ 0x09 ∷ 0xaa ∷ []) ∷ (0x7f ∷ 0x09 ∷ 0xaa ∷ []) ∷ (0x80 ∷ 0x09 ∷ 0xaa ∷ []) ∷
         (0xff ∷ 0x09 ∷ 0xaa ∷ []) ∷ [])
         ≡ true ∷ true ∷ false ∷ false ∷ [] }
+    ensures layers_and_temporal_ids { map (h266 false).carries (
+        (0x00 ∷ 0x0f ∷ 0xaa ∷ []) ∷ (0x3f ∷ 0x0a ∷ 0xaa ∷ []) ∷ (0x00 ∷ 0x08 ∷ 0xaa ∷ []) ∷ [])
+        ≡ true ∷ true ∷ true ∷ [] }
+    ensures long { (h266 false).carries (0x00 ∷ 0x39 ∷ replicate 2000 0xaa) ≡ true }
     ensures lengths { map (h266 true).carries (
         [] ∷ (0x00 ∷ []) ∷ (0x00 ∷ 0x09 ∷ []) ∷ (0x00 ∷ 0x09 ∷ 0x00 ∷ []) ∷ [])
         ≡ false ∷ false ∷ false ∷ true ∷ [] }

@@ -5,10 +5,12 @@ ghost use Rattle.std.specs.Prelude.{◌≡◌, ℕ, ◌≤◌, true, false, List
 ghost use Rattle.h26x_model.specs.Payload.Reading.{Single, Aggregate, Fragment, Paci, Refused};
 ghost use Rattle.h26x_model.specs.Payload.Format.{Format};
 ghost use Rattle.h26x_core.specs.Kind.{Skipped, Vps, Sps, Pps, Other};
-ghost use Rattle.h26x_model.specs.Send.PacketizerState.{is_skipped};
+ghost use Rattle.h26x_model.specs.Send.PacketizerState.{PacketizerState, is_skipped, state_packets, AreWithinLimits};
+ghost use Rattle.h26x_model.specs.Send.Calls.{Call, call_limit, call_entries};
 ghost use Rattle.h26x_model.specs.Send.WaitingSets.{entries_with_limit};
 ghost use Rattle.h26x_model.specs.Send.Again.{NothingDropped};
 ghost use Rattle.h26x_model.specs.Send.Rival.{IsRival};
+ghost use Rattle.h26x_model.specs.Send.Limit.{AreWithinLimit};
 ghost use Rattle.h26x_model.specs.Receive.Received.{IsOpenRun};
 ghost use Rattle.h26x_model.specs.Receive.Run.{IsRun, AreReceived};
 ghost use Rattle.h26x_model.specs.Receive.Outcome.{is_startless, IsReadingOutcome};
@@ -103,6 +105,23 @@ pub fn nothing_dropped()
         f.has_donl ≡ false → f.sets_fit 9 ((0x01 ∷ []) ∷ (0x02 ∷ []) ∷ []) ≡ true →
         NothingDropped f (entries_with_limit 9 (
         (0x01 ∷ []) ∷ (0x02 ∷ []) ∷ (0x03 ∷ []) ∷ (0x03 ∷ []) ∷ [])) }
+{}
+
+/// A packet as long as the limit is within it, a longer one is not.
+pub fn packets_within_a_limit()
+    ensures within { AreWithinLimit 3 ([] ∷ (0x61 ∷ 0x01 ∷ 0x02 ∷ []) ∷ []) }
+    ensures past { AreWithinLimit 3 ((0x61 ∷ []) ∷ (0x61 ∷ 0x01 ∷ 0x02 ∷ 0x03 ∷ []) ∷ []) → ⊥ }
+{}
+
+/// Of one call there are the packets that it makes, within its limit; of no call none.
+pub fn packets_of_calls()
+    ensures made { (s : PacketizerState) (call : Call) (packets : List (List ℕ)) →
+        AreWithinLimits s (call ∷ []) packets →
+        packets ≡ state_packets s (call_entries s.format call) }
+    ensures within { (s : PacketizerState) (call : Call) (packets : List (List ℕ)) →
+        AreWithinLimits s (call ∷ []) packets → AreWithinLimit (call_limit s.format call) packets }
+    ensures none { (s : PacketizerState) (packets : List (List ℕ)) →
+        AreWithinLimits s [] packets → packets ≡ [] }
 {}
 
 /// Skipped units alone are skipped.
