@@ -16,6 +16,7 @@
 #![tactic(auto)]
 
 mod carried;
+mod cases;
 mod codec;
 mod depacketizer;
 pub mod laws;
