@@ -24,6 +24,8 @@ mod kept;
 #[cfg(test)]
 mod none;
 #[cfg(test)]
+mod sessions;
+#[cfg(test)]
 mod shown;
 #[cfg(test)]
 mod take;

@@ -1,4 +1,4 @@
-//! Lines for which memory lacks; `h26x_memory_tests` says how these tests are run.
+//! Lines of the program for which memory lacks.
 
 use h26x_core::PacketError;
 use h26x_session::answers::Answers;
