@@ -74,14 +74,3 @@ fn carried_at_once(rt: HostRuntime) -> Result<(), PacketError> {
     assert!(rt; out.as_slice() == TEXT.as_slice());
     Ok(())
 }
-
-/// Settings of packetizers and depacketizers of all codecs.
-#[test]
-fn settings_that_take_no_memory(rt: HostRuntime) {
-    for codec in [Codec::H264, Codec::H265, Codec::H266] {
-        let mut packetizer = CodecPacketizer::new(rt.alloc(), codec);
-        packetizer.configure_for(Some(1));
-        packetizer.with_max_packet_size(1400);
-        CodecDepacketizer::new(rt.alloc(), codec).give_up_run();
-    }
-}

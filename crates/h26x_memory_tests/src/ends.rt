@@ -1,6 +1,6 @@
 //! A packetizer and a depacketizer of any codec.
 
-use crate::tries::Tries;
+use crate::tries::{Copied, Tries, copy_of};
 use h26x_core::{CodecExtra, Depacketizer, PacketError, Packetizer};
 use std::alloc::Global;
 use std::process::Abort;
@@ -102,6 +102,49 @@ impl<D: Depacketizer + Drop> Receiver<D> {
     pub(crate) fn has(&self, rt: &impl Abort, written: &[u8], told: CodecExtra) {
         assert!(rt; self.out.as_slice() == written && self.told == told);
     }
+}
+
+/// Gives packets of which nothing is kept or written, and compares the answers.
+pub(crate) fn take_nothing<D: Depacketizer + Drop>(
+    rt: &impl Abort,
+    it: &mut Receiver<D>,
+    packets: &[(&[u8], Result<(), PacketError>)],
+) {
+    for (packet, want) in packets {
+        assert!(rt; it.take_once(packet) == *want);
+    }
+    it.has(rt, &[], CodecExtra::None);
+}
+
+/// Packets, one that ends the open run, and others; and what is written and told of them.
+pub(crate) struct Ended {
+    pub before: &'static [&'static [u8]],
+    pub end: &'static [u8],
+    pub behind: &'static [&'static [u8]],
+    pub written: &'static [u8],
+    pub told: CodecExtra,
+}
+
+/// Takes these packets; where the end is refused, the run is still open.
+pub(crate) fn take_end<D: Depacketizer + Copied + PartialEq>(
+    rt: &impl Abort,
+    alloc: Global,
+    tries: Tries,
+    it: &mut Receiver<D>,
+    ended: &Ended,
+) -> Result<(), PacketError> {
+    it.take_each(rt, Tries::Twice, ended.before)?;
+    let before = copy_of(alloc, Tries::Twice, &it.depacketizer)?;
+    match it.take_once(ended.end) {
+        Err(PacketError::OutOfMemory) if tries == Tries::Twice => {
+            assert!(rt; it.depacketizer == before);
+            it.take_once(ended.end)?;
+        }
+        answer => answer?,
+    }
+    it.take_each(rt, Tries::Twice, ended.behind)?;
+    it.has(rt, ended.written, ended.told);
+    Ok(())
 }
 
 /// Asks a packetizer what takes no memory.

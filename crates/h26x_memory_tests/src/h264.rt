@@ -1,4 +1,6 @@
-use crate::ends::{Receiver, ask_depacketizer, ask_packetizer, send, send_nothing};
+use crate::ends::{
+    Ended, Receiver, ask_depacketizer, ask_packetizer, send, send_nothing, take_end, take_nothing,
+};
 use crate::tries::{Copied, Tries, copy_of, is_copied};
 use h26x_core::{CodecExtra, H264CodecExtra, PacketError};
 use h264_payload::{H264Depacketizer, H264Packetizer, detect_h264_keyframe, detect_h264_nalu};
@@ -6,6 +8,8 @@ use std::alloc::Global;
 use std::process::Abort;
 
 const KEY: CodecExtra = CodecExtra::H264(H264CodecExtra { is_keyframe: true });
+
+const NO_KEY: CodecExtra = CodecExtra::H264(H264CodecExtra { is_keyframe: false });
 
 /// A STAP-A of an SPS of 25 bytes and a PPS of 6, as an encoder writes them.
 const SETS: [u8; 36] = [
@@ -37,6 +41,25 @@ fn sets_sent_again(rt: HostRuntime) -> Result<(), PacketError> {
 #[test]
 fn sets_at_once(rt: HostRuntime) -> Result<(), PacketError> {
     send_sets(&rt, rt.alloc(), Tries::Once)
+}
+
+/// Sends a unit behind an SPS and a PPS that wait.
+fn send_behind_sets(rt: &impl Abort, alloc: Global, tries: Tries) -> Result<(), PacketError> {
+    let mut packetizer = H264Packetizer::new(alloc);
+    send(rt, &mut packetizer, Tries::Twice, 1500, &[7, 0, 1], &[])?;
+    send(rt, &mut packetizer, Tries::Twice, 1500, &[8, 2, 3], &[])?;
+    let want: [&[u8]; 2] = [&[0x78, 0, 3, 7, 0, 1, 0, 3, 8, 2, 3], &[5, 4, 5]];
+    send(rt, &mut packetizer, tries, 1500, &[5, 4, 5], &want)
+}
+
+#[test]
+fn a_unit_behind_sets_sent_again(rt: HostRuntime) -> Result<(), PacketError> {
+    send_behind_sets(&rt, rt.alloc(), Tries::Twice)
+}
+
+#[test]
+fn a_unit_behind_sets_at_once(rt: HostRuntime) -> Result<(), PacketError> {
+    send_behind_sets(&rt, rt.alloc(), Tries::Once)
 }
 
 /// A PPS, and a unit of seven bytes behind it.
@@ -156,6 +179,125 @@ fn units_of_avc_at_once(rt: HostRuntime) -> Result<(), PacketError> {
     take_run(&rt, rt.alloc(), Tries::Once, true)
 }
 
+/// A STAP-A of an SPS and a PPS, and a byte that is ignored.
+const STAP: [u8; 26] = [
+    0x78, 0, 0x0f, 0x67, 0x42, 0xc0, 0x1f, 0x1a, 0x32, 0x35, 1, 0x40, 0x7a, 0x40, 0x3c, 0x22, 0x11,
+    0xa8, 0, 5, 0x68, 0x1a, 0x34, 0xe3, 0xc8, 0,
+];
+
+/// Its units behind start codes.
+const STAP_TEXT: [u8; 28] = [
+    0, 0, 0, 1, 0x67, 0x42, 0xc0, 0x1f, 0x1a, 0x32, 0x35, 1, 0x40, 0x7a, 0x40, 0x3c, 0x22, 0x11,
+    0xa8, 0, 0, 0, 1, 0x68, 0x1a, 0x34, 0xe3, 0xc8,
+];
+
+/// Its units behind their lengths.
+const STAP_IN_AVC: [u8; 28] = [
+    0, 0, 0, 0x0f, 0x67, 0x42, 0xc0, 0x1f, 0x1a, 0x32, 0x35, 1, 0x40, 0x7a, 0x40, 0x3c, 0x22, 0x11,
+    0xa8, 0, 0, 0, 5, 0x68, 0x1a, 0x34, 0xe3, 0xc8,
+];
+
+/// A unit in fragments.
+const FRAGMENTS: [&[u8]; 5] = [
+    &[0x1c, 0x80, 1, 2, 3],
+    &[0x1c, 0, 4, 5, 6],
+    &[0x1c, 0, 7, 8, 9],
+    &[0x1c, 0, 0x10, 0x11, 0x12],
+    &[0x1c, 0x40, 0x13, 0x14, 0x15],
+];
+
+/// This unit behind its length.
+const UNIT_IN_AVC: [u8; 20] = [
+    0, 0, 0, 0x10, 0, 1, 2, 3, 4, 5, 6, 7, 8, 9, 0x10, 0x11, 0x12, 0x13, 0x14, 0x15,
+];
+
+/// Takes packets of which this is written, and no key unit.
+fn take_packets(
+    rt: &impl Abort,
+    mut it: Receiver<H264Depacketizer>,
+    tries: Tries,
+    packets: &[&[u8]],
+    written: &[u8],
+) -> Result<(), PacketError> {
+    it.take_each(rt, tries, packets)?;
+    it.has(rt, written, NO_KEY);
+    Ok(())
+}
+
+#[test]
+fn staps_taken_again(rt: HostRuntime) -> Result<(), PacketError> {
+    let it = receiver(rt.alloc(), false);
+    take_packets(&rt, it, Tries::Twice, &[&STAP], &STAP_TEXT)
+}
+
+#[test]
+fn staps_at_once(rt: HostRuntime) -> Result<(), PacketError> {
+    let it = receiver(rt.alloc(), false);
+    take_packets(&rt, it, Tries::Once, &[&STAP], &STAP_TEXT)
+}
+
+#[test]
+fn staps_of_avc_taken_again(rt: HostRuntime) -> Result<(), PacketError> {
+    let it = receiver(rt.alloc(), true);
+    take_packets(&rt, it, Tries::Twice, &[&STAP], &STAP_IN_AVC)
+}
+
+#[test]
+fn staps_of_avc_at_once(rt: HostRuntime) -> Result<(), PacketError> {
+    let it = receiver(rt.alloc(), true);
+    take_packets(&rt, it, Tries::Once, &[&STAP], &STAP_IN_AVC)
+}
+
+#[test]
+fn fragments_of_avc_taken_again(rt: HostRuntime) -> Result<(), PacketError> {
+    let it = receiver(rt.alloc(), true);
+    take_packets(&rt, it, Tries::Twice, &FRAGMENTS, &UNIT_IN_AVC)
+}
+
+#[test]
+fn fragments_of_avc_at_once(rt: HostRuntime) -> Result<(), PacketError> {
+    let it = receiver(rt.alloc(), true);
+    take_packets(&rt, it, Tries::Once, &FRAGMENTS, &UNIT_IN_AVC)
+}
+
+/// A run, and fragments that come behind its end.
+const ENDED_ONCE: Ended = Ended {
+    before: &[&[0x7c, 0x85, 1]],
+    end: &[0x7c, 0x45, 2],
+    behind: &[&[0x7c, 0x45, 3], &[0x7c, 0x05, 4]],
+    written: &[0, 0, 0, 1, 0x65, 1, 2],
+    told: KEY,
+};
+
+/// A run that begins twice, and goes on over a unit.
+const BEGUN_TWICE: Ended = Ended {
+    before: &[&[0x7c, 0x85, 1], &[0x7c, 0x85, 9], &[0x61, 0xff]],
+    end: &[0x7c, 0x45, 2],
+    behind: &[],
+    written: &[0, 0, 0, 1, 0x61, 0xff, 0, 0, 0, 1, 0x65, 9, 2],
+    told: KEY,
+};
+
+#[test]
+fn ends_taken_again(rt: HostRuntime) -> Result<(), PacketError> {
+    let mut it = receiver(rt.alloc(), false);
+    take_end(&rt, rt.alloc(), Tries::Twice, &mut it, &ENDED_ONCE)?;
+    let mut it = receiver(rt.alloc(), false);
+    take_end(&rt, rt.alloc(), Tries::Twice, &mut it, &BEGUN_TWICE)
+}
+
+#[test]
+fn an_end_at_once(rt: HostRuntime) -> Result<(), PacketError> {
+    let mut it = receiver(rt.alloc(), false);
+    take_end(&rt, rt.alloc(), Tries::Once, &mut it, &ENDED_ONCE)
+}
+
+#[test]
+fn an_end_behind_two_starts_at_once(rt: HostRuntime) -> Result<(), PacketError> {
+    let mut it = receiver(rt.alloc(), false);
+    take_end(&rt, rt.alloc(), Tries::Once, &mut it, &BEGUN_TWICE)
+}
+
 impl Copied for H264Packetizer {
     fn copied(&self, _alloc: Global) -> Result<Self, PacketError> {
         self.clone()
@@ -213,7 +355,7 @@ fn depacketizers_at_once(rt: HostRuntime) -> Result<(), PacketError> {
 }
 
 /// Limits and payloads that nothing is sent of.
-const UNSENT: [(usize, &[u8]); 4] = [
+pub(crate) const UNSENT: [(usize, &[u8]); 4] = [
     (0, &[0x65, 1]),
     (1500, &[]),
     (1500, &[9, 0x30]),
@@ -229,7 +371,7 @@ fn sending_that_takes_no_memory(rt: HostRuntime) -> Result<(), PacketError> {
 }
 
 /// Packets of which nothing is kept or written, and their answers.
-const UNWRITTEN: [(&[u8], Result<(), PacketError>); 7] = [
+pub(crate) const UNWRITTEN: [(&[u8], Result<(), PacketError>); 7] = [
     (&[0x7c, 0x05, 1], Ok(())),
     (&[0x7c, 0x45, 1], Ok(())),
     (&[0x78, 0, 0], Ok(())),
@@ -245,11 +387,10 @@ const UNWRITTEN: [(&[u8], Result<(), PacketError>); 7] = [
 #[test]
 fn receiving_that_takes_no_memory(rt: HostRuntime) {
     let mut it = receiver(rt.alloc(), false);
-    for (packet, want) in &UNWRITTEN {
-        assert!(rt; it.take_once(packet) == *want);
-    }
+    take_nothing(&rt, &mut it, &UNWRITTEN);
     it.depacketizer.give_up_run();
-    it.has(&rt, &[], CodecExtra::None);
+    it.depacketizer.is_avc = true;
+    take_nothing(&rt, &mut it, &UNWRITTEN);
 }
 
 #[test]

@@ -1,6 +1,6 @@
 use crate::ends::{
-    Receiver, ask_depacketizer, ask_packetizer, fragment, longer_fragment, send, send_nothing,
-    text_of_fragments,
+    Ended, Receiver, ask_depacketizer, ask_packetizer, fragment, longer_fragment, send,
+    send_nothing, take_end, take_nothing, text_of_fragments,
 };
 use crate::shown::units_of;
 use crate::tries::{Copied, Tries, copy_of};
@@ -55,9 +55,10 @@ fn receiver(alloc: Global, has_donl: bool) -> Receiver<H265Depacketizer> {
     Receiver::new(alloc, depacketizer)
 }
 
-/// Sends a unit alone and one in fragments, with numbers.
+/// Sends a unit for which there is no room, one alone and one in fragments, with numbers.
 fn send_numbered(rt: &impl Abort, alloc: Global, tries: Tries) -> Result<(), PacketError> {
     let mut it = packetizer(alloc, true);
+    send(rt, &mut it, tries, 5, &[2, 1, 0xaa, 0xbb], &[])?;
     send(rt, &mut it, tries, 5, &[2, 1, 0xaa], &[&[2, 1, 0, 0, 0xaa]])?;
     let fragments: [&[u8]; 2] = [&[0x62, 1, 0x81, 0, 1, 0xaa], &[0x62, 1, 0x41, 0xbb, 0xcc]];
     send(rt, &mut it, tries, 6, &[2, 1, 0xaa, 0xbb, 0xcc], &fragments)
@@ -199,6 +200,34 @@ fn a_middle_at_once(rt: HostRuntime) -> Result<(), PacketError> {
     take_middle(&rt, rt.alloc(), Tries::Once)
 }
 
+/// A run that goes on over an aggregate and a PACI packet.
+const ENDED: Ended = Ended {
+    before: &[
+        &[0x62, 1, 0x93, 0xaa],
+        &[0x60, 1, 0, 3, 2, 1, 0xbb, 0, 3, 2, 1, 0xcc],
+        &[0x64, 1, 2, 0, 0xdd],
+    ],
+    end: &[0x62, 1, 0x53, 0xee],
+    behind: &[],
+    written: &[
+        0, 0, 0, 1, 2, 1, 0xbb, 0, 0, 0, 1, 2, 1, 0xcc, 0, 0, 0, 1, 2, 1, 0xdd, 0, 0, 0, 1, 0x26,
+        1, 0xaa, 0xee,
+    ],
+    told: KEY,
+};
+
+#[test]
+fn ends_taken_again(rt: HostRuntime) -> Result<(), PacketError> {
+    let mut it = receiver(rt.alloc(), false);
+    take_end(&rt, rt.alloc(), Tries::Twice, &mut it, &ENDED)
+}
+
+#[test]
+fn an_end_at_once(rt: HostRuntime) -> Result<(), PacketError> {
+    let mut it = receiver(rt.alloc(), false);
+    take_end(&rt, rt.alloc(), Tries::Once, &mut it, &ENDED)
+}
+
 /// An aggregate of two units, and a byte that is ignored.
 const AGGREGATE: [u8; 14] = [0x60, 1, 0, 3, 2, 1, 0xaa, 0, 2, 2, 1, 0, 9, 2];
 
@@ -317,7 +346,7 @@ fn depacketizers_at_once(rt: HostRuntime) -> Result<(), PacketError> {
 }
 
 /// Limits and payloads that nothing is sent of, with numbers or without.
-const UNSENT: [(usize, &[u8]); 4] = [
+pub(crate) const UNSENT: [(usize, &[u8]); 4] = [
     (1500, &[]),
     (3, &[2, 1, 0xaa]),
     (1500, &[0x46, 1, 0x50]),
@@ -335,40 +364,40 @@ fn sending_that_takes_no_memory(rt: HostRuntime) -> Result<(), PacketError> {
     Ok(())
 }
 
-/// Whether packets bear numbers, and ones that are refused.
-const REFUSED: [(bool, &[u8], PacketError); 9] = [
-    (false, &[], PacketError::ErrShortPacket),
-    (false, &[2, 1], PacketError::ErrShortPacket),
-    (false, &[0x82, 1, 0xaa], PacketError::ErrH265CorruptedPacket),
+/// Packets that are refused, and why.
+pub(crate) const REFUSED: [(&[u8], Result<(), PacketError>); 7] = [
+    (&[], Err(PacketError::ErrShortPacket)),
+    (&[2, 1], Err(PacketError::ErrShortPacket)),
+    (&[0x82, 1, 0xaa], Err(PacketError::ErrH265CorruptedPacket)),
     (
-        false,
         &[0xe2, 1, 0x93, 0xaa],
-        PacketError::ErrH265CorruptedPacket,
+        Err(PacketError::ErrH265CorruptedPacket),
     ),
-    (false, &[0x62, 1, 0x93], PacketError::ErrShortPacket),
+    (&[0x62, 1, 0x93], Err(PacketError::ErrShortPacket)),
     (
-        false,
         &[0x60, 1, 0, 3, 2, 1, 0xaa, 0],
-        PacketError::ErrShortPacket,
+        Err(PacketError::ErrShortPacket),
     ),
     (
-        false,
         &[0x64, 1, 0x26, 0x38, 0x11, 0x22, 0x33],
-        PacketError::ErrShortPacket,
+        Err(PacketError::ErrShortPacket),
     ),
-    (true, &[0x26, 1, 0, 5], PacketError::ErrShortPacket),
-    (true, &[0x60, 1, 0], PacketError::ErrShortPacket),
+];
+
+/// Packets that are refused with numbers.
+pub(crate) const REFUSED_NUMBERED: [(&[u8], Result<(), PacketError>); 3] = [
+    (&[0x26, 1, 0, 5], Err(PacketError::ErrShortPacket)),
+    (&[0x60, 1, 0], Err(PacketError::ErrShortPacket)),
+    (&[0x62, 1, 0x93, 0, 7], Err(PacketError::ErrShortPacket)),
 ];
 
 #[test]
 fn receiving_that_takes_no_memory(rt: HostRuntime) {
     let mut it = receiver(rt.alloc(), false);
-    for (has_donl, packet, error) in &REFUSED {
-        it.depacketizer.with_donl(*has_donl);
-        assert!(rt; it.take_once(packet) == Err(*error));
-    }
+    take_nothing(&rt, &mut it, &REFUSED);
     it.depacketizer.give_up_run();
-    it.has(&rt, &[], CodecExtra::None);
+    it.depacketizer.with_donl(true);
+    take_nothing(&rt, &mut it, &REFUSED_NUMBERED);
     assert!(rt; *it.depacketizer.payload() == H265Payload::empty(rt.alloc()));
 }
 

@@ -1,6 +1,6 @@
 use crate::ends::{
-    Receiver, ask_depacketizer, ask_packetizer, fragment, longer_fragment, send, send_nothing,
-    text_of_fragments,
+    Ended, Receiver, ask_depacketizer, ask_packetizer, fragment, longer_fragment, send,
+    send_nothing, take_end, take_nothing, text_of_fragments,
 };
 use crate::tries::{Copied, Tries, copy_of};
 use h26x_core::{CodecExtra, H266CodecExtra, PacketError};
@@ -145,6 +145,31 @@ fn fragments_at_once(rt: HostRuntime) -> Result<(), PacketError> {
     take_fragments(&rt, rt.alloc(), Tries::Once)
 }
 
+/// A run of fragments, the first with its number, and an end behind its end.
+const ENDED: Ended = Ended {
+    before: &[&[0, 0xe9, 0x87, 0, 5, 0xaa], &[0, 0xe9, 7, 0xbb]],
+    end: &[0, 0xe9, 0x47],
+    behind: &[&[0, 0xe9, 0x47]],
+    written: &[0, 0, 0, 1, 0, 0x39, 0xaa, 0xbb],
+    told: KEY,
+};
+
+fn take_numbered_end(rt: &impl Abort, alloc: Global, tries: Tries) -> Result<(), PacketError> {
+    let mut it = receiver(alloc);
+    it.depacketizer.with_donl(true);
+    take_end(rt, alloc, tries, &mut it, &ENDED)
+}
+
+#[test]
+fn ends_taken_again(rt: HostRuntime) -> Result<(), PacketError> {
+    take_numbered_end(&rt, rt.alloc(), Tries::Twice)
+}
+
+#[test]
+fn an_end_at_once(rt: HostRuntime) -> Result<(), PacketError> {
+    take_numbered_end(&rt, rt.alloc(), Tries::Once)
+}
+
 /// The units of the aggregate behind start codes.
 const TEXT: [u8; 21] = [
     0, 0, 0, 1, 0, 0x71, 0xaa, 0, 0, 0, 1, 0, 0x79, 0xbb, 0, 0, 0, 1, 0, 0x81, 0xcc,
@@ -173,6 +198,12 @@ impl Copied for H266Packetizer {
     }
 }
 
+impl Copied for H266Depacketizer {
+    fn copied(&self, _alloc: Global) -> Result<Self, PacketError> {
+        self.clone()
+    }
+}
+
 /// Copies a packetizer for which sets wait; both then send the same.
 fn copy_packetizer(rt: &impl Abort, alloc: Global, tries: Tries) -> Result<(), PacketError> {
     let mut it = packetizer(alloc, true);
@@ -193,7 +224,7 @@ fn packetizers_at_once(rt: HostRuntime) -> Result<(), PacketError> {
 }
 
 /// Limits and payloads that nothing is sent of, with numbers or without.
-const UNSENT: [(usize, &[u8]); 4] = [
+pub(crate) const UNSENT: [(usize, &[u8]); 4] = [
     (1500, &[]),
     (3, &[0, 9, 0xaa]),
     (1500, &[0, 0xa1, 0x50]),
@@ -211,44 +242,45 @@ fn sending_that_takes_no_memory(rt: HostRuntime) -> Result<(), PacketError> {
     Ok(())
 }
 
-/// Whether packets bear numbers, ones of which nothing is kept or written, and their answers.
-const UNWRITTEN: [(bool, &[u8], Result<(), PacketError>); 9] = [
-    (false, &[0, 0xe9, 7, 0xaa], Ok(())),
-    (true, &[0, 0xe9, 0x47, 0xaa], Ok(())),
-    (false, &[], Err(PacketError::ErrShortPacket)),
-    (false, &[0, 9], Err(PacketError::ErrShortPacket)),
+/// Packets of which nothing is kept or written, and their answers.
+pub(crate) const UNWRITTEN: [(&[u8], Result<(), PacketError>); 8] = [
+    (&[0, 0xe9, 7, 0xaa], Ok(())),
+    (&[0, 0xe9, 0x40, 0xaa, 0xbb], Ok(())),
+    (&[], Err(PacketError::ErrShortPacket)),
+    (&[0, 9], Err(PacketError::ErrShortPacket)),
     (
-        false,
-        &[0x80, 1, 0xaa],
+        &[0x80, 1, 0xaa, 0xbb],
         Err(PacketError::ErrH266CorruptedPacket),
     ),
     (
-        false,
         &[0, 0xe1, 0, 3, 0, 0x71, 0xaa],
         Err(PacketError::ErrShortPacket),
     ),
     (
-        false,
         &[0, 0xe1, 0, 3, 0, 9, 0xaa, 0, 3, 0, 9],
         Err(PacketError::ErrShortPacket),
     ),
     (
-        false,
         &[0, 0xe1, 0, 3, 0, 9, 0xaa, 0, 2, 0, 0xe1],
         Err(PacketError::ErrH266CorruptedPacket),
     ),
-    (true, &[0, 0x39, 0, 2], Err(PacketError::ErrShortPacket)),
+];
+
+/// The same with numbers.
+pub(crate) const UNWRITTEN_NUMBERED: [(&[u8], Result<(), PacketError>); 4] = [
+    (&[0, 0xe9, 0x47, 0xaa], Ok(())),
+    (&[0, 0x39, 0, 2], Err(PacketError::ErrShortPacket)),
+    (&[0, 0xe9, 0x87, 0], Err(PacketError::ErrShortPacket)),
+    (&[0, 0xe1, 0], Err(PacketError::ErrShortPacket)),
 ];
 
 #[test]
 fn receiving_that_takes_no_memory(rt: HostRuntime) {
     let mut it = receiver(rt.alloc());
-    for (has_donl, packet, want) in &UNWRITTEN {
-        it.depacketizer.with_donl(*has_donl);
-        assert!(rt; it.take_once(packet) == *want);
-    }
+    take_nothing(&rt, &mut it, &UNWRITTEN);
     it.depacketizer.give_up_run();
-    it.has(&rt, &[], CodecExtra::None);
+    it.depacketizer.with_donl(true);
+    take_nothing(&rt, &mut it, &UNWRITTEN_NUMBERED);
 }
 
 #[test]

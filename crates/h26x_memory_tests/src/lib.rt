@@ -3,14 +3,16 @@
 //!
 //! `tools/refuse-memory` runs the tests with each request for memory refused in turn; run as they
 //! are, nothing is refused. A test whose name ends in `_at_once` makes no call again, and has to fail
-//! where one of its requests is refused; one whose name ends in `_take_no_memory` makes no request.
-//! Every other has to pass.
+//! where one of its requests is refused; one whose name ends in `_no_memory` makes no request. Every
+//! other makes some, and has to pass.
 #![tactic(auto)]
 
 #[cfg(test)]
 mod again;
 #[cfg(test)]
 mod carry;
+#[cfg(test)]
+mod codec;
 #[cfg(test)]
 mod ends;
 #[cfg(test)]

@@ -4,8 +4,8 @@ use h26x_core::{CodecExtra, Depacketizer, H264CodecExtra, PacketError};
 use std::alloc::Global;
 use std::process::Abort;
 
-/// A last fragment that nothing began.
-const STARTLESS: [u8; 3] = [0x7c, 0x45, 1];
+/// A middle fragment of a unit that nothing began.
+const STARTLESS: [u8; 3] = [0x7c, 0x05, 1];
 
 /// The first fragment of a unit, and its last.
 const START: [u8; 3] = [0x7c, 0x85, 2];
