@@ -201,3 +201,6 @@ fn other_unit_of(units: &[H265AggregationUnit], i: usize) -> Part<'_>
         None => Part::part_without_don(&[]),
     }
 }
+
+#[cfg(test)]
+mod tests;
