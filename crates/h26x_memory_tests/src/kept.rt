@@ -1,4 +1,5 @@
-//! Buffers that are kept for what comes later, so that it takes no memory, and the one that is freed.
+//! Buffers that are kept for what comes later, which then takes no memory, and the one that is
+//! freed.
 
 use crate::ends::{Receiver, fragment, longer_fragment};
 use h26x_codec::Codec;

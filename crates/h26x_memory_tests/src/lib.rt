@@ -2,9 +2,9 @@
 //! memory pass. This crate has no code but these.
 //!
 //! `tools/refuse-memory` runs the tests with each request for memory refused in turn; run as they
-//! are, nothing is refused. A test whose name ends in `_at_once` makes no call again, and has to fail
-//! where one of its requests is refused; one whose name ends in `_no_memory` makes no request. Every
-//! other makes some, and has to pass.
+//! are, nothing is refused. A test whose name ends in `_at_once` makes no call again, and has to
+//! fail where one of its requests is refused; one whose name ends in `_no_memory` makes no request.
+//! Every other makes one or more, and has to pass.
 #![tactic(auto)]
 
 #[cfg(test)]

@@ -44,8 +44,8 @@ fn written_of(
     }
 }
 
-/// Takes packets. Without room for the outcomes nothing is taken; a packet for which memory lacks is
-/// passed over, and may be given again, as the end is here.
+/// Takes packets. Without room for the outcomes nothing is taken; a packet for which memory lacks
+/// is passed over, and may be given again, as the end is here.
 fn take_as_far(
     rt: &impl Abort,
     alloc: Global,
