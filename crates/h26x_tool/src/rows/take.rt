@@ -175,26 +175,12 @@ fn what_another_codec_told(rt: HostRuntime) -> Result<(), Fail> {
     Ok(())
 }
 
-/// An aggregate of two units.
-const AGGREGATE: &str = "600100030201aa00020201";
-
-#[test]
-fn fronts_of_an_aggregate(rt: HostRuntime) -> Result<(), Fail> {
-    let packet = bytes_of(rt.alloc(), AGGREGATE)?;
-    for len in 0..packet.len() {
-        let mut depacketizer = fresh(rt.alloc(), Codec::H265, false);
-        let short = PacketError::ErrShortPacket;
-        refuses_plainly(&rt, rt.alloc(), &mut depacketizer, &packet[..len], short)?;
-    }
-    Ok(())
-}
-
 /// Whether packets bear numbers; an aggregate, what is written of it, and what is told. Units
 /// without a byte are written, and don't count.
 static AGGREGATES: [(bool, &str, &str, CodecExtra); 3] = [
     (
         false,
-        AGGREGATE,
+        "600100030201aa00020201",
         "00000001 0201aa 00000001 0201",
         CodecExtra::H265(H265CodecExtra { is_keyframe: false }),
     ),
@@ -206,6 +192,24 @@ static AGGREGATES: [(bool, &str, &str, CodecExtra); 3] = [
         CodecExtra::None,
     ),
 ];
+
+/// A packet cut to each of its lengths is too short for a fresh depacketizer of H.265.
+fn refuses_fronts(rt: &impl Abort, alloc: Global, donl: bool, packet: &[u8]) -> Result<(), Fail> {
+    for len in 0..packet.len() {
+        let mut depacketizer = fresh(alloc, Codec::H265, donl);
+        let short = PacketError::ErrShortPacket;
+        refuses_plainly(rt, alloc, &mut depacketizer, &packet[..len], short)?;
+    }
+    Ok(())
+}
+
+#[test]
+fn fronts_of_aggregates(rt: HostRuntime) -> Result<(), Fail> {
+    for &(donl, packet, _, _) in &AGGREGATES {
+        refuses_fronts(&rt, rt.alloc(), donl, &bytes_of(rt.alloc(), packet)?)?;
+    }
+    Ok(())
+}
 
 #[test]
 fn aggregates(rt: HostRuntime) -> Result<(), Fail> {

@@ -2,6 +2,7 @@
 
 use super::depacketizer::fresh;
 use crate::rows::ends::{refuses_plainly, taken};
+use h26x_codec::{Codec, CodecDepacketizer};
 use h26x_core::{H265TSCI, PacketError};
 use h265_packets::H265Payload;
 use h265_payload::H265Depacketizer;
@@ -96,12 +97,21 @@ fn parts_of_second(shown: &H265Payload) -> Option<(Option<u8>, u16, &[u8])> {
     }
 }
 
+/// The decoding order number of that unit: behind the first one's by its difference and one more
+/// (RFC 7798, 4.4.2).
+fn number_of_second(shown: &H265Payload) -> Option<u16> {
+    let (donl, _, _) = parts_of_first(shown)?;
+    let (dond, _, _) = parts_of_second(shown)?;
+    Some(donl?.wrapping_add(u16::from(dond?)).wrapping_add(1))
+}
+
 #[test]
 fn units_of_aggregates(rt: HostRuntime) -> Result<(), Fail> {
     let d = take(rt.alloc(), true, "6001ffff000202010100032601af")?;
     let first = Some((Some(65535), 2, [0x02, 0x01].as_slice()));
     let second = Some((Some(1), 3, [0x26, 0x01, 0xaf].as_slice()));
     assert!(rt; (parts_of_first(d.payload()), parts_of_second(d.payload())) == (first, second));
+    assert!(rt; number_of_second(d.payload()) == Some(1));
     Ok(())
 }
 
@@ -116,10 +126,20 @@ fn is_of_two_empty_units(alloc: Global, shown: &H265Payload) -> Result<bool, Pac
     }
 }
 
+/// What one of any codec shows that is of H.265.
+fn shown_by(depacketizer: &CodecDepacketizer) -> Option<&H265Payload> {
+    match depacketizer {
+        CodecDepacketizer::H265(it) => Some(it.payload()),
+        _ => None,
+    }
+}
+
 #[test]
 fn units_without_a_byte(rt: HostRuntime) -> Result<(), Fail> {
-    let d = take(rt.alloc(), false, "600100000000")?;
-    assert!(rt; is_of_two_empty_units(rt.alloc(), d.payload())?);
+    let d = CodecDepacketizer::new(rt.alloc(), Codec::H265);
+    let d = taken(rt.alloc(), d, "600100000000")?;
+    let shown = shown_by(&d).ok_or("no packet is shown")?;
+    assert!(rt; is_of_two_empty_units(rt.alloc(), shown)?);
     Ok(())
 }
 

@@ -13,37 +13,32 @@ fn fresh(alloc: Global, has_donl: bool) -> H266Packetizer {
 }
 
 /// Whether there are numbers, calls of a fresh packetizer, and their packets.
-static RUNS: [(bool, &[Call]); 9] = [
+static RUNS: [(bool, &[Call]); 7] = [
     (false, &[(3, "0009aa", "")]),
     (
         false,
         &[(1200, "000001 0009aa00 00000001 0011bb", "0009aa00 0011bb")],
     ),
+    // The least layer and the least temporal id of the sets. No packet of 16 bytes holds three.
     (
         false,
-        &[(
-            1200,
-            "000001 0071aa 000001 0079bb 000001 0081cc 000001 0039dd",
-            "00e100030071aa00030079bb00030081cc 0039dd",
-        )],
-    ),
-    // No packet of 16 bytes holds the three sets.
-    (
-        false,
-        &[(
-            16,
-            "000001 0071aa 000001 0079bb 000001 0081cc 000001 0039dd",
-            "0071aa 0079bb 0081cc 0039dd",
-        )],
-    ),
-    // The least layer and the least temporal id of the sets.
-    (
-        false,
-        &[(
-            1200,
-            "000001 027abb 000001 0183cc 000001 0039dd",
-            "01e20003027abb00030183cc 0039dd",
-        )],
+        &[
+            (
+                1200,
+                "000001 0071aa 000001 0079bb 000001 0081cc 000001 0039dd",
+                "00e100030071aa00030079bb00030081cc 0039dd",
+            ),
+            (
+                1200,
+                "000001 027abb 000001 0183cc 000001 0039dd",
+                "01e20003027abb00030183cc 0039dd",
+            ),
+            (
+                16,
+                "000001 0071aa 000001 0079bb 000001 0081cc 000001 0039dd",
+                "0071aa 0079bb 0081cc 0039dd",
+            ),
+        ],
     ),
     (
         false,
@@ -103,6 +98,51 @@ fn packets_by_limit(rt: HostRuntime) -> Result<(), Fail> {
     Ok(())
 }
 
+/// Calls of a fresh packetizer with long units, and their packets.
+static LONG: [&[LongCall]; 5] = [
+    &[(
+        200,
+        &[(&[0, 0x49], 3000)],
+        &[
+            (1, 200, &[0, 0xe9, 0x89, 0xaa]),
+            (14, 200, &[0, 0xe9, 9, 0xaa]),
+            (1, 46, &[0, 0xe9, 0x49, 0xaa]),
+        ],
+    )],
+    &[(100, &[(&[0, 1], 100)], &[(1, 100, &[0, 1])])],
+    &[(
+        100,
+        &[(&[0, 1], 101)],
+        &[
+            (1, 100, &[0, 0xe9, 0x80, 0xaa]),
+            (1, 5, &[0, 0xe9, 0x40, 0xaa, 0xaa]),
+        ],
+    )],
+    &[(
+        700,
+        &[(&[0, 0x79], 600), (&[0, 0x81], 600), (&[0, 0x39], 50)],
+        &[
+            (1, 600, &[0, 0x79]),
+            (1, 600, &[0, 0x81]),
+            (1, 50, &[0, 0x39]),
+        ],
+    )],
+    // An access unit delimiter is not sent.
+    &[(
+        1200,
+        &[(&[0, 0xa1], 4), (&[0, 1], 8), (&[0, 0xc9], 10)],
+        &[(1, 8, &[0, 1]), (1, 10, &[0, 0xc9])],
+    )],
+];
+
+#[test]
+fn long_units(rt: HostRuntime) -> Result<(), Fail> {
+    for calls in &LONG {
+        sends_long(&rt, rt.alloc(), H266Packetizer::new(rt.alloc()), calls)?;
+    }
+    Ok(())
+}
+
 /// A copy of a packetizer with this largest size, which is 4 or more.
 fn of_size(
     rt: &impl Abort,
@@ -116,52 +156,7 @@ fn of_size(
 }
 
 /// A largest size, and calls of long units and their packets.
-static SIZES: [(u16, &[LongCall]); 8] = [
-    (
-        1200,
-        &[(
-            200,
-            &[(&[0, 0x49], 3000)],
-            &[
-                (1, 200, &[0, 0xe9, 0x89, 0xaa]),
-                (14, 200, &[0, 0xe9, 9, 0xaa]),
-                (1, 46, &[0, 0xe9, 0x49, 0xaa]),
-            ],
-        )],
-    ),
-    (1200, &[(100, &[(&[0, 1], 100)], &[(1, 100, &[0, 1])])]),
-    (
-        1200,
-        &[(
-            100,
-            &[(&[0, 1], 101)],
-            &[
-                (1, 100, &[0, 0xe9, 0x80, 0xaa]),
-                (1, 5, &[0, 0xe9, 0x40, 0xaa, 0xaa]),
-            ],
-        )],
-    ),
-    (
-        1200,
-        &[(
-            700,
-            &[(&[0, 0x79], 600), (&[0, 0x81], 600), (&[0, 0x39], 50)],
-            &[
-                (1, 600, &[0, 0x79]),
-                (1, 600, &[0, 0x81]),
-                (1, 50, &[0, 0x39]),
-            ],
-        )],
-    ),
-    // An access unit delimiter is not sent.
-    (
-        1200,
-        &[(
-            1200,
-            &[(&[0, 0xa1], 4), (&[0, 1], 8), (&[0, 0xc9], 10)],
-            &[(1, 8, &[0, 1]), (1, 10, &[0, 0xc9])],
-        )],
-    ),
+static SIZES: [(u16, &[LongCall]); 3] = [
     (
         4,
         &[(
@@ -199,7 +194,7 @@ static SIZES: [(u16, &[LongCall]); 8] = [
 ];
 
 #[test]
-fn long_units_and_largest_packet_sizes(rt: HostRuntime) -> Result<(), Fail> {
+fn largest_packet_sizes(rt: HostRuntime) -> Result<(), Fail> {
     for &(max_packet_size, calls) in &SIZES {
         sends_long(
             &rt,
