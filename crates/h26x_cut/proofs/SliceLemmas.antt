@@ -1,8 +1,8 @@
 -- Start codes by place, and the units behind them.
-use Rattle.std.proofs.Common.{◌≡◌, ℕ, zero, suc, ◌+◌, ◌-◌, ◌<◌, ◌≤◌, true, false, List, [], ◌∷◌, ◌++◌, refl, sym, ap, ◌∙◌, arith, get_or, drop, take, length, add-one, drop-cons, append_assoc, Some, None}
+use Rattle.std.proofs.Common.{◌≡◌, ℕ, zero, suc, ◌+◌, ◌-◌, ◌<◌, ◌≤◌, min, true, false, List, [], ◌∷◌, ◌++◌, refl, sym, ap, ◌∙◌, arith, get_or, drop, take, length, add-one, drop-cons, append_assoc, Some, None}
 use Rattle.std.specs.Prelude.{filter}
 use Rattle.std.proofs.Math.Seq.{take-suc}
-use Rattle.std.proofs.lemmas.List.{append-nil, length-drop, drop-drop, get_or-drop, take-append-drop, take_all}
+use Rattle.std.proofs.lemmas.List.{append-nil, length-drop, length-take, drop-drop, get_or-drop, take-append-drop, take_all}
 use Rattle.h26x_cut.specs.declared.ZeroRule.{ZeroRule}
 use Rattle.h26x_cut.specs.Cutting.{begins_code, cut_at, cut_of, trimmed_by, trimmed, without_zeros, without_zero, trimmed_but_last, units_of_pieces, units_of}
 use Rattle.h26x_cut.specs.Slices.{IsFirstCode, units_behind}
@@ -165,3 +165,58 @@ empty_off (b ∷ xs) h = absurd (omega arith)
 pub none_at_all : (xs : List ℕ) (end : ℕ) → end ≤ 0 → without_zeros (take end xs) ≡ without_zeros xs → take end xs ≡ without_zeros xs
 none_at_all xs zero h same = same
 none_at_all xs (suc end) h same = absurd (omega arith)
+
+-- a zero behind bytes whose last zeros were counted is one more
+pub zero_counted : (xs : List ℕ) (place count : ℕ) → place < length xs → count ≤ place → get_or xs place 0 ≡ 0 → take (place - count) xs ≡ without_zeros (take place xs) → take (place + 1 - (count + 1)) xs ≡ without_zeros (take (place + 1) xs)
+zero_counted xs place count within most here same =
+    let before : place ≡ place + 1 - 1 = omega arith in
+    ap (λ k. take k xs) (omega arith) ∙ same ∙ ap (λ k. without_zeros (take k xs)) before ∙ one_zero_less xs (place + 1) (omega arith) (omega arith) (ap (λ k. get_or xs k 0) (sym before) ∙ here)
+
+-- behind a byte that is no zero none is counted
+pub none_counted : (xs : List ℕ) (place : ℕ) → place < length xs → (get_or xs place 0 ≡ 0 → ⊥) → take (place + 1 - 0) xs ≡ without_zeros (take (place + 1) xs)
+none_counted xs place within other =
+    let before : place ≡ place + 1 - 1 = omega arith in
+    ap (λ k. take k xs) (omega arith) ∙ sym (no_zero_last xs (place + 1) (omega arith) (omega arith) (λ e. other (ap (λ k. get_or xs k 0) before ∙ e)))
+
+-- a byte before others is one more at most
+one_more : (b : ℕ) (rest : List ℕ) → length (trimmed_by b rest) ≤ length rest + 1
+one_more zero [] = omega arith
+one_more zero (c ∷ rest) = omega arith
+one_more (suc b) rest = omega arith
+
+-- without zeros at the end bytes are not more
+not_more : (xs : List ℕ) → length (without_zeros xs) ≤ length xs
+not_more [] = omega arith
+not_more (b ∷ xs) = let front = one_more b (without_zeros xs) in let rest = not_more xs in omega arith
+
+-- where no zero is taken off the last byte is none
+last_is_none : (xs : List ℕ) → 0 < length xs → without_zeros xs ≡ xs → get_or xs (length xs - 1) 0 ≡ 0 → ⊥
+last_is_none xs some same last =
+    let all : without_zeros (take (length xs) xs) ≡ xs = ap without_zeros (take_all (length xs) xs (omega arith)) ∙ same in
+    let long : length (without_zeros (take (length xs - 1) xs)) ≡ length xs = ap length (one_zero_less xs (length xs) some (omega arith) last ∙ all) in
+    let short = not_more (take (length xs - 1) xs) in
+    let front = length-take (length xs - 1) xs in
+    absurd (omega arith)
+
+-- where one zero or more is taken off the last byte is one
+last_is_zero : (xs : List ℕ) (count : ℕ) → 0 < count → 0 < length xs → take (length xs - count) xs ≡ without_zeros xs → get_or xs (length xs - 1) 0 ≡ 0
+last_is_zero xs count more some same = elim (get_or xs (length xs - 1) 0) as (λ b. get_or xs (length xs - 1) 0 ≡ b → b ≡ 0) [
+  | zero ↦ λ _. refl
+  | suc b ↦ λ is.
+      let all = take_all (length xs) xs (omega arith) in
+      let kept = no_zero_last xs (length xs) some (omega arith) (λ e. absurd (omega (arith, sym is ∙ e))) in
+      let long : take (length xs - count) xs ≡ xs = same ∙ ap without_zeros (sym all) ∙ kept ∙ all in
+      let same_length = ap length long in
+      let short = length-take (length xs - count) xs in
+      absurd (omega arith)
+] refl
+
+-- of the zeros at the end one is taken off, if there is one
+pub one_taken : (xs : List ℕ) (count : ℕ) → count ≤ length xs → take (length xs - count) xs ≡ without_zeros xs → take (length xs - min count 1) xs ≡ without_zero xs
+one_taken [] count within same = take_all (0 - min count 1) [] (omega arith)
+one_taken (b ∷ xs) zero within same =
+    let all = take_all (length (b ∷ xs) - 0) (b ∷ xs) (omega arith) in
+    all ∙ sym (none_off (b ∷ xs) (omega arith) (last_is_none (b ∷ xs) (omega arith) (sym same ∙ all)))
+one_taken (b ∷ xs) (suc count) within same =
+    let one : min (suc count) 1 ≡ 1 = omega arith in
+    ap (λ n. take (length (b ∷ xs) - n) (b ∷ xs)) one ∙ zero_off (b ∷ xs) (omega arith) (last_is_zero (b ∷ xs) (suc count) (omega arith) (omega arith) same)

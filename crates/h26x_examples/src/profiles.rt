@@ -15,7 +15,7 @@ use std::test::Fail;
 type H264Named = (H264Profile, H264LevelIdc);
 
 /// A profile-level-id, and what it names.
-static PROFILE_LEVEL_IDS: [(u32, Option<H264Named>); 10] = [
+static PROFILE_LEVEL_IDS: [(u32, Option<H264Named>); 16] = [
     (0x64001f, Some((H264Profile::High, H264LevelIdc::Level3_1))),
     (
         0xff64001f,
@@ -41,6 +41,19 @@ static PROFILE_LEVEL_IDS: [(u32, Option<H264Named>); 10] = [
         0x42000b,
         Some((H264Profile::Baseline, H264LevelIdc::Level1_1)),
     ),
+    // Level 1b is named so with Main and Extended too, and with no other profile.
+    (0x4d100b, Some((H264Profile::Main, H264LevelIdc::Level1B))),
+    (0x4d000b, Some((H264Profile::Main, H264LevelIdc::Level1_1))),
+    (
+        0x58100b,
+        Some((H264Profile::Extended, H264LevelIdc::Level1B)),
+    ),
+    (
+        0x6e100b,
+        Some((H264Profile::High10Intra, H264LevelIdc::Level1_1)),
+    ),
+    (0x640000, Some((H264Profile::High, H264LevelIdc::Level1B))),
+    (0x4d201f, None),
     (0x64101f, None),
     (0x640063, None),
     (0x630a1f, None),
@@ -81,6 +94,70 @@ fn profile_under(flags: u8) -> Option<H264Profile> {
 fn flags_of_constraints(rt: HostRuntime) {
     let profiles = [profile_under(0), profile_under(0x10)];
     assert!(rt; profiles == [None, Some(H264Profile::CAVLC444Intra)]);
+}
+
+/// A profile-level-id at level 3.1 for each profile_idc and pattern of flags: with all of the flags
+/// that may be either, and with none (RFC 6184, section 8.1, table 5).
+static H264_PROFILES: [(u32, H264Profile); 23] = [
+    (0x42401f, H264Profile::ConstrainedBaseline),
+    (0x42f01f, H264Profile::ConstrainedBaseline),
+    (0x4d801f, H264Profile::ConstrainedBaseline),
+    (0x4df01f, H264Profile::ConstrainedBaseline),
+    (0x58c01f, H264Profile::ConstrainedBaseline),
+    (0x58f01f, H264Profile::ConstrainedBaseline),
+    (0x42001f, H264Profile::Baseline),
+    (0x42b01f, H264Profile::Baseline),
+    (0x58801f, H264Profile::Baseline),
+    (0x58b01f, H264Profile::Baseline),
+    (0x4d001f, H264Profile::Main),
+    (0x4d501f, H264Profile::Main),
+    (0x58001f, H264Profile::Extended),
+    (0x58301f, H264Profile::Extended),
+    (0x64001f, H264Profile::High),
+    (0x640c1f, H264Profile::ConstrainedHigh),
+    (0x6e001f, H264Profile::High10),
+    (0x7a001f, H264Profile::High422),
+    (0xf4001f, H264Profile::High444Predictive),
+    (0x6e101f, H264Profile::High10Intra),
+    (0x7a101f, H264Profile::High422Intra),
+    (0xf4101f, H264Profile::High444Intra),
+    (0x2c101f, H264Profile::CAVLC444Intra),
+];
+
+#[test]
+fn every_profile_of_h264(rt: HostRuntime) {
+    for (value, profile) in &H264_PROFILES {
+        assert!(rt; named_by(*value) == Some((*profile, H264LevelIdc::Level3_1)));
+    }
+}
+
+/// The levels in order, and their ids: ten times their numbers (Rec. ITU-T H.264, table A-1), but 0
+/// for level 1b.
+static H264_LEVELS: [(H264LevelIdc, u8); 17] = [
+    (H264LevelIdc::Level1, 10),
+    (H264LevelIdc::Level1B, 0),
+    (H264LevelIdc::Level1_1, 11),
+    (H264LevelIdc::Level1_2, 12),
+    (H264LevelIdc::Level1_3, 13),
+    (H264LevelIdc::Level2, 20),
+    (H264LevelIdc::Level2_1, 21),
+    (H264LevelIdc::Level2_2, 22),
+    (H264LevelIdc::Level3, 30),
+    (H264LevelIdc::Level3_1, 31),
+    (H264LevelIdc::Level3_2, 32),
+    (H264LevelIdc::Level4, 40),
+    (H264LevelIdc::Level4_1, 41),
+    (H264LevelIdc::Level4_2, 42),
+    (H264LevelIdc::Level5, 50),
+    (H264LevelIdc::Level5_1, 51),
+    (H264LevelIdc::Level5_2, 52),
+];
+
+#[test]
+fn every_level_of_h264(rt: HostRuntime) {
+    for (i, (level, id)) in H264_LEVELS.iter().enumerate() {
+        assert!(rt; (H264LevelIdc::try_from(*id), level.ordinal()) == (Ok(*level), i));
+    }
 }
 
 #[test]
@@ -325,7 +402,18 @@ static H265_LEVEL_IDS: [u8; 13] = [30, 60, 63, 90, 93, 120, 123, 150, 153, 156, 
 #[test]
 fn every_level_of_h265(rt: HostRuntime) {
     for (i, (level, _)) in H265_LEVELS.iter().enumerate() {
-        assert!(rt; H265Level::from_id(H265_LEVEL_IDS[i]) == Some(*level));
+        let made = (H265Level::from_id(H265_LEVEL_IDS[i]), level.ordinal());
+        assert!(rt; made == (Some(*level), i));
+    }
+}
+
+/// The ids of these profiles (general_profile_idc; Rec. ITU-T H.265, A.3).
+static H265_PROFILE_IDS: [u8; 11] = [1, 2, 3, 4, 5, 6, 7, 8, 9, 10, 11];
+
+#[test]
+fn every_profile_of_h265(rt: HostRuntime) {
+    for (i, (profile, _)) in H265_PROFILES.iter().enumerate() {
+        assert!(rt; H265Profile::from_id(H265_PROFILE_IDS[i]) == Some(*profile));
     }
 }
 
@@ -380,8 +468,7 @@ fn values_of_h266_as_text(rt: HostRuntime) -> Result<(), Fail> {
 }
 
 /// The ids of these levels: 16 times the number before the point and 3 times the one behind it, but
-/// 255 for level 15.5 (Rec.
-/// ITU-T H.266, A.4).
+/// 255 for level 15.5 (Rec. ITU-T H.266, A.4).
 static H266_LEVEL_IDS: [u8; 15] = [
     16, 32, 35, 48, 51, 64, 67, 80, 83, 86, 96, 99, 102, 105, 255,
 ];
@@ -389,6 +476,17 @@ static H266_LEVEL_IDS: [u8; 15] = [
 #[test]
 fn every_level_of_h266(rt: HostRuntime) {
     for (i, (level, _)) in H266_LEVELS.iter().enumerate() {
-        assert!(rt; H266Level::from_id(H266_LEVEL_IDS[i]) == Some(*level));
+        let made = (H266Level::from_id(H266_LEVEL_IDS[i]), level.ordinal());
+        assert!(rt; made == (Some(*level), i));
+    }
+}
+
+/// The ids of these profiles (general_profile_idc; Rec. ITU-T H.266, A.3).
+static H266_PROFILE_IDS: [u8; 8] = [1, 17, 33, 49, 65, 81, 97, 113];
+
+#[test]
+fn every_profile_of_h266(rt: HostRuntime) {
+    for (i, (profile, _)) in H266_PROFILES.iter().enumerate() {
+        assert!(rt; H266Profile::from_id(H266_PROFILE_IDS[i]) == Some(*profile));
     }
 }

@@ -1,11 +1,10 @@
 //! The plain forward scan: what `units` must equal, kept for the tests.
 
-ghost use Rattle.std.specs.Prelude.{◌≡◌};
+ghost use Rattle.std.specs.Prelude.{◌≡◌, ◌-◌, ◌≤◌, length, take};
 ghost use Rattle.std.specs.Iterator.{YieldsFirstBy, item_count};
-ghost use Rattle.h26x_cut.specs.Cutting.{AreUnits};
+ghost use Rattle.h26x_cut.specs.Cutting.{AreUnits, trimmed, without_zeros};
 ghost use Rattle.h26x_cut.specs.Slices.{IsFirstCode};
 
-use super::without_code_zeros;
 use crate::ZeroRule;
 use std::marker::Model;
 
@@ -35,6 +34,31 @@ fn first_code(bytes: &[u8]) -> Option<usize>
         }
     }
     None
+}
+
+/// How many zeros stand at the end of bytes, counted from the front.
+fn zeros_at_end(bytes: &[u8]) -> usize
+    ensures within { result ≤ length bytes.now }
+    ensures zeros { take (length bytes.now - result) bytes.now ≡ without_zeros bytes.now }
+{
+    let mut zeros: usize = 0;
+    for place in 0..bytes.len() {
+        zeros = if bytes[place] == 0 { zeros + 1 } else { 0 };
+    }
+    zeros
+}
+
+/// A piece without the zeros that the start code behind it takes. Two of these are the code's own
+/// in any case, so that one more is left where it takes three.
+fn without_code_zeros(piece: &[u8], rule: ZeroRule) -> &[u8]
+    ensures { result.now ≡ trimmed rule piece.now }
+{
+    let zeros = zeros_at_end(piece);
+    let taken = match rule {
+        ZeroRule::All => zeros,
+        ZeroRule::AtMostThree => zeros.min(1),
+    };
+    &piece[..piece.len() - taken]
 }
 
 /// The units of a payload, in order, as slices of it.
