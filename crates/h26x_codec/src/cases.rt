@@ -14,7 +14,7 @@ ghost use Rattle.h264_payload.specs.H264.{h264};
 ghost use Rattle.h265_payload.specs.H265.{h265};
 ghost use Rattle.h266_payload.specs.H266.{h266};
 ghost use Rattle.h26x_codec.specs.Codec.{fresh_packetizer_state, fresh_depacketizer_state};
-ghost use Rattle.h26x_codec.specs.Runs.{AreMade, AreSent, IsSentCall, AreTaken, IsLeftOver, IsStoppedIn, IsStopped, LacksMemory, AreWritten, IsFresh, AreCarriedWhole};
+ghost use Rattle.h26x_codec.specs.Runs.{AreMade, AreSent, IsSentCall, AreTaken, IsLeftOver, IsStopped, LacksMemory, AreWritten, IsFresh, AreCarriedWhole};
 ghost use Rattle.h26x_codec.specs.Taking.{AreSomePackets, AreReceivedAs, LossIsWithin};
 ghost use Rattle.h26x_codec.specs.Repeating.{MayBeRepeated, IsFirstRefused};
 
@@ -71,9 +71,9 @@ pub fn packets_left_over()
         (Some (depacketization (fresh_depacketizer_state h264) [] extras.None)) → ⊥ }
 {}
 
-/// A run stops in its second call, whose unit is read back by nothing: the first one's was written.
+/// A run stops in its second call, whose packet is refused; the first one's unit was written.
 pub fn runs_that_stopped()
-    ensures second { IsStoppedIn (fresh_packetizer_state h264)
+    ensures stopped { IsStopped (fresh_packetizer_state h264)
         (depacketization (fresh_depacketizer_state h264) [] extras.None)
         (fresh_call 9 (0x65 ∷ []) ∷ fresh_call 9 (0x60 ∷ []) ∷ fresh_call 9 (0x61 ∷ []) ∷ [])
         (NaluTypeIsNotHandled 0) (Some (fresh_packetizer_state h264))
