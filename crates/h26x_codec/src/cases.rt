@@ -114,9 +114,9 @@ pub fn written_units()
     ensures not_told { AreWritten
         (depacketization (fresh_depacketizer_state h264) [] extras.None)
         ((0x65 ∷ []) ∷ []) (0x00 ∷ 0x00 ∷ 0x00 ∷ 0x01 ∷ 0x65 ∷ []) extras.None → ⊥ }
-    ensures not_written { AreWritten
+    ensures another { AreWritten
         (depacketization (fresh_depacketizer_state h264) [] extras.None)
-        ((0x65 ∷ []) ∷ []) [] (h264.extra true) → ⊥ }
+        ((0x65 ∷ []) ∷ []) (0x00 ∷ 0x00 ∷ 0x00 ∷ 0x01 ∷ 0x61 ∷ []) (h264.extra true) → ⊥ }
 {}
 
 /// Packets that were taken stand behind others, and what they brought is written.
