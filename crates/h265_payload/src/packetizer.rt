@@ -13,7 +13,6 @@ use h26x_core::{CodecExtra, H265CodecExtra, H265FragmentationUnitHeader, H265NAL
 use h26x_cut::{UnitSlices, ZeroRule};
 use h26x_payload::{DonlFormat, PayloadFormat, PayloadPacketizer, Sets, UnitKind};
 use h265_packets::header::high_byte;
-use std::alloc::{AllocError, Global};
 
 /// H.265 (RFC 7798), and whether packets bear decoding order numbers (4.6).
 #[derive(Debug, Clone, Copy, PartialEq, Eq)]
@@ -67,6 +66,8 @@ impl PayloadFormat for H265 {
 
     ghost fresh = { record { has_donl = false } };
 
+    ghost has_dond = { λ codec. codec.has_donl };
+
     fn new() -> Self {
         H265 { has_donl: false }
     }
@@ -110,33 +111,17 @@ impl PayloadFormat for H265 {
         2 + u128::from(dons) + sets.size() <= limit as u128
     }
 
-    fn sets_packet(
-        self,
-        alloc: Global,
-        don: u16,
-        sets: Sets<'_>,
-        unit: &[u8],
-    ) -> Result<Vec<u8>, AllocError> {
-        let mut packet = Vec::with_capacity(alloc, sets.capacity())?;
-        packet.extend_from_slice(&[with_type(unit[0], AGGREGATION_PACKET), unit[1]])?;
-        if self.has_donl {
-            packet.extend_from_slice(&don.to_be_bytes())?;
-            sets.push(&[0], &mut packet)?;
-        } else {
-            sets.push(&[], &mut packet)?;
-        }
-        Ok(packet)
+    fn has_dond(self) -> bool {
+        self.has_donl
     }
 
-    fn push_fragment_header(
-        self,
-        unit: &[u8],
-        start: bool,
-        end: bool,
-        packet: &mut Vec<u8>,
-    ) -> Result<(), AllocError> {
+    fn sets_header(self, _sets: Sets<'_>, unit: &[u8]) -> [u8; 2] {
+        [with_type(unit[0], AGGREGATION_PACKET), unit[1]]
+    }
+
+    fn fragment_header(self, unit: &[u8], start: bool, end: bool) -> [u8; 3] {
         let marks = H265FragmentationUnitHeader::new(start, end, header_of(unit).nalu_type());
-        packet.extend_from_slice(&[with_type(unit[0], FRAGMENTATION_UNIT), unit[1], marks.0])
+        [with_type(unit[0], FRAGMENTATION_UNIT), unit[1], marks.0]
     }
 
     fn is_key(self, unit: &[u8]) -> bool {

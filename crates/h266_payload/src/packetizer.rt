@@ -14,7 +14,6 @@ use h26x_core::h266_types::{
 use h26x_core::{CodecExtra, H266CodecExtra, H266FragmentationUnitHeader, H266NALUHeader};
 use h26x_cut::{UnitSlices, ZeroRule};
 use h26x_payload::{DonlFormat, PayloadFormat, PayloadPacketizer, Sets, UnitKind};
-use std::alloc::{AllocError, Global};
 
 /// H.266 (RFC 9328), and whether packets bear decoding order numbers (4.4).
 #[derive(Debug, Clone, Copy, PartialEq, Eq)]
@@ -117,6 +116,8 @@ impl PayloadFormat for H266 {
 
     ghost fresh = { record { has_donl = false } };
 
+    ghost has_dond = { λ codec. false };
+
     fn new() -> Self {
         H266 { has_donl: false }
     }
@@ -159,32 +160,18 @@ impl PayloadFormat for H266 {
         2 + don + sets.size() <= limit as u128
     }
 
-    fn sets_packet(
-        self,
-        alloc: Global,
-        don: u16,
-        sets: Sets<'_>,
-        _unit: &[u8],
-    ) -> Result<Vec<u8>, AllocError> {
-        let mut packet = Vec::with_capacity(alloc, sets.capacity())?;
-        packet.extend_from_slice(&[aggregate_high(sets), aggregate_low(sets)])?;
-        if self.has_donl {
-            packet.extend_from_slice(&don.to_be_bytes())?;
-        }
-        sets.push(&[], &mut packet)?;
-        Ok(packet)
+    fn has_dond(self) -> bool {
+        false
     }
 
-    fn push_fragment_header(
-        self,
-        unit: &[u8],
-        start: bool,
-        end: bool,
-        packet: &mut Vec<u8>,
-    ) -> Result<(), AllocError> {
+    fn sets_header(self, sets: Sets<'_>, _unit: &[u8]) -> [u8; 2] {
+        [aggregate_high(sets), aggregate_low(sets)]
+    }
+
+    fn fragment_header(self, unit: &[u8], start: bool, end: bool) -> [u8; 3] {
         let nalu_type = header_of(unit).nalu_type();
         let marks = H266FragmentationUnitHeader::new(start, end, false, nalu_type);
-        packet.extend_from_slice(&[unit[0], with_type(unit[1], FRAGMENTATION_UNIT), marks.0])
+        [unit[0], with_type(unit[1], FRAGMENTATION_UNIT), marks.0]
     }
 
     fn is_key(self, unit: &[u8]) -> bool {

@@ -8,6 +8,8 @@ use Rattle.h26x_core.specs.Pieces.{piece}
 use Rattle.h26x_model.specs.Send.Plan.{Item, item_units, unit_items, sets_items}
 use Rattle.h26x_model.specs.Send.Packets.{plan_packets}
 use Rattle.h26x_model.specs.Send.WaitingSets.{WaitingSets}
+use Rattle.h26x_payload.specs.declared.send.body.Body.{Body}
+use Rattle.h26x_payload.specs.declared.send.body.Body.TheVariants as b
 use Rattle.h26x_payload.specs.declared.send.packetizer.Brought.{Brought}
 use Rattle.h26x_payload.specs.declared.send.sets.Sets.{Sets}
 use Rattle.h26x_payload.specs.declared.send.units.Due.{Due}
@@ -53,10 +55,19 @@ unit_kind k.Other = Other
 abbrev pub sets_list : Sets → List (List ℕ)
 sets_list sets = set_list (option_map (λ s. s.now) sets.vps) ++ sets.sps.now ∷ sets.pps.now ∷ []
 
+-- what stands before the length of each set but the first: a DOND of 0, or nothing
+abbrev pub sets_gap : Bool → List ℕ
+sets_gap has_dond = if has_dond then 0 ∷ [] else []
+
 -- sets behind their lengths, from the second on behind these bytes too
 abbrev pub sets_behind_lengths : List ℕ → List (List ℕ) → List ℕ
 sets_behind_lengths gap [] = []
 sets_behind_lengths gap (set ∷ sets) = piece set ++ flat_map (λ other. gap ++ piece other) sets
+
+-- the bytes of what stands behind a packet's header and its number
+abbrev pub body_bytes : Body → List ℕ
+body_bytes (b.Data bytes) = bytes.now
+body_bytes (b.Sets sets gap) = sets_behind_lengths gap.now (sets_list sets)
 
 -- whether nothing goes
 abbrev pub is_nothing : Due → Bool

@@ -1,15 +1,14 @@
 //! What sets one codec's packetizer apart.
 
-ghost use Rattle.std.specs.Prelude.{◌≡◌, ◌≤◌, ◌++◌, ℕ, Bool, true, List, length, IfOk, OnOk};
-ghost use Rattle.h26x_model.specs.Payload.Format.{Format};
+ghost use Rattle.std.specs.Prelude.{◌≡◌, ◌≤◌, ◌+◌, ◌++◌, ℕ, Bool, true, List, length, take};
+ghost use Rattle.h26x_model.specs.Payload.Format.{Format, donl};
 ghost use Rattle.h26x_model.specs.Payload.Facts.{FitsLimits, DonlHasTwoBytes};
 ghost use Rattle.h26x_core.specs.Kind.{is_other};
-ghost use Rattle.h26x_payload.specs.Sending.{unit_kind, sets_list};
+ghost use Rattle.h26x_payload.specs.Sending.{unit_kind, sets_list, sets_gap, sets_behind_lengths};
 
 use crate::send::sets::Sets;
 use h26x_core::CodecExtra;
 use h26x_cut::UnitSlices;
-use std::alloc::{AllocError, Global};
 use std::fmt;
 
 /// What a unit is to a packetizer, by its type (RFC 6184, 1.3; RFC 7798, 1.1.4; RFC 9328, 1.1.4).
@@ -33,6 +32,8 @@ pub trait PayloadFormat: Copy + fmt::Debug {
     ghost format: { Self → Format };
 
     ghost fresh: { Self };
+
+    ghost has_dond: { Self → Bool };
 
     /// The setting of a new packetizer.
     fn new() -> Self
@@ -67,29 +68,23 @@ pub trait PayloadFormat: Copy + fmt::Debug {
     fn sets_fit(self, limit: usize, sets: Sets<'_>) -> bool
         ensures { result ≡ (format self).sets_fit limit (sets_list sets.entry) };
 
-    /// The packet of sets before a unit.
-    fn sets_packet(
-        self,
-        alloc: Global,
-        don: u16,
-        sets: Sets<'_>,
-        unit: &[u8],
-    ) -> Result<Vec<u8>, AllocError>
-        requires whole { (format self).header_len ≤ length unit.now }
-        ensures { IfOk result (λ packet. packet.items ≡ (format self).sets_packet don
-            (sets_list sets.entry) unit.now) };
+    /// Whether each unit of an aggregate but the first stands behind a DOND.
+    fn has_dond(self) -> bool
+        ensures { result ≡ has_dond self };
 
-    /// Appends the header of a fragment of this unit.
-    fn push_fragment_header(
-        self,
-        unit: &[u8],
-        start: bool,
-        end: bool,
-        packet: &mut Vec<u8>,
-    ) -> Result<(), AllocError>
+    /// The header of the packet of sets before a unit: the first bytes, as many as a unit's header
+    /// has.
+    fn sets_header(self, sets: Sets<'_>, unit: &[u8]) -> [u8; 2]
         requires whole { (format self).header_len ≤ length unit.now }
-        ensures { OnOk result (packet.new.items ≡ packet.old.items
-            ++ (format self).fragment_header unit.now start end) };
+        ensures { (don : ℕ) → (format self).sets_packet don (sets_list sets.entry) unit.now
+            ≡ take (format self).header_len result ++ (donl (format self) don
+            ++ sets_behind_lengths (sets_gap (has_dond self)) (sets_list sets.entry)) };
+
+    /// The header of a fragment of this unit: the first bytes, one more than a unit's header has.
+    fn fragment_header(self, unit: &[u8], start: bool, end: bool) -> [u8; 3]
+        requires whole { (format self).header_len ≤ length unit.now }
+        ensures { take ((format self).header_len + 1) result
+            ≡ (format self).fragment_header unit.now start end };
 
     /// Whether a unit is of a key type.
     fn is_key(self, unit: &[u8]) -> bool

@@ -1,12 +1,13 @@
 //! A unit in fragments, for every codec.
 
-ghost use Rattle.std.specs.Prelude.{◌≡◌, ◌≤◌, ◌<◌, ◌+◌, ◌++◌, OnOk, IfOk, map, length};
+ghost use Rattle.std.specs.Prelude.{◌≡◌, ◌≤◌, ◌<◌, ◌+◌, ◌++◌, ◌∷◌, [], OnOk, length};
 ghost use Rattle.h26x_model.specs.Payload.Format.{donl_bytes, donl_len, fragment_header_len};
-ghost use Rattle.h26x_payload.specs.Sending.{contents};
 ghost use Rattle.h26x_model.specs.Send.Packets.{fragments, fragment_count};
 
 use crate::format::PayloadFormat;
-use std::alloc::{AllocError, Global};
+use crate::send::body::Body;
+use crate::send::sink::PacketSink;
+use std::alloc::AllocError;
 
 /// How many bytes a number takes.
 pub(crate) fn donl_len<C: PayloadFormat>(codec: C) -> usize
@@ -24,27 +25,24 @@ pub(crate) fn donl_bytes<'a>(has_donl: bool, don: u16, bytes: &'a mut [u8; 2]) -
     if has_donl { bytes.as_slice() } else { &[] }
 }
 
-/// One fragment: its header, then `donl`, then `part`.
-fn fragment_of<C: PayloadFormat>(
+/// Appends a fragment of this data, behind these bytes of a number.
+#[inline]
+fn push_fragment<C: PayloadFormat, S: PacketSink>(
     codec: C,
-    alloc: Global,
-    limit: usize,
     unit: &[u8],
     start: bool,
     end: bool,
     donl: &[u8],
     part: &[u8],
-) -> Result<Vec<u8>, AllocError>
+    made: &mut S,
+) -> Result<(), AllocError>
     requires whole { (C.format codec).header_len ≤ length unit.now }
-    ensures { IfOk result (λ packet. packet.items ≡ (C.format codec).fragment_header unit.now start
-        end ++ (donl.now ++ part.now)) }
+    ensures pushed { OnOk result (S.packets made.new ≡ S.packets made.old
+        ++ ((C.format codec).fragment_header unit.now start end ++ (donl.now ++ part.now)) ∷ []) }
+    ensures before { S.before made.new ≡ S.before made.old }
 {
-    let capacity = limit.min(part.len().saturating_add(5));
-    let mut packet = Vec::with_capacity(alloc, capacity)?;
-    codec.push_fragment_header(unit, start, end, &mut packet)?;
-    packet.extend_from_slice(donl)?;
-    packet.extend_from_slice(part)?;
-    Ok(packet)
+    let header = codec.fragment_header(unit, start, end);
+    made.push(&header[..codec.header_len() + 1], donl, Body::Data(part))
 }
 
 /// How many fragments a unit that doesn't fit goes in.
@@ -59,20 +57,20 @@ fn count_of_fragments<C: PayloadFormat>(codec: C, limit: usize, unit: &[u8]) -> 
 
 /// Appends the fragments of a unit, the first with these bytes of its number. Each but the last is
 /// of `limit` bytes.
-fn push_parts<C: PayloadFormat>(
+fn push_parts<C: PayloadFormat, S: PacketSink>(
     codec: C,
-    alloc: Global,
     limit: usize,
     don: u16,
     unit: &[u8],
     donl: &[u8],
-    made: &mut Vec<Vec<u8>>,
+    made: &mut S,
 ) -> Result<(), AllocError>
     requires donl { donl.now ≡ donl_bytes (C.format codec).has_donl don }
     requires room { fragment_header_len (C.format codec) + donl_len (C.format codec) < limit }
     requires long { limit < length unit.now + donl_len (C.format codec) }
-    ensures { OnOk result (contents made.new.items ≡ contents made.old.items
+    ensures made { OnOk result (S.packets made.new ≡ S.packets made.old
         ++ fragments (C.format codec) don limit unit.now) }
+    ensures before { S.before made.new ≡ S.before made.old }
 {
     let header_len = codec.header_len();
     let room = limit - (header_len + 1);
@@ -82,8 +80,7 @@ fn push_parts<C: PayloadFormat>(
     while !rest.is_empty() {
         let taken = rest.len().min(room - donl.len());
         let end = taken == rest.len();
-        let part = &rest[..taken];
-        made.push(fragment_of(codec, alloc, limit, unit, start, end, donl, part)?)?;
+        push_fragment(codec, unit, start, end, donl, &rest[..taken], made)?;
         donl = &[];
         start = false;
         rest = &rest[taken..];
@@ -92,21 +89,21 @@ fn push_parts<C: PayloadFormat>(
 }
 
 /// Appends the fragments of a unit that doesn't fit.
-pub(crate) fn push_fragments<C: PayloadFormat>(
+pub(crate) fn push_fragments<C: PayloadFormat, S: PacketSink>(
     codec: C,
-    alloc: Global,
     limit: usize,
     don: u16,
     unit: &[u8],
-    made: &mut Vec<Vec<u8>>,
+    made: &mut S,
 ) -> Result<(), AllocError>
     requires room { fragment_header_len (C.format codec) + donl_len (C.format codec) < limit }
     requires long { limit < length unit.now + donl_len (C.format codec) }
-    ensures { OnOk result (contents made.new.items ≡ contents made.old.items
+    ensures made { OnOk result (S.packets made.new ≡ S.packets made.old
         ++ fragments (C.format codec) don limit unit.now) }
+    ensures before { S.before made.new ≡ S.before made.old }
 {
     made.reserve(count_of_fragments(codec, limit, unit))?;
     let mut bytes = [0; 2];
     let donl = donl_bytes(codec.has_donl(), don, &mut bytes);
-    push_parts(codec, alloc, limit, don, unit, donl, made)
+    push_parts(codec, limit, don, unit, donl, made)
 }

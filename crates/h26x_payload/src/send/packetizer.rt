@@ -1,21 +1,25 @@
 //! The packets of payloads, for every codec.
 
-ghost use Rattle.std.specs.Prelude.{◌≡◌, ◌≤◌, ◌∷◌, ℕ, [], true, false, OnOk, OnErr, IfOk, IsOk, None, map, length, Err};
+ghost use Rattle.std.specs.Prelude.{◌≡◌, ◌≤◌, ◌++◌, ◌∷◌, ℕ, [], true, false, OnOk, OnErr, IfOk, IsOk, None, map, length, drop, Err};
 ghost use Rattle.std.specs.Option.{option_map};
 ghost use Rattle.h26x_model.specs.Send.Limit.{AreWithinLimit};
 ghost use Rattle.h26x_model.specs.Send.Calls.{packet_limit, call_limit};
 ghost use Rattle.h26x_model.specs.Send.WaitingSets.{waiting_after_unit, due_items, plan_with_waiting, waiting_after, entries_with_limit, no_waiting_sets};
 ghost use Rattle.h26x_model.specs.Send.PacketizerState.{state_packets, is_skipped, are_skipped, has_no_effect, IsSentAsPlanned};
 ghost use Rattle.h26x_payload.specs.Sending.{contents, ArePushed, set_list, latest_set, waiting_with_brought, due_to_items, is_nothing};
+ghost use Rattle.h26x_payload.specs.Buffer.{with_packets};
 ghost use Rattle.h26x_payload.specs.PacketizerView.{IsPacketizer, packetizer_state, fresh_packetizer, view_call, view_entries, view_after};
 
 use crate::format::{DonlFormat, PayloadFormat, UnitKind};
+use crate::send::buffer::{Appending, PacketBuffer};
 use crate::send::sets::Sets;
+use crate::send::sink::PacketSink;
 use crate::send::units::{Due, push_due};
 use h26x_core::{PacketError, Packetizer};
 use h26x_model::laws;
 use std::alloc::Global;
 use std::marker::Model;
+use std::mem;
 
 /// The largest packet size of a new packetizer, in bytes.
 const FIRST_LARGEST: u16 = 1200;
@@ -203,22 +207,23 @@ impl<C: PayloadFormat> PayloadPacketizer<C> {
     }
 
     /// Appends the packets of a payload, and tells what it brought and the next number.
-    fn push_payload<'a>(
+    fn push_payload<'a, S: PacketSink>(
         &'a self,
         limit: usize,
         b: &'a [u8],
-        made: &mut Vec<Vec<u8>>,
+        made: &mut S,
     ) -> Result<(Brought<'a>, u16), PacketError>
         ensures sent { IfOk result (λ it. ArePushed (C.format self.now.codec) self.now.next_don
             (plan_with_waiting (C.format self.now.codec) self.now.waiting
             (entries_with_limit limit ((C.format self.now.codec).units b.now)))
-            (contents made.old.items) (contents made.new.items) it.1) }
+            (S.packets made.old) (S.packets made.new) it.1) }
         ensures waits { IfOk result (λ it. waiting_with_brought self.now.waiting it.0 ≡ waiting_after
             (C.format self.now.codec) self.now.waiting
             (entries_with_limit limit ((C.format self.now.codec).units b.now))) }
         ensures skipped { are_skipped (C.format self.now.codec)
             ((C.format self.now.codec).units b.now) ≡ true → IfOk result (λ it. (it.0.vps ≡ None)
             × (it.0.sps ≡ None) × (it.0.pps ≡ None)) × IsOk result }
+        ensures before { S.before made.new ≡ S.before made.old }
         ensures memory { OnErr result (result ≡ Err PacketError.OutOfMemory) }
     {
         let mut brought = Brought {
@@ -231,9 +236,113 @@ impl<C: PayloadFormat> PayloadPacketizer<C> {
         let mut don = self.next_don;
         for unit in self.codec.units_in(b) {
             let due = self.take_unit(unit, &mut brought);
-            don = push_due(self.codec, self.alloc, limit, don, unit, due, made)?;
+            don = push_due(self.codec, limit, don, unit, due, made)?;
         }
         Ok((brought, don))
+    }
+
+    /// A law of each call: it does what is planned of whole lists, and one without effect has no
+    /// packets and changes nothing.
+    fn goes_as_planned(&self, mtu: usize, b: &[u8])
+        ensures planned { IsSentAsPlanned (packetizer_state (C.format self.now.codec) self.now)
+            (view_call self.now mtu b.now)
+            (state_packets (packetizer_state (C.format self.now.codec) self.now)
+            (view_entries (C.format self.now.codec) self.now mtu b.now))
+            (packetizer_state (C.format self.now.codec) (view_after (C.format self.now.codec) self.now
+            (view_entries (C.format self.now.codec) self.now mtu b.now))) }
+        ensures without_effect { has_no_effect (C.format self.now.codec)
+            (view_call self.now mtu b.now) ≡ true →
+            (state_packets (packetizer_state (C.format self.now.codec) self.now)
+            (view_entries (C.format self.now.codec) self.now mtu b.now) ≡ [])
+            × (view_after (C.format self.now.codec) self.now
+            (view_entries (C.format self.now.codec) self.now mtu b.now) ≡ self.now) }
+    {
+        laws::packetizers_go_on();
+        let _ = &self.codec;
+    }
+
+    /// Appends the packets of a payload.
+    fn send<S: PacketSink>(&mut self, mtu: usize, b: &[u8], made: &mut S) -> Result<(), PacketError>
+        ensures packets { OnOk result (S.packets made.new ≡ S.packets made.old
+            ++ state_packets (packetizer_state (C.format self.old.codec) self.old)
+            (view_entries (C.format self.old.codec) self.old mtu b.now)) }
+        ensures after { OnOk result (self.new
+            ≡ view_after (C.format self.old.codec) self.old
+            (view_entries (C.format self.old.codec) self.old mtu b.now)) }
+        ensures before { S.before made.new ≡ S.before made.old }
+
+        ensures kept { OnErr result (self.new ≡ self.old) }
+        ensures memory { OnErr result (result ≡ Err PacketError.OutOfMemory) }
+
+        // Calls without effect take no memory.
+        ensures free { has_no_effect (C.format self.old.codec) (view_call self.old mtu b.now) ≡ true →
+            IsOk result }
+    {
+        laws::packetizers_go_on();
+        if mtu < self.codec.least_mtu() {
+            return Ok(());
+        }
+        let (brought, next_don) = self.push_payload(self.limit(mtu), b, made)?;
+        let taken = brought.taken;
+        let vps = copied(self.alloc, brought.vps)?;
+        let sps = copied(self.alloc, brought.sps)?;
+        let pps = copied(self.alloc, brought.pps)?;
+        replace_set(&mut self.vps, taken, vps);
+        replace_set(&mut self.sps, taken, sps);
+        replace_set(&mut self.pps, taken, pps);
+        if self.codec.has_donl() {
+            self.next_don = next_don;
+        }
+        Ok(())
+    }
+
+    /// Appends the packets of a payload to a buffer, in order, each within the limit of the call and
+    /// behind its headroom, which the limit doesn't count.
+    ///
+    /// They are those of [`packetize`](Packetizer::packetize), and what waits afterwards is what waits
+    /// after it. `OutOfMemory` is its only error, and leaves everything.
+    pub fn packetize_into(
+        &mut self,
+        mtu: usize,
+        b: &[u8],
+        into: &mut PacketBuffer,
+    ) -> Result<(), PacketError>
+        ensures packets { OnOk result (into.new ≡ with_packets into.old
+            (state_packets (packetizer_state (C.format self.old.codec) self.old)
+            (view_entries (C.format self.old.codec) self.old mtu b.now))) }
+        ensures after { OnOk result (self.new
+            ≡ view_after (C.format self.old.codec) self.old
+            (view_entries (C.format self.old.codec) self.old mtu b.now)) }
+        ensures planned { OnOk result (IsSentAsPlanned
+            (packetizer_state (C.format self.old.codec) self.old) (view_call self.old mtu b.now)
+            (drop (length into.old.packets) into.new.packets)
+            (packetizer_state (C.format self.new.codec) self.new)) }
+
+        ensures kept { OnErr result (self.new ≡ self.old) }
+        ensures kept_packets { OnErr result (into.new ≡ into.old) }
+        ensures memory { OnErr result (result ≡ Err PacketError.OutOfMemory) }
+
+        // Calls without effect take no memory.
+        ensures free { has_no_effect (C.format self.old.codec) (view_call self.old mtu b.now) ≡ true →
+            IsOk result }
+        ensures without_effect { has_no_effect (C.format self.old.codec)
+            (view_call self.old mtu b.now) ≡ true →
+            OnOk result ((into.new ≡ into.old) × (self.new ≡ self.old)) }
+    {
+        self.goes_as_planned(mtu, b);
+        let headroom = into.headroom();
+        let buffer = mem::replace(into, PacketBuffer::new(self.alloc, headroom));
+        let mut made = Appending::behind(buffer);
+        match self.send(mtu, b, &mut made) {
+            Ok(()) => {
+                *into = made.finish();
+                Ok(())
+            }
+            Err(e) => {
+                *into = made.give_up();
+                Err(e)
+            }
+        }
     }
 }
 
@@ -307,22 +416,9 @@ impl<C: PayloadFormat> Packetizer for PayloadPacketizer<C> {
             (view_call self.old mtu b.now) ≡ true →
             IfOk result (λ made. (made.items ≡ []) × (self.new ≡ self.old)) }
     {
-        laws::packetizers_go_on();
-        if mtu < self.codec.least_mtu() {
-            return Ok(Vec::new(self.alloc));
-        }
+        self.goes_as_planned(mtu, b);
         let mut made = Vec::new(self.alloc);
-        let (brought, next_don) = self.push_payload(self.limit(mtu), b, &mut made)?;
-        let taken = brought.taken;
-        let vps = copied(self.alloc, brought.vps)?;
-        let sps = copied(self.alloc, brought.sps)?;
-        let pps = copied(self.alloc, brought.pps)?;
-        replace_set(&mut self.vps, taken, vps);
-        replace_set(&mut self.sps, taken, sps);
-        replace_set(&mut self.pps, taken, pps);
-        if self.codec.has_donl() {
-            self.next_don = next_don;
-        }
+        self.send(mtu, b, &mut made)?;
         Ok(made)
     }
 

@@ -1,11 +1,9 @@
 //! Parameter sets that go before a unit.
 
-ghost use Rattle.std.specs.Prelude.{◌≡◌, ◌≤◌, ◌+◌, ◌++◌, OnOk, nat_lt, length};
+ghost use Rattle.std.specs.Prelude.{◌≡◌, ◌≤◌, ◌+◌, ◌++◌, min, nat_lt, length, vec_len, vec_capacity};
 ghost use Rattle.std.specs.List.{sum_by, list_all};
 ghost use Rattle.h26x_core.specs.Pieces.{piece};
 ghost use Rattle.h26x_payload.specs.Sending.{sets_list, sets_behind_lengths};
-
-use std::alloc::AllocError;
 
 /// Perhaps a VPS, and an SPS and a PPS, for one aggregate (RFC 6184, 5.7.1; RFC 7798, 4.4.2; RFC
 /// 9328, 4.3.2).
@@ -23,13 +21,17 @@ fn piece_len(set: &[u8]) -> u128
     2 + set.len() as u128
 }
 
-/// Appends a set behind its length.
-fn push_piece(set: &[u8], packet: &mut Vec<u8>) -> Result<(), AllocError>
-    ensures { OnOk result (packet.new.items ≡ packet.old.items ++ piece set.now) }
+/// Writes a set behind its length, where there is room for it.
+fn put_piece(set: &[u8], bytes: &mut Vec<u8>)
+    requires room { vec_len bytes.old + (2 + length set.now) ≤ vec_capacity bytes.old }
+    ensures written { bytes.new.items ≡ bytes.old.items ++ piece set.now }
+    ensures len { vec_len bytes.new ≡ vec_len bytes.old + (2 + length set.now) }
+    ensures capacity { vec_capacity bytes.old ≤ vec_capacity bytes.new }
 {
     let len = set.len();
-    packet.extend_from_slice(&[(len / 256 % 256) as u8, (len % 256) as u8])?;
-    packet.extend_from_slice(set)
+    let length = [(len / 256 % 256) as u8, (len % 256) as u8];
+    bytes.extend_from_slice(&length).unwrap();
+    bytes.extend_from_slice(set).unwrap();
 }
 
 impl<'a> Sets<'a> {
@@ -60,33 +62,39 @@ impl<'a> Sets<'a> {
         }
     }
 
-    /// About the bytes that they take in a packet; at most 12 more than they have.
-    pub fn capacity(self) -> usize
-        ensures { result ≤ sum_by length (sets_list self.entry) + 12 }
+    /// The bytes of the sets behind their lengths, with `gap` bytes before the length of each but
+    /// the first; the greatest number where they are more.
+    pub(crate) fn len_with(self, gap: &[u8]) -> usize
+        ensures { min (length (sets_behind_lengths gap.now (sets_list self.entry)))
+            18446744073709551615 ≤ result }
     {
+        let piece = gap.len().saturating_add(2);
         let vps = match self.vps {
-            Some(vps) => vps.len(),
+            Some(vps) => vps.len().saturating_add(piece),
             None => 0,
         };
-        vps.saturating_add(self.sps.len())
-            .saturating_add(self.pps.len())
-            .saturating_add(12)
+        let sps = self.sps.len().saturating_add(piece);
+        let pps = self.pps.len().saturating_add(piece);
+        vps.saturating_add(sps).saturating_add(pps)
     }
 
-    /// Appends each set behind its length; `gap` goes before the length of each but the first.
-    pub fn push(self, gap: &[u8], packet: &mut Vec<u8>) -> Result<(), AllocError>
-        ensures { OnOk result (packet.new.items ≡ packet.old.items
-            ++ sets_behind_lengths gap.now (sets_list self.entry)) }
+    /// Writes each set behind its length, where there is room for them; `gap` goes before the length
+    /// of each but the first.
+    pub(crate) fn put(self, gap: &[u8], bytes: &mut Vec<u8>)
+        requires room { vec_len bytes.old
+            + length (sets_behind_lengths gap.now (sets_list self)) ≤ vec_capacity bytes.old }
+        ensures { bytes.new.items ≡ bytes.old.items
+            ++ sets_behind_lengths gap.now (sets_list self.entry) }
     {
         match self.vps {
             Some(vps) => {
-                push_piece(vps, packet)?;
-                packet.extend_from_slice(gap)?;
-                push_piece(self.sps, packet)?;
+                put_piece(vps, bytes);
+                bytes.extend_from_slice(gap).unwrap();
+                put_piece(self.sps, bytes);
             }
-            None => push_piece(self.sps, packet)?,
+            None => put_piece(self.sps, bytes),
         }
-        packet.extend_from_slice(gap)?;
-        push_piece(self.pps, packet)
+        bytes.extend_from_slice(gap).unwrap();
+        put_piece(self.pps, bytes);
     }
 }

@@ -1,4 +1,4 @@
-use Rattle.std.proofs.Common.{rules, map, false, ◌≡◌, ℕ, ◌+◌, ◌<◌, length, ◌-◌, ◌*◌, vec_len, refl, sym, ap, ◌∙◌, arith, drop, min, eqb, Vec, Global, ◌++◌}
+use Rattle.std.proofs.Common.{rules, map, false, ◌≡◌, ℕ, ◌+◌, ◌<◌, length, length-append, ◌-◌, ◌*◌, refl, sym, ap, ◌∙◌, arith, drop, take, min, eqb, ◌++◌, ◌∷◌, [], List}
 use Rattle.std.specs.List.{range_with_len}
 use Rattle.std.proofs.lemmas.Grind.{common_steps}
 use Rattle.std.proofs.lemmas.Bool.Decides.{nat_tests}
@@ -10,40 +10,43 @@ pub loop-donl-preserved : goal.loop-donl-preserved
 loop-donl-preserved g c =
     let f = g.C.PayloadFormat.format c.args.codec in
     let fragment = fragment f c.args.don c.args.limit c.args.unit.now in
-    let before = map (λ (p : Vec ℕ Global). p.items) c.args.made.now.items in
+    let before = g.S.PacketSink.packets c.args.made.now in
+    let packets = g.S.PacketSink.packets c.loop-donl.made in
+    let after = g.S.PacketSink.packets c.push_fragment.new.made in
     let h = c.header_len-header_len.ensures.is in
     let space = c.args.limit - (c.header_len-header_len.result + 1) in
     let same : space ≡ fragment_room f c.args.limit = ap (λ k. c.args.limit - (k + 1)) h in
-    let j = vec_len c.loop-donl.made - vec_len c.args.made.now in
+    let j = length packets - length before in
     let donl = c.loop-donl.donl.now in
     let rest = c.loop-donl.rest.now in
-    let packet = c.in_ok-fragment_of.field-0.items in
     let inv = c.loop-donl.invariant in
     let taken : c.min-taken.result ≡ min (length rest) (space - length donl) = search rules in
     let some : 0 < length rest = grind (arith, common_steps) in
-    let next : vec_len c.push.new.self - vec_len c.args.made.now ≡ j + 1 = omega (arith, c.in_ok-push.ensures.len, inv.before) in
+    let packet : List ℕ = f.fragment_header c.args.unit.now c.loop-donl.start (eqb c.min-taken.result (length rest)) ++ (donl ++ take c.min-taken.result rest) in
+    let pushed : after ≡ packets ++ packet ∷ [] = search rules in
+    let len : length after ≡ length packets + 1 = ap length pushed ∙ length-append packets (packet ∷ []) in
+    let next : length after - length before ≡ j + 1 = omega (arith, len, inv.few_before) in
     let here : packet ≡ fragment j = fragment_at f c.args.don c.args.limit space c.args.unit.now donl rest packet j c.min-taken.result c.loop-donl.start (eqb c.min-taken.result (length rest))
-    same inv.donl inv.rest some taken inv.start refl (c.in_ok-fragment_of.ensures) in
+    same inv.donl inv.rest some taken inv.start refl refl in
     record {
-      packets = ap (map (λ (p : Vec ℕ Global). p.items)) c.in_ok-push.ensures.items
-          ∙ packets_more (λ (p : Vec ℕ Global). p.items) fragment before c.loop-donl.made.items c.in_ok-fragment_of.field-0 j inv.packets here
-          ∙ ap (λ k. before ++ map fragment (range_with_len 0 k)) (sym next);
+      packets = packets_more fragment before packets after packet j inv.packets here pushed ∙ ap (λ k. before ++ map fragment (range_with_len 0 k)) (sym next);
       rest = rest_more f c.args.don c.args.limit space c.args.unit.now donl rest j c.min-taken.result _ same inv.donl inv.rest taken refl ∙ ap (λ k. drop (k * fragment_room f c.args.limit) (fragmented_bytes f c.args.don c.args.unit.now)) (sym next);
       donl = omega (arith, inv.donl);
       few = omega arith;
       count = let a = count_more f c.args.don c.args.limit space c.args.unit.now donl rest j same inv.donl inv.rest some in omega (arith, a, next);
       start = let later : false ≡ eqb (j + 1) 0 = grind (arith, nat_tests) in later ∙ ap (λ k. eqb k 0) (sym next);
-      before = omega (arith, c.in_ok-push.ensures.len, inv.before);
+      few_before = omega (arith, len, inv.few_before);
+      before = search rules;
     }
 
-pub returns : goal.returns
-returns g c =
+pub returns-clause-made : goal.returns-clause-made
+returns-clause-made g c =
     let f = g.C.PayloadFormat.format c.args.codec in
     let fragment = fragment f c.args.don c.args.limit c.args.unit.now in
-    let before = map (λ (p : Vec ℕ Global). p.items) c.args.made.now.items in
+    let before = g.S.PacketSink.packets c.args.made.now in
     let space = c.args.limit - (c.header_len-header_len.result + 1) in
     let same : space ≡ fragment_room f c.args.limit = ap (λ k. c.args.limit - (k + 1)) c.header_len-header_len.ensures.is in
-    let j = vec_len c.loop-donl.made - vec_len c.args.made.now in
+    let j = length (g.S.PacketSink.packets c.loop-donl.made) - length before in
     let inv = c.loop-donl.invariant in
     let none : length c.loop-donl.rest.now ≡ 0 = grind (arith, common_steps) in
     let all = all_taken f c.args.don c.args.limit space c.args.unit.now c.loop-donl.donl.now c.loop-donl.rest.now j same (omega (arith, inv.donl)) inv.rest none inv.few inv.count in

@@ -1,4 +1,4 @@
-use Rattle.std.proofs.Common.{rules, ap, map, ◌≡◌, ◌∷◌, [], ◌∙◌, Vec, Global, ℕ, arith}
+use Rattle.std.proofs.Common.{rules, ap, ◌≡◌, ◌∷◌, [], ◌∙◌, arith}
 use Rattle.h26x_payload.proofs.SendLemmas.{sends_unit, sends_end, waits_more, skipped_more}
 use Rattle.h26x_payload.specs.Sending.{ArePushed, due_to_items, waiting_with_brought}
 use Rattle.h26x_payload.specs.PacketizerView.{PacketizerView}
@@ -13,8 +13,8 @@ loop-unit-preserved g c =
     let after = waiting_with_brought w c.take_unit-due.new.brought in
     let is : c.loop-unit.unit-iterator ≡ c.in-Some.unit.now ∷ c.next.new.self = search rules in
     let inv = c.loop-unit.invariant in
-    let x = map (λ (p : Vec ℕ Global). p.items) c.loop-unit.made.items in
-    let y = map (λ (p : Vec ℕ Global). p.items) c.push_due.new.made.items in
+    let x = g.S.PacketSink.packets c.loop-unit.made in
+    let y = g.S.PacketSink.packets c.push_due.new.made in
     let due = due_to_items f c.args.limit c.in-Some.unit.now c.take_unit-due.result in
     let codec : c.self.inside.codec ≡ c.args.self.now.codec = ap (λ (h : PacketizerView _). h.codec) c.self.view_is in
     let here : ArePushed f c.loop-unit.don due x y c.in_ok-don.don = rw codec at c.in_ok-don.ensures.sent in
@@ -22,6 +22,7 @@ loop-unit-preserved g c =
       small = let n = here.don in omega (arith, n);
       sent = λ all next behind. inv.sent all next (sends_unit f (c.donl_has_two_bytes.ensures.round f (g.met.C.PayloadFormat.dons c.args.self.now.codec)) before after c.args.limit c.loop-unit.don c.in_ok-don.don next c.in-Some.unit.now c.loop-unit.unit-iterator c.next.new.self
           due x y all is (c.take_unit-due.ensures.sent c.args.limit) c.take_unit-due.ensures.waits here behind);
+      before = search rules;
       waits = waits_more f before after _ c.args.limit c.in-Some.unit.now c.loop-unit.unit-iterator c.next.new.self is c.take_unit-due.ensures.waits inv.waits;
       skipped = λ all.
           let (left, no_vps, no_sps, no_pps) = inv.skipped all in

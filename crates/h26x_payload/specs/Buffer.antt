@@ -1,0 +1,49 @@
+-- Packets behind each other in one buffer.
+use Rattle.std.specs.Prelude.{◌≡◌, ℕ, ◌+◌, ◌≤◌, List, [], ◌∷◌, ◌++◌, length, take, drop}
+use Rattle.std.specs.List.{between}
+
+-- what a buffer holds: packets, and how many bytes are free before each
+pub record PacketBufferView : Type 0 where
+  pub packets : List (List ℕ)
+  pub headroom : ℕ
+
+-- the packets that end at these places of bytes, each behind its headroom, from this place on
+abbrev pub packets_from : ℕ → ℕ → List ℕ → List ℕ → List (List ℕ)
+packets_from headroom start bytes [] = []
+packets_from headroom start bytes (end ∷ ends) = between (start + headroom) end bytes
+    ∷ packets_from headroom end bytes ends
+
+-- the last of these ends
+abbrev pub last_end : ℕ → List ℕ → ℕ
+last_end start [] = start
+last_end start (end ∷ ends) = last_end end ends
+
+-- each packet ends behind its headroom
+abbrev pub AreEnds : ℕ → ℕ → List ℕ → Type 0
+AreEnds headroom start [] = Unit {0}
+AreEnds headroom start (end ∷ ends) = (start + headroom ≤ end) × AreEnds headroom end ends
+
+-- the bytes of packets that end at these places, and no others
+pub record IsBuffer (headroom : ℕ) (bytes ends : List ℕ) : Type 0 where
+  pub in_order : AreEnds headroom 0 ends
+  pub to_the_end : last_end 0 ends ≡ length bytes
+
+-- a buffer to which packets are appended: as it was before, and the packets since
+pub record AppendedView : Type 0 where
+  pub before : PacketBufferView
+  pub after : List (List ℕ)
+
+-- a buffer, of which so many packets were there before
+abbrev pub appended_view : PacketBufferView → ℕ → AppendedView
+appended_view buffer first = record {
+  before = record buffer { packets = take first buffer.packets };
+  after = drop first buffer.packets;
+}
+
+-- nothing was there before
+abbrev pub no_buffer : PacketBufferView
+no_buffer = record { packets = []; headroom = 0 }
+
+-- a buffer with these packets behind its own
+abbrev pub with_packets : PacketBufferView → List (List ℕ) → PacketBufferView
+with_packets buffer packets = record buffer { packets = buffer.packets ++ packets }

@@ -1,0 +1,41 @@
+//! What stands behind a packet's header and its number.
+
+ghost use Rattle.std.specs.Prelude.{◌≡◌, ◌≤◌, ◌+◌, ◌++◌, min, length, vec_len, vec_capacity};
+ghost use Rattle.h26x_payload.specs.Sending.{body_bytes};
+
+use crate::send::sets::Sets;
+
+/// What stands behind a packet's header and its number.
+#[derive(Clone, Copy)]
+pub enum Body<'a> {
+    /// A unit without its header, or a part of it.
+    Data(&'a [u8]),
+    /// Sets, each behind its length; `gap` goes before the length of each but the first.
+    Sets { sets: Sets<'a>, gap: &'a [u8] },
+}
+
+impl<'a> Body<'a> {
+    /// How many bytes it has; the greatest number where they are more.
+    #[inline]
+    pub(crate) fn len(self) -> usize
+        ensures { min (length (body_bytes self.entry)) 18446744073709551615 ≤ result }
+    {
+        match self {
+            Body::Data(data) => data.len(),
+            Body::Sets { sets, gap } => sets.len_with(gap),
+        }
+    }
+
+    /// Writes it, where there is room for it.
+    #[inline]
+    pub(crate) fn put(self, bytes: &mut Vec<u8>)
+        requires room { vec_len bytes.old + length (body_bytes self)
+            ≤ vec_capacity bytes.old }
+        ensures { bytes.new.items ≡ bytes.old.items ++ body_bytes self.entry }
+    {
+        match self {
+            Body::Data(data) => bytes.extend_from_slice(data).unwrap(),
+            Body::Sets { sets, gap } => sets.put(gap, bytes),
+        }
+    }
+}

@@ -1,0 +1,269 @@
+//! Packets behind each other in one buffer.
+
+ghost use Rattle.std.specs.Prelude.{◌≡◌, ◌≤◌, ◌<◌, ◌+◌, ◌++◌, replicate, vec_len, vec_capacity, ◌∷◌, [], take, drop, length, get_or, OnOk, OnErr};
+ghost use Rattle.std.specs.List.{between};
+ghost use Rattle.h26x_payload.specs.Buffer.{IsBuffer, last_end, packets_from, with_packets};
+ghost use Rattle.h26x_payload.specs.Sending.{body_bytes};
+
+use crate::send::body::Body;
+use crate::send::sink::PacketSink;
+use std::alloc::{AllocError, Global};
+use std::marker::Model;
+
+/// Packets behind each other in one buffer, and before each so many bytes that are free for the
+/// headers of the layers below (as of RTP, RFC 3550, 5.1). A buffer that is cleared keeps its
+/// memory.
+#[derive(Debug, Drop)]
+pub struct PacketBuffer {
+    bytes: Vec<u8>,
+    ends: Vec<usize>,
+    headroom: usize,
+}
+
+impl Model for PacketBuffer {
+    ghost use Rattle.h26x_payload.specs.Buffer.{PacketBufferView, IsBuffer, packets_from};
+
+    ghost Value = { PacketBufferView };
+
+    ghost view = { λ a. record {
+      packets = packets_from a.headroom 0 a.bytes.items a.ends.items;
+      headroom = a.headroom;
+    } };
+
+    ghost invariant = { λ a. IsBuffer a.headroom a.bytes.items a.ends.items };
+}
+
+/// Where the first so many packets end.
+fn end_of_first(ends: &[usize], count: usize) -> usize
+    requires { count ≤ length ends.now }
+    ensures { result ≡ last_end 0 (take count ends.now) }
+{
+    if count == 0 { 0 } else { ends[count - 1] }
+}
+
+/// Where the packet at a place begins and ends.
+fn bounds_of(headroom: usize, bytes: &[u8], ends: &[usize], place: usize) -> (usize, usize)
+    requires buffer { IsBuffer headroom bytes.now ends.now }
+    requires place { place < length ends.now }
+    ensures start { result.0 ≡ last_end 0 (take place ends.now) + headroom }
+    ensures order { result.0 ≤ result.1 }
+    ensures within { result.1 ≤ length bytes.now }
+    ensures packet { get_or (packets_from headroom 0 bytes.now ends.now) place []
+        ≡ between result.0 result.1 bytes.now }
+{
+    let end = ends[place];
+    let start = end_of_first(ends, place) + headroom;
+    (start, end)
+}
+
+/// Writes bytes, where there is room for them.
+#[inline]
+fn put_part(part: &[u8], bytes: &mut Vec<u8>)
+    requires room { vec_len bytes.old + length part.now ≤ vec_capacity bytes.old }
+    ensures written { bytes.new.items ≡ bytes.old.items ++ part.now }
+    ensures len { vec_len bytes.new ≡ vec_len bytes.old + length part.now }
+    ensures capacity { vec_capacity bytes.old ≤ vec_capacity bytes.new }
+{
+    if !part.is_empty() {
+        bytes.extend_from_slice(part).unwrap();
+    }
+}
+
+/// Writes a packet of these parts behind its headroom, where there is room for it.
+#[inline]
+pub(crate) fn put_packet(
+    headroom: usize,
+    header: &[u8],
+    donl: &[u8],
+    body: Body<'_>,
+    bytes: &mut Vec<u8>,
+)
+    requires room { vec_len bytes.old + (headroom + (length header.now + (length donl.now
+        + length (body_bytes body)))) ≤ vec_capacity bytes.old }
+    ensures written { bytes.new.items ≡ bytes.old.items ++ (replicate headroom 0
+        ++ (header.now ++ (donl.now ++ body_bytes body.entry))) }
+{
+    if headroom > 0 {
+        bytes.resize(bytes.len() + headroom, 0).unwrap();
+    }
+    put_part(header, bytes);
+    put_part(donl, bytes);
+    body.put(bytes);
+}
+
+impl PacketBuffer {
+    /// A buffer without packets, with so many free bytes before each; its memory comes from
+    /// `alloc`.
+    pub fn new(alloc: Global, headroom: usize) -> Self
+        ensures packets { result.packets ≡ [] }
+        ensures headroom { result.headroom ≡ headroom }
+    {
+        PacketBuffer {
+            bytes: Vec::new(alloc),
+            ends: Vec::new(alloc),
+            headroom,
+        }
+    }
+
+    /// How many packets it holds.
+    pub fn len(&self) -> usize
+        ensures { result ≡ length self.now.packets }
+    {
+        self.ends.len()
+    }
+
+    /// The bytes that are free before each packet.
+    pub fn headroom(&self) -> usize
+        ensures { result ≡ self.now.headroom }
+    {
+        self.headroom
+    }
+
+    /// The packet at a place.
+    pub fn packet(&self, place: usize) -> &[u8]
+        requires { place < length self.now.packets }
+        ensures { result.now ≡ get_or self.now.packets place [] }
+    {
+        let (start, end) = bounds_of(self.headroom, &self.bytes, &self.ends, place);
+        &self.bytes[start..end]
+    }
+
+    /// The packet at a place behind its headroom.
+    pub fn with_headroom(&self, place: usize) -> &[u8]
+        requires { place < length self.now.packets }
+        ensures { drop self.now.headroom result.now ≡ get_or self.now.packets place [] }
+    {
+        let (start, end) = bounds_of(self.headroom, &self.bytes, &self.ends, place);
+        &self.bytes[start - self.headroom..end]
+    }
+
+    /// Writes a header right before the packet at a place, into its headroom.
+    pub fn write_header(&mut self, place: usize, header: &[u8])
+        requires place { place < length self.old.packets }
+        requires room { length header.now ≤ self.old.headroom }
+        ensures { self.new ≡ self.old }
+    {
+        let (start, _) = bounds_of(self.headroom, &self.bytes, &self.ends, place);
+        self.bytes[start - header.len()..start].copy_from_slice(header);
+    }
+
+    /// Keeps the first so many packets, in the same memory.
+    pub fn truncate(&mut self, count: usize)
+        ensures { self.new ≡ record self.old { packets = take count self.old.packets } }
+    {
+        if count < self.ends.len() {
+            self.bytes.truncate(end_of_first(&self.ends, count));
+            self.ends.truncate(count);
+        }
+    }
+
+    /// Drops every packet, and keeps the memory.
+    pub fn clear(&mut self)
+        ensures { self.new ≡ record self.old { packets = [] } }
+    {
+        self.bytes.clear();
+        self.ends.clear();
+    }
+
+    /// Appends a packet of these parts, one behind the other.
+    #[inline]
+    pub(crate) fn push_parts(
+        &mut self,
+        header: &[u8],
+        donl: &[u8],
+        body: Body<'_>,
+    ) -> Result<(), AllocError>
+        ensures pushed { OnOk result (self.new ≡ record self.old {
+          packets = self.old.packets ++ (header.now ++ (donl.now ++ body_bytes body.entry)) ∷ [];
+        }) }
+        ensures kept { OnErr result (self.new ≡ self.old) }
+    {
+        let len = header
+            .len()
+            .saturating_add(donl.len())
+            .saturating_add(body.len());
+        self.ends.reserve(1)?;
+        self.bytes.reserve(self.headroom.saturating_add(len))?;
+        put_packet(self.headroom, header, donl, body, &mut self.bytes);
+        self.ends.push(self.bytes.len()).unwrap();
+        Ok(())
+    }
+
+    /// Appends a packet behind its headroom. Only want of memory refuses it, and leaves everything.
+    pub fn push(&mut self, packet: &[u8]) -> Result<(), AllocError>
+        ensures pushed { OnOk result (self.new ≡ record self.old {
+          packets = self.old.packets ++ packet.now ∷ [];
+        }) }
+        ensures kept { OnErr result (self.new ≡ self.old) }
+    {
+        self.push_parts(&[], &[], Body::Data(packet))
+    }
+
+    /// Reserves room for so many packets more, but none for their bytes.
+    pub fn reserve(&mut self, count: usize) -> Result<(), AllocError>
+        ensures { self.new ≡ self.old }
+    {
+        self.ends.reserve(count)
+    }
+}
+
+/// A buffer to which packets are appended, and how many it had before.
+#[derive(Drop)]
+pub(crate) struct Appending {
+    buffer: PacketBuffer,
+    first: usize,
+}
+
+impl Model for Appending {
+    ghost use Rattle.std.specs.Prelude.{◌≤◌, length};
+    ghost use Rattle.h26x_payload.specs.Buffer.{AppendedView, appended_view};
+
+    ghost Value = { AppendedView };
+
+    ghost view = { λ a. appended_view a.buffer a.first };
+
+    ghost invariant = { λ a. a.first ≤ length a.buffer.packets };
+}
+
+impl Appending {
+    /// Nothing is appended yet.
+    pub(crate) fn behind(buffer: PacketBuffer) -> Self
+        ensures before { result.before ≡ buffer }
+        ensures after { result.after ≡ [] }
+    {
+        let first = buffer.len();
+        Appending { buffer, first }
+    }
+
+    /// The buffer with what was appended.
+    pub(crate) fn finish(self) -> PacketBuffer
+        ensures { result ≡ with_packets self.before self.after }
+    {
+        self.buffer
+    }
+
+    /// The buffer as it was.
+    pub(crate) fn give_up(self) -> PacketBuffer
+        ensures { result ≡ self.before }
+    {
+        let mut buffer = self.buffer;
+        buffer.truncate(self.first);
+        buffer
+    }
+}
+
+impl PacketSink for Appending {
+    ghost packets = { λ appending. appending.after };
+
+    ghost before = { λ appending. appending.before };
+
+    #[inline]
+    fn push(&mut self, header: &[u8], donl: &[u8], body: Body<'_>) -> Result<(), AllocError> {
+        self.buffer.push_parts(header, donl, body)
+    }
+
+    #[inline]
+    fn reserve(&mut self, count: usize) -> Result<(), AllocError> {
+        self.buffer.reserve(count)
+    }
+}

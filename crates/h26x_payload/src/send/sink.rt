@@ -1,0 +1,59 @@
+//! Where packets go.
+
+ghost use Rattle.std.specs.Prelude.{◌≡◌, ◌++◌, ◌∷◌, [], ℕ, List, OnOk};
+ghost use Rattle.h26x_payload.specs.Buffer.{PacketBufferView};
+ghost use Rattle.h26x_payload.specs.Sending.{body_bytes};
+
+use crate::send::body::Body;
+use crate::send::buffer::put_packet;
+use std::alloc::AllocError;
+
+/// How many packets a list takes room for at first.
+const FIRST_PACKETS: usize = 16;
+
+/// What packets are appended to: a list of them, or one buffer.
+pub trait PacketSink {
+    // The packets that were appended.
+    ghost packets: { Self → List (List ℕ) };
+
+    // What was there before, as from earlier calls, and stays.
+    ghost before: { Self → PacketBufferView };
+
+    /// Appends a packet of these parts, one behind the other.
+    fn push(&mut self, header: &[u8], donl: &[u8], body: Body<'_>) -> Result<(), AllocError>
+        ensures pushed { OnOk result (packets self.new ≡ packets self.old
+            ++ (header.now ++ (donl.now ++ body_bytes body.entry)) ∷ []) }
+        ensures before { before self.new ≡ before self.old };
+
+    /// Reserves room for so many packets more, but none for their bytes.
+    fn reserve(&mut self, count: usize) -> Result<(), AllocError>
+        ensures same { packets self.new ≡ packets self.old }
+        ensures before { before self.new ≡ before self.old };
+}
+
+impl PacketSink for Vec<Vec<u8>> {
+    ghost use Rattle.h26x_payload.specs.Sending.{contents};
+    ghost use Rattle.h26x_payload.specs.Buffer.{no_buffer};
+
+    ghost packets = { λ packets. contents packets.items };
+
+    ghost before = { λ packets. no_buffer };
+
+    #[inline]
+    fn push(&mut self, header: &[u8], donl: &[u8], body: Body<'_>) -> Result<(), AllocError> {
+        let len = header
+            .len()
+            .saturating_add(donl.len())
+            .saturating_add(body.len());
+        let mut packet = Vec::with_capacity(*self.allocator(), len)?;
+        put_packet(0, header, donl, body, &mut packet);
+        Vec::push(self, packet)?;
+        Ok(())
+    }
+
+    #[inline]
+    fn reserve(&mut self, count: usize) -> Result<(), AllocError> {
+        let least = if self.is_empty() { FIRST_PACKETS } else { 0 };
+        Vec::reserve(self, count.max(least))
+    }
+}
