@@ -27,3 +27,4 @@ pub mod MeaningLemmas
 pub mod NextPlaceLemmas
 pub mod SourceLemmas
 pub mod CodecLawLemmas
+pub mod OneUnitLemmas

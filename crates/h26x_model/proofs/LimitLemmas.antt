@@ -58,7 +58,7 @@ fragment_long f ok n limit unit j enough =
     omega (arith, whole, part, header)
 
 -- the packets of a unit that is not dropped are within the limit
-alone_within : (f : Format) → FitsLimits f → (limit : ℕ) (unit : List ℕ) → is_dropped f limit unit ≡ false → ItemIsWithinLimit f (Alone limit unit)
+pub alone_within : (f : Format) → FitsLimits f → (limit : ℕ) (unit : List ℕ) → is_dropped f limit unit ≡ false → ItemIsWithinLimit f (Alone limit unit)
 alone_within f ok limit unit kept n =
     elim (fits_one_packet f limit unit) as (λ b. fits_one_packet f limit unit ≡ b → cond b false (nat_le limit (fragment_header_len f + donl_len f)) ≡ false →
     AreWithinLimit limit (cond b (single_packet f n unit ∷ []) (fragments f n limit unit))) [

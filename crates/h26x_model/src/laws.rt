@@ -6,13 +6,13 @@ ghost use Rattle.std.specs.Prelude.{◌≡◌, true, ◌%◌, ℕ, Bool, List, [
 ghost use Rattle.std.specs.List.{AllByRecursion, Contains, flat_map};
 ghost use Rattle.h26x_model.specs.Payload.Reading.{Reading, IsRead};
 ghost use Rattle.h26x_model.specs.Payload.Format.{Format, donl_len, fragment_header_len};
-ghost use Rattle.h26x_model.specs.Send.Calls.{Call, AreCalls, all_entries};
+ghost use Rattle.h26x_model.specs.Send.Calls.{Call, AreCalls, all_entries, packet_limit};
 ghost use Rattle.h26x_model.specs.Send.Group.{Entry, Group, split, AreGroups, latest_sets};
 ghost use Rattle.h26x_model.specs.Send.Plan.{plan, PlansCallByCall, WaitsCallByCall, Item, fits_one_packet, is_dropped, item_units, KeepsLast};
 ghost use Rattle.h26x_model.specs.Send.WaitingSets.{WaitingSets, AreWaitingSets, entries_with_limit, plan_with_waiting, no_waiting_sets, waiting_after, sets_waiting};
 ghost use Rattle.h26x_model.specs.Send.Packets.{plan_packets};
 ghost use Rattle.h26x_model.specs.Send.Fragments.{AreFragments, ReadsFragments, AreMarked, IsLong, GoesInFragments};
-ghost use Rattle.h26x_model.specs.Send.Limit.{ItemIsWithinLimit};
+ghost use Rattle.h26x_model.specs.Send.Limit.{AreWithinLimit, ItemIsWithinLimit};
 ghost use Rattle.h26x_model.specs.Payload.Don.{DonsInOrder};
 ghost use Rattle.h26x_model.specs.Send.Rival.{TakesFewestFragments};
 ghost use Rattle.h26x_model.specs.Receive.Run.{AreReceived, PlaceBrings};
@@ -22,7 +22,7 @@ ghost use Rattle.h26x_model.specs.Payload.Facts.{MarksFragments, DonlHasTwoBytes
 ghost use Rattle.h26x_model.specs.Carry.Loss.{LossStaysWithin};
 ghost use Rattle.h26x_model.specs.Send.Again.{NothingDropped, IsSteady};
 ghost use Rattle.h26x_model.specs.Carry.Detection.{AreDetected};
-ghost use Rattle.h26x_model.specs.Send.PacketizerState.{PacketizerState, IsPacketizerState, IsSamePacketizerState, state_plan, state_units, state_packets, after_entries, has_no_effect, packetizer_meaning};
+ghost use Rattle.h26x_model.specs.Send.PacketizerState.{PacketizerState, IsPacketizerState, IsSamePacketizerState, state_plan, state_units, state_packets, after_entries, has_no_effect, packetizer_meaning, one_unit_items, one_unit_packets, after_one_unit};
 ghost use Rattle.h26x_model.specs.Receive.DepacketizerState.{DepacketizerState, Depacketization, readings_units, run_after_readings, depacketizer_meaning};
 ghost use Rattle.h26x_model.specs.Carry.Laws.{PacketizerGoesOn, DepacketizerGoesOn, CarriesWhole, LosesLittle, SendsAgain};
 
@@ -74,6 +74,19 @@ pub fn only_sets_are_dropped()
 pub fn packets_are_within_limits()
     ensures { (f : Format) → FitsLimits f → (entries : List Entry) →
         AllByRecursion (ItemIsWithinLimit f) (plan f entries) }
+{}
+
+/// A unit that is sent as it is, whatever its kind: its packets are within the limit, the packetizer
+/// stays one, and where packets can carry the unit it is received, whatever came before.
+pub fn a_unit_sent_as_it_is()
+    ensures within { (s : PacketizerState) (mtu : ℕ) (unit : List ℕ) → FitsLimits s.format →
+        AreWithinLimit (packet_limit s.format s.max_packet_size mtu) (one_unit_packets s mtu unit) }
+    ensures stays { (s : PacketizerState) (mtu : ℕ) (unit : List ℕ) → IsPacketizerState s →
+        IsPacketizerState (after_one_unit s mtu unit) }
+    ensures received { (s : PacketizerState) (mtu : ℕ) (unit : List ℕ) (earlier : List Reading) →
+        ReadsWhatItWrites s.format → IsTrue (s.format.carries unit) →
+        units_after earlier (map s.format.read (one_unit_packets s mtu unit))
+        ≡ flat_map item_units (one_unit_items s mtu unit) }
 {}
 
 /// The fragments of a unit, place by place, and the marks that they bear.

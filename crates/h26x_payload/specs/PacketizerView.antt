@@ -4,7 +4,7 @@ use Rattle.h26x_model.specs.Payload.Format.{Format}
 use Rattle.h26x_model.specs.Send.Group.{Entry}
 use Rattle.h26x_model.specs.Send.Calls.{Call, default_max_packet_size, call_entries}
 use Rattle.h26x_model.specs.Send.WaitingSets.{WaitingSets, no_waiting_sets}
-use Rattle.h26x_model.specs.Send.PacketizerState.{PacketizerState, IsPacketizerState, after_entries}
+use Rattle.h26x_model.specs.Send.PacketizerState.{PacketizerState, IsPacketizerState, after_entries, after_one_unit}
 use Rattle.h26x_payload.specs.Sending.{waiting_sets}
 
 -- its setting, the sets that wait, the next unit's number, and its largest packet size
@@ -64,4 +64,10 @@ view_after f h entries = record {
   waiting = (after_entries (packetizer_state f h) entries).waiting;
   next_don = (after_entries (packetizer_state f h) entries).next_don;
   max_packet_size = h.max_packet_size;
+}
+
+-- what is held after one unit as it is: the sets that wait stay
+abbrev pub view_after_unit : {C : Type 0} → Format → PacketizerView C → ℕ → List ℕ → PacketizerView C
+view_after_unit f h mtu unit = record h {
+  next_don = (after_one_unit (packetizer_state f h) mtu unit).next_don;
 }

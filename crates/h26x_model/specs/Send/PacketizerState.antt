@@ -5,8 +5,8 @@ use Rattle.h26x_core.specs.Word.{word}
 use Rattle.h26x_core.specs.Kind.{Kind, Skipped}
 use Rattle.h26x_model.specs.Payload.Format.{Format}
 use Rattle.h26x_model.specs.Send.Group.{Entry, split, latest_sets}
-use Rattle.h26x_model.specs.Send.Calls.{Call, call_limit, call_entries}
-use Rattle.h26x_model.specs.Send.Plan.{Item, item_units, plan, units_sent}
+use Rattle.h26x_model.specs.Send.Calls.{Call, packet_limit, call_limit, call_entries}
+use Rattle.h26x_model.specs.Send.Plan.{Item, item_units, unit_items, plan, units_sent}
 use Rattle.h26x_model.specs.Send.WaitingSets.{WaitingSets, AreWaitingSets, sets_waiting, entries_with_limit, plan_with_waiting, waiting_after}
 use Rattle.h26x_model.specs.Send.Packets.{plan_packets}
 use Rattle.h26x_model.specs.Send.Limit.{AreWithinLimit}
@@ -100,6 +100,24 @@ pub record AreWithinLimits (s : PacketizerState) (calls : List Call) (packets : 
   pub lists : List (List (List ℕ))
   pub of_calls : AreOfCalls s calls lists
   pub joined : flat_map (λ list. list) lists ≡ packets
+
+-- What is sent of one unit as it is, whatever its kind (ours): itself or its fragments. Nothing is
+-- where it is dropped, where its header isn't whole, and under the least mtu.
+abbrev pub one_unit_items : PacketizerState → ℕ → List ℕ → List Item
+one_unit_items s mtu unit =
+    if nat_lt mtu s.format.least_mtu || nat_lt (length unit) s.format.header_len then []
+    else unit_items s.format (packet_limit s.format s.max_packet_size mtu) unit
+
+-- the packets of that, with decoding order numbers from the packetizer's next one on
+abbrev pub one_unit_packets : PacketizerState → ℕ → List ℕ → List (List ℕ)
+one_unit_packets s mtu unit = plan_packets s.format s.next_don (one_unit_items s mtu unit)
+
+-- the packetizer after it: the sets that wait stay
+abbrev pub after_one_unit : PacketizerState → ℕ → List ℕ → PacketizerState
+after_one_unit s mtu unit = record s {
+  next_don = don_after s.format.has_donl s.next_don
+      (length (flat_map item_units (one_unit_items s mtu unit)));
+}
 
 -- what later answers depend on: the sets that wait, the next decoding order number where packets
 -- bear them, and the largest packet size where it limits calls

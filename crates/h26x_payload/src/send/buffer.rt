@@ -9,6 +9,7 @@ use crate::send::body::Body;
 use crate::send::sink::PacketSink;
 use std::alloc::{AllocError, Global};
 use std::marker::Model;
+use std::mem;
 
 /// Packets behind each other in one buffer, and before each so many bytes that are free for the
 /// headers of the layers below (as of RTP, RFC 3550, 5.1). A buffer that is cleared keeps its
@@ -226,11 +227,13 @@ impl Model for Appending {
 }
 
 impl Appending {
-    /// Nothing is appended yet.
-    pub(crate) fn behind(buffer: PacketBuffer) -> Self
-        ensures before { result.before ≡ buffer }
+    /// The buffer, taken out of its place, with nothing appended yet; an empty one stands there.
+    pub(crate) fn take(alloc: Global, into: &mut PacketBuffer) -> Self
+        ensures before { result.before ≡ into.old }
         ensures after { result.after ≡ [] }
     {
+        let headroom = into.headroom();
+        let buffer = mem::replace(into, PacketBuffer::new(alloc, headroom));
         let first = buffer.len();
         Appending { buffer, first }
     }

@@ -5,21 +5,20 @@ ghost use Rattle.std.specs.Option.{option_map};
 ghost use Rattle.h26x_model.specs.Send.Limit.{AreWithinLimit};
 ghost use Rattle.h26x_model.specs.Send.Calls.{packet_limit, call_limit};
 ghost use Rattle.h26x_model.specs.Send.WaitingSets.{waiting_after_unit, due_items, plan_with_waiting, waiting_after, entries_with_limit, no_waiting_sets};
-ghost use Rattle.h26x_model.specs.Send.PacketizerState.{state_packets, is_skipped, are_skipped, has_no_effect, IsSentAsPlanned};
+ghost use Rattle.h26x_model.specs.Send.PacketizerState.{state_packets, is_skipped, are_skipped, has_no_effect, IsSentAsPlanned, one_unit_packets};
 ghost use Rattle.h26x_payload.specs.Sending.{contents, ArePushed, set_list, latest_set, waiting_with_brought, due_to_items, is_nothing};
 ghost use Rattle.h26x_payload.specs.Buffer.{with_packets};
-ghost use Rattle.h26x_payload.specs.PacketizerView.{IsPacketizer, packetizer_state, fresh_packetizer, view_call, view_entries, view_after};
+ghost use Rattle.h26x_payload.specs.PacketizerView.{IsPacketizer, packetizer_state, fresh_packetizer, view_call, view_entries, view_after, view_after_unit};
 
 use crate::format::{DonlFormat, PayloadFormat, UnitKind};
 use crate::send::buffer::{Appending, PacketBuffer};
 use crate::send::sets::Sets;
 use crate::send::sink::PacketSink;
-use crate::send::units::{Due, push_due};
+use crate::send::units::{Due, push_due, push_unit};
 use h26x_core::{PacketError, Packetizer};
 use h26x_model::laws;
 use std::alloc::Global;
 use std::marker::Model;
-use std::mem;
 
 /// The largest packet size of a new packetizer, in bytes.
 const FIRST_LARGEST: u16 = 1200;
@@ -330,10 +329,107 @@ impl<C: PayloadFormat> PayloadPacketizer<C> {
             OnOk result ((into.new ≡ into.old) × (self.new ≡ self.old)) }
     {
         self.goes_as_planned(mtu, b);
-        let headroom = into.headroom();
-        let buffer = mem::replace(into, PacketBuffer::new(self.alloc, headroom));
-        let mut made = Appending::behind(buffer);
+        let mut made = Appending::take(self.alloc, into);
         match self.send(mtu, b, &mut made) {
+            Ok(()) => {
+                *into = made.finish();
+                Ok(())
+            }
+            Err(e) => {
+                *into = made.give_up();
+                Err(e)
+            }
+        }
+    }
+
+    /// A law of each unit that is sent as it is: its packets are within the limit of the call.
+    fn one_unit_is_within(&self, mtu: usize, unit: &[u8])
+        ensures { AreWithinLimit (packet_limit (C.format self.now.codec) self.now.max_packet_size mtu)
+            (one_unit_packets (packetizer_state (C.format self.now.codec) self.now) mtu unit.now) }
+    {
+        laws::a_unit_sent_as_it_is();
+        let _ = &self.codec;
+    }
+
+    /// Appends the packets of one unit as it is.
+    fn send_unit<S: PacketSink>(
+        &mut self,
+        mtu: usize,
+        unit: &[u8],
+        made: &mut S,
+    ) -> Result<(), PacketError>
+        ensures packets { OnOk result (S.packets made.new ≡ S.packets made.old ++ one_unit_packets
+            (packetizer_state (C.format self.old.codec) self.old) mtu unit.now) }
+        ensures after { OnOk result (self.new
+            ≡ view_after_unit (C.format self.old.codec) self.old mtu unit.now) }
+        ensures before { S.before made.new ≡ S.before made.old }
+
+        ensures kept { OnErr result (self.new ≡ self.old) }
+        ensures memory { OnErr result (result ≡ Err PacketError.OutOfMemory) }
+    {
+        laws::a_unit_sent_as_it_is();
+        if mtu < self.codec.least_mtu() || unit.len() < self.codec.header_len() {
+            return Ok(());
+        }
+        let next_don = push_unit(self.codec, self.limit(mtu), self.next_don, unit, made)?;
+        if self.codec.has_donl() {
+            self.next_don = next_don;
+        }
+        Ok(())
+    }
+
+    /// The packets of one NAL unit as it is, without a start code and whatever its kind: itself, or
+    /// its fragments. Nothing is searched in it, and the sets that wait stay.
+    ///
+    /// So whoever has units sends each without copying it, and whoever has several parameter sets of
+    /// a kind, or wants them again, sends these himself. There are no packets where no fragment has
+    /// room for data, where the unit has no whole header, and under the least `mtu`. A unit whose
+    /// type is one of packets, as an aggregate, is not read back as a unit.
+    ///
+    /// `OutOfMemory` is its only error, and leaves everything.
+    pub fn packetize_unit(&mut self, mtu: usize, unit: &[u8]) -> Result<Vec<Vec<u8>>, PacketError>
+        ensures packets { IfOk result (λ made. contents made.items ≡ one_unit_packets
+            (packetizer_state (C.format self.old.codec) self.old) mtu unit.now) }
+        ensures after { OnOk result (self.new
+            ≡ view_after_unit (C.format self.old.codec) self.old mtu unit.now) }
+        ensures within { IfOk result (λ made. AreWithinLimit
+            (packet_limit (C.format self.old.codec) self.old.max_packet_size mtu)
+            (contents made.items)) }
+
+        ensures kept { OnErr result (self.new ≡ self.old) }
+        ensures memory { OnErr result (result ≡ Err PacketError.OutOfMemory) }
+    {
+        self.one_unit_is_within(mtu, unit);
+        let mut made = Vec::new(self.alloc);
+        self.send_unit(mtu, unit, &mut made)?;
+        Ok(made)
+    }
+
+    /// Appends the packets of [`packetize_unit`](PayloadPacketizer::packetize_unit) to a buffer, each
+    /// behind its headroom.
+    ///
+    /// `OutOfMemory` is its only error, and leaves everything.
+    pub fn packetize_unit_into(
+        &mut self,
+        mtu: usize,
+        unit: &[u8],
+        into: &mut PacketBuffer,
+    ) -> Result<(), PacketError>
+        ensures packets { OnOk result (into.new ≡ with_packets into.old (one_unit_packets
+            (packetizer_state (C.format self.old.codec) self.old) mtu unit.now)) }
+        ensures after { OnOk result (self.new
+            ≡ view_after_unit (C.format self.old.codec) self.old mtu unit.now) }
+        ensures within { AreWithinLimit
+            (packet_limit (C.format self.old.codec) self.old.max_packet_size mtu)
+            (one_unit_packets (packetizer_state (C.format self.old.codec) self.old) mtu unit.now) }
+
+        ensures kept { OnErr result (self.new ≡ self.old) }
+        ensures kept_packets { OnErr result (into.new ≡ into.old) }
+        ensures memory { OnErr result (result ≡ Err PacketError.OutOfMemory) }
+    {
+        self.one_unit_is_within(mtu, unit);
+        let mut made = Appending::take(self.alloc, into);
+        match self.send_unit(mtu, unit, &mut made) {
             Ok(()) => {
                 *into = made.finish();
                 Ok(())

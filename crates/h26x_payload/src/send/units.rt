@@ -54,7 +54,7 @@ fn fits_one<C: PayloadFormat>(codec: C, limit: usize, unit: &[u8]) -> bool
 
 /// Appends the packets of one unit: itself, or its fragments; none where no fragment has room for
 /// data.
-fn push_unit<C: PayloadFormat, S: PacketSink>(
+pub(crate) fn push_unit<C: PayloadFormat, S: PacketSink>(
     codec: C,
     limit: usize,
     don: u16,
