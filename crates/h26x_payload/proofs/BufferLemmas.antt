@@ -4,7 +4,7 @@ use Rattle.std.specs.List.{between}
 use Rattle.std.proofs.lemmas.List.{length-drop, drop-take, drop-drop, length-take-le, take-append-drop, take-append-le, drop-append-le, drop_all, drop_at, take_all}
 use borrow.Rule.Slice.PartMut.{put_mid}
 use Rattle.std.proofs.lemmas.Slice.{drop-put_mid, take-put_mid_below, between_is}
-use Rattle.h26x_payload.specs.Buffer.{packets_from, last_end, AreEnds, IsBuffer, PacketBufferView, appended_view, with_packets}
+use Rattle.h26x_payload.specs.Buffer.{packets_from, last_end, ends_of, AreEnds, IsBuffer, HoldPackets, PacketBufferView, appended_view, with_packets}
 
 -- ends are in order
 start_le_last : (h s : ℕ) (ends : List ℕ) → AreEnds h s ends → s ≤ last_end s ends
@@ -152,3 +152,25 @@ length_put a k xs ys long le =
     let four = length-drop k (drop a xs) in
     let five = length-drop a xs in
     length-append (take a xs) (ys ++ drop k (drop a xs)) ∙ omega (arith, two, three, four, five, long, le)
+
+-- a part of bytes is as long as its bounds say
+between_long : (i j : ℕ) (bytes : List ℕ) → j ≤ length bytes → length (between i j bytes) ≡ j - i
+between_long i j bytes le = ap length (between_is bytes i j) ∙ length-drop i (take j bytes) ∙ ap (λ k. k - i) (length-take-le j bytes le)
+
+-- packets tell where they end
+ends_told : (h s : ℕ) (bytes ends : List ℕ) → AreEnds h s ends → last_end s ends ≤ length bytes → ends_of h s (packets_from h s bytes ends) ≡ ends
+ends_told h s bytes [] are le = refl
+ends_told h s bytes (e ∷ ends) (here, are) le =
+    let a = start_le_last h e ends are in
+    let long = between_long (s + h) e bytes (omega (arith, a, le)) in
+    let end : s + h + length (between (s + h) e bytes) ≡ e = omega (arith, long, here) in
+    rw end (ap (λ (l : List ℕ). e ∷ l) (ends_told h e bytes ends are le))
+
+-- so do those of a buffer, and its bytes hold them
+pub buffer_ends : (h : ℕ) (bytes ends : List ℕ) → IsBuffer h bytes ends → ends ≡ ends_of h 0 (packets_from h 0 bytes ends)
+buffer_ends h bytes ends is = let all = is.to_the_end in sym (ends_told h 0 bytes ends is.in_order (omega (arith, all)))
+
+pub buffer_holds : (h : ℕ) (bytes ends : List ℕ) → IsBuffer h bytes ends → HoldPackets h (packets_from h 0 bytes ends) bytes
+buffer_holds h bytes ends is =
+    let same = sym (buffer_ends h bytes ends is) in
+    record { there = ap (packets_from h 0 bytes) same; to_the_end = ap (last_end 0) same ∙ is.to_the_end }

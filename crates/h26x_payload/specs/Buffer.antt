@@ -28,6 +28,17 @@ pub record IsBuffer (headroom : ℕ) (bytes ends : List ℕ) : Type 0 where
   pub in_order : AreEnds headroom 0 ends
   pub to_the_end : last_end 0 ends ≡ length bytes
 
+-- where packets end that stand behind each other from this place on, each behind its headroom
+abbrev pub ends_of : ℕ → ℕ → List (List ℕ) → List ℕ
+ends_of headroom start [] = []
+ends_of headroom start (packet ∷ packets) = (start + headroom + length packet)
+    ∷ ends_of headroom (start + headroom + length packet) packets
+
+-- bytes in which these packets stand behind each other, each behind its headroom, and nothing else
+pub record HoldPackets (headroom : ℕ) (packets : List (List ℕ)) (bytes : List ℕ) : Type 0 where
+  pub there : packets_from headroom 0 bytes (ends_of headroom 0 packets) ≡ packets
+  pub to_the_end : last_end 0 (ends_of headroom 0 packets) ≡ length bytes
+
 -- a buffer to which packets are appended: as it was before, and the packets since
 pub record AppendedView : Type 0 where
   pub before : PacketBufferView

@@ -3,6 +3,7 @@
 
 pub mod body;
 pub mod buffer;
+pub mod buffer_packets;
 pub mod fragmentation;
 pub mod packetizer;
 pub mod sets;

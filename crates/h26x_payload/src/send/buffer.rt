@@ -1,11 +1,12 @@
 //! Packets behind each other in one buffer.
 
-ghost use Rattle.std.specs.Prelude.{◌≡◌, ◌≤◌, ◌<◌, ◌+◌, ◌++◌, replicate, vec_len, vec_capacity, ◌∷◌, [], take, drop, length, get_or, OnOk, OnErr};
+ghost use Rattle.std.specs.Prelude.{◌≡◌, ◌≤◌, ◌<◌, ◌+◌, ◌++◌, nat_eq, replicate, vec_len, vec_capacity, ◌∷◌, [], take, drop, length, get_or, OnOk, OnErr};
 ghost use Rattle.std.specs.List.{between};
-ghost use Rattle.h26x_payload.specs.Buffer.{IsBuffer, last_end, packets_from, with_packets};
+ghost use Rattle.h26x_payload.specs.Buffer.{IsBuffer, HoldPackets, ends_of, last_end, packets_from, with_packets};
 ghost use Rattle.h26x_payload.specs.Sending.{body_bytes};
 
 use crate::send::body::Body;
+use crate::send::buffer_packets::BufferPackets;
 use crate::send::sink::PacketSink;
 use std::alloc::{AllocError, Global};
 use std::marker::Model;
@@ -106,6 +107,13 @@ impl PacketBuffer {
         }
     }
 
+    /// Whether it holds none.
+    pub fn is_empty(&self) -> bool
+        ensures { result ≡ nat_eq (length self.now.packets) 0 }
+    {
+        self.ends.is_empty()
+    }
+
     /// How many packets it holds.
     pub fn len(&self) -> usize
         ensures { result ≡ length self.now.packets }
@@ -136,6 +144,28 @@ impl PacketBuffer {
     {
         let (start, end) = bounds_of(self.headroom, &self.bytes, &self.ends, place);
         &self.bytes[start - self.headroom..end]
+    }
+
+    /// The packets, in order.
+    pub fn iter(&self) -> BufferPackets<'_>
+        ensures { result ≡ self.now.packets }
+    {
+        BufferPackets::new(&self.bytes, &self.ends, self.headroom)
+    }
+
+    /// All bytes as they lie: the packets behind each other, each behind its headroom.
+    pub fn bytes(&self) -> &[u8]
+        ensures { HoldPackets self.now.headroom self.now.packets result.now }
+    {
+        &self.bytes
+    }
+
+    /// The places of [`bytes`](PacketBuffer::bytes) where packets end. Each begins where the one
+    /// before it ends, with its headroom.
+    pub fn ends(&self) -> &[usize]
+        ensures { result.now ≡ ends_of self.now.headroom 0 self.now.packets }
+    {
+        &self.ends
     }
 
     /// Writes a header right before the packet at a place, into its headroom.
