@@ -25,4 +25,5 @@ mod stap;
 pub use depacketizer::H264Depacketizer;
 pub use detect::{detect_h264_keyframe, detect_h264_nalu};
 pub use h26x_core::ANNEXB_NALUSTART_CODE;
+pub use h26x_payload::{BufferPackets, PacketBuffer};
 pub use packetizer::{H264, H264Packetizer};

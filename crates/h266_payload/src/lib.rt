@@ -25,4 +25,5 @@ mod packetizer;
 pub use depacketizer::H266Depacketizer;
 pub use detect::detect_h266_keyframe;
 pub use h26x_core::ANNEXB_NALUSTART_CODE;
+pub use h26x_payload::{BufferPackets, PacketBuffer};
 pub use packetizer::{H266, H266Packetizer};

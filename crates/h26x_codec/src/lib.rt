@@ -28,6 +28,7 @@ mod take;
 pub use carried::{Carried, Marks, Packets};
 pub use codec::Codec;
 pub use depacketizer::CodecDepacketizer;
+pub use h26x_payload::{BufferPackets, PacketBuffer};
 pub use packetizer::CodecPacketizer;
 pub use repeated::{Repeated, again};
 pub use runs::carry;

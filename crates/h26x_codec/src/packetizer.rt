@@ -3,10 +3,11 @@
 ghost use Rattle.std.specs.Prelude.{◌≡◌, ◌≤◌, [], true, false, Some, None, Err, IfOk, OnOk, OnErr, IsOk};
 ghost use Rattle.h26x_model.specs.Payload.Facts.{IsPayloadFormat};
 ghost use Rattle.h26x_model.specs.Send.Limit.{AreWithinLimit};
-ghost use Rattle.h26x_model.specs.Send.Calls.{call_limit, call_entries};
-ghost use Rattle.h26x_model.specs.Send.PacketizerState.{PacketizerState, IsPacketizerState, state_packets, after_entries, has_no_effect, IsSentAsPlanned};
+ghost use Rattle.h26x_model.specs.Send.Calls.{packet_limit, call_limit, call_entries};
+ghost use Rattle.h26x_model.specs.Send.PacketizerState.{PacketizerState, IsPacketizerState, state_packets, after_entries, has_no_effect, IsSentAsPlanned, one_unit_packets, after_one_unit};
 ghost use Rattle.h26x_model.specs.Send.Rival.{TakesFewestFragments};
 ghost use Rattle.h26x_payload.specs.Sending.{contents};
+ghost use Rattle.h26x_payload.specs.Buffer.{with_packets};
 ghost use Rattle.h26x_codec.specs.Codec.{default_format, codec_packetizer_state, packetizer_codec, fresh_packetizer_state, next_call, with_max_don_diff, with_max_packet_size};
 ghost use Rattle.h26x_codec.specs.declared.packetizer.CodecPacketizer.TheVariants as p;
 ghost use Rattle.h264_payload.specs.H264.{h264};
@@ -18,6 +19,7 @@ ghost use Rattle.h26x_model.specs.Send.PacketizerState.{packetizer_meaning};
 use crate::codec::Codec;
 use crate::laws::formats_meet_the_facts;
 use h26x_core::{PacketError, Packetizer};
+use h26x_payload::PacketBuffer;
 use h264_payload::H264Packetizer;
 use h265_payload::H265Packetizer;
 use h266_payload::H266Packetizer;
@@ -104,6 +106,111 @@ impl CodecPacketizer {
             CodecPacketizer::H265(it) => it.with_max_packet_size(n),
             CodecPacketizer::H266(it) => it.with_max_packet_size(n),
             CodecPacketizer::H264(_) | CodecPacketizer::Boxed(_) => {}
+        }
+    }
+
+    /// Appends the packets of a payload to a buffer, in order, each behind its headroom, which the
+    /// limit doesn't count.
+    ///
+    /// They are those of [`packetize`](Packetizer::packetize), and the packetizer is left as that
+    /// leaves it. A refusal leaves the packets that stood in the buffer; of a codec `OutOfMemory` is
+    /// the only one, and leaves the packetizer too. One in a box makes its packets first, and they are
+    /// copied in: where memory lacks for the copy, they are lost.
+    pub fn packetize_into(
+        &mut self,
+        mtu: usize,
+        b: &[u8],
+        into: &mut PacketBuffer,
+    ) -> Result<(), PacketError>
+        ensures packets { (s : PacketizerState) → codec_packetizer_state self.old ≡ Some s →
+            OnOk result (into.new ≡ with_packets into.old
+            (state_packets s (call_entries s.format (next_call s mtu b.now)))) }
+        ensures after { (s : PacketizerState) → codec_packetizer_state self.old ≡ Some s →
+            OnOk result (codec_packetizer_state self.new
+            ≡ Some (after_entries s (call_entries s.format (next_call s mtu b.now)))) }
+        ensures codec { packetizer_codec self.new ≡ packetizer_codec self.old }
+
+        ensures kept { (s : PacketizerState) → codec_packetizer_state self.old ≡ Some s →
+            OnErr result (self.new ≡ self.old) }
+        ensures memory { (s : PacketizerState) → codec_packetizer_state self.old ≡ Some s →
+            OnErr result (result ≡ Err PacketError.OutOfMemory) }
+
+        // Calls without effect take no memory.
+        ensures free { (s : PacketizerState) → codec_packetizer_state self.old ≡ Some s →
+            has_no_effect s.format (next_call s mtu b.now) ≡ true → IsOk result }
+
+        // A packetizer in a box too.
+        ensures kept_packets { OnErr result (into.new ≡ into.old) }
+    {
+        match self {
+            CodecPacketizer::H264(it) => it.packetize_into(mtu, b, into),
+            CodecPacketizer::H265(it) => it.packetize_into(mtu, b, into),
+            CodecPacketizer::H266(it) => it.packetize_into(mtu, b, into),
+            CodecPacketizer::Boxed(it) => {
+                let packets = it.packetize(mtu, b)?;
+                into.push_all(&packets)?;
+                Ok(())
+            }
+        }
+    }
+
+    /// The packets of one NAL unit as it is, without a start code and whatever its kind; the sets
+    /// that wait stay. One in a box is given the unit as a payload.
+    pub fn packetize_unit(&mut self, mtu: usize, unit: &[u8]) -> Result<Vec<Vec<u8>>, PacketError>
+        ensures packets { (s : PacketizerState) → codec_packetizer_state self.old ≡ Some s →
+            IfOk result (λ made. contents made.items ≡ one_unit_packets s mtu unit.now) }
+        ensures after { (s : PacketizerState) → codec_packetizer_state self.old ≡ Some s →
+            OnOk result (codec_packetizer_state self.new ≡ Some (after_one_unit s mtu unit.now)) }
+        ensures within { (s : PacketizerState) → codec_packetizer_state self.old ≡ Some s →
+            IfOk result (λ made. AreWithinLimit (packet_limit s.format s.max_packet_size mtu)
+            (contents made.items)) }
+        ensures codec { packetizer_codec self.new ≡ packetizer_codec self.old }
+
+        ensures kept { (s : PacketizerState) → codec_packetizer_state self.old ≡ Some s →
+            OnErr result (self.new ≡ self.old) }
+        ensures memory { (s : PacketizerState) → codec_packetizer_state self.old ≡ Some s →
+            OnErr result (result ≡ Err PacketError.OutOfMemory) }
+    {
+        match self {
+            CodecPacketizer::H264(it) => it.packetize_unit(mtu, unit),
+            CodecPacketizer::H265(it) => it.packetize_unit(mtu, unit),
+            CodecPacketizer::H266(it) => it.packetize_unit(mtu, unit),
+            CodecPacketizer::Boxed(it) => it.packetize(mtu, unit),
+        }
+    }
+
+    /// Appends the packets of [`packetize_unit`](CodecPacketizer::packetize_unit) to a buffer, each
+    /// behind its headroom. Refusals leave what those of
+    /// [`packetize_into`](CodecPacketizer::packetize_into) do.
+    pub fn packetize_unit_into(
+        &mut self,
+        mtu: usize,
+        unit: &[u8],
+        into: &mut PacketBuffer,
+    ) -> Result<(), PacketError>
+        ensures packets { (s : PacketizerState) → codec_packetizer_state self.old ≡ Some s →
+            OnOk result (into.new ≡ with_packets into.old (one_unit_packets s mtu unit.now)) }
+        ensures after { (s : PacketizerState) → codec_packetizer_state self.old ≡ Some s →
+            OnOk result (codec_packetizer_state self.new ≡ Some (after_one_unit s mtu unit.now)) }
+        ensures codec { packetizer_codec self.new ≡ packetizer_codec self.old }
+
+        ensures kept { (s : PacketizerState) → codec_packetizer_state self.old ≡ Some s →
+            OnErr result (self.new ≡ self.old) }
+        ensures memory { (s : PacketizerState) → codec_packetizer_state self.old ≡ Some s →
+            OnErr result (result ≡ Err PacketError.OutOfMemory) }
+
+        // A packetizer in a box too.
+        ensures kept_packets { OnErr result (into.new ≡ into.old) }
+    {
+        match self {
+            CodecPacketizer::H264(it) => it.packetize_unit_into(mtu, unit, into),
+            CodecPacketizer::H265(it) => it.packetize_unit_into(mtu, unit, into),
+            CodecPacketizer::H266(it) => it.packetize_unit_into(mtu, unit, into),
+            CodecPacketizer::Boxed(it) => {
+                let packets = it.packetize(mtu, unit)?;
+                into.push_all(&packets)?;
+                Ok(())
+            }
         }
     }
 }

@@ -3,7 +3,7 @@
 ghost use Rattle.std.specs.Prelude.{◌≡◌, ◌≤◌, ◌<◌, ◌+◌, ◌++◌, nat_eq, replicate, vec_len, vec_capacity, ◌∷◌, [], take, drop, length, get_or, OnOk, OnErr};
 ghost use Rattle.std.specs.List.{between};
 ghost use Rattle.h26x_payload.specs.Buffer.{IsBuffer, HoldPackets, ends_of, last_end, packets_from, with_packets};
-ghost use Rattle.h26x_payload.specs.Sending.{body_bytes};
+ghost use Rattle.h26x_payload.specs.Sending.{body_bytes, contents};
 
 use crate::send::body::Body;
 use crate::send::buffer_packets::BufferPackets;
@@ -228,6 +228,21 @@ impl PacketBuffer {
         ensures kept { OnErr result (self.new ≡ self.old) }
     {
         self.push_parts(&[], &[], Body::Data(packet))
+    }
+
+    /// Appends packets, each behind its headroom: all of them, or none where memory lacks.
+    pub fn push_all(&mut self, packets: &[Vec<u8>]) -> Result<(), AllocError>
+        ensures pushed { OnOk result (self.new ≡ with_packets self.old (contents packets.now)) }
+        ensures kept { OnErr result (self.new ≡ self.old) }
+    {
+        let before = self.len();
+        for packet in packets {
+            if let Err(e) = self.push(packet) {
+                self.truncate(before);
+                return Err(e);
+            }
+        }
+        Ok(())
     }
 
     /// Reserves room for so many packets more, but none for their bytes.

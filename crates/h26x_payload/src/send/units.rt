@@ -118,7 +118,11 @@ fn push_aggregate<C: PayloadFormat, S: PacketSink>(
     let mut bytes = [0; 2];
     let donl = donl_bytes(codec.has_donl(), don, &mut bytes);
     let gap: &[u8] = if codec.has_dond() { &[0] } else { &[] };
-    made.push(&header[..codec.header_len()], donl, Body::Sets { sets, gap })
+    made.push(
+        &header[..codec.header_len()],
+        donl,
+        Body::Sets { sets, gap },
+    )
 }
 
 /// Appends the packets of sets: one if they fit it, else each that fits alone.
