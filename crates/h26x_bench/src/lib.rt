@@ -3,10 +3,14 @@
 
 use h26x_core::{CodecExtra, Depacketizer, Packetizer};
 use h26x_cut::{ZeroRule, units};
+use h26x_payload::{PacketBuffer, PayloadFormat, PayloadPacketizer};
 use h264_payload::{H264Depacketizer, H264Packetizer};
 use h265_payload::{H265Depacketizer, H265Packetizer};
 use h266_payload::{H266Depacketizer, H266Packetizer};
 use std::alloc::Global;
+
+/// The bytes before each packet of a buffer: an RTP header without extensions.
+const HEADROOM: usize = 12;
 
 /// The bytes in all units of a payload.
 fn bytes_in_units(payload: &[u8], rule: ZeroRule) -> usize {
@@ -35,6 +39,54 @@ fn pack<P: Packetizer>(mut packetizer: P, limit: usize, payload: &[u8], rounds: 
     for _ in 0..rounds {
         if let Ok(packets) = packetizer.packetize(limit, payload) {
             for packet in &packets {
+                bytes = bytes.saturating_add(packet.len());
+            }
+        }
+    }
+    bytes
+}
+
+/// Packetizes a payload into one buffer so many times; the bytes of all packets.
+fn pack_into<C: PayloadFormat>(
+    alloc: Global,
+    mut packetizer: PayloadPacketizer<C>,
+    limit: usize,
+    payload: &[u8],
+    rounds: usize,
+) -> usize {
+    let mut packets = PacketBuffer::new(alloc, HEADROOM);
+    let mut bytes: usize = 0;
+    for _ in 0..rounds {
+        packets.clear();
+        if packetizer
+            .packetize_into(limit, payload, &mut packets)
+            .is_ok()
+        {
+            for packet in packets.iter() {
+                bytes = bytes.saturating_add(packet.len());
+            }
+        }
+    }
+    bytes
+}
+
+/// Packetizes a unit as it is into one buffer so many times; the bytes of all packets.
+fn pack_unit_into<C: PayloadFormat>(
+    alloc: Global,
+    mut packetizer: PayloadPacketizer<C>,
+    limit: usize,
+    unit: &[u8],
+    rounds: usize,
+) -> usize {
+    let mut packets = PacketBuffer::new(alloc, HEADROOM);
+    let mut bytes: usize = 0;
+    for _ in 0..rounds {
+        packets.clear();
+        if packetizer
+            .packetize_unit_into(limit, unit, &mut packets)
+            .is_ok()
+        {
+            for packet in packets.iter() {
                 bytes = bytes.saturating_add(packet.len());
             }
         }
@@ -293,4 +345,92 @@ pub extern "C" fn h266_take_packet_rounds(
     rounds: usize,
 ) -> usize {
     take_packet(alloc, H266Depacketizer::new(alloc), payload, rounds)
+}
+
+/// Packetizes H.264 into one buffer so many times; the bytes of all packets.
+#[unsafe(no_mangle)]
+pub extern "C" fn h264_pack_into_rounds(
+    alloc: Global,
+    limit: usize,
+    payload: &[u8],
+    rounds: usize,
+) -> usize {
+    pack_into(alloc, H264Packetizer::new(alloc), limit, payload, rounds)
+}
+
+/// Packetizes a unit of H.264 as it is into one buffer so many times; the bytes of all packets.
+#[unsafe(no_mangle)]
+pub extern "C" fn h264_pack_unit_into_rounds(
+    alloc: Global,
+    limit: usize,
+    unit: &[u8],
+    rounds: usize,
+) -> usize {
+    pack_unit_into(alloc, H264Packetizer::new(alloc), limit, unit, rounds)
+}
+
+/// Packetizes H.265 into one buffer so many times; the bytes of all packets.
+#[unsafe(no_mangle)]
+pub extern "C" fn h265_pack_into_rounds(
+    alloc: Global,
+    limit: usize,
+    payload: &[u8],
+    rounds: usize,
+) -> usize {
+    pack_into(alloc, H265Packetizer::new(alloc), limit, payload, rounds)
+}
+
+/// Packetizes a unit of H.265 as it is into one buffer so many times; the bytes of all packets.
+#[unsafe(no_mangle)]
+pub extern "C" fn h265_pack_unit_into_rounds(
+    alloc: Global,
+    limit: usize,
+    unit: &[u8],
+    rounds: usize,
+) -> usize {
+    pack_unit_into(alloc, H265Packetizer::new(alloc), limit, unit, rounds)
+}
+
+/// Packetizes H.265 with numbers into one buffer so many times; the bytes of all packets.
+#[unsafe(no_mangle)]
+pub extern "C" fn h265_numbered_pack_into_rounds(
+    alloc: Global,
+    limit: usize,
+    payload: &[u8],
+    rounds: usize,
+) -> usize {
+    pack_into(alloc, h265_pack_with_numbers(alloc), limit, payload, rounds)
+}
+
+/// Packetizes a unit of H.265 with numbers as it is into one buffer so many times; the bytes of all packets.
+#[unsafe(no_mangle)]
+pub extern "C" fn h265_numbered_pack_unit_into_rounds(
+    alloc: Global,
+    limit: usize,
+    unit: &[u8],
+    rounds: usize,
+) -> usize {
+    pack_unit_into(alloc, h265_pack_with_numbers(alloc), limit, unit, rounds)
+}
+
+/// Packetizes H.266 into one buffer so many times; the bytes of all packets.
+#[unsafe(no_mangle)]
+pub extern "C" fn h266_pack_into_rounds(
+    alloc: Global,
+    limit: usize,
+    payload: &[u8],
+    rounds: usize,
+) -> usize {
+    pack_into(alloc, H266Packetizer::new(alloc), limit, payload, rounds)
+}
+
+/// Packetizes a unit of H.266 as it is into one buffer so many times; the bytes of all packets.
+#[unsafe(no_mangle)]
+pub extern "C" fn h266_pack_unit_into_rounds(
+    alloc: Global,
+    limit: usize,
+    unit: &[u8],
+    rounds: usize,
+) -> usize {
+    pack_unit_into(alloc, H266Packetizer::new(alloc), limit, unit, rounds)
 }

@@ -16,7 +16,7 @@ pub enum Body<'a> {
 
 impl<'a> Body<'a> {
     /// How many bytes it has; the greatest number where they are more.
-    #[inline]
+    #[inline(always)]
     pub(crate) fn len(self) -> usize
         ensures { min (length (body_bytes self.entry)) 18446744073709551615 ≤ result }
     {
@@ -27,7 +27,7 @@ impl<'a> Body<'a> {
     }
 
     /// Writes it, where there is room for it.
-    #[inline]
+    #[inline(always)]
     pub(crate) fn put(self, bytes: &mut Vec<u8>)
         requires room { vec_len bytes.old + length (body_bytes self)
             ≤ vec_capacity bytes.old }

@@ -59,7 +59,7 @@ fn bounds_of(headroom: usize, bytes: &[u8], ends: &[usize], place: usize) -> (us
 }
 
 /// Writes bytes, where there is room for them.
-#[inline]
+#[inline(always)]
 fn put_part(part: &[u8], bytes: &mut Vec<u8>)
     requires room { vec_len bytes.old + length part.now ≤ vec_capacity bytes.old }
     ensures written { bytes.new.items ≡ bytes.old.items ++ part.now }
@@ -72,7 +72,7 @@ fn put_part(part: &[u8], bytes: &mut Vec<u8>)
 }
 
 /// Writes a packet of these parts behind its headroom, where there is room for it.
-#[inline]
+#[inline(always)]
 pub(crate) fn put_packet(
     headroom: usize,
     header: &[u8],
@@ -197,7 +197,7 @@ impl PacketBuffer {
     }
 
     /// Appends a packet of these parts, one behind the other.
-    #[inline]
+    #[inline(always)]
     pub(crate) fn push_parts(
         &mut self,
         header: &[u8],
@@ -305,12 +305,12 @@ impl PacketSink for Appending {
 
     ghost before = { λ appending. appending.before };
 
-    #[inline]
+    #[inline(always)]
     fn push(&mut self, header: &[u8], donl: &[u8], body: Body<'_>) -> Result<(), AllocError> {
         self.buffer.push_parts(header, donl, body)
     }
 
-    #[inline]
+    #[inline(always)]
     fn reserve(&mut self, count: usize) -> Result<(), AllocError> {
         self.buffer.reserve(count)
     }

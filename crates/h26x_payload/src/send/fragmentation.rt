@@ -26,7 +26,7 @@ pub(crate) fn donl_bytes<'a>(has_donl: bool, don: u16, bytes: &'a mut [u8; 2]) -
 }
 
 /// Appends a fragment of this data, behind these bytes of a number.
-#[inline]
+#[inline(always)]
 fn push_fragment<C: PayloadFormat, S: PacketSink>(
     codec: C,
     unit: &[u8],

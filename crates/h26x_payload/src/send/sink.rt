@@ -39,7 +39,7 @@ impl PacketSink for Vec<Vec<u8>> {
 
     ghost before = { λ packets. no_buffer };
 
-    #[inline]
+    #[inline(always)]
     fn push(&mut self, header: &[u8], donl: &[u8], body: Body<'_>) -> Result<(), AllocError> {
         let len = header
             .len()
@@ -51,7 +51,7 @@ impl PacketSink for Vec<Vec<u8>> {
         Ok(())
     }
 
-    #[inline]
+    #[inline(always)]
     fn reserve(&mut self, count: usize) -> Result<(), AllocError> {
         let least = if self.is_empty() { FIRST_PACKETS } else { 0 };
         Vec::reserve(self, count.max(least))

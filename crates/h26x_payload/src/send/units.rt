@@ -25,7 +25,7 @@ pub enum Due<'a> {
 }
 
 /// Appends a unit with its number behind its header.
-#[inline]
+#[inline(always)]
 fn push_single<C: PayloadFormat, S: PacketSink>(
     codec: C,
     don: u16,
