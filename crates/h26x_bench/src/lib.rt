@@ -402,7 +402,8 @@ pub extern "C" fn h265_numbered_pack_into_rounds(
     pack_into(alloc, h265_pack_with_numbers(alloc), limit, payload, rounds)
 }
 
-/// Packetizes a unit of H.265 with numbers as it is into one buffer so many times; the bytes of all packets.
+/// Packetizes a unit of H.265 with numbers as it is into one buffer so many times; the bytes of all
+/// packets.
 #[unsafe(no_mangle)]
 pub extern "C" fn h265_numbered_pack_unit_into_rounds(
     alloc: Global,
