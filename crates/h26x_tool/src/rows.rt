@@ -12,6 +12,7 @@ use std::process::Abort;
 use std::test::Fail;
 
 mod again;
+pub(crate) mod buffers;
 mod carry;
 mod codec;
 mod constants;

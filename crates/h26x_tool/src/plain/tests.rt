@@ -1,6 +1,7 @@
 ghost use Rattle.std.specs.Prelude.{[]};
 
 use super::*;
+use crate::rows::buffers::{How, Step, appends_steps, sends_steps};
 use crate::rows::{calls_of, same, same_bytes, same_packets};
 use h26x_codec::{Carried, CodecDepacketizer, CodecPacketizer, carry};
 use h26x_core::H265CodecExtra;
@@ -75,6 +76,34 @@ fn a_packetizer_in_a_box(rt: HostRuntime) -> Result<(), Fail> {
         "a box",
     );
     Ok(())
+}
+
+/// Payloads and units, each of which is one packet or none.
+static STEPS: [Step; 5] = [
+    (
+        How::Payload,
+        0,
+        "000001 0201aa 000001 41",
+        "0000010201aa00000141",
+    ),
+    (How::Unit, 0, "0201aa", "0201aa"),
+    (How::Payload, 9, "", ""),
+    (How::Unit, 9, "", ""),
+    (How::Payload, 1, "67", "67"),
+];
+
+#[test]
+fn units_out_of_a_box(rt: HostRuntime) -> Result<(), Fail> {
+    let plain = PlainPacketizer::new(rt.alloc());
+    let mut packetizer = CodecPacketizer::Boxed(Box::new(rt.alloc(), plain)?);
+    sends_steps(&rt, rt.alloc(), &mut packetizer, &STEPS)
+}
+
+#[test]
+fn packets_out_of_a_box_in_a_buffer(rt: HostRuntime) -> Result<(), Fail> {
+    let plain = PlainPacketizer::new(rt.alloc());
+    let mut packetizer = CodecPacketizer::Boxed(Box::new(rt.alloc(), plain)?);
+    appends_steps(&rt, rt.alloc(), &mut packetizer, 12, &STEPS)
 }
 
 const TOLD: CodecExtra = CodecExtra::H265(H265CodecExtra { is_keyframe: true });

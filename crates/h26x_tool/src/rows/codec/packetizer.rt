@@ -1,4 +1,5 @@
 use super::{FRONTS, begins_with};
+use crate::rows::buffers::{How, Step, appends_steps, sends_steps};
 use crate::rows::ends::sends_all;
 use h26x_codec::{Codec, CodecPacketizer};
 use std::alloc::Global;
@@ -58,6 +59,103 @@ fn numbers_by_the_session_description(rt: HostRuntime) -> Result<(), Fail> {
     for &(codec, rows) in &CONFIGURED {
         let mut packetizer = CodecPacketizer::new(rt.alloc(), codec);
         sends_configured(&rt, rt.alloc(), &mut packetizer, rows)?;
+    }
+    Ok(())
+}
+
+/// The codec of a fresh packetizer, what it is configured for, and payloads and units.
+static STEPS: [(Codec, Option<u32>, &[Step]); 5] = [
+    (
+        Codec::H264,
+        None,
+        &[
+            (How::Payload, 1500, "000001 6701 000001 6802", ""),
+            (How::Unit, 1500, "6709", "6709"),
+            (How::Payload, 1500, "6503", "780002670100026802 6503"),
+            (How::Payload, 3, "65010203", "7c8501 7c0502 7c4503"),
+            (How::Unit, 3, "65010203", "7c8501 7c0502 7c4503"),
+        ],
+    ),
+    (
+        Codec::H265,
+        None,
+        &[
+            (
+                How::Payload,
+                17,
+                "000001 40010c 000001 420101 000001 4401c1",
+                "",
+            ),
+            (How::Unit, 17, "420109", "420109"),
+            (
+                How::Payload,
+                17,
+                "2601af",
+                "6001000340010c000342010100034401c1 2601af",
+            ),
+            (How::Payload, 4, "2601aabbcc", "620193aa 620113bb 620153cc"),
+            (How::Unit, 4, "2601aabbcc", "620193aa 620113bb 620153cc"),
+        ],
+    ),
+    (
+        Codec::H265,
+        Some(1),
+        &[
+            (How::Unit, 5, "0201aa", "02010000aa"),
+            (How::Unit, 6, "0201aabbcc", "6201810001aa 620141bbcc"),
+            (How::Payload, 5, "0201aa", "02010002aa"),
+        ],
+    ),
+    (
+        Codec::H266,
+        None,
+        &[
+            (How::Payload, 1200, "000001 0079bb 000001 8081cc", ""),
+            (How::Unit, 1200, "0079bc", "0079bc"),
+            (
+                How::Payload,
+                1200,
+                "0039dd",
+                "80e100030079bb00038081cc 0039dd",
+            ),
+            (How::Payload, 4, "0009aaaaaa", "00e981aa 00e901aa 00e941aa"),
+            (How::Unit, 4, "0009aaaaaa", "00e981aa 00e901aa 00e941aa"),
+        ],
+    ),
+    (
+        Codec::H266,
+        Some(1),
+        &[
+            (How::Unit, 5, "0009aa", "00090000aa"),
+            (How::Unit, 6, "0009aabbcc", "00e9810001aa 00e941bbcc"),
+            (How::Payload, 5, "0009aa", "00090002aa"),
+        ],
+    ),
+];
+
+/// A packetizer of a codec that is configured so.
+fn configured(alloc: Global, codec: Codec, max_don_diff: Option<u32>) -> CodecPacketizer {
+    let mut packetizer = CodecPacketizer::new(alloc, codec);
+    packetizer.configure_for(max_don_diff);
+    packetizer
+}
+
+#[test]
+fn units_as_they_are(rt: HostRuntime) -> Result<(), Fail> {
+    for &(codec, max_don_diff, steps) in &STEPS {
+        let mut packetizer = configured(rt.alloc(), codec, max_don_diff);
+        sends_steps(&rt, rt.alloc(), &mut packetizer, steps)?;
+    }
+    Ok(())
+}
+
+#[test]
+fn packets_in_a_buffer(rt: HostRuntime) -> Result<(), Fail> {
+    for &(codec, max_don_diff, steps) in &STEPS {
+        for headroom in [0, 12] {
+            let mut packetizer = configured(rt.alloc(), codec, max_don_diff);
+            appends_steps(&rt, rt.alloc(), &mut packetizer, headroom, steps)?;
+        }
     }
     Ok(())
 }

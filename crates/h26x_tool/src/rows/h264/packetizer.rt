@@ -1,3 +1,4 @@
+use crate::rows::buffers::{How, Step, appends_once, appends_steps, sends_alike, sends_steps};
 use crate::rows::ends::{
     Call, LongCall, sends_all, sends_by_limit, sends_counts, sends_long, sends_once,
 };
@@ -92,6 +93,72 @@ fn payloads_and_their_packets(rt: HostRuntime) -> Result<(), Fail> {
     Ok(())
 }
 
+#[test]
+fn packets_in_a_buffer(rt: HostRuntime) -> Result<(), Fail> {
+    for calls in &RUNS {
+        for headroom in [0, 12] {
+            let packetizer = H264Packetizer::new(rt.alloc());
+            appends_once(&rt, rt.alloc(), packetizer, headroom, calls)?;
+        }
+    }
+    Ok(())
+}
+
+/// Units as they are, and payloads between them.
+static STEPS: [&[Step]; 3] = [
+    // Sets go as other units do, and an access unit delimiter too.
+    &[
+        (How::Unit, 1500, "6701", "6701"),
+        (How::Unit, 1500, "6702", "6702"),
+        (How::Unit, 1500, "6802", "6802"),
+        (How::Unit, 1500, "0930", "0930"),
+        (How::Payload, 1500, "6503", "6503"),
+    ],
+    // Sets that wait stay until the next payload.
+    &[
+        (How::Payload, 1500, "6701", ""),
+        (How::Payload, 1500, "6802", ""),
+        (How::Unit, 1500, "6709", "6709"),
+        (How::Unit, 1500, "6504", "6504"),
+        (How::Payload, 1500, "6503", "780002670100026802 6503"),
+        (How::Payload, 1500, "6503", "6503"),
+    ],
+    // No start code is searched. The last four are of units without a header, or without room.
+    &[
+        (
+            How::Unit,
+            5,
+            "00010203040506070809101112131415",
+            "1c80010203 1c00040506 1c00070809 1c00101112 1c40131415",
+        ),
+        (How::Unit, 3, "65010203", "7c8501 7c0502 7c4503"),
+        (How::Unit, 4, "65010203", "65010203"),
+        (How::Unit, 9, "650000016701", "650000016701"),
+        (How::Unit, 1500, "", ""),
+        (How::Unit, 0, "65", ""),
+        (How::Unit, 0, "6501", ""),
+        (How::Unit, 2, "65010203", ""),
+    ],
+];
+
+#[test]
+fn units_as_they_are(rt: HostRuntime) -> Result<(), Fail> {
+    for steps in &STEPS {
+        let mut packetizer = H264Packetizer::new(rt.alloc());
+        sends_steps(&rt, rt.alloc(), &mut packetizer, steps)?;
+    }
+    Ok(())
+}
+
+#[test]
+fn units_in_a_buffer(rt: HostRuntime) -> Result<(), Fail> {
+    for steps in &STEPS {
+        let mut packetizer = H264Packetizer::new(rt.alloc());
+        appends_steps(&rt, rt.alloc(), &mut packetizer, 12, steps)?;
+    }
+    Ok(())
+}
+
 /// How many packets go of a unit of eight bytes under the limit 0, under 1, and so on.
 static COUNTS: [usize; 11] = [0, 0, 0, 7, 4, 3, 2, 2, 1, 1, 1];
 
@@ -116,6 +183,16 @@ fn packets_of_a_long_unit_by_limit(rt: HostRuntime) -> Result<(), Fail> {
     let mut unit = vec![in rt.alloc(); 5]?;
     unit.resize(2001, 0xab)?;
     sends_counts(&rt, H264Packetizer::new(rt.alloc()), &unit, &OF_A_LONG_UNIT)
+}
+
+#[test]
+fn a_long_unit_in_a_buffer(rt: HostRuntime) -> Result<(), Fail> {
+    let mut packetizer = H264Packetizer::new(rt.alloc());
+    let mut other = packetizer.clone()?;
+    let mut unit = vec![in rt.alloc(); 5]?;
+    unit.resize(2001, 0xab)?;
+    let limits = [100, 1200, 2001];
+    sends_alike(&rt, rt.alloc(), &mut packetizer, &mut other, &unit, &limits)
 }
 
 /// Calls of a fresh packetizer with long units, and their packets.

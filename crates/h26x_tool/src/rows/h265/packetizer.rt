@@ -1,3 +1,4 @@
+use crate::rows::buffers::{How, Step, appends_once, appends_steps, sends_alike, sends_steps};
 use crate::rows::ends::{Call, LongCall, sends_by_limit, sends_long, sends_once};
 use h26x_core::PacketError;
 use h265_payload::H265Packetizer;
@@ -104,6 +105,114 @@ static RUNS: [(bool, &[Call]); 11] = [
 fn payloads_and_their_packets(rt: HostRuntime) -> Result<(), Fail> {
     for &(has_donl, calls) in &RUNS {
         sends_once(&rt, rt.alloc(), fresh(rt.alloc(), has_donl), calls)?;
+    }
+    Ok(())
+}
+
+#[test]
+fn packets_in_a_buffer(rt: HostRuntime) -> Result<(), Fail> {
+    for &(has_donl, calls) in &RUNS {
+        for headroom in [0, 12] {
+            let packetizer = fresh(rt.alloc(), has_donl);
+            appends_once(&rt, rt.alloc(), packetizer, headroom, calls)?;
+        }
+    }
+    Ok(())
+}
+
+/// Whether there are numbers, units as they are, and payloads between them.
+static STEPS: [(bool, &[Step]); 4] = [
+    // Sets go as other units do, and an access unit delimiter too. The last four are of units
+    // without a whole header, or without room.
+    (
+        false,
+        &[
+            (How::Unit, 100, "420101", "420101"),
+            (How::Unit, 100, "420102", "420102"),
+            (How::Unit, 1200, "460150", "460150"),
+            (How::Unit, 4, "2601aabbcc", "620193aa 620113bb 620153cc"),
+            (How::Unit, 100, "0201", "0201"),
+            (How::Payload, 100, "2601af", "2601af"),
+            (How::Unit, 1200, "", ""),
+            (How::Unit, 1200, "02", ""),
+            (How::Unit, 3, "0201aa", ""),
+            (How::Unit, 3, "0201aabb", ""),
+        ],
+    ),
+    // Sets that wait stay until the next payload.
+    (
+        false,
+        &[
+            (How::Payload, 17, "40010c", ""),
+            (How::Payload, 17, "420101", ""),
+            (How::Payload, 17, "4401c1", ""),
+            (How::Unit, 17, "420109", "420109"),
+            (How::Unit, 17, "0201aa", "0201aa"),
+            (
+                How::Payload,
+                17,
+                "2601af",
+                "6001000340010c000342010100034401c1 2601af",
+            ),
+        ],
+    ),
+    // Each unit takes one number, and one that isn't sent takes none.
+    (
+        true,
+        &[
+            (How::Unit, 5, "0201aabb", ""),
+            (How::Unit, 5, "0201aa", "02010000aa"),
+            (How::Unit, 6, "0201aabbcc", "6201810001aa 620141bbcc"),
+            (How::Unit, 100, "02", ""),
+            (How::Unit, 100, "420101", "4201000201"),
+            (How::Unit, 100, "460150", "4601000350"),
+            (How::Payload, 5, "0201aa", "02010004aa"),
+        ],
+    ),
+    (
+        true,
+        &[
+            (How::Payload, 100, "40010c", ""),
+            (How::Payload, 100, "420101", ""),
+            (How::Payload, 100, "4401c1", ""),
+            (How::Unit, 100, "0201aa", "02010000aa"),
+            (
+                How::Payload,
+                100,
+                "2601af",
+                "60010001000340010c0000034201010000034401c1 26010004af",
+            ),
+        ],
+    ),
+];
+
+#[test]
+fn units_as_they_are(rt: HostRuntime) -> Result<(), Fail> {
+    for &(has_donl, steps) in &STEPS {
+        let mut packetizer = fresh(rt.alloc(), has_donl);
+        sends_steps(&rt, rt.alloc(), &mut packetizer, steps)?;
+    }
+    Ok(())
+}
+
+#[test]
+fn units_in_a_buffer(rt: HostRuntime) -> Result<(), Fail> {
+    for &(has_donl, steps) in &STEPS {
+        let mut packetizer = fresh(rt.alloc(), has_donl);
+        appends_steps(&rt, rt.alloc(), &mut packetizer, 12, steps)?;
+    }
+    Ok(())
+}
+
+#[test]
+fn a_long_unit_in_a_buffer(rt: HostRuntime) -> Result<(), Fail> {
+    let mut unit = vec![in rt.alloc(); 2u8, 1]?;
+    unit.resize(2001, 0xab)?;
+    for has_donl in [false, true] {
+        let mut packetizer = fresh(rt.alloc(), has_donl);
+        let mut other = fresh(rt.alloc(), has_donl);
+        let limits = [100, 1200, 2001];
+        sends_alike(&rt, rt.alloc(), &mut packetizer, &mut other, &unit, &limits)?;
     }
     Ok(())
 }

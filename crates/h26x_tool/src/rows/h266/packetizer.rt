@@ -1,3 +1,4 @@
+use crate::rows::buffers::{How, Step, appends_once, appends_steps, sends_alike, sends_steps};
 use crate::rows::ends::{Call, LongCall, sends_all, sends_by_limit, sends_long, sends_once};
 use h26x_core::{PacketError, Packetizer};
 use h266_payload::H266Packetizer;
@@ -78,6 +79,111 @@ static RUNS: [(bool, &[Call]); 7] = [
 fn payloads_and_their_packets(rt: HostRuntime) -> Result<(), Fail> {
     for &(has_donl, calls) in &RUNS {
         sends_once(&rt, rt.alloc(), fresh(rt.alloc(), has_donl), calls)?;
+    }
+    Ok(())
+}
+
+#[test]
+fn packets_in_a_buffer(rt: HostRuntime) -> Result<(), Fail> {
+    for &(has_donl, calls) in &RUNS {
+        for headroom in [0, 12] {
+            let packetizer = fresh(rt.alloc(), has_donl);
+            appends_once(&rt, rt.alloc(), packetizer, headroom, calls)?;
+        }
+    }
+    Ok(())
+}
+
+/// Whether there are numbers, units as they are, and payloads between them.
+static STEPS: [(bool, &[Step]); 4] = [
+    // Sets go as other units do, and an access unit delimiter too. The last four are of units
+    // without a whole header, or without room.
+    (
+        false,
+        &[
+            (How::Unit, 1200, "0079bb", "0079bb"),
+            (How::Unit, 1200, "0079bc", "0079bc"),
+            (How::Unit, 1200, "00a150", "00a150"),
+            (How::Unit, 4, "0009aaaaaa", "00e981aa 00e901aa 00e941aa"),
+            (How::Payload, 1200, "0039dd", "0039dd"),
+            (How::Unit, 1200, "", ""),
+            (How::Unit, 1200, "00", ""),
+            (How::Unit, 3, "0009aa", ""),
+            (How::Unit, 3, "0009aabb", ""),
+        ],
+    ),
+    // Sets that wait stay until the next payload.
+    (
+        false,
+        &[
+            (How::Payload, 1200, "0079bb", ""),
+            (How::Payload, 1200, "8081cc", ""),
+            (How::Unit, 1200, "0079bc", "0079bc"),
+            (How::Unit, 1200, "0009aa", "0009aa"),
+            (
+                How::Payload,
+                1200,
+                "0039dd",
+                "80e100030079bb00038081cc 0039dd",
+            ),
+        ],
+    ),
+    // Each unit takes one number, and one that isn't sent takes none.
+    (
+        true,
+        &[
+            (How::Unit, 5, "0009aabb", ""),
+            (How::Unit, 5, "0009aa", "00090000aa"),
+            (How::Unit, 6, "0009aabbcc", "00e9810001aa 00e941bbcc"),
+            (How::Unit, 1200, "00", ""),
+            (How::Unit, 1200, "0079bb", "00790002bb"),
+            (How::Unit, 1200, "00a150", "00a1000350"),
+            (How::Payload, 5, "0009aa", "00090004aa"),
+        ],
+    ),
+    (
+        true,
+        &[
+            (How::Payload, 1200, "0079bb", ""),
+            (How::Payload, 1200, "0081cc", ""),
+            (How::Unit, 1200, "0009aa", "00090000aa"),
+            (
+                How::Payload,
+                1200,
+                "0039dd",
+                "00e1000100030079bb00030081cc 00390003dd",
+            ),
+        ],
+    ),
+];
+
+#[test]
+fn units_as_they_are(rt: HostRuntime) -> Result<(), Fail> {
+    for &(has_donl, steps) in &STEPS {
+        let mut packetizer = fresh(rt.alloc(), has_donl);
+        sends_steps(&rt, rt.alloc(), &mut packetizer, steps)?;
+    }
+    Ok(())
+}
+
+#[test]
+fn units_in_a_buffer(rt: HostRuntime) -> Result<(), Fail> {
+    for &(has_donl, steps) in &STEPS {
+        let mut packetizer = fresh(rt.alloc(), has_donl);
+        appends_steps(&rt, rt.alloc(), &mut packetizer, 12, steps)?;
+    }
+    Ok(())
+}
+
+#[test]
+fn a_long_unit_in_a_buffer(rt: HostRuntime) -> Result<(), Fail> {
+    let mut unit = vec![in rt.alloc(); 0u8, 9]?;
+    unit.resize(2001, 0xab)?;
+    for has_donl in [false, true] {
+        let mut packetizer = fresh(rt.alloc(), has_donl);
+        let mut other = fresh(rt.alloc(), has_donl);
+        let limits = [100, 1200, 2001];
+        sends_alike(&rt, rt.alloc(), &mut packetizer, &mut other, &unit, &limits)?;
     }
     Ok(())
 }

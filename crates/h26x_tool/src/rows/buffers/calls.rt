@@ -1,0 +1,108 @@
+//! The calls of a buffer itself.
+
+use super::{has, headed_packets};
+use crate::rows::{list_of, same};
+use h26x_payload::PacketBuffer;
+use std::alloc::Global;
+use std::process::Abort;
+use std::test::Fail;
+
+/// Appends packets, the first alone and then the others together.
+fn push_each(alloc: Global, buffer: &mut PacketBuffer, packets: &str) -> Result<(), Fail> {
+    let packets = list_of(alloc, packets)?;
+    let (first, rest) = packets.split_first().ok_or("no packet")?;
+    buffer.push(first)?;
+    buffer.push_all(rest)?;
+    Ok(())
+}
+
+/// A headroom, packets that are pushed, how many are kept, and those.
+type Kept = (usize, &'static str, usize, &'static str);
+
+static KEPT: [Kept; 7] = [
+    (0, "65aa - 41", 3, "65aa - 41"),
+    (0, "65aa - 41", 4, "65aa - 41"),
+    (0, "65aa - 41", 2, "65aa -"),
+    (0, "65aa - 41", 0, ""),
+    (12, "65aa - 41", 3, "65aa - 41"),
+    (12, "65aa - 41", 1, "65aa"),
+    (12, "65aa - 41", 0, ""),
+];
+
+/// A buffer has the packets that were pushed, those that are kept, none when it is cleared, and
+/// what is pushed then.
+fn keeps(
+    rt: &impl Abort,
+    alloc: Global,
+    buffer: &mut PacketBuffer,
+    &(_, pushed, count, kept): &Kept,
+) -> Result<(), Fail> {
+    has(rt, alloc, buffer, &[], pushed)?;
+    push_each(alloc, buffer, pushed)?;
+    has(rt, alloc, buffer, &list_of(alloc, pushed)?, pushed)?;
+    buffer.truncate(count);
+    has(rt, alloc, buffer, &list_of(alloc, kept)?, kept)?;
+    buffer.clear();
+    has(rt, alloc, buffer, &[], pushed)?;
+    push_each(alloc, buffer, pushed)?;
+    has(rt, alloc, buffer, &list_of(alloc, pushed)?, pushed)
+}
+
+#[test]
+fn packets_pushed_and_kept(rt: HostRuntime) -> Result<(), Fail> {
+    for row in &KEPT {
+        keeps(
+            &rt,
+            rt.alloc(),
+            &mut PacketBuffer::new(rt.alloc(), row.0),
+            row,
+        )?;
+    }
+    Ok(())
+}
+
+/// A headroom, packets, the place of one and its header, and all packets behind their headroom.
+type Headed = (usize, &'static str, usize, &'static [u8], &'static str);
+
+static HEADED: [Headed; 5] = [
+    (0, "65aa - 41", 1, &[], "65aa - 41"),
+    (3, "65aa - 41", 0, &[1, 2, 3], "01020365aa 000000 00000041"),
+    (3, "65aa - 41", 1, &[1, 2, 3], "00000065aa 010203 00000041"),
+    (3, "65aa - 41", 2, &[8, 9], "00000065aa 000000 00080941"),
+    (3, "65aa - 41", 2, &[], "00000065aa 000000 00000041"),
+];
+
+/// Writes a header before the packet at a place.
+fn head(rt: &impl Abort, buffer: &mut PacketBuffer, place: usize, header: &[u8]) {
+    assert!(rt; place < buffer.len() && header.len() <= buffer.headroom());
+    buffer.write_header(place, header);
+}
+
+/// A buffer shows a header that was written, and leaves its packets.
+fn shows(
+    rt: &impl Abort,
+    alloc: Global,
+    buffer: &mut PacketBuffer,
+    &(headroom, packets, place, header, want): &Headed,
+) -> Result<(), Fail> {
+    push_each(alloc, buffer, packets)?;
+    head(rt, buffer, place, header);
+    let shown = (buffer.headroom(), headed_packets(alloc, buffer)?);
+    same(rt, &shown, &(headroom, list_of(alloc, want)?), want);
+    let made = super::packets_of(alloc, buffer)?;
+    same(rt, &made, &list_of(alloc, packets)?, packets);
+    Ok(())
+}
+
+#[test]
+fn headers_before_packets(rt: HostRuntime) -> Result<(), Fail> {
+    for row in &HEADED {
+        shows(
+            &rt,
+            rt.alloc(),
+            &mut PacketBuffer::new(rt.alloc(), row.0),
+            row,
+        )?;
+    }
+    Ok(())
+}
