@@ -7,10 +7,15 @@
 #include <time.h>
 
 typedef size_t run_rounds(size_t limit, const uint8_t *payload, size_t len, size_t rounds);
-run_rounds h264_pack_rounds, h264_take_rounds, h264_take_packet_rounds, h264_take_avc_rounds;
-run_rounds h265_pack_rounds, h265_take_rounds, h265_take_packet_rounds;
-run_rounds h265_numbered_pack_rounds, h265_numbered_take_rounds, h265_numbered_take_packet_rounds;
-run_rounds h266_pack_rounds, h266_take_rounds, h266_take_packet_rounds;
+run_rounds h264_pack_rounds, h264_pack_into_rounds, h264_pack_unit_into_rounds;
+run_rounds h264_take_rounds, h264_take_packet_rounds, h264_take_avc_rounds;
+run_rounds h265_pack_rounds, h265_pack_into_rounds, h265_pack_unit_into_rounds;
+run_rounds h265_take_rounds, h265_take_packet_rounds;
+run_rounds h265_numbered_pack_rounds, h265_numbered_pack_into_rounds;
+run_rounds h265_numbered_pack_unit_into_rounds;
+run_rounds h265_numbered_take_rounds, h265_numbered_take_packet_rounds;
+run_rounds h266_pack_rounds, h266_pack_into_rounds, h266_pack_unit_into_rounds;
+run_rounds h266_take_rounds, h266_take_packet_rounds;
 
 enum { LIMIT = 1200, TURNS = 15 };
 
@@ -41,7 +46,7 @@ static double best(run_rounds *run, const uint8_t *payload, size_t len, size_t r
 /* One codec: what is timed, and the headers of its units (two bytes, or one) and aggregates. */
 struct codec {
     const char *name;
-    run_rounds *pack, *take, *take_packet, *take_avc;
+    run_rounds *pack, *pack_into, *pack_unit_into, *take, *take_packet, *take_avc;
     size_t header_len;
     const uint8_t *sets[3], *key, *other, *aggregate;
     size_t gap; /* bytes before each length of an aggregate but the first */
@@ -84,11 +89,18 @@ static size_t aggregate(const struct codec *c, uint8_t *at, size_t units, size_t
 }
 
 static void both(const struct codec *c, const char *name, const uint8_t *payload, size_t len, size_t rounds) {
-    printf("%-20s %-26s pack %6.2f GB/s  take %6.2f GB/s", c->name, name,
-           best(c->pack, payload, len, rounds), best(c->take, payload, len, rounds));
+    printf("%-20s %-26s pack %6.2f GB/s  into one buffer %6.2f GB/s  take %6.2f GB/s", c->name, name,
+           best(c->pack, payload, len, rounds), best(c->pack_into, payload, len, rounds),
+           best(c->take, payload, len, rounds));
     if (c->take_avc)
         printf("  take in AVC form %6.2f GB/s", best(c->take_avc, payload, len, rounds));
     printf("\n");
+}
+
+/* The one unit of a payload, as it is: without its start code of four bytes. */
+static void as_it_is(const struct codec *c, const char *name, const uint8_t *payload, size_t len, size_t rounds) {
+    printf("%-20s %-26s as it is, into one buffer %6.2f GB/s\n", c->name, name,
+           best(c->pack_unit_into, payload + 4, len - 4, rounds));
 }
 
 static void all(const struct codec *c, uint8_t *payload) {
@@ -100,12 +112,14 @@ static void all(const struct codec *c, uint8_t *payload) {
     both(c, "IDR of 200 kB with sets", payload, len, 200);
     len = unit(c, payload, c->other, 8000);
     both(c, "frame of 8 kB", payload, len, 5000);
+    as_it_is(c, "frame of 8 kB", payload, len, 5000);
     len = 0;
     for (int i = 0; i < 50; i++)
         len += unit(c, payload + len, c->other, 100);
     both(c, "50 units of 100 bytes", payload, len, 2000);
     len = unit(c, payload, c->other, 100);
     both(c, "a unit of 100 bytes", payload, len, 100000);
+    as_it_is(c, "a unit of 100 bytes", payload, len, 100000);
     len = aggregate(c, payload, 11, 100);
     printf("%-20s %-26s                   take %6.2f GB/s\n", c->name, "aggregate of 11 of 100",
            best(c->take_packet, payload, len, 20000));
@@ -115,14 +129,18 @@ static void all(const struct codec *c, uint8_t *payload) {
 
 int main(void) {
     const struct codec codecs[] = {
-        {"H.264", h264_pack_rounds, h264_take_rounds, h264_take_packet_rounds, h264_take_avc_rounds, 1,
+        {"H.264", h264_pack_rounds, h264_pack_into_rounds, h264_pack_unit_into_rounds,
+         h264_take_rounds, h264_take_packet_rounds, h264_take_avc_rounds, 1,
          {0, BYTES(0x67), BYTES(0x68)}, BYTES(0x65), BYTES(0x61), BYTES(0x78), 0},
-        {"H.265", h265_pack_rounds, h265_take_rounds, h265_take_packet_rounds, 0, 2,
+        {"H.265", h265_pack_rounds, h265_pack_into_rounds, h265_pack_unit_into_rounds,
+         h265_take_rounds, h265_take_packet_rounds, 0, 2,
          {BYTES(0x40, 1), BYTES(0x42, 1), BYTES(0x44, 1)}, BYTES(0x26, 1), BYTES(2, 1), BYTES(0x60, 1), 0},
-        {"H.265 with numbers", h265_numbered_pack_rounds, h265_numbered_take_rounds,
+        {"H.265 with numbers", h265_numbered_pack_rounds, h265_numbered_pack_into_rounds, h265_numbered_pack_unit_into_rounds,
+         h265_numbered_take_rounds,
          h265_numbered_take_packet_rounds, 0, 2,
          {BYTES(0x40, 1), BYTES(0x42, 1), BYTES(0x44, 1)}, BYTES(0x26, 1), BYTES(2, 1), BYTES(0x60, 1), 1},
-        {"H.266", h266_pack_rounds, h266_take_rounds, h266_take_packet_rounds, 0, 2,
+        {"H.266", h266_pack_rounds, h266_pack_into_rounds, h266_pack_unit_into_rounds,
+         h266_take_rounds, h266_take_packet_rounds, 0, 2,
          {BYTES(0, 0x71), BYTES(0, 0x79), BYTES(0, 0x81)}, BYTES(0, 0x39), BYTES(0, 9), BYTES(0, 0xe1), 0},
     };
     uint8_t *payload = malloc(1 << 20);

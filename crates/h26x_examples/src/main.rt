@@ -19,6 +19,8 @@ mod h265;
 #[cfg(test)]
 mod h266;
 #[cfg(test)]
+mod one_buffer;
+#[cfg(test)]
 mod outcomes;
 #[cfg(test)]
 mod profiles;
