@@ -10,6 +10,8 @@
 #[cfg(test)]
 mod again;
 #[cfg(test)]
+mod buffer;
+#[cfg(test)]
 mod carry;
 #[cfg(test)]
 mod codec;

@@ -7,10 +7,11 @@ use std::alloc::Global;
 use std::process::Abort;
 use std::test::Fail;
 
-/// Appends packets, the first alone and then the others together.
+/// Appends packets for whose ends there is room, the first alone and then the others together.
 fn push_each(alloc: Global, buffer: &mut PacketBuffer, packets: &str) -> Result<(), Fail> {
     let packets = list_of(alloc, packets)?;
     let (first, rest) = packets.split_first().ok_or("no packet")?;
+    buffer.reserve(packets.len())?;
     buffer.push(first)?;
     buffer.push_all(rest)?;
     Ok(())
