@@ -1,13 +1,11 @@
 -- Packets that stand one behind the other.
-use Rattle.std.proofs.Common.{rules, ◌≡◌, ℕ, zero, suc, ◌+◌, ◌-◌, ◌<◌, ◌≤◌, List, [], ◌∷◌, ◌++◌, refl, sym, ap, ◌∙◌, ⊎_elim, arith, get_or, take, drop, drop-cons, set, length, length-append, append_assoc, add-one, Vec, Global}
-use Rattle.std.proofs.Math.Seq.{take-suc, take-append_seam, drop-append-add, set-append_seam}
+use Rattle.std.proofs.Common.{rules, ◌≡◌, ℕ, zero, suc, ◌+◌, ◌-◌, ◌<◌, ◌≤◌, List, [], ◌∷◌, ◌++◌, refl, sym, ap, subst, ◌∙◌, ⊎_elim, arith, get_or, take, drop, drop-cons, set, length, length-append, append_assoc, add-one}
+use Rattle.std.proofs.Math.Seq.{take-suc, take-append_seam, set-append_seam}
 use Rattle.std.proofs.lemmas.Bool.{cases_lt}
-use Rattle.std.proofs.lemmas.List.{append-nil, drop-drop, get_or-map, length-take-le, take-append-drop}
-use Rattle.std.proofs.lemmas.Slice.{take-put_mid, drop-put_mid}
-use borrow.Rule.Slice.PartMut.{put_mid}
+use Rattle.std.proofs.lemmas.List.{append-nil, drop-drop, drop_all, drop_at, length-drop, length-take-le, take-append-drop, take_all}
 use Rattle.std.proofs.lemmas.List.Folds.{concat-append}
 use Rattle.std.specs.List.{concat}
-use Rattle.h26x_payload.specs.Sending.{contents}
+use Rattle.h26x_payload.specs.Buffer.{ends_of, last_end, packets_from, HoldPackets}
 use Rattle.h26x_handles.specs.Copies.{with_front, end_offsets, Fits, AreMost}
 
 -- one packet more
@@ -34,7 +32,7 @@ end_more packets n within =
     ∙ ap (λ e. end_offsets 0 (take n packets) ++ e ∷ []) (omega (arith, lengths))
 
 -- there are as many ends as packets
-length-ends : (place : ℕ) (packets : List (List ℕ)) → length (end_offsets place packets) ≡ length packets
+pub length-ends : (place : ℕ) (packets : List (List ℕ)) → length (end_offsets place packets) ≡ length packets
 length-ends place [] = refl
 length-ends place (packet ∷ packets) = ap suc (length-ends (place + length packet) packets)
 
@@ -48,12 +46,6 @@ longer (suc m) (suc n) (packet ∷ packets) fewer =
     let front = length-append packet (concat (take m packets)) in
     let all = length-append packet (concat (take n packets)) in
     omega (arith, behind, front, all)
-
--- a packet's bytes, by its place
-pub bytes_at : (packets : List (Vec ℕ Global)) (n : ℕ) (packet : Vec ℕ Global) (bytes : List ℕ) → n < length packets →
-    packet ≡ get_or packets n packet → bytes ≡ packet.items → bytes ≡ get_or (contents packets) n []
-bytes_at packets n packet bytes within is same =
-    same ∙ ap (λ (p : Vec ℕ Global). p.items) is ∙ sym (get_or-map (λ (p : Vec ℕ Global). p.items) packets n packet [] within)
 
 -- where the next packet doesn't fit, no more do
 pub are_most : (packets : List (List ℕ)) (bytes ends count : ℕ) → Fits packets bytes ends count →
@@ -71,26 +63,6 @@ are_most packets bytes ends count fits full = record {
       (λ h. h)
       (cases_lt count more);
 }
-
--- a packet written behind what stands at the front of a buffer
-pub written_behind : (front packet more room now written : List ℕ) (place : ℕ) → place ≡ length front → now ≡ front ++ drop place room →
-    written ≡ packet → more ≡ front ++ packet → place + length packet ≤ length room →
-    put_mid place (place + length packet - place) now written ≡ more ++ drop (place + length packet) room
-written_behind front packet more room now written place at_end holds same joined fits =
-    let end = place + length packet in
-    let after = put_mid place (end - place) now written in
-    let lengths = ap length holds ∙ length-append front (drop place room) in
-    let inside : place ≤ length now = omega (arith, lengths, at_end) in
-    let len : length written ≡ length packet = ap length same in
-    let front_part : take end after ≡ more =
-    take-put_mid place (end - place) now written end (omega (arith, len)) inside
-    ∙ ap (λ (x : List ℕ). x ++ written) (ap (take place) holds ∙ ap (λ n. take n (front ++ drop place room)) at_end ∙ take-append_seam front (drop place room))
-    ∙ ap (λ (x : List ℕ). front ++ x) same ∙ sym joined in
-    let rest : drop end after ≡ drop end room =
-    drop-put_mid place (end - place) now written end (omega arith) inside (omega (arith, len))
-    ∙ ap (drop end) holds ∙ ap (λ n. drop n (front ++ drop place room)) (omega (arith, at_end)) ∙ drop-append-add front (drop place room) (length packet)
-    ∙ drop-drop (length packet) place room in
-    sym (take-append-drop end after) ∙ ap (λ (x : List ℕ). x ++ drop end after) front_part ∙ ap (λ (x : List ℕ). more ++ x) rest
 
 -- a number written behind those at the front of a buffer
 number_behind : (front room : List ℕ) (n x : ℕ) → length front ≡ n → n < length room → set (front ++ drop n room) n x ≡ (front ++ x ∷ []) ++ drop (n + 1) room
@@ -110,7 +82,7 @@ end_behind packets n end room now within there holds is_end =
     ∙ ap (λ (x : List ℕ). x ++ drop (n + 1) room) (ap (λ e. front ++ e ∷ []) is_end ∙ sym (end_more packets n within))
 
 -- where there is room for a front, this is a copy of it
-copied_there : (front room now : List ℕ) → length front ≤ length room → now ≡ front ++ drop (length front) room → now ≡ with_front front room
+pub copied_there : (front room now : List ℕ) → length front ≤ length room → now ≡ front ++ drop (length front) room → now ≡ with_front front room
 copied_there front room now fits holds = search rules
 
 -- the ends of the first packets, copied
@@ -120,3 +92,70 @@ ends_copied packets n room now within fits holds =
     let front = end_offsets 0 (take n packets) in
     let same : length front ≡ n = length-ends 0 (take n packets) ∙ length-take-le n packets within in
     copied_there front room now (omega (arith, same, fits)) (holds ∙ ap (λ k. front ++ drop k room) (sym same))
+
+-- packets without headroom end where they do one behind the other
+same_ends : (place : ℕ) (packets : List (List ℕ)) → ends_of 0 place packets ≡ end_offsets place packets
+same_ends place [] = refl
+same_ends place (packet ∷ packets) =
+    let here : place + 0 ≡ place = omega arith in
+    ap (λ p. (p + length packet) ∷ ends_of 0 (p + length packet) packets) here ∙ ap (λ (r : List ℕ). (place + length packet) ∷ r) (same_ends (place + length packet) packets)
+
+pub ends_without_headroom : (headroom : ℕ) (packets : List (List ℕ)) (ends : List ℕ) → headroom ≡ 0 → ends ≡ ends_of headroom 0 packets → ends ≡ end_offsets 0 packets
+ends_without_headroom headroom packets ends none are = are ∙ ap (λ h. ends_of h 0 packets) none ∙ same_ends 0 packets
+
+-- bytes that hold packets without headroom from a place on are these joined
+joined_behind : (place : ℕ) (bytes : List ℕ) (packets : List (List ℕ)) → packets_from 0 place bytes (ends_of 0 place packets) ≡ packets →
+    last_end place (ends_of 0 place packets) ≡ length bytes → drop place bytes ≡ concat packets
+joined_behind place bytes [] there all = drop_all place bytes (omega (arith, all))
+joined_behind place bytes (packet ∷ packets) there all =
+    let here : place + 0 ≡ place = omega arith in
+    let end = place + 0 + length packet in
+    let first : take (end - (place + 0)) (drop (place + 0) bytes) ≡ packet = ap (λ (l : List (List ℕ)). get_or l 0 []) there in
+    let others : packets_from 0 end bytes (ends_of 0 end packets) ≡ packets = ap (λ (l : List (List ℕ)). drop 1 l) there in
+    let rest : drop (end - (place + 0)) (drop (place + 0) bytes) ≡ concat packets =
+    drop-drop (end - (place + 0)) (place + 0) bytes ∙ ap (λ k. drop k bytes) (omega (arith, here)) ∙ joined_behind end bytes packets others all in
+    ap (λ k. drop k bytes) (sym here) ∙ sym (take-append-drop (end - (place + 0)) (drop (place + 0) bytes))
+    ∙ ap (λ (x : List ℕ). x ++ drop (end - (place + 0)) (drop (place + 0) bytes)) first ∙ ap (λ (x : List ℕ). packet ++ x) rest
+
+pub bytes_without_headroom : (headroom : ℕ) (packets : List (List ℕ)) (bytes : List ℕ) → headroom ≡ 0 → HoldPackets headroom packets bytes → bytes ≡ concat packets
+bytes_without_headroom headroom packets bytes none hold =
+    let held : HoldPackets 0 packets bytes = subst (λ h. HoldPackets h packets bytes) none hold in
+    joined_behind 0 bytes packets held.there held.to_the_end
+
+-- where a packet ends
+pub end_at : (place : ℕ) (packets : List (List ℕ)) (n : ℕ) → n < length packets → get_or (end_offsets place packets) n 0 ≡ place + length (concat (take (suc n) packets))
+end_at place [] n within = absurd (omega arith)
+end_at place (packet ∷ packets) zero within = let long = length-append packet [] in omega (arith, long)
+end_at place (packet ∷ packets) (suc n) within =
+    let long = length-append packet (concat (take (suc n) packets)) in
+    let behind = end_at (place + length packet) packets n (omega arith) in
+    omega (arith, long, behind)
+
+-- where those from a first one on end
+ends_from : (packets : List (List ℕ)) (first : ℕ) → first ≤ length packets → drop first (end_offsets 0 packets) ≡ end_offsets (length (concat (take first packets))) (drop first packets)
+ends_from packets first le =
+    let before = take first packets in
+    let count : length (end_offsets 0 before) ≡ first = length-ends 0 before ∙ length-take-le first packets le in
+    let none : 0 + length (concat before) ≡ length (concat before) = omega arith in
+    ap (λ (l : List (List ℕ)). drop first (end_offsets 0 l)) (sym (take-append-drop first packets)) ∙ ap (drop first) (ends-append 0 before (drop first packets))
+    ∙ drop_at (end_offsets 0 before) (end_offsets (0 + length (concat before)) (drop first packets)) first count ∙ ap (λ k. end_offsets k (drop first packets)) none
+
+pub end_from : (packets : List (List ℕ)) (ends : List ℕ) (first n : ℕ) → ends ≡ end_offsets 0 packets → first ≤ length packets → n < length (drop first packets) →
+    get_or (take (length ends - first) (drop first ends)) n 0 ≡ length (concat (take first packets)) + length (concat (take (n + 1) (drop first packets)))
+end_from packets ends first n are le within =
+    let long = length-drop first ends in
+    ap (λ (l : List ℕ). get_or l n 0) (take_all (length ends - first) (drop first ends) (omega (arith, long)) ∙ ap (drop first) are ∙ ends_from packets first le)
+    ∙ end_at (length (concat (take first packets))) (drop first packets) n within ∙ ap (λ k. length (concat (take first packets)) + length (concat (take k (drop first packets)))) (sym (add-one n))
+
+-- the first packets stand before the others
+split_at : (packets : List (List ℕ)) (n : ℕ) → concat packets ≡ concat (take n packets) ++ concat (drop n packets)
+split_at packets n = ap concat (sym (take-append-drop n packets)) ∙ concat-append (take n packets) (drop n packets)
+
+pub bytes_behind : (packets : List (List ℕ)) (n : ℕ) → drop (length (concat (take n packets))) (concat packets) ≡ concat (drop n packets)
+bytes_behind packets n = ap (drop (length (concat (take n packets)))) (split_at packets n) ∙ drop_at (concat (take n packets)) (concat (drop n packets)) (length (concat (take n packets))) refl
+
+pub bytes_before : (packets : List (List ℕ)) (n : ℕ) → take (length (concat (take n packets))) (concat packets) ≡ concat (take n packets)
+bytes_before packets n = ap (take (length (concat (take n packets)))) (split_at packets n) ∙ take-append_seam (concat (take n packets)) (concat (drop n packets))
+
+pub no_longer : (packets : List (List ℕ)) (n : ℕ) → length (concat (take n packets)) ≤ length (concat packets)
+no_longer packets n = let long = ap length (split_at packets n) ∙ length-append (concat (take n packets)) (concat (drop n packets)) in omega (arith, long)

@@ -1,13 +1,14 @@
 //! A packetizer of any codec.
 
 ghost use Rattle.std.specs.Prelude.{◌≡◌, ◌≤◌, true, Err, IfOk, OnOk, OnErr, IsOk};
-ghost use Rattle.h26x_model.specs.Send.PacketizerState.{state_packets, after_entries, has_no_effect};
-ghost use Rattle.h26x_payload.specs.Sending.{contents};
+ghost use Rattle.h26x_model.specs.Send.PacketizerState.{state_packets, after_entries, has_no_effect, one_unit_packets, after_one_unit};
+ghost use Rattle.h26x_payload.specs.Buffer.{with_packets};
 ghost use Rattle.h26x_codec.specs.Codec.{codec_format, fresh_packetizer_state, next_call};
 ghost use Rattle.h26x_handles.specs.States.{any_packetizer_state, any_packetizer_codec, any_packetizer_with_donl, any_packetizer_with_max_packet_size, payload_entries};
 
 use h26x_codec::Codec;
-use h26x_core::{PacketError, Packetizer};
+use h26x_core::PacketError;
+use h26x_payload::PacketBuffer;
 use h264_payload::H264Packetizer;
 use h265_payload::H265Packetizer;
 use h266_payload::H266Packetizer;
@@ -83,24 +84,53 @@ impl AnyPacketizer {
         }
     }
 
-    /// The packets of a payload.
-    pub fn packetize(&mut self, mtu: usize, payload: &[u8]) -> Result<Vec<Vec<u8>>, PacketError>
-        ensures packets { IfOk result (λ made. contents made.items
-            ≡ state_packets (any_packetizer_state self.old)
-            (payload_entries (any_packetizer_state self.old) mtu payload.now)) }
+    /// Appends the packets of a payload to a buffer; a refusal leaves those that stood there.
+    pub fn packetize_into(
+        &mut self,
+        mtu: usize,
+        payload: &[u8],
+        into: &mut PacketBuffer,
+    ) -> Result<(), PacketError>
+        ensures packets { OnOk result (into.new ≡ with_packets into.old
+            (state_packets (any_packetizer_state self.old)
+            (payload_entries (any_packetizer_state self.old) mtu payload.now))) }
         ensures after { OnOk result (any_packetizer_state self.new
             ≡ after_entries (any_packetizer_state self.old)
             (payload_entries (any_packetizer_state self.old) mtu payload.now)) }
         ensures codec { any_packetizer_codec self.new ≡ any_packetizer_codec self.old }
         ensures kept { OnErr result (self.new ≡ self.old) }
+        ensures kept_packets { OnErr result (into.new ≡ into.old) }
         ensures memory { OnErr result (result ≡ Err PacketError.OutOfMemory) }
         ensures free { has_no_effect (any_packetizer_state self.old).format
             (next_call (any_packetizer_state self.old) mtu payload.now) ≡ true → IsOk result }
     {
         match self {
-            AnyPacketizer::H264(it) => it.packetize(mtu, payload),
-            AnyPacketizer::H265(it) => it.packetize(mtu, payload),
-            AnyPacketizer::H266(it) => it.packetize(mtu, payload),
+            AnyPacketizer::H264(it) => it.packetize_into(mtu, payload, into),
+            AnyPacketizer::H265(it) => it.packetize_into(mtu, payload, into),
+            AnyPacketizer::H266(it) => it.packetize_into(mtu, payload, into),
+        }
+    }
+
+    /// Appends the packets of one unit as it is; a refusal leaves those that stood in the buffer.
+    pub fn packetize_unit_into(
+        &mut self,
+        mtu: usize,
+        unit: &[u8],
+        into: &mut PacketBuffer,
+    ) -> Result<(), PacketError>
+        ensures packets { OnOk result (into.new ≡ with_packets into.old
+            (one_unit_packets (any_packetizer_state self.old) mtu unit.now)) }
+        ensures after { OnOk result (any_packetizer_state self.new
+            ≡ after_one_unit (any_packetizer_state self.old) mtu unit.now) }
+        ensures codec { any_packetizer_codec self.new ≡ any_packetizer_codec self.old }
+        ensures kept { OnErr result (self.new ≡ self.old) }
+        ensures kept_packets { OnErr result (into.new ≡ into.old) }
+        ensures memory { OnErr result (result ≡ Err PacketError.OutOfMemory) }
+    {
+        match self {
+            AnyPacketizer::H264(it) => it.packetize_unit_into(mtu, unit, into),
+            AnyPacketizer::H265(it) => it.packetize_unit_into(mtu, unit, into),
+            AnyPacketizer::H266(it) => it.packetize_unit_into(mtu, unit, into),
         }
     }
 }

@@ -1,7 +1,7 @@
 //! A packetizer, and the packets of its last call.
 
 ghost use Rattle.std.specs.Prelude.{◌≡◌, [], Err, true, IfOk, OnOk, OnErr, IsOk, length, drop};
-ghost use Rattle.h26x_model.specs.Send.PacketizerState.{state_packets, after_entries, has_no_effect};
+ghost use Rattle.h26x_model.specs.Send.PacketizerState.{state_packets, after_entries, has_no_effect, one_unit_packets, after_one_unit};
 ghost use Rattle.h26x_codec.specs.Codec.{codec_format, fresh_packetizer_state, next_call};
 ghost use Rattle.h26x_handles.specs.States.{any_packetizer_state, any_packetizer_codec, payload_entries};
 ghost use Rattle.h26x_handles.specs.Copies.{nth_packet, AreCopied};
@@ -10,24 +10,30 @@ use crate::copy::copy_packets;
 use crate::packetizer::AnyPacketizer;
 use h26x_codec::Codec;
 use h26x_core::PacketError;
+use h26x_payload::PacketBuffer;
 use std::alloc::Global;
 use std::marker::Model;
+use std::mem;
 
 /// A packetizer of a codec, and the packets of its last call.
 #[derive(Drop)]
 pub struct SendingEndpoint {
     /// The packetizer.
     pub packetizer: AnyPacketizer,
-    packets: Vec<Vec<u8>>,
+    packets: PacketBuffer,
+    // Where a call writes: the packets of before stay until it is carried out.
+    spare: PacketBuffer,
 }
 
 impl Model for SendingEndpoint {
-    ghost use Rattle.h26x_payload.specs.Sending.{contents};
+    ghost use Rattle.std.specs.Prelude.{◌≡◌};
     ghost use Rattle.h26x_handles.specs.Endpoint.{SendingEndpoint};
 
     ghost Value = { SendingEndpoint };
 
-    ghost view = { λ it. record { packetizer = it.packetizer; packets = contents it.packets.items } };
+    ghost view = { λ it. record { packetizer = it.packetizer; packets = it.packets.packets } };
+
+    ghost invariant = { λ it. (it.packets.headroom ≡ 0) × (it.spare.headroom ≡ 0) };
 }
 
 impl SendingEndpoint {
@@ -40,7 +46,8 @@ impl SendingEndpoint {
     {
         SendingEndpoint {
             packetizer: AnyPacketizer::new(alloc, codec, has_donl),
-            packets: Vec::new(alloc),
+            packets: PacketBuffer::new(alloc, 0),
+            spare: PacketBuffer::new(alloc, 0),
         }
     }
 
@@ -52,7 +59,8 @@ impl SendingEndpoint {
     {
         Ok(SendingEndpoint {
             packetizer: self.packetizer.clone()?,
-            packets: Vec::new(alloc),
+            packets: PacketBuffer::new(alloc, 0),
+            spare: PacketBuffer::new(alloc, 0),
         })
     }
 
@@ -72,7 +80,28 @@ impl SendingEndpoint {
             (next_call (any_packetizer_state self.old.packetizer) mtu payload.now) ≡ true →
             IsOk result }
     {
-        self.packets = self.packetizer.packetize(mtu, payload)?;
+        self.spare.clear();
+        self.packetizer
+            .packetize_into(mtu, payload, &mut self.spare)?;
+        mem::swap(&mut self.packets, &mut self.spare);
+        Ok(())
+    }
+
+    /// Makes the packets of one unit as it is, which take the place of the last call's.
+    pub fn packetize_unit(&mut self, mtu: usize, unit: &[u8]) -> Result<(), PacketError>
+        ensures packets { OnOk result (self.new.packets
+            ≡ one_unit_packets (any_packetizer_state self.old.packetizer) mtu unit.now) }
+        ensures after { OnOk result (any_packetizer_state self.new.packetizer
+            ≡ after_one_unit (any_packetizer_state self.old.packetizer) mtu unit.now) }
+        ensures codec { any_packetizer_codec self.new.packetizer
+            ≡ any_packetizer_codec self.old.packetizer }
+        ensures kept { OnErr result (self.new ≡ self.old) }
+        ensures memory { OnErr result (result ≡ Err PacketError.OutOfMemory) }
+    {
+        self.spare.clear();
+        self.packetizer
+            .packetize_unit_into(mtu, unit, &mut self.spare)?;
+        mem::swap(&mut self.packets, &mut self.spare);
         Ok(())
     }
 
@@ -87,9 +116,10 @@ impl SendingEndpoint {
     pub fn packet(&self, i: usize) -> &[u8]
         ensures { result.now ≡ nth_packet i self.now.packets }
     {
-        match self.packets.get(i) {
-            Some(packet) => packet.as_slice(),
-            None => &[],
+        if i < self.packets.len() {
+            self.packets.packet(i)
+        } else {
+            &[]
         }
     }
 
@@ -98,9 +128,6 @@ impl SendingEndpoint {
     pub fn copy_packets(&self, first: usize, to: &mut [u8], ends: &mut [usize]) -> usize
         ensures { AreCopied (drop first self.now.packets) to.old to.new ends.old ends.new result }
     {
-        match self.packets.get(first..) {
-            Some(packets) => copy_packets(packets, to, ends),
-            None => 0,
-        }
+        copy_packets(&self.packets, first, to, ends)
     }
 }

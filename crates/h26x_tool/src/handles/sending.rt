@@ -80,3 +80,22 @@ fn a_copy_goes_on(rt: HostRuntime) -> Result<(), Fail> {
     has(&rt, rt.alloc(), &copy, "00390001bb -")?;
     has(&rt, rt.alloc(), &endpoint, "00390000aa -")
 }
+
+/// A codec, units, each sent as it is, and the packets of the last one.
+static UNITS: [(Codec, &str, &str); 3] = [
+    (Codec::H264, "67aa", "67aa -"),
+    (Codec::H264, "6501 65020304000001", "65020304000001 -"),
+    (Codec::H265, "4201aa 4201bb", "42010001bb -"),
+];
+
+#[test]
+fn units_as_they_are(rt: HostRuntime) -> Result<(), Fail> {
+    for &(codec, units, want) in &UNITS {
+        let mut endpoint = SendingEndpoint::new(rt.alloc(), codec, codec != Codec::H264);
+        for unit in &list_of(rt.alloc(), units)? {
+            endpoint.packetize_unit(100, unit)?;
+        }
+        has(&rt, rt.alloc(), &endpoint, want)?;
+    }
+    Ok(())
+}
