@@ -150,6 +150,13 @@ static void refuse_sending(const struct codec *c)
     expect(count == 4 && holds_packets(&p, c));
     refuse_each(h26x_packetize(&p, LIMIT, unit, unit_len, &count), holds_packets(&p, c));
     expect(count == 3);
+    refuse_each(h26x_packetize_unit(&p, LIMIT, unit, unit_len, &count),
+                h26x_packet_count(&p) == 3);
+    expect(count == 3);
+
+    /* The packetizer keeps the memory of its packets: calls like those before take none. */
+    without_memory(h26x_packetize(&p, LIMIT, unit, unit_len, &count) == H26X_OK && count == 3);
+    without_memory(h26x_packetize_unit(&p, LIMIT, unit, unit_len, &count) == H26X_OK && count == 3);
     refuse_each(h26x_packetize(&copy, LIMIT, unit, unit_len, &count),
                 h26x_packet_count(&copy) == 0);
     expect(count == 4 && holds_packets(&copy, c));

@@ -74,6 +74,37 @@ static void check_h266(struct tally *t)
     h26x_packetizer_free(p);
 }
 
+/* Makes the packets of a unit as it is, and compares them. */
+static void sends_unit(struct tally *t, h26x_packetizer *p, size_t mtu, const char *unit,
+                       const char *packets)
+{
+    struct bytes b = bytes_of(unit);
+    size_t count = 99;
+    expect(t, h26x_packetize_unit(p, mtu, b.at, b.len, &count) == H26X_OK);
+    holds_at(t, p, count, packets, __FILE__, __LINE__);
+}
+
+/* Units as they are: no start code is searched, no set waits, and those that wait stay. */
+static void check_units(struct tally *t)
+{
+    h26x_packetizer p = made(t, H26X_H264, false);
+    sends(t, &p, 1500, "000001 070001 000001 080203", "");
+    sends_unit(t, &p, 1500, "67aa", "67aa");
+    sends_unit(t, &p, 1500, "65 000001 66", "65 000001 66");
+    sends_unit(t, &p, 3, "65010203", "7c8501|7c0502|7c4503");
+    sends_unit(t, &p, 2, "65010203", "");
+    sends_unit(t, &p, 1500, "", "");
+    sends(t, &p, 1500, "050405", "78 0003 070001 0003 080203|050405");
+    h26x_packetizer_free(p);
+    p = made(t, H26X_H265, true);
+    sends_unit(t, &p, 100, "4201aa", "42010000aa");
+    sends_unit(t, &p, 100, "0201bb", "02010001bb");
+    h26x_packetizer_free(p);
+    p = made(t, H26X_H266, false);
+    sends_unit(t, &p, 4, "0039aabbcc", "00e987aa|00e907bb|00e947cc");
+    h26x_packetizer_free(p);
+}
+
 /* The largest size of H.265 and H.266: 1200 at first. */
 static void check_max_size(struct tally *t, uint32_t codec, uint8_t first, uint8_t second)
 {
@@ -149,6 +180,9 @@ static void check_refusals(struct tally *t)
     expect(t, h26x_depacketizer_new(H26X_H265, false, &d) == H26X_OK);
     depacketizer.at = d.at;
     expect(t, h26x_packetize(&depacketizer, 9, unit, 1, &count) == H26X_WRONG_END && count == 0);
+    count = 9;
+    expect(t, h26x_packetize_unit(&depacketizer, 9, unit, 1, &count) == H26X_WRONG_END
+              && count == 0);
     expect(t, h26x_packetizer_clone(&depacketizer, &p) == H26X_WRONG_END && p.at == NULL);
     expect(t, h26x_packetizer_set_numbers(&depacketizer, true) == H26X_WRONG_END);
     expect(t, h26x_packetizer_set_max_size(&depacketizer, 9) == H26X_WRONG_END);
@@ -163,6 +197,7 @@ void check_sending(struct tally *t)
     check_h264(t);
     check_h265(t);
     check_h266(t);
+    check_units(t);
     check_max_size(t, H26X_H265, 0x26, 0x01);
     check_max_size(t, H26X_H266, 0x00, 0x39);
     check_copies(t);

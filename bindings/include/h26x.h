@@ -75,8 +75,15 @@ uint32_t h26x_packetizer_set_max_size(h26x_packetizer *p, uint16_t bytes);
 /* Makes the packets of a payload, which is one unit, or units behind start codes. Each packet has at most `mtu` bytes
  * (and at most the largest size). They take the place of those of the call before, and *count is how many there are.
  * Parameter sets wait for the next unit that is none. H26X_OUT_OF_MEMORY leaves the packets of the call before;
- * H26X_WRONG_END writes 0 to *count. The marker bit goes on the last packet of an access unit. */
+ * H26X_WRONG_END writes 0 to *count. The marker bit goes on the last packet of an access unit. The memory of packets is
+ * kept for later calls. */
 uint32_t h26x_packetize(h26x_packetizer *p, size_t mtu, const uint8_t *payload, size_t payload_len, size_t *count);
+
+/* Makes the packets of one unit as it is: no start code is looked for in it, and whatever its kind it is sent now, itself
+ * or in fragments. So a caller who has units need not join them, and may send parameter sets himself. Sets that wait stay.
+ * There are no packets where no fragment has room for data or the unit has no whole header. The answers are those of
+ * h26x_packetize. */
+uint32_t h26x_packetize_unit(h26x_packetizer *p, size_t mtu, const uint8_t *unit, size_t unit_len, size_t *count);
 
 /* How many packets there are of the last call; 0 for a depacketizer. */
 size_t h26x_packet_count(h26x_packetizer *p);

@@ -1,7 +1,7 @@
 //! The calls of a packetizer.
 
 ghost use Rattle.std.specs.Prelude.{◌≡◌, ◌≢◌, ◌≤◌, ◌<◌, ◌⊎◌, ℕ, [], true, false, Some, None, Ok, Err, length, drop};
-ghost use Rattle.h26x_model.specs.Send.PacketizerState.{PacketizerState, state_packets, after_entries, has_no_effect};
+ghost use Rattle.h26x_model.specs.Send.PacketizerState.{PacketizerState, state_packets, after_entries, has_no_effect, one_unit_packets, after_one_unit};
 ghost use Rattle.h26x_codec.specs.Codec.{codec_format, fresh_packetizer_state, next_call};
 ghost use Rattle.h26x_codec.specs.declared.codec.Codec.{Codec};
 ghost use Rattle.h26x_handles.specs.Codes.{codec_or_code, may_have_donl, ok, out_of_memory, wrong_end, not_of_this_codec, out_of_range};
@@ -154,6 +154,43 @@ pub extern "C" fn h26x_packetize(
     match p.get_mut() {
         Endpoint::Sending(it) => {
             let made = it.packetize(mtu, payload);
+            *count = it.count();
+            match made {
+                Ok(()) => OK,
+                Err(_) => OUT_OF_MEMORY,
+            }
+        }
+        Endpoint::Receiving(_) => {
+            *count = 0;
+            WRONG_END
+        }
+    }
+}
+
+/// Makes the packets of one unit as it is, without a start code and whatever its kind, which take the
+/// place of the last call's; the sets that wait stay.
+#[unsafe(no_mangle)]
+pub extern "C" fn h26x_packetize_unit(
+    p: &mut Handle,
+    mtu: usize,
+    unit: &[u8],
+    count: &mut usize,
+) -> u32
+    ensures wrong { endpoint_packetizer_state p.old.value ≡ None → result ≡ wrong_end }
+    ensures answer { (it : PacketizerState) → endpoint_packetizer_state p.old.value ≡ Some it →
+        (result ≡ ok) ⊎ (result ≡ out_of_memory) }
+    ensures packets { (it : PacketizerState) → endpoint_packetizer_state p.old.value ≡ Some it →
+        result ≡ ok → endpoint_packets p.new.value ≡ one_unit_packets it mtu unit.now }
+    ensures after { (it : PacketizerState) → endpoint_packetizer_state p.old.value ≡ Some it →
+        result ≡ ok →
+        endpoint_packetizer_state p.new.value ≡ Some (after_one_unit it mtu unit.now) }
+    ensures codec { endpoint_codec p.new.value ≡ endpoint_codec p.old.value }
+    ensures kept { result ≢ ok → p.new.value ≡ p.old.value }
+    ensures count { count.new ≡ length (endpoint_packets p.new.value) }
+{
+    match p.get_mut() {
+        Endpoint::Sending(it) => {
+            let made = it.packetize_unit(mtu, unit);
             *count = it.count();
             match made {
                 Ok(()) => OK,

@@ -5,33 +5,37 @@ use crate::error::PacketError;
 use crate::handle::{Handle, Sending};
 use crate::packet::Packetizer;
 use crate::packets::Packets;
-use crate::sys::{self, Refusal};
+use crate::sys::{self, Raw, Refusal};
+
+/// A call of the library that makes packets: of a payload, or of one unit.
+type Make = unsafe extern "C" fn(*mut Raw, usize, *const u8, usize, *mut usize) -> u32;
 
 /// What the packetizers of all codecs do.
 impl Handle<Sending> {
-    /// Makes the packets of a payload, which the handle keeps; how many they are.
-    fn make(&mut self, mtu: usize, b: &[u8]) -> Result<usize, PacketError> {
+    /// Makes packets of `b`, which the handle keeps; how many they are.
+    fn make(&mut self, make: Make, mtu: usize, b: &[u8]) -> Result<usize, PacketError> {
         let mut count = 0;
         // SAFETY: the handle is live and ours alone, `b` is one slice, and `count` is a number.
-        let code = unsafe { sys::h26x_packetize(self.raw(), mtu, b.as_ptr(), b.len(), &mut count) };
+        let code = unsafe { make(self.raw(), mtu, b.as_ptr(), b.len(), &mut count) };
         PacketError::of(code, &Refusal::default())?;
         Ok(count)
     }
 
-    /// The packets of a payload, each in memory of its own.
-    fn packetize(&mut self, mtu: usize, b: &[u8]) -> Result<Vec<Vec<u8>>, PacketError> {
-        let count = self.make(mtu, b)?;
+    /// The packets of `b`, each in memory of its own.
+    fn packets(&mut self, make: Make, mtu: usize, b: &[u8]) -> Result<Vec<Vec<u8>>, PacketError> {
+        let count = self.make(make, mtu, b)?;
         Ok((0..count).map(|i| self.kept(i)).collect())
     }
 
-    /// The packets of a payload, in the place of those in `packets`.
-    fn packetize_into(
+    /// The packets of `b`, in the place of those in `packets`.
+    fn packets_into(
         &mut self,
+        make: Make,
         mtu: usize,
         b: &[u8],
         packets: &mut Packets,
     ) -> Result<(), PacketError> {
-        let count = self.make(mtu, b)?;
+        let count = self.make(make, mtu, b)?;
         let len = (0..count).map(|i| self.kept_len(i)).sum();
         let (bytes, ends) = packets.room(len, count);
         // SAFETY: the handle is live and ours alone, and `bytes` and `ends` are one slice each, apart
@@ -114,13 +118,37 @@ macro_rules! packetizer {
                 b: &[u8],
                 packets: &mut Packets,
             ) -> Result<(), PacketError> {
-                self.handle.packetize_into(mtu, b, packets)
+                self.handle.packets_into(sys::h26x_packetize, mtu, b, packets)
+            }
+
+            /// The RTP payloads of one NAL unit as it is: no start code is looked for in it, and
+            /// whatever its kind it is sent now, itself or in fragments.
+            ///
+            /// So whoever has units need not join them, and may send parameter sets himself. Sets
+            /// that wait stay.
+            pub fn packetize_unit(
+                &mut self,
+                mtu: usize,
+                unit: &[u8],
+            ) -> Result<Vec<Vec<u8>>, PacketError> {
+                self.handle.packets(sys::h26x_packetize_unit, mtu, unit)
+            }
+
+            /// The same packets in the place of those in `packets`, whose memory is used again. A
+            /// refusal leaves `packets`.
+            pub fn packetize_unit_into(
+                &mut self,
+                mtu: usize,
+                unit: &[u8],
+                packets: &mut Packets,
+            ) -> Result<(), PacketError> {
+                self.handle.packets_into(sys::h26x_packetize_unit, mtu, unit, packets)
             }
         }
 
         impl Packetizer for $name {
             fn packetize(&mut self, mtu: usize, b: &[u8]) -> Result<Vec<Vec<u8>>, PacketError> {
-                self.handle.packetize(mtu, b)
+                self.handle.packets(sys::h26x_packetize, mtu, b)
             }
 
             fn is_marker(&mut self, _data: &[u8], _previous: Option<&[u8]>, last: bool) -> bool {

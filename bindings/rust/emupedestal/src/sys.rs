@@ -59,6 +59,13 @@ unsafe extern "C" {
         payload_len: usize,
         count: *mut usize,
     ) -> u32;
+    pub fn h26x_packetize_unit(
+        p: *mut Raw,
+        mtu: usize,
+        unit: *const u8,
+        unit_len: usize,
+        count: *mut usize,
+    ) -> u32;
     pub fn h26x_packet_len(p: *mut Raw, i: usize) -> usize;
     pub fn h26x_packet_copy(p: *mut Raw, i: usize, to: *mut u8, room: usize) -> usize;
     pub fn h26x_packets_copy(

@@ -55,6 +55,25 @@ fn packets_of_each_codec() {
 }
 
 #[test]
+fn units_as_they_are() {
+    let mut packets = Packets::default();
+    let mut h264 = H264Packetizer::default();
+    h264.packetize_into(1500, &payload(&["070001", "080203"]), &mut packets)
+        .unwrap();
+    h264.packetize_unit_into(1500, &bytes("65000001"), &mut packets)
+        .unwrap();
+    holds(&packets, &["65000001"]);
+    assert_eq!(
+        h264.packetize_unit(4, &bytes("6501020304")).unwrap(),
+        [bytes("7c850102"), bytes("7c450304")]
+    );
+    // The sets still wait.
+    h264.packetize_into(1500, &bytes("050405"), &mut packets)
+        .unwrap();
+    holds(&packets, &["7800030700010003080203", "050405"]);
+}
+
+#[test]
 fn memory_is_used_again() {
     let (mut end, mut packets) = (H264Packetizer::default(), Packets::default());
     end.packetize_into(100, &[0x65; 1000], &mut packets)
