@@ -5,6 +5,7 @@ use crate::ends::{Receiver, fragment, longer_fragment};
 use h26x_codec::Codec;
 use h26x_core::{CodecExtra, Depacketizer, PacketError};
 use h26x_handles::receiving::ReceivingEndpoint;
+use h26x_handles::sending::SendingEndpoint;
 use h264_payload::H264Depacketizer;
 use h265_payload::H265Depacketizer;
 use h266_payload::H266Depacketizer;
@@ -69,6 +70,17 @@ fn units_of_an_endpoint_into_kept_buffers(rt: HostRuntime) {
         }
     }
     assert!(rt; it.depacketize(false, &UNIT, &mut CodecExtra::None).is_ok());
+}
+
+#[test]
+fn packets_of_an_endpoint_into_kept_buffers(rt: HostRuntime) {
+    let mut it = SendingEndpoint::new(rt.alloc(), Codec::H264, false);
+    for _ in 0..2 {
+        if it.packetize(20, &UNIT).is_err() {
+            return;
+        }
+    }
+    assert!(rt; it.packetize(20, &UNIT).is_ok());
 }
 
 /// Begins a run, gives it up, and begins another, which needs a buffer again.
