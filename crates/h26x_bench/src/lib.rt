@@ -46,52 +46,31 @@ fn pack<P: Packetizer>(mut packetizer: P, limit: usize, payload: &[u8], rounds: 
     bytes
 }
 
-/// Packetizes a payload into one buffer so many times; the bytes of all packets.
+/// Packetizes a payload, or a unit as it is, into one buffer so many times; the bytes of all packets.
 fn pack_into<C: PayloadFormat>(
     alloc: Global,
     mut packetizer: PayloadPacketizer<C>,
+    as_it_is: bool,
     limit: usize,
-    payload: &[u8],
+    bytes: &[u8],
     rounds: usize,
 ) -> usize {
     let mut packets = PacketBuffer::new(alloc, HEADROOM);
-    let mut bytes: usize = 0;
+    let mut sum: usize = 0;
     for _ in 0..rounds {
         packets.clear();
-        if packetizer
-            .packetize_into(limit, payload, &mut packets)
-            .is_ok()
-        {
+        let made = if as_it_is {
+            packetizer.packetize_unit_into(limit, bytes, &mut packets)
+        } else {
+            packetizer.packetize_into(limit, bytes, &mut packets)
+        };
+        if made.is_ok() {
             for packet in packets.iter() {
-                bytes = bytes.saturating_add(packet.len());
+                sum = sum.saturating_add(packet.len());
             }
         }
     }
-    bytes
-}
-
-/// Packetizes a unit as it is into one buffer so many times; the bytes of all packets.
-fn pack_unit_into<C: PayloadFormat>(
-    alloc: Global,
-    mut packetizer: PayloadPacketizer<C>,
-    limit: usize,
-    unit: &[u8],
-    rounds: usize,
-) -> usize {
-    let mut packets = PacketBuffer::new(alloc, HEADROOM);
-    let mut bytes: usize = 0;
-    for _ in 0..rounds {
-        packets.clear();
-        if packetizer
-            .packetize_unit_into(limit, unit, &mut packets)
-            .is_ok()
-        {
-            for packet in packets.iter() {
-                bytes = bytes.saturating_add(packet.len());
-            }
-        }
-    }
-    bytes
+    sum
 }
 
 /// Takes packets so many times; the bytes written, 0 where one is refused.
@@ -355,7 +334,14 @@ pub extern "C" fn h264_pack_into_rounds(
     payload: &[u8],
     rounds: usize,
 ) -> usize {
-    pack_into(alloc, H264Packetizer::new(alloc), limit, payload, rounds)
+    pack_into(
+        alloc,
+        H264Packetizer::new(alloc),
+        false,
+        limit,
+        payload,
+        rounds,
+    )
 }
 
 /// Packetizes a unit of H.264 as it is into one buffer so many times; the bytes of all packets.
@@ -366,7 +352,7 @@ pub extern "C" fn h264_pack_unit_into_rounds(
     unit: &[u8],
     rounds: usize,
 ) -> usize {
-    pack_unit_into(alloc, H264Packetizer::new(alloc), limit, unit, rounds)
+    pack_into(alloc, H264Packetizer::new(alloc), true, limit, unit, rounds)
 }
 
 /// Packetizes H.265 into one buffer so many times; the bytes of all packets.
@@ -377,7 +363,14 @@ pub extern "C" fn h265_pack_into_rounds(
     payload: &[u8],
     rounds: usize,
 ) -> usize {
-    pack_into(alloc, H265Packetizer::new(alloc), limit, payload, rounds)
+    pack_into(
+        alloc,
+        H265Packetizer::new(alloc),
+        false,
+        limit,
+        payload,
+        rounds,
+    )
 }
 
 /// Packetizes a unit of H.265 as it is into one buffer so many times; the bytes of all packets.
@@ -388,7 +381,7 @@ pub extern "C" fn h265_pack_unit_into_rounds(
     unit: &[u8],
     rounds: usize,
 ) -> usize {
-    pack_unit_into(alloc, H265Packetizer::new(alloc), limit, unit, rounds)
+    pack_into(alloc, H265Packetizer::new(alloc), true, limit, unit, rounds)
 }
 
 /// Packetizes H.265 with numbers into one buffer so many times; the bytes of all packets.
@@ -399,7 +392,14 @@ pub extern "C" fn h265_numbered_pack_into_rounds(
     payload: &[u8],
     rounds: usize,
 ) -> usize {
-    pack_into(alloc, h265_pack_with_numbers(alloc), limit, payload, rounds)
+    pack_into(
+        alloc,
+        h265_pack_with_numbers(alloc),
+        false,
+        limit,
+        payload,
+        rounds,
+    )
 }
 
 /// Packetizes a unit of H.265 with numbers as it is into one buffer so many times; the bytes of all
@@ -411,7 +411,14 @@ pub extern "C" fn h265_numbered_pack_unit_into_rounds(
     unit: &[u8],
     rounds: usize,
 ) -> usize {
-    pack_unit_into(alloc, h265_pack_with_numbers(alloc), limit, unit, rounds)
+    pack_into(
+        alloc,
+        h265_pack_with_numbers(alloc),
+        true,
+        limit,
+        unit,
+        rounds,
+    )
 }
 
 /// Packetizes H.266 into one buffer so many times; the bytes of all packets.
@@ -422,7 +429,14 @@ pub extern "C" fn h266_pack_into_rounds(
     payload: &[u8],
     rounds: usize,
 ) -> usize {
-    pack_into(alloc, H266Packetizer::new(alloc), limit, payload, rounds)
+    pack_into(
+        alloc,
+        H266Packetizer::new(alloc),
+        false,
+        limit,
+        payload,
+        rounds,
+    )
 }
 
 /// Packetizes a unit of H.266 as it is into one buffer so many times; the bytes of all packets.
@@ -433,5 +447,5 @@ pub extern "C" fn h266_pack_unit_into_rounds(
     unit: &[u8],
     rounds: usize,
 ) -> usize {
-    pack_unit_into(alloc, H266Packetizer::new(alloc), limit, unit, rounds)
+    pack_into(alloc, H266Packetizer::new(alloc), true, limit, unit, rounds)
 }

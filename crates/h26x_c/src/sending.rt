@@ -1,7 +1,7 @@
 //! The calls of a packetizer.
 
 ghost use Rattle.std.specs.Prelude.{◌≡◌, ◌≢◌, ◌≤◌, ◌<◌, ◌⊎◌, ℕ, [], true, false, Some, None, Ok, Err, length, drop};
-ghost use Rattle.h26x_model.specs.Send.PacketizerState.{PacketizerState, state_packets, after_entries, has_no_effect, one_unit_packets, after_one_unit};
+ghost use Rattle.h26x_model.specs.Send.PacketizerState.{PacketizerState, state_packets, after_entries, has_no_effect, one_unit_items, one_unit_packets, after_one_unit};
 ghost use Rattle.h26x_codec.specs.Codec.{codec_format, fresh_packetizer_state, next_call};
 ghost use Rattle.h26x_codec.specs.declared.codec.Codec.{Codec};
 ghost use Rattle.h26x_handles.specs.Codes.{codec_or_code, may_have_donl, ok, out_of_memory, wrong_end, not_of_this_codec, out_of_range};
@@ -187,6 +187,10 @@ pub extern "C" fn h26x_packetize_unit(
     ensures codec { endpoint_codec p.new.value ≡ endpoint_codec p.old.value }
     ensures kept { result ≢ ok → p.new.value ≡ p.old.value }
     ensures count { count.new ≡ length (endpoint_packets p.new.value) }
+
+    // Nothing is sent without memory.
+    ensures free { (it : PacketizerState) → endpoint_packetizer_state p.old.value ≡ Some it →
+        one_unit_items it mtu unit.now ≡ [] → result ≡ ok }
 {
     match p.get_mut() {
         Endpoint::Sending(it) => {

@@ -1,13 +1,12 @@
 //! A packetizer of any codec, or a caller's own.
 
 ghost use Rattle.std.specs.Prelude.{◌≡◌, ◌≤◌, [], true, false, Some, None, Err, IfOk, OnOk, OnErr, IsOk};
-ghost use Rattle.h26x_model.specs.Payload.Facts.{IsPayloadFormat};
 ghost use Rattle.h26x_model.specs.Send.Limit.{AreWithinLimit};
 ghost use Rattle.h26x_model.specs.Send.Calls.{packet_limit, call_limit, call_entries};
-ghost use Rattle.h26x_model.specs.Send.PacketizerState.{PacketizerState, IsPacketizerState, state_packets, after_entries, has_no_effect, IsSentAsPlanned, one_unit_packets, after_one_unit};
+ghost use Rattle.h26x_model.specs.Send.PacketizerState.{PacketizerState, state_packets, after_entries, has_no_effect, IsSentAsPlanned, one_unit_items, one_unit_packets, after_one_unit};
 ghost use Rattle.h26x_model.specs.Send.Rival.{TakesFewestFragments};
 ghost use Rattle.h26x_payload.specs.Sending.{contents};
-ghost use Rattle.h26x_payload.specs.Buffer.{with_packets};
+ghost use Rattle.h26x_payload.specs.Buffer.{IsAppended, with_packets};
 ghost use Rattle.h26x_codec.specs.Codec.{default_format, codec_packetizer_state, packetizer_codec, fresh_packetizer_state, next_call, with_max_don_diff, with_max_packet_size};
 ghost use Rattle.h26x_codec.specs.declared.packetizer.CodecPacketizer.TheVariants as p;
 ghost use Rattle.h264_payload.specs.H264.{h264};
@@ -140,6 +139,7 @@ impl CodecPacketizer {
             has_no_effect s.format (next_call s mtu b.now) ≡ true → IsOk result }
 
         // A packetizer in a box too.
+        ensures appended { OnOk result (IsAppended into.old into.new) }
         ensures kept_packets { OnErr result (into.new ≡ into.old) }
     {
         match self {
@@ -170,6 +170,10 @@ impl CodecPacketizer {
             OnErr result (self.new ≡ self.old) }
         ensures memory { (s : PacketizerState) → codec_packetizer_state self.old ≡ Some s →
             OnErr result (result ≡ Err PacketError.OutOfMemory) }
+
+        // Nothing is sent without memory.
+        ensures free { (s : PacketizerState) → codec_packetizer_state self.old ≡ Some s →
+            one_unit_items s mtu unit.now ≡ [] → IsOk result }
     {
         match self {
             CodecPacketizer::H264(it) => it.packetize_unit(mtu, unit),
@@ -199,7 +203,12 @@ impl CodecPacketizer {
         ensures memory { (s : PacketizerState) → codec_packetizer_state self.old ≡ Some s →
             OnErr result (result ≡ Err PacketError.OutOfMemory) }
 
+        // Nothing is sent without memory.
+        ensures free { (s : PacketizerState) → codec_packetizer_state self.old ≡ Some s →
+            one_unit_items s mtu unit.now ≡ [] → IsOk result }
+
         // A packetizer in a box too.
+        ensures appended { OnOk result (IsAppended into.old into.new) }
         ensures kept_packets { OnErr result (into.new ≡ into.old) }
     {
         match self {

@@ -1,7 +1,7 @@
 //! A packetizer of any codec.
 
-ghost use Rattle.std.specs.Prelude.{◌≡◌, ◌≤◌, true, Err, IfOk, OnOk, OnErr, IsOk};
-ghost use Rattle.h26x_model.specs.Send.PacketizerState.{state_packets, after_entries, has_no_effect, one_unit_packets, after_one_unit};
+ghost use Rattle.std.specs.Prelude.{◌≡◌, ◌≤◌, [], true, Err, IfOk, OnOk, OnErr, IsOk};
+ghost use Rattle.h26x_model.specs.Send.PacketizerState.{state_packets, after_entries, has_no_effect, one_unit_items, one_unit_packets, after_one_unit};
 ghost use Rattle.h26x_payload.specs.Buffer.{with_packets};
 ghost use Rattle.h26x_codec.specs.Codec.{codec_format, fresh_packetizer_state, next_call};
 ghost use Rattle.h26x_handles.specs.States.{any_packetizer_state, any_packetizer_codec, any_packetizer_with_donl, any_packetizer_with_max_packet_size, payload_entries};
@@ -126,6 +126,10 @@ impl AnyPacketizer {
         ensures kept { OnErr result (self.new ≡ self.old) }
         ensures kept_packets { OnErr result (into.new ≡ into.old) }
         ensures memory { OnErr result (result ≡ Err PacketError.OutOfMemory) }
+
+        // Nothing is sent without memory.
+        ensures free { one_unit_items (any_packetizer_state self.old) mtu unit.now ≡ [] →
+            IsOk result }
     {
         match self {
             AnyPacketizer::H264(it) => it.packetize_unit_into(mtu, unit, into),

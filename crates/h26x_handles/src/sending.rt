@@ -1,7 +1,7 @@
 //! A packetizer, and the packets of its last call.
 
 ghost use Rattle.std.specs.Prelude.{◌≡◌, [], Err, true, IfOk, OnOk, OnErr, IsOk, length, drop};
-ghost use Rattle.h26x_model.specs.Send.PacketizerState.{state_packets, after_entries, has_no_effect, one_unit_packets, after_one_unit};
+ghost use Rattle.h26x_model.specs.Send.PacketizerState.{state_packets, after_entries, has_no_effect, one_unit_items, one_unit_packets, after_one_unit};
 ghost use Rattle.h26x_codec.specs.Codec.{codec_format, fresh_packetizer_state, next_call};
 ghost use Rattle.h26x_handles.specs.States.{any_packetizer_state, any_packetizer_codec, payload_entries};
 ghost use Rattle.h26x_handles.specs.Copies.{nth_packet, AreCopied};
@@ -97,6 +97,10 @@ impl SendingEndpoint {
             ≡ any_packetizer_codec self.old.packetizer }
         ensures kept { OnErr result (self.new ≡ self.old) }
         ensures memory { OnErr result (result ≡ Err PacketError.OutOfMemory) }
+
+        // Nothing is sent without memory.
+        ensures free { one_unit_items (any_packetizer_state self.old.packetizer) mtu unit.now ≡ [] →
+            IsOk result }
     {
         self.spare.clear();
         self.packetizer

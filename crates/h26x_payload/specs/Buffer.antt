@@ -58,3 +58,7 @@ no_buffer = record { packets = []; headroom = 0 }
 -- a buffer with these packets behind its own
 abbrev pub with_packets : PacketBufferView → List (List ℕ) → PacketBufferView
 with_packets buffer packets = record buffer { packets = buffer.packets ++ packets }
+
+-- a buffer has its own packets and headroom still, and perhaps packets behind them
+abbrev pub IsAppended : PacketBufferView → PacketBufferView → Type 0
+IsAppended old new = (packets : List (List ℕ)) × (new ≡ with_packets old packets)

@@ -5,7 +5,7 @@ ghost use Rattle.std.specs.Option.{option_map};
 ghost use Rattle.h26x_model.specs.Send.Limit.{AreWithinLimit};
 ghost use Rattle.h26x_model.specs.Send.Calls.{packet_limit, call_limit};
 ghost use Rattle.h26x_model.specs.Send.WaitingSets.{waiting_after_unit, due_items, plan_with_waiting, waiting_after, entries_with_limit, no_waiting_sets};
-ghost use Rattle.h26x_model.specs.Send.PacketizerState.{state_packets, is_skipped, are_skipped, has_no_effect, IsSentAsPlanned, one_unit_packets};
+ghost use Rattle.h26x_model.specs.Send.PacketizerState.{state_packets, is_skipped, are_skipped, has_no_effect, IsSentAsPlanned, one_unit_items, one_unit_packets};
 ghost use Rattle.h26x_payload.specs.Sending.{contents, ArePushed, set_list, latest_set, waiting_with_brought, due_to_items, is_nothing};
 ghost use Rattle.h26x_payload.specs.Buffer.{with_packets};
 ghost use Rattle.h26x_payload.specs.PacketizerView.{IsPacketizer, packetizer_state, fresh_packetizer, view_call, view_entries, view_after, view_after_unit};
@@ -366,6 +366,10 @@ impl<C: PayloadFormat> PayloadPacketizer<C> {
 
         ensures kept { OnErr result (self.new ≡ self.old) }
         ensures memory { OnErr result (result ≡ Err PacketError.OutOfMemory) }
+
+        // Nothing is sent without memory.
+        ensures free { one_unit_items (packetizer_state (C.format self.old.codec) self.old) mtu
+            unit.now ≡ [] → IsOk result }
     {
         laws::a_unit_sent_as_it_is();
         if mtu < self.codec.least_mtu() || unit.len() < self.codec.header_len() {
@@ -398,6 +402,10 @@ impl<C: PayloadFormat> PayloadPacketizer<C> {
 
         ensures kept { OnErr result (self.new ≡ self.old) }
         ensures memory { OnErr result (result ≡ Err PacketError.OutOfMemory) }
+
+        // Nothing is sent without memory.
+        ensures free { one_unit_items (packetizer_state (C.format self.old.codec) self.old) mtu
+            unit.now ≡ [] → IsOk result }
     {
         self.one_unit_is_within(mtu, unit);
         let mut made = Vec::new(self.alloc);
@@ -426,6 +434,10 @@ impl<C: PayloadFormat> PayloadPacketizer<C> {
         ensures kept { OnErr result (self.new ≡ self.old) }
         ensures kept_packets { OnErr result (into.new ≡ into.old) }
         ensures memory { OnErr result (result ≡ Err PacketError.OutOfMemory) }
+
+        // Nothing is sent without memory.
+        ensures free { one_unit_items (packetizer_state (C.format self.old.codec) self.old) mtu
+            unit.now ≡ [] → IsOk result }
     {
         self.one_unit_is_within(mtu, unit);
         let mut made = Appending::take(self.alloc, into);

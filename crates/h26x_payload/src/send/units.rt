@@ -64,6 +64,7 @@ pub(crate) fn push_unit<C: PayloadFormat, S: PacketSink>(
     ensures sent { IfOk result (λ next. ArePushed (C.format codec) don
         (unit_items (C.format codec) limit unit.now) (S.packets made.old)
         (S.packets made.new) next) }
+    ensures nothing { unit_items (C.format codec) limit unit.now ≡ [] → IsOk result }
     ensures before { S.before made.new ≡ S.before made.old }
     ensures memory { OnErr result (result ≡ Err PacketError.OutOfMemory) }
 {

@@ -4,10 +4,7 @@ use super::{bytes_of, list_of, same};
 use crate::rows::ends::Call;
 use h26x_codec::CodecPacketizer;
 use h26x_core::{PacketError, Packetizer};
-use h26x_payload::PacketBuffer;
-use h264_payload::H264Packetizer;
-use h265_payload::H265Packetizer;
-use h266_payload::H266Packetizer;
+use h26x_payload::{PacketBuffer, PayloadFormat, PayloadPacketizer};
 use std::alloc::{AllocError, Global};
 use std::process::Abort;
 use std::test::Fail;
@@ -41,45 +38,7 @@ pub(crate) trait Appends: Packetizer {
     fn send_unit(&mut self, mtu: usize, unit: &[u8]) -> Result<Vec<Vec<u8>>, PacketError>;
 }
 
-impl Appends for H264Packetizer {
-    fn append(
-        &mut self,
-        how: How,
-        mtu: usize,
-        bytes: &[u8],
-        into: &mut PacketBuffer,
-    ) -> Result<(), PacketError> {
-        match how {
-            How::Payload => self.packetize_into(mtu, bytes, into),
-            How::Unit => self.packetize_unit_into(mtu, bytes, into),
-        }
-    }
-
-    fn send_unit(&mut self, mtu: usize, unit: &[u8]) -> Result<Vec<Vec<u8>>, PacketError> {
-        self.packetize_unit(mtu, unit)
-    }
-}
-
-impl Appends for H265Packetizer {
-    fn append(
-        &mut self,
-        how: How,
-        mtu: usize,
-        bytes: &[u8],
-        into: &mut PacketBuffer,
-    ) -> Result<(), PacketError> {
-        match how {
-            How::Payload => self.packetize_into(mtu, bytes, into),
-            How::Unit => self.packetize_unit_into(mtu, bytes, into),
-        }
-    }
-
-    fn send_unit(&mut self, mtu: usize, unit: &[u8]) -> Result<Vec<Vec<u8>>, PacketError> {
-        self.packetize_unit(mtu, unit)
-    }
-}
-
-impl Appends for H266Packetizer {
+impl<C: PayloadFormat> Appends for PayloadPacketizer<C> {
     fn append(
         &mut self,
         how: How,

@@ -1,4 +1,4 @@
-use Rattle.std.proofs.Common.{rules, ◌≡◌, ◌+◌, get_or, arith}
+use Rattle.std.proofs.Common.{arith}
 use Rattle.h26x_payload.proofs.BufferLemmas.{packet_within}
 use Rattle.h26x_payload.proofs.send.buffer_packets.next_bounds.Goals as goal
 

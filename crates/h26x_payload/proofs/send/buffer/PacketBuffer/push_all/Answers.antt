@@ -1,7 +1,7 @@
 use Rattle.std.proofs.Common.{◌≡◌, ◌∙◌, ◌<◌, ◌+◌, ◌++◌, ◌∷◌, [], sym, ap, ℕ, List, Vec, Global, map, get_or, length, take, append_assoc, add-one}
 use Rattle.std.proofs.lemmas.List.{get_or-map, length-map}
 use Rattle.std.proofs.Math.Seq.{take-suc}
-use Rattle.h26x_payload.specs.Buffer.{PacketBufferView, with_packets}
+use Rattle.h26x_payload.specs.Buffer.{PacketBufferView}
 use Rattle.h26x_payload.proofs.send.buffer.PacketBuffer.push_all.Goals as goal
 
 pub loop-packet-preserved : goal.loop-packet-preserved
