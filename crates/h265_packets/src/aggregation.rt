@@ -1,7 +1,7 @@
 //! Aggregation packets (RFC 7798, 4.4.2).
 
-ghost use Rattle.std.specs.Prelude.{◌≡◌, map, IfOk, OnErr, Err};
-ghost use Rattle.std.specs.Option.{option_map};
+ghost use Rattle.std.specs.Prelude.{◌≡◌, ◌<◌, length, map, [], Some, IfOk, OnErr, Err};
+ghost use Rattle.std.specs.Option.{option_map, option_map_or};
 ghost use Rattle.h265_packets.specs.Payload.{empty_aggregation, units_shown};
 
 use crate::first_unit::H265AggregationUnitFirst;
@@ -9,6 +9,7 @@ use crate::other_unit::H265AggregationUnit;
 use h26x_core::PacketError;
 use std::alloc::Global;
 use std::marker::Model;
+use std::mem;
 
 /// These units again.
 fn clone_units(
@@ -125,6 +126,42 @@ impl H265AggregationPacket {
             others: clone_units(alloc, &self.others)?,
             has_donl: self.has_donl,
         })
+    }
+
+    /// The packet of these units in the place of this one; the buffers of the first units are
+    /// exchanged, and the others.
+    pub fn set(
+        &mut self,
+        donl: Option<u16>,
+        first: &mut Vec<u8>,
+        others: &mut Vec<H265AggregationUnit>,
+        has_donl: bool,
+    )
+        requires { length first.old.items < 65536 }
+        ensures packet { self.new ≡ record {
+          first = Some (record { donl = donl; nal_unit = first.old.items });
+          others = others.old.items;
+          has_donl = has_donl;
+        } }
+        ensures first { first.new.items
+            ≡ option_map_or (λ unit. unit.nal_unit) self.old.first [] }
+        ensures others { others.new.items ≡ self.old.others }
+    {
+        let alloc = *first.allocator();
+        let unit = H265AggregationUnitFirst::of(donl, mem::replace(first, Vec::new(alloc)));
+        if let Some(before) = mem::replace(&mut self.first, Some(unit)) {
+            *first = before.into_buffer();
+        }
+        mem::swap(&mut self.others, others);
+        self.has_donl = has_donl;
+    }
+
+    /// The units, the first and then the others, to be used again.
+    pub fn into_units(self) -> (Option<H265AggregationUnitFirst>, Vec<H265AggregationUnit>)
+        ensures first { result.0 ≡ self.first }
+        ensures others { result.1.items ≡ self.others }
+    {
+        (self.first, self.others)
     }
 
     /// The buffer of the first unit, to be used again.

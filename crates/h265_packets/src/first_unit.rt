@@ -78,7 +78,9 @@ impl H265AggregationUnitFirst {
     }
 
     /// The buffer of the unit, to be used again.
-    pub fn into_buffer(self) -> Vec<u8> {
+    pub fn into_buffer(self) -> Vec<u8>
+        ensures { result.items ≡ self.nal_unit }
+    {
         self.nal_unit
     }
 }

@@ -1,10 +1,10 @@
 //! A unit of an aggregation packet behind the first (RFC 7798, 4.4.2).
 
-ghost use Rattle.std.specs.Prelude.{◌≡◌, ◌<◌, length, IfOk, OnErr, Err};
+ghost use Rattle.std.specs.Prelude.{◌≡◌, ◌<◌, length, IfOk, OnOk, OnErr, Err};
 ghost use Rattle.h265_packets.specs.Payload.{empty_other};
 
 use h26x_core::PacketError;
-use std::alloc::Global;
+use std::alloc::{AllocError, Global};
 use std::marker::Model;
 
 /// A unit of an aggregation packet behind the first (RFC 7798, 4.4.2), and DOND where it was read.
@@ -75,6 +75,21 @@ impl H265AggregationUnit {
             dond: self.dond,
             nal_unit: self.nal_unit.to_vec(alloc)?,
         })
+    }
+
+    /// The unit of these parts in the place of this one, and in its buffer. A refusal leaves this
+    /// one.
+    pub fn set(&mut self, dond: Option<u8>, nal_unit: &[u8]) -> Result<(), AllocError>
+        requires { length nal_unit.now < 65536 }
+        ensures parts { OnOk result (self.new ≡ record { dond = dond; nal_unit = nal_unit.now }) }
+        ensures kept { OnErr result (self.new ≡ self.old) }
+    {
+        let more = nal_unit.len().saturating_sub(self.nal_unit.len());
+        self.nal_unit.reserve(more)?;
+        self.nal_unit.clear();
+        self.nal_unit.extend_from_slice(nal_unit).unwrap();
+        self.dond = dond;
+        Ok(())
     }
 }
 

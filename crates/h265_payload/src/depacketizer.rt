@@ -6,8 +6,10 @@ ghost use Rattle.h26x_core.specs.Hint.{size_hint};
 ghost use Rattle.h26x_core.specs.ByteStream.{byte_stream};
 ghost use Rattle.h26x_model.specs.Payload.Extra.{extra_after};
 ghost use Rattle.h26x_model.specs.Receive.DepacketizerState.{after_packets, IsPacketOutcome};
+ghost use Rattle.h26x_model.specs.Receive.RunLimit.{run_len};
 ghost use Rattle.h265_packets.specs.Payload.{empty_single};
 ghost use Rattle.h26x_payload.specs.AccessUnit.{may_begin, is_last};
+ghost use Rattle.h26x_payload.specs.UnitSink.{grown_to};
 ghost use Rattle.h26x_model.specs.Payload.TwoBytes.{is_two_byte_fragment};
 ghost use Rattle.h265_payload.specs.H265.{h265_header};
 ghost use Rattle.h265_payload.specs.Setting.{setting, setting_format};
@@ -16,13 +18,16 @@ ghost use Rattle.h265_payload.specs.DepacketizerView.{h265_depacketization};
 
 use crate::packetizer::H265;
 use crate::show::{prepare, show};
+use crate::spare::Spare;
 use h26x_core::{CodecExtra, Depacketizer, PacketError};
 use h26x_payload::{
-    DonlFormat, OpenRun, PacketReader, PayloadFormat, check_lengths, out_size_hint, take_packet,
+    DonlFormat, OpenRun, PacketReader, PayloadFormat, UnitSink, check_lengths, out_size_hint,
+    take_packet,
 };
 use h265_packets::H265Payload;
 use std::alloc::Global;
 use std::marker::Model;
+use std::mem;
 
 /// Writes the units of packets (RFC 7798, 4.4 and 6), each behind a start code, or behind its length
 /// where `is_avc` is set, and shows the packet that it accepted last.
@@ -48,9 +53,9 @@ pub struct H265Depacketizer {
     pub is_avc: bool,
     run: OpenRun,
     payload: H265Payload,
-    /// A second buffer: the next packet's data go here first, and it changes places with the one
-    /// that is shown when nothing can fail any more.
-    spare: Vec<u8>,
+    /// What the next packet is shown by goes here first, and changes places with what is shown when
+    /// nothing can fail any more.
+    spare: Spare,
 }
 
 impl Model for H265Depacketizer {
@@ -80,7 +85,7 @@ impl H265Depacketizer {
             is_avc: false,
             run: OpenRun::none(alloc),
             payload: H265Payload::empty(alloc),
-            spare: Vec::new(alloc),
+            spare: Spare::new(alloc),
         }
     }
 
@@ -93,11 +98,26 @@ impl H265Depacketizer {
         self.codec = self.codec.with_donl(value);
     }
 
+    /// How many bytes the open run holds; none where none is open.
+    pub fn run_len(&self) -> usize
+        ensures { result ≡ run_len self.now.run }
+    {
+        self.run.len()
+    }
+
+    /// Exchanges the open run, or none, for another one. It takes no memory.
+    pub fn swap_run(&mut self, run: &mut OpenRun)
+        ensures taken { self.new ≡ record self.old { run = run.old } }
+        ensures given { run.new ≡ self.old.run }
+    {
+        mem::swap(&mut self.run, run);
+    }
+
     /// Gives up the open run, if there is one, and gives its buffer back. It takes no memory.
     ///
     /// A run grows by every fragment until one ends it, and its buffer is kept for later runs: a
-    /// caller that will not hold so much calls this. Fragments that follow without a start are
-    /// accepted and complete nothing.
+    /// caller that will not hold so much asks `run_len` and calls this. Fragments that follow
+    /// without a start are accepted and complete nothing.
     pub fn give_up_run(&mut self)
         ensures { self.new ≡ record self.old { run = None } }
     {
@@ -111,19 +131,67 @@ impl H265Depacketizer {
         &self.payload
     }
 
+    /// Takes a packet as `depacketize` does, and writes the units that it completes to a list of
+    /// bytes or to memory of a caller. Where that has no room for them the error is `OutOfMemory`;
+    /// a refusal leaves everything, the memory too.
+    #[inline]
+    pub fn depacketize_into<W: UnitSink>(
+        &mut self,
+        packet: &[u8],
+        out: &mut W,
+        codec_extra: &mut CodecExtra,
+    ) -> Result<(), PacketError>
+        ensures outcome { IsPacketOutcome (h265_depacketization self.old (W.sink out.old).bytes
+            codec_extra.old) packet.now result }
+        ensures taken { OnOk result (h265_depacketization self.new (W.sink out.new).bytes
+            codec_extra.new ≡ after_packets (h265_depacketization self.old (W.sink out.old).bytes
+            codec_extra.old) (packet.now ∷ [])) }
+        ensures behind { OnOk result (W.sink out.new
+            ≡ grown_to (W.sink out.new).bytes (W.sink out.old)) }
+        ensures accepted { OnOk result (IsFrontOf (W.sink out.old).bytes (W.sink out.new).bytes) }
+        ensures setting { self.new ≡ record self.old {
+          run = self.new.run;
+          payload = self.new.payload;
+        } }
+        ensures shows { OnOk result (self.new.payload
+            ≡ shown self.old.codec.has_donl packet.now) }
+
+        // The units of an aggregate are those that are shown.
+        ensures aggregate { OnOk result (is_aggregate self.new.payload ≡ true →
+            ((W.sink out.new).bytes ≡ (W.sink out.old).bytes ++ byte_stream self.old.is_avc
+            (units_of_aggregate self.new.payload))
+            × (codec_extra.new ≡ extra_after (setting_format self.old.codec) codec_extra.old
+            (units_of_aggregate self.new.payload))) }
+
+        ensures kept { OnErr result (self.new ≡ self.old) }
+        ensures kept_sink { OnErr result (W.sink out.new ≡ W.sink out.old) }
+        ensures kept_extra { OnErr result (codec_extra.new ≡ codec_extra.old) }
+    {
+        let codec = self.codec;
+        let parts = codec.read(packet)?;
+        let is_avc = self.is_avc;
+        check_lengths(codec, is_avc, packet, parts, &self.run)?;
+        prepare(codec.has_donl, packet, parts, &mut self.spare)?;
+        let run = &mut self.run;
+        take_packet(codec, is_avc, packet, parts, run, out, codec_extra)?;
+        let (payload, spare) = (&mut self.payload, &mut self.spare);
+        show(codec.has_donl, packet, parts, payload, spare);
+        Ok(())
+    }
+
     /// The same depacketizer again, with its settings, its open run and what it shows. `OutOfMemory`
     /// is its only error.
     pub fn clone(&self) -> Result<Self, PacketError>
         ensures same { IfOk result (λ it. it ≡ self.now) }
         ensures memory { OnErr result (result ≡ Err PacketError.OutOfMemory) }
     {
-        let alloc = *self.spare.allocator();
+        let alloc = self.spare.allocator();
         Ok(H265Depacketizer {
             codec: self.codec,
             is_avc: self.is_avc,
             run: self.run.clone()?,
             payload: self.payload.clone(alloc)?,
-            spare: Vec::new(alloc),
+            spare: Spare::new(alloc),
         })
     }
 }
@@ -173,7 +241,8 @@ impl Depacketizer for H265Depacketizer {
     ///
     /// A start of fragments gives up a unit that was open, and a fragment without a start before it
     /// is accepted and completes nothing. That fragments between were lost is not noticed here:
-    /// their unit is written without their data.
+    /// their unit is written without their data. `h26x_receiver` notices it, by the sequence numbers
+    /// of packets.
     ///
     /// A refusal leaves `out`, `codec_extra`, the open unit and `payload`:
     /// - `ErrShortPacket`: two bytes or fewer; no room for DONL where the packet bears it; no data
@@ -214,16 +283,7 @@ impl Depacketizer for H265Depacketizer {
         ensures kept_extra { OnErr result (codec_extra.new ≡ codec_extra.old) }
         ensures kept_self { OnErr result (self.new ≡ self.old) }
     {
-        let codec = self.codec;
-        let parts = codec.read(packet)?;
-        let is_avc = self.is_avc;
-        check_lengths(codec, is_avc, packet, parts, &self.run)?;
-        let ready = prepare(codec.has_donl, packet, parts, &mut self.spare)?;
-        let run = &mut self.run;
-        take_packet(codec, is_avc, packet, parts, run, out, codec_extra)?;
-        let (payload, spare) = (&mut self.payload, &mut self.spare);
-        show(codec.has_donl, packet, ready, payload, spare);
-        Ok(())
+        self.depacketize_into(packet, out, codec_extra)
     }
 
     /// Whether `packet` may be the first of an access unit: it has two bytes or more and, where it

@@ -23,6 +23,7 @@ pub mod laws;
 mod packet;
 mod packetizer;
 mod show;
+mod spare;
 
 pub use depacketizer::H265Depacketizer;
 pub use detect::detect_h265_keyframe;

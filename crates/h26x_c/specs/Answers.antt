@@ -2,9 +2,18 @@
 use Rattle.std.specs.Prelude.{◌≡◌, ℕ, List, Some, Result}
 use Rattle.h26x_core.specs.declared.error.PacketError.{PacketError}
 use Rattle.h26x_model.specs.Receive.DepacketizerState.{Depacketization, IsPacketOutcome}
-use Rattle.h26x_handles.specs.Codes.{outcome_of}
+use Rattle.h26x_receiver.specs.declared.received.Received.{Received}
+use Rattle.h26x_receiver.specs.Sequenced.{SequencedDepacketization, IsSequencedAnswer}
+use Rattle.h26x_handles.specs.Codes.{outcome_of, SaysAnswer}
 
 -- the code and its two numbers say an outcome, and the packet may have that one
 abbrev pub IsAnswer : Depacketization → List ℕ → ℕ → ℕ → ℕ → Type 0
 IsAnswer w packet code first second = (outcome : Result (Unit {0}) PacketError)
     × (outcome_of code first second ≡ Some outcome) × IsPacketOutcome w packet outcome
+
+-- the code and its numbers say an answer, and a packet with this sequence number may have that one
+abbrev pub IsSequencedCode : ℕ → SequencedDepacketization → ℕ → List ℕ → ℕ → ℕ → ℕ → ℕ → ℕ → Type 0
+IsSequencedCode most s number packet code first second received count =
+    (answer : Result Received PacketError)
+    × SaysAnswer code first second received count answer
+    × IsSequencedAnswer most s number packet answer

@@ -1,7 +1,8 @@
 //! The C library. `bindings/include/h26x.h` declares its calls, and says what a caller owes.
 //!
-//! A handle is a struct of one pointer to an `Endpoint` of `h26x_handles`, a packetizer or a
-//! depacketizer of one codec. Each call states what it answers in the words of the payload formats.
+//! A handle is a struct of one pointer to an `Endpoint` of `h26x_handles`, a packetizer, a
+//! depacketizer or a receiver of packets with their sequence numbers, of one codec. Each call states
+//! what it answers in the words of the payload formats.
 #![tactic(auto)]
 
 mod handle;
@@ -11,5 +12,6 @@ mod place;
 mod profiles;
 mod receiving;
 mod sending;
+mod sequenced;
 mod shown;
 mod units;

@@ -6,8 +6,8 @@ ghost use Rattle.h26x_codec.specs.Codec.{codec_format, fresh_depacketizer_state}
 ghost use Rattle.h26x_codec.specs.declared.codec.Codec.{Codec};
 ghost use Rattle.h26x_c.specs.Answers.{IsAnswer};
 ghost use Rattle.h26x_handles.specs.Codes.{codec_or_code, may_have_donl, extra_with_number, extra_number, ok, out_of_memory, wrong_end, not_of_this_codec};
-ghost use Rattle.h26x_handles.specs.Copies.{with_front};
-ghost use Rattle.h26x_handles.specs.States.{is_sending, endpoint_depacketizer_state, endpoint_written, endpoint_codec, fresh_receiving_endpoint, endpoint_showing, endpoint_without_output, are_same_endpoints, endpoint_without_run, endpoint_with_donl};
+ghost use Rattle.h26x_handles.specs.Copies.{with_front, without_room};
+ghost use Rattle.h26x_handles.specs.States.{is_receiving, endpoint_depacketizer_state, endpoint_written, endpoint_codec, fresh_receiving_endpoint, endpoint_showing, endpoint_without_output, are_same_endpoints, endpoint_without_run, endpoint_with_donl};
 
 use crate::handle::Handle;
 use crate::place::{Place, put};
@@ -19,6 +19,7 @@ use h26x_handles::code::{
 use h26x_handles::copy::copy_where_room;
 use h26x_handles::endpoint::Endpoint;
 use h26x_handles::receiving::ReceivingEndpoint;
+use h26x_receiver::RunDepacketizer;
 use std::alloc::Global;
 
 /// Makes a depacketizer with no run open.
@@ -51,15 +52,15 @@ pub extern "C" fn h26x_depacketizer_new(
 /// Makes a depacketizer again, without what its last packet completed.
 #[unsafe(no_mangle)]
 pub extern "C" fn h26x_depacketizer_clone(alloc: Global, d: &mut Handle, made: &mut Place) -> u32
-    ensures wrong { is_sending d.old.value ≡ true → result ≡ wrong_end }
-    ensures answer { is_sending d.old.value ≡ false → (result ≡ ok) ⊎ (result ≡ out_of_memory) }
+    ensures wrong { is_receiving d.old.value ≡ false → result ≡ wrong_end }
+    ensures answer { is_receiving d.old.value ≡ true → (result ≡ ok) ⊎ (result ≡ out_of_memory) }
     ensures made { result ≡ ok → made.new.value ≡ Some (endpoint_without_output d.old.value) }
     ensures kept { result ≢ ok → made.new ≡ made.old }
     ensures left { d.new.value ≡ d.old.value }
 {
     let copy = match d.get_mut() {
         Endpoint::Receiving(it) => it.clone(alloc),
-        Endpoint::Sending(_) => return WRONG_END,
+        Endpoint::Sending(_) | Endpoint::Sequenced(_) => return WRONG_END,
     };
     match copy {
         Ok(copy) => put(alloc, Endpoint::Receiving(copy), made),
@@ -89,10 +90,10 @@ pub extern "C" fn h26x_depacketizer_same(a: &mut Handle, b: &mut Handle) -> bool
 /// Sets whether packets bear decoding order numbers.
 #[unsafe(no_mangle)]
 pub extern "C" fn h26x_depacketizer_set_numbers(d: &mut Handle, numbers: bool) -> u32
-    ensures wrong { is_sending d.old.value ≡ true → result ≡ wrong_end }
-    ensures none { is_sending d.old.value ≡ false → may_have_donl (endpoint_codec d.old.value) ≡ false →
-        result ≡ not_of_this_codec }
-    ensures set { is_sending d.old.value ≡ false → may_have_donl (endpoint_codec d.old.value) ≡ true →
+    ensures wrong { is_receiving d.old.value ≡ false → result ≡ wrong_end }
+    ensures none { is_receiving d.old.value ≡ true →
+        may_have_donl (endpoint_codec d.old.value) ≡ false → result ≡ not_of_this_codec }
+    ensures set { is_receiving d.old.value ≡ true → may_have_donl (endpoint_codec d.old.value) ≡ true →
         (result ≡ ok) × (d.new.value ≡ endpoint_with_donl numbers d.old.value) }
     ensures kept { result ≢ ok → d.new.value ≡ d.old.value }
 {
@@ -104,12 +105,12 @@ pub extern "C" fn h26x_depacketizer_set_numbers(d: &mut Handle, numbers: bool) -
             it.depacketizer.with_donl(numbers);
             OK
         }
-        Endpoint::Sending(_) => WRONG_END,
+        Endpoint::Sending(_) | Endpoint::Sequenced(_) => WRONG_END,
     }
 }
 
-/// Takes a packet, and copies what it completes, behind lengths or behind start codes, where there
-/// is room for it.
+/// Takes a packet, and writes what it completes, behind lengths or behind start codes, where there is
+/// room for it.
 #[unsafe(no_mangle)]
 pub extern "C" fn h26x_depacketize(
     d: &mut Handle,
@@ -120,7 +121,7 @@ pub extern "C" fn h26x_depacketize(
     extra: &mut u8,
     why: &mut Refusal,
 ) -> u32
-    ensures wrong { is_sending d.old.value ≡ true → result ≡ wrong_end }
+    ensures wrong { is_receiving d.old.value ≡ false → result ≡ wrong_end }
     ensures answer { (it : DepacketizerState) →
         endpoint_depacketizer_state is_avc d.old.value ≡ Some it →
         IsAnswer (depacketization it [] (extra_with_number (endpoint_codec d.old.value) extra.old))
@@ -132,16 +133,22 @@ pub extern "C" fn h26x_depacketize(
         (extra_with_number (endpoint_codec d.old.value) extra.old)) (packet.now ∷ [])).state }
     ensures rest { result ≡ ok → endpoint_without_run (endpoint_without_output d.new.value)
         ≡ endpoint_without_run (endpoint_without_output (endpoint_showing packet.now d.old.value)) }
-    ensures completed { (it : DepacketizerState) →
-        endpoint_depacketizer_state is_avc d.old.value ≡ Some it → result ≡ ok →
-        endpoint_written d.new.value ≡ (after_packets (depacketization it []
-        (extra_with_number (endpoint_codec d.old.value) extra.old)) (packet.now ∷ [])).out }
     ensures told { (it : DepacketizerState) → endpoint_depacketizer_state is_avc d.old.value
         ≡ Some it → result ≡ ok →
         extra.new ≡ extra_number (after_packets (depacketization it []
         (extra_with_number (endpoint_codec d.old.value) extra.old)) (packet.now ∷ [])).extra }
-    ensures written { result ≡ ok → written.new ≡ length (endpoint_written d.new.value) }
-    ensures copied { result ≡ ok → to.new ≡ with_front (endpoint_written d.new.value) to.old }
+    ensures written { (it : DepacketizerState) → endpoint_depacketizer_state is_avc d.old.value
+        ≡ Some it → result ≡ ok →
+        written.new ≡ length (after_packets (depacketization it []
+        (extra_with_number (endpoint_codec d.old.value) extra.old)) (packet.now ∷ [])).out }
+    ensures put { (it : DepacketizerState) → endpoint_depacketizer_state is_avc d.old.value
+        ≡ Some it → result ≡ ok →
+        to.new ≡ with_front (after_packets (depacketization it []
+        (extra_with_number (endpoint_codec d.old.value) extra.old)) (packet.now ∷ [])).out to.old }
+    ensures kept_output { (it : DepacketizerState) → endpoint_depacketizer_state is_avc d.old.value
+        ≡ Some it → result ≡ ok →
+        endpoint_written d.new.value ≡ without_room (after_packets (depacketization it []
+        (extra_with_number (endpoint_codec d.old.value) extra.old)) (packet.now ∷ [])).out to.old }
     ensures kept_why { result ≡ ok → why.new ≡ why.old }
     ensures none_written { result ≢ ok → written.new ≡ 0 }
     ensures kept { result ≢ ok → d.new.value ≡ d.old.value }
@@ -149,31 +156,31 @@ pub extern "C" fn h26x_depacketize(
     ensures kept_extra { result ≢ ok → extra.new ≡ extra.old }
 {
     *written = 0;
-    let it = match d.get_mut() {
-        Endpoint::Receiving(it) => it,
-        Endpoint::Sending(_) => return WRONG_END,
+    let Endpoint::Receiving(it) = d.get_mut() else {
+        return WRONG_END;
     };
     let codec = it.depacketizer.codec();
     let mut told = extra_of(codec, *extra);
-    match it.depacketize(is_avc, packet, &mut told) {
+    match it.depacketize(is_avc, packet, to, written, &mut told) {
         Ok(()) => {
             *extra = number_of(told);
-            *written = copy_where_room(it.written(), to);
             OK
         }
         Err(error) => code_of(error, why),
     }
 }
 
-/// Copies what the last accepted packet completed where there is room for it; its length.
+/// Copies what the last packet that was taken completed and had no room for, where there is room for
+/// it now; its length.
 #[unsafe(no_mangle)]
 pub extern "C" fn h26x_written_copy(d: &mut Handle, to: &mut [u8]) -> usize
     ensures len { result ≡ length (endpoint_written d.old.value) }
     ensures copied { to.new ≡ with_front (endpoint_written d.old.value) to.old }
-    ensures kept { d.new.value ≡ d.old.value }
+    ensures left { d.new.value ≡ d.old.value }
 {
     match d.get_mut() {
         Endpoint::Receiving(it) => copy_where_room(it.written(), to),
+        Endpoint::Sequenced(it) => copy_where_room(it.written(), to),
         Endpoint::Sending(_) => copy_where_room(&[], to),
     }
 }
@@ -181,9 +188,9 @@ pub extern "C" fn h26x_written_copy(d: &mut Handle, to: &mut [u8]) -> usize
 /// Gives up the open run and its buffer.
 #[unsafe(no_mangle)]
 pub extern "C" fn h26x_give_up_run(d: &mut Handle) -> u32
-    ensures wrong { is_sending d.old.value ≡ true → (result ≡ wrong_end)
+    ensures wrong { is_receiving d.old.value ≡ false → (result ≡ wrong_end)
         × (d.new.value ≡ d.old.value) }
-    ensures closed { is_sending d.old.value ≡ false → (result ≡ ok)
+    ensures closed { is_receiving d.old.value ≡ true → (result ≡ ok)
         × (d.new.value ≡ endpoint_without_run d.old.value) }
 {
     match d.get_mut() {
@@ -191,6 +198,6 @@ pub extern "C" fn h26x_give_up_run(d: &mut Handle) -> u32
             it.depacketizer.give_up_run();
             OK
         }
-        Endpoint::Sending(_) => WRONG_END,
+        Endpoint::Sending(_) | Endpoint::Sequenced(_) => WRONG_END,
     }
 }

@@ -1,17 +1,20 @@
 //! The calls of a packetizer.
 
 ghost use Rattle.std.specs.Prelude.{◌≡◌, ◌≢◌, ◌≤◌, ◌<◌, ◌⊎◌, ℕ, [], true, false, Some, None, Ok, Err, length, drop};
+ghost use Rattle.std.specs.List.{concat};
 ghost use Rattle.h26x_model.specs.Send.PacketizerState.{PacketizerState, state_packets, after_entries, has_no_effect, one_unit_items, one_unit_packets, after_one_unit};
 ghost use Rattle.h26x_codec.specs.Codec.{codec_format, fresh_packetizer_state, next_call};
 ghost use Rattle.h26x_codec.specs.declared.codec.Codec.{Codec};
 ghost use Rattle.h26x_handles.specs.Codes.{codec_or_code, may_have_donl, ok, out_of_memory, wrong_end, not_of_this_codec, out_of_range};
 ghost use Rattle.h26x_handles.specs.Copies.{with_front, nth_packet, AreCopied};
+ghost use Rattle.h26x_handles.specs.PlacementAnswer.{AreCounted, IsPlacementAnswer};
 ghost use Rattle.h26x_handles.specs.States.{endpoint_packetizer_state, endpoint_packets, endpoint_codec, place_packetizer_state, place_packets, endpoint_without_output, payload_entries};
 
 use crate::handle::Handle;
 use crate::place::{Place, put};
 use h26x_handles::code::{
-    NOT_OF_THIS_CODEC, OK, OUT_OF_MEMORY, OUT_OF_RANGE, WRONG_END, codec_wanted, may_have_donl,
+    NOT_OF_THIS_CODEC, OK, OUT_OF_MEMORY, OUT_OF_RANGE, WRONG_END, code_of_placement, codec_wanted,
+    may_have_donl,
 };
 use h26x_handles::copy::copy_where_room;
 use h26x_handles::endpoint::Endpoint;
@@ -56,7 +59,7 @@ pub extern "C" fn h26x_packetizer_clone(alloc: Global, p: &mut Handle, made: &mu
 {
     let copy = match p.get_mut() {
         Endpoint::Sending(it) => it.clone(alloc),
-        Endpoint::Receiving(_) => return WRONG_END,
+        Endpoint::Receiving(_) | Endpoint::Sequenced(_) => return WRONG_END,
     };
     match copy {
         Ok(copy) => put(alloc, Endpoint::Sending(copy), made),
@@ -94,7 +97,7 @@ pub extern "C" fn h26x_packetizer_set_numbers(p: &mut Handle, numbers: bool) -> 
             it.packetizer.with_donl(numbers);
             OK
         }
-        Endpoint::Receiving(_) => WRONG_END,
+        Endpoint::Receiving(_) | Endpoint::Sequenced(_) => WRONG_END,
     }
 }
 
@@ -123,7 +126,7 @@ pub extern "C" fn h26x_packetizer_set_max_size(p: &mut Handle, bytes: u16) -> u3
             it.packetizer.with_max_packet_size(bytes);
             OK
         }
-        Endpoint::Receiving(_) => WRONG_END,
+        Endpoint::Receiving(_) | Endpoint::Sequenced(_) => WRONG_END,
     }
 }
 
@@ -160,7 +163,7 @@ pub extern "C" fn h26x_packetize(
                 Err(_) => OUT_OF_MEMORY,
             }
         }
-        Endpoint::Receiving(_) => {
+        Endpoint::Receiving(_) | Endpoint::Sequenced(_) => {
             *count = 0;
             WRONG_END
         }
@@ -201,8 +204,136 @@ pub extern "C" fn h26x_packetize_unit(
                 Err(_) => OUT_OF_MEMORY,
             }
         }
-        Endpoint::Receiving(_) => {
+        Endpoint::Receiving(_) | Endpoint::Sequenced(_) => {
             *count = 0;
+            WRONG_END
+        }
+    }
+}
+
+/// How many packets there are of a payload, and how many bytes they take in memory, each behind
+/// `headroom`. Nothing changes.
+#[unsafe(no_mangle)]
+pub extern "C" fn h26x_packets_size(
+    p: &mut Handle,
+    mtu: usize,
+    payload: &[u8],
+    headroom: usize,
+    count: &mut usize,
+    size: &mut usize,
+) -> u32
+    ensures wrong { endpoint_packetizer_state p.old.value ≡ None → result ≡ wrong_end }
+    ensures answer { (it : PacketizerState) → endpoint_packetizer_state p.old.value ≡ Some it →
+        (result ≡ ok) ⊎ (result ≡ out_of_memory) }
+    ensures free { (it : PacketizerState) → endpoint_packetizer_state p.old.value ≡ Some it →
+        has_no_effect it.format (next_call it mtu payload.now) ≡ true → result ≡ ok }
+    ensures size { (it : PacketizerState) → endpoint_packetizer_state p.old.value ≡ Some it →
+        result ≡ ok → AreCounted headroom (state_packets it (payload_entries it mtu payload.now))
+        count.new size.new }
+    ensures none { result ≢ ok → (count.new ≡ 0) × (size.new ≡ 0) }
+    ensures left { p.new.value ≡ p.old.value }
+{
+    *count = 0;
+    *size = 0;
+    let made = match p.get_mut() {
+        Endpoint::Sending(it) => it.packetizer.packets_size(mtu, payload, headroom),
+        Endpoint::Receiving(_) | Endpoint::Sequenced(_) => return WRONG_END,
+    };
+    match made {
+        Ok(taken) => {
+            *count = taken.packets;
+            *size = taken.bytes;
+            OK
+        }
+        Err(_) => OUT_OF_MEMORY,
+    }
+}
+
+/// Copies the packets of a payload straight to memory where they fit, each behind `headroom` bytes that
+/// stay, and writes where each ends; else nothing is done. The packets of the last call stay.
+#[unsafe(no_mangle)]
+pub extern "C" fn h26x_packetize_into(
+    p: &mut Handle,
+    mtu: usize,
+    payload: &[u8],
+    headroom: usize,
+    to: &mut [u8],
+    ends: &mut [usize],
+    count: &mut usize,
+    size: &mut usize,
+) -> u32
+    ensures wrong { endpoint_packetizer_state p.old.value ≡ None → result ≡ wrong_end }
+    ensures answer { (it : PacketizerState) → endpoint_packetizer_state p.old.value ≡ Some it →
+        IsPlacementAnswer headroom (state_packets it (payload_entries it mtu payload.now))
+        to.old to.new ends.old ends.new result count.new size.new }
+    ensures free { (it : PacketizerState) → endpoint_packetizer_state p.old.value ≡ Some it →
+        has_no_effect it.format (next_call it mtu payload.now) ≡ true → result ≢ out_of_memory }
+    ensures after { (it : PacketizerState) → endpoint_packetizer_state p.old.value ≡ Some it →
+        result ≡ ok →
+        endpoint_packetizer_state p.new.value ≡ Some
+        (after_entries it (payload_entries it mtu payload.now)) }
+    ensures codec { endpoint_codec p.new.value ≡ endpoint_codec p.old.value }
+    ensures packets { endpoint_packets p.new.value ≡ endpoint_packets p.old.value }
+    ensures kept { result ≢ ok → p.new.value ≡ p.old.value }
+    ensures kept_to { result ≢ ok → to.new ≡ to.old }
+    ensures kept_ends { result ≢ ok → ends.new ≡ ends.old }
+    ensures none { result ≡ wrong_end → (count.new ≡ 0) × (size.new ≡ 0) }
+{
+    match p.get_mut() {
+        Endpoint::Sending(it) => {
+            let made = it
+                .packetizer
+                .packetize_to_memory(mtu, payload, headroom, to, ends);
+            code_of_placement(made, count, size)
+        }
+        Endpoint::Receiving(_) | Endpoint::Sequenced(_) => {
+            *count = 0;
+            *size = 0;
+            WRONG_END
+        }
+    }
+}
+
+/// Copies the packets of one unit as it is straight to memory where they fit, as those of a payload.
+#[unsafe(no_mangle)]
+pub extern "C" fn h26x_packetize_unit_into(
+    p: &mut Handle,
+    mtu: usize,
+    unit: &[u8],
+    headroom: usize,
+    to: &mut [u8],
+    ends: &mut [usize],
+    count: &mut usize,
+    size: &mut usize,
+) -> u32
+    ensures wrong { endpoint_packetizer_state p.old.value ≡ None → result ≡ wrong_end }
+    ensures answer { (it : PacketizerState) → endpoint_packetizer_state p.old.value ≡ Some it →
+        IsPlacementAnswer headroom (one_unit_packets it mtu unit.now)
+        to.old to.new ends.old ends.new result count.new size.new }
+    ensures after { (it : PacketizerState) → endpoint_packetizer_state p.old.value ≡ Some it →
+        result ≡ ok →
+        endpoint_packetizer_state p.new.value ≡ Some (after_one_unit it mtu unit.now) }
+    ensures codec { endpoint_codec p.new.value ≡ endpoint_codec p.old.value }
+    ensures packets { endpoint_packets p.new.value ≡ endpoint_packets p.old.value }
+    ensures kept { result ≢ ok → p.new.value ≡ p.old.value }
+    ensures kept_to { result ≢ ok → to.new ≡ to.old }
+    ensures kept_ends { result ≢ ok → ends.new ≡ ends.old }
+    ensures none { result ≡ wrong_end → (count.new ≡ 0) × (size.new ≡ 0) }
+
+    // Nothing is sent without memory.
+    ensures free { (it : PacketizerState) → endpoint_packetizer_state p.old.value ≡ Some it →
+        one_unit_items it mtu unit.now ≡ [] → result ≢ out_of_memory }
+{
+    match p.get_mut() {
+        Endpoint::Sending(it) => {
+            let made = it
+                .packetizer
+                .packetize_unit_to_memory(mtu, unit, headroom, to, ends);
+            code_of_placement(made, count, size)
+        }
+        Endpoint::Receiving(_) | Endpoint::Sequenced(_) => {
+            *count = 0;
+            *size = 0;
             WRONG_END
         }
     }
@@ -212,11 +343,11 @@ pub extern "C" fn h26x_packetize_unit(
 #[unsafe(no_mangle)]
 pub extern "C" fn h26x_packet_count(p: &mut Handle) -> usize
     ensures count { result ≡ length (endpoint_packets p.old.value) }
-    ensures kept { p.new.value ≡ p.old.value }
+    ensures left { p.new.value ≡ p.old.value }
 {
     match p.get_mut() {
         Endpoint::Sending(it) => it.count(),
-        Endpoint::Receiving(_) => 0,
+        Endpoint::Receiving(_) | Endpoint::Sequenced(_) => 0,
     }
 }
 
@@ -224,11 +355,23 @@ pub extern "C" fn h26x_packet_count(p: &mut Handle) -> usize
 #[unsafe(no_mangle)]
 pub extern "C" fn h26x_packet_len(p: &mut Handle, i: usize) -> usize
     ensures len { result ≡ length (nth_packet i (endpoint_packets p.old.value)) }
-    ensures kept { p.new.value ≡ p.old.value }
+    ensures left { p.new.value ≡ p.old.value }
 {
     match p.get_mut() {
         Endpoint::Sending(it) => it.packet(i).len(),
-        Endpoint::Receiving(_) => 0,
+        Endpoint::Receiving(_) | Endpoint::Sequenced(_) => 0,
+    }
+}
+
+/// How many bytes the packets are together.
+#[unsafe(no_mangle)]
+pub extern "C" fn h26x_packets_len(p: &mut Handle) -> usize
+    ensures len { result ≡ length (concat (endpoint_packets p.old.value)) }
+    ensures left { p.new.value ≡ p.old.value }
+{
+    match p.get_mut() {
+        Endpoint::Sending(it) => it.bytes_len(),
+        Endpoint::Receiving(_) | Endpoint::Sequenced(_) => 0,
     }
 }
 
@@ -237,11 +380,11 @@ pub extern "C" fn h26x_packet_len(p: &mut Handle, i: usize) -> usize
 pub extern "C" fn h26x_packet_copy(p: &mut Handle, i: usize, to: &mut [u8]) -> usize
     ensures len { result ≡ length (nth_packet i (endpoint_packets p.old.value)) }
     ensures copied { to.new ≡ with_front (nth_packet i (endpoint_packets p.old.value)) to.old }
-    ensures kept { p.new.value ≡ p.old.value }
+    ensures left { p.new.value ≡ p.old.value }
 {
     match p.get_mut() {
         Endpoint::Sending(it) => copy_where_room(it.packet(i), to),
-        Endpoint::Receiving(_) => copy_where_room(&[], to),
+        Endpoint::Receiving(_) | Endpoint::Sequenced(_) => copy_where_room(&[], to),
     }
 }
 
@@ -257,10 +400,10 @@ pub extern "C" fn h26x_packets_copy(
     ensures copied { AreCopied (drop first (endpoint_packets p.old.value)) to.old to.new ends.old
         ends.new
         result }
-    ensures kept { p.new.value ≡ p.old.value }
+    ensures left { p.new.value ≡ p.old.value }
 {
     match p.get_mut() {
         Endpoint::Sending(it) => it.copy_packets(first, to, ends),
-        Endpoint::Receiving(_) => 0,
+        Endpoint::Receiving(_) | Endpoint::Sequenced(_) => 0,
     }
 }

@@ -1,7 +1,8 @@
-//! The calls on the packet that a depacketizer of H.265 shows.
+//! The calls on the packet that a depacketizer or a receiver of H.265 shows.
 
 ghost use Rattle.std.specs.Prelude.{◌≡◌, ◌≢◌, true, false, [], ◌++◌, None, Some, length, map};
 ghost use Rattle.h265_packets.specs.declared.payload.H265Payload.{H265Payload};
+ghost use Rattle.h26x_receiver.specs.AnyDepacketizer.{any_depacketizer_shown};
 ghost use Rattle.h26x_handles.specs.Codes.{ok, wrong_end, not_of_this_codec};
 ghost use Rattle.h26x_handles.specs.Copies.{with_front};
 ghost use Rattle.h26x_handles.specs.States.{is_sending};
@@ -10,8 +11,8 @@ ghost use Rattle.h26x_handles.specs.Shown.{part_without_don, first_part, other_p
 use crate::handle::Handle;
 use h26x_handles::code::{NOT_OF_THIS_CODEC, OK, WRONG_END};
 use h26x_handles::copy::copy_where_room;
-use h26x_handles::depacketizer::AnyDepacketizer;
 use h26x_handles::endpoint::Endpoint;
+use h26x_receiver::AnyDepacketizer;
 use h265_packets::{H265AggregationPacket, H265AggregationUnit, H265Payload};
 
 /// What is told where no number was read before a part.
@@ -45,11 +46,29 @@ pub extern "C" fn h26x_h265_shown(d: &mut Handle, shown: &mut Shown) -> u32
     ensures kept { result ≢ ok → shown.new ≡ shown.old }
     ensures left { d.new.value ≡ d.old.value }
 {
-    let it = match d.get_mut() {
-        Endpoint::Receiving(it) => it,
-        Endpoint::Sending(_) => return WRONG_END,
-    };
-    match it.depacketizer.shown() {
+    match d.get_mut() {
+        Endpoint::Receiving(it) => show(&it.depacketizer, shown),
+        Endpoint::Sequenced(it) => show(it.depacketizer(), shown),
+        Endpoint::Sending(_) => WRONG_END,
+    }
+}
+
+/// Writes the packet that a depacketizer shows in numbers, where its codec shows packets.
+fn show(depacketizer: &AnyDepacketizer, shown: &mut Shown) -> u32
+    ensures none { any_depacketizer_shown depacketizer.now ≡ None → result ≡ not_of_this_codec }
+    ensures answer { (it : H265Payload) → any_depacketizer_shown depacketizer.now ≡ Some it →
+        result ≡ ok }
+    ensures kind { (it : H265Payload) → any_depacketizer_shown depacketizer.now ≡ Some it →
+        shown.new.kind ≡ payload_kind_number it }
+    ensures header { (it : H265Payload) → any_depacketizer_shown depacketizer.now ≡ Some it →
+        shown.new.header ≡ payload_header it }
+    ensures word { (it : H265Payload) → any_depacketizer_shown depacketizer.now ≡ Some it →
+        shown.new.word ≡ payload_word it }
+    ensures parts { (it : H265Payload) → any_depacketizer_shown depacketizer.now ≡ Some it →
+        shown.new.parts ≡ length (payload_parts it) }
+    ensures kept { result ≢ ok → shown.new ≡ shown.old }
+{
+    match depacketizer.shown() {
         Some(packet) => {
             *shown = in_numbers(packet);
             OK
@@ -74,6 +93,7 @@ pub extern "C" fn h26x_h265_part_copy(
 {
     match d.get_mut() {
         Endpoint::Receiving(it) => copy_part(shown_part(&it.depacketizer, i), to, number),
+        Endpoint::Sequenced(it) => copy_part(shown_part(it.depacketizer(), i), to, number),
         Endpoint::Sending(_) => copy_part(Part::part_without_don(&[]), to, number),
     }
 }

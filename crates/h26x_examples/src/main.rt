@@ -5,6 +5,8 @@
 //! `h264`, `h265` or `h266`.
 #![tactic(auto)]
 
+#[cfg(test)]
+mod access_units;
 mod annex_b;
 #[cfg(test)]
 mod any_end;
@@ -23,11 +25,17 @@ mod one_buffer;
 #[cfg(test)]
 mod outcomes;
 #[cfg(test)]
+mod own_depacketizer;
+#[cfg(test)]
 mod profiles;
 #[cfg(test)]
 mod runs;
 #[cfg(test)]
 mod sdp;
+#[cfg(test)]
+mod sequenced;
+#[cfg(test)]
+mod simulation;
 #[cfg(test)]
 mod stand_ins;
 

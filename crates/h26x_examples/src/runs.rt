@@ -54,26 +54,6 @@ pub fn carry_frame(alloc: Global, frame: Vec<u8>) -> Result<Vec<u8>, PacketError
     Ok(out)
 }
 
-/// Writes the units of packets with their sequence numbers of RTP. Where a number is missing the
-/// open run is given up, so that no unit with a gap is written.
-pub fn receive_with_gaps(
-    alloc: Global,
-    packets: &[(u16, Vec<u8>)],
-) -> Result<Vec<u8>, PacketError> {
-    let mut depacketizer = CodecDepacketizer::new(alloc, Codec::H264);
-    let mut out = Vec::new(alloc);
-    let mut extra = CodecExtra::None;
-    let mut next: Option<u16> = None;
-    for (number, packet) in packets {
-        if next.is_some_and(|next| next != *number) {
-            depacketizer.give_up_run();
-        }
-        next = Some(number.wrapping_add(1));
-        depacketizer.depacketize(packet, &mut out, &mut extra)?;
-    }
-    Ok(out)
-}
-
 /// How many packets of a peer are refused; the others are taken.
 pub fn count_refused(alloc: Global, packets: Vec<Vec<u8>>) -> Result<usize, PacketError> {
     let mut depacketizer = CodecDepacketizer::new(alloc, Codec::H264);

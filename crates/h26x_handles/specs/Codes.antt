@@ -1,11 +1,15 @@
 -- The numbers that stand for codecs, answers and what is told (the library's rule).
-use Rattle.std.specs.Prelude.{ℕ, ◌==◌, ◌&&◌, not, Bool, true, false, if◌then◌else◌, Option, Some, None, Result, Ok, Err}
+use Rattle.std.specs.Prelude.{◌≡◌, ℕ, ◌==◌, ◌&&◌, not, Bool, true, false, if◌then◌else◌, Option, Some, None, Result, Ok, Err}
 use Rattle.h26x_core.specs.declared.error.PacketError.{PacketError}
 use Rattle.h26x_core.specs.declared.error.PacketError.TheVariants as error
 use Rattle.h26x_core.specs.declared.extra.CodecExtra.{CodecExtra}
 use Rattle.h26x_core.specs.declared.extra.CodecExtra.TheVariants as extra
+use Rattle.h26x_payload.specs.declared.send.placement.Placement.{Placement}
+use Rattle.h26x_payload.specs.declared.send.placement.Placement.TheVariants as p
 use Rattle.h26x_codec.specs.declared.codec.Codec.{Codec}
 use Rattle.h26x_codec.specs.declared.codec.Codec.TheVariants as c
+use Rattle.h26x_receiver.specs.declared.received.Received.{Received}
+use Rattle.h26x_receiver.specs.declared.received.Received.TheVariants as r
 
 -- the codec with a number: that of its standard, H.264 to H.266
 abbrev pub codec_with_number : ℕ → Option Codec
@@ -45,6 +49,10 @@ not_of_this_codec = 11
 
 abbrev pub out_of_range : ℕ
 out_of_range = 12
+
+-- what is to be written doesn't fit
+abbrev pub no_room : ℕ
+no_room = 13
 
 -- the refusal of a packet with a code and two numbers, if the code is of one
 abbrev pub refusal_of : ℕ → ℕ → ℕ → Option PacketError
@@ -86,3 +94,28 @@ codec_or_code number has_donl = elim (codec_with_number number) [
   | None ↦ Err unknown_codec
   | Some codec ↦ if has_donl && not (may_have_donl codec) then Err not_of_this_codec else Ok codec
 ]
+
+-- what came of packets that were to go into memory: a code, how many they are, and their bytes
+abbrev pub placement_answer : Result Placement PacketError → ℕ × (ℕ × ℕ)
+placement_answer (Ok (p.Placed size)) = (ok, (size.packets, size.bytes))
+placement_answer (Ok (p.NoRoom size)) = (no_room, (size.packets, size.bytes))
+placement_answer (Err e) = (out_of_memory, (0, 0))
+
+-- the numbers of what became of a packet that was not refused: which of the four it is, and how many
+-- packets are missing before this one, or how far it is behind
+abbrev pub received_numbers : Received → ℕ × ℕ
+received_numbers r.InOrder = (0, 0)
+received_numbers (r.Gap missing) = (1, missing)
+received_numbers (r.TooLong missing) = (2, missing)
+received_numbers (r.Late behind) = (3, behind)
+
+-- a code and its numbers say what became of a packet with its sequence number
+abbrev pub SaysAnswer : ℕ → ℕ → ℕ → ℕ → ℕ → Result Received PacketError → Type 0
+SaysAnswer code first second received count (Ok it) =
+    (code ≡ ok) × ((received, count) ≡ received_numbers it)
+SaysAnswer code first second received count (Err error) =
+    outcome_of code first second ≡ Some (Err error)
+
+-- whether a code and its number say that such a packet was taken
+abbrev pub says_taken : ℕ → ℕ → Bool
+says_taken code received = code == ok && not (received == 3)

@@ -7,6 +7,10 @@ abbrev pub with_front : {A : Type 0} → List A → List A → List A
 with_front bytes room = if nat_le (length bytes) (length room)
     then bytes ++ drop (length bytes) room else room
 
+-- what there was no room for in a buffer
+abbrev pub without_room : {A : Type 0} → List A → List A → List A
+without_room bytes room = if nat_le (length bytes) (length room) then [] else bytes
+
 -- the packet with a number, counted from 0; past the last one without bytes
 abbrev pub nth_packet : ℕ → List (List ℕ) → List ℕ
 nth_packet i packets = elim (slice_get packets i) [ None ↦ [] | Some packet ↦ packet ]

@@ -1,14 +1,23 @@
 -- What stands behind a handle.
-use Rattle.std.specs.Prelude.{ℕ, List}
+use Rattle.std.specs.Prelude.{ℕ, List, Option}
 use Rattle.h26x_handles.specs.declared.packetizer.AnyPacketizer.{AnyPacketizer}
-use Rattle.h26x_handles.specs.declared.depacketizer.AnyDepacketizer.{AnyDepacketizer}
+use Rattle.h26x_receiver.specs.declared.any.AnyDepacketizer.{AnyDepacketizer}
 
 -- a packetizer, and the packets of its last call
 pub record SendingEndpoint : Type 0 where
   pub packetizer : AnyPacketizer
   pub packets : List (List ℕ)
 
--- a depacketizer, and what its last accepted packet completed
+-- a depacketizer, and what its last accepted packet completed and had no room for
 pub record ReceivingEndpoint : Type 0 where
   pub depacketizer : AnyDepacketizer
+  pub written : List ℕ
+
+-- A receiver of packets with their sequence numbers: its depacketizer, the number that is expected
+-- next, if one was taken, how many bytes an open run may hold, and what the last packet that was
+-- taken completed and had no room for
+pub record SequencedEndpoint : Type 0 where
+  pub depacketizer : AnyDepacketizer
+  pub expected : Option ℕ
+  pub run_limit : ℕ
   pub written : List ℕ

@@ -3,3 +3,4 @@ pub mod Copies
 pub mod Endpoint
 pub mod States
 pub mod Shown
+pub mod PlacementAnswer

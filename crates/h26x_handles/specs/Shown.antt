@@ -6,8 +6,8 @@ use Rattle.h265_packets.specs.declared.payload.H265Payload.{H265Payload}
 use Rattle.h265_packets.specs.declared.payload.H265Payload.TheVariants as p
 use Rattle.h26x_handles.specs.declared.endpoint.Endpoint.{Endpoint}
 use Rattle.h26x_handles.specs.declared.endpoint.Endpoint.TheVariants as e
-use Rattle.h26x_handles.specs.declared.depacketizer.AnyDepacketizer.{AnyDepacketizer}
-use Rattle.h26x_handles.specs.declared.depacketizer.AnyDepacketizer.TheVariants as r
+use Rattle.h26x_receiver.specs.AnyDepacketizer.{any_depacketizer_shown}
+use Rattle.h26x_receiver.specs.declared.any.AnyDepacketizer.{AnyDepacketizer}
 
 -- a part of a packet: its bytes, and the number that was read before them (DONL, or the DOND of a
 -- further unit)
@@ -68,12 +68,6 @@ abbrev pub don_number : Option ℕ → ℕ
 don_number None = 65536
 don_number (Some number) = number
 
--- what a depacketizer shows, which is one of H.265
-abbrev pub any_depacketizer_shown : AnyDepacketizer → Option H265Payload
-any_depacketizer_shown (r.H264 it) = None
-any_depacketizer_shown (r.H265 it) = Some it.payload
-any_depacketizer_shown (r.H266 it) = None
-
 -- the parts of what a depacketizer shows
 abbrev pub any_depacketizer_parts : AnyDepacketizer → List Part
 any_depacketizer_parts depacketizer = elim (any_depacketizer_shown depacketizer)
@@ -83,8 +77,10 @@ any_depacketizer_parts depacketizer = elim (any_depacketizer_shown depacketizer)
 abbrev pub endpoint_shown : Endpoint → Option H265Payload
 endpoint_shown (e.Sending it) = None
 endpoint_shown (e.Receiving it) = any_depacketizer_shown it.depacketizer
+endpoint_shown (e.Sequenced it) = any_depacketizer_shown it.depacketizer
 
 -- the parts of what an endpoint shows
 abbrev pub endpoint_parts : Endpoint → List Part
 endpoint_parts (e.Sending it) = []
 endpoint_parts (e.Receiving it) = any_depacketizer_parts it.depacketizer
+endpoint_parts (e.Sequenced it) = any_depacketizer_parts it.depacketizer

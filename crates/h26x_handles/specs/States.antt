@@ -1,29 +1,25 @@
 -- What an endpoint is in the words of the payload formats: a packetizer with its packets, or a
--- depacketizer with what it wrote.
-use Rattle.std.specs.Prelude.{ℕ, nat_eq, Bool, true, false, ◌&&◌, List, [], Option, Some, None}
-use Rattle.std.specs.Bool.{beq}
-use Rattle.std.specs.Option.{option_eq}
-use Rattle.std.specs.Cmp.Lexicographic.{pointwise}
+-- depacketizer or a receiver of packets with their sequence numbers, with what it wrote.
+use Rattle.std.specs.Prelude.{ℕ, Bool, true, false, List, [], ◌∷◌, Option, Some, None}
 use Rattle.h26x_model.specs.Send.Group.{Entry}
 use Rattle.h26x_model.specs.Send.Calls.{call_entries}
 use Rattle.h26x_model.specs.Send.PacketizerState.{PacketizerState}
-use Rattle.h26x_model.specs.Receive.DepacketizerState.{DepacketizerState}
-use Rattle.h26x_payload.specs.DepacketizerView.{depacketizer_state}
+use Rattle.h26x_model.specs.Receive.DepacketizerState.{DepacketizerState, Depacketization, depacketization, after_packets}
 use Rattle.h26x_payload.specs.PacketizerView.{packetizer_state}
 use Rattle.h264_payload.specs.H264.{h264}
 use Rattle.h265_payload.specs.Setting as h265_setting
-use Rattle.h265_payload.specs.DepacketizerView as h265_end
-use Rattle.h265_packets.specs.Payload.{empty_single}
-use Rattle.h265_packets.specs.declared.payload.H265Payload.TheVariants as p
-use Rattle.h265_payload.specs.Shown.{shown}
 use Rattle.h266_payload.specs.Setting as h266_setting
 use Rattle.h26x_codec.specs.Codec.{next_call}
 use Rattle.h26x_codec.specs.declared.codec.Codec.{Codec}
 use Rattle.h26x_codec.specs.declared.codec.Codec.TheVariants as c
 use Rattle.h26x_handles.specs.declared.packetizer.AnyPacketizer.{AnyPacketizer}
 use Rattle.h26x_handles.specs.declared.packetizer.AnyPacketizer.TheVariants as s
-use Rattle.h26x_handles.specs.declared.depacketizer.AnyDepacketizer.{AnyDepacketizer}
-use Rattle.h26x_handles.specs.declared.depacketizer.AnyDepacketizer.TheVariants as r
+use Rattle.h26x_core.specs.declared.extra.CodecExtra.{CodecExtra}
+use Rattle.h26x_model.specs.Receive.RunLimit.{run_len}
+use Rattle.h26x_receiver.specs.Sequenced.{SequencedDepacketization, sequenced_depacketization, after_taken_packet}
+use Rattle.h26x_receiver.specs.AnyDepacketizer.{any_depacketizer_state, any_depacketizer_with_avc, any_depacketizer_codec, any_depacketizer_with_donl, any_depacketizer_with_run, fresh_any_depacketizer, any_depacketizer_showing, are_same_depacketizers}
+use Rattle.h26x_receiver.specs.declared.any.AnyDepacketizer.{AnyDepacketizer}
+use Rattle.h26x_handles.specs.Endpoint.{SequencedEndpoint}
 use Rattle.h26x_handles.specs.declared.endpoint.Endpoint.{Endpoint}
 use Rattle.h26x_handles.specs.declared.endpoint.Endpoint.TheVariants as e
 
@@ -56,88 +52,106 @@ any_packetizer_with_max_packet_size n (s.H266 it) = s.H266 (record it { max_pack
 abbrev pub payload_entries : PacketizerState → ℕ → List ℕ → List Entry
 payload_entries it mtu payload = call_entries it.format (next_call it mtu payload)
 
--- the depacketizer of a codec, which writes units behind lengths or behind start codes
-abbrev pub any_depacketizer_state : Bool → AnyDepacketizer → DepacketizerState
-any_depacketizer_state is_avc (r.H264 it) = depacketizer_state h264 (record it { is_avc = is_avc })
-any_depacketizer_state is_avc (r.H265 it) = h265_end.h265_state (record it { is_avc = is_avc })
-any_depacketizer_state is_avc (r.H266 it) = depacketizer_state (h266_setting.setting_format it.codec)
-    (record it { is_avc = is_avc })
+-- a depacketizer that is told with a packet to write units behind lengths or behind start codes
+abbrev pub told_depacketizer_state : Bool → AnyDepacketizer → DepacketizerState
+told_depacketizer_state is_avc it = any_depacketizer_state (any_depacketizer_with_avc is_avc it)
 
-abbrev pub any_depacketizer_codec : AnyDepacketizer → Codec
-any_depacketizer_codec (r.H264 it) = c.H264
-any_depacketizer_codec (r.H265 it) = c.H265
-any_depacketizer_codec (r.H266 it) = c.H266
-
--- a depacketizer that reads numbers or not; that of H.264 reads none
-abbrev pub any_depacketizer_with_donl : Bool → AnyDepacketizer → AnyDepacketizer
-any_depacketizer_with_donl has_donl (r.H264 it) = r.H264 it
-any_depacketizer_with_donl has_donl (r.H265 it) =
-    r.H265 (record it { codec = h265_setting.setting has_donl })
-any_depacketizer_with_donl has_donl (r.H266 it) =
-    r.H266 (record it { codec = h266_setting.setting has_donl })
-
--- a depacketizer without its open run
-abbrev pub any_depacketizer_without_run : AnyDepacketizer → AnyDepacketizer
-any_depacketizer_without_run (r.H264 it) = r.H264 (record it { run = None })
-any_depacketizer_without_run (r.H265 it) = r.H265 (record it { run = None })
-any_depacketizer_without_run (r.H266 it) = r.H266 (record it { run = None })
-
--- a new depacketizer, which reads numbers where its codec has them
-abbrev pub fresh_any_depacketizer : Codec → Bool → AnyDepacketizer
-fresh_any_depacketizer c.H264 has_donl = r.H264
-    (record { codec = record {}; is_avc = false; run = None })
-fresh_any_depacketizer c.H265 has_donl = r.H265 (record {
-  codec = h265_setting.setting has_donl;
-  is_avc = false;
-  run = None;
-  payload = p.H265SingleNALUnitPacket empty_single;
-})
-fresh_any_depacketizer c.H266 has_donl = r.H266 (record {
-  codec = h266_setting.setting has_donl;
-  is_avc = false;
-  run = None;
-})
-
--- a depacketizer that shows a packet, where its codec shows packets
-abbrev pub any_depacketizer_showing : List ℕ → AnyDepacketizer → AnyDepacketizer
-any_depacketizer_showing packet (r.H264 it) = r.H264 it
-any_depacketizer_showing packet (r.H265 it) = r.H265
-    (record it { payload = shown it.codec.has_donl packet })
-any_depacketizer_showing packet (r.H266 it) = r.H266 it
+-- what stands once it has taken a packet, where nothing was written before
+abbrev pub after_told_packet : Bool → AnyDepacketizer → CodecExtra → List ℕ → Depacketization
+after_told_packet is_avc it extra packet = after_packets
+    (depacketization (told_depacketizer_state is_avc it) [] extra) (packet ∷ [])
 
 -- the packetizer at an endpoint
 abbrev pub endpoint_packetizer_state : Endpoint → Option PacketizerState
 endpoint_packetizer_state (e.Sending it) = Some (any_packetizer_state it.packetizer)
 endpoint_packetizer_state (e.Receiving it) = None
+endpoint_packetizer_state (e.Sequenced it) = None
 
 -- the packets of its last call
 abbrev pub endpoint_packets : Endpoint → List (List ℕ)
 endpoint_packets (e.Sending it) = it.packets
 endpoint_packets (e.Receiving it) = []
+endpoint_packets (e.Sequenced it) = []
 
--- the depacketizer at an endpoint, which writes lengths or start codes
+-- the depacketizer at an endpoint, which writes lengths or start codes as it is told
 abbrev pub endpoint_depacketizer_state : Bool → Endpoint → Option DepacketizerState
 endpoint_depacketizer_state is_avc (e.Sending it) = None
 endpoint_depacketizer_state is_avc (e.Receiving it) =
-    Some (any_depacketizer_state is_avc it.depacketizer)
+    Some (told_depacketizer_state is_avc it.depacketizer)
+endpoint_depacketizer_state is_avc (e.Sequenced it) = None
 
--- what its last accepted packet completed
+-- the receiver of packets with their sequence numbers at an endpoint
+abbrev pub endpoint_receiver : Endpoint → Option SequencedEndpoint
+endpoint_receiver (e.Sending it) = None
+endpoint_receiver (e.Receiving it) = None
+endpoint_receiver (e.Sequenced it) = Some it
+
+-- such a receiver before it takes a packet, with what was told so far
+abbrev pub receiver_at_work : SequencedEndpoint → CodecExtra → SequencedDepacketization
+receiver_at_work it extra = sequenced_depacketization (any_depacketizer_state it.depacketizer)
+    it.expected [] extra
+
+-- what stands once it has taken one
+abbrev pub after_receiver_packet : SequencedEndpoint → CodecExtra → ℕ → List ℕ →
+    SequencedDepacketization
+after_receiver_packet it extra number packet = after_taken_packet it.run_limit
+    (receiver_at_work it extra) number packet
+
+-- how many bytes the open run of such a receiver holds
+abbrev pub receiver_run_len : SequencedEndpoint → ℕ
+receiver_run_len it = run_len (any_depacketizer_state it.depacketizer).run
+
+-- what the depacketizer of such a receiver is to the definitions
+abbrev pub endpoint_receiver_state : Endpoint → Option DepacketizerState
+endpoint_receiver_state (e.Sending it) = None
+endpoint_receiver_state (e.Receiving it) = None
+endpoint_receiver_state (e.Sequenced it) = Some (any_depacketizer_state it.depacketizer)
+
+-- the number that it expects next, if it took a packet
+abbrev pub endpoint_expected : Endpoint → Option ℕ
+endpoint_expected (e.Sending it) = None
+endpoint_expected (e.Receiving it) = None
+endpoint_expected (e.Sequenced it) = it.expected
+
+-- how many bytes its open run holds
+abbrev pub endpoint_run_len : Endpoint → ℕ
+endpoint_run_len (e.Sending it) = 0
+endpoint_run_len (e.Receiving it) = 0
+endpoint_run_len (e.Sequenced it) = receiver_run_len it
+
+-- what the last packet that it took completed, and had no room where it was to be written
 abbrev pub endpoint_written : Endpoint → List ℕ
 endpoint_written (e.Sending it) = []
 endpoint_written (e.Receiving it) = it.written
+endpoint_written (e.Sequenced it) = it.written
 
 abbrev pub endpoint_codec : Endpoint → Codec
 endpoint_codec (e.Sending it) = any_packetizer_codec it.packetizer
 endpoint_codec (e.Receiving it) = any_depacketizer_codec it.depacketizer
+endpoint_codec (e.Sequenced it) = any_depacketizer_codec it.depacketizer
 
 abbrev pub is_sending : Endpoint → Bool
 is_sending (e.Sending it) = true
 is_sending (e.Receiving it) = false
+is_sending (e.Sequenced it) = false
+
+-- whether it receives packets without their sequence numbers
+abbrev pub is_receiving : Endpoint → Bool
+is_receiving (e.Sending it) = false
+is_receiving (e.Receiving it) = true
+is_receiving (e.Sequenced it) = false
+
+-- whether it receives packets with their sequence numbers
+abbrev pub is_sequenced : Endpoint → Bool
+is_sequenced (e.Sending it) = false
+is_sequenced (e.Receiving it) = false
+is_sequenced (e.Sequenced it) = true
 
 -- an endpoint without packets, or without what was completed
 abbrev pub endpoint_without_output : Endpoint → Endpoint
 endpoint_without_output (e.Sending it) = e.Sending (record it { packets = [] })
 endpoint_without_output (e.Receiving it) = e.Receiving (record it { written = [] })
+endpoint_without_output (e.Sequenced it) = e.Sequenced (record it { written = [] })
 
 -- the same of a place, into which an endpoint was put or not
 abbrev pub place_packetizer_state : Option Endpoint → Option PacketizerState
@@ -154,17 +168,42 @@ endpoint_with_donl has_donl (e.Sending it) = e.Sending it
 endpoint_with_donl has_donl (e.Receiving it) = e.Receiving (record it {
   depacketizer = any_depacketizer_with_donl has_donl it.depacketizer;
 })
+endpoint_with_donl has_donl (e.Sequenced it) = e.Sequenced (record it {
+  depacketizer = any_depacketizer_with_donl has_donl it.depacketizer;
+})
+
+-- an endpoint whose receiver writes units behind lengths or behind start codes
+abbrev pub endpoint_with_avc : Bool → Endpoint → Endpoint
+endpoint_with_avc is_avc (e.Sending it) = e.Sending it
+endpoint_with_avc is_avc (e.Receiving it) = e.Receiving it
+endpoint_with_avc is_avc (e.Sequenced it) = e.Sequenced (record it {
+  depacketizer = any_depacketizer_with_avc is_avc it.depacketizer;
+})
 
 -- an endpoint whose depacketizer has no run open
 abbrev pub endpoint_without_run : Endpoint → Endpoint
 endpoint_without_run (e.Sending it) = e.Sending it
 endpoint_without_run (e.Receiving it) = e.Receiving
-    (record it { depacketizer = any_depacketizer_without_run it.depacketizer })
+    (record it { depacketizer = any_depacketizer_with_run None it.depacketizer })
+endpoint_without_run (e.Sequenced it) = e.Sequenced
+    (record it { depacketizer = any_depacketizer_with_run None it.depacketizer })
+
+-- an endpoint whose receiver takes any sequence number as the next, and has no run open
+abbrev pub endpoint_restarted : Endpoint → Endpoint
+endpoint_restarted (e.Sending it) = e.Sending it
+endpoint_restarted (e.Receiving it) = e.Receiving it
+endpoint_restarted (e.Sequenced it) = e.Sequenced (record it {
+  depacketizer = any_depacketizer_with_run None it.depacketizer;
+  expected = None;
+})
 
 -- an endpoint whose depacketizer shows a packet
 abbrev pub endpoint_showing : List ℕ → Endpoint → Endpoint
 endpoint_showing packet (e.Sending it) = e.Sending it
 endpoint_showing packet (e.Receiving it) = e.Receiving (record it {
+  depacketizer = any_depacketizer_showing packet it.depacketizer;
+})
+endpoint_showing packet (e.Sequenced it) = e.Sequenced (record it {
   depacketizer = any_depacketizer_showing packet it.depacketizer;
 })
 
@@ -175,15 +214,19 @@ fresh_receiving_endpoint codec has_donl = e.Receiving (record {
   written = [];
 })
 
--- whether two depacketizers are of one codec, and equal
-abbrev pub are_same_depacketizers : AnyDepacketizer → AnyDepacketizer → Bool
-are_same_depacketizers (r.H264 a) (r.H264 b) =
-    beq a.is_avc b.is_avc && option_eq (pointwise nat_eq) a.run b.run
-are_same_depacketizers (r.H265 a) (r.H265 b) = h265_end.depacketizer_eq a b
-are_same_depacketizers (r.H266 a) (r.H266 b) =
-    beq a.codec.has_donl b.codec.has_donl && (beq a.is_avc b.is_avc
-    && option_eq (pointwise nat_eq) a.run b.run)
-are_same_depacketizers a b = false
+-- a new receiver of packets with their sequence numbers
+abbrev pub fresh_receiver : Codec → Bool → Bool → ℕ → SequencedEndpoint
+fresh_receiver codec has_donl is_avc run_limit = record {
+  depacketizer = any_depacketizer_with_avc is_avc (fresh_any_depacketizer codec has_donl);
+  expected = None;
+  run_limit = run_limit;
+  written = [];
+}
+
+-- an endpoint with it
+abbrev pub fresh_sequenced_endpoint : Codec → Bool → Bool → ℕ → Endpoint
+fresh_sequenced_endpoint codec has_donl is_avc run_limit = e.Sequenced
+    (fresh_receiver codec has_donl is_avc run_limit)
 
 -- whether two endpoints are depacketizers that are the same
 abbrev pub are_same_endpoints : Endpoint → Endpoint → Bool

@@ -1,10 +1,12 @@
 //! What calls answer, as numbers.
 
 ghost use Rattle.std.specs.Prelude.{◌≡◌, Some, Err};
-ghost use Rattle.h26x_handles.specs.Codes.{codec_with_number, extra_with_number, may_have_donl, extra_number, outcome_of, codec_or_code};
+ghost use Rattle.h26x_handles.specs.Codes.{codec_with_number, extra_with_number, may_have_donl, extra_number, outcome_of, codec_or_code, placement_answer, received_numbers};
 
 use h26x_codec::Codec;
 use h26x_core::{CodecExtra, H264CodecExtra, H265CodecExtra, H266CodecExtra, PacketError};
+use h26x_payload::{PacketsSize, Placement};
+use h26x_receiver::Received;
 
 /// The call was carried out.
 pub const OK: u32 = 0;
@@ -21,7 +23,7 @@ pub const OUT_OF_MEMORY: u32 = 8;
 /// No codec has this number.
 pub const UNKNOWN_CODEC: u32 = 9;
 
-/// The handle is of a depacketizer where a packetizer is wanted, or the reverse.
+/// The handle is of another kind than the call wants: a packetizer, a depacketizer or a receiver.
 pub const WRONG_END: u32 = 10;
 
 /// The codec has no such setting.
@@ -29,6 +31,9 @@ pub const NOT_OF_THIS_CODEC: u32 = 11;
 
 /// A number is too small.
 pub const OUT_OF_RANGE: u32 = 12;
+
+/// What is to be written doesn't fit; nothing changed.
+pub const NO_ROOM: u32 = 13;
 
 /// The two numbers of a refusal.
 #[repr(C)]
@@ -113,5 +118,43 @@ pub fn number_of(extra: CodecExtra) -> u8
         CodecExtra::H264(H264CodecExtra { is_keyframe })
         | CodecExtra::H265(H265CodecExtra { is_keyframe })
         | CodecExtra::H266(H266CodecExtra { is_keyframe }) => 1 + u8::from(is_keyframe),
+    }
+}
+
+/// What came of packets that were to go into memory, as a code, with how many they are and how many
+/// bytes they take; both 0 where memory lacked to make them.
+pub fn code_of_placement(
+    made: Result<Placement, PacketError>,
+    count: &mut usize,
+    size: &mut usize,
+) -> u32
+    ensures { (result, (count.new, size.new)) ≡ placement_answer made }
+{
+    let (code, taken) = match made {
+        Ok(Placement::Placed(taken)) => (OK, taken),
+        Ok(Placement::NoRoom(taken)) => (NO_ROOM, taken),
+        Err(_) => (
+            OUT_OF_MEMORY,
+            PacketsSize {
+                packets: 0,
+                bytes: 0,
+            },
+        ),
+    };
+    *count = taken.packets;
+    *size = taken.bytes;
+    code
+}
+
+/// The numbers of what became of a packet with its sequence number: which of the four it is, and how
+/// many packets are missing before it, or how far it is behind.
+pub fn numbers_of(received: Received) -> (u32, u16)
+    ensures { result ≡ received_numbers received }
+{
+    match received {
+        Received::InOrder => (0, 0),
+        Received::Gap(missing) => (1, missing),
+        Received::TooLong(missing) => (2, missing),
+        Received::Late(behind) => (3, behind),
     }
 }

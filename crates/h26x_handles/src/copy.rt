@@ -2,9 +2,10 @@
 
 ghost use Rattle.std.specs.Prelude.{◌≡◌, ◌≤◌, length, take, drop};
 ghost use Rattle.std.specs.List.{concat};
-ghost use Rattle.h26x_handles.specs.Copies.{with_front, end_offsets, AreMost, AreCopied};
+ghost use Rattle.h26x_handles.specs.Copies.{with_front, without_room, end_offsets, AreMost, AreCopied};
 
 use h26x_payload::PacketBuffer;
+use std::mem;
 
 /// Copies bytes to the front of a buffer where there is room for them; how many they are.
 pub fn copy_where_room(bytes: &[u8], to: &mut [u8]) -> usize
@@ -14,6 +15,21 @@ pub fn copy_where_room(bytes: &[u8], to: &mut [u8]) -> usize
     let len = bytes.len();
     if len <= to.len() {
         to[..len].copy_from_slice(bytes);
+    }
+    len
+}
+
+/// Moves bytes to the front of a buffer where there is room for them, and else to a list, which is
+/// empty otherwise; how many they are.
+pub fn put_or_keep(bytes: &mut Vec<u8>, to: &mut [u8], kept: &mut Vec<u8>) -> usize
+    ensures len { result ≡ length bytes.old.items }
+    ensures put { to.new ≡ with_front bytes.old.items to.old }
+    ensures kept { kept.new.items ≡ without_room bytes.old.items to.old }
+{
+    let len = copy_where_room(bytes, to);
+    kept.clear();
+    if len > to.len() {
+        mem::swap(kept, bytes);
     }
     len
 }
@@ -40,7 +56,7 @@ fn start_of(packets: &PacketBuffer, place: usize) -> usize
 }
 
 /// The bytes of packets from a first one on, one behind the other.
-fn bytes_from(packets: &PacketBuffer, first: usize) -> &[u8]
+pub fn bytes_from(packets: &PacketBuffer, first: usize) -> &[u8]
     requires headroom { packets.now.headroom ≡ 0 }
     requires first { first ≤ length packets.now.packets }
     ensures { result.now ≡ concat (drop first packets.now.packets) }

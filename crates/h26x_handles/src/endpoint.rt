@@ -2,6 +2,7 @@
 
 use crate::receiving::ReceivingEndpoint;
 use crate::sending::SendingEndpoint;
+use crate::sequenced::SequencedEndpoint;
 
 /// One endpoint of a stream.
 #[derive(Drop)]
@@ -10,4 +11,6 @@ pub enum Endpoint {
     Sending(SendingEndpoint),
     /// It receives.
     Receiving(ReceivingEndpoint),
+    /// It receives packets with their sequence numbers.
+    Sequenced(SequencedEndpoint),
 }

@@ -1,12 +1,12 @@
 //! What stands behind a handle of the C library: a packetizer with the packets of its last call, or
-//! a depacketizer with what its last accepted packet completed; the numbers by which calls answer,
-//! and the copies into a caller's buffers.
+//! a depacketizer, or a receiver of packets with their sequence numbers, with what its last accepted
+//! packet completed; the numbers by which calls answer, and the copies into a caller's buffers.
 #![tactic(auto)]
 
 pub mod code;
 pub mod copy;
-pub mod depacketizer;
 pub mod endpoint;
 pub mod packetizer;
 pub mod receiving;
 pub mod sending;
+pub mod sequenced;

@@ -1,14 +1,15 @@
 //! A packetizer of any codec.
 
-ghost use Rattle.std.specs.Prelude.{◌≡◌, ◌≤◌, [], true, Err, IfOk, OnOk, OnErr, IsOk};
+ghost use Rattle.std.specs.Prelude.{◌≡◌, ◌≤◌, [], true, false, Err, IfOk, OnOk, OnErr, IsOk};
 ghost use Rattle.h26x_model.specs.Send.PacketizerState.{state_packets, after_entries, has_no_effect, one_unit_items, one_unit_packets, after_one_unit};
 ghost use Rattle.h26x_payload.specs.Buffer.{with_packets};
+ghost use Rattle.h26x_payload.specs.Placement.{IsPlacement, IsSizeOf, if_placed, is_placed};
 ghost use Rattle.h26x_codec.specs.Codec.{codec_format, fresh_packetizer_state, next_call};
 ghost use Rattle.h26x_handles.specs.States.{any_packetizer_state, any_packetizer_codec, any_packetizer_with_donl, any_packetizer_with_max_packet_size, payload_entries};
 
 use h26x_codec::Codec;
 use h26x_core::PacketError;
-use h26x_payload::PacketBuffer;
+use h26x_payload::{PacketBuffer, PacketsSize, Placement};
 use h264_payload::H264Packetizer;
 use h265_payload::H265Packetizer;
 use h266_payload::H266Packetizer;
@@ -135,6 +136,92 @@ impl AnyPacketizer {
             AnyPacketizer::H264(it) => it.packetize_unit_into(mtu, unit, into),
             AnyPacketizer::H265(it) => it.packetize_unit_into(mtu, unit, into),
             AnyPacketizer::H266(it) => it.packetize_unit_into(mtu, unit, into),
+        }
+    }
+
+    /// How much memory the packets of a payload take, each behind so many bytes. Nothing changes.
+    pub fn packets_size(
+        &self,
+        mtu: usize,
+        payload: &[u8],
+        headroom: usize,
+    ) -> Result<PacketsSize, PacketError>
+        ensures size { IfOk result (λ it. IsSizeOf headroom
+            (state_packets (any_packetizer_state self.now)
+            (payload_entries (any_packetizer_state self.now) mtu payload.now)) it) }
+        ensures memory { OnErr result (result ≡ Err PacketError.OutOfMemory) }
+        ensures free { has_no_effect (any_packetizer_state self.now).format
+            (next_call (any_packetizer_state self.now) mtu payload.now) ≡ true → IsOk result }
+    {
+        match self {
+            AnyPacketizer::H264(it) => it.packets_size(mtu, payload, headroom),
+            AnyPacketizer::H265(it) => it.packets_size(mtu, payload, headroom),
+            AnyPacketizer::H266(it) => it.packets_size(mtu, payload, headroom),
+        }
+    }
+
+    /// Copies the packets of a payload straight to memory where they fit; else nothing is done.
+    pub fn packetize_to_memory(
+        &mut self,
+        mtu: usize,
+        payload: &[u8],
+        headroom: usize,
+        to: &mut [u8],
+        ends: &mut [usize],
+    ) -> Result<Placement, PacketError>
+        ensures packets { IfOk result (λ it. IsPlacement headroom
+            (state_packets (any_packetizer_state self.old)
+            (payload_entries (any_packetizer_state self.old) mtu payload.now))
+            to.old to.new ends.old ends.new it) }
+        ensures after { IfOk result (λ it. any_packetizer_state self.new ≡ if_placed it
+            (after_entries (any_packetizer_state self.old)
+            (payload_entries (any_packetizer_state self.old) mtu payload.now))
+            (any_packetizer_state self.old)) }
+        ensures codec { any_packetizer_codec self.new ≡ any_packetizer_codec self.old }
+        ensures kept_unplaced { IfOk result (λ it. is_placed it ≡ false → self.new ≡ self.old) }
+        ensures kept { OnErr result (self.new ≡ self.old) }
+        ensures kept_memory { OnErr result ((to.new ≡ to.old) × (ends.new ≡ ends.old)) }
+        ensures memory { OnErr result (result ≡ Err PacketError.OutOfMemory) }
+        ensures free { has_no_effect (any_packetizer_state self.old).format
+            (next_call (any_packetizer_state self.old) mtu payload.now) ≡ true → IsOk result }
+    {
+        match self {
+            AnyPacketizer::H264(it) => it.packetize_to_memory(mtu, payload, headroom, to, ends),
+            AnyPacketizer::H265(it) => it.packetize_to_memory(mtu, payload, headroom, to, ends),
+            AnyPacketizer::H266(it) => it.packetize_to_memory(mtu, payload, headroom, to, ends),
+        }
+    }
+
+    /// Copies the packets of one unit as it is straight to memory where they fit; else nothing is
+    /// done.
+    pub fn packetize_unit_to_memory(
+        &mut self,
+        mtu: usize,
+        unit: &[u8],
+        headroom: usize,
+        to: &mut [u8],
+        ends: &mut [usize],
+    ) -> Result<Placement, PacketError>
+        ensures packets { IfOk result (λ it. IsPlacement headroom
+            (one_unit_packets (any_packetizer_state self.old) mtu unit.now)
+            to.old to.new ends.old ends.new it) }
+        ensures after { IfOk result (λ it. any_packetizer_state self.new ≡ if_placed it
+            (after_one_unit (any_packetizer_state self.old) mtu unit.now)
+            (any_packetizer_state self.old)) }
+        ensures codec { any_packetizer_codec self.new ≡ any_packetizer_codec self.old }
+        ensures kept_unplaced { IfOk result (λ it. is_placed it ≡ false → self.new ≡ self.old) }
+        ensures kept { OnErr result (self.new ≡ self.old) }
+        ensures kept_memory { OnErr result ((to.new ≡ to.old) × (ends.new ≡ ends.old)) }
+        ensures memory { OnErr result (result ≡ Err PacketError.OutOfMemory) }
+
+        // Nothing is sent without memory.
+        ensures free { one_unit_items (any_packetizer_state self.old) mtu unit.now ≡ [] →
+            IsOk result }
+    {
+        match self {
+            AnyPacketizer::H264(it) => it.packetize_unit_to_memory(mtu, unit, headroom, to, ends),
+            AnyPacketizer::H265(it) => it.packetize_unit_to_memory(mtu, unit, headroom, to, ends),
+            AnyPacketizer::H266(it) => it.packetize_unit_to_memory(mtu, unit, headroom, to, ends),
         }
     }
 }

@@ -1,23 +1,27 @@
-//! A depacketizer, and what its last accepted packet completed.
+//! A depacketizer, and what its last accepted packet completed and had no room for.
 
-ghost use Rattle.std.specs.Prelude.{◌≡◌, [], ◌∷◌, Some, Err, IfOk, OnOk, OnErr};
+ghost use Rattle.std.specs.Prelude.{◌≡◌, [], ◌∷◌, None, Err, IfOk, OnOk, OnErr, length};
 ghost use Rattle.h26x_model.specs.Receive.DepacketizerState.{DepacketizerState, after_packets, IsPacketOutcome, depacketization};
-ghost use Rattle.h26x_handles.specs.States.{any_depacketizer_state, any_depacketizer_without_run, fresh_any_depacketizer, any_depacketizer_showing};
+ghost use Rattle.h26x_payload.specs.UnitSink.{grown_to};
+ghost use Rattle.h26x_receiver.specs.AnyDepacketizer.{any_depacketizer_with_run, fresh_any_depacketizer, any_depacketizer_showing};
+ghost use Rattle.h26x_handles.specs.Copies.{with_front, without_room};
+ghost use Rattle.h26x_handles.specs.States.{told_depacketizer_state, after_told_packet};
 
-use crate::depacketizer::AnyDepacketizer;
+use crate::copy::put_or_keep;
 use h26x_codec::Codec;
 use h26x_core::{CodecExtra, PacketError};
+use h26x_payload::{MemorySink, UnitSink};
+use h26x_receiver::AnyDepacketizer;
 use std::alloc::Global;
 use std::marker::Model;
-use std::mem;
 
-/// A depacketizer of a codec, and what its last accepted packet completed.
+/// A depacketizer of a codec, and what its last accepted packet completed and had no room for.
 #[derive(Drop)]
 pub struct ReceivingEndpoint {
     /// The depacketizer.
     pub depacketizer: AnyDepacketizer,
     written: Vec<u8>,
-    // Where a packet writes: what was written before stays until one is accepted.
+    // Where a packet writes that has no room: what was kept before stays until one is accepted.
     spare: Vec<u8>,
 }
 
@@ -35,8 +39,10 @@ impl ReceivingEndpoint {
         ensures fresh { result.depacketizer ≡ fresh_any_depacketizer codec has_donl }
         ensures none { result.written ≡ [] }
     {
+        let mut depacketizer = AnyDepacketizer::new(alloc, codec);
+        depacketizer.with_donl(has_donl);
         ReceivingEndpoint {
-            depacketizer: AnyDepacketizer::new(alloc, codec, has_donl),
+            depacketizer,
             written: Vec::new(alloc),
             spare: Vec::new(alloc),
         }
@@ -55,38 +61,97 @@ impl ReceivingEndpoint {
         })
     }
 
-    /// Takes a packet, and keeps what it completes, behind lengths or behind start codes.
+    /// Takes a packet. What it completes goes to the caller's memory where there is room for it, and
+    /// is kept where there is none; `written` then tells its bytes.
     pub fn depacketize(
         &mut self,
         is_avc: bool,
         packet: &[u8],
+        to: &mut [u8],
+        written: &mut usize,
         extra: &mut CodecExtra,
     ) -> Result<(), PacketError>
         ensures outcome { IsPacketOutcome (depacketization
-            (any_depacketizer_state is_avc self.old.depacketizer) [] extra.old)
+            (told_depacketizer_state is_avc self.old.depacketizer) [] extra.old)
             packet.now result }
-        ensures taken { OnOk result (depacketization
-            (any_depacketizer_state is_avc self.new.depacketizer) self.new.written
-            extra.new ≡ after_packets (depacketization
-            (any_depacketizer_state is_avc self.old.depacketizer) [] extra.old)
-            (packet.now ∷ [])) }
-        ensures rest { OnOk result (any_depacketizer_without_run self.new.depacketizer
-            ≡ any_depacketizer_without_run (any_depacketizer_showing packet.now
+
+        // What stands after a packet that was accepted.
+        ensures run { OnOk result (told_depacketizer_state is_avc self.new.depacketizer
+            ≡ (after_told_packet is_avc self.old.depacketizer extra.old packet.now).state) }
+        ensures told { OnOk result (extra.new
+            ≡ (after_told_packet is_avc self.old.depacketizer extra.old packet.now).extra) }
+        ensures rest { OnOk result (any_depacketizer_with_run None self.new.depacketizer
+            ≡ any_depacketizer_with_run None (any_depacketizer_showing packet.now
             self.old.depacketizer)) }
+        ensures count { OnOk result (written.new ≡ length
+            (after_told_packet is_avc self.old.depacketizer extra.old packet.now).out) }
+        ensures put { OnOk result (to.new ≡ with_front
+            (after_told_packet is_avc self.old.depacketizer extra.old packet.now).out to.old) }
+        ensures kept_output { OnOk result (self.new.written ≡ without_room
+            (after_told_packet is_avc self.old.depacketizer extra.old packet.now).out to.old) }
+
         ensures kept { OnErr result (self.new ≡ self.old) }
+        ensures kept_to { OnErr result (to.new ≡ to.old) }
+        ensures kept_written { OnErr result (written.new ≡ written.old) }
         ensures kept_extra { OnErr result (extra.new ≡ extra.old) }
     {
+        let mut memory = MemorySink::new(to);
+        match take(&mut self.depacketizer, is_avc, packet, &mut memory, extra) {
+            Ok(()) => {
+                *written = memory.len();
+                self.written.clear();
+                return Ok(());
+            }
+            Err(PacketError::OutOfMemory) if memory.lacks_room() => {}
+            Err(error) => return Err(error),
+        }
         self.spare.clear();
-        self.depacketizer
-            .depacketize(is_avc, packet, &mut self.spare, extra)?;
-        mem::swap(&mut self.written, &mut self.spare);
+        take(
+            &mut self.depacketizer,
+            is_avc,
+            packet,
+            &mut self.spare,
+            extra,
+        )?;
+        *written = put_or_keep(&mut self.spare, to, &mut self.written);
         Ok(())
     }
 
-    /// What the last accepted packet completed.
+    /// What the last accepted packet completed and had no room for.
     pub fn written(&self) -> &[u8]
         ensures { result.now ≡ self.now.written }
     {
         self.written.as_slice()
     }
+}
+
+/// Takes a packet, and writes units behind lengths or behind start codes. The setting of the
+/// depacketizer itself counts for nothing, and stays.
+#[inline]
+fn take<W: UnitSink>(
+    it: &mut AnyDepacketizer,
+    is_avc: bool,
+    packet: &[u8],
+    out: &mut W,
+    extra: &mut CodecExtra,
+) -> Result<(), PacketError>
+    ensures outcome { IsPacketOutcome (depacketization (told_depacketizer_state is_avc it.old)
+        (W.sink out.old).bytes extra.old) packet.now result }
+    ensures taken { OnOk result (depacketization (told_depacketizer_state is_avc it.new)
+        (W.sink out.new).bytes extra.new
+        ≡ after_packets (depacketization (told_depacketizer_state is_avc it.old)
+        (W.sink out.old).bytes extra.old) (packet.now ∷ [])) }
+    ensures behind { OnOk result (W.sink out.new
+        ≡ grown_to (W.sink out.new).bytes (W.sink out.old)) }
+    ensures rest { OnOk result (any_depacketizer_with_run None it.new
+        ≡ any_depacketizer_with_run None (any_depacketizer_showing packet.now it.old)) }
+    ensures kept { OnErr result (it.new ≡ it.old) }
+    ensures kept_sink { OnErr result (W.sink out.new ≡ W.sink out.old) }
+    ensures kept_extra { OnErr result (extra.new ≡ extra.old) }
+{
+    let setting = it.is_avc();
+    it.with_avc(is_avc);
+    let outcome = it.depacketize_into(packet, out, extra);
+    it.with_avc(setting);
+    outcome
 }

@@ -1,12 +1,13 @@
 //! A packetizer, and the packets of its last call.
 
 ghost use Rattle.std.specs.Prelude.{◌≡◌, [], Err, true, IfOk, OnOk, OnErr, IsOk, length, drop};
+ghost use Rattle.std.specs.List.{concat};
 ghost use Rattle.h26x_model.specs.Send.PacketizerState.{state_packets, after_entries, has_no_effect, one_unit_items, one_unit_packets, after_one_unit};
 ghost use Rattle.h26x_codec.specs.Codec.{codec_format, fresh_packetizer_state, next_call};
 ghost use Rattle.h26x_handles.specs.States.{any_packetizer_state, any_packetizer_codec, payload_entries};
 ghost use Rattle.h26x_handles.specs.Copies.{nth_packet, AreCopied};
 
-use crate::copy::copy_packets;
+use crate::copy::{bytes_from, copy_packets};
 use crate::packetizer::AnyPacketizer;
 use h26x_codec::Codec;
 use h26x_core::PacketError;
@@ -114,6 +115,13 @@ impl SendingEndpoint {
         ensures { result ≡ length self.now.packets }
     {
         self.packets.len()
+    }
+
+    /// How many bytes the packets are together.
+    pub fn bytes_len(&self) -> usize
+        ensures { result ≡ length (concat self.now.packets) }
+    {
+        bytes_from(&self.packets, 0).len()
     }
 
     /// A packet; past the last an empty one.

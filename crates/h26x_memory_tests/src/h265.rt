@@ -255,6 +255,86 @@ fn aggregates_at_once(rt: HostRuntime) -> Result<(), PacketError> {
     take_aggregate(&rt, rt.alloc(), Tries::Once)
 }
 
+/// An aggregate of four units, each longer than those in its place in the one above.
+const LONGER: [u8; 57] = [
+    0x60, 1, 0, 12, 2, 1, 1, 1, 1, 1, 1, 1, 1, 1, 1, 1, 0, 10, 2, 1, 2, 2, 2, 2, 2, 2, 2, 2, 0, 11,
+    2, 1, 3, 3, 3, 3, 3, 3, 3, 3, 3, 0, 14, 2, 1, 4, 4, 4, 4, 4, 4, 4, 4, 4, 4, 4, 4,
+];
+
+/// Compares the units of the aggregate that is shown.
+fn shows_units(
+    rt: &impl Abort,
+    alloc: Global,
+    depacketizer: &H265Depacketizer,
+    want: &[&[u8]],
+) -> Result<(), PacketError> {
+    let H265Payload::H265AggregationPacket(shown) = depacketizer.payload() else {
+        return Err(PacketError::ErrShortPacket);
+    };
+    let units = units_of(alloc, Tries::Twice, shown)?;
+    assert!(rt; units.as_slice() == want);
+    Ok(())
+}
+
+/// Takes a longer aggregate behind a shorter one; a refusal leaves what is shown, and so it does
+/// where there are buffers to use again.
+fn take_longer(
+    rt: &impl Abort,
+    alloc: Global,
+    tries: Tries,
+    before: &[&[u8]],
+) -> Result<(), PacketError> {
+    let mut it = receiver(alloc, false);
+    it.take_each(rt, Tries::Twice, before)?;
+    let copy = copy_of(alloc, Tries::Twice, &it.depacketizer)?;
+    if let Err(error) = it.take_once(&LONGER) {
+        assert!(rt; it.depacketizer == copy);
+        if tries == Tries::Once {
+            return Err(error);
+        }
+        it.take_once(&LONGER)?;
+    }
+    let units: [&[u8]; 4] = [
+        &LONGER[4..16],
+        &LONGER[18..28],
+        &LONGER[30..41],
+        &LONGER[43..],
+    ];
+    shows_units(rt, alloc, &it.depacketizer, &units)
+}
+
+#[test]
+fn a_longer_aggregate_taken_again(rt: HostRuntime) -> Result<(), PacketError> {
+    take_longer(&rt, rt.alloc(), Tries::Twice, &[&AGGREGATE])
+}
+
+#[test]
+fn a_longer_aggregate_at_once(rt: HostRuntime) -> Result<(), PacketError> {
+    take_longer(&rt, rt.alloc(), Tries::Once, &[&AGGREGATE])
+}
+
+#[test]
+fn a_longer_aggregate_into_buffers_taken_again(rt: HostRuntime) -> Result<(), PacketError> {
+    take_longer(&rt, rt.alloc(), Tries::Twice, &[&AGGREGATE, &AGGREGATE])
+}
+
+#[test]
+fn a_longer_aggregate_into_buffers_at_once(rt: HostRuntime) -> Result<(), PacketError> {
+    take_longer(&rt, rt.alloc(), Tries::Once, &[&AGGREGATE, &AGGREGATE])
+}
+
+/// A shorter aggregate has no unit of the longer one before.
+#[test]
+fn a_shorter_aggregate_taken_again(rt: HostRuntime) -> Result<(), PacketError> {
+    let mut it = receiver(rt.alloc(), false);
+    for _ in 0..2 {
+        it.take_each(&rt, Tries::Twice, &[&LONGER, &LONGER, &AGGREGATE])?;
+        let units: [&[u8]; 2] = [&[2, 1, 0xaa], &[2, 1]];
+        shows_units(&rt, rt.alloc(), &it.depacketizer, &units)?;
+    }
+    Ok(())
+}
+
 /// A PACI packet with TSCI.
 const PACI: [u8; 8] = [0x64, 1, 0x26, 0x38, 0x11, 0x22, 0x33, 0xaa];
 

@@ -50,6 +50,42 @@ fn packets_of_h265_into_kept_buffers(rt: HostRuntime) {
     );
 }
 
+/// An aggregate of H.265 of three units, the second of them the longest.
+const THREE: [u8; 20] = [
+    0x60, 1, 0, 3, 2, 1, 7, 0, 6, 2, 1, 7, 7, 7, 7, 0, 3, 2, 1, 7,
+];
+
+/// One of four.
+const FOUR: [u8; 23] = [
+    0x60, 1, 0, 3, 2, 1, 7, 0, 3, 2, 1, 7, 0, 4, 2, 1, 7, 7, 0, 3, 2, 1, 7,
+];
+
+/// One of two.
+const TWO: [u8; 12] = [0x60, 1, 0, 3, 2, 1, 7, 0, 3, 2, 1, 7];
+
+#[test]
+fn aggregates_of_h265_into_kept_buffers(rt: HostRuntime) {
+    let it = Receiver::new(rt.alloc(), H265Depacketizer::new(rt.alloc()));
+    take_the_same(&rt, it, &[&THREE]);
+}
+
+#[test]
+fn aggregates_of_h265_of_more_and_fewer_units_into_kept_buffers(rt: HostRuntime) {
+    let it = Receiver::new(rt.alloc(), H265Depacketizer::new(rt.alloc()));
+    take_the_same(&rt, it, &[&FOUR, &THREE, &TWO, &TWO, &THREE, &FOUR]);
+}
+
+#[test]
+fn aggregates_of_h265_between_others_into_kept_buffers(rt: HostRuntime) {
+    let it = Receiver::new(rt.alloc(), H265Depacketizer::new(rt.alloc()));
+    let single: &[u8] = &[0x26, 1, 0xaa];
+    take_the_same(
+        &rt,
+        it,
+        &[&THREE, &THREE, single, &TWO, &[0x64, 1, 2, 0, 0xdd], single],
+    );
+}
+
 #[test]
 fn fragments_of_h266_into_kept_buffers(rt: HostRuntime) {
     let it = Receiver::new(rt.alloc(), H266Depacketizer::new(rt.alloc()));
@@ -64,12 +100,23 @@ const UNIT: [u8; 60] = [0x61; 60];
 #[test]
 fn units_of_an_endpoint_into_kept_buffers(rt: HostRuntime) {
     let mut it = ReceivingEndpoint::new(rt.alloc(), Codec::H264, false);
+    let mut told = CodecExtra::None;
     for _ in 0..2 {
-        if it.depacketize(false, &UNIT, &mut CodecExtra::None).is_err() {
+        let answer = it.depacketize(false, &UNIT, &mut [], &mut 0, &mut told);
+        if answer.is_err() {
             return;
         }
     }
-    assert!(rt; it.depacketize(false, &UNIT, &mut CodecExtra::None).is_ok());
+    let answer = it.depacketize(false, &UNIT, &mut [], &mut 0, &mut told);
+    assert!(rt; answer.is_ok());
+}
+
+#[test]
+fn units_with_room_that_take_no_memory(rt: HostRuntime) {
+    let mut it = ReceivingEndpoint::new(rt.alloc(), Codec::H264, false);
+    let (mut to, mut written) = ([0; 64], 0);
+    let answer = it.depacketize(false, &UNIT, &mut to, &mut written, &mut CodecExtra::None);
+    assert!(rt; answer.is_ok() && written == 64 && to[4] == 0x61);
 }
 
 #[test]

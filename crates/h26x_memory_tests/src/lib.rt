@@ -8,6 +8,8 @@
 #![tactic(auto)]
 
 #[cfg(test)]
+mod access_units;
+#[cfg(test)]
 mod again;
 #[cfg(test)]
 mod buffer;
@@ -27,6 +29,12 @@ mod h266;
 mod kept;
 #[cfg(test)]
 mod none;
+#[cfg(test)]
+mod placed;
+#[cfg(test)]
+mod reorder;
+#[cfg(test)]
+mod sequenced;
 #[cfg(test)]
 mod sessions;
 #[cfg(test)]

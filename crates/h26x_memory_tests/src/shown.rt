@@ -1,6 +1,6 @@
 //! The packets that H.265 shows: their copies and their parts.
 
-use crate::tries::{Copied, Tries, buffer_of, is_copied};
+use crate::tries::{Copied, Tries, buffer_of, copy_of, is_copied};
 use h26x_core::{CodecExtra, Depacketizer, PacketError};
 use h265_packets::{
     H265AggregationPacket, H265AggregationUnit, H265AggregationUnitFirst,
@@ -189,6 +189,43 @@ fn units_at_once(rt: HostRuntime) -> Result<(), PacketError> {
     copy_units(&rt, rt.alloc(), Tries::Once)
 }
 
+/// Sets a unit of 40 bytes in the place of another; a refusal leaves that.
+fn set_unit(
+    rt: &impl Abort,
+    alloc: Global,
+    tries: Tries,
+    unit: &mut H265AggregationUnit,
+    bytes: &[u8; 40],
+) -> Result<(), PacketError> {
+    let before = copy_of(alloc, tries, unit)?;
+    if unit.set(Some(7), bytes).is_err() {
+        assert!(rt; *unit == before);
+        if tries == Tries::Once {
+            return Err(PacketError::OutOfMemory);
+        }
+        unit.set(Some(7), bytes)?;
+    }
+    assert!(rt; unit.dond() == Some(7) && unit.nal_unit() == bytes.as_slice());
+    Ok(())
+}
+
+/// Sets a unit twice: the second time it has room.
+fn set_units(rt: &impl Abort, alloc: Global, tries: Tries) -> Result<(), PacketError> {
+    let mut unit = H265AggregationUnit::empty(alloc);
+    set_unit(rt, alloc, tries, &mut unit, &[0x42; 40])?;
+    set_unit(rt, alloc, tries, &mut unit, &[0x44; 40])
+}
+
+#[test]
+fn units_set_again(rt: HostRuntime) -> Result<(), PacketError> {
+    set_units(&rt, rt.alloc(), Tries::Twice)
+}
+
+#[test]
+fn units_set_at_once(rt: HostRuntime) -> Result<(), PacketError> {
+    set_units(&rt, rt.alloc(), Tries::Once)
+}
+
 /// The units of an aggregate.
 pub(crate) fn units_of(
     alloc: Global,
@@ -287,6 +324,15 @@ fn aggregates_that_take_no_memory(rt: HostRuntime) {
     packet.with_donl(true);
     let units = (packet.first_unit().is_none(), packet.other_units().len());
     assert!(rt; units == (true, 0));
+}
+
+#[test]
+fn aggregates_set_that_take_no_memory(rt: HostRuntime) {
+    let mut packet = H265AggregationPacket::empty(rt.alloc());
+    let mut others = Vec::new(rt.alloc());
+    packet.set(Some(7), &mut Vec::new(rt.alloc()), &mut others, true);
+    let (first, others) = packet.into_units();
+    assert!(rt; first.map(|unit| unit.donl()) == Some(Some(7)) && others.is_empty());
 }
 
 #[test]

@@ -28,3 +28,4 @@ pub mod NextPlaceLemmas
 pub mod SourceLemmas
 pub mod CodecLawLemmas
 pub mod OneUnitLemmas
+pub mod GapLemmas

@@ -41,7 +41,7 @@ abbrev brought : Format → List Reading → List (List ℕ) → List (List ℕ)
 brought f earlier packets = units_after earlier (map f.read packets)
 
 -- so many fragments of a unit, from place j on
-abbrev fragments_at : Format → ℕ → ℕ → List ℕ → ℕ → ℕ → List (List ℕ)
+abbrev pub fragments_at : Format → ℕ → ℕ → List ℕ → ℕ → ℕ → List (List ℕ)
 fragments_at f n limit unit j count = map (fragment f n limit unit) (range_with_len j count)
 
 -- what is left of the fragments from place j on brings one unit where a run is open and the last is left, and else nothing
@@ -169,7 +169,7 @@ fragments_left f n limit unit earlier m first second mask sound carried b unfit 
     (some_left f n limit unit earlier m first second mask sound carried b count long))
 
 -- numbered units without their numbers are the units
-numbered_back : (f : Format) (n : ℕ) (sets : List (List ℕ)) → map (λ (u : List ℕ × Option ℕ). u.0) (with_dons f n sets) ≡ sets
+pub numbered_back : (f : Format) (n : ℕ) (sets : List (List ℕ)) → map (λ (u : List ℕ × Option ℕ). u.0) (with_dons f n sets) ≡ sets
 numbered_back f n [] = refl
 numbered_back f n (set ∷ sets) = ap (λ (x : List (List ℕ)). set ∷ x) (numbered_back f (n + 1) sets)
 

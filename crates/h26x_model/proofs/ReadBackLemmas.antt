@@ -20,7 +20,7 @@ use Rattle.h26x_model.proofs.LimitLemmas.{number_long}
 use Rattle.h26x_model.proofs.FewestLemmas.{has_room}
 
 -- a part of a list behind its first d elements, and the part after it
-parts : (d c m : ℕ) (xs : List ℕ) → d ≤ m → d ≤ length xs → drop d (take m xs) ++ take c (drop m xs) ≡ drop d (take (m + c) xs)
+pub parts : (d c m : ℕ) (xs : List ℕ) → d ≤ m → d ≤ length xs → drop d (take m xs) ++ take c (drop m xs) ≡ drop d (take (m + c) xs)
 parts d c m xs h k =
     let long : d ≤ length (take m xs) = simp length-take (omega arith) in
     sym (drop-append-le d (take m xs) (take c (drop m xs)) long) ∙ ap (drop d) (sym (take-add m c xs))
@@ -72,11 +72,11 @@ pub place_below : (j k c x : ℕ) → j + 1 ≤ k → (k - 1) * c < x → j * c 
 place_below j k c x h low = let m = mul-le-mul_right c (let e : j ≤ k - 1 = omega arith in e) in omega (arith, m)
 
 -- a part but the first begins behind the room of one
-places_grow : (j c : ℕ) → 0 < j → c ≤ j * c
+pub places_grow : (j c : ℕ) → 0 < j → c ≤ j * c
 places_grow j c pos = let m = mul-le-mul_right c (let e : 1 ≤ j = omega arith in e) in omega (arith, m)
 
 -- the next part begins behind the room of one more
-next_place : (j c : ℕ) → (j + 1) * c ≡ j * c + c
+pub next_place : (j c : ℕ) → (j + 1) * c ≡ j * c + c
 next_place j c = omega arith
 
 -- the data of the fragments before place j, where there are some
@@ -84,7 +84,7 @@ abbrev pub data_before : Format → ℕ → ℕ → List ℕ → ℕ → List �
 data_before f n limit unit j = drop (donl_len f) (take (j * fragment_room f limit) (fragmented_bytes f n unit))
 
 -- the header, the data before the last fragment and those of the last are the unit
-whole_unit : (f : Format) (n limit : ℕ) (unit : List ℕ) (j : ℕ) → Bounds f n limit unit → IsTrue (f.carries unit) → 0 < j →
+pub whole_unit : (f : Format) (n limit : ℕ) (unit : List ℕ) (j : ℕ) → Bounds f n limit unit → IsTrue (f.carries unit) → 0 < j →
     j + 1 ≡ fragment_count f limit unit → take f.header_len unit ++ (data_before f n limit unit j ++ fragment_part f n limit unit j) ≡ unit
 whole_unit f n limit unit j b carried pos count =
     let c = fragment_room f limit in

@@ -2,3 +2,4 @@
 pub mod Loss
 pub mod Detection
 pub mod Laws
+pub mod Gaps

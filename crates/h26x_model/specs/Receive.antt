@@ -3,3 +3,4 @@ pub mod Run
 pub mod Received
 pub mod Outcome
 pub mod DepacketizerState
+pub mod RunLimit

@@ -13,6 +13,7 @@ ghost use Rattle.h26x_model.specs.Send.Rival.{IsRival};
 ghost use Rattle.h26x_model.specs.Send.Limit.{AreWithinLimit};
 ghost use Rattle.h26x_model.specs.Receive.Received.{IsOpenRun};
 ghost use Rattle.h26x_model.specs.Receive.Run.{IsRun, AreReceived};
+ghost use Rattle.h26x_model.specs.Receive.RunLimit.{run_len, run_within};
 ghost use Rattle.h26x_model.specs.Receive.Outcome.{is_startless, IsReadingOutcome};
 ghost use Rattle.h26x_core.specs.declared.error.PacketError.TheVariants.{AvcUnitTooLong, ErrShortPacket, OutOfMemory};
 
@@ -74,6 +75,15 @@ pub fn runs()
         Fragment true false (0x65 ∷ []) None (0x03 ∷ []) ∷
         Fragment false true (0x65 ∷ []) None (0x05 ∷ []) ∷ []) 0 2 → ⊥ }
     ensures one { IsRun (Fragment true true (0x65 ∷ []) None (0x01 ∷ []) ∷ []) 0 0 }
+{}
+
+/// A run is given up past the limit, not at it.
+pub fn runs_within_a_limit()
+    ensures len { run_len (Some (0x01 ∷ 0x02 ∷ [])) ≡ 2 }
+    ensures none_open { run_len None ≡ 0 }
+    ensures at { run_within 2 (Some (0x01 ∷ 0x02 ∷ [])) ≡ Some (0x01 ∷ 0x02 ∷ []) }
+    ensures past { run_within 2 (Some (0x01 ∷ 0x02 ∷ 0x03 ∷ [])) ≡ None }
+    ensures none { run_within 2 None ≡ None }
 {}
 
 /// What is received, by places: units alone and in aggregates, units of runs, nothing of a fragment

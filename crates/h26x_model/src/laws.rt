@@ -2,7 +2,7 @@
 //! is the contract of a function without a result. The crates of the codecs show the facts of
 //! theirs.
 
-ghost use Rattle.std.specs.Prelude.{◌≡◌, true, ◌%◌, ℕ, Bool, List, [], ◌∷◌, ◌++◌, Some, None, ◌+◌, ◌≤◌, false, length, IsTrue, ◌<◌, map};
+ghost use Rattle.std.specs.Prelude.{◌≡◌, true, ◌%◌, ℕ, Bool, Option, List, [], ◌∷◌, ◌++◌, Some, None, ◌+◌, ◌≤◌, false, length, IsTrue, ◌<◌, map};
 ghost use Rattle.std.specs.List.{AllByRecursion, Contains, flat_map};
 ghost use Rattle.h26x_model.specs.Payload.Reading.{Reading, IsRead};
 ghost use Rattle.h26x_model.specs.Payload.Format.{Format, donl_len, fragment_header_len};
@@ -16,7 +16,7 @@ ghost use Rattle.h26x_model.specs.Send.Limit.{AreWithinLimit, ItemIsWithinLimit}
 ghost use Rattle.h26x_model.specs.Payload.Don.{DonsInOrder};
 ghost use Rattle.h26x_model.specs.Send.Rival.{TakesFewestFragments};
 ghost use Rattle.h26x_model.specs.Receive.Run.{AreReceived, PlaceBrings};
-ghost use Rattle.h26x_model.specs.Receive.Received.{open_run, IsOpenRun, units_after, received, reading_units};
+ghost use Rattle.h26x_model.specs.Receive.Received.{open_run, IsOpenRun, run_after, units_after, received, reading_units};
 ghost use Rattle.h26x_core.specs.Kind.{Skipped};
 ghost use Rattle.h26x_model.specs.Payload.Facts.{MarksFragments, DonlHasTwoBytes, IsPayloadFormat, FitsLimits, HeadersTakeRoom, ReadsWhatItWrites, CanSend, IsPlanned, KnowsKeyUnits, AreCarried, KeyUnitsAreOther, SetsLeaveRoom};
 ghost use Rattle.h26x_model.specs.Carry.Loss.{LossStaysWithin};
@@ -24,6 +24,8 @@ ghost use Rattle.h26x_model.specs.Send.Again.{NothingDropped, IsSteady};
 ghost use Rattle.h26x_model.specs.Carry.Detection.{AreDetected};
 ghost use Rattle.h26x_model.specs.Send.PacketizerState.{PacketizerState, IsPacketizerState, IsSamePacketizerState, state_plan, state_units, state_packets, after_entries, has_no_effect, packetizer_meaning, one_unit_items, one_unit_packets, after_one_unit};
 ghost use Rattle.h26x_model.specs.Receive.DepacketizerState.{DepacketizerState, Depacketization, readings_units, run_after_readings, depacketizer_meaning};
+ghost use Rattle.h26x_model.specs.Receive.RunLimit.{run_len};
+ghost use Rattle.h26x_model.specs.Carry.Gaps.{WritesWholeUnits};
 ghost use Rattle.h26x_model.specs.Carry.Laws.{PacketizerGoesOn, DepacketizerGoesOn, CarriesWhole, LosesLittle, SendsAgain};
 
 /// A list of units is groups and a rest in one way, and `split` finds it.
@@ -256,6 +258,24 @@ pub fn what_is_left_is_brought()
         AreCarried s.format (state_units s (all_entries s.format calls)) → (mask : List Bool) →
         length mask ≡ length (state_packets s (all_entries s.format calls)) →
         LosesLittle s w calls mask }
+{}
+
+/// Where the open run is given up at each packet that is missing, and where it is longer than a
+/// limit, of what calls send the whole items are written, those of which no packet is missing and
+/// that the run may hold, and nothing else; whatever run was open.
+pub fn nothing_is_damaged()
+    ensures { (most : ℕ) (s : PacketizerState) (w : Depacketization) (calls : List Call) →
+        IsPayloadFormat s.format → IsPacketizerState s →
+        AreCalls calls → w.state.format ≡ s.format →
+        AreCarried s.format (state_units s (all_entries s.format calls)) → (mask : List Bool) →
+        length mask ≡ length (state_packets s (all_entries s.format calls)) →
+        WritesWholeUnits most s w calls mask }
+{}
+
+/// A packet adds no more to a run than its own length.
+pub fn runs_grow_by_their_packets()
+    ensures { (f : Format) → HeadersTakeRoom f → (run : Option (List ℕ)) (packet : List ℕ) →
+        run_len (run_after run (f.read packet)) ≤ run_len run + length packet }
 {}
 
 /// Payloads at one mtu, and the text of what was sent of them: they have the same packets.

@@ -7,7 +7,7 @@ use Rattle.std.proofs.lemmas.Slice.{drop-put_mid, take-put_mid_below, between_is
 use Rattle.h26x_payload.specs.Buffer.{packets_from, last_end, ends_of, AreEnds, IsBuffer, HoldPackets, PacketBufferView, appended_view, with_packets}
 
 -- ends are in order
-start_le_last : (h s : ℕ) (ends : List ℕ) → AreEnds h s ends → s ≤ last_end s ends
+pub start_le_last : (h s : ℕ) (ends : List ℕ) → AreEnds h s ends → s ≤ last_end s ends
 start_le_last h s [] are = omega arith
 start_le_last h s (e ∷ ends) (here, more) = let a = start_le_last h e ends more in omega (arith, a, here)
 
@@ -154,7 +154,7 @@ length_put a k xs ys long le =
     length-append (take a xs) (ys ++ drop k (drop a xs)) ∙ omega (arith, two, three, four, five, long, le)
 
 -- a part of bytes is as long as its bounds say
-between_long : (i j : ℕ) (bytes : List ℕ) → j ≤ length bytes → length (between i j bytes) ≡ j - i
+pub between_long : (i j : ℕ) (bytes : List ℕ) → j ≤ length bytes → length (between i j bytes) ≡ j - i
 between_long i j bytes le = ap length (between_is bytes i j) ∙ length-drop i (take j bytes) ∙ ap (λ k. k - i) (length-take-le j bytes le)
 
 -- packets tell where they end

@@ -5,7 +5,8 @@ use Rattle.h26x_model.specs.Send.Group.{Entry}
 use Rattle.h26x_model.specs.Send.Calls.{Call, default_max_packet_size, call_entries}
 use Rattle.h26x_model.specs.Send.WaitingSets.{WaitingSets, no_waiting_sets}
 use Rattle.h26x_model.specs.Send.PacketizerState.{PacketizerState, IsPacketizerState, after_entries, after_one_unit}
-use Rattle.h26x_payload.specs.Sending.{waiting_sets}
+use Rattle.h26x_payload.specs.declared.send.update.Update.{Update}
+use Rattle.h26x_payload.specs.Sending.{waiting_sets, waiting_with_update}
 
 -- its setting, the sets that wait, the next unit's number, and its largest packet size
 pub record PacketizerView (C : Type 0) : Type 0 where
@@ -70,4 +71,11 @@ view_after f h entries = record {
 abbrev pub view_after_unit : {C : Type 0} → Format → PacketizerView C → ℕ → List ℕ → PacketizerView C
 view_after_unit f h mtu unit = record h {
   next_don = (after_one_unit (packetizer_state f h) mtu unit).next_don;
+}
+
+-- what is held once a call is carried out
+abbrev pub view_with_update : {C : Type 0} → PacketizerView C → Update → PacketizerView C
+view_with_update h u = record h {
+  waiting = waiting_with_update h.waiting u;
+  next_don = u.next_don;
 }

@@ -14,6 +14,7 @@ use Rattle.h26x_payload.specs.declared.send.packetizer.Brought.{Brought}
 use Rattle.h26x_payload.specs.declared.send.sets.Sets.{Sets}
 use Rattle.h26x_payload.specs.declared.send.units.Due.{Due}
 use Rattle.h26x_payload.specs.declared.send.units.Due.TheVariants as d
+use Rattle.h26x_payload.specs.declared.send.update.Update.{Update}
 use Rattle.h26x_payload.specs.declared.format.UnitKind.{UnitKind}
 use Rattle.h26x_payload.specs.declared.format.UnitKind.TheVariants as k
 
@@ -41,6 +42,14 @@ waiting_with_brought w b = record {
   vps = latest_set w.vps b.taken (set_list (option_map (λ s. s.now) b.vps));
   sps = latest_set w.sps b.taken (set_list (option_map (λ s. s.now) b.sps));
   pps = latest_set w.pps b.taken (set_list (option_map (λ s. s.now) b.pps));
+}
+
+-- the sets that wait once a call is carried out
+abbrev pub waiting_with_update : WaitingSets → Update → WaitingSets
+waiting_with_update w u = record {
+  vps = latest_set w.vps u.taken (set_list (option_map (λ v. v.items) u.vps));
+  sps = latest_set w.sps u.taken (set_list (option_map (λ v. v.items) u.sps));
+  pps = latest_set w.pps u.taken (set_list (option_map (λ v. v.items) u.pps));
 }
 
 -- the kind of a unit, as the code has it

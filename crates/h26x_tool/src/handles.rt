@@ -5,3 +5,4 @@ mod copy;
 mod endpoint;
 mod receiving;
 mod sending;
+mod sequenced;

@@ -20,6 +20,8 @@ mod ends;
 mod h264;
 mod h265;
 mod h266;
+mod placed;
+mod sequenced;
 mod take;
 
 /// Bytes by two digits each; spaces may stand between them.

@@ -1,6 +1,6 @@
 use super::*;
 use h26x_codec::Codec;
-use h26x_core::{CodecExtra, PacketError};
+use h26x_core::{CodecExtra, Depacketizer, PacketError};
 use std::alloc::Global;
 use std::test::Fail;
 
@@ -10,9 +10,10 @@ type Copied = (usize, [u8; 1], u32);
 
 /// Copies a part of a packet with numbers or without.
 fn copied(alloc: Global, numbers: bool, packet: &[u8], i: usize) -> Result<Copied, PacketError> {
-    let mut it = AnyDepacketizer::new(alloc, Codec::H265, numbers);
+    let mut it = AnyDepacketizer::new(alloc, Codec::H265);
+    it.with_donl(numbers);
     let mut out = Vec::new(alloc);
-    it.depacketize(false, packet, &mut out, &mut CodecExtra::None)?;
+    it.depacketize(packet, &mut out, &mut CodecExtra::None)?;
     let (mut to, mut number) = ([0], 77);
     let len = copy_part(shown_part(&it, i), &mut to, &mut number);
     Ok((len, to, number))

@@ -52,26 +52,3 @@ fn what_was_written_is_sent_again(rt: HostRuntime) -> Result<(), Fail> {
     assert!(rt; are_the_same_twice(&send_twice(rt.alloc(), frames)?));
     Ok(())
 }
-
-/// The fragments of two units, the middle one of the first lost.
-fn fragments_with_a_gap(alloc: Global) -> Result<Vec<(u16, Vec<u8>)>, PacketError> {
-    let rows: [(u16, [u8; 3]); 4] = [
-        (65534, [0x7c, 0x85, 0x01]),
-        (0, [0x7c, 0x45, 0x03]),
-        (1, [0x5c, 0x81, 0x04]),
-        (2, [0x5c, 0x41, 0x05]),
-    ];
-    let mut packets = Vec::new(alloc);
-    for (number, packet) in &rows {
-        packets.push((*number, packet.to_vec(alloc)?))?;
-    }
-    Ok(packets)
-}
-
-#[test]
-fn a_unit_with_a_gap_is_not_written(rt: HostRuntime) -> Result<(), Fail> {
-    let packets = fragments_with_a_gap(rt.alloc())?;
-    let want = [0, 0, 0, 1, 0x41, 0x04, 0x05];
-    assert!(rt; wrote(receive_with_gaps(rt.alloc(), &packets), &want));
-    Ok(())
-}

@@ -7,10 +7,12 @@ ghost use Rattle.h26x_model.specs.Payload.Extra.{extra_after};
 ghost use Rattle.h26x_model.specs.Receive.Outcome.{is_too_long};
 ghost use Rattle.h26x_core.specs.Pieces.{pieces_of};
 ghost use Rattle.h26x_payload.specs.Run.{AreOfSize};
+ghost use Rattle.h26x_payload.specs.UnitSink.{with_written};
 
 use crate::format::PayloadFormat;
 use crate::receive::byte_stream::{PREFIX_SIZE, put_unit};
 use crate::receive::extra::told;
+use crate::receive::sink::UnitSink;
 use h26x_core::{CodecExtra, PacketError, first_piece};
 
 /// A codec's aggregates: how units stand behind each other (RFC 6184, 5.7.1; RFC 7798, 4.4.2; RFC
@@ -43,21 +45,21 @@ pub fn written_size<A: Aggregate>(codec: A, bytes: &[u8]) -> usize
 
 /// Writes the units of an aggregate, which take `size` bytes, and tells of them (RFC 6184, 5.7.1;
 /// RFC 7798, 4.4.2; RFC 9328, 4.3.2).
-pub fn write_units<A: Aggregate>(
+pub fn write_units<A: Aggregate, W: UnitSink>(
     codec: A,
     is_avc: bool,
     bytes: &[u8],
     size: usize,
-    out: &mut Vec<u8>,
+    out: &mut W,
     codec_extra: &mut CodecExtra,
 ) -> Result<(), PacketError>
     requires { AreOfSize (A.units codec bytes.now) size }
     ensures outcome { (result ≡ Ok tt) ⊎ (result ≡ Err PacketError.OutOfMemory) }
-    ensures written { OnOk result (out.new.items ≡ out.old.items
-        ++ byte_stream is_avc (A.units codec bytes.now)) }
+    ensures written { OnOk result (W.sink out.new ≡ with_written (W.sink out.old)
+        (byte_stream is_avc (A.units codec bytes.now))) }
     ensures told { OnOk result (codec_extra.new ≡ extra_after (A.format codec) codec_extra.old
         (A.units codec bytes.now)) }
-    ensures kept { OnErr result (out.new.items ≡ out.old.items) }
+    ensures kept { OnErr result (W.sink out.new ≡ W.sink out.old) }
     ensures kept_extra { OnErr result (codec_extra.new ≡ codec_extra.old) }
 {
     out.reserve(size)?;

@@ -1,12 +1,14 @@
 //! Units as they are written: behind start codes (Annex B of H.264, H.265 and H.266), or behind their
 //! lengths (ISO/IEC 14496-15).
 
-ghost use Rattle.std.specs.Prelude.{◌≡◌, ◌≤◌, ◌+◌, ◌^◌, nat_le, true, false, ◌&&◌, if◌then◌else◌, ◌⊎◌, [], ◌∷◌, ◌++◌, length, vec_len, vec_capacity, Ok, Err, OnOk, OnErr};
+ghost use Rattle.std.specs.Prelude.{◌≡◌, ◌≤◌, ◌<◌, ◌+◌, ◌^◌, nat_le, true, false, ◌&&◌, if◌then◌else◌, ◌⊎◌, [], ◌∷◌, ◌++◌, length, Ok, Err, OnOk, OnErr};
 ghost use Rattle.h26x_core.specs.ByteStream.{unit_prefix, byte_stream};
 ghost use Rattle.h26x_core.specs.Word.{long_word};
 ghost use Rattle.h26x_model.specs.Receive.Outcome.{is_too_long};
 ghost use Rattle.h26x_payload.specs.Run.{IsWriteOutcome};
+ghost use Rattle.h26x_payload.specs.UnitSink.{with_written};
 
+use crate::receive::sink::UnitSink;
 use h26x_core::{ANNEXB_NALUSTART_CODE, PacketError};
 
 /// The bytes before a unit that is written: a start code (Annex B of H.264, H.265 and H.266), or its
@@ -15,19 +17,19 @@ pub const PREFIX_SIZE: usize = 4;
 
 /// Writes what stands before a unit of this length, where there is room for it.
 #[inline(always)]
-fn put_prefix(is_avc: bool, len: usize, out: &mut Vec<u8>)
-    requires room { vec_len out.old + 4 ≤ vec_capacity out.old }
+fn put_prefix<W: UnitSink>(is_avc: bool, len: usize, out: &mut W)
+    requires room { 4 ≤ W.room out.old }
     requires fits { (is_avc && nat_le (2 ^ 32) len) ≡ false }
-    ensures written { out.new.items ≡ out.old.items ++ (if is_avc then long_word len else 0 ∷ 0 ∷
-        0 ∷ 1 ∷ []) }
-    ensures capacity { vec_capacity out.old ≤ vec_capacity out.new }
+    ensures written { W.sink out.new ≡ with_written (W.sink out.old)
+        (if is_avc then long_word len else 0 ∷ 0 ∷ 0 ∷ 1 ∷ []) }
+    ensures room { W.room out.old ≤ W.room out.new + 4 }
 {
     let prefix = if is_avc {
         (len as u32).to_be_bytes()
     } else {
         ANNEXB_NALUSTART_CODE
     };
-    out.extend_from_slice(&prefix).unwrap();
+    out.put(&prefix);
 }
 
 /// Whether four bytes don't hold a unit's length.
@@ -40,23 +42,24 @@ pub(crate) fn is_too_long(len: usize) -> bool
 
 /// Writes a whole unit, where there is room for it.
 #[inline(always)]
-pub(crate) fn put_unit(is_avc: bool, unit: &[u8], out: &mut Vec<u8>)
-    requires room { vec_len out.old + (4 + length unit.now) ≤ vec_capacity out.old }
+pub(crate) fn put_unit<W: UnitSink>(is_avc: bool, unit: &[u8], out: &mut W)
+    requires room { 4 + length unit.now ≤ W.room out.old }
     requires fits { (is_avc && is_too_long unit.now) ≡ false }
-    ensures written { out.new.items ≡ out.old.items ++ (unit_prefix is_avc unit.now ++ unit.now) }
-    ensures capacity { vec_capacity out.old ≤ vec_capacity out.new }
+    ensures written { W.sink out.new ≡ with_written (W.sink out.old)
+        (unit_prefix is_avc unit.now ++ unit.now) }
+    ensures room { W.room out.old ≤ W.room out.new + (4 + length unit.now) }
 {
     put_prefix(is_avc, unit.len(), out);
-    out.extend_from_slice(unit).unwrap();
+    out.put(unit);
 }
 
 /// Writes a whole unit behind its length (ISO/IEC 14496-15).
 #[inline(always)]
-fn write_behind_length(unit: &[u8], out: &mut Vec<u8>) -> Result<(), PacketError>
+fn write_behind_length<W: UnitSink>(unit: &[u8], out: &mut W) -> Result<(), PacketError>
     ensures outcome { IsWriteOutcome (is_too_long unit.now) result }
-    ensures written { OnOk result (out.new.items ≡ out.old.items
-        ++ byte_stream true (unit.now ∷ [])) }
-    ensures kept { OnErr result (out.new.items ≡ out.old.items) }
+    ensures written { OnOk result (W.sink out.new ≡ with_written (W.sink out.old)
+        (byte_stream true (unit.now ∷ []))) }
+    ensures kept { OnErr result (W.sink out.new ≡ W.sink out.old) }
 {
     if is_too_long(unit.len()) {
         return Err(PacketError::AvcUnitTooLong);
@@ -68,11 +71,11 @@ fn write_behind_length(unit: &[u8], out: &mut Vec<u8>) -> Result<(), PacketError
 
 /// Writes a whole unit behind a start code (Annex B of H.264, H.265 and H.266).
 #[inline(always)]
-fn write_behind_start_code(unit: &[u8], out: &mut Vec<u8>) -> Result<(), PacketError>
+fn write_behind_start_code<W: UnitSink>(unit: &[u8], out: &mut W) -> Result<(), PacketError>
     ensures outcome { IsWriteOutcome false result }
-    ensures written { OnOk result (out.new.items ≡ out.old.items
-        ++ byte_stream false (unit.now ∷ [])) }
-    ensures kept { OnErr result (out.new.items ≡ out.old.items) }
+    ensures written { OnOk result (W.sink out.new ≡ with_written (W.sink out.old)
+        (byte_stream false (unit.now ∷ []))) }
+    ensures kept { OnErr result (W.sink out.new ≡ W.sink out.old) }
 {
     out.reserve(unit.len().saturating_add(PREFIX_SIZE))?;
     put_unit(false, unit, out);
@@ -84,11 +87,11 @@ fn write_behind_start_code(unit: &[u8], out: &mut Vec<u8>) -> Result<(), PacketE
 ///
 /// Each form is a copy of its own, so that small units are written without a branch in between.
 #[inline(always)]
-pub fn write_unit(is_avc: bool, unit: &[u8], out: &mut Vec<u8>) -> Result<(), PacketError>
+pub fn write_unit<W: UnitSink>(is_avc: bool, unit: &[u8], out: &mut W) -> Result<(), PacketError>
     ensures outcome { IsWriteOutcome (is_avc && is_too_long unit.now) result }
-    ensures written { OnOk result (out.new.items ≡ out.old.items
-        ++ byte_stream is_avc (unit.now ∷ [])) }
-    ensures kept { OnErr result (out.new.items ≡ out.old.items) }
+    ensures written { OnOk result (W.sink out.new ≡ with_written (W.sink out.old)
+        (byte_stream is_avc (unit.now ∷ []))) }
+    ensures kept { OnErr result (W.sink out.new ≡ W.sink out.old) }
 {
     if is_avc {
         write_behind_length(unit, out)
@@ -98,37 +101,36 @@ pub fn write_unit(is_avc: bool, unit: &[u8], out: &mut Vec<u8>) -> Result<(), Pa
 }
 
 /// Writes a unit of these parts, where there is room for it.
-fn put_parts(is_avc: bool, head: &[u8], run: &[u8], body: &[u8], out: &mut Vec<u8>)
-    requires room { vec_len out.old + (4 + (length head.now + (length run.now
-        + length body.now))) ≤ vec_capacity out.old }
+fn put_parts<W: UnitSink>(is_avc: bool, head: &[u8], run: &[u8], body: &[u8], out: &mut W)
+    requires room { 4 + (length head.now + (length run.now + length body.now)) ≤ W.room out.old }
+    requires small { length head.now + (length run.now + length body.now) < 2 ^ 64 }
     requires fits { (is_avc && is_too_long (head.now ++ (run.now ++ body.now))) ≡ false }
-    ensures written { out.new.items ≡ out.old.items
-        ++ (unit_prefix is_avc (head.now ++ (run.now ++ body.now))
+    ensures written { W.sink out.new ≡ with_written (W.sink out.old)
+        (unit_prefix is_avc (head.now ++ (run.now ++ body.now))
         ++ (head.now ++ (run.now ++ body.now))) }
-    ensures capacity { vec_capacity out.old ≤ vec_capacity out.new }
 {
     put_prefix(is_avc, head.len() + run.len() + body.len(), out);
-    out.extend_from_slice(head).unwrap();
+    out.put(head);
     if !run.is_empty() {
-        out.extend_from_slice(run).unwrap();
+        out.put(run);
     }
-    out.extend_from_slice(body).unwrap();
+    out.put(body);
 }
 
 /// Writes a unit of these parts, as `write_unit` does: its header, the data of its run, and the last
 /// of its data (RFC 6184, 5.8; RFC 7798, 4.4.3; RFC 9328, 4.3.3).
-pub fn write_parts(
+pub fn write_parts<W: UnitSink>(
     is_avc: bool,
     head: &[u8],
     run: &[u8],
     body: &[u8],
-    out: &mut Vec<u8>,
+    out: &mut W,
 ) -> Result<(), PacketError>
     ensures outcome { IsWriteOutcome (is_avc && is_too_long (head.now ++ (run.now ++ body.now)))
         result }
-    ensures written { OnOk result (out.new.items ≡ out.old.items
-        ++ byte_stream is_avc ((head.now ++ (run.now ++ body.now)) ∷ [])) }
-    ensures kept { OnErr result (out.new.items ≡ out.old.items) }
+    ensures written { OnOk result (W.sink out.new ≡ with_written (W.sink out.old)
+        (byte_stream is_avc ((head.now ++ (run.now ++ body.now)) ∷ []))) }
+    ensures kept { OnErr result (W.sink out.new ≡ W.sink out.old) }
 {
     let len = head
         .len()

@@ -5,16 +5,20 @@ ghost use Rattle.h26x_core.specs.Front.{IsFrontOf};
 ghost use Rattle.h26x_core.specs.Hint.{size_hint};
 ghost use Rattle.h26x_model.specs.Receive.Outcome.{is_startless};
 ghost use Rattle.h26x_model.specs.Receive.DepacketizerState.{after_packets, IsPacketOutcome};
+ghost use Rattle.h26x_model.specs.Receive.RunLimit.{run_len};
 ghost use Rattle.h26x_payload.specs.DepacketizerView.{view_depacketization};
+ghost use Rattle.h26x_payload.specs.UnitSink.{grown_to};
 
 use crate::format::DonlFormat;
 use crate::receive::extra::out_size_hint;
 use crate::receive::reader::PacketReader;
 use crate::receive::run::OpenRun;
+use crate::receive::sink::UnitSink;
 use crate::receive::take::take_packet;
 use h26x_core::{CodecExtra, Depacketizer, PacketError};
 use std::alloc::Global;
 use std::marker::Model;
+use std::mem;
 
 /// Writes the units of packets (RFC 6184, 5 and 7; RFC 7798, 4.4 and 6; RFC 9328, 4.3 and 6), each
 /// behind a start code, or behind its length where `is_avc` is set.
@@ -51,11 +55,26 @@ impl<C: PacketReader> PayloadDepacketizer<C> {
         }
     }
 
+    /// How many bytes the open run holds; none where none is open.
+    pub fn run_len(&self) -> usize
+        ensures { result ≡ run_len self.now.run }
+    {
+        self.run.len()
+    }
+
+    /// Exchanges the open run, or none, for another one. It takes no memory.
+    pub fn swap_run(&mut self, run: &mut OpenRun)
+        ensures taken { self.new ≡ record self.old { run = run.old } }
+        ensures given { run.new ≡ self.old.run }
+    {
+        mem::swap(&mut self.run, run);
+    }
+
     /// Gives up the open run, if there is one, and gives its buffer back. It takes no memory.
     ///
     /// A run grows by every fragment until one ends it, and its buffer is kept for later runs: a
-    /// caller that will not hold so much calls this. Fragments that follow without a start are
-    /// accepted and complete nothing.
+    /// caller that will not hold so much asks `run_len` and calls this. Fragments that follow
+    /// without a start are accepted and complete nothing.
     pub fn give_up_run(&mut self)
         ensures { self.new ≡ record self.old { run = None } }
     {
@@ -74,6 +93,41 @@ impl<C: PacketReader> PayloadDepacketizer<C> {
             is_avc: self.is_avc,
             run: self.run.clone()?,
         })
+    }
+}
+
+impl<C: PacketReader> PayloadDepacketizer<C> {
+    /// Takes a packet as `depacketize` does, and writes the units that it completes to a list of
+    /// bytes or to memory of a caller. Where that has no room for them the error is `OutOfMemory`;
+    /// a refusal leaves everything, the memory too.
+    #[inline]
+    pub fn depacketize_into<W: UnitSink>(
+        &mut self,
+        packet: &[u8],
+        out: &mut W,
+        codec_extra: &mut CodecExtra,
+    ) -> Result<(), PacketError>
+        ensures outcome { IsPacketOutcome (view_depacketization (C.format self.old.codec) self.old
+            (W.sink out.old).bytes codec_extra.old) packet.now result }
+        ensures taken { OnOk result (view_depacketization (C.format self.new.codec) self.new
+            (W.sink out.new).bytes codec_extra.new
+            ≡ after_packets (view_depacketization (C.format self.old.codec) self.old
+            (W.sink out.old).bytes codec_extra.old) (packet.now ∷ [])) }
+        ensures behind { OnOk result (W.sink out.new
+            ≡ grown_to (W.sink out.new).bytes (W.sink out.old)) }
+        ensures accepted { OnOk result (IsFrontOf (W.sink out.old).bytes (W.sink out.new).bytes) }
+        ensures setting { self.new ≡ record self.old { run = self.new.run } }
+        ensures startless { is_startless self.old.run
+            ((C.format self.old.codec).read packet.now) ≡ true → IsOk result }
+        ensures kept { OnErr result (self.new ≡ self.old) }
+        ensures kept_sink { OnErr result (W.sink out.new ≡ W.sink out.old) }
+        ensures kept_extra { OnErr result (codec_extra.new ≡ codec_extra.old) }
+    {
+        let codec = self.codec;
+        let parts = codec.read(packet)?;
+        let is_avc = self.is_avc;
+        let run = &mut self.run;
+        take_packet(codec, is_avc, packet, parts, run, out, codec_extra)
     }
 }
 
@@ -138,7 +192,8 @@ impl<C: PacketReader> Depacketizer for PayloadDepacketizer<C> {
     ///
     /// A start of fragments gives up a unit that was open, and a fragment without a start before it
     /// is accepted, completes nothing and takes no memory. That fragments between were lost is not
-    /// noticed here: their unit is written without their data.
+    /// noticed here: their unit is written without their data. `h26x_receiver` notices it, by the
+    /// sequence numbers of packets.
     ///
     /// The codec says which packets are refused; behind lengths a unit over `u32::MAX` bytes is too
     /// (`AvcUnitTooLong`); else memory may lack. A refusal leaves `out`, `codec_extra` and the open
@@ -170,11 +225,7 @@ impl<C: PacketReader> Depacketizer for PayloadDepacketizer<C> {
         ensures kept_extra { OnErr result (codec_extra.new ≡ codec_extra.old) }
         ensures kept_self { OnErr result (self.new ≡ self.old) }
     {
-        let codec = self.codec;
-        let parts = codec.read(packet)?;
-        let is_avc = self.is_avc;
-        let run = &mut self.run;
-        take_packet(codec, is_avc, packet, parts, run, out, codec_extra)
+        self.depacketize_into(packet, out, codec_extra)
     }
 
     /// Whether `packet` may be the first of an access unit, as its codec says.

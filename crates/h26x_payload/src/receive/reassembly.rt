@@ -7,11 +7,13 @@ ghost use Rattle.h26x_model.specs.Payload.Extra.{extra_after};
 ghost use Rattle.h26x_model.specs.Receive.Received.{reading_units, run_after};
 ghost use Rattle.h26x_model.specs.Receive.Outcome.{is_too_long};
 ghost use Rattle.h26x_payload.specs.Run.{header_bytes, fragment_reading, IsWriteOutcome};
+ghost use Rattle.h26x_payload.specs.UnitSink.{with_written};
 
 use crate::format::PayloadFormat;
 use crate::receive::byte_stream::write_parts;
 use crate::receive::extra::told;
 use crate::receive::run::OpenRun;
+use crate::receive::sink::UnitSink;
 use h26x_core::{CodecExtra, PacketError};
 
 /// A fragment of a unit (RFC 6184, 5.8; RFC 7798, 4.4.3; RFC 9328, 4.3.3).
@@ -30,26 +32,26 @@ pub struct Fragment<'a> {
 /// Takes a fragment: a start begins a run anew, another is added to the open run, an end closes it
 /// and writes its unit (RFC 6184, 5.8; RFC 7798, 4.4.3; RFC 9328, 4.3.3). One that doesn't start
 /// while no run is open does nothing, and takes no memory.
-pub fn take_fragment<C: PayloadFormat>(
+pub fn take_fragment<C: PayloadFormat, W: UnitSink>(
     codec: C,
     is_avc: bool,
     fragment: Fragment<'_>,
     run: &mut OpenRun,
-    out: &mut Vec<u8>,
+    out: &mut W,
     codec_extra: &mut CodecExtra,
 ) -> Result<(), PacketError>
     requires { length (header_bytes (C.format codec) fragment.head)
         ≡ (C.format codec).header_len }
     ensures outcome { IsWriteOutcome (is_avc && list_any is_too_long (reading_units run.old
         (fragment_reading (C.format codec) fragment.entry))) result }
-    ensures written { OnOk result (out.new.items ≡ out.old.items
-        ++ byte_stream is_avc (reading_units run.old
-        (fragment_reading (C.format codec) fragment.entry))) }
+    ensures written { OnOk result (W.sink out.new ≡ with_written (W.sink out.old)
+        (byte_stream is_avc (reading_units run.old
+        (fragment_reading (C.format codec) fragment.entry)))) }
     ensures told { OnOk result (codec_extra.new ≡ extra_after (C.format codec) codec_extra.old
         (reading_units run.old (fragment_reading (C.format codec) fragment.entry))) }
     ensures run { OnOk result (run.new
         ≡ run_after run.old (fragment_reading (C.format codec) fragment.entry)) }
-    ensures kept { OnErr result (out.new.items ≡ out.old.items) }
+    ensures kept { OnErr result (W.sink out.new ≡ W.sink out.old) }
     ensures kept_extra { OnErr result (codec_extra.new ≡ codec_extra.old) }
     ensures kept_run { OnErr result (run.new ≡ run.old) }
     ensures startless { fragment.entry.start ≡ false → run.old ≡ None → IsOk result }

@@ -2,6 +2,7 @@
 //! 4.3.3).
 
 ghost use Rattle.std.specs.Prelude.{◌≡◌, ◌⊎◌, ◌++◌, OnOk, OnErr, IfOk, IsOk, Some, None, Ok, Err, is_some, true};
+ghost use Rattle.h26x_model.specs.Receive.RunLimit.{run_len};
 ghost use Rattle.h26x_payload.specs.Run.{run_bytes};
 
 use h26x_core::PacketError;
@@ -63,6 +64,13 @@ impl OpenRun {
         ensures { result.now ≡ run_bytes self.now }
     {
         self.bytes.as_slice()
+    }
+
+    /// How many bytes the run holds; none where none is open.
+    pub fn len(&self) -> usize
+        ensures { result ≡ run_len self.now }
+    {
+        self.bytes.len()
     }
 
     /// Adds these data to the open run.

@@ -8,6 +8,7 @@ ghost use Rattle.h26x_model.specs.Receive.Received.{reading_units, run_after};
 ghost use Rattle.h26x_model.specs.Receive.Outcome.{IsReadingOutcome, is_startless, is_too_long};
 ghost use Rattle.h26x_payload.specs.Run.{header_bytes, fragment_reading, IsWriteOutcome};
 ghost use Rattle.h26x_payload.specs.DepacketizerView.{parts_reading, AreChecked, IsReadAs};
+ghost use Rattle.h26x_payload.specs.UnitSink.{with_written};
 
 use crate::format::PayloadFormat;
 use crate::receive::aggregate::write_units;
@@ -17,6 +18,7 @@ use crate::receive::parts::Parts;
 use crate::receive::reader::PacketReader;
 use crate::receive::reassembly::{Fragment, take_fragment};
 use crate::receive::run::OpenRun;
+use crate::receive::sink::UnitSink;
 use h26x_core::{CodecExtra, PacketError};
 
 /// The bytes of the unit that a fragment completes, at most `usize::MAX`; 0 where it completes none.
@@ -96,27 +98,27 @@ pub fn check_lengths<C: PacketReader>(
 /// Takes the parts of a packet: writes the units that it completes, tells of them, and keeps its
 /// run.
 #[inline]
-fn take_parts<C: PacketReader>(
+fn take_parts<C: PacketReader, W: UnitSink>(
     codec: C,
     is_avc: bool,
     packet: &[u8],
     parts: Parts<'_>,
     run: &mut OpenRun,
-    out: &mut Vec<u8>,
+    out: &mut W,
     codec_extra: &mut CodecExtra,
 ) -> Result<(), PacketError>
     requires { AreChecked (C.format codec) (C.units codec) packet.now parts }
     ensures outcome { IsWriteOutcome (is_avc && list_any is_too_long (reading_units run.old
         (parts_reading (C.format codec) (C.units codec) packet.now parts.entry))) result }
-    ensures written { OnOk result (out.new.items ≡ out.old.items
-        ++ byte_stream is_avc (reading_units run.old
-        (parts_reading (C.format codec) (C.units codec) packet.now parts.entry))) }
+    ensures written { OnOk result (W.sink out.new ≡ with_written (W.sink out.old)
+        (byte_stream is_avc (reading_units run.old
+        (parts_reading (C.format codec) (C.units codec) packet.now parts.entry)))) }
     ensures told { OnOk result (codec_extra.new ≡ extra_after (C.format codec) codec_extra.old
         (reading_units run.old
         (parts_reading (C.format codec) (C.units codec) packet.now parts.entry))) }
     ensures run { OnOk result (run.new ≡ run_after run.old
         (parts_reading (C.format codec) (C.units codec) packet.now parts.entry)) }
-    ensures kept { OnErr result (out.new.items ≡ out.old.items) }
+    ensures kept { OnErr result (W.sink out.new ≡ W.sink out.old) }
     ensures kept_extra { OnErr result (codec_extra.new ≡ codec_extra.old) }
     ensures kept_run { OnErr result (run.new ≡ run.old) }
     ensures startless { is_startless run.old
@@ -149,23 +151,23 @@ fn take_parts<C: PacketReader>(
 /// Behind lengths a unit over `u32::MAX` bytes is refused; else memory may lack. A fragment that
 /// doesn't start while no run is open takes none. A refusal leaves everything.
 #[inline]
-pub fn take_packet<C: PacketReader>(
+pub fn take_packet<C: PacketReader, W: UnitSink>(
     codec: C,
     is_avc: bool,
     packet: &[u8],
     parts: Parts<'_>,
     run: &mut OpenRun,
-    out: &mut Vec<u8>,
+    out: &mut W,
     codec_extra: &mut CodecExtra,
 ) -> Result<(), PacketError>
     requires { IsReadAs (C.format codec) (C.units codec) packet.now parts }
     ensures outcome { IsReadingOutcome is_avc run.old ((C.format codec).read packet.now) result }
-    ensures written { OnOk result (out.new.items ≡ out.old.items ++ byte_stream is_avc
-        (reading_units run.old ((C.format codec).read packet.now))) }
+    ensures written { OnOk result (W.sink out.new ≡ with_written (W.sink out.old)
+        (byte_stream is_avc (reading_units run.old ((C.format codec).read packet.now)))) }
     ensures told { OnOk result (codec_extra.new ≡ extra_after (C.format codec) codec_extra.old
         (reading_units run.old ((C.format codec).read packet.now))) }
     ensures run { OnOk result (run.new ≡ run_after run.old ((C.format codec).read packet.now)) }
-    ensures kept { OnErr result (out.new.items ≡ out.old.items) }
+    ensures kept { OnErr result (W.sink out.new ≡ W.sink out.old) }
     ensures kept_extra { OnErr result (codec_extra.new ≡ codec_extra.old) }
     ensures kept_run { OnErr result (run.new ≡ run.old) }
     ensures startless { is_startless run.old ((C.format codec).read packet.now) ≡ true →

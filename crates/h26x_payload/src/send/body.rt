@@ -18,7 +18,7 @@ impl<'a> Body<'a> {
     /// How many bytes it has; the greatest number where they are more.
     #[inline(always)]
     pub(crate) fn len(self) -> usize
-        ensures { min (length (body_bytes self.entry)) 18446744073709551615 ≤ result }
+        ensures { result ≡ min (length (body_bytes self.entry)) 18446744073709551615 }
     {
         match self {
             Body::Data(data) => data.len(),
@@ -36,6 +36,17 @@ impl<'a> Body<'a> {
         match self {
             Body::Data(data) => bytes.extend_from_slice(data).unwrap(),
             Body::Sets { sets, gap } => sets.put(gap, bytes),
+        }
+    }
+
+    /// Copies it to memory of its length.
+    pub(crate) fn copy_to(self, to: &mut [u8])
+        requires { length to.old ≡ length (body_bytes self) }
+        ensures { to.new ≡ body_bytes self.entry }
+    {
+        match self {
+            Body::Data(data) => to.copy_from_slice(data),
+            Body::Sets { sets, gap } => sets.copy_to(gap, to),
         }
     }
 }

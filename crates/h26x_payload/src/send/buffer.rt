@@ -5,6 +5,8 @@ ghost use Rattle.std.specs.List.{between};
 ghost use Rattle.h26x_payload.specs.Buffer.{IsBuffer, HoldPackets, ends_of, last_end, packets_from, with_packets};
 ghost use Rattle.h26x_payload.specs.Sending.{body_bytes, contents};
 
+mod loan;
+
 use crate::send::body::Body;
 use crate::send::buffer_packets::BufferPackets;
 use crate::send::sink::PacketSink;
@@ -300,13 +302,13 @@ impl Appending {
     }
 }
 
-impl PacketSink for Appending {
+impl<'a> PacketSink<'a> for Appending {
     ghost packets = { λ appending. appending.after };
 
     ghost before = { λ appending. appending.before };
 
     #[inline(always)]
-    fn push(&mut self, header: &[u8], donl: &[u8], body: Body<'_>) -> Result<(), AllocError> {
+    fn push(&mut self, header: &[u8], donl: &[u8], body: Body<'a>) -> Result<(), AllocError> {
         self.buffer.push_parts(header, donl, body)
     }
 

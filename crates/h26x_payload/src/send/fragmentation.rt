@@ -27,16 +27,17 @@ pub(crate) fn donl_bytes<'a>(has_donl: bool, don: u16, bytes: &'a mut [u8; 2]) -
 
 /// Appends a fragment of this data, behind these bytes of a number.
 #[inline(always)]
-fn push_fragment<C: PayloadFormat, S: PacketSink>(
+fn push_fragment<'a, C: PayloadFormat, S: PacketSink<'a>>(
     codec: C,
     unit: &[u8],
     start: bool,
     end: bool,
     donl: &[u8],
-    part: &[u8],
+    part: &'a [u8],
     made: &mut S,
 ) -> Result<(), AllocError>
     requires whole { (C.format codec).header_len ≤ length unit.now }
+    requires donl { length donl.now ≤ 2 }
     ensures pushed { OnOk result (S.packets made.new ≡ S.packets made.old
         ++ ((C.format codec).fragment_header unit.now start end ++ (donl.now ++ part.now)) ∷ []) }
     ensures before { S.before made.new ≡ S.before made.old }
@@ -57,11 +58,11 @@ fn count_of_fragments<C: PayloadFormat>(codec: C, limit: usize, unit: &[u8]) -> 
 
 /// Appends the fragments of a unit, the first with these bytes of its number. Each but the last is
 /// of `limit` bytes.
-fn push_parts<C: PayloadFormat, S: PacketSink>(
+fn push_parts<'a, C: PayloadFormat, S: PacketSink<'a>>(
     codec: C,
     limit: usize,
     don: u16,
-    unit: &[u8],
+    unit: &'a [u8],
     donl: &[u8],
     made: &mut S,
 ) -> Result<(), AllocError>
@@ -89,11 +90,11 @@ fn push_parts<C: PayloadFormat, S: PacketSink>(
 }
 
 /// Appends the fragments of a unit that doesn't fit.
-pub(crate) fn push_fragments<C: PayloadFormat, S: PacketSink>(
+pub(crate) fn push_fragments<'a, C: PayloadFormat, S: PacketSink<'a>>(
     codec: C,
     limit: usize,
     don: u16,
-    unit: &[u8],
+    unit: &'a [u8],
     made: &mut S,
 ) -> Result<(), AllocError>
     requires room { fragment_header_len (C.format codec) + donl_len (C.format codec) < limit }

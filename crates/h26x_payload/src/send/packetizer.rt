@@ -8,13 +8,17 @@ ghost use Rattle.h26x_model.specs.Send.WaitingSets.{waiting_after_unit, due_item
 ghost use Rattle.h26x_model.specs.Send.PacketizerState.{state_packets, is_skipped, are_skipped, has_no_effect, IsSentAsPlanned, one_unit_items, one_unit_packets};
 ghost use Rattle.h26x_payload.specs.Sending.{contents, ArePushed, set_list, latest_set, waiting_with_brought, due_to_items, is_nothing};
 ghost use Rattle.h26x_payload.specs.Buffer.{with_packets};
-ghost use Rattle.h26x_payload.specs.PacketizerView.{IsPacketizer, packetizer_state, fresh_packetizer, view_call, view_entries, view_after, view_after_unit};
+ghost use Rattle.h26x_payload.specs.Placement.{IsPlacement, IsSizeOf, if_placed};
+ghost use Rattle.h26x_payload.specs.PacketizerView.{IsPacketizer, packetizer_state, fresh_packetizer, view_call, view_entries, view_after, view_after_unit, view_with_update};
 
 use crate::format::{DonlFormat, PayloadFormat, UnitKind};
 use crate::send::buffer::{Appending, PacketBuffer};
+use crate::send::packet_parts::PacketParts;
+use crate::send::placement::{PacketsSize, Placement, place, size_of};
 use crate::send::sets::Sets;
 use crate::send::sink::PacketSink;
 use crate::send::units::{Due, push_due, push_unit};
+use crate::send::update::Update;
 use h26x_core::{PacketError, Packetizer};
 use h26x_model::laws;
 use std::alloc::Global;
@@ -206,7 +210,7 @@ impl<C: PayloadFormat> PayloadPacketizer<C> {
     }
 
     /// Appends the packets of a payload, and tells what it brought and the next number.
-    fn push_payload<'a, S: PacketSink>(
+    fn push_payload<'a, S: PacketSink<'a>>(
         &'a self,
         limit: usize,
         b: &'a [u8],
@@ -260,39 +264,61 @@ impl<C: PayloadFormat> PayloadPacketizer<C> {
         let _ = &self.codec;
     }
 
-    /// Appends the packets of a payload.
-    fn send<S: PacketSink>(&mut self, mtu: usize, b: &[u8], made: &mut S) -> Result<(), PacketError>
+    /// Appends the packets of a payload, and tells what the call changes.
+    fn prepare<'a, S: PacketSink<'a>>(
+        &'a self,
+        mtu: usize,
+        b: &'a [u8],
+        made: &mut S,
+    ) -> Result<Update, PacketError>
         ensures packets { OnOk result (S.packets made.new ≡ S.packets made.old
-            ++ state_packets (packetizer_state (C.format self.old.codec) self.old)
-            (view_entries (C.format self.old.codec) self.old mtu b.now)) }
-        ensures after { OnOk result (self.new
-            ≡ view_after (C.format self.old.codec) self.old
-            (view_entries (C.format self.old.codec) self.old mtu b.now)) }
+            ++ state_packets (packetizer_state (C.format self.now.codec) self.now)
+            (view_entries (C.format self.now.codec) self.now mtu b.now)) }
+        ensures after { IfOk result (λ it. view_with_update self.now it
+            ≡ view_after (C.format self.now.codec) self.now
+            (view_entries (C.format self.now.codec) self.now mtu b.now)) }
+        ensures is { IfOk result (λ it. IsPacketizer (C.format self.now.codec)
+            (packetizer_state (C.format self.now.codec) (view_with_update self.now it))) }
         ensures before { S.before made.new ≡ S.before made.old }
 
-        ensures kept { OnErr result (self.new ≡ self.old) }
         ensures memory { OnErr result (result ≡ Err PacketError.OutOfMemory) }
 
         // Calls without effect take no memory.
-        ensures free { has_no_effect (C.format self.old.codec) (view_call self.old mtu b.now) ≡ true →
+        ensures free { has_no_effect (C.format self.now.codec) (view_call self.now mtu b.now) ≡ true →
             IsOk result }
     {
         laws::packetizers_go_on();
         if mtu < self.codec.least_mtu() {
-            return Ok(());
+            return Ok(Update::number(self.next_don));
         }
         let (brought, next_don) = self.push_payload(self.limit(mtu), b, made)?;
-        let taken = brought.taken;
         let vps = copied(self.alloc, brought.vps)?;
         let sps = copied(self.alloc, brought.sps)?;
         let pps = copied(self.alloc, brought.pps)?;
-        replace_set(&mut self.vps, taken, vps);
-        replace_set(&mut self.sps, taken, sps);
-        replace_set(&mut self.pps, taken, pps);
-        if self.codec.has_donl() {
-            self.next_don = next_don;
-        }
-        Ok(())
+        let next_don = if self.codec.has_donl() {
+            next_don
+        } else {
+            self.next_don
+        };
+        Ok(Update {
+            taken: brought.taken,
+            vps,
+            sps,
+            pps,
+            next_don,
+        })
+    }
+
+    /// Carries out a call.
+    fn commit(&mut self, update: Update)
+        requires { IsPacketizer (C.format self.old.codec)
+            (packetizer_state (C.format self.old.codec) (view_with_update self.old update)) }
+        ensures { self.new ≡ view_with_update self.old update }
+    {
+        replace_set(&mut self.vps, update.taken, update.vps);
+        replace_set(&mut self.sps, update.taken, update.sps);
+        replace_set(&mut self.pps, update.taken, update.pps);
+        self.next_don = update.next_don;
     }
 
     /// Appends the packets of a payload to a buffer, in order, each within the limit of the call and
@@ -330,8 +356,9 @@ impl<C: PayloadFormat> PayloadPacketizer<C> {
     {
         self.goes_as_planned(mtu, b);
         let mut made = Appending::take(self.alloc, into);
-        match self.send(mtu, b, &mut made) {
-            Ok(()) => {
+        match self.prepare(mtu, b, &mut made) {
+            Ok(update) => {
+                self.commit(update);
                 *into = made.finish();
                 Ok(())
             }
@@ -340,6 +367,98 @@ impl<C: PayloadFormat> PayloadPacketizer<C> {
                 Err(e)
             }
         }
+    }
+
+    /// How much memory the packets of a payload take, each behind `headroom` bytes, as
+    /// [`packetize_to_memory`](PayloadPacketizer::packetize_to_memory) would place them now. Nothing
+    /// changes. `OutOfMemory` is its only error.
+    pub fn packets_size<'a>(
+        &'a self,
+        mtu: usize,
+        b: &'a [u8],
+        headroom: usize,
+    ) -> Result<PacketsSize, PacketError>
+        ensures size { IfOk result (λ it. IsSizeOf headroom
+            (state_packets (packetizer_state (C.format self.now.codec) self.now)
+            (view_entries (C.format self.now.codec) self.now mtu b.now)) it) }
+
+        ensures memory { OnErr result (result ≡ Err PacketError.OutOfMemory) }
+
+        // Calls without effect take no memory.
+        ensures free { has_no_effect (C.format self.now.codec) (view_call self.now mtu b.now) ≡ true →
+            IsOk result }
+    {
+        let mut made: Vec<PacketParts<'a>> = Vec::new(self.alloc);
+        self.prepare(mtu, b, &mut made)?;
+        Ok(size_of(&made, headroom))
+    }
+
+    /// Copies the packets of a payload to memory where they fit, and tells what the call changes.
+    fn prepare_placed<'a>(
+        &'a self,
+        mtu: usize,
+        b: &'a [u8],
+        headroom: usize,
+        to: &mut [u8],
+        ends: &mut [usize],
+    ) -> Result<(Placement, Update), PacketError>
+        ensures packets { IfOk result (λ it. IsPlacement headroom
+            (state_packets (packetizer_state (C.format self.now.codec) self.now)
+            (view_entries (C.format self.now.codec) self.now mtu b.now)) to.old to.new ends.old ends.new
+            it.0) }
+        ensures after { IfOk result (λ it. view_with_update self.now it.1
+            ≡ view_after (C.format self.now.codec) self.now
+            (view_entries (C.format self.now.codec) self.now mtu b.now)) }
+        ensures is { IfOk result (λ it. IsPacketizer (C.format self.now.codec)
+            (packetizer_state (C.format self.now.codec) (view_with_update self.now it.1))) }
+
+        ensures kept_memory { OnErr result ((to.new ≡ to.old) × (ends.new ≡ ends.old)) }
+        ensures memory { OnErr result (result ≡ Err PacketError.OutOfMemory) }
+
+        // Calls without effect take no memory.
+        ensures free { has_no_effect (C.format self.now.codec) (view_call self.now mtu b.now) ≡ true →
+            IsOk result }
+    {
+        let mut made: Vec<PacketParts<'a>> = Vec::new(self.alloc);
+        let update = self.prepare(mtu, b, &mut made)?;
+        Ok((place(&made, headroom, to, ends), update))
+    }
+
+    /// Copies the packets of a payload straight to memory of the caller, one behind the other, each
+    /// behind `headroom` bytes that stay as they are, and writes to `ends` where each ends.
+    ///
+    /// They are those of [`packetize`](Packetizer::packetize), and what waits afterwards is what waits
+    /// after it. Where they don't fit in `to`, or their ends in `ends`, nothing is done, and the answer
+    /// says how much room they want. `OutOfMemory` is its only error, and leaves everything.
+    pub fn packetize_to_memory(
+        &mut self,
+        mtu: usize,
+        b: &[u8],
+        headroom: usize,
+        to: &mut [u8],
+        ends: &mut [usize],
+    ) -> Result<Placement, PacketError>
+        ensures packets { IfOk result (λ it. IsPlacement headroom
+            (state_packets (packetizer_state (C.format self.old.codec) self.old)
+            (view_entries (C.format self.old.codec) self.old mtu b.now)) to.old to.new ends.old ends.new
+            it) }
+        ensures after { IfOk result (λ it. self.new ≡ if_placed it
+            (view_after (C.format self.old.codec) self.old
+            (view_entries (C.format self.old.codec) self.old mtu b.now)) self.old) }
+
+        ensures kept { OnErr result (self.new ≡ self.old) }
+        ensures kept_memory { OnErr result ((to.new ≡ to.old) × (ends.new ≡ ends.old)) }
+        ensures memory { OnErr result (result ≡ Err PacketError.OutOfMemory) }
+
+        // Calls without effect take no memory.
+        ensures free { has_no_effect (C.format self.old.codec) (view_call self.old mtu b.now) ≡ true →
+            IsOk result }
+    {
+        let (placement, update) = self.prepare_placed(mtu, b, headroom, to, ends)?;
+        if let Placement::Placed(_) = placement {
+            self.commit(update);
+        }
+        Ok(placement)
     }
 
     /// A law of each unit that is sent as it is: its packets are within the limit of the call.
@@ -351,35 +470,38 @@ impl<C: PayloadFormat> PayloadPacketizer<C> {
         let _ = &self.codec;
     }
 
-    /// Appends the packets of one unit as it is.
-    fn send_unit<S: PacketSink>(
-        &mut self,
+    /// Appends the packets of one unit as it is, and tells what the call changes.
+    fn prepare_unit<'a, S: PacketSink<'a>>(
+        &'a self,
         mtu: usize,
-        unit: &[u8],
+        unit: &'a [u8],
         made: &mut S,
-    ) -> Result<(), PacketError>
+    ) -> Result<Update, PacketError>
         ensures packets { OnOk result (S.packets made.new ≡ S.packets made.old ++ one_unit_packets
-            (packetizer_state (C.format self.old.codec) self.old) mtu unit.now) }
-        ensures after { OnOk result (self.new
-            ≡ view_after_unit (C.format self.old.codec) self.old mtu unit.now) }
+            (packetizer_state (C.format self.now.codec) self.now) mtu unit.now) }
+        ensures after { IfOk result (λ it. view_with_update self.now it
+            ≡ view_after_unit (C.format self.now.codec) self.now mtu unit.now) }
+        ensures is { IfOk result (λ it. IsPacketizer (C.format self.now.codec)
+            (packetizer_state (C.format self.now.codec) (view_with_update self.now it))) }
         ensures before { S.before made.new ≡ S.before made.old }
 
-        ensures kept { OnErr result (self.new ≡ self.old) }
         ensures memory { OnErr result (result ≡ Err PacketError.OutOfMemory) }
 
         // Nothing is sent without memory.
-        ensures free { one_unit_items (packetizer_state (C.format self.old.codec) self.old) mtu
+        ensures free { one_unit_items (packetizer_state (C.format self.now.codec) self.now) mtu
             unit.now ≡ [] → IsOk result }
     {
         laws::a_unit_sent_as_it_is();
         if mtu < self.codec.least_mtu() || unit.len() < self.codec.header_len() {
-            return Ok(());
+            return Ok(Update::number(self.next_don));
         }
         let next_don = push_unit(self.codec, self.limit(mtu), self.next_don, unit, made)?;
-        if self.codec.has_donl() {
-            self.next_don = next_don;
-        }
-        Ok(())
+        let next_don = if self.codec.has_donl() {
+            next_don
+        } else {
+            self.next_don
+        };
+        Ok(Update::number(next_don))
     }
 
     /// The packets of one NAL unit as it is, without a start code and whatever its kind: itself, or
@@ -409,7 +531,8 @@ impl<C: PayloadFormat> PayloadPacketizer<C> {
     {
         self.one_unit_is_within(mtu, unit);
         let mut made = Vec::new(self.alloc);
-        self.send_unit(mtu, unit, &mut made)?;
+        let update = self.prepare_unit(mtu, unit, &mut made)?;
+        self.commit(update);
         Ok(made)
     }
 
@@ -441,8 +564,9 @@ impl<C: PayloadFormat> PayloadPacketizer<C> {
     {
         self.one_unit_is_within(mtu, unit);
         let mut made = Appending::take(self.alloc, into);
-        match self.send_unit(mtu, unit, &mut made) {
-            Ok(()) => {
+        match self.prepare_unit(mtu, unit, &mut made) {
+            Ok(update) => {
+                self.commit(update);
                 *into = made.finish();
                 Ok(())
             }
@@ -451,6 +575,68 @@ impl<C: PayloadFormat> PayloadPacketizer<C> {
                 Err(e)
             }
         }
+    }
+
+    /// Copies the packets of one unit as it is to memory where they fit, and tells what the call
+    /// changes.
+    fn prepare_unit_placed<'a>(
+        &'a self,
+        mtu: usize,
+        unit: &'a [u8],
+        headroom: usize,
+        to: &mut [u8],
+        ends: &mut [usize],
+    ) -> Result<(Placement, Update), PacketError>
+        ensures packets { IfOk result (λ it. IsPlacement headroom
+            (one_unit_packets (packetizer_state (C.format self.now.codec) self.now) mtu unit.now)
+            to.old to.new ends.old ends.new it.0) }
+        ensures after { IfOk result (λ it. view_with_update self.now it.1
+            ≡ view_after_unit (C.format self.now.codec) self.now mtu unit.now) }
+        ensures is { IfOk result (λ it. IsPacketizer (C.format self.now.codec)
+            (packetizer_state (C.format self.now.codec) (view_with_update self.now it.1))) }
+
+        ensures kept_memory { OnErr result ((to.new ≡ to.old) × (ends.new ≡ ends.old)) }
+        ensures memory { OnErr result (result ≡ Err PacketError.OutOfMemory) }
+
+        // Nothing is sent without memory.
+        ensures free { one_unit_items (packetizer_state (C.format self.now.codec) self.now) mtu
+            unit.now ≡ [] → IsOk result }
+    {
+        let mut made: Vec<PacketParts<'a>> = Vec::new(self.alloc);
+        let update = self.prepare_unit(mtu, unit, &mut made)?;
+        Ok((place(&made, headroom, to, ends), update))
+    }
+
+    /// Copies the packets of [`packetize_unit`](PayloadPacketizer::packetize_unit) straight to memory
+    /// of the caller, as [`packetize_to_memory`](PayloadPacketizer::packetize_to_memory) does those of
+    /// a payload.
+    pub fn packetize_unit_to_memory(
+        &mut self,
+        mtu: usize,
+        unit: &[u8],
+        headroom: usize,
+        to: &mut [u8],
+        ends: &mut [usize],
+    ) -> Result<Placement, PacketError>
+        ensures packets { IfOk result (λ it. IsPlacement headroom
+            (one_unit_packets (packetizer_state (C.format self.old.codec) self.old) mtu unit.now)
+            to.old to.new ends.old ends.new it) }
+        ensures after { IfOk result (λ it. self.new ≡ if_placed it
+            (view_after_unit (C.format self.old.codec) self.old mtu unit.now) self.old) }
+
+        ensures kept { OnErr result (self.new ≡ self.old) }
+        ensures kept_memory { OnErr result ((to.new ≡ to.old) × (ends.new ≡ ends.old)) }
+        ensures memory { OnErr result (result ≡ Err PacketError.OutOfMemory) }
+
+        // Nothing is sent without memory.
+        ensures free { one_unit_items (packetizer_state (C.format self.old.codec) self.old) mtu
+            unit.now ≡ [] → IsOk result }
+    {
+        let (placement, update) = self.prepare_unit_placed(mtu, unit, headroom, to, ends)?;
+        if let Placement::Placed(_) = placement {
+            self.commit(update);
+        }
+        Ok(placement)
     }
 }
 
@@ -526,7 +712,8 @@ impl<C: PayloadFormat> Packetizer for PayloadPacketizer<C> {
     {
         self.goes_as_planned(mtu, b);
         let mut made = Vec::new(self.alloc);
-        self.send(mtu, b, &mut made)?;
+        let update = self.prepare(mtu, b, &mut made)?;
+        self.commit(update);
         Ok(made)
     }
 

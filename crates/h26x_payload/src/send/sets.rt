@@ -1,6 +1,6 @@
 //! Parameter sets that go before a unit.
 
-ghost use Rattle.std.specs.Prelude.{◌≡◌, ◌≤◌, ◌+◌, ◌++◌, min, nat_lt, length, vec_len, vec_capacity};
+ghost use Rattle.std.specs.Prelude.{◌≡◌, ◌≤◌, ◌+◌, ◌++◌, min, nat_lt, length, take, vec_len, vec_capacity};
 ghost use Rattle.std.specs.List.{sum_by, list_all};
 ghost use Rattle.h26x_core.specs.Pieces.{piece};
 ghost use Rattle.h26x_payload.specs.Sending.{sets_list, sets_behind_lengths};
@@ -21,17 +21,32 @@ fn piece_len(set: &[u8]) -> u128
     2 + set.len() as u128
 }
 
-/// Writes a set behind its length, where there is room for it.
-fn put_piece(set: &[u8], bytes: &mut Vec<u8>)
-    requires room { vec_len bytes.old + (2 + length set.now) ≤ vec_capacity bytes.old }
-    ensures written { bytes.new.items ≡ bytes.old.items ++ piece set.now }
-    ensures len { vec_len bytes.new ≡ vec_len bytes.old + (2 + length set.now) }
-    ensures capacity { vec_capacity bytes.old ≤ vec_capacity bytes.new }
+/// Copies bytes to a place of memory; the place behind them.
+#[inline(always)]
+pub(crate) fn copy_part(part: &[u8], place: usize, to: &mut [u8]) -> usize
+    requires room { place + length part.now ≤ length to.old }
+    ensures copied { take result to.new ≡ take place to.old ++ part.now }
+    ensures end { result ≡ place + length part.now }
+    ensures len { length to.new ≡ length to.old }
+{
+    let end = place + part.len();
+    if !part.is_empty() {
+        to[place..end].copy_from_slice(part);
+    }
+    end
+}
+
+/// Copies a set behind its length to a place of memory; the place behind it.
+fn copy_piece(set: &[u8], place: usize, to: &mut [u8]) -> usize
+    requires room { place + (2 + length set.now) ≤ length to.old }
+    ensures copied { take result to.new ≡ take place to.old ++ piece set.now }
+    ensures end { result ≡ place + (2 + length set.now) }
+    ensures len { length to.new ≡ length to.old }
 {
     let len = set.len();
     let length = [(len / 256 % 256) as u8, (len % 256) as u8];
-    bytes.extend_from_slice(&length).unwrap();
-    bytes.extend_from_slice(set).unwrap();
+    let behind = copy_part(&length, place, to);
+    copy_part(set, behind, to)
 }
 
 impl<'a> Sets<'a> {
@@ -65,17 +80,36 @@ impl<'a> Sets<'a> {
     /// The bytes of the sets behind their lengths, with `gap` bytes before the length of each but
     /// the first; the greatest number where they are more.
     pub(crate) fn len_with(self, gap: &[u8]) -> usize
-        ensures { min (length (sets_behind_lengths gap.now (sets_list self.entry)))
-            18446744073709551615 ≤ result }
+        ensures { result ≡ min (length (sets_behind_lengths gap.now (sets_list self.entry)))
+            18446744073709551615 }
     {
-        let piece = gap.len().saturating_add(2);
-        let vps = match self.vps {
-            Some(vps) => vps.len().saturating_add(piece),
+        let next = gap.len().saturating_add(2);
+        let first = match self.vps {
+            Some(vps) => vps.len().saturating_add(2).saturating_add(next),
+            None => 2,
+        };
+        first
+            .saturating_add(self.sps.len())
+            .saturating_add(next)
+            .saturating_add(self.pps.len())
+    }
+
+    /// Copies each set behind its length to memory of their length; `gap` goes before the length of
+    /// each but the first.
+    pub(crate) fn copy_to(self, gap: &[u8], to: &mut [u8])
+        requires { length to.old ≡ length (sets_behind_lengths gap.now (sets_list self)) }
+        ensures { to.new ≡ sets_behind_lengths gap.now (sets_list self.entry) }
+    {
+        let sps = match self.vps {
+            Some(vps) => {
+                let place = copy_piece(vps, 0, to);
+                copy_part(gap, place, to)
+            }
             None => 0,
         };
-        let sps = self.sps.len().saturating_add(piece);
-        let pps = self.pps.len().saturating_add(piece);
-        vps.saturating_add(sps).saturating_add(pps)
+        let place = copy_piece(self.sps, sps, to);
+        let pps = copy_part(gap, place, to);
+        copy_piece(self.pps, pps, to);
     }
 
     /// Writes each set behind its length, where there is room for them; `gap` goes before the length
@@ -86,15 +120,8 @@ impl<'a> Sets<'a> {
         ensures { bytes.new.items ≡ bytes.old.items
             ++ sets_behind_lengths gap.now (sets_list self.entry) }
     {
-        match self.vps {
-            Some(vps) => {
-                put_piece(vps, bytes);
-                bytes.extend_from_slice(gap).unwrap();
-                put_piece(self.sps, bytes);
-            }
-            None => put_piece(self.sps, bytes),
-        }
-        bytes.extend_from_slice(gap).unwrap();
-        put_piece(self.pps, bytes);
+        let start = bytes.len();
+        bytes.resize(start + self.len_with(gap), 0).unwrap();
+        self.copy_to(gap, &mut bytes[start..]);
     }
 }

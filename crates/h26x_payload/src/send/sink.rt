@@ -1,6 +1,6 @@
 //! Where packets go.
 
-ghost use Rattle.std.specs.Prelude.{◌≡◌, ◌++◌, ◌∷◌, [], ℕ, List, OnOk};
+ghost use Rattle.std.specs.Prelude.{◌≡◌, ◌≤◌, ◌+◌, ◌++◌, ◌∷◌, [], ℕ, List, length, OnOk};
 ghost use Rattle.h26x_payload.specs.Buffer.{PacketBufferView};
 ghost use Rattle.h26x_payload.specs.Sending.{body_bytes};
 
@@ -11,8 +11,8 @@ use std::alloc::AllocError;
 /// How many packets a list takes room for at first.
 const FIRST_PACKETS: usize = 16;
 
-/// What packets are appended to: a list of them, or one buffer.
-pub trait PacketSink {
+/// What packets are appended to: a list of them, one buffer, or a list of their parts.
+pub trait PacketSink<'a> {
     // The packets that were appended.
     ghost packets: { Self → List (List ℕ) };
 
@@ -20,7 +20,8 @@ pub trait PacketSink {
     ghost before: { Self → PacketBufferView };
 
     /// Appends a packet of these parts, one behind the other.
-    fn push(&mut self, header: &[u8], donl: &[u8], body: Body<'_>) -> Result<(), AllocError>
+    fn push(&mut self, header: &[u8], donl: &[u8], body: Body<'a>) -> Result<(), AllocError>
+        requires { length header.now + length donl.now ≤ 5 }
         ensures pushed { OnOk result (packets self.new ≡ packets self.old
             ++ (header.now ++ (donl.now ++ body_bytes body.entry)) ∷ []) }
         ensures before { before self.new ≡ before self.old };
@@ -31,7 +32,7 @@ pub trait PacketSink {
         ensures before { before self.new ≡ before self.old };
 }
 
-impl PacketSink for Vec<Vec<u8>> {
+impl<'a> PacketSink<'a> for Vec<Vec<u8>> {
     ghost use Rattle.h26x_payload.specs.Sending.{contents};
     ghost use Rattle.h26x_payload.specs.Buffer.{no_buffer};
 
@@ -40,7 +41,7 @@ impl PacketSink for Vec<Vec<u8>> {
     ghost before = { λ packets. no_buffer };
 
     #[inline(always)]
-    fn push(&mut self, header: &[u8], donl: &[u8], body: Body<'_>) -> Result<(), AllocError> {
+    fn push(&mut self, header: &[u8], donl: &[u8], body: Body<'a>) -> Result<(), AllocError> {
         let len = header
             .len()
             .saturating_add(donl.len())

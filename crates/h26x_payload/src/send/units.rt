@@ -26,10 +26,10 @@ pub enum Due<'a> {
 
 /// Appends a unit with its number behind its header.
 #[inline(always)]
-fn push_single<C: PayloadFormat, S: PacketSink>(
+fn push_single<'a, C: PayloadFormat, S: PacketSink<'a>>(
     codec: C,
     don: u16,
-    unit: &[u8],
+    unit: &'a [u8],
     made: &mut S,
 ) -> Result<(), AllocError>
     ensures pushed { OnOk result (S.packets made.new ≡ S.packets made.old
@@ -54,11 +54,11 @@ fn fits_one<C: PayloadFormat>(codec: C, limit: usize, unit: &[u8]) -> bool
 
 /// Appends the packets of one unit: itself, or its fragments; none where no fragment has room for
 /// data.
-pub(crate) fn push_unit<C: PayloadFormat, S: PacketSink>(
+pub(crate) fn push_unit<'a, C: PayloadFormat, S: PacketSink<'a>>(
     codec: C,
     limit: usize,
     don: u16,
-    unit: &[u8],
+    unit: &'a [u8],
     made: &mut S,
 ) -> Result<u16, PacketError>
     ensures sent { IfOk result (λ next. ArePushed (C.format codec) don
@@ -79,11 +79,11 @@ pub(crate) fn push_unit<C: PayloadFormat, S: PacketSink>(
 }
 
 /// Appends the packet of a set alone, if there is one and it fits.
-fn push_set<C: PayloadFormat, S: PacketSink>(
+fn push_set<'a, C: PayloadFormat, S: PacketSink<'a>>(
     codec: C,
     limit: usize,
     don: u16,
-    set: Option<&[u8]>,
+    set: Option<&'a [u8]>,
     made: &mut S,
 ) -> Result<u16, PacketError>
     ensures sent { IfOk result (λ next. ArePushed (C.format codec) don (map (Alone limit)
@@ -103,10 +103,10 @@ fn push_set<C: PayloadFormat, S: PacketSink>(
 }
 
 /// Appends the packet of sets that go together, before a unit.
-fn push_aggregate<C: PayloadFormat, S: PacketSink>(
+fn push_aggregate<'a, C: PayloadFormat, S: PacketSink<'a>>(
     codec: C,
     don: u16,
-    sets: Sets<'_>,
+    sets: Sets<'a>,
     unit: &[u8],
     made: &mut S,
 ) -> Result<(), AllocError>
@@ -118,7 +118,7 @@ fn push_aggregate<C: PayloadFormat, S: PacketSink>(
     let header = codec.sets_header(sets, unit);
     let mut bytes = [0; 2];
     let donl = donl_bytes(codec.has_donl(), don, &mut bytes);
-    let gap: &[u8] = if codec.has_dond() { &[0] } else { &[] };
+    let gap: &'a [u8] = if codec.has_dond() { &[0] } else { &[] };
     made.push(
         &header[..codec.header_len()],
         donl,
@@ -127,11 +127,11 @@ fn push_aggregate<C: PayloadFormat, S: PacketSink>(
 }
 
 /// Appends the packets of sets: one if they fit it, else each that fits alone.
-fn push_sets<C: PayloadFormat, S: PacketSink>(
+fn push_sets<'a, C: PayloadFormat, S: PacketSink<'a>>(
     codec: C,
     limit: usize,
     don: u16,
-    sets: Sets<'_>,
+    sets: Sets<'a>,
     unit: &[u8],
     made: &mut S,
 ) -> Result<u16, PacketError>
@@ -152,12 +152,12 @@ fn push_sets<C: PayloadFormat, S: PacketSink>(
 }
 
 /// Appends the packets of what goes when a unit comes.
-pub(crate) fn push_due<C: PayloadFormat, S: PacketSink>(
+pub(crate) fn push_due<'a, C: PayloadFormat, S: PacketSink<'a>>(
     codec: C,
     limit: usize,
     don: u16,
-    unit: &[u8],
-    due: Due<'_>,
+    unit: &'a [u8],
+    due: Due<'a>,
     made: &mut S,
 ) -> Result<u16, PacketError>
     requires whole { is_nothing due ≡ false → (C.format codec).header_len ≤ length unit.now }

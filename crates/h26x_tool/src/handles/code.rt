@@ -2,8 +2,10 @@ use crate::rows::same;
 use h26x_codec::Codec;
 use h26x_core::{CodecExtra, H264CodecExtra, H265CodecExtra, H266CodecExtra, PacketError};
 use h26x_handles::code::{
-    NOT_OF_THIS_CODEC, Refusal, UNKNOWN_CODEC, code_of, codec_of, codec_wanted, extra_of, number_of,
+    NOT_OF_THIS_CODEC, Refusal, UNKNOWN_CODEC, code_of, codec_of, codec_wanted, extra_of,
+    number_of, numbers_of,
 };
+use h26x_receiver::Received;
 
 /// The code and the numbers of a refusal.
 fn told(error: PacketError) -> (u32, usize, usize) {
@@ -104,5 +106,21 @@ fn extras_there_and_back(rt: HostRuntime) {
             &(extra, number),
             "an extra",
         );
+    }
+}
+
+/// What became of a packet, and the numbers that say it.
+static RECEIVED: [(Received, (u32, u16)); 5] = [
+    (Received::InOrder, (0, 0)),
+    (Received::Gap(7), (1, 7)),
+    (Received::TooLong(0), (2, 0)),
+    (Received::TooLong(65535), (2, 65535)),
+    (Received::Late(32768), (3, 32768)),
+];
+
+#[test]
+fn what_became_of_packets_by_numbers(rt: HostRuntime) {
+    for &(received, want) in &RECEIVED {
+        same(&rt, &numbers_of(received), &want, "a packet");
     }
 }

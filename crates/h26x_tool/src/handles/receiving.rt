@@ -2,6 +2,7 @@ use crate::rows::{bytes_of, same};
 use h26x_codec::Codec;
 use h26x_core::{CodecExtra, PacketError};
 use h26x_handles::receiving::ReceivingEndpoint;
+use h26x_receiver::RunDepacketizer;
 use std::alloc::{AllocError, Global};
 use std::process::Abort;
 use std::test::Fail;
@@ -9,7 +10,7 @@ use std::test::Fail;
 /// Whether a packet is to be written in AVC form, and the packet.
 type Packet = (bool, &'static str);
 
-/// Hands packets to an endpoint, which answers the last so.
+/// Hands packets to an endpoint with no room for what they complete, which answers the last so.
 fn take(
     alloc: Global,
     endpoint: &mut ReceivingEndpoint,
@@ -18,12 +19,13 @@ fn take(
     let mut answer = Ok(());
     for &(is_avc, packet) in packets {
         let packet = bytes_of(alloc, packet)?;
-        answer = endpoint.depacketize(is_avc, &packet, &mut CodecExtra::None);
+        let told = &mut CodecExtra::None;
+        answer = endpoint.depacketize(is_avc, &packet, &mut [], &mut 0, told);
     }
     Ok(answer)
 }
 
-/// An endpoint answers the last of these packets so, and has written this then.
+/// An endpoint answers the last of these packets so, and has kept this then.
 fn answers(
     rt: &impl Abort,
     alloc: Global,
@@ -110,5 +112,47 @@ fn compared(alloc: Global, endpoint: &mut ReceivingEndpoint) -> Result<[bool; 2]
 fn a_copy_is_the_same_until_one_goes_on(rt: HostRuntime) -> Result<(), Fail> {
     let mut endpoint = with_a_run(rt.alloc())?;
     assert!(rt; compared(rt.alloc(), &mut endpoint)? == [true, false]);
+    Ok(())
+}
+
+/// Memory that a unit of six bytes behind its start code may go to, what stands there then, and what
+/// is kept.
+type Room = (&'static str, &'static str, &'static str);
+
+static ROOMS: [Room; 3] = [
+    ("77777777777777", "00000001 6501 77", ""),
+    ("777777777777", "00000001 6501", ""),
+    ("7777777777", "7777777777", "00000001 6501"),
+];
+
+/// An endpoint that has kept what a packet completed.
+fn with_output(alloc: Global) -> Result<ReceivingEndpoint, PacketError> {
+    let mut endpoint = ReceivingEndpoint::new(alloc, Codec::H264, false);
+    take(alloc, &mut endpoint, &[(false, "6701")])??;
+    Ok(endpoint)
+}
+
+/// Gives an endpoint a packet with this room, and compares what stands where.
+fn goes(
+    rt: &impl Abort,
+    alloc: Global,
+    endpoint: &mut ReceivingEndpoint,
+    room: &Room,
+) -> Result<(), Fail> {
+    let mut memory = bytes_of(alloc, room.0)?;
+    let (to, kept) = (bytes_of(alloc, room.1)?, bytes_of(alloc, room.2)?);
+    let (mut written, mut told) = (0, CodecExtra::None);
+    endpoint.depacketize(false, &[0x65, 1], &mut memory, &mut written, &mut told)?;
+    let has = (memory.as_slice(), endpoint.written(), written);
+    same(rt, &has, &(to.as_slice(), kept.as_slice(), 6), room.0);
+    Ok(())
+}
+
+#[test]
+fn units_go_where_they_have_room(rt: HostRuntime) -> Result<(), Fail> {
+    for room in &ROOMS {
+        let mut endpoint = with_output(rt.alloc())?;
+        goes(&rt, rt.alloc(), &mut endpoint, room)?;
+    }
     Ok(())
 }

@@ -45,22 +45,20 @@ fn has(rt: &impl Abort, alloc: Global, endpoint: &SendingEndpoint, want: &str) -
     Ok(())
 }
 
-/// A codec, a limit, payloads, and the packets of the last call, with none behind them.
-static CALLS: [(Codec, usize, &str, &str); 3] = [
-    (Codec::H264, 4, "", "-"),
-    (Codec::H264, 4, "6501020304", "7c850102 7c450304 -"),
-    (Codec::H265, 100, "0201aa 0201bb", "02010001bb -"),
+/// A codec, a limit, payloads, and the packets of the last call, with none behind them, and how many
+/// bytes they are together.
+static CALLS: [(Codec, usize, &str, &str, usize); 3] = [
+    (Codec::H264, 4, "", "-", 0),
+    (Codec::H264, 4, "6501020304", "7c850102 7c450304 -", 8),
+    (Codec::H265, 100, "0201aa 0201bb", "02010001bb -", 5),
 ];
 
 #[test]
 fn packets_of_the_last_call_alone(rt: HostRuntime) -> Result<(), Fail> {
-    for &(codec, mtu, payloads, want) in &CALLS {
-        has(
-            &rt,
-            rt.alloc(),
-            &sent(rt.alloc(), codec, mtu, payloads)?,
-            want,
-        )?;
+    for &(codec, mtu, payloads, want, len) in &CALLS {
+        let endpoint = sent(rt.alloc(), codec, mtu, payloads)?;
+        has(&rt, rt.alloc(), &endpoint, want)?;
+        assert!(rt; endpoint.bytes_len() == len);
     }
     Ok(())
 }

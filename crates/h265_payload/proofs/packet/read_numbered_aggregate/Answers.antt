@@ -28,4 +28,4 @@ pub returns-clause-shows : goal.returns-clause-shows
 returns-clause-shows c =
     let all = take_all (length c.args.packet.now - 3) (drop 3 c.args.packet.now) (simp length-drop (omega arith)) in
     let long : 4 ≤ length c.args.packet.now = grind (arith, nat_tests, c.if-packet-lt4.false) in
-    (c.requires.long, numbered_shown c.args.packet.now _ long c.requires.kind all c.in_ok-size.ensures.whole)
+    (c.requires.long, numbered_shown c.args.packet.now _ long c.requires.kind all c.in_ok-size.ensures.whole, c.in_ok-size.ensures.whole)

@@ -18,4 +18,4 @@ returns-clause-accepted c =
 pub returns-clause-shows : goal.returns-clause-shows
 returns-clause-shows c =
     let all = take_all (length c.args.packet.now - 2) (drop 2 c.args.packet.now) (simp length-drop (omega arith)) in
-    (c.requires.long, plain_shown c.args.packet.now _ c.requires.long c.requires.kind all c.in_ok-size.ensures.whole)
+    (c.requires.long, plain_shown c.args.packet.now _ c.requires.long c.requires.kind all c.in_ok-size.ensures.whole, c.in_ok-size.ensures.whole)

@@ -1,7 +1,7 @@
 //! The calls of a buffer itself.
 
 use super::{has, headed_packets};
-use crate::rows::{list_of, same};
+use crate::rows::{bytes_of, list_of, same};
 use h26x_payload::PacketBuffer;
 use std::alloc::Global;
 use std::process::Abort;
@@ -104,6 +104,50 @@ fn headers_before_packets(rt: HostRuntime) -> Result<(), Fail> {
             &mut PacketBuffer::new(rt.alloc(), row.0),
             row,
         )?;
+    }
+    Ok(())
+}
+
+/// Writes bytes over those of a buffer, as many as there are of both.
+fn write_over(buffer: &mut PacketBuffer, bytes: &[u8]) {
+    for (byte, with) in buffer.bytes_mut().iter_mut().zip(bytes) {
+        *byte = *with;
+    }
+}
+
+/// Packets behind two bytes each, what is written over all bytes, the packets afterwards, and those
+/// behind their headroom.
+type Written = (&'static str, &'static str, &'static str, &'static str);
+
+static WRITTEN: [Written; 3] = [
+    (
+        "65aa - 41",
+        "0102 65aa 0304 0506 41",
+        "65aa - 41",
+        "010265aa 0304 050641",
+    ),
+    ("65aa - 41", "0102 66", "66aa - 41", "010266aa 0000 000041"),
+    (
+        "65aa - 41",
+        "0000 0000 0000 0000 00 07",
+        "0000 - 00",
+        "00000000 0000 000000",
+    ),
+];
+
+#[test]
+fn bytes_written_in_place(rt: HostRuntime) -> Result<(), Fail> {
+    let alloc = rt.alloc();
+    for (packets, bytes, want, headed) in &WRITTEN {
+        let mut buffer = PacketBuffer::new(alloc, 2);
+        push_each(alloc, &mut buffer, packets)?;
+        write_over(&mut buffer, &bytes_of(alloc, bytes)?);
+        let made = (
+            super::packets_of(alloc, &buffer)?,
+            headed_packets(alloc, &buffer)?,
+        );
+        let wanted = (list_of(alloc, want)?, list_of(alloc, headed)?);
+        same(&rt, &made, &wanted, bytes);
     }
     Ok(())
 }

@@ -32,6 +32,7 @@ loop-donl-preserved g c =
       packets = packets_more fragment before packets after packet j inv.packets here pushed ∙ ap (λ k. before ++ map fragment (range_with_len 0 k)) (sym next);
       rest = rest_more f c.args.don c.args.limit space c.args.unit.now donl rest j c.min-taken.result _ same inv.donl inv.rest taken refl ∙ ap (λ k. drop (k * fragment_room f c.args.limit) (fragmented_bytes f c.args.don c.args.unit.now)) (sym next);
       donl = omega (arith, inv.donl);
+      short = omega arith;
       few = omega arith;
       count = let a = count_more f c.args.don c.args.limit space c.args.unit.now donl rest j same inv.donl inv.rest some in omega (arith, a, next);
       start = let later : false ≡ eqb (j + 1) 0 = grind (arith, nat_tests) in later ∙ ap (λ k. eqb k 0) (sym next);

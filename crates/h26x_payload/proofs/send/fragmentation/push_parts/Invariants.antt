@@ -9,6 +9,7 @@ invariant-loop-donl g l = record {
   packets : g.S.PacketSink.packets l.made ≡ g.S.PacketSink.packets l.fn.made ++ map (fragment (g.C.PayloadFormat.format l.codec) l.don l.limit l.unit) (range_with_len 0 (length (g.S.PacketSink.packets l.made) - length (g.S.PacketSink.packets l.fn.made)));
   rest : l.donl ++ l.rest ≡ drop ((length (g.S.PacketSink.packets l.made) - length (g.S.PacketSink.packets l.fn.made)) * fragment_room (g.C.PayloadFormat.format l.codec) l.limit) (fragmented_bytes (g.C.PayloadFormat.format l.codec) l.don l.unit);
   donl : length l.donl < l.room;
+  short : length l.donl ≤ 2;
   few : length l.donl ≤ 2 * length l.rest;
   count : length (g.S.PacketSink.packets l.made) - length (g.S.PacketSink.packets l.fn.made) ≤ fragment_count (g.C.PayloadFormat.format l.codec) l.limit l.unit;
   start : l.start ≡ eqb (length (g.S.PacketSink.packets l.made) - length (g.S.PacketSink.packets l.fn.made)) 0;

@@ -1,0 +1,219 @@
+//! The calls of a receiver of packets with their sequence numbers.
+
+ghost use Rattle.std.specs.Prelude.{◌≡◌, ◌≢◌, ◌⊎◌, ◌≤◌, ℕ, true, false, Some, None, Ok, Err, length};
+ghost use Rattle.h26x_codec.specs.Codec.{codec_format};
+ghost use Rattle.h26x_codec.specs.declared.codec.Codec.{Codec};
+ghost use Rattle.h26x_c.specs.Answers.{IsSequencedCode};
+ghost use Rattle.h26x_handles.specs.Codes.{codec_or_code, may_have_donl, extra_with_number, extra_number, ok, out_of_memory, wrong_end, not_of_this_codec, says_taken};
+ghost use Rattle.h26x_handles.specs.Copies.{with_front, without_room};
+ghost use Rattle.h26x_handles.specs.Endpoint.{SequencedEndpoint};
+ghost use Rattle.h26x_handles.specs.States.{is_sequenced, endpoint_receiver, receiver_at_work, after_receiver_packet, receiver_run_len, endpoint_receiver_state, endpoint_expected, endpoint_run_len, endpoint_written, endpoint_codec, fresh_sequenced_endpoint, endpoint_showing, endpoint_without_output, endpoint_restarted, endpoint_with_donl, endpoint_with_avc};
+
+use crate::handle::Handle;
+use crate::place::{Place, put};
+use h26x_handles::code::{
+    NOT_OF_THIS_CODEC, OK, OUT_OF_MEMORY, Refusal, WRONG_END, code_of, codec_wanted, extra_of,
+    may_have_donl, number_of, numbers_of,
+};
+use h26x_handles::endpoint::Endpoint;
+use h26x_handles::sequenced::SequencedEndpoint;
+use std::alloc::Global;
+
+/// Makes a receiver that takes any sequence number as the first.
+#[unsafe(no_mangle)]
+pub extern "C" fn h26x_receiver_new(
+    alloc: Global,
+    codec: u32,
+    numbers: bool,
+    is_avc: bool,
+    run_limit: usize,
+    made: &mut Place,
+) -> u32
+    ensures refused { (code : ℕ) → codec_or_code codec numbers ≡ Err code → result ≡ code }
+    ensures answer { (c : Codec) → codec_or_code codec numbers ≡ Ok c →
+        (result ≡ ok) ⊎ (result ≡ out_of_memory) }
+    ensures made { (c : Codec) → codec_or_code codec numbers ≡ Ok c → result ≡ ok →
+        made.new.value ≡ Some (fresh_sequenced_endpoint c numbers is_avc run_limit) }
+    ensures fresh { (c : Codec) → endpoint_receiver_state (fresh_sequenced_endpoint c numbers is_avc
+        run_limit)
+        ≡ Some (record { format = codec_format c numbers; is_avc = is_avc; run = None }) }
+    ensures kept { result ≢ ok → made.new ≡ made.old }
+{
+    match codec_wanted(codec, numbers) {
+        Ok(codec) => put(
+            alloc,
+            Endpoint::Sequenced(SequencedEndpoint::new(alloc, codec, numbers, is_avc, run_limit)),
+            made,
+        ),
+        Err(code) => code,
+    }
+}
+
+/// Makes a receiver again, without what its last packet completed.
+#[unsafe(no_mangle)]
+pub extern "C" fn h26x_receiver_clone(alloc: Global, r: &mut Handle, made: &mut Place) -> u32
+    ensures wrong { is_sequenced r.old.value ≡ false → result ≡ wrong_end }
+    ensures answer { is_sequenced r.old.value ≡ true → (result ≡ ok) ⊎ (result ≡ out_of_memory) }
+    ensures made { result ≡ ok → made.new.value ≡ Some (endpoint_without_output r.old.value) }
+    ensures kept { result ≢ ok → made.new ≡ made.old }
+    ensures left { r.new.value ≡ r.old.value }
+{
+    let copy = match r.get_mut() {
+        Endpoint::Sequenced(it) => it.clone(alloc),
+        Endpoint::Sending(_) | Endpoint::Receiving(_) => return WRONG_END,
+    };
+    match copy {
+        Ok(copy) => put(alloc, Endpoint::Sequenced(copy), made),
+        Err(_) => OUT_OF_MEMORY,
+    }
+}
+
+/// Frees a receiver.
+#[unsafe(no_mangle)]
+pub extern "C" fn h26x_receiver_free(r: Handle) {
+    drop(r.into_box());
+}
+
+/// Sets whether packets bear decoding order numbers.
+#[unsafe(no_mangle)]
+pub extern "C" fn h26x_receiver_set_numbers(r: &mut Handle, numbers: bool) -> u32
+    ensures wrong { is_sequenced r.old.value ≡ false → result ≡ wrong_end }
+    ensures none { is_sequenced r.old.value ≡ true →
+        may_have_donl (endpoint_codec r.old.value) ≡ false → result ≡ not_of_this_codec }
+    ensures set { is_sequenced r.old.value ≡ true → may_have_donl (endpoint_codec r.old.value) ≡ true →
+        (result ≡ ok) × (r.new.value ≡ endpoint_with_donl numbers r.old.value) }
+    ensures kept { result ≢ ok → r.new.value ≡ r.old.value }
+{
+    match r.get_mut() {
+        Endpoint::Sequenced(it) => {
+            if !may_have_donl(it.depacketizer().codec()) {
+                return NOT_OF_THIS_CODEC;
+            }
+            it.with_donl(numbers);
+            OK
+        }
+        Endpoint::Sending(_) | Endpoint::Receiving(_) => WRONG_END,
+    }
+}
+
+/// Sets whether units are written behind lengths or behind start codes.
+#[unsafe(no_mangle)]
+pub extern "C" fn h26x_receiver_set_avc(r: &mut Handle, is_avc: bool) -> u32
+    ensures wrong { is_sequenced r.old.value ≡ false → (result ≡ wrong_end)
+        × (r.new.value ≡ r.old.value) }
+    ensures set { is_sequenced r.old.value ≡ true → (result ≡ ok)
+        × (r.new.value ≡ endpoint_with_avc is_avc r.old.value) }
+{
+    match r.get_mut() {
+        Endpoint::Sequenced(it) => {
+            it.with_avc(is_avc);
+            OK
+        }
+        Endpoint::Sending(_) | Endpoint::Receiving(_) => WRONG_END,
+    }
+}
+
+/// Takes a packet with its sequence number, and writes what it completes where there is room for it.
+#[unsafe(no_mangle)]
+pub extern "C" fn h26x_receive(
+    r: &mut Handle,
+    sequence: u16,
+    packet: &[u8],
+    to: &mut [u8],
+    written: &mut usize,
+    extra: &mut u8,
+    received: &mut u32,
+    count: &mut u16,
+    why: &mut Refusal,
+) -> u32
+    // What is answered.
+    ensures wrong { is_sequenced r.old.value ≡ false → result ≡ wrong_end }
+    ensures answer { (it : SequencedEndpoint) → endpoint_receiver r.old.value ≡ Some it →
+        IsSequencedCode it.run_limit (receiver_at_work it
+        (extra_with_number (endpoint_codec r.old.value) extra.old)) sequence packet.now
+        result why.new.first why.new.second received.new count.new }
+
+    // What stands after a packet that was taken.
+    ensures run { (it : SequencedEndpoint) → endpoint_receiver r.old.value ≡ Some it →
+        says_taken result received.new ≡ true → endpoint_receiver_state r.new.value
+        ≡ Some (after_receiver_packet it (extra_with_number (endpoint_codec r.old.value)
+        extra.old) sequence packet.now).at_work.state }
+    ensures next { (it : SequencedEndpoint) → endpoint_receiver r.old.value ≡ Some it →
+        says_taken result received.new ≡ true → endpoint_expected r.new.value
+        ≡ (after_receiver_packet it (extra_with_number (endpoint_codec r.old.value) extra.old)
+        sequence packet.now).expected }
+    ensures told { (it : SequencedEndpoint) → endpoint_receiver r.old.value ≡ Some it →
+        says_taken result received.new ≡ true → extra.new
+        ≡ extra_number (after_receiver_packet it (extra_with_number (endpoint_codec r.old.value)
+        extra.old) sequence packet.now).at_work.extra }
+    ensures rest { says_taken result received.new ≡ true →
+        endpoint_restarted (endpoint_without_output r.new.value)
+        ≡ endpoint_restarted (endpoint_without_output (endpoint_showing packet.now r.old.value)) }
+    ensures bounded { (it : SequencedEndpoint) → endpoint_receiver r.old.value ≡ Some it →
+        receiver_run_len it ≤ it.run_limit → endpoint_run_len r.new.value ≤ it.run_limit }
+    ensures written { (it : SequencedEndpoint) → endpoint_receiver r.old.value ≡ Some it →
+        says_taken result received.new ≡ true → written.new
+        ≡ length (after_receiver_packet it (extra_with_number (endpoint_codec r.old.value)
+        extra.old) sequence packet.now).at_work.out }
+    ensures put { (it : SequencedEndpoint) → endpoint_receiver r.old.value ≡ Some it →
+        says_taken result received.new ≡ true → to.new
+        ≡ with_front (after_receiver_packet it (extra_with_number (endpoint_codec r.old.value)
+        extra.old) sequence packet.now).at_work.out to.old }
+    ensures kept_output { (it : SequencedEndpoint) → endpoint_receiver r.old.value ≡ Some it →
+        says_taken result received.new ≡ true → endpoint_written r.new.value
+        ≡ without_room (after_receiver_packet it (extra_with_number (endpoint_codec r.old.value)
+        extra.old) sequence packet.now).at_work.out to.old }
+
+    // A packet that was late or refused leaves everything.
+    ensures kept { says_taken result received.new ≡ false → r.new.value ≡ r.old.value }
+    ensures kept_to { says_taken result received.new ≡ false → to.new ≡ to.old }
+    ensures kept_extra { says_taken result received.new ≡ false → extra.new ≡ extra.old }
+    ensures none_written { says_taken result received.new ≡ false → written.new ≡ 0 }
+    ensures kept_received { result ≢ ok → (received.new ≡ received.old) × (count.new ≡ count.old) }
+    ensures kept_why { result ≡ ok → why.new ≡ why.old }
+{
+    *written = 0;
+    let Endpoint::Sequenced(it) = r.get_mut() else {
+        return WRONG_END;
+    };
+    let mut told = extra_of(it.depacketizer().codec(), *extra);
+    match it.receive(sequence, packet, to, written, &mut told) {
+        Ok(what) => {
+            if what.is_taken() {
+                *extra = number_of(told);
+            }
+            (*received, *count) = numbers_of(what);
+            OK
+        }
+        Err(error) => code_of(error, why),
+    }
+}
+
+/// Gives up the open run, and takes any sequence number as the next.
+#[unsafe(no_mangle)]
+pub extern "C" fn h26x_receiver_restart(r: &mut Handle) -> u32
+    ensures wrong { is_sequenced r.old.value ≡ false → (result ≡ wrong_end)
+        × (r.new.value ≡ r.old.value) }
+    ensures restarted { is_sequenced r.old.value ≡ true → (result ≡ ok)
+        × (r.new.value ≡ endpoint_restarted r.old.value) }
+{
+    match r.get_mut() {
+        Endpoint::Sequenced(it) => {
+            it.restart();
+            OK
+        }
+        Endpoint::Sending(_) | Endpoint::Receiving(_) => WRONG_END,
+    }
+}
+
+/// How many bytes the open run holds.
+#[unsafe(no_mangle)]
+pub extern "C" fn h26x_receiver_run_len(r: &mut Handle) -> usize
+    ensures len { result ≡ endpoint_run_len r.old.value }
+    ensures left { r.new.value ≡ r.old.value }
+{
+    match r.get_mut() {
+        Endpoint::Sequenced(it) => it.run_len(),
+        Endpoint::Sending(_) | Endpoint::Receiving(_) => 0,
+    }
+}

@@ -1,0 +1,51 @@
+//! The examples of `h26x_frames`'s documents: access units of packets with their timestamps.
+
+use h26x_core::PacketError;
+use h26x_frames::{AccessUnit, FrameReceiver, ReorderBuffer, RtpPacket};
+use h26x_receiver::SequencedDepacketizer;
+use h264_payload::H264Depacketizer;
+use std::alloc::Global;
+
+/// The access units of packets, put in order within a window.
+pub fn receive_access_units(
+    alloc: Global,
+    packets: &[RtpPacket<'_>],
+) -> Result<Vec<AccessUnit>, PacketError> {
+    let mut units = Vec::new(alloc);
+    let mut buffer = ReorderBuffer::new(alloc, 64);
+    let depacketizer = H264Depacketizer::new(alloc);
+    let sequenced = SequencedDepacketizer::new(alloc, depacketizer, 4_000_000);
+    let mut receiver = FrameReceiver::new(alloc, sequenced);
+    for packet in packets {
+        buffer.push(packet)?;
+        while let Some(held) = buffer.pop() {
+            receiver.receive(&held.packet(), &mut units)?;
+        }
+    }
+    while let Some(held) = buffer.pop_first() {
+        receiver.receive(&held.packet(), &mut units)?;
+    }
+    receiver.end(&mut units)?;
+    Ok(units)
+}
+
+mod tests {
+    use super::*;
+
+    #[test]
+    fn access_units_in_another_order(rt: HostRuntime) -> Result<(), PacketError> {
+        let packets = [2, 1, 3].map(|sequence| RtpPacket {
+            sequence,
+            timestamp: u32::from(sequence) * 3000,
+            marker: sequence != 3,
+            payload: &[0x65, 1],
+        });
+        let units = receive_access_units(rt.alloc(), &packets)?;
+        let want = [(3000, false), (6000, true), (9000, false)];
+        assert!(rt; units.len() == want.len());
+        for (unit, (timestamp, is_whole)) in units.iter().zip(&want) {
+            assert!(rt; unit.timestamp == *timestamp && unit.is_whole == *is_whole);
+        }
+        Ok(())
+    }
+}

@@ -1,0 +1,12 @@
+pub mod ReorderLemmas
+pub mod NetworkLemmas
+pub mod HeldLemmas
+pub mod BufferLemmas
+pub mod NumberLemmas
+pub mod PlaceShiftLemmas
+pub mod TakeLemmas
+pub mod UnitLemmas
+pub mod StreamLemmas
+pub mod OrderedLemmas
+pub mod WholeLemmas
+pub mod ReceivedLemmas

@@ -1,0 +1,137 @@
+-- What one packet that was taken leaves.
+use Rattle.std.proofs.Common.{◌≡◌, ℕ, Bool, true, false, cond, eq-eqb, List, [], ◌∷◌, ◌++◌, Option, Some, None, Result, Ok, Err, refl, sym, ap, ◌∙◌}
+use Rattle.std.specs.Prelude.{◌==◌, nat_lt, MatchBool, IfOk}
+use Rattle.std.proofs.lemmas.List.{append-nil}
+use Rattle.h26x_core.specs.declared.error.PacketError.{PacketError}
+use Rattle.h26x_core.specs.declared.extra.CodecExtra.TheVariants as extras
+use Rattle.h26x_model.specs.Receive.DepacketizerState.{DepacketizerState}
+use Rattle.h26x_model.specs.Receive.RunLimit.{run_len, state_with_run}
+use Rattle.h26x_receiver.specs.declared.received.Received.{Received}
+use Rattle.h26x_receiver.specs.declared.received.Received.TheVariants.{InOrder, Gap, TooLong, Late}
+use Rattle.h26x_receiver.specs.Sequence.{missing_count, distance_behind, is_late, is_expected}
+use Rattle.h26x_receiver.specs.Sequenced.{SequencedDepacketization, sequenced_depacketization, after_sequenced_packet, after_taken_packet, answer_by_missing, is_taken, IsSequencedAnswer, after_answer}
+use Rattle.h26x_receiver.proofs.AnswerLemmas.{accepted}
+use Rattle.h26x_frames.specs.Rtp.{RtpBody}
+use Rattle.h26x_frames.specs.AccessUnit.{AccessUnitValue, empty_unit, whole_if, UnitDepacketization, unit_depacketization, is_unit_at, given_out, is_run_too_long, after_taken_rtp, after_rtp}
+
+-- an answer says whether the run was too long
+long_of : (lost : ℕ) (long : Bool) → is_run_too_long (accepted (answer_by_missing lost long)) ≡ long
+long_of lost true = refl
+long_of lost false = elim (lost == 0) as (λ b. is_run_too_long (accepted (cond b InOrder (Gap lost))) ≡ false) [ true ↦ refl | false ↦ refl ]
+
+long_at : (late : Bool) (r : Result Received PacketError) (P : Type 0) (n lost : ℕ) (long : Bool) → is_taken r ≡ true →
+    MatchBool late (r ≡ accepted (Late n)) (P × IfOk r (λ it. it ≡ answer_by_missing lost long)) → is_run_too_long r ≡ long
+long_at true r P n lost long taken is = absurd (let bad = sym taken ∙ ap is_taken is in cc)
+long_at false (Err e) P n lost long taken is = absurd (let bad = taken in cc)
+long_at false (Ok a) P n lost long taken is = ap (λ (x : Received). is_run_too_long (accepted x)) is.1 ∙ long_of lost long
+
+-- so where a packet was taken
+answer_long : (most : ℕ) (s : SequencedDepacketization) (number : ℕ) (packet : List ℕ) (r : Result Received PacketError) → is_taken r ≡ true → IsSequencedAnswer most s number packet r →
+    is_run_too_long r ≡ nat_lt most (run_len (after_sequenced_packet s number packet).state.run)
+answer_long most s number packet r taken is =
+    long_at (is_late s.expected number) r _ (distance_behind s.expected number) (missing_count s.expected number) (nat_lt most (run_len (after_sequenced_packet s number packet).state.run)) taken is
+
+-- what stands after an answer that says so
+taken_work : (most : ℕ) (s : SequencedDepacketization) (number : ℕ) (packet : List ℕ) (r : Result Received PacketError) → is_taken r ≡ true →
+    after_answer most s number packet r ≡ after_taken_packet most s number packet
+taken_work most s number packet (Err e) taken = absurd (let bad = taken in cc)
+taken_work most s number packet (Ok InOrder) taken = refl
+taken_work most s number packet (Ok (Gap n)) taken = refl
+taken_work most s number packet (Ok (TooLong n)) taken = refl
+taken_work most s number packet (Ok (Late n)) taken = absurd (let bad = taken in cc)
+
+taken_unit : (most : ℕ) (s : UnitDepacketization) (p : ℕ × RtpBody) (r : Result Received PacketError) → is_taken r ≡ true → after_rtp most s p r ≡ after_taken_rtp most s p
+taken_unit most s p (Err e) taken = absurd (let bad = taken in cc)
+taken_unit most s p (Ok InOrder) taken = refl
+taken_unit most s p (Ok (Gap n)) taken = refl
+taken_unit most s p (Ok (TooLong n)) taken = refl
+taken_unit most s p (Ok (Late n)) taken = absurd (let bad = taken in cc)
+
+pub not_taken : (most : ℕ) (s : UnitDepacketization) (p : ℕ × RtpBody) (r : Result Received PacketError) → is_taken r ≡ false → after_rtp most s p r ≡ s
+not_taken most s p (Err e) not = refl
+not_taken most s p (Ok InOrder) not = absurd (let bad = not in cc)
+not_taken most s p (Ok (Gap n)) not = absurd (let bad = not in cc)
+not_taken most s p (Ok (TooLong n)) not = absurd (let bad = not in cc)
+not_taken most s p (Ok (Late n)) not = refl
+
+-- an access unit with what a packet left
+abbrev pub filled : AccessUnitValue → SequencedDepacketization → AccessUnitValue
+filled unit work = record unit { bytes = work.at_work.out; extra = work.at_work.extra }
+
+-- a receiver with this access unit, which has ended or not
+abbrev pub with_unit : SequencedDepacketization → List AccessUnitValue → Bool → AccessUnitValue → UnitDepacketization
+with_unit work ended marker unit = unit_depacketization work.at_work.state work.expected (cond marker None (Some unit)) (ended ++ cond marker (unit ∷ []) [])
+
+-- a packet that goes on with an access unit
+on_taken : (most : ℕ) (state : DepacketizerState) (expected : Option ℕ) (unit : AccessUnitValue) (ended : List AccessUnitValue) (p : ℕ × RtpBody) → unit.timestamp ≡ p.1.timestamp →
+    (let s = sequenced_depacketization state expected unit.bytes unit.extra in
+    let work = after_taken_packet most s p.0 p.1.payload in
+    with_unit work ended p.1.marker (whole_if (cond (nat_lt most (run_len (after_sequenced_packet s p.0 p.1.payload).state.run)) false (is_expected expected p.0)) (filled unit work))
+    ≡ after_taken_rtp most (unit_depacketization state expected (Some unit) ended) p)
+on_taken most state expected unit ended p same =
+    let s = sequenced_depacketization state expected unit.bytes unit.extra in
+    let work = after_taken_packet most s p.0 p.1.payload in
+    let one = whole_if (cond (nat_lt most (run_len (after_sequenced_packet s p.0 p.1.payload).state.run)) false (is_expected expected p.0)) (filled unit work) in
+    let at : (unit.timestamp == p.1.timestamp) ≡ true = eq-eqb unit.timestamp p.1.timestamp same in
+    rw at (ap (λ (l : List AccessUnitValue). with_unit work l p.1.marker one) (sym (append-nil ended)))
+
+-- one that begins an access unit
+first_taken : (most : ℕ) (state : DepacketizerState) (expected : Option ℕ) (unit : Option AccessUnitValue) (ended : List AccessUnitValue) (p : ℕ × RtpBody) → is_unit_at unit p.1.timestamp ≡ false →
+    (let s = sequenced_depacketization (state_with_run state None) expected [] extras.None in
+    let work = after_taken_packet most s p.0 p.1.payload in
+    with_unit work (ended ++ given_out (is_expected expected p.0) unit) p.1.marker
+    (whole_if (cond (nat_lt most (run_len (after_sequenced_packet s p.0 p.1.payload).state.run)) false (is_expected expected p.0)) (filled (empty_unit p.1.timestamp) work))
+    ≡ after_taken_rtp most (unit_depacketization state expected unit ended) p)
+first_taken most state expected None ended p other = refl
+first_taken most state expected (Some u) ended p other = rw other refl
+
+-- what a packet was taken by, and what is known of it then
+record WasTaken (most : ℕ) (s : SequencedDepacketization) (p : ℕ × RtpBody) (r : Result Received PacketError) (sound : Bool) (work : SequencedDepacketization) : Type 0 where
+  pub taken : is_taken r ≡ true
+  pub answer : IsSequencedAnswer most s p.0 p.1.payload r
+  pub work_is : work ≡ after_taken_packet most s p.0 p.1.payload
+  pub sound_is : sound ≡ cond (is_run_too_long r) false (is_expected s.expected p.0)
+
+sound_at : (most : ℕ) (s : SequencedDepacketization) (p : ℕ × RtpBody) (r : Result Received PacketError) (sound : Bool) (work : SequencedDepacketization) → WasTaken most s p r sound work →
+    sound ≡ cond (nat_lt most (run_len (after_sequenced_packet s p.0 p.1.payload).state.run)) false (is_expected s.expected p.0)
+sound_at most s p r sound work it = it.sound_is ∙ ap (λ (b : Bool). cond b false (is_expected s.expected p.0)) (answer_long most s p.0 p.1.payload r it.taken it.answer)
+
+pub goes_on_taken : (most : ℕ) (state : DepacketizerState) (expected : Option ℕ) (unit : AccessUnitValue) (ended : List AccessUnitValue) (p : ℕ × RtpBody) (r : Result Received PacketError)
+    (sound : Bool) (work : SequencedDepacketization) → unit.timestamp ≡ p.1.timestamp → is_taken r ≡ true →
+    IsSequencedAnswer most (sequenced_depacketization state expected unit.bytes unit.extra) p.0 p.1.payload r →
+    work ≡ after_answer most (sequenced_depacketization state expected unit.bytes unit.extra) p.0 p.1.payload r → sound ≡ cond (is_run_too_long r) false (is_expected expected p.0) →
+    with_unit work ended p.1.marker (whole_if sound (filled unit work)) ≡ after_rtp most (unit_depacketization state expected (Some unit) ended) p r
+goes_on_taken most state expected unit ended p r sound work same taken answer work_is sound_is =
+    let s = sequenced_depacketization state expected unit.bytes unit.extra in
+    let it : WasTaken most s p r sound work = record { taken = taken; answer = answer; work_is = work_is ∙ taken_work most s p.0 p.1.payload r taken; sound_is = sound_is } in
+    ap (λ (w : SequencedDepacketization). with_unit w ended p.1.marker (whole_if sound (filled unit w))) it.work_is
+    ∙ ap (λ (b : Bool). with_unit (after_taken_packet most s p.0 p.1.payload) ended p.1.marker (whole_if b (filled unit (after_taken_packet most s p.0 p.1.payload)))) (sound_at most s p r sound work it)
+    ∙ on_taken most state expected unit ended p same ∙ sym (taken_unit most (unit_depacketization state expected (Some unit) ended) p r taken)
+
+pub begins_taken : (most : ℕ) (state : DepacketizerState) (expected : Option ℕ) (unit : Option AccessUnitValue) (ended : List AccessUnitValue) (p : ℕ × RtpBody) (r : Result Received PacketError)
+    (sound : Bool) (work : SequencedDepacketization) → is_unit_at unit p.1.timestamp ≡ false → is_taken r ≡ true →
+    IsSequencedAnswer most (sequenced_depacketization (state_with_run state None) expected [] extras.None) p.0 p.1.payload r →
+    work ≡ after_taken_packet most (sequenced_depacketization (state_with_run state None) expected [] extras.None) p.0 p.1.payload → sound ≡ cond (is_run_too_long r) false (is_expected expected p.0) →
+    with_unit work (ended ++ given_out (is_expected expected p.0) unit) p.1.marker (whole_if sound (filled (empty_unit p.1.timestamp) work)) ≡ after_rtp most (unit_depacketization state expected unit ended) p r
+begins_taken most state expected unit ended p r sound work other taken answer work_is sound_is =
+    let s = sequenced_depacketization (state_with_run state None) expected [] extras.None in
+    let it : WasTaken most s p r sound work = record { taken = taken; answer = answer; work_is = work_is; sound_is = sound_is } in
+    let before = ended ++ given_out (is_expected expected p.0) unit in
+    ap (λ (w : SequencedDepacketization). with_unit w before p.1.marker (whole_if sound (filled (empty_unit p.1.timestamp) w))) it.work_is
+    ∙ ap (λ (b : Bool). with_unit (after_taken_packet most s p.0 p.1.payload) before p.1.marker (whole_if b (filled (empty_unit p.1.timestamp) (after_taken_packet most s p.0 p.1.payload)))) (sound_at most s p r sound work it)
+    ∙ first_taken most state expected unit ended p other ∙ sym (taken_unit most (unit_depacketization state expected unit ended) p r taken)
+
+-- the first of two, where the test holds
+pub when_true : (b : Bool) (P Q : Type 0) → b ≡ true → MatchBool b P Q → P
+when_true true P Q is h = h
+when_true false P Q is h = absurd (let bad = is in cc)
+
+-- of equal parts
+pub same_parts : (state : DepacketizerState) (expected : Option ℕ) (a b : Option AccessUnitValue) (x y : List AccessUnitValue) → a ≡ b → x ≡ y →
+    unit_depacketization state expected a x ≡ unit_depacketization state expected b y
+same_parts state expected a b x y one two = ap (λ (u : Option AccessUnitValue). unit_depacketization state expected u x) one ∙ ap (λ (l : List AccessUnitValue). unit_depacketization state expected b l) two
+
+-- an access unit of these parts
+pub same_unit : (unit : AccessUnitValue) (t : ℕ) → unit.timestamp ≡ t → unit.is_whole ≡ true →
+    unit ≡ record { timestamp = t; bytes = unit.bytes; extra = unit.extra; is_whole = true }
+same_unit unit t stamp whole = ap (λ (x : ℕ). record unit { timestamp = x }) stamp ∙ ap (λ (b : Bool). record unit { timestamp = t; is_whole = b }) whole

@@ -1,0 +1,62 @@
+use Rattle.std.proofs.Common.{rules, arith, ◌≡◌, ◌∙◌, ◌<◌, ◌≤◌, ◌++◌, ◌∷◌, [], sym, ap, map, ℕ, List, length, get_or, subst}
+use Rattle.std.proofs.lemmas.Grind.{common_steps}
+use Rattle.std.proofs.lemmas.List.{length-map, get_or-map}
+use Rattle.h26x_model.specs.Receive.RunLimit.{run_len}
+use Rattle.h26x_frames.specs.Rtp.{RtpBody}
+use Rattle.h26x_frames.specs.ReorderBuffer.{numbered_packet, reordered}
+use Rattle.h26x_frames.specs.AccessUnit.{access_unit_value, unit_depacketization, IsUnitAnswer, after_rtp, AreUnitsReceived}
+use Rattle.h26x_frames.proofs.ReceivedLemmas.{units_more, units_to_end, units_brought_by}
+use Rattle.h26x_frames.proofs.frames.receive_frames.Goals as goal
+
+pub loop-held-preserved : goal.loop-held-preserved
+loop-held-preserved g c =
+    let o = c.receive-answer.result in
+    let pushed : c.push.new.self.items ≡ c.loop-held.answers.items ++ o ∷ [] = search rules in
+    let held = c.deref-held-items.result.now in
+    let packets = map numbered_packet held in
+    let i = c.loop-held.held-index in
+    let item = c.held-item.result in
+    let p = numbered_packet item in
+    let state = g.D.RunDepacketizer.state in
+    let within : i < length packets = rw length-map c.loop-held-test.true in
+    let here : get_or packets i p ≡ p = get_or-map numbered_packet held i item p c.loop-held-test.true ∙ ap numbered_packet (sym c.held-item.is) in
+    let same_limit = c.loop-held.invariant.limit in
+    let now = c.loop-held.receiver.packets in
+    let then = c.receive-answer.new.self.packets in
+    let most = c.args.receiver.now.packets.run_limit in
+    let old = unit_depacketization (state now.depacketizer) now.expected c.loop-held.receiver.unit (map access_unit_value c.loop-held.out.items) in
+    let new = unit_depacketization (state then.depacketizer) then.expected c.receive-answer.new.self.unit (map access_unit_value c.receive-answer.new.out.items) in
+    record {
+      count = grind (arith, common_steps);
+      room = grind (arith, common_steps);
+      limit = c.receive-answer.ensures.limit ∙ same_limit;
+      bounded = λ short.
+          subst (λ (m : ℕ). run_len (state then.depacketizer).run ≤ m) same_limit
+          (c.receive-answer.ensures.bounded (subst (λ (m : ℕ). run_len (state now.depacketizer).run ≤ m) (sym same_limit) (c.loop-held.invariant.bounded short)));
+      received = rw pushed (units_more most _ packets i c.loop-held.answers.items o p old new within here c.loop-held.invariant.received
+          (subst (λ (q : ℕ × RtpBody). IsUnitAnswer most old q o) c.packet.ensures (subst (λ (m : ℕ). IsUnitAnswer m old c.packet.result o) same_limit c.receive-answer.ensures.answer))
+          (subst (λ (q : ℕ × RtpBody). new ≡ after_rtp most old q o) c.packet.ensures (subst (λ (m : ℕ). new ≡ after_rtp m old c.packet.result o) same_limit c.receive-answer.ensures.after)));
+    }
+
+pub returns-clause-received : goal.returns-clause-received
+returns-clause-received g c =
+    let state = g.D.RunDepacketizer.state in
+    let first = c.args.receiver.now in
+    let most = first.packets.run_limit in
+    let held = c.deref-held-items.result.now in
+    let last = c.loop-held.receiver in
+    let old = unit_depacketization (state first.packets.depacketizer) first.packets.expected first.unit (map access_unit_value c.args.out.now.items) in
+    let new = unit_depacketization (state last.packets.depacketizer) last.packets.expected last.unit (map access_unit_value c.loop-held.out.items) in
+    let given : map numbered_packet held ≡ reordered c.args.window c.args.packets.now = ap (map numbered_packet) c.deref-held-items.ensures.value ∙ c.in_ok-ordered.ensures.packets in
+    subst (λ (l : List (ℕ × RtpBody)). AreUnitsReceived most old l c.loop-held.answers.items new) given
+    (units_to_end most old (map numbered_packet held) c.loop-held.held-index c.loop-held.answers.items new (rw length-map c.loop-held-test.false) c.loop-held.invariant.received)
+
+pub returns-clause-in_order : goal.returns-clause-in_order
+returns-clause-in_order g c = λ none_open fine.
+    let state = g.D.RunDepacketizer.state in
+    let first = c.args.receiver.now in
+    let last = c.loop-held.receiver in
+    let old = unit_depacketization (state first.packets.depacketizer) first.packets.expected first.unit (map access_unit_value c.args.out.now.items) in
+    let new = unit_depacketization (state last.packets.depacketizer) last.packets.expected last.unit (map access_unit_value c.loop-held.out.items) in
+    units_brought_by c.args.window first.packets.run_limit old c.args.packets.now c.loop-held.answers.items new
+    c.nothing_is_damaged.ensures (λ s ok is. c.packetizers_go_on.ensures.goes_on s ok.limits ok.dons is) c.requires.some c.requires.half c.meets_the_facts.ensures none_open (returns-clause-received g c) fine

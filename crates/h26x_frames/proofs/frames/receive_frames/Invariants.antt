@@ -1,0 +1,19 @@
+use Rattle.std.proofs.Common.{◌≡◌, ◌≤◌, map, take, length, vec_len, vec_capacity}
+use Rattle.h26x_model.specs.Receive.RunLimit.{run_len}
+use Rattle.h26x_frames.specs.ReorderBuffer.{numbered_packet}
+use Rattle.h26x_frames.specs.AccessUnit.{access_unit_value, unit_depacketization, AreUnitsReceived}
+use Rattle.h26x_frames.proofs.frames.receive_frames.Given as goal
+
+-- the packets so far have their answers
+abbrev pub invariant-loop-held : goal.invariant-loop-held
+invariant-loop-held g l = record {
+  count : vec_len l.answers ≡ l.held-index;
+  room : length l.held-items ≤ vec_capacity l.answers;
+  limit : l.receiver.packets.run_limit ≡ l.fn.receiver.packets.run_limit;
+  bounded : run_len (g.D.RunDepacketizer.state l.fn.receiver.packets.depacketizer).run ≤ l.fn.receiver.packets.run_limit →
+      run_len (g.D.RunDepacketizer.state l.receiver.packets.depacketizer).run ≤ l.fn.receiver.packets.run_limit;
+  received : AreUnitsReceived l.fn.receiver.packets.run_limit
+      (unit_depacketization (g.D.RunDepacketizer.state l.fn.receiver.packets.depacketizer) l.fn.receiver.packets.expected l.fn.receiver.unit (map access_unit_value l.fn.out.items))
+      (take l.held-index (map numbered_packet l.held-items)) l.answers.items
+      (unit_depacketization (g.D.RunDepacketizer.state l.receiver.packets.depacketizer) l.receiver.packets.expected l.receiver.unit (map access_unit_value l.out.items));
+}

@@ -1,0 +1,174 @@
+-- Access units of packets with their timestamps and markers (RFC 3550, 5.1; RFC 6184, 5.1; RFC 7798,
+-- 4.1; RFC 9328, 4.1; ours).
+use Rattle.std.specs.Prelude.{◌≡◌, ℕ, ◌==◌, nat_lt, Bool, true, false, ◌&&◌, if◌then◌else◌, List, [], ◌∷◌, ◌++◌, length, Option, Some, None, Result, Ok, Err, ◌⊎◌}
+use Rattle.h26x_core.specs.declared.extra.CodecExtra.{CodecExtra}
+use Rattle.h26x_core.specs.declared.extra.CodecExtra.TheVariants as extras
+use Rattle.h26x_core.specs.declared.error.PacketError.{PacketError}
+use Rattle.h26x_core.specs.declared.error.PacketError.TheVariants.{OutOfMemory}
+use Rattle.h26x_model.specs.Receive.DepacketizerState.{DepacketizerState}
+use Rattle.h26x_model.specs.Receive.RunLimit.{run_len, state_with_run}
+use Rattle.h26x_receiver.specs.declared.received.Received.{Received}
+use Rattle.h26x_receiver.specs.declared.received.Received.TheVariants.{TooLong, Late}
+use Rattle.h26x_receiver.specs.Sequence.{is_expected}
+use Rattle.h26x_receiver.specs.Sequenced.{SequencedDepacketization, sequenced_depacketization, after_sequenced_packet, after_taken_packet, IsSequencedAnswer}
+use Rattle.h26x_frames.specs.Rtp.{RtpBody}
+use Rattle.h26x_frames.specs.declared.access_unit.AccessUnit.{AccessUnit}
+
+-- an access unit as a receiver gives it out: its timestamp, the text of its units, what is told of
+-- them, and whether it is known that nothing of it is missing
+pub record AccessUnitValue : Type 0 where
+  pub timestamp : ℕ
+  pub bytes : List ℕ
+  pub extra : CodecExtra
+  pub is_whole : Bool
+
+-- that of the code, its bytes as a list
+abbrev pub access_unit_value : AccessUnit → AccessUnitValue
+access_unit_value unit = record {
+  timestamp = unit.timestamp;
+  bytes = unit.bytes.items;
+  extra = unit.extra;
+  is_whole = unit.is_whole;
+}
+
+-- one to which no packet came yet
+abbrev pub empty_unit : ℕ → AccessUnitValue
+empty_unit timestamp = record {
+  timestamp = timestamp;
+  bytes = [];
+  extra = extras.None;
+  is_whole = true;
+}
+
+-- the same, known to be whole only if this holds too
+abbrev pub whole_if : Bool → AccessUnitValue → AccessUnitValue
+whole_if holds unit = record unit { is_whole = unit.is_whole && holds }
+
+-- what a receiver works on: its depacketizer, the sequence number that is expected next, if a packet
+-- was taken, the access unit that is open, and those that ended
+pub record UnitDepacketization : Type 0 where
+  pub state : DepacketizerState
+  pub expected : Option ℕ
+  pub unit : Option AccessUnitValue
+  pub ended : List AccessUnitValue
+
+-- these four
+abbrev pub unit_depacketization : DepacketizerState → Option ℕ → Option AccessUnitValue →
+    List AccessUnitValue → UnitDepacketization
+unit_depacketization state expected unit ended = record {
+  state = state;
+  expected = expected;
+  unit = unit;
+  ended = ended;
+}
+
+-- before any packet came
+abbrev pub fresh_units : DepacketizerState → UnitDepacketization
+fresh_units state = unit_depacketization state None None []
+
+-- how many bytes the access unit that is open holds, none where none is open
+abbrev pub unit_len : Option AccessUnitValue → ℕ
+unit_len None = 0
+unit_len (Some unit) = length unit.bytes
+
+-- whether the access unit that is open has this timestamp
+abbrev pub is_unit_at : Option AccessUnitValue → ℕ → Bool
+is_unit_at None timestamp = false
+is_unit_at (Some unit) timestamp = unit.timestamp == timestamp
+
+-- it, where it has this timestamp, or else an empty one
+abbrev pub unit_at : Option AccessUnitValue → ℕ → AccessUnitValue
+unit_at None timestamp = empty_unit timestamp
+unit_at (Some unit) timestamp =
+    if unit.timestamp == timestamp then unit else empty_unit timestamp
+
+-- what a packet with this timestamp is taken by: where it begins an access unit no run is open
+abbrev pub taken_by : UnitDepacketization → ℕ → SequencedDepacketization
+taken_by s timestamp = sequenced_depacketization
+    (state_with_run s.state (if is_unit_at s.unit timestamp then s.state.run else None))
+    s.expected (unit_at s.unit timestamp).bytes (unit_at s.unit timestamp).extra
+
+-- what is answered for a packet where memory lacks for none of the access units that it ends
+abbrev pub IsTakenAnswer : ℕ → UnitDepacketization → ℕ × RtpBody → Result Received PacketError →
+    Type 0
+IsTakenAnswer most s p answer = IsSequencedAnswer most (taken_by s p.1.timestamp) p.0 p.1.payload
+    answer
+
+-- what is answered for a packet
+abbrev pub IsUnitAnswer : ℕ → UnitDepacketization → ℕ × RtpBody → Result Received PacketError →
+    Type 0
+IsUnitAnswer most s p answer = (answer ≡ Err OutOfMemory) ⊎ IsTakenAnswer most s p answer
+
+-- whether an answer says that the run that a packet left was too long
+abbrev pub is_run_too_long : Result Received PacketError → Bool
+is_run_too_long (Ok (TooLong n)) = true
+is_run_too_long answer = false
+
+-- whether it is known that no packet is missing before a packet that was taken, and it left no run
+-- that is too long
+abbrev pub is_sound : ℕ → UnitDepacketization → ℕ × RtpBody → Bool
+is_sound most s p =
+    if nat_lt most
+    (run_len (after_sequenced_packet (taken_by s p.1.timestamp) p.0 p.1.payload).state.run)
+    then false else is_expected s.expected p.0
+
+-- the access unit of a packet that was taken, with what it completed
+abbrev pub unit_with : ℕ → UnitDepacketization → ℕ × RtpBody → AccessUnitValue
+unit_with most s p = whole_if (is_sound most s p) (record (unit_at s.unit p.1.timestamp) {
+  bytes = (after_taken_packet most (taken_by s p.1.timestamp) p.0 p.1.payload).at_work.out;
+  extra = (after_taken_packet most (taken_by s p.1.timestamp) p.0 p.1.payload).at_work.extra;
+})
+
+-- what is given out of the access unit that was open: it is known to be whole only if this holds too
+abbrev pub given_out : Bool → Option AccessUnitValue → List AccessUnitValue
+given_out holds None = []
+given_out holds (Some unit) = whole_if holds unit ∷ []
+
+-- what a packet's timestamp ends, if it is another one
+abbrev pub ended_by : Bool → Option AccessUnitValue → ℕ → List AccessUnitValue
+ended_by follows unit timestamp = if is_unit_at unit timestamp then [] else given_out follows unit
+
+-- What stands after a packet that was taken: another timestamp ends the access unit that is open, and
+-- the marker ends its own.
+abbrev pub after_taken_rtp : ℕ → UnitDepacketization → ℕ × RtpBody → UnitDepacketization
+after_taken_rtp most s p = unit_depacketization
+    (after_taken_packet most (taken_by s p.1.timestamp) p.0 p.1.payload).at_work.state
+    (after_taken_packet most (taken_by s p.1.timestamp) p.0 p.1.payload).expected
+    (if p.1.marker then None else Some (unit_with most s p))
+    ((s.ended ++ ended_by (is_expected s.expected p.0) s.unit p.1.timestamp)
+    ++ (if p.1.marker then unit_with most s p ∷ [] else []))
+
+-- what stands after an answer: a packet that was not taken changes nothing
+abbrev pub after_rtp : ℕ → UnitDepacketization → ℕ × RtpBody → Result Received PacketError →
+    UnitDepacketization
+after_rtp most s p (Ok (Late n)) = s
+after_rtp most s p (Ok answer) = after_taken_rtp most s p
+after_rtp most s p (Err error) = s
+
+-- what stands after the end: what was open is not known to be whole, no run is open, and any number
+-- may be the first
+abbrev pub after_end : UnitDepacketization → UnitDepacketization
+after_end s = unit_depacketization (state_with_run s.state None) None None
+    (s.ended ++ given_out false s.unit)
+
+-- what stands after answers
+abbrev pub after_all_rtp : ℕ → UnitDepacketization → List (ℕ × RtpBody) →
+    List (Result Received PacketError) → UnitDepacketization
+after_all_rtp most s (p ∷ packets) (answer ∷ answers) = after_all_rtp most
+    (after_rtp most s p answer) packets answers
+after_all_rtp most s packets answers = s
+
+-- one answer for each packet, by what those before it left
+abbrev pub HaveUnitAnswers : ℕ → UnitDepacketization → List (ℕ × RtpBody) →
+    List (Result Received PacketError) → Type 0
+HaveUnitAnswers most s [] [] = Unit {0}
+HaveUnitAnswers most s (p ∷ packets) (answer ∷ answers) =
+    IsUnitAnswer most s p answer × HaveUnitAnswers most (after_rtp most s p answer) packets answers
+HaveUnitAnswers most s packets answers = ⊥
+
+-- What a receiver has done with packets, any whatever: each has its answer, and it stands after
+-- them.
+pub record AreUnitsReceived (most : ℕ) (s : UnitDepacketization) (packets : List (ℕ × RtpBody))
+    (answers : List (Result Received PacketError)) (new : UnitDepacketization) : Type 0 where
+  pub each : HaveUnitAnswers most s packets answers
+  pub stands : new ≡ after_all_rtp most s packets answers

@@ -1,0 +1,192 @@
+-- Calls that each send an access unit, with its timestamp (RFC 6184, 5.1; RFC 7798, 4.1; RFC 9328,
+-- 4.1), and what is left of these where packets are missing (ours).
+use Rattle.std.specs.Prelude.{◌≡◌, ℕ, ◌+◌, ◌%◌, ◌^◌, ◌<◌, ◌≤◌, nat_lt, Bool, true, false, ◌&&◌, if◌then◌else◌, List, [], ◌∷◌, ◌++◌, length, map, take, drop, Option, Some, None, slice_index_or}
+use Rattle.std.specs.Option.{option_map}
+use Rattle.std.specs.List.{AllByRecursion, Contains, list_any, list_all}
+use Rattle.h26x_core.specs.declared.extra.CodecExtra.TheVariants as extras
+use Rattle.h26x_core.specs.ByteStream.{byte_stream}
+use Rattle.h26x_model.specs.Payload.Format.{Format}
+use Rattle.h26x_model.specs.Payload.Extra.{extra_after}
+use Rattle.h26x_model.specs.Payload.Facts.{AreCarried}
+use Rattle.h26x_model.specs.Send.Calls.{Call, AreCalls, all_entries}
+use Rattle.h26x_model.specs.Send.PacketizerState.{PacketizerState, IsPacketizerState, state_units, state_packets, after_entries}
+use Rattle.h26x_model.specs.Receive.Received.{run_after}
+use Rattle.h26x_model.specs.Receive.RunLimit.{run_len}
+use Rattle.h26x_model.specs.Carry.Gaps.{whole_units}
+use Rattle.h26x_receiver.specs.Delivery.{AreNextPlaces, mask_of_places}
+use Rattle.h26x_frames.specs.Reordering.{in_order, IsReordered}
+use Rattle.h26x_frames.specs.Rtp.{RtpBody, rtp_body}
+use Rattle.h26x_frames.specs.AccessUnit.{AccessUnitValue, UnitDepacketization}
+
+-- a call, and the timestamp of the access unit that it sends
+pub record StampedCall : Type 0 where
+  pub call : Call
+  pub timestamp : ℕ
+
+-- these two
+abbrev pub stamped_call : ℕ → Call → StampedCall
+stamped_call timestamp call = record { call = call; timestamp = timestamp }
+
+-- the calls alone
+abbrev pub calls_of : List StampedCall → List Call
+calls_of calls = map (λ c. c.call) calls
+
+-- the packets of one call, and the packetizer after it
+abbrev pub call_packets : PacketizerState → Call → List (List ℕ)
+call_packets s call = state_packets s (all_entries s.format (call ∷ []))
+
+abbrev pub after_call : PacketizerState → Call → PacketizerState
+after_call s call = after_entries s (all_entries s.format (call ∷ []))
+
+-- whether a list has no entry
+abbrev pub has_none : List (List ℕ) → Bool
+has_none [] = true
+has_none (packet ∷ packets) = false
+
+-- packets of one access unit: the last bears the marker
+abbrev pub unit_bodies : ℕ → List (List ℕ) → List RtpBody
+unit_bodies timestamp [] = []
+unit_bodies timestamp (packet ∷ packets) = rtp_body timestamp (has_none packets) packet
+    ∷ unit_bodies timestamp packets
+
+-- the packets of calls, one access unit after the other
+abbrev pub sent_bodies : PacketizerState → List StampedCall → List RtpBody
+sent_bodies s [] = []
+sent_bodies s (c ∷ calls) = unit_bodies c.timestamp (call_packets s c.call)
+    ++ sent_bodies (after_call s c.call) calls
+
+-- a packet of those sent, by its place, with its sequence number: they are numbered on from one
+abbrev pub body_of_place : List RtpBody → ℕ → ℕ → ℕ × RtpBody
+body_of_place sent first place = (
+  (first + place) % 2 ^ 16,
+  slice_index_or sent place (rtp_body 0 false []),
+)
+
+-- whether no run that packets leave, one after the other, holds more bytes than this
+abbrev pub are_runs_within : Format → ℕ → Option (List ℕ) → List (List ℕ) → Bool
+are_runs_within f most run [] = true
+are_runs_within f most run (packet ∷ packets) =
+    if nat_lt most (run_len (run_after run (f.read packet))) then false
+    else are_runs_within f most (run_after run (f.read packet)) packets
+
+-- Of one call, what a mask of its packets leaves: nothing where none of them came, and else the text
+-- of its whole items. It is known to be whole where each came, and the packet before them, and no run
+-- is longer than the limit.
+abbrev pub unit_left : ℕ → PacketizerState → Bool → Bool → StampedCall → List Bool →
+    List AccessUnitValue
+unit_left most s avc before c mask =
+    if list_any (λ came. came) mask then (record {
+      timestamp = c.timestamp;
+      bytes = byte_stream avc (whole_units most s (c.call ∷ []) mask);
+      extra = extra_after s.format extras.None (whole_units most s (c.call ∷ []) mask);
+      is_whole = before && (list_all (λ came. came) mask
+          && are_runs_within s.format most None (call_packets s c.call));
+    }) ∷ [] else []
+
+-- whether the last packet came, of a mask; where there is none, whether the one before came
+abbrev pub last_came : Bool → List Bool → Bool
+last_came before [] = before
+last_came before (came ∷ mask) = last_came came mask
+
+-- of calls, one after the other
+abbrev pub units_left : ℕ → PacketizerState → Bool → Bool → List StampedCall → List Bool →
+    List AccessUnitValue
+units_left most s avc before [] mask = []
+units_left most s avc before (c ∷ calls) mask =
+    unit_left most s avc before c (take (length (call_packets s c.call)) mask)
+    ++ units_left most (after_call s c.call) avc
+    (last_came before (take (length (call_packets s c.call)) mask)) calls
+    (drop (length (call_packets s c.call)) mask)
+
+-- access units that come one behind the other have other timestamps
+abbrev pub AreApart : List AccessUnitValue → Type 0
+AreApart [] = Unit {0}
+AreApart (unit ∷ []) = Unit {0}
+AreApart (unit ∷ next ∷ units) = (unit.timestamp ≡ next.timestamp → ⊥) × AreApart (next ∷ units)
+
+-- Calls whose units packets can carry.
+pub record AreStreamed (s : PacketizerState) (calls : List StampedCall) : Type 0 where
+  pub sender : IsPacketizerState s
+  pub calls_are : AreCalls (calls_of calls)
+  pub carried : AreCarried s.format (state_units s (all_entries s.format (calls_of calls)))
+
+-- an access unit as it was sent: the text of the units that a call sends
+abbrev pub sent_unit : PacketizerState → Bool → StampedCall → AccessUnitValue
+sent_unit s avc c = record {
+  timestamp = c.timestamp;
+  bytes = byte_stream avc (state_units s (all_entries s.format (c.call ∷ [])));
+  extra = extra_after s.format extras.None (state_units s (all_entries s.format (c.call ∷ [])));
+  is_whole = true;
+}
+
+-- of calls, one after the other
+abbrev pub sent_units : PacketizerState → Bool → List StampedCall → List AccessUnitValue
+sent_units s avc [] = []
+sent_units s avc (c ∷ calls) = sent_unit s avc c ∷ sent_units (after_call s c.call) avc calls
+
+-- how many bytes packets have
+abbrev pub packets_len : List (List ℕ) → ℕ
+packets_len [] = 0
+packets_len (packet ∷ packets) = length packet + packets_len packets
+
+-- Of a call each packet of which came, and the packet before them, where its packets together are no
+-- longer than the limit on a run: the access unit that is left is the one that was sent.
+abbrev pub IsLeftWhole : ℕ → PacketizerState → Bool → StampedCall → List Bool → Type 0
+IsLeftWhole most s avc c mask = length mask ≡ length (call_packets s c.call) →
+    list_any (λ came. came) mask ≡ true → list_all (λ came. came) mask ≡ true →
+    packets_len (call_packets s c.call) ≤ most →
+    unit_left most s avc true c mask ≡ sent_unit s avc c ∷ []
+
+-- an access unit that is one of these if it is told to be whole
+abbrev pub IsSentIfWhole : List AccessUnitValue → AccessUnitValue → Type 0
+IsSentIfWhole sent unit = unit.is_whole ≡ true → Contains sent unit
+
+-- the place that is expected at first, where the number of the first packet sent is known
+abbrev pub first_place : Bool → Option ℕ
+first_place known = if known then Some 0 else None
+
+-- A stream: packets at these places of those that calls send, in order. Some may be missing, in gaps
+-- shorter than half of the numbers' circle.
+pub record IsStream (s : PacketizerState) (calls : List StampedCall) (first : ℕ) (known : Bool)
+    (places : List ℕ) (packets : List (ℕ × RtpBody)) : Type 0 where
+  pub streamed : AreStreamed s calls
+  pub each : packets ≡ map (body_of_place (sent_bodies s calls) first) places
+  pub sent : AllByRecursion (λ place. place < length (sent_bodies s calls)) places
+  pub order : AreNextPlaces (first_place known) places
+
+-- Of whatever calls the packets are a stream, these access units are those that the packets leave of
+-- the calls, in order. Those that come one behind the other have other timestamps.
+abbrev pub AreAccessUnitsLeft : ℕ → UnitDepacketization → List (ℕ × RtpBody) →
+    List AccessUnitValue → Type 0
+AreAccessUnitsLeft most w packets units = (s : PacketizerState) (calls : List StampedCall) (first : ℕ)
+    (known : Bool) (places : List ℕ) → w.state.format ≡ s.format →
+    w.expected ≡ option_map (λ place. (first + place) % 2 ^ 16) (first_place known) →
+    IsStream s calls first known places packets →
+    AreApart (units_left most s w.state.is_avc known calls
+    (mask_of_places places (length (sent_bodies s calls)))) →
+    units ≡ w.ended ++ units_left most s w.state.is_avc known calls
+    (mask_of_places places (length (sent_bodies s calls)))
+
+-- The packets that a network brings of those that calls send, in the order in which they come: any of
+-- them may be lost, come twice, or before others that were sent earlier, but less than a window
+-- apart; gaps are shorter than half of the numbers' circle.
+pub record IsBroughtStream (window : ℕ) (s : PacketizerState) (calls : List StampedCall)
+    (first : ℕ) (known : Bool) (places : List ℕ) (packets : List (ℕ × RtpBody)) : Type 0 where
+  pub streamed : AreStreamed s calls
+  pub each : packets ≡ map (body_of_place (sent_bodies s calls) first) places
+  pub sent : AllByRecursion (λ place. place < length (sent_bodies s calls)) places
+  pub near : IsReordered window places
+  pub gaps : AreNextPlaces (first_place known) (in_order places)
+
+-- Of whatever calls a network brought the packets, these access units are those that the packets
+-- leave of the calls, in order. Those that come one behind the other have other timestamps.
+abbrev pub AreAccessUnitsBrought : ℕ → ℕ → UnitDepacketization → List (ℕ × RtpBody) →
+    List AccessUnitValue → Type 0
+AreAccessUnitsBrought window most w packets units = (s : PacketizerState) (calls : List StampedCall)
+    (first : ℕ) (known : Bool) (places : List ℕ) → w.state.format ≡ s.format →
+    w.expected ≡ option_map (λ place. (first + place) % 2 ^ 16) (first_place known) →
+    IsBroughtStream window s calls first known places packets →
+    AreApart (units_left most s w.state.is_avc known calls
+    (mask_of_places places (length (sent_bodies s calls)))) →
+    units ≡ w.ended ++ units_left most s w.state.is_avc known calls
+    (mask_of_places places (length (sent_bodies s calls)))

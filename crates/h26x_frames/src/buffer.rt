@@ -1,0 +1,237 @@
+//! A buffer for packets that come before earlier ones.
+
+ghost use Rattle.std.specs.Prelude.{◌≡◌, ◌+◌, ◌^◌, ◌<◌, ◌≤◌, ◌==◌, if◌then◌else◌, true, false, ℕ, List, [], Ok, None, IfOk, IfErr, OnOk, OnErr, is_some, length, map, slice_get};
+ghost use Rattle.std.specs.List.{insert};
+ghost use Rattle.std.specs.Option.{option_map};
+ghost use Rattle.h26x_frames.specs.Rtp.{RtpBody};
+ghost use Rattle.h26x_frames.specs.ReorderBuffer.{BufferState, IsBufferState, buffer_state, numbered_packet, fresh_buffer, put_packet, is_number_held, push_answer, after_push, next_packet, without_first, AreHeldInOrder};
+
+use crate::packet::RtpPacket;
+use std::alloc::{AllocError, Global};
+use std::collections::VecDeque;
+use std::marker::Model;
+
+/// How far ahead of the number that is due a number is taken as behind it: half of the circle (RFC
+/// 3550, A.1).
+const HALF: u16 = 0x8000;
+
+/// A packet that a buffer gave out.
+#[derive(Debug, Drop)]
+pub struct HeldPacket {
+    /// Its sequence number.
+    pub sequence: u16,
+    /// Its timestamp.
+    pub timestamp: u32,
+    /// Its marker bit.
+    pub marker: bool,
+    /// Its payload.
+    pub payload: Vec<u8>,
+}
+
+impl HeldPacket {
+    /// A copy of a packet, with this sequence number.
+    fn copy(alloc: Global, sequence: u16, packet: &RtpPacket<'_>) -> Result<Self, AllocError>
+        ensures { IfOk result (λ held. numbered_packet held ≡ (sequence, packet.now.1)) }
+    {
+        Ok(HeldPacket {
+            sequence,
+            timestamp: packet.timestamp,
+            marker: packet.marker,
+            payload: Vec::from_slice(alloc, packet.payload)?,
+        })
+    }
+
+    /// The packet, for a receiver.
+    pub fn packet(&self) -> RtpPacket<'_>
+        ensures { result ≡ numbered_packet self.now }
+    {
+        RtpPacket {
+            sequence: self.sequence,
+            timestamp: self.timestamp,
+            marker: self.marker,
+            payload: &self.payload,
+        }
+    }
+}
+
+/// What became of a packet that was given to a buffer.
+#[derive(Debug, Clone, Copy, PartialEq, Eq)]
+pub enum Pushed {
+    /// It is held, until those before it have come or the window has passed.
+    Held,
+
+    /// It is not held: its number is so far behind the one that is due.
+    Late(u16),
+
+    /// It is not held: a packet with its number is.
+    Twice,
+}
+
+/// Where among packets in the order of their numbers one with this number stands, or else where it
+/// belongs.
+fn place_of(held: &VecDeque<HeldPacket>, due: u16, number: u16) -> Result<usize, usize>
+    requires { AreHeldInOrder due 0 (map numbered_packet held.now.items) }
+    ensures found { IfOk result (λ _. is_number_held number
+        (map numbered_packet held.now.items) ≡ true) }
+    ensures absent { IfErr result (λ _. is_number_held number
+        (map numbered_packet held.now.items) ≡ false) }
+    ensures range { IfErr result (λ at. at ≤ length held.now.items) }
+    ensures place { (packet : RtpBody) → IfErr result (λ at.
+        insert (map numbered_packet held.now.items) at (number, packet)
+        ≡ put_packet due (number, packet) (map numbered_packet held.now.items)) }
+{
+    let ahead = number.wrapping_sub(due);
+    held.binary_search_by_key(&ahead, |p| p.sequence.wrapping_sub(due))
+}
+
+/// Holds packets that came before earlier ones until those have come, or until a window of packets
+/// has passed (a jitter buffer), and gives them out in the order of their sequence numbers of RTP
+/// (RFC 3550, 5.1), each once.
+///
+/// ```rust
+/// let mut buffer = ReorderBuffer::new(alloc, 64);
+/// buffer.push(&packet)?;
+/// while let Some(held) = buffer.pop() {
+///     receiver.receive(&held.packet(), &mut units)?;
+/// }
+/// ```
+#[derive(Debug, Drop)]
+pub struct ReorderBuffer {
+    window: u16,
+    due: Option<u16>,
+    held: VecDeque<HeldPacket>,
+    alloc: Global,
+}
+
+impl Model for ReorderBuffer {
+    ghost Value = { BufferState RtpBody };
+
+    ghost view = { λ b. buffer_state b.window b.due (map numbered_packet b.held.items) };
+
+    ghost invariant = { λ b. IsBufferState
+        (buffer_state b.window b.due (map numbered_packet b.held.items)) };
+}
+
+impl ReorderBuffer {
+    /// A buffer with a window of so many packets, at most 2^14: one that comes after another that was
+    /// sent so many or more behind it may be late. It takes any sequence number as the first.
+    ///
+    /// Of a stream that begins, packets are held until a window of them has come, since those sent
+    /// before the first that came may still come.
+    pub fn new(alloc: Global, window: u16) -> Self
+        requires some { 0 < window }
+        requires half { window ≤ 2 ^ 14 }
+        ensures { result ≡ fresh_buffer window }
+    {
+        ReorderBuffer {
+            window,
+            due: None,
+            held: VecDeque::new(alloc),
+            alloc,
+        }
+    }
+
+    /// How many packets it holds.
+    pub fn len(&self) -> usize
+        ensures { result ≡ length self.now.held }
+    {
+        self.held.len()
+    }
+
+    /// Whether it holds none.
+    pub fn is_empty(&self) -> bool
+        ensures { result ≡ (length self.now.held == 0) }
+    {
+        self.held.is_empty()
+    }
+
+    /// Takes a packet, and copies it. Without memory the buffer stays as it was, and the packet can be
+    /// given again.
+    pub fn push(&mut self, packet: &RtpPacket<'_>) -> Result<Pushed, AllocError>
+        ensures answer { IfOk result (λ answer. answer ≡ push_answer self.old packet.now.0) }
+        ensures after { OnOk result (self.new ≡ after_push self.old packet.now) }
+        ensures late { (n : ℕ) → result ≡ Ok (Pushed.Late n) → self.new ≡ self.old }
+        ensures twice { result ≡ Ok Pushed.Twice → self.new ≡ self.old }
+        ensures kept { OnErr result (self.new ≡ self.old) }
+        ensures one_more { length self.new.held ≤ length self.old.held + 1 }
+    {
+        self.push_at(packet.sequence, packet)
+    }
+
+    /// Takes a packet, which has this sequence number.
+    fn push_at(&mut self, sequence: u16, packet: &RtpPacket<'_>) -> Result<Pushed, AllocError>
+        ensures answer { IfOk result (λ answer. answer ≡ push_answer self.old sequence) }
+        ensures after { OnOk result (self.new ≡ after_push self.old (sequence, packet.now.1)) }
+        ensures late { (n : ℕ) → result ≡ Ok (Pushed.Late n) → self.new ≡ self.old }
+        ensures twice { result ≡ Ok Pushed.Twice → self.new ≡ self.old }
+        ensures kept { OnErr result (self.new ≡ self.old) }
+        ensures one_more { length self.new.held ≤ length self.old.held + 1 }
+    {
+        let first_due = sequence.wrapping_add(1).wrapping_sub(self.window);
+        let due = self.due.unwrap_or(first_due);
+        let ahead = sequence.wrapping_sub(due);
+        if ahead >= HALF {
+            return Ok(Pushed::Late(u16::MAX - ahead + 1));
+        }
+        match place_of(&self.held, due, sequence) {
+            Ok(_) => Ok(Pushed::Twice),
+            Err(place) => {
+                let held = HeldPacket::copy(self.alloc, sequence, packet)?;
+                self.held.insert(place, held)?;
+                self.due = Some(due);
+                Ok(Pushed::Held)
+            }
+        }
+    }
+
+    /// The first of the packets held, if it may go: the one that is due, or one that the window has
+    /// passed.
+    pub fn pop(&mut self) -> Option<HeldPacket>
+        ensures packet { option_map numbered_packet result ≡ next_packet self.old }
+        ensures after { self.new ≡ (if is_some result then without_first self.old else self.old) }
+
+        // Where none may go, fewer are held than the window has.
+        ensures bounded { result ≡ None → length self.new.held < self.new.window }
+    {
+        if self.is_ready() {
+            self.pop_first()
+        } else {
+            None
+        }
+    }
+
+    /// The first of the packets held, whether it may go or not: at the end of a stream, or where the
+    /// caller has waited long enough.
+    pub fn pop_first(&mut self) -> Option<HeldPacket>
+        ensures packet { option_map numbered_packet result ≡ slice_get self.old.held 0 }
+        ensures after { self.new ≡ without_first self.old }
+    {
+        let first = self.held.pop_front()?;
+        self.due = Some(first.sequence.wrapping_add(1));
+        Some(first)
+    }
+
+    /// Whether the first of the packets held may go.
+    fn is_ready(&self) -> bool
+        ensures ready { result ≡ is_some (next_packet self.now) }
+        ensures few { result ≡ false → length self.now.held < self.now.window }
+    {
+        match (self.due, self.held.front(), self.held.back()) {
+            (Some(due), Some(first), Some(last)) => {
+                let ahead = first.sequence.wrapping_sub(due);
+                let newest = last.sequence.wrapping_sub(due);
+                first.sequence == due || newest - ahead + 1 >= self.window
+            }
+            _ => false,
+        }
+    }
+
+    /// Drops what it holds, and takes any sequence number as the next: for a peer that begins anew,
+    /// whose packets are late one after the other.
+    pub fn restart(&mut self)
+        ensures { self.new ≡ fresh_buffer self.old.window }
+    {
+        self.held.clear();
+        self.due = None;
+    }
+}

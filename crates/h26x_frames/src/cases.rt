@@ -1,0 +1,207 @@
+//! Worked cases of the definitions, each the contract of a function without a result.
+
+ghost use Rattle.std.specs.Prelude.{◌≡◌, ℕ, List, Bool, true, false, None, Some, [], ◌∷◌, Ok, map};
+ghost use Rattle.h26x_model.specs.Send.Calls.{fresh_call};
+ghost use Rattle.h264_payload.specs.H264.{h264};
+ghost use Rattle.h26x_codec.specs.Codec.{fresh_packetizer_state, fresh_depacketizer_state};
+ghost use Rattle.h26x_frames.specs.Reordering.{empty_buffer, put, in_order, released, AreWithinWindow, IsReordered};
+ghost use Rattle.h26x_frames.specs.ReorderBuffer.{buffer_state, fresh_buffer, push_answer, next_packet, reordered};
+ghost use Rattle.h26x_frames.specs.Network.{IsNetwork, released_packets};
+ghost use Rattle.h26x_frames.specs.Rtp.{rtp_body};
+ghost use Rattle.h26x_frames.specs.AccessUnit.{fresh_units, after_all_rtp, after_end, HaveUnitAnswers};
+ghost use Rattle.h26x_frames.specs.StampedCalls.{stamped_call, sent_bodies, units_left, AreApart, IsStream, IsBroughtStream};
+
+use crate::buffer::Pushed;
+use h26x_receiver::Received;
+
+/// Places that come in another order, one of them twice.
+pub fn places_in_order()
+    ensures none { in_order [] ≡ [] }
+    ensures twice { put 2 (0 ∷ 2 ∷ []) ≡ 0 ∷ 2 ∷ [] }
+    ensures order { in_order (2 ∷ 0 ∷ 1 ∷ 2 ∷ 5 ∷ []) ≡ 0 ∷ 1 ∷ 2 ∷ 5 ∷ [] }
+{}
+
+/// A window of 3: the place before two others is held for, and the one before three is not.
+pub fn windows_at_the_edge()
+    ensures held { AreWithinWindow 3 0 (2 ∷ 0 ∷ []) }
+    ensures passed { AreWithinWindow 3 0 (3 ∷ 0 ∷ []) → ⊥ }
+    ensures newest_counts { AreWithinWindow 3 0 (3 ∷ 1 ∷ 0 ∷ []) → ⊥ }
+    ensures twice { AreWithinWindow 1 0 (4 ∷ 4 ∷ []) }
+    ensures none { AreWithinWindow 0 0 [] }
+{}
+
+/// What a buffer with a window of 3 gives out: what waited, each once; behind a loss, what the window
+/// has passed; not what comes later than that.
+pub fn places_given_out()
+    ensures none { released 3 empty_buffer [] ≡ [] }
+    ensures just_held { released 3 empty_buffer (2 ∷ 0 ∷ 1 ∷ []) ≡ 0 ∷ 1 ∷ 2 ∷ [] }
+    ensures just_passed { released 3 empty_buffer (1 ∷ 3 ∷ 0 ∷ []) ≡ 1 ∷ 3 ∷ [] }
+    ensures twice { released 3 empty_buffer (0 ∷ 2 ∷ 2 ∷ 0 ∷ 1 ∷ 1 ∷ []) ≡ 0 ∷ 1 ∷ 2 ∷ [] }
+    ensures loss { released 3 empty_buffer (0 ∷ 2 ∷ 3 ∷ 4 ∷ 5 ∷ []) ≡ 0 ∷ 2 ∷ 3 ∷ 4 ∷ 5 ∷ [] }
+    ensures late { released 3 empty_buffer (0 ∷ 5 ∷ 9 ∷ 1 ∷ []) ≡ 0 ∷ 5 ∷ 9 ∷ [] }
+{}
+
+/// The same by numbers, with a window of 3: what waited, the numbers round 65535; behind a loss, what
+/// the window has passed; nothing of no packets; at the end what is held, if fewer came than the
+/// window has.
+pub fn numbers_given_out()
+    ensures none { reordered {A = List ℕ} 3 [] ≡ [] }
+    ensures few { reordered {A = List ℕ} 3 ((8, 7 ∷ []) ∷ []) ≡ (8, 7 ∷ []) ∷ [] }
+    ensures wrap { reordered {A = List ℕ} 3
+        ((65535, 1 ∷ []) ∷ (1, 3 ∷ []) ∷ (0, 2 ∷ []) ∷ (2, 4 ∷ []) ∷ [])
+        ≡ (65535, 1 ∷ []) ∷ (0, 2 ∷ []) ∷ (1, 3 ∷ []) ∷ (2, 4 ∷ []) ∷ [] }
+    ensures twice { reordered {A = List ℕ} 3 ((5, []) ∷ (7, []) ∷ (7, []) ∷ (6, []) ∷ (5, []) ∷ [])
+        ≡ (5, []) ∷ (6, []) ∷ (7, []) ∷ [] }
+    ensures loss { reordered {A = List ℕ} 3 ((5, []) ∷ (7, []) ∷ (8, []) ∷ (9, []) ∷ [])
+        ≡ (5, []) ∷ (7, []) ∷ (8, []) ∷ (9, []) ∷ [] }
+    ensures first_late { reordered {A = List ℕ} 3 ((7, []) ∷ (5, []) ∷ (6, []) ∷ [])
+        ≡ (5, []) ∷ (6, []) ∷ (7, []) ∷ [] }
+    ensures passed { reordered {A = List ℕ} 3 ((8, []) ∷ (5, []) ∷ (6, []) ∷ [])
+        ≡ (6, []) ∷ (8, []) ∷ [] }
+{}
+
+/// What is answered where 5 is due and 7 is held: at the edges of the half of the circle ahead.
+pub fn answers_of_pushed_packets()
+    ensures due { push_answer (buffer_state {A = List ℕ} 3 (Some 5) ((7, []) ∷ [])) 5 ≡ Pushed.Held }
+    ensures twice { push_answer (buffer_state {A = List ℕ} 3 (Some 5) ((7, []) ∷ [])) 7 ≡ Pushed.Twice }
+    ensures late { push_answer (buffer_state {A = List ℕ} 3 (Some 5) ((7, []) ∷ [])) 4 ≡ Pushed.Late 1 }
+    ensures furthest { push_answer (buffer_state {A = List ℕ} 3 (Some 5) []) 32772 ≡ Pushed.Held }
+    ensures half { push_answer (buffer_state {A = List ℕ} 3 (Some 5) []) 32773 ≡ Pushed.Late 32768 }
+    ensures first { push_answer (fresh_buffer {A = List ℕ} 3) 40000 ≡ Pushed.Held }
+{}
+
+/// What may go where 5 is due: 5 itself, and with a window of 3 the first of 6 to 8, but not of 6 to 7.
+pub fn packets_that_may_go()
+    ensures due { next_packet (buffer_state {A = List ℕ} 3 (Some 5) ((5, []) ∷ [])) ≡ Some (5, []) }
+    ensures passed { next_packet (buffer_state {A = List ℕ} 3 (Some 5) ((6, []) ∷ (8, []) ∷ []))
+        ≡ Some (6, []) }
+    ensures held { next_packet (buffer_state {A = List ℕ} 3 (Some 5) ((6, []) ∷ (7, []) ∷ [])) ≡ None }
+    ensures none { next_packet (fresh_buffer {A = List ℕ} 3) ≡ None }
+{}
+
+/// Places at the edges of what a network brings: with a window of 3 one is 2 before the newest and not
+/// 3, and 2^14 - 3 ahead of the one behind it and no more.
+pub fn reordered_places()
+    ensures none { IsReordered 3 [] }
+    ensures held { IsReordered 3 (7 ∷ 5 ∷ []) }
+    ensures passed { IsReordered 3 (7 ∷ 4 ∷ []) → ⊥ }
+    ensures twice { IsReordered 3 (7 ∷ 7 ∷ []) }
+    ensures ahead { IsReordered 3 (0 ∷ 16382 ∷ []) }
+    ensures too_far { IsReordered 3 (0 ∷ 16383 ∷ []) → ⊥ }
+{}
+
+/// A network that brings the last fragment before the middle one, and the first one twice: numbered
+/// on from 65535, a buffer gives them out in the order of sending.
+pub fn a_network()
+    ensures is { IsNetwork 3 (fresh_packetizer_state h264)
+        (fresh_call 3 (0x65 ∷ 0x01 ∷ 0x02 ∷ 0x03 ∷ []) ∷ []) (0 ∷ 2 ∷ 0 ∷ 1 ∷ []) }
+    ensures given { released_packets 3 (fresh_packetizer_state h264)
+        (fresh_call 3 (0x65 ∷ 0x01 ∷ 0x02 ∷ 0x03 ∷ []) ∷ []) 65535 (0 ∷ 2 ∷ 0 ∷ 1 ∷ [])
+        ≡ (65535, 0x7c ∷ 0x85 ∷ 0x01 ∷ []) ∷ (0, 0x7c ∷ 0x05 ∷ 0x02 ∷ [])
+        ∷ (1, 0x7c ∷ 0x45 ∷ 0x03 ∷ []) ∷ [] }
+{}
+
+/// Access units, each of units in packets of their own: the marker ends the first, and another
+/// timestamp the second. Each is known to be whole but the first of all, since a packet before its
+/// first may be missing; behind a gap, and where a gap may be in it, it isn't.
+pub fn access_units_by_marker_and_timestamp()
+    ensures not_ended { (after_all_rtp 4 (fresh_units (fresh_depacketizer_state h264))
+        ((7, rtp_body 3000 false (0x65 ∷ 0x01 ∷ [])) ∷ []) (Ok Received.InOrder ∷ [])).ended ≡ [] }
+    ensures whole { map {B = ℕ × Bool} (λ u. (u.timestamp, u.is_whole))
+        (after_all_rtp 4 (fresh_units (fresh_depacketizer_state h264))
+        ((7, rtp_body 3000 true (0x65 ∷ 0x01 ∷ [])) ∷ (8, rtp_body 6000 false (0x61 ∷ 0x02 ∷ []))
+        ∷ (9, rtp_body 9000 true (0x61 ∷ 0x03 ∷ [])) ∷ [])
+        (Ok Received.InOrder ∷ Ok Received.InOrder ∷ Ok Received.InOrder ∷ [])).ended
+        ≡ (3000, false) ∷ (6000, true) ∷ (9000, true) ∷ [] }
+    ensures text { map (λ u. u.bytes)
+        (after_all_rtp 4 (fresh_units (fresh_depacketizer_state h264))
+        ((7, rtp_body 3000 false (0x65 ∷ 0x01 ∷ [])) ∷ (8, rtp_body 3000 true (0x65 ∷ 0x02 ∷ []))
+        ∷ (9, rtp_body 6000 true (0x61 ∷ 0x03 ∷ [])) ∷ [])
+        (Ok Received.InOrder ∷ Ok Received.InOrder ∷ Ok Received.InOrder ∷ [])).ended
+        ≡ (0x00 ∷ 0x00 ∷ 0x00 ∷ 0x01 ∷ 0x65 ∷ 0x01 ∷ 0x00 ∷ 0x00 ∷ 0x00 ∷ 0x01 ∷ 0x65 ∷ 0x02 ∷ [])
+        ∷ (0x00 ∷ 0x00 ∷ 0x00 ∷ 0x01 ∷ 0x61 ∷ 0x03 ∷ []) ∷ [] }
+    ensures gap { map {B = ℕ × Bool} (λ u. (u.timestamp, u.is_whole))
+        (after_all_rtp 4 (fresh_units (fresh_depacketizer_state h264))
+        ((7, rtp_body 3000 true (0x65 ∷ 0x01 ∷ [])) ∷ (8, rtp_body 6000 false (0x61 ∷ 0x02 ∷ []))
+        ∷ (10, rtp_body 9000 true (0x61 ∷ 0x03 ∷ [])) ∷ (11, rtp_body 12000 true (0x61 ∷ []))
+        ∷ []) (Ok Received.InOrder ∷ Ok Received.InOrder ∷ Ok (Received.Gap 1)
+        ∷ Ok Received.InOrder ∷ [])).ended
+        ≡ (3000, false) ∷ (6000, false) ∷ (9000, false) ∷ (12000, true) ∷ [] }
+    ensures at_the_end { map {B = ℕ × Bool} (λ u. (u.timestamp, u.is_whole))
+        (after_end (after_all_rtp 4 (fresh_units (fresh_depacketizer_state h264))
+        ((7, rtp_body 3000 true (0x65 ∷ [])) ∷ (8, rtp_body 6000 false (0x61 ∷ [])) ∷ [])
+        (Ok Received.InOrder ∷ Ok Received.InOrder ∷ []))).ended
+        ≡ (3000, false) ∷ (6000, false) ∷ [] }
+{}
+
+/// Two calls, the first of three fragments: their packets, and what is left of them where all came,
+/// where the middle fragment is missing, and where nothing came of the first.
+pub fn access_units_left()
+    ensures sent { sent_bodies (fresh_packetizer_state h264)
+        (stamped_call 3000 (fresh_call 3 (0x65 ∷ 0x01 ∷ 0x02 ∷ 0x03 ∷ []))
+        ∷ stamped_call 6000 (fresh_call 3 (0x61 ∷ 0x05 ∷ [])) ∷ [])
+        ≡ rtp_body 3000 false (0x7c ∷ 0x85 ∷ 0x01 ∷ [])
+        ∷ rtp_body 3000 false (0x7c ∷ 0x05 ∷ 0x02 ∷ [])
+        ∷ rtp_body 3000 true (0x7c ∷ 0x45 ∷ 0x03 ∷ [])
+        ∷ rtp_body 6000 true (0x61 ∷ 0x05 ∷ []) ∷ [] }
+    ensures all { map {B = ℕ × List ℕ × Bool} (λ u. (u.timestamp, u.bytes, u.is_whole))
+        (units_left 4 (fresh_packetizer_state h264) false true
+        (stamped_call 3000 (fresh_call 3 (0x65 ∷ 0x01 ∷ 0x02 ∷ 0x03 ∷ []))
+        ∷ stamped_call 6000 (fresh_call 3 (0x61 ∷ 0x05 ∷ [])) ∷ [])
+        (true ∷ true ∷ true ∷ true ∷ []))
+        ≡ (3000, 0x00 ∷ 0x00 ∷ 0x00 ∷ 0x01 ∷ 0x65 ∷ 0x01 ∷ 0x02 ∷ 0x03 ∷ [], true)
+        ∷ (6000, 0x00 ∷ 0x00 ∷ 0x00 ∷ 0x01 ∷ 0x61 ∷ 0x05 ∷ [], true) ∷ [] }
+    ensures middle { map {B = ℕ × List ℕ × Bool} (λ u. (u.timestamp, u.bytes, u.is_whole))
+        (units_left 4 (fresh_packetizer_state h264) false true
+        (stamped_call 3000 (fresh_call 3 (0x65 ∷ 0x01 ∷ 0x02 ∷ 0x03 ∷ []))
+        ∷ stamped_call 6000 (fresh_call 3 (0x61 ∷ 0x05 ∷ [])) ∷ [])
+        (true ∷ false ∷ true ∷ true ∷ []))
+        ≡ (3000, [], false)
+        ∷ (6000, 0x00 ∷ 0x00 ∷ 0x00 ∷ 0x01 ∷ 0x61 ∷ 0x05 ∷ [], true) ∷ [] }
+    ensures none { map {B = ℕ × List ℕ × Bool} (λ u. (u.timestamp, u.bytes, u.is_whole))
+        (units_left 4 (fresh_packetizer_state h264) false true
+        (stamped_call 3000 (fresh_call 3 (0x65 ∷ 0x01 ∷ 0x02 ∷ 0x03 ∷ []))
+        ∷ stamped_call 6000 (fresh_call 3 (0x61 ∷ 0x05 ∷ [])) ∷ [])
+        (false ∷ false ∷ false ∷ true ∷ []))
+        ≡ (6000, 0x00 ∷ 0x00 ∷ 0x00 ∷ 0x01 ∷ 0x61 ∷ 0x05 ∷ [], false) ∷ [] }
+    ensures too_long { map {B = ℕ × List ℕ × Bool} (λ u. (u.timestamp, u.bytes, u.is_whole))
+        (units_left 1 (fresh_packetizer_state h264) false true
+        (stamped_call 3000 (fresh_call 3 (0x65 ∷ 0x01 ∷ 0x02 ∷ 0x03 ∷ [])) ∷ [])
+        (true ∷ true ∷ true ∷ []))
+        ≡ (3000, [], false) ∷ [] }
+{}
+
+/// A stream of two calls, numbered on from 65535, of which the middle fragment is missing; what is
+/// left of it bears timestamps apart.
+pub fn a_stream()
+    ensures is { IsStream (fresh_packetizer_state h264)
+        (stamped_call 3000 (fresh_call 3 (0x65 ∷ 0x01 ∷ 0x02 ∷ 0x03 ∷ []))
+        ∷ stamped_call 6000 (fresh_call 3 (0x61 ∷ 0x05 ∷ [])) ∷ [])
+        65535 true (0 ∷ 2 ∷ 3 ∷ [])
+        ((65535, rtp_body 3000 false (0x7c ∷ 0x85 ∷ 0x01 ∷ []))
+        ∷ (1, rtp_body 3000 true (0x7c ∷ 0x45 ∷ 0x03 ∷ []))
+        ∷ (2, rtp_body 6000 true (0x61 ∷ 0x05 ∷ [])) ∷ []) }
+    ensures apart { AreApart (units_left 4 (fresh_packetizer_state h264) false true
+        (stamped_call 3000 (fresh_call 3 (0x65 ∷ 0x01 ∷ 0x02 ∷ 0x03 ∷ []))
+        ∷ stamped_call 6000 (fresh_call 3 (0x61 ∷ 0x05 ∷ [])) ∷ [])
+        (true ∷ false ∷ true ∷ true ∷ [])) }
+    ensures answers { HaveUnitAnswers 4 (fresh_units (fresh_depacketizer_state h264))
+        ((65535, rtp_body 3000 false (0x7c ∷ 0x85 ∷ 0x01 ∷ []))
+        ∷ (1, rtp_body 3000 true (0x7c ∷ 0x45 ∷ 0x03 ∷ []))
+        ∷ (2, rtp_body 6000 true (0x61 ∷ 0x05 ∷ [])) ∷ [])
+        (Ok Received.InOrder ∷ Ok (Received.Gap 1) ∷ Ok Received.InOrder ∷ []) }
+{}
+
+/// What a network brings of the packets of two calls: the last fragment before the middle one, and
+/// the first one twice.
+pub fn a_brought_stream()
+    ensures { IsBroughtStream 3 (fresh_packetizer_state h264)
+        (stamped_call 3000 (fresh_call 3 (0x65 ∷ 0x01 ∷ 0x02 ∷ 0x03 ∷ []))
+        ∷ stamped_call 6000 (fresh_call 3 (0x61 ∷ 0x05 ∷ [])) ∷ [])
+        65535 false (0 ∷ 2 ∷ 0 ∷ 1 ∷ 3 ∷ [])
+        ((65535, rtp_body 3000 false (0x7c ∷ 0x85 ∷ 0x01 ∷ []))
+        ∷ (1, rtp_body 3000 true (0x7c ∷ 0x45 ∷ 0x03 ∷ []))
+        ∷ (65535, rtp_body 3000 false (0x7c ∷ 0x85 ∷ 0x01 ∷ []))
+        ∷ (0, rtp_body 3000 false (0x7c ∷ 0x05 ∷ 0x02 ∷ []))
+        ∷ (2, rtp_body 6000 true (0x61 ∷ 0x05 ∷ [])) ∷ []) }
+{}

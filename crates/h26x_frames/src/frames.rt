@@ -1,0 +1,82 @@
+//! RTP packets, any whatever, through a buffer and a receiver.
+
+ghost use Rattle.std.specs.Prelude.{◌≡◌, ◌<◌, ◌≤◌, ◌^◌, ◌++◌, false, IfOk, OnErr, Err, None, map};
+ghost use Rattle.h26x_model.specs.Receive.RunLimit.{run_len};
+ghost use Rattle.h26x_receiver.specs.Delivery.{NoneIsRefused};
+ghost use Rattle.h26x_frames.specs.ReorderBuffer.{reordered};
+ghost use Rattle.h26x_frames.specs.AccessUnit.{access_unit_value, unit_depacketization, given_out, AreUnitsReceived};
+ghost use Rattle.h26x_frames.specs.StampedCalls.{AreAccessUnitsBrought};
+
+use crate::access_unit::AccessUnit;
+use crate::packet::RtpPacket;
+use crate::receiver::FrameReceiver;
+use crate::reorder::reorder_all;
+use h26x_core::PacketError;
+use h26x_model::laws;
+use h26x_receiver::{Received, RunDepacketizer};
+use std::alloc::Global;
+
+/// Puts packets in the order of their sequence numbers through a buffer with this window, at most
+/// 2^14, and gives them to a receiver, in that order; the access units that they end are appended to
+/// `out`, and what became of each packet that the buffer gave out is answered. One that is refused is
+/// passed over. The access unit of the last packets stays open where its marker is missing:
+/// [`FrameReceiver::end`] gives it out.
+///
+/// Room for the packets and the answers is taken first; where there is none the error is
+/// `OutOfMemory`, and nothing was taken.
+///
+/// ```rust
+/// receive_frames(alloc, &mut receiver, 64, &packets, &mut units)?;
+/// receiver.end(&mut units)?;
+/// ```
+pub fn receive_frames<D: RunDepacketizer>(
+    alloc: Global,
+    receiver: &mut FrameReceiver<D>,
+    window: u16,
+    packets: &[RtpPacket<'_>],
+    out: &mut Vec<AccessUnit>,
+) -> Result<Vec<Result<Received, PacketError>>, PacketError>
+    requires some { 0 < window }
+    requires half { window ≤ 2 ^ 14 }
+
+    // Any packets whatever: the answer for each that the buffer gave out by what those before it
+    // left, and what stands after them.
+    ensures received { IfOk result (λ answers. AreUnitsReceived receiver.old.packets.run_limit
+        (unit_depacketization (D.state receiver.old.packets.depacketizer)
+        receiver.old.packets.expected receiver.old.unit (map access_unit_value out.old.items))
+        (reordered window packets.now) answers.items
+        (unit_depacketization (D.state receiver.new.packets.depacketizer)
+        receiver.new.packets.expected receiver.new.unit (map access_unit_value out.new.items))) }
+
+    // Where they are what a network brings of the packets of calls with timestamps, with losses, in
+    // another order and twice, and none is refused: the access units, with the one that is open, are
+    // what the packets that came leave of the calls, in order.
+    ensures in_order { receiver.old.unit ≡ None →
+        IfOk result (λ answers. NoneIsRefused answers.items →
+        AreAccessUnitsBrought window receiver.old.packets.run_limit
+        (unit_depacketization (D.state receiver.old.packets.depacketizer)
+        receiver.old.packets.expected receiver.old.unit (map access_unit_value out.old.items))
+        packets.now (map access_unit_value out.new.items ++ given_out false receiver.new.unit)) }
+
+    // The run that is open is within the limit.
+    ensures bounded { run_len (D.state receiver.old.packets.depacketizer).run
+        ≤ receiver.old.packets.run_limit →
+        run_len (D.state receiver.new.packets.depacketizer).run ≤ receiver.old.packets.run_limit }
+    ensures limit { receiver.new.packets.run_limit ≡ receiver.old.packets.run_limit }
+
+    // Without room for the packets and the answers nothing was taken.
+    ensures memory { OnErr result (result ≡ Err PacketError.OutOfMemory) }
+    ensures left { OnErr result (receiver.new ≡ receiver.old) }
+    ensures left_out { OnErr result (out.new ≡ out.old) }
+{
+    receiver.packets.depacketizer.meets_the_facts();
+    laws::nothing_is_damaged();
+    laws::packetizers_go_on();
+    let ordered = reorder_all(alloc, window, packets)?;
+    let mut answers = Vec::with_capacity(alloc, ordered.len())?;
+    for held in &ordered {
+        let answer = receiver.receive(&held.packet(), out);
+        answers.push(answer).unwrap();
+    }
+    Ok(answers)
+}

@@ -1,0 +1,104 @@
+//! Laws of the definitions, each the contract of a function without a result.
+
+ghost use Rattle.std.specs.Prelude.{◌≡◌, ◌^◌, ◌<◌, ◌≤◌, ℕ, Bool, List, [], ◌∷◌, None, Some, Result, length};
+ghost use Rattle.std.specs.List.{AllByRecursion};
+ghost use Rattle.h26x_core.specs.declared.error.PacketError.{PacketError};
+ghost use Rattle.h26x_model.specs.Payload.Facts.{IsPayloadFormat};
+ghost use Rattle.h26x_model.specs.Send.PacketizerState.{PacketizerState};
+ghost use Rattle.h26x_model.specs.Receive.DepacketizerState.{Depacketization};
+ghost use Rattle.h26x_receiver.specs.declared.received.Received.{Received};
+ghost use Rattle.h26x_receiver.specs.Delivery.{NoneIsRefused};
+ghost use Rattle.h26x_frames.specs.Rtp.{RtpBody};
+ghost use Rattle.h26x_frames.specs.AccessUnit.{UnitDepacketization, after_all_rtp, after_end, HaveUnitAnswers};
+ghost use Rattle.h26x_frames.specs.StampedCalls.{StampedCall, sent_bodies, units_left, sent_units, AreStreamed, AreAccessUnitsLeft, AreAccessUnitsBrought, IsSentIfWhole, IsLeftWhole};
+ghost use Rattle.h26x_frames.specs.Network.{UnitsComeThrough};
+ghost use Rattle.h26x_frames.specs.Reordering.{ReordersWithinWindow};
+ghost use Rattle.h26x_frames.specs.ReorderBuffer.{BufferState, next_packet, without_first, IsReadyStep, IsNothingReady, reordered, IsPutInOrder};
+
+use h26x_model::laws as model_laws;
+use h26x_receiver::laws;
+
+/// Where each packet comes within the window, what a buffer gives out is what came, each once, in
+/// order.
+pub fn packets_are_put_in_order()
+    ensures { (window : ℕ) → ReordersWithinWindow window }
+{}
+
+/// So it is by numbers, for a caller with a loop of its own over `push` and `pop`: of packets of any
+/// list, numbered on from any number, that come reordered within the window, the buffer gives out
+/// what came, each once, in the order of sending.
+pub fn numbered_packets_are_put_in_order()
+    ensures { (window : ℕ) (packets : List (ℕ × RtpBody)) → 0 < window → window ≤ 2 ^ 14 →
+        IsPutInOrder window packets (reordered window packets) }
+{}
+
+/// What may go of a buffer is what `pop` gives out, one after the other, until it gives out none.
+pub fn packets_go_one_by_one()
+    ensures step { (b : BufferState RtpBody) (p : ℕ × RtpBody) → next_packet b ≡ Some p →
+        IsReadyStep b p (without_first b) }
+    ensures end { (b : BufferState RtpBody) → next_packet b ≡ None → IsNothingReady b }
+{}
+
+/// Through a network that loses, repeats and reorders packets, and a buffer: the units of the items
+/// of which each packet came are written, in the order of sending, and nothing else.
+pub fn units_come_through_a_network()
+    ensures { (window most : ℕ) (w : Depacketization) → 0 < window → window ≤ 2 ^ 14 →
+        IsPayloadFormat w.state.format → UnitsComeThrough window most w }
+{
+    laws::those_that_came_are_written();
+}
+
+/// Of packets of calls with timestamps, numbered on, that come in order, some of them missing: the
+/// access units that a receiver gives out, with what is open at the end, are what those packets leave
+/// of the calls.
+pub fn access_units_are_those_left()
+    ensures { (most : ℕ) (w : UnitDepacketization) (packets : List (ℕ × RtpBody))
+        (answers : List (Result Received PacketError)) → IsPayloadFormat w.state.format →
+        w.unit ≡ None → HaveUnitAnswers most w packets answers → NoneIsRefused answers →
+        AreAccessUnitsLeft most w packets (after_end (after_all_rtp most w packets answers)).ended }
+{
+    model_laws::nothing_is_damaged();
+    model_laws::packetizers_go_on();
+}
+
+/// What is told to be whole of what packets leave of calls is what was sent: its timestamp, its text
+/// byte for byte, and what is told of it.
+pub fn whole_access_units_are_those_sent()
+    ensures { (most : ℕ) (s : PacketizerState) (avc before : Bool) (calls : List StampedCall)
+        (mask : List Bool) → IsPayloadFormat s.format → AreStreamed s calls →
+        length mask ≡ length (sent_bodies s calls) →
+        AllByRecursion (IsSentIfWhole (sent_units s avc calls))
+        (units_left most s avc before calls mask) }
+{
+    model_laws::nothing_is_damaged();
+    model_laws::packetizers_go_on();
+    model_laws::depacketizers_go_on();
+    model_laws::what_calls_send_is_carried();
+}
+
+/// Through a network that loses, repeats and reorders packets, and a buffer: the access units that a
+/// receiver gives out, with what is open at the end, are what the packets that came leave of the
+/// calls.
+pub fn access_units_come_through_a_network()
+    ensures { (window most : ℕ) (w : UnitDepacketization) (packets : List (ℕ × RtpBody))
+        (answers : List (Result Received PacketError)) → 0 < window → window ≤ 2 ^ 14 →
+        IsPayloadFormat w.state.format → w.unit ≡ None →
+        HaveUnitAnswers most w (reordered window packets) answers → NoneIsRefused answers →
+        AreAccessUnitsBrought window most w packets
+        (after_end (after_all_rtp most w (reordered window packets) answers)).ended }
+{
+    model_laws::nothing_is_damaged();
+    model_laws::packetizers_go_on();
+}
+
+/// An access unit each packet of which came, and the packet before them, is given out as it was sent
+/// and told to be whole, where its packets together are no longer than the limit on the open run.
+pub fn access_units_that_came_are_whole()
+    ensures { (most : ℕ) (s : PacketizerState) (avc : Bool) (c : StampedCall) (mask : List Bool) →
+        IsPayloadFormat s.format → AreStreamed s (c ∷ []) → IsLeftWhole most s avc c mask }
+{
+    model_laws::nothing_is_damaged();
+    model_laws::depacketizers_go_on();
+    model_laws::what_calls_send_is_carried();
+    model_laws::runs_grow_by_their_packets();
+}

@@ -1,0 +1,19 @@
+//! Packets that a network brings in any order, put in the order of their sequence numbers (RFC 3550,
+//! 5.1), and what is written of them.
+#![tactic(auto)]
+
+mod access_unit;
+mod buffer;
+mod cases;
+mod frames;
+pub mod laws;
+mod packet;
+mod receiver;
+mod reorder;
+
+pub use access_unit::{AccessUnit, OpenAccessUnit};
+pub use buffer::{HeldPacket, Pushed, ReorderBuffer};
+pub use frames::receive_frames;
+pub use packet::RtpPacket;
+pub use receiver::FrameReceiver;
+pub use reorder::reorder_all;

@@ -1,0 +1,292 @@
+//! A receiver that gives out access units.
+
+ghost use Rattle.std.specs.Prelude.{◌≡◌, ◌+◌, ◌≤◌, ◌++◌, ◌∷◌, ℕ, true, false, None, Some, Ok, Err, OnOk, OnErr, map, vec_len, vec_capacity, if◌then◌else◌, MatchBool};
+ghost use Rattle.h26x_model.specs.Receive.RunLimit.{run_len, state_with_run};
+ghost use Rattle.h26x_receiver.specs.Sequence.{is_expected};
+ghost use Rattle.h26x_receiver.specs.Sequenced.{sequenced_depacketization, IsSequencedAnswer, after_taken_packet, is_taken};
+ghost use Rattle.h26x_frames.specs.AccessUnit.{access_unit_value, is_unit_at, unit_depacketization, IsTakenAnswer, IsUnitAnswer, after_rtp, after_end, is_run_too_long};
+
+use crate::access_unit::{AccessUnit, OpenAccessUnit};
+use crate::packet::RtpPacket;
+use h26x_core::PacketError;
+use h26x_payload::OpenRun;
+use h26x_receiver::{Received, RunDepacketizer, SequencedDepacketizer};
+use std::alloc::Global;
+
+/// Whether a sequence number is the one expected.
+fn is_next(expected: Option<u16>, sequence: u16) -> bool
+    ensures { result ≡ is_expected expected sequence }
+{
+    match expected {
+        Some(expected) => sequence == expected,
+        None => false,
+    }
+}
+
+/// Whether a packet was taken.
+fn was_taken(received: &Result<Received, PacketError>) -> bool
+    ensures { result ≡ is_taken received.now }
+{
+    match received {
+        Ok(received) => received.is_taken(),
+        Err(_) => false,
+    }
+}
+
+/// Whether a packet that was taken follows the one before it, and left no run that was too long.
+fn is_sound(follows: bool, received: &Result<Received, PacketError>) -> bool
+    ensures { result ≡ (if is_run_too_long received.now then false else follows) }
+{
+    match received {
+        Ok(Received::TooLong(_)) => false,
+        _ => follows,
+    }
+}
+
+/// Takes a packet where no run is open: the one that was is given up once the packet is taken.
+fn receive_anew<D: RunDepacketizer>(
+    alloc: Global,
+    packets: &mut SequencedDepacketizer<D>,
+    packet: &RtpPacket<'_>,
+    unit: &mut AccessUnit,
+) -> Result<Received, PacketError>
+    ensures answer { IsSequencedAnswer packets.old.run_limit (sequenced_depacketization
+        (state_with_run (D.state packets.old.depacketizer) None) packets.old.expected
+        unit.old.bytes.items unit.old.extra) packet.now.0 packet.now.1.payload result }
+    ensures after { MatchBool (is_taken result)
+        (sequenced_depacketization (D.state packets.new.depacketizer) packets.new.expected
+        unit.new.bytes.items unit.new.extra
+        ≡ after_taken_packet packets.old.run_limit (sequenced_depacketization
+        (state_with_run (D.state packets.old.depacketizer) None) packets.old.expected
+        unit.old.bytes.items unit.old.extra) packet.now.0 packet.now.1.payload)
+        (packets.new ≡ packets.old) }
+    ensures rest { is_taken result ≡ true → D.with_run None packets.new.depacketizer
+        ≡ D.with_run None (D.having_taken packet.now.1.payload packets.old.depacketizer) }
+    ensures limit { packets.new.run_limit ≡ packets.old.run_limit }
+    ensures bounded { run_len (D.state packets.old.depacketizer).run ≤ packets.old.run_limit →
+        run_len (D.state packets.new.depacketizer).run ≤ packets.old.run_limit }
+    ensures same { (unit.new.timestamp ≡ unit.old.timestamp)
+        × (unit.new.is_whole ≡ unit.old.is_whole) }
+{
+    let mut run = OpenRun::none(alloc);
+    packets.depacketizer.swap_run(&mut run);
+    let received = packets.receive(
+        packet.sequence,
+        packet.payload,
+        &mut unit.bytes,
+        &mut unit.extra,
+    );
+    if !was_taken(&received) {
+        packets.depacketizer.swap_run(&mut run);
+    }
+    received
+}
+
+/// Takes a packet into the access unit that was open.
+fn go_on<D: RunDepacketizer>(
+    packets: &mut SequencedDepacketizer<D>,
+    place: &mut OpenAccessUnit,
+    mut unit: AccessUnit,
+    packet: &RtpPacket<'_>,
+    out: &mut Vec<AccessUnit>,
+) -> Result<Received, PacketError>
+    requires same { unit.timestamp ≡ packet.now.1.timestamp }
+    requires room { vec_len out.old + 2 ≤ vec_capacity out.old }
+    ensures answer { IsTakenAnswer packets.old.run_limit (unit_depacketization
+        (D.state packets.old.depacketizer) packets.old.expected (Some (access_unit_value unit))
+        (map access_unit_value out.old.items))
+        packet.now result }
+    ensures after { unit_depacketization (D.state packets.new.depacketizer) packets.new.expected
+        place.new (map access_unit_value out.new.items)
+        ≡ after_rtp packets.old.run_limit (unit_depacketization
+        (D.state packets.old.depacketizer) packets.old.expected (Some (access_unit_value unit))
+        (map access_unit_value out.old.items))
+        packet.now result }
+    ensures rest { is_taken result ≡ true → D.with_run None packets.new.depacketizer
+        ≡ D.with_run None (D.having_taken packet.now.1.payload packets.old.depacketizer) }
+    ensures limit { packets.new.run_limit ≡ packets.old.run_limit }
+    ensures bounded { run_len (D.state packets.old.depacketizer).run ≤ packets.old.run_limit →
+        run_len (D.state packets.new.depacketizer).run ≤ packets.old.run_limit }
+    ensures kept { MatchBool (is_taken result) (Unit {0}) ((packets.new ≡ packets.old)
+        × (place.new ≡ Some (access_unit_value unit)) × (out.new.items ≡ out.old.items)) }
+{
+    let follows = is_next(packets.expected, packet.sequence);
+    let received = packets.receive(
+        packet.sequence,
+        packet.payload,
+        &mut unit.bytes,
+        &mut unit.extra,
+    );
+    if was_taken(&received) {
+        let is_sound = is_sound(follows, &received);
+        place.put(unit, is_sound, packet.marker, out);
+    } else {
+        place.put_back(unit);
+    }
+    received
+}
+
+/// Takes a packet as the first of an access unit: the one that is open ends.
+fn begin<D: RunDepacketizer>(
+    alloc: Global,
+    packets: &mut SequencedDepacketizer<D>,
+    place: &mut OpenAccessUnit,
+    packet: &RtpPacket<'_>,
+    out: &mut Vec<AccessUnit>,
+) -> Result<Received, PacketError>
+    requires other { is_unit_at place.old packet.now.1.timestamp ≡ false }
+    requires room { vec_len out.old + 2 ≤ vec_capacity out.old }
+    ensures answer { IsTakenAnswer packets.old.run_limit (unit_depacketization
+        (D.state packets.old.depacketizer) packets.old.expected place.old
+        (map access_unit_value out.old.items))
+        packet.now result }
+    ensures after { unit_depacketization (D.state packets.new.depacketizer) packets.new.expected
+        place.new (map access_unit_value out.new.items)
+        ≡ after_rtp packets.old.run_limit (unit_depacketization
+        (D.state packets.old.depacketizer) packets.old.expected place.old
+        (map access_unit_value out.old.items))
+        packet.now result }
+    ensures rest { is_taken result ≡ true → D.with_run None packets.new.depacketizer
+        ≡ D.with_run None (D.having_taken packet.now.1.payload packets.old.depacketizer) }
+    ensures limit { packets.new.run_limit ≡ packets.old.run_limit }
+    ensures bounded { run_len (D.state packets.old.depacketizer).run ≤ packets.old.run_limit →
+        run_len (D.state packets.new.depacketizer).run ≤ packets.old.run_limit }
+    ensures kept { MatchBool (is_taken result) (Unit {0}) ((packets.new ≡ packets.old)
+        × (place.new ≡ place.old) × (out.new.items ≡ out.old.items)) }
+{
+    let follows = is_next(packets.expected, packet.sequence);
+    let mut unit = AccessUnit::empty(alloc, packet.timestamp);
+    let received = receive_anew(alloc, packets, packet, &mut unit);
+    if !was_taken(&received) {
+        return received;
+    }
+    let is_sound = is_sound(follows, &received);
+    place.end(follows, out);
+    place.put(unit, is_sound, packet.marker, out);
+    received
+}
+
+/// Gives out access units, by the timestamps and markers of RTP packets (RFC 3550, 5.1), over a
+/// [`SequencedDepacketizer`]: nothing of a unit of which a packet is missing, and of each access unit
+/// whether it is known to be whole.
+///
+/// ```rust
+/// let depacketizer = H264Depacketizer::new(alloc);
+/// let packets = SequencedDepacketizer::new(alloc, depacketizer, 4_000_000);
+/// let mut receiver = FrameReceiver::new(alloc, packets);
+/// let packet = RtpPacket { sequence, timestamp, marker, payload };
+/// receiver.receive(&packet, &mut units)?;
+/// for unit in units.drain(..) {
+///     decode(unit.timestamp, &unit.bytes, unit.is_whole);
+/// }
+/// ```
+#[derive(Debug, Drop)]
+pub struct FrameReceiver<D: RunDepacketizer> {
+    /// The depacketizer, with the sequence number that is expected next and the limit on its open
+    /// run. Where the peer tells the number of its first packet, as in the RTP-Info of RTSP (RFC
+    /// 2326, 12.33), set `expected` to it: the first access unit can then be known to be whole too.
+    pub packets: SequencedDepacketizer<D>,
+    /// The access unit that is open.
+    pub unit: OpenAccessUnit,
+    alloc: Global,
+}
+
+impl<D: RunDepacketizer> FrameReceiver<D> {
+    /// A receiver for which no access unit is open. A run that is open in the depacketizer is given
+    /// up with the first packet. It takes no memory.
+    pub fn new(alloc: Global, packets: SequencedDepacketizer<D>) -> Self
+        ensures packets { result.packets ≡ packets }
+        ensures unit { result.unit ≡ None }
+    {
+        FrameReceiver {
+            packets,
+            unit: OpenAccessUnit::none(),
+            alloc,
+        }
+    }
+
+    /// Takes a packet, and appends the access units that it ends to `out`: another timestamp ends the
+    /// one that is open, and gives up the open run, and the marker ends that of the packet itself; so
+    /// there are two at most.
+    ///
+    /// The answer is that of [`SequencedDepacketizer::receive`]. A packet that is late, comes twice
+    /// or is refused changes nothing, nor `out`: it is as if it had not come, and one refused for
+    /// want of memory can be given again. The errors are those of the depacketizer.
+    ///
+    /// The open run is within its limit after each packet. The access unit that is open holds what
+    /// its packets complete, and a peer that sends neither a marker nor another timestamp makes it as
+    /// long as it likes: against such a peer look at `unit.bytes_len()`, and `restart`.
+    pub fn receive(
+        &mut self,
+        packet: &RtpPacket<'_>,
+        out: &mut Vec<AccessUnit>,
+    ) -> Result<Received, PacketError>
+        // What is answered, and what stands afterwards.
+        ensures answer { IsUnitAnswer self.old.packets.run_limit (unit_depacketization
+            (D.state self.old.packets.depacketizer) self.old.packets.expected self.old.unit
+            (map access_unit_value out.old.items)) packet.now result }
+        ensures after { unit_depacketization (D.state self.new.packets.depacketizer)
+            self.new.packets.expected self.new.unit (map access_unit_value out.new.items)
+            ≡ after_rtp self.old.packets.run_limit (unit_depacketization
+            (D.state self.old.packets.depacketizer) self.old.packets.expected self.old.unit
+            (map access_unit_value out.old.items)) packet.now result }
+        ensures rest { is_taken result ≡ true → D.with_run None self.new.packets.depacketizer
+            ≡ D.with_run None (D.having_taken packet.now.1.payload
+            self.old.packets.depacketizer) }
+        ensures limit { self.new.packets.run_limit ≡ self.old.packets.run_limit }
+
+        // The open run is within the limit.
+        ensures bounded { run_len (D.state self.old.packets.depacketizer).run
+            ≤ self.old.packets.run_limit →
+            run_len (D.state self.new.packets.depacketizer).run ≤ self.old.packets.run_limit }
+
+        // A late packet and a refusal leave everything.
+        ensures late { (n : ℕ) → result ≡ Ok (Received.Late n) → self.new ≡ self.old }
+        ensures late_out { (n : ℕ) → result ≡ Ok (Received.Late n) →
+            out.new.items ≡ out.old.items }
+        ensures kept { OnErr result (self.new ≡ self.old) }
+        ensures kept_out { OnErr result (out.new.items ≡ out.old.items) }
+    {
+        out.reserve(2)?;
+        match self.unit.take_at(packet.timestamp) {
+            Some(unit) => go_on(&mut self.packets, &mut self.unit, unit, packet, out),
+            None => begin(self.alloc, &mut self.packets, &mut self.unit, packet, out),
+        }
+    }
+
+    /// At the end of a stream: appends the access unit that is open, which isn't known to be whole,
+    /// and gives up the open run. Any sequence number may be the next.
+    ///
+    /// Without memory the error is `OutOfMemory`, and everything is left.
+    pub fn end(&mut self, out: &mut Vec<AccessUnit>) -> Result<(), PacketError>
+        ensures after { OnOk result (unit_depacketization (D.state self.new.packets.depacketizer)
+            self.new.packets.expected self.new.unit (map access_unit_value out.new.items)
+            ≡ after_end (unit_depacketization (D.state self.old.packets.depacketizer)
+            self.old.packets.expected self.old.unit (map access_unit_value out.old.items))) }
+        ensures rest { OnOk result (self.new.packets.depacketizer
+            ≡ D.with_run None self.old.packets.depacketizer) }
+        ensures limit { self.new.packets.run_limit ≡ self.old.packets.run_limit }
+        ensures memory { OnErr result (result ≡ Err PacketError.OutOfMemory) }
+        ensures kept { OnErr result (self.new ≡ self.old) }
+        ensures kept_out { OnErr result (out.new.items ≡ out.old.items) }
+    {
+        out.reserve(1)?;
+        self.unit.end(false, out);
+        self.packets.restart();
+        Ok(())
+    }
+
+    /// Drops the access unit that is open, gives up the open run, and takes any sequence number as
+    /// the next: for a peer that begins anew, whose packets are late one after the other. It takes no
+    /// memory.
+    pub fn restart(&mut self)
+        ensures depacketizer { self.new.packets.depacketizer
+            ≡ D.with_run None self.old.packets.depacketizer }
+        ensures expected { self.new.packets.expected ≡ None }
+        ensures limit { self.new.packets.run_limit ≡ self.old.packets.run_limit }
+        ensures unit { self.new.unit ≡ None }
+    {
+        self.packets.restart();
+        self.unit = OpenAccessUnit::none();
+    }
+}

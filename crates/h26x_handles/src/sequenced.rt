@@ -1,0 +1,181 @@
+//! A receiver of packets with their sequence numbers, and what the last packet that it took completed
+//! and had no room for.
+
+ghost use Rattle.std.specs.Prelude.{◌≡◌, ◌≤◌, [], true, false, None, Err, IfOk, OnErr, length};
+ghost use Rattle.h26x_receiver.specs.AnyDepacketizer.{any_depacketizer_state, any_depacketizer_with_avc, any_depacketizer_with_donl, any_depacketizer_with_run, any_depacketizer_showing};
+ghost use Rattle.h26x_receiver.specs.Sequenced.{IsSequencedAnswer, is_taken};
+ghost use Rattle.h26x_handles.specs.Copies.{with_front, without_room};
+ghost use Rattle.h26x_handles.specs.States.{receiver_at_work, after_receiver_packet, receiver_run_len, fresh_receiver};
+
+use crate::copy::put_or_keep;
+use h26x_codec::Codec;
+use h26x_core::{CodecExtra, PacketError};
+use h26x_payload::MemorySink;
+use h26x_receiver::{AnyDepacketizer, Received, RunDepacketizer, SequencedDepacketizer};
+use std::alloc::Global;
+use std::marker::Model;
+
+/// A receiver of a codec's packets with their sequence numbers, and what the last packet that was
+/// taken completed and had no room for.
+#[derive(Drop)]
+pub struct SequencedEndpoint {
+    receiver: SequencedDepacketizer<AnyDepacketizer>,
+    written: Vec<u8>,
+    // Where a packet writes that has no room: what was kept before stays until one is taken.
+    spare: Vec<u8>,
+}
+
+impl Model for SequencedEndpoint {
+    ghost use Rattle.h26x_handles.specs.Endpoint.{SequencedEndpoint};
+
+    ghost Value = { SequencedEndpoint };
+
+    ghost view = { λ it. record {
+      depacketizer = it.receiver.depacketizer;
+      expected = it.receiver.expected;
+      run_limit = it.receiver.run_limit;
+      written = it.written.items;
+    } };
+}
+
+impl SequencedEndpoint {
+    /// A receiver that takes any sequence number as the first, and has completed nothing.
+    pub fn new(alloc: Global, codec: Codec, has_donl: bool, is_avc: bool, run_limit: usize) -> Self
+        ensures { result ≡ fresh_receiver codec has_donl is_avc run_limit }
+    {
+        let mut depacketizer = AnyDepacketizer::new(alloc, codec);
+        depacketizer.with_donl(has_donl);
+        depacketizer.with_avc(is_avc);
+        SequencedEndpoint {
+            receiver: SequencedDepacketizer::new(alloc, depacketizer, run_limit),
+            written: Vec::new(alloc),
+            spare: Vec::new(alloc),
+        }
+    }
+
+    /// The same receiver again, which expects the same number; not what it completed.
+    pub fn clone(&self, alloc: Global) -> Result<Self, PacketError>
+        ensures same { IfOk result (λ it. it ≡ record self.now { written = [] }) }
+        ensures memory { OnErr result (result ≡ Err PacketError.OutOfMemory) }
+    {
+        let depacketizer = self.receiver.depacketizer.clone()?;
+        let run_limit = self.receiver.run_limit;
+        let mut receiver = SequencedDepacketizer::new(alloc, depacketizer, run_limit);
+        receiver.expected = self.receiver.expected;
+        Ok(SequencedEndpoint {
+            receiver,
+            written: Vec::new(alloc),
+            spare: Vec::new(alloc),
+        })
+    }
+
+    /// Takes a packet with its sequence number. What it completes goes to the caller's memory where
+    /// there is room for it, and is kept where there is none; `written` then tells its bytes. A packet
+    /// that is late, comes twice or is refused leaves everything.
+    pub fn receive(
+        &mut self,
+        sequence: u16,
+        packet: &[u8],
+        to: &mut [u8],
+        written: &mut usize,
+        extra: &mut CodecExtra,
+    ) -> Result<Received, PacketError>
+        ensures answer { IsSequencedAnswer self.old.run_limit (receiver_at_work self.old extra.old)
+            sequence packet.now result }
+
+        // What stands after a packet that was taken.
+        ensures run { is_taken result ≡ true → any_depacketizer_state self.new.depacketizer
+            ≡ (after_receiver_packet self.old extra.old sequence packet.now).at_work.state }
+        ensures next { is_taken result ≡ true → self.new.expected
+            ≡ (after_receiver_packet self.old extra.old sequence packet.now).expected }
+        ensures told { is_taken result ≡ true → extra.new
+            ≡ (after_receiver_packet self.old extra.old sequence packet.now).at_work.extra }
+        ensures rest { is_taken result ≡ true → any_depacketizer_with_run None self.new.depacketizer
+            ≡ any_depacketizer_with_run None (any_depacketizer_showing packet.now
+            self.old.depacketizer) }
+        ensures count { is_taken result ≡ true → written.new ≡ length
+            (after_receiver_packet self.old extra.old sequence packet.now).at_work.out }
+        ensures put { is_taken result ≡ true → to.new ≡ with_front
+            (after_receiver_packet self.old extra.old sequence packet.now).at_work.out to.old }
+        ensures kept_output { is_taken result ≡ true → self.new.written ≡ without_room
+            (after_receiver_packet self.old extra.old sequence packet.now).at_work.out to.old }
+        ensures limit { self.new.run_limit ≡ self.old.run_limit }
+        ensures bounded { receiver_run_len self.old ≤ self.old.run_limit →
+            receiver_run_len self.new ≤ self.old.run_limit }
+
+        ensures kept { is_taken result ≡ false → self.new ≡ self.old }
+        ensures kept_to { is_taken result ≡ false → to.new ≡ to.old }
+        ensures kept_written { is_taken result ≡ false → written.new ≡ written.old }
+        ensures kept_extra { is_taken result ≡ false → extra.new ≡ extra.old }
+    {
+        let mut memory = MemorySink::new(to);
+        match self.receiver.receive(sequence, packet, &mut memory, extra) {
+            Ok(received) => {
+                if received.is_taken() {
+                    *written = memory.len();
+                    self.written.clear();
+                }
+                return Ok(received);
+            }
+            Err(PacketError::OutOfMemory) if memory.lacks_room() => {}
+            Err(error) => return Err(error),
+        }
+        self.spare.clear();
+        let received = self
+            .receiver
+            .receive(sequence, packet, &mut self.spare, extra)?;
+        if received.is_taken() {
+            *written = put_or_keep(&mut self.spare, to, &mut self.written);
+        }
+        Ok(received)
+    }
+
+    /// Gives up the open run, and takes any sequence number as the next.
+    pub fn restart(&mut self)
+        ensures { self.new ≡ record self.old {
+          depacketizer = any_depacketizer_with_run None self.old.depacketizer;
+          expected = None;
+        } }
+    {
+        self.receiver.restart();
+    }
+
+    /// Sets whether packets bear decoding order numbers; that of H.264 stays as it is.
+    pub fn with_donl(&mut self, has_donl: bool)
+        ensures { self.new ≡ record self.old {
+          depacketizer = any_depacketizer_with_donl has_donl self.old.depacketizer;
+        } }
+    {
+        self.receiver.depacketizer.with_donl(has_donl);
+    }
+
+    /// Sets whether units are written behind lengths or behind start codes.
+    pub fn with_avc(&mut self, is_avc: bool)
+        ensures { self.new ≡ record self.old {
+          depacketizer = any_depacketizer_with_avc is_avc self.old.depacketizer;
+        } }
+    {
+        self.receiver.depacketizer.with_avc(is_avc);
+    }
+
+    /// How many bytes the open run holds; none where none is open.
+    pub fn run_len(&self) -> usize
+        ensures { result ≡ receiver_run_len self.now }
+    {
+        self.receiver.depacketizer.run_len()
+    }
+
+    /// Its depacketizer.
+    pub fn depacketizer(&self) -> &AnyDepacketizer
+        ensures { result.now ≡ self.now.depacketizer }
+    {
+        &self.receiver.depacketizer
+    }
+
+    /// What the last packet that was taken completed and had no room for.
+    pub fn written(&self) -> &[u8]
+        ensures { result.now ≡ self.now.written }
+    {
+        self.written.as_slice()
+    }
+}

@@ -1,0 +1,104 @@
+//! A buffer for packets that come before earlier ones: one that is refused for memory leaves it, and
+//! can be given again.
+
+use crate::tries::Tries;
+use h26x_core::PacketError;
+use h26x_frames::{Pushed, ReorderBuffer, RtpPacket, reorder_all};
+use std::alloc::Global;
+use std::process::Abort;
+
+/// A packet of two bytes with this sequence number.
+fn packet_of(sequence: u16) -> RtpPacket<'static> {
+    RtpPacket {
+        sequence,
+        timestamp: 3000,
+        marker: true,
+        payload: &[0x61, 5],
+    }
+}
+
+/// Gives a packet to a buffer and compares the answer; a refusal leaves what it holds.
+fn push(
+    rt: &impl Abort,
+    tries: Tries,
+    buffer: &mut ReorderBuffer,
+    sequence: u16,
+    want: Pushed,
+) -> Result<(), PacketError> {
+    let count = buffer.len();
+    let pushed = match buffer.push(&packet_of(sequence)) {
+        Err(_) if tries == Tries::Twice => {
+            assert!(rt; buffer.len() == count);
+            buffer.push(&packet_of(sequence))?
+        }
+        answer => answer?,
+    };
+    assert!(rt; pushed == want);
+    Ok(())
+}
+
+/// Takes the next packet that may go, and compares its number.
+fn pop(rt: &impl Abort, buffer: &mut ReorderBuffer, want: Option<u16>) {
+    let number = match buffer.pop() {
+        Some(held) => {
+            let packet = held.packet();
+            assert!(rt; packet.payload == [0x61, 5].as_slice());
+            assert!(rt; packet.timestamp == 3000 && packet.marker);
+            Some(packet.sequence)
+        }
+        None => None,
+    };
+    assert!(rt; number == want);
+}
+
+/// Packets that come out of order, twice and late, the numbers round 65535.
+fn reorder(rt: &impl Abort, alloc: Global, tries: Tries) -> Result<(), PacketError> {
+    let mut buffer = ReorderBuffer::new(alloc, 3);
+    push(rt, tries, &mut buffer, 65535, Pushed::Held)?;
+    pop(rt, &mut buffer, None);
+    push(rt, tries, &mut buffer, 1, Pushed::Held)?;
+    push(rt, tries, &mut buffer, 1, Pushed::Twice)?;
+    pop(rt, &mut buffer, Some(65535));
+    pop(rt, &mut buffer, None);
+    push(rt, tries, &mut buffer, 65535, Pushed::Late(1))?;
+    push(rt, tries, &mut buffer, 0, Pushed::Held)?;
+    pop(rt, &mut buffer, Some(0));
+    pop(rt, &mut buffer, Some(1));
+    pop(rt, &mut buffer, None);
+    assert!(rt; buffer.is_empty());
+    Ok(())
+}
+
+#[test]
+fn packets_reordered_again(rt: HostRuntime) -> Result<(), PacketError> {
+    reorder(&rt, rt.alloc(), Tries::Twice)
+}
+
+#[test]
+fn packets_reordered_at_once(rt: HostRuntime) -> Result<(), PacketError> {
+    reorder(&rt, rt.alloc(), Tries::Once)
+}
+
+/// A list in another order, with a loss and one that comes twice.
+#[test]
+fn a_list_reordered_again(rt: HostRuntime) -> Result<(), PacketError> {
+    let packets = [9, 7, 8, 9, 11].map(packet_of);
+    let out = match reorder_all(rt.alloc(), 4, &packets) {
+        Err(_) => reorder_all(rt.alloc(), 4, &packets)?,
+        Ok(out) => out,
+    };
+    let want = [7, 8, 9, 11];
+    assert!(&rt; out.len() == want.len());
+    for (held, number) in out.iter().zip(&want) {
+        assert!(&rt; held.sequence == *number);
+    }
+    Ok(())
+}
+
+/// What is made, late, popped or begun anew.
+#[test]
+fn buffers_with_no_memory(rt: HostRuntime) {
+    let mut buffer = ReorderBuffer::new(rt.alloc(), 3);
+    assert!(&rt; buffer.is_empty() && buffer.pop().is_none() && buffer.pop_first().is_none());
+    buffer.restart();
+}

@@ -1,0 +1,27 @@
+-- What becomes of packets where the bytes of their buffer are written.
+use base.Fml.{Fml}
+use Rattle.std.specs.Prelude.{ℕ, ◌+◌, List, [], ◌∷◌, ◌++◌, length, take, drop}
+use Rattle.std.specs.Borrow.{MutBor, Lends, Array, u8}
+use Rattle.h26x_payload.specs.Buffer.{PacketBufferView}
+use Rattle.h26x_payload.specs.contracts.send.buffer.PacketBuffer as PacketBuffer
+
+-- a part with these bytes over its own, from its first on
+abbrev pub part_under : List ℕ → List ℕ → List ℕ
+part_under part bytes = take (length part) (bytes ++ drop (length bytes) part)
+
+-- packets with these bytes over theirs, where the first of them begins with its headroom at a place
+abbrev pub packets_under : ℕ → ℕ → List ℕ → List (List ℕ) → List (List ℕ)
+packets_under headroom start bytes [] = []
+packets_under headroom start bytes (packet ∷ packets) =
+    part_under packet (drop (start + headroom) bytes)
+    ∷ packets_under headroom (start + headroom + length packet) bytes packets
+
+-- a buffer with these bytes over its own
+abbrev pub buffer_under : PacketBufferView → List ℕ → PacketBufferView
+buffer_under buffer bytes = record buffer {
+  packets = packets_under buffer.headroom 0 bytes buffer.packets;
+}
+
+-- the buffer ends with the last bytes of what was lent
+abbrev pub LendsBytes : MutBor PacketBufferView → MutBor (List ℕ) → Fml
+LendsBytes buffer lent = Lends PacketBuffer.the_row (Array u8 0) buffer lent (buffer_under buffer.now)

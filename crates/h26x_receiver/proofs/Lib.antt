@@ -1,0 +1,7 @@
+pub mod PlaceLemmas
+pub mod RunLemmas
+pub mod AnswerLemmas
+pub mod OrderLemmas
+pub mod RefusalLemmas
+pub mod DeliveryLemmas
+pub mod CaseLemmas

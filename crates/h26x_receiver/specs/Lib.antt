@@ -1,0 +1,4 @@
+pub mod Sequence
+pub mod Sequenced
+pub mod Delivery
+pub mod AnyDepacketizer

@@ -1,0 +1,102 @@
+-- What becomes of packets with their sequence numbers (ours).
+use Rattle.std.specs.Prelude.{◌≡◌, ℕ, ◌==◌, nat_lt, Bool, true, false, if◌then◌else◌, List, [], ◌∷◌, Option, Some, None, Result, Ok, Err, IfOk, MatchBool}
+use Rattle.h26x_core.specs.declared.extra.CodecExtra.{CodecExtra}
+use Rattle.h26x_core.specs.declared.error.PacketError.{PacketError}
+use Rattle.h26x_model.specs.Receive.DepacketizerState.{DepacketizerState, Depacketization, depacketization, after_packets, IsPacketOutcome}
+use Rattle.h26x_model.specs.Receive.RunLimit.{run_len, with_open_run, with_run_within}
+use Rattle.h26x_receiver.specs.declared.received.Received.{Received}
+use Rattle.h26x_receiver.specs.declared.received.Received.TheVariants.{InOrder, Gap, TooLong, Late}
+use Rattle.h26x_receiver.specs.Sequence.{next_sequence_number, missing_count, distance_behind, is_late, is_expected}
+
+-- what a depacketizer works on, and the number that is expected next, if one was taken
+pub record SequencedDepacketization : Type 0 where
+  pub at_work : Depacketization
+  pub expected : Option ℕ
+
+-- these two
+abbrev pub with_expected : Depacketization → Option ℕ → SequencedDepacketization
+with_expected w expected = record { at_work = w; expected = expected }
+
+-- of a depacketizer, with what was written and told
+abbrev pub sequenced_depacketization : DepacketizerState → Option ℕ → List ℕ → CodecExtra →
+    SequencedDepacketization
+sequenced_depacketization r expected out extra = with_expected (depacketization r out extra) expected
+
+-- what a packet is taken by: the open run is given up, but where the packet is the one expected
+abbrev pub with_run_if : Bool → Depacketization → Depacketization
+with_run_if expected w = with_open_run w (if expected then w.state.run else None)
+
+-- what stands after a packet that was taken, before its run is measured
+abbrev pub after_sequenced_packet : SequencedDepacketization → ℕ → List ℕ → Depacketization
+after_sequenced_packet s number packet = after_packets
+    (with_run_if (is_expected s.expected number) s.at_work) (packet ∷ [])
+
+-- what is answered for a packet that was taken, by how many are missing before it, and whether the
+-- run that it left was too long
+abbrev pub answer_by_missing : ℕ → Bool → Received
+answer_by_missing missing is_long =
+    if is_long then TooLong missing else (if missing == 0 then InOrder else Gap missing)
+
+-- so for a packet with its number
+abbrev pub taken_packet_answer : ℕ → SequencedDepacketization → ℕ → List ℕ → Received
+taken_packet_answer most s number packet = answer_by_missing (missing_count s.expected number)
+    (nat_lt most (run_len (after_sequenced_packet s number packet).state.run))
+
+-- whether an answer says that a packet was taken
+abbrev pub is_taken : Result Received PacketError → Bool
+is_taken (Ok (Late n)) = false
+is_taken (Ok answer) = true
+is_taken (Err error) = false
+
+-- an answer as a depacketizer's outcome
+abbrev pub as_outcome : Result Received PacketError → Result (Unit {0}) PacketError
+as_outcome (Ok answer) = Ok tt
+as_outcome (Err error) = Err error
+
+-- What is answered for a packet: it is late, or it has the outcome that a depacketizer gives it that
+-- has the open run only where the packet is the one expected.
+abbrev pub IsSequencedAnswer : ℕ → SequencedDepacketization → ℕ → List ℕ →
+    Result Received PacketError → Type 0
+IsSequencedAnswer most s number packet answer =
+    MatchBool (is_late s.expected number)
+    (answer ≡ Ok (Late (distance_behind s.expected number)))
+    (IsPacketOutcome (with_run_if (is_expected s.expected number) s.at_work) packet
+    (as_outcome answer)
+    × IfOk answer (λ it. it ≡ taken_packet_answer most s number packet))
+
+-- what stands after a packet that was taken
+abbrev pub after_taken_packet : ℕ → SequencedDepacketization → ℕ → List ℕ →
+    SequencedDepacketization
+after_taken_packet most s number packet = with_expected
+    (with_run_within most (after_sequenced_packet s number packet))
+    (Some (next_sequence_number number))
+
+-- what stands after an answer: a packet that was not taken changes nothing
+abbrev pub after_answer : ℕ → SequencedDepacketization → ℕ → List ℕ →
+    Result Received PacketError → SequencedDepacketization
+after_answer most s number packet (Ok (Late n)) = s
+after_answer most s number packet (Ok answer) = after_taken_packet most s number packet
+after_answer most s number packet (Err error) = s
+
+-- what stands after answers
+abbrev pub after_answers : ℕ → SequencedDepacketization → List (ℕ × List ℕ) →
+    List (Result Received PacketError) → SequencedDepacketization
+after_answers most s (p ∷ packets) (answer ∷ answers) = after_answers most
+    (after_answer most s p.0 p.1 answer) packets answers
+after_answers most s packets answers = s
+
+-- one answer for each packet, by what those before it left
+abbrev pub HaveSequencedAnswers : ℕ → SequencedDepacketization → List (ℕ × List ℕ) →
+    List (Result Received PacketError) → Type 0
+HaveSequencedAnswers most s [] [] = Unit {0}
+HaveSequencedAnswers most s (p ∷ packets) (answer ∷ answers) =
+    IsSequencedAnswer most s p.0 p.1 answer
+    × HaveSequencedAnswers most (after_answer most s p.0 p.1 answer) packets answers
+HaveSequencedAnswers most s packets answers = ⊥
+
+-- What a receiver has done with packets, any whatever: each has its answer, and it stands after
+-- them.
+pub record AreAllReceived (most : ℕ) (s : SequencedDepacketization) (packets : List (ℕ × List ℕ))
+    (answers : List (Result Received PacketError)) (new : SequencedDepacketization) : Type 0 where
+  pub each : HaveSequencedAnswers most s packets answers
+  pub stands : new ≡ after_answers most s packets answers

@@ -1,0 +1,82 @@
+//! Packets with their sequence numbers, any whatever, through a receiver.
+
+ghost use Rattle.std.specs.Prelude.{◌≡◌, ◌≤◌, IfOk, OnErr, Err, length, vec_len, None};
+ghost use Rattle.h26x_core.specs.Front.{IsFrontOf};
+ghost use Rattle.h26x_model.specs.Receive.DepacketizerState.{depacketization};
+ghost use Rattle.h26x_model.specs.Receive.RunLimit.{run_len};
+ghost use Rattle.h26x_receiver.specs.Delivery.{sequenced_packets, NoneIsRefused, NoneIsRefusedForWhatItIs, WholeUnitsAreWritten, ThoseThatCameAreWritten};
+ghost use Rattle.h26x_receiver.specs.Sequenced.{sequenced_depacketization, AreAllReceived};
+
+use crate::received::Received;
+use crate::run::RunDepacketizer;
+use crate::sequenced::SequencedDepacketizer;
+use h26x_core::{CodecExtra, PacketError};
+use h26x_model::laws;
+use std::alloc::Global;
+
+/// Gives every packet with its sequence number to a receiver, in the order in which they come, and
+/// answers what became of each. One that is refused is passed over.
+///
+/// Room for the answers is taken first; where there is none the error is `OutOfMemory`, and nothing
+/// was taken.
+pub fn receive_all<D: RunDepacketizer>(
+    alloc: Global,
+    receiver: &mut SequencedDepacketizer<D>,
+    packets: &[(u16, Vec<u8>)],
+    out: &mut Vec<u8>,
+    codec_extra: &mut CodecExtra,
+) -> Result<Vec<Result<Received, PacketError>>, PacketError>
+    ensures each { IfOk result (λ answers. vec_len answers ≡ length packets.now) }
+
+    // Any packets whatever: the answer for each by what those before it left, and what stands after
+    // them.
+    ensures received { IfOk result (λ answers. AreAllReceived receiver.old.run_limit
+        (sequenced_depacketization (D.state receiver.old.depacketizer) receiver.old.expected
+        out.old.items codec_extra.old) (sequenced_packets packets.now) answers.items
+        (sequenced_depacketization (D.state receiver.new.depacketizer) receiver.new.expected
+        out.new.items codec_extra.new)) }
+
+    // Where they are what a network brings of the packets that calls send, with losses, twice and
+    // late: nothing damaged is written, but exactly the items of which each packet was taken, and
+    // that a run may hold.
+    ensures whole { receiver.old.expected ≡ None →
+        IfOk result (λ answers. WholeUnitsAreWritten receiver.old.run_limit
+        (depacketization (D.state receiver.old.depacketizer) out.old.items codec_extra.old)
+        (sequenced_packets packets.now) answers.items out.new.items codec_extra.new) }
+
+    // So where they come in order and none is refused: the items of which each packet came.
+    ensures in_order { receiver.old.expected ≡ None →
+        IfOk result (λ answers. NoneIsRefused answers.items →
+        ThoseThatCameAreWritten receiver.old.run_limit
+        (depacketization (D.state receiver.old.depacketizer) out.old.items codec_extra.old)
+        (sequenced_packets packets.now) out.new.items codec_extra.new) }
+
+    // None of them is refused for what it is: memory lacks or, in AVC form, a unit is too long.
+    ensures refusals { IfOk result (λ answers. NoneIsRefusedForWhatItIs
+        (depacketization (D.state receiver.old.depacketizer) out.old.items codec_extra.old)
+        (sequenced_packets packets.now) answers.items) }
+
+    // The run that is open is within the limit.
+    ensures bounded { run_len (D.state receiver.old.depacketizer).run ≤ receiver.old.run_limit →
+        run_len (D.state receiver.new.depacketizer).run ≤ receiver.old.run_limit }
+    ensures limit { receiver.new.run_limit ≡ receiver.old.run_limit }
+
+    // Bytes that stood in `out` stay.
+    ensures front { IsFrontOf out.old.items out.new.items }
+
+    // Without room for the answers nothing was taken.
+    ensures memory { OnErr result (result ≡ Err PacketError.OutOfMemory) }
+    ensures left { OnErr result (receiver.new ≡ receiver.old) }
+    ensures left_out { OnErr result (out.new ≡ out.old) }
+    ensures left_extra { OnErr result (codec_extra.new ≡ codec_extra.old) }
+{
+    receiver.depacketizer.meets_the_facts();
+    laws::nothing_is_damaged();
+    laws::what_calls_send_is_carried();
+    let mut answers = Vec::with_capacity(alloc, packets.len())?;
+    for (sequence, packet) in packets {
+        let answer = receiver.receive(*sequence, packet, out, codec_extra);
+        answers.push(answer).unwrap();
+    }
+    Ok(answers)
+}

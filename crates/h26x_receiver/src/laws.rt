@@ -1,0 +1,46 @@
+//! Laws of the definitions, each the contract of a function without a result: for a caller with a
+//! loop of its own over `receive`.
+
+ghost use Rattle.std.specs.Prelude.{◌≤◌, ℕ, List, None, Result};
+ghost use Rattle.h26x_core.specs.declared.error.PacketError.{PacketError};
+ghost use Rattle.h26x_model.specs.Payload.Facts.{IsPayloadFormat};
+ghost use Rattle.h26x_model.specs.Receive.RunLimit.{run_len};
+ghost use Rattle.h26x_model.specs.Receive.DepacketizerState.{Depacketization};
+ghost use Rattle.h26x_receiver.specs.declared.received.Received.{Received};
+ghost use Rattle.h26x_receiver.specs.Delivery.{NoneIsRefused, WholeUnitsAreWritten, ThoseThatCameAreWritten};
+ghost use Rattle.h26x_receiver.specs.Sequenced.{SequencedDepacketization, with_expected, after_answers, HaveSequencedAnswers};
+
+use h26x_model::laws;
+
+/// From a receiver for which any number may be the first: of what a network brings, nothing damaged
+/// is written and told, but exactly the items of which each packet was taken.
+pub fn nothing_damaged_is_written()
+    ensures { (most : ℕ) (w : Depacketization) (packets : List (ℕ × List ℕ))
+        (answers : List (Result Received PacketError)) → IsPayloadFormat w.state.format →
+        HaveSequencedAnswers most (with_expected w None) packets answers →
+        WholeUnitsAreWritten most w packets answers
+        (after_answers most (with_expected w None) packets answers).at_work.out
+        (after_answers most (with_expected w None) packets answers).at_work.extra }
+{
+    laws::nothing_is_damaged();
+}
+
+/// So where packets come in order and none is refused: what is written are the items of which each
+/// packet came.
+pub fn those_that_came_are_written()
+    ensures { (most : ℕ) (w : Depacketization) (packets : List (ℕ × List ℕ))
+        (answers : List (Result Received PacketError)) → IsPayloadFormat w.state.format →
+        HaveSequencedAnswers most (with_expected w None) packets answers → NoneIsRefused answers →
+        ThoseThatCameAreWritten most w packets
+        (after_answers most (with_expected w None) packets answers).at_work.out
+        (after_answers most (with_expected w None) packets answers).at_work.extra }
+{
+    laws::nothing_is_damaged();
+}
+
+/// Whatever packets come, a run that is within the limit stays within it.
+pub fn runs_stay_within_the_limit()
+    ensures { (most : ℕ) (s : SequencedDepacketization) (packets : List (ℕ × List ℕ))
+        (answers : List (Result Received PacketError)) → run_len s.at_work.state.run ≤ most →
+        run_len (after_answers most s packets answers).at_work.state.run ≤ most }
+{}

@@ -1,0 +1,186 @@
+//! What a receiver of packets with their sequence numbers asks of a depacketizer.
+
+ghost use Rattle.std.specs.Prelude.{◌≡◌, [], ◌∷◌, ℕ, List, Option, None, OnOk, OnErr, refl};
+ghost use Rattle.h26x_model.specs.Payload.Facts.{IsPayloadFormat};
+ghost use Rattle.h26x_model.specs.Receive.DepacketizerState.{DepacketizerState, depacketization, after_packets, IsPacketOutcome};
+ghost use Rattle.h26x_model.specs.Receive.RunLimit.{run_len, state_with_run};
+ghost use Rattle.h26x_payload.specs.DepacketizerView.{depacketizer_state};
+ghost use Rattle.h26x_payload.specs.UnitSink.{grown_to};
+ghost use Rattle.h265_payload.specs.DepacketizerView.{h265_state};
+ghost use Rattle.h265_payload.specs.Shown.{shown};
+
+use h26x_core::{CodecExtra, Depacketizer, PacketError};
+use h26x_payload::{OpenRun, PacketReader, PayloadDepacketizer, UnitSink};
+use h264_payload::H264;
+use h265_payload::H265Depacketizer;
+use h266_payload::H266;
+
+/// A depacketizer whose open run may be measured, exchanged and given up: those of the codecs, and a
+/// caller's own that implements this.
+///
+/// An implementation names its state, itself with another run, and itself once it
+/// has taken a packet.
+pub trait RunDepacketizer: Depacketizer {
+    ghost state: { Self → DepacketizerState };
+
+    ghost with_run: { Option (List ℕ) → Self → Self };
+
+    // Itself once it has taken a packet, with the run that it had before.
+    ghost having_taken: { List ℕ → Self → Self };
+
+    /// A law: its format meets the facts on which the laws of every format stand.
+    fn meets_the_facts(&self)
+        ensures { IsPayloadFormat (state self.now).format };
+
+    /// How many bytes the open run holds; none where none is open.
+    fn run_len(&self) -> usize
+        ensures { result ≡ run_len (state self.now).run };
+
+    /// Exchanges the open run, or none, for another one. It takes no memory.
+    fn swap_run(&mut self, run: &mut OpenRun)
+        ensures taken { self.new ≡ with_run run.old self.old }
+        ensures given { run.new ≡ (state self.old).run };
+
+    /// Gives up the open run, and gives its buffer back.
+    fn give_up_run(&mut self)
+        ensures { self.new ≡ with_run None self.old };
+
+    /// Takes a packet, as [`Depacketizer::depacketize`] does, and writes the units that it completes
+    /// to a list of bytes or to memory of a caller.
+    fn take<W: UnitSink>(
+        &mut self,
+        packet: &[u8],
+        out: &mut W,
+        codec_extra: &mut CodecExtra,
+    ) -> Result<(), PacketError>
+        ensures outcome { IsPacketOutcome (depacketization (state self.old) (W.sink out.old).bytes
+            codec_extra.old) packet.now result }
+        ensures taken { OnOk result (depacketization (state self.new) (W.sink out.new).bytes
+            codec_extra.new ≡ after_packets (depacketization (state self.old)
+            (W.sink out.old).bytes codec_extra.old) (packet.now ∷ [])) }
+        ensures behind { OnOk result (W.sink out.new
+            ≡ grown_to (W.sink out.new).bytes (W.sink out.old)) }
+        ensures rest { OnOk result (with_run None self.new
+            ≡ with_run None (having_taken packet.now self.old)) }
+        ensures kept { OnErr result (self.new ≡ self.old) }
+        ensures kept_sink { OnErr result (W.sink out.new ≡ W.sink out.old) }
+        ensures kept_extra { OnErr result (codec_extra.new ≡ codec_extra.old) };
+
+    // With another run all else is the same, and with its own run it is itself.
+    ghost other_run: { (run : Option (List ℕ)) (it : Self) →
+        state (with_run run it) ≡ state_with_run (state it) run };
+
+    ghost own_run: { (run : Option (List ℕ)) (it : Self) →
+        with_run (state it).run (with_run run it) ≡ it };
+
+    // Of two runs the last one stands, and what else a packet changes stands beside the run.
+    ghost last_run: { (run other : Option (List ℕ)) (it : Self) →
+        with_run run (with_run other it) ≡ with_run run it };
+
+    ghost taken_beside: { (packet : List ℕ) (run : Option (List ℕ)) (it : Self) →
+        having_taken packet (with_run run it) ≡ with_run run (having_taken packet it) };
+}
+
+/// A codec whose format meets the facts on which the laws of every format stand, whatever its
+/// setting.
+pub trait LawfulReader: PacketReader {
+    /// A law.
+    fn format_meets_the_facts()
+        ensures { (codec : Self) → IsPayloadFormat (Self.format codec) };
+}
+
+impl LawfulReader for H264 {
+    fn format_meets_the_facts() {
+        h264_payload::laws::meets_the_facts();
+    }
+}
+
+impl LawfulReader for H266 {
+    fn format_meets_the_facts() {
+        h266_payload::laws::meets_the_facts();
+    }
+}
+
+impl<C: LawfulReader> RunDepacketizer for PayloadDepacketizer<C> {
+    ghost state = { λ it. depacketizer_state (C.format it.codec) it };
+
+    ghost with_run = { λ run it. record it { run = run } };
+
+    ghost having_taken = { λ packet it. it };
+
+    ghost other_run = { λ run it. refl };
+
+    ghost own_run = { λ run it. refl };
+
+    ghost last_run = { λ run other it. refl };
+
+    ghost taken_beside = { λ packet run it. refl };
+
+    fn meets_the_facts(&self) {
+        C::format_meets_the_facts();
+    }
+
+    fn run_len(&self) -> usize {
+        self.run_len()
+    }
+
+    fn swap_run(&mut self, run: &mut OpenRun) {
+        self.swap_run(run);
+    }
+
+    fn give_up_run(&mut self) {
+        self.give_up_run();
+    }
+
+    #[inline]
+    fn take<W: UnitSink>(
+        &mut self,
+        packet: &[u8],
+        out: &mut W,
+        codec_extra: &mut CodecExtra,
+    ) -> Result<(), PacketError> {
+        self.depacketize_into(packet, out, codec_extra)
+    }
+}
+
+impl RunDepacketizer for H265Depacketizer {
+    ghost state = { h265_state };
+
+    ghost with_run = { λ run it. record it { run = run } };
+
+    ghost having_taken = { λ packet it. record it { payload = shown it.codec.has_donl packet } };
+
+    ghost other_run = { λ run it. refl };
+
+    ghost own_run = { λ run it. refl };
+
+    ghost last_run = { λ run other it. refl };
+
+    ghost taken_beside = { λ packet run it. refl };
+
+    fn meets_the_facts(&self) {
+        h265_payload::laws::meets_the_facts();
+    }
+
+    fn run_len(&self) -> usize {
+        self.run_len()
+    }
+
+    fn swap_run(&mut self, run: &mut OpenRun) {
+        self.swap_run(run);
+    }
+
+    fn give_up_run(&mut self) {
+        self.give_up_run();
+    }
+
+    #[inline]
+    fn take<W: UnitSink>(
+        &mut self,
+        packet: &[u8],
+        out: &mut W,
+        codec_extra: &mut CodecExtra,
+    ) -> Result<(), PacketError> {
+        self.depacketize_into(packet, out, codec_extra)
+    }
+}

@@ -1,0 +1,212 @@
+//! A depacketizer that is given packets with their sequence numbers.
+
+ghost use Rattle.std.specs.Prelude.{◌≡◌, ◌+◌, ◌≤◌, nat_lt, [], ◌∷◌, ℕ, List, Option, Some, None, Ok, OnOk, OnErr, length, true};
+ghost use Rattle.h26x_core.specs.Front.{IsFrontOf};
+ghost use Rattle.h26x_model.specs.Receive.DepacketizerState.{depacketization, after_packets, IsPacketOutcome};
+ghost use Rattle.h26x_model.specs.Receive.RunLimit.{run_len, run_within, state_with_run, without_open_run};
+ghost use Rattle.h26x_payload.specs.UnitSink.{grown_to};
+ghost use Rattle.h26x_receiver.specs.Sequence.{missing_count, is_expected};
+ghost use Rattle.h26x_receiver.specs.Sequenced.{sequenced_depacketization, with_run_if, after_sequenced_packet, IsSequencedAnswer, after_answer, is_taken};
+
+use crate::received::Received;
+use crate::run::RunDepacketizer;
+use h26x_core::{CodecExtra, PacketError};
+use h26x_model::laws;
+use h26x_payload::{OpenRun, UnitSink};
+use std::alloc::Global;
+
+/// How far ahead of the expected number a number is taken as behind it: half of the circle (RFC
+/// 3550, A.1).
+const HALF: u16 = 0x8000;
+
+/// How many packets are missing before a number, and whether it is the one expected.
+fn place_of(expected: Option<u16>, sequence: u16) -> (u16, bool)
+    ensures missing { result.0 ≡ missing_count expected sequence }
+    ensures expected { result.1 ≡ is_expected expected sequence }
+{
+    match expected {
+        Some(expected) => (sequence.wrapping_sub(expected), sequence == expected),
+        None => (0, false),
+    }
+}
+
+/// Takes a packet where no run is open: the one that was is given up once the packet is taken.
+fn take_anew<D: RunDepacketizer, W: UnitSink>(
+    alloc: Global,
+    depacketizer: &mut D,
+    packet: &[u8],
+    out: &mut W,
+    codec_extra: &mut CodecExtra,
+) -> Result<(), PacketError>
+    ensures outcome { IsPacketOutcome (without_open_run (depacketization
+        (D.state depacketizer.old) (W.sink out.old).bytes codec_extra.old)) packet.now result }
+    ensures taken { OnOk result (depacketization (D.state depacketizer.new) (W.sink out.new).bytes
+        codec_extra.new ≡ after_packets (without_open_run (depacketization
+        (D.state depacketizer.old) (W.sink out.old).bytes codec_extra.old)) (packet.now ∷ [])) }
+    ensures behind { OnOk result (W.sink out.new
+        ≡ grown_to (W.sink out.new).bytes (W.sink out.old)) }
+    ensures rest { OnOk result (D.with_run None depacketizer.new
+        ≡ D.with_run None (D.having_taken packet.now depacketizer.old)) }
+    ensures kept { OnErr result (depacketizer.new ≡ depacketizer.old) }
+    ensures kept_sink { OnErr result (W.sink out.new ≡ W.sink out.old) }
+    ensures kept_extra { OnErr result (codec_extra.new ≡ codec_extra.old) }
+{
+    let mut run = OpenRun::none(alloc);
+    depacketizer.swap_run(&mut run);
+    match depacketizer.take(packet, out, codec_extra) {
+        Ok(()) => Ok(()),
+        Err(error) => {
+            depacketizer.swap_run(&mut run);
+            Err(error)
+        }
+    }
+}
+
+/// Takes a packet; where it isn't the one expected, the open run is given up once it is taken.
+fn take<D: RunDepacketizer, W: UnitSink>(
+    alloc: Global,
+    is_next: bool,
+    depacketizer: &mut D,
+    packet: &[u8],
+    out: &mut W,
+    codec_extra: &mut CodecExtra,
+) -> Result<(), PacketError>
+    ensures outcome { IsPacketOutcome (with_run_if is_next (depacketization
+        (D.state depacketizer.old) (W.sink out.old).bytes codec_extra.old)) packet.now result }
+    ensures taken { OnOk result (depacketization (D.state depacketizer.new) (W.sink out.new).bytes
+        codec_extra.new ≡ after_packets (with_run_if is_next (depacketization
+        (D.state depacketizer.old) (W.sink out.old).bytes codec_extra.old)) (packet.now ∷ [])) }
+    ensures behind { OnOk result (W.sink out.new
+        ≡ grown_to (W.sink out.new).bytes (W.sink out.old)) }
+    ensures rest { OnOk result (D.with_run None depacketizer.new
+        ≡ D.with_run None (D.having_taken packet.now depacketizer.old)) }
+    ensures kept { OnErr result (depacketizer.new ≡ depacketizer.old) }
+    ensures kept_sink { OnErr result (W.sink out.new ≡ W.sink out.old) }
+    ensures kept_extra { OnErr result (codec_extra.new ≡ codec_extra.old) }
+{
+    if is_next {
+        depacketizer.take(packet, out, codec_extra)
+    } else {
+        take_anew(alloc, depacketizer, packet, out, codec_extra)
+    }
+}
+
+/// Gives up an open run that holds more bytes than this, and tells whether it did.
+fn limit_run<D: RunDepacketizer>(depacketizer: &mut D, most: usize) -> bool
+    ensures long { result ≡ nat_lt most (run_len (D.state depacketizer.old).run) }
+    ensures limited { D.state depacketizer.new ≡ state_with_run (D.state depacketizer.old)
+        (run_within most (D.state depacketizer.old).run) }
+    ensures rest { D.with_run None depacketizer.new ≡ D.with_run None depacketizer.old }
+{
+    if depacketizer.run_len() > most {
+        depacketizer.give_up_run();
+        true
+    } else {
+        false
+    }
+}
+
+/// A depacketizer that is given packets with their sequence numbers of RTP (RFC 3550, 5.1). It gives
+/// up the open run wherever a packet is missing, and where it holds more than a limit: so no unit is
+/// written of which a part is missing, and no peer makes it hold more.
+///
+/// ```rust
+/// let depacketizer = H265Depacketizer::new(alloc);
+/// let mut receiver = SequencedDepacketizer::new(alloc, depacketizer, 4_000_000);
+/// let received = receiver.receive(sequence, packet, &mut out, &mut extra)?;
+/// ```
+#[derive(Debug, Drop)]
+pub struct SequencedDepacketizer<D: RunDepacketizer> {
+    /// The depacketizer.
+    pub depacketizer: D,
+    /// The sequence number that is expected next, if a packet was taken.
+    pub expected: Option<u16>,
+    /// How many bytes an open run may hold from a packet to the next.
+    pub run_limit: usize,
+    alloc: Global,
+}
+
+impl<D: RunDepacketizer> SequencedDepacketizer<D> {
+    /// A receiver that takes any sequence number as the first. A run that is open in `depacketizer`
+    /// is given up with the first packet.
+    pub fn new(alloc: Global, depacketizer: D, run_limit: usize) -> Self
+        ensures depacketizer { result.depacketizer ≡ depacketizer }
+        ensures expected { result.expected ≡ None }
+        ensures limit { result.run_limit ≡ run_limit }
+    {
+        SequencedDepacketizer {
+            depacketizer,
+            expected: None,
+            run_limit,
+            alloc,
+        }
+    }
+
+    /// Gives up the open run, and takes any sequence number as the next: for a peer that begins
+    /// anew, whose packets are late one after the other.
+    pub fn restart(&mut self)
+        ensures depacketizer { self.new.depacketizer ≡ D.with_run None self.old.depacketizer }
+        ensures expected { self.new.expected ≡ None }
+        ensures limit { self.new.run_limit ≡ self.old.run_limit }
+    {
+        self.depacketizer.give_up_run();
+        self.expected = None;
+    }
+
+    /// Takes a packet with its sequence number. What it completes is written to `out`, a list of bytes
+    /// or memory of the caller, behind what stands there, and told in `codec_extra`.
+    ///
+    /// A packet that is late, comes twice or is refused changes nothing, nor the number that is
+    /// expected: it is as if it had not come, and one refused for want of memory can be given again.
+    /// The errors are those of the depacketizer.
+    pub fn receive<W: UnitSink>(
+        &mut self,
+        sequence: u16,
+        packet: &[u8],
+        out: &mut W,
+        codec_extra: &mut CodecExtra,
+    ) -> Result<Received, PacketError>
+        // What is answered, and what stands afterwards.
+        ensures answer { IsSequencedAnswer self.old.run_limit (sequenced_depacketization
+            (D.state self.old.depacketizer) self.old.expected (W.sink out.old).bytes codec_extra.old)
+            sequence packet.now result }
+        ensures after { sequenced_depacketization (D.state self.new.depacketizer)
+            self.new.expected (W.sink out.new).bytes codec_extra.new
+            ≡ after_answer self.old.run_limit (sequenced_depacketization
+            (D.state self.old.depacketizer) self.old.expected (W.sink out.old).bytes codec_extra.old)
+            sequence packet.now result }
+        ensures rest { is_taken result ≡ true → D.with_run None self.new.depacketizer
+            ≡ D.with_run None (D.having_taken packet.now self.old.depacketizer) }
+        ensures limit { self.new.run_limit ≡ self.old.run_limit }
+
+        // While a packet is taken the run is no longer than before and the packet, and afterwards it
+        // is within the limit.
+        ensures while_taken { run_len (after_sequenced_packet (sequenced_depacketization
+            (D.state self.old.depacketizer) self.old.expected (W.sink out.old).bytes codec_extra.old)
+            sequence packet.now).state.run
+            ≤ run_len (D.state self.old.depacketizer).run + length packet.now }
+        ensures bounded { run_len (D.state self.old.depacketizer).run ≤ self.old.run_limit →
+            run_len (D.state self.new.depacketizer).run ≤ self.old.run_limit }
+
+        // Bytes that stood in `out` stay, and those behind what is written; a late packet and a
+        // refusal leave everything.
+        ensures front { IsFrontOf (W.sink out.old).bytes (W.sink out.new).bytes }
+        ensures behind { W.sink out.new ≡ grown_to (W.sink out.new).bytes (W.sink out.old) }
+        ensures late { (n : ℕ) → result ≡ Ok (Received.Late n) → self.new ≡ self.old }
+        ensures kept { OnErr result (self.new ≡ self.old) }
+        ensures kept_sink { OnErr result (W.sink out.new ≡ W.sink out.old) }
+        ensures kept_extra { OnErr result (codec_extra.new ≡ codec_extra.old) }
+    {
+        self.depacketizer.meets_the_facts();
+        laws::runs_grow_by_their_packets();
+        let (missing, is_next) = place_of(self.expected, sequence);
+        if missing >= HALF {
+            return Ok(Received::Late(u16::MAX - missing + 1));
+        }
+        let depacketizer = &mut self.depacketizer;
+        take(self.alloc, is_next, depacketizer, packet, out, codec_extra)?;
+        self.expected = Some(sequence.wrapping_add(1));
+        let is_long = limit_run(&mut self.depacketizer, self.run_limit);
+        Ok(Received::taken(missing, is_long))
+    }
+}
