@@ -142,9 +142,11 @@ static void *run(void *at)
     for (int round = 0; round < 20; round++) {
         check_sending(&work->tally);
         check_receiving(&work->tally);
+        check_sequenced(&work->tally);
         check_showing(&work->tally);
         check_looking(&work->tally);
         check_profiles(&work->tally);
+        check_optional(&work->tally);
     }
     work->pass(&work->tally);
     return NULL;

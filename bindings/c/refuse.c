@@ -173,6 +173,30 @@ static void refuse_sending(const struct codec *c)
     h26x_packetizer_free(copy);
 }
 
+/* Packets straight in the caller's memory: a refusal leaves that, and the sets wait after each. */
+static void refuse_placing(const struct codec *c)
+{
+    h26x_packetizer p;
+    size_t count = 99, size = 99, ends[4] = {0};
+    size_t unit_len = c->unit_header + DATA;
+    expect(h26x_packetizer_new(c->number, false, &p) == H26X_OK);
+    memset(to, 0xee, sizeof to);
+    refuse_each(h26x_packetize_into(&p, LIMIT, (const uint8_t *)c->sets, c->sets_len, 2, to, sizeof to, ends, 4,
+                                    &count, &size), count == 0 && size == 0);
+    refuse_each(h26x_packets_size(&p, LIMIT, unit, unit_len, 2, &count, &size), count == 0 && size == 0);
+    expect(count == 4);
+    const size_t told = size;
+    refuse_each(h26x_packetize_into(&p, LIMIT, unit, unit_len, 2, to, sizeof to, ends, 4, &count, &size),
+                count == 0 && size == 0 && to[2] == 0xee && ends[0] == 0);
+    expect(count == 4 && size == told && ends[3] == size && to[0] == 0xee && to[size] == 0xee);
+    expect(memcmp(to + 2, c->begins[0], c->fragment_header - 1) == 0);
+    memset(to, 0xee, sizeof to);
+    refuse_each(h26x_packetize_unit_into(&p, LIMIT, unit, unit_len, 0, to, sizeof to, ends, 4, &count, &size),
+                count == 0 && size == 0 && to[0] == 0xee);
+    expect(count == 3 && memcmp(to, c->begins[1], c->fragment_header) == 0);
+    h26x_packetizer_free(p);
+}
+
 static void refuse_receiving(const struct codec *c)
 {
     h26x_packetizer p;
@@ -193,7 +217,7 @@ static void refuse_receiving(const struct codec *c)
         refuse_each(h26x_depacketize(&d, false, packet, len, to + total, ROOM - total, &written,
                                      &extra, &why),
                     written == 0 && extra == told && h26x_depacketizer_same(&d, &before));
-        without_memory(h26x_written_copy(&d, packet, sizeof packet) == written);
+        without_memory(h26x_written_copy(&d, packet, sizeof packet) == 0);
         h26x_depacketizer_free(before);
         before.at = NULL;
         total += written;
@@ -212,6 +236,64 @@ static void refuse_receiving(const struct codec *c)
                    == (c->number == H26X_H264 ? H26X_NOT_OF_THIS_CODEC : H26X_OK));
     h26x_packetizer_free(p);
     h26x_depacketizer_free(d);
+}
+
+/* Packets with their numbers: one that is refused can be given again, behind a gap too, where the
+ * open unit stays until it is taken. */
+static void refuse_receiving_sequenced(const struct codec *c)
+{
+    h26x_packetizer p;
+    h26x_receiver r = {{NULL}}, copy = {{NULL}};
+    size_t count, written = 0, total = 0, run_len = 0;
+    uint8_t extra = 0;
+    uint32_t received = 9;
+    uint16_t missing = 9;
+    h26x_refusal why;
+    h26x_h265_packet shown;
+    expect(h26x_packetizer_new(c->number, false, &p) == H26X_OK);
+    expect(h26x_packetize(&p, LIMIT, (const uint8_t *)c->sets, c->sets_len, &count) == H26X_OK);
+    expect(h26x_packetize(&p, LIMIT, unit, c->unit_header + DATA, &count) == H26X_OK && count == 4);
+    refuse_each(h26x_receiver_new(c->number, false, false, 1000, &r), r.at.at == NULL);
+
+    /* An open unit of which the end is missing. */
+    for (size_t i = 1; i < 3; i++) {
+        size_t len = h26x_packet_copy(&p, i, packet, sizeof packet);
+        refuse_each(h26x_receive(&r, 65532 + i, packet, len, to, ROOM, &written, &extra, &received,
+                                 &missing, &why),
+                    written == 0 && extra == 0 && received == (i == 1 ? 9 : H26X_IN_ORDER)
+                        && h26x_receiver_run_len(&r) == run_len);
+        expect(received == H26X_IN_ORDER && missing == 0);
+        run_len = h26x_receiver_run_len(&r);
+    }
+    expect(run_len > LIMIT);
+    refuse_each(h26x_receiver_clone(&r, &copy), copy.at.at == NULL);
+    h26x_receiver_free(copy);
+
+    for (size_t i = 0; i < count; i++) {
+        size_t len = h26x_packet_copy(&p, i, packet, sizeof packet);
+        uint8_t told = extra;
+        refuse_each(h26x_receive(&r, i, packet, len, to + total, ROOM - total, &written, &extra,
+                                 &received, &missing, &why),
+                    written == 0 && extra == told && h26x_receiver_run_len(&r) == run_len);
+        expect(i == 0 ? received == H26X_GAP && missing == 1 : received == H26X_IN_ORDER);
+        run_len = h26x_receiver_run_len(&r);
+        without_memory(h26x_written_copy(&r.at, packet, sizeof packet) == 0);
+        total += written;
+    }
+    expect(total == c->sets_len + 2 + 4 + c->unit_header + DATA && extra == 2);
+    expect(memcmp(to + total - c->unit_header - DATA, unit, c->unit_header + DATA) == 0);
+
+    without_memory(h26x_receive(&r, 3, packet, 4, to, ROOM, &written, &extra, &received, &missing, &why)
+                       == H26X_OK
+                   && received == H26X_LATE && missing == 1);
+    without_memory(h26x_h265_shown(&r.at, &shown)
+                   == (c->number == H26X_H265 ? H26X_OK : H26X_NOT_OF_THIS_CODEC));
+    without_memory(h26x_receiver_set_avc(&r, true) == H26X_OK);
+    without_memory(h26x_receiver_set_numbers(&r, false)
+                   == (c->number == H26X_H264 ? H26X_NOT_OF_THIS_CODEC : H26X_OK));
+    without_memory(h26x_receiver_restart(&r) == H26X_OK && h26x_receiver_run_len(&r) == 0);
+    h26x_packetizer_free(p);
+    h26x_receiver_free(r);
 }
 
 static void refuse_packing(void)
@@ -242,7 +324,9 @@ int main(void)
         memset(unit, 0xaa, sizeof unit);
         memcpy(unit, c->unit, c->unit_header);
         refuse_sending(c);
+        refuse_placing(c);
         refuse_receiving(c);
+        refuse_receiving_sequenced(c);
         look_without_memory(c);
     }
     refuse_packing();

@@ -166,6 +166,87 @@ static void check_joined(struct tally *t)
     h26x_packetizer_free(p);
 }
 
+/* A call straight into the caller's memory, of a payload or of one unit. */
+typedef uint32_t into_call(h26x_packetizer *p, size_t mtu, const uint8_t *bytes, size_t len, size_t headroom,
+                           uint8_t *to, size_t room, size_t *ends, size_t ends_room, size_t *count, size_t *size);
+
+/* Makes packets in memory of 0xee, and compares the answer, how many and how long they are, and all of that memory:
+ * `memory` has its bytes up to the size, or nothing where it is left. */
+static void makes_into(struct tally *t, into_call *call, h26x_packetizer *p, size_t mtu, const char *bytes,
+                       size_t headroom, size_t room, size_t ends_room, uint32_t code, size_t count, size_t size,
+                       const char *memory)
+{
+    struct bytes b = bytes_of(bytes), m = bytes_of(memory);
+    uint8_t to[64];
+    size_t ends[4] = {99, 99, 99, 99}, made = 98, bytes_made = 97;
+    memset(to, 0xee, sizeof to);
+    expect(t, call(p, mtu, b.at, b.len, headroom, to, room, ends, ends_room, &made, &bytes_made) == code);
+    expect(t, made == count && bytes_made == size);
+    expect(t, is_same(to, m.len, memory));
+    for (size_t i = m.len; i < sizeof to; i++)
+        expect(t, to[i] == 0xee);
+    expect(t, code == H26X_OK ? ends[count] == 99 : ends[0] == 99);
+    if (code == H26X_OK && count > 0)
+        expect(t, ends[count - 1] == size);
+}
+
+/* Asks how much memory packets take, which leaves the packetizer. */
+static void takes_memory(struct tally *t, h26x_packetizer *p, size_t mtu, const char *payload, size_t headroom,
+                         uint32_t code, size_t count, size_t size)
+{
+    struct bytes b = bytes_of(payload);
+    size_t made = 98, bytes_made = 97;
+    expect(t, h26x_packets_size(p, mtu, b.at, b.len, headroom, &made, &bytes_made) == code);
+    expect(t, made == count && bytes_made == size);
+}
+
+/* Packets straight in the caller's memory. */
+static void check_into(struct tally *t)
+{
+    static const char frame[] = "6501020304", packets[] = "eeee7c850102 eeee7c450304";
+    into_call *payload = h26x_packetize_into, *as_it_is = h26x_packetize_unit_into;
+    h26x_packetizer p = made(t, H26X_H264, false);
+    makes_into(t, payload, &p, 4, frame, 2, 64, 3, H26X_OK, 2, 12, packets);
+    makes_into(t, payload, &p, 4, frame, 2, 12, 2, H26X_OK, 2, 12, packets);
+    makes_into(t, payload, &p, 4, frame, 0, 8, 2, H26X_OK, 2, 8, "7c8501027c450304");
+
+    /* One byte, or one end, is missing; with no room at all it tells how much it takes. */
+    makes_into(t, payload, &p, 4, frame, 2, 11, 2, H26X_NO_ROOM, 2, 12, "");
+    makes_into(t, payload, &p, 4, frame, 2, 64, 1, H26X_NO_ROOM, 2, 12, "");
+    makes_into(t, payload, &p, 4, frame, 2, 0, 0, H26X_NO_ROOM, 2, 12, "");
+    makes_into(t, payload, &p, 4, frame, SIZE_MAX, 64, 3, H26X_NO_ROOM, 2, SIZE_MAX, "");
+
+    takes_memory(t, &p, 4, frame, 2, H26X_OK, 2, 12);
+    takes_memory(t, &p, 4, frame, SIZE_MAX, H26X_OK, 2, SIZE_MAX);
+    takes_memory(t, &p, 1500, "000001 0799 000001 0899 000001 05", 1, H26X_OK, 2, 12);
+    takes_memory(t, &p, 1500, "000001 0799", 1, H26X_OK, 0, 0);
+
+    /* Sets that wait, or came with what didn't fit, wait as before. */
+    makes_into(t, payload, &p, 1500, "000001 070001 000001 080203", 2, 0, 0, H26X_OK, 0, 0, "");
+    makes_into(t, payload, &p, 1500, "000001 0799 000001 05", 2, 3, 3, H26X_NO_ROOM, 2, 15, "");
+    makes_into(t, as_it_is, &p, 1500, "65000001", 1, 64, 3, H26X_OK, 1, 5, "ee65000001");
+    makes_into(t, as_it_is, &p, 4, frame, 0, 7, 3, H26X_NO_ROOM, 2, 8, "");
+    makes_into(t, as_it_is, &p, 2, frame, 0, 0, 0, H26X_OK, 0, 0, "");
+    makes_into(t, payload, &p, 1500, "050405", 1, 64, 3, H26X_OK, 2, 16, "ee7800030700010003080203 ee050405");
+
+    /* The packets of the handle stay. */
+    sends(t, &p, 4, frame, "7c850102|7c450304");
+    makes_into(t, payload, &p, 1500, "05", 1, 64, 3, H26X_OK, 1, 2, "ee05");
+    expect(t, h26x_packet_count(&p) == 2 && h26x_packet_len(&p, 1) == 4);
+    h26x_packetizer_free(p);
+
+    /* A number is taken by a call that is carried out, and by no other. */
+    p = made(t, H26X_H265, true);
+    makes_into(t, as_it_is, &p, 100, "4201aa", 0, 4, 3, H26X_NO_ROOM, 1, 5, "");
+    makes_into(t, as_it_is, &p, 100, "4201aa", 0, 5, 3, H26X_OK, 1, 5, "42010000aa");
+    makes_into(t, payload, &p, 100, "0201bb", 0, 4, 3, H26X_NO_ROOM, 1, 5, "");
+    makes_into(t, payload, &p, 100, "0201bb", 0, 5, 3, H26X_OK, 1, 5, "02010001bb");
+    h26x_packetizer_free(p);
+    p = made(t, H26X_H266, false);
+    makes_into(t, payload, &p, 4, "0039aabbcc", 1, 64, 3, H26X_OK, 3, 15, "ee00e987aa ee00e907bb ee00e947cc");
+    h26x_packetizer_free(p);
+}
+
 static void check_refusals(struct tally *t)
 {
     h26x_packetizer p = {NULL}, depacketizer;
@@ -183,6 +264,9 @@ static void check_refusals(struct tally *t)
     count = 9;
     expect(t, h26x_packetize_unit(&depacketizer, 9, unit, 1, &count) == H26X_WRONG_END
               && count == 0);
+    takes_memory(t, &depacketizer, 9, "65", 1, H26X_WRONG_END, 0, 0);
+    makes_into(t, h26x_packetize_into, &depacketizer, 9, "65", 1, 64, 3, H26X_WRONG_END, 0, 0, "");
+    makes_into(t, h26x_packetize_unit_into, &depacketizer, 9, "65", 1, 64, 3, H26X_WRONG_END, 0, 0, "");
     expect(t, h26x_packetizer_clone(&depacketizer, &p) == H26X_WRONG_END && p.at == NULL);
     expect(t, h26x_packetizer_set_numbers(&depacketizer, true) == H26X_WRONG_END);
     expect(t, h26x_packetizer_set_max_size(&depacketizer, 9) == H26X_WRONG_END);
@@ -202,5 +286,6 @@ void check_sending(struct tally *t)
     check_max_size(t, H26X_H266, 0x00, 0x39);
     check_copies(t);
     check_joined(t);
+    check_into(t);
     check_refusals(t);
 }

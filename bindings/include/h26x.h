@@ -1,21 +1,30 @@
 /* H.264, H.265 and H.266 as RTP payloads (RFC 6184, RFC 7798, RFC 9328).
  *
  * A packetizer cuts units of coded video into the payloads of RTP packets, each within a limit. A depacketizer
- * writes the units of such payloads again. RTP's own header is the caller's.
+ * writes the units of such payloads again, and a receiver does where packets are given with their sequence numbers,
+ * and some of them may be missing. RTP's own header is the caller's.
  *
  * A handle is a struct of one pointer. No call keeps a pointer that it is given, waits, prints, or has state beside
  * its handle; memory comes from malloc, realloc and free. A handle may go from one thread to another.
  *
+ * What may be NULL: a buffer of length 0; the pointer to a number that isn't wanted (count, size, written, extra,
+ * received, why, number, len, begin, end, profile, level); and the pointer in a handle that is freed, which is then
+ * no handle: so set it to {0} and free it in any case.
+ *
  * What a caller owes, since nothing checks it:
  * - a handle is one that a _new or _clone wrote, and was not freed since;
- * - while a call runs, no other call is given the same handle, and no other thread writes its buffers;
+ * - while a call runs, no other call is given the same handle, not even as a const one, and no other thread writes
+ *   its buffers;
  * - a handle goes to another thread by a lock, a start or a join of a thread, or as ordered as that;
- * - a pointer and its length are those of one buffer, and the pointer is not NULL even where the length is 0;
+ * - a pointer and its length are those of one buffer;
  * - what a call writes overlaps nothing else that it is given, and of two handles neither is the other;
  * - a bool is 0 or 1;
  * - malloc and realloc align each block to every power of two up to 16 that divides its size;
  * - no call is made in a signal handler, or in the child that a program with threads forked.
- */
+ *
+ * Words: `numbers` are decoding order numbers (DON; DONL and DOND in packets). The open unit is one of which
+ * fragments came and the last one didn't yet, in the depacketizer's reassembly buffer. `to` is an output buffer, and
+ * `room` its capacity in bytes. A unit is a NAL unit without its start code, a set a parameter set (VPS, SPS, PPS). */
 #ifndef H26X_H
 #define H26X_H
 
@@ -23,13 +32,46 @@
 #include <stddef.h>
 #include <stdint.h>
 
+/* The version of this header, as in "0.1.0" and as one number. */
+#define H26X_VERSION_MAJOR 0
+#define H26X_VERSION_MINOR 1
+#define H26X_VERSION_PATCH 0
+#define H26X_VERSION "0.1.0"
+#define H26X_VERSION_NUMBER (H26X_VERSION_MAJOR << 16 | H26X_VERSION_MINOR << 8 | H26X_VERSION_PATCH)
+
+/* Before each declaration: that the call is exported. */
+#ifndef H26X_API
+#if defined __GNUC__
+#define H26X_API __attribute__((visibility("default")))
+#else
+#define H26X_API
+#endif
+#endif
+
+/* Behind a declaration: the compiler warns where nobody looks at the answer. */
+#ifndef H26X_MUST_USE
+#if defined __GNUC__
+#define H26X_MUST_USE __attribute__((warn_unused_result))
+#else
+#define H26X_MUST_USE
+#endif
+#endif
+
 #ifdef __cplusplus
 extern "C" {
 #endif
 
+/* The version of the library that is linked, as H26X_VERSION_NUMBER. */
+H26X_API uint32_t h26x_version(void);
+
 enum h26x_codec { H26X_H264 = 264, H26X_H265 = 265, H26X_H266 = 266 };
 
-/* What a call answers. All but H26X_OK are refusals, which change nothing but *written, *why and *count. */
+/* What SDP calls a codec: "H264", "H265" or "H266" (RFC 6184, 8.1; RFC 7798, 7.1; RFC 9328, 7.2). NULL for an unknown
+ * one. */
+H26X_API const char *h26x_codec_name(uint32_t codec);
+
+/* What a call answers. All but H26X_OK are refusals, which change nothing but *written, *why, and of packets that are
+ * made *count and *size. */
 enum h26x_code {
     H26X_OK = 0,
     H26X_SHORT_PACKET = 1,
@@ -41,13 +83,18 @@ enum h26x_code {
     H26X_AVC_UNIT_TOO_LONG = 7,       /* behind lengths: a unit of over 4,294,967,295 bytes */
     H26X_OUT_OF_MEMORY = 8,
     H26X_UNKNOWN_CODEC = 9,
-    H26X_WRONG_END = 10,              /* a depacketizer where a packetizer is wanted, or the reverse */
+    H26X_WRONG_END = 10,              /* a packetizer, a depacketizer or a receiver where another of these is wanted */
     H26X_NOT_OF_THIS_CODEC = 11,      /* decoding order numbers or a largest size for H.264 */
-    H26X_OUT_OF_RANGE = 12            /* a largest size under 4 */
+    H26X_OUT_OF_RANGE = 12,           /* a largest size under 4 */
+    H26X_NO_ROOM = 13                 /* packets, or their ends, don't fit in the caller's memory */
 };
+
+/* A code in words, without a full stop; never NULL. */
+H26X_API const char *h26x_strerror(uint32_t code);
 
 typedef struct { void *at; } h26x_packetizer;
 typedef struct { void *at; } h26x_depacketizer;
+typedef struct { h26x_depacketizer at; } h26x_receiver; /* where a call takes both, it is given &r.at of a receiver */
 typedef struct { size_t first, second; } h26x_refusal;
 
 /* ---- Sending ---- */
@@ -55,90 +102,205 @@ typedef struct { size_t first, second; } h26x_refusal;
 /* A packetizer for which no parameter set waits, with 1200 bytes as the largest packet size. `numbers`: whether
  * packets bear decoding order numbers, which begin at 0 (DONL; H.265 and H.266). *made is written where the answer is
  * H26X_OK. Else H26X_UNKNOWN_CODEC, H26X_NOT_OF_THIS_CODEC or H26X_OUT_OF_MEMORY. */
-uint32_t h26x_packetizer_new(uint32_t codec, bool numbers, h26x_packetizer *made);
+H26X_API uint32_t h26x_packetizer_new(uint32_t codec, bool numbers, h26x_packetizer *made) H26X_MUST_USE;
 
 /* The same packetizer again: the sets that wait for it, its next number, its settings; not the packets it holds.
  * H26X_OUT_OF_MEMORY, or H26X_WRONG_END. */
-uint32_t h26x_packetizer_clone(h26x_packetizer *p, h26x_packetizer *made);
+H26X_API uint32_t h26x_packetizer_clone(const h26x_packetizer *p, h26x_packetizer *made) H26X_MUST_USE;
 
-/* Frees it with its packets. */
-void h26x_packetizer_free(h26x_packetizer p);
+/* Frees it with its packets. A handle of NULL is nothing to be freed. */
+H26X_API void h26x_packetizer_free(h26x_packetizer p);
 
 /* Turns numbers on, from 0 again, or off. Sets that wait stay. H26X_NOT_OF_THIS_CODEC for H.264;
  * H26X_WRONG_END. */
-uint32_t h26x_packetizer_set_numbers(h26x_packetizer *p, bool numbers);
+H26X_API uint32_t h26x_packetizer_set_numbers(h26x_packetizer *p, bool numbers);
 
 /* Sets the largest packet size of H.265 and H.266, in bytes: 4 or more, else H26X_OUT_OF_RANGE. No packet of a later
- * call is longer. H26X_NOT_OF_THIS_CODEC for H.264; H26X_WRONG_END. */
-uint32_t h26x_packetizer_set_max_size(h26x_packetizer *p, uint16_t bytes);
+ * call is longer, whatever its `mtu`; it is 1200 at first. H26X_NOT_OF_THIS_CODEC for H.264; H26X_WRONG_END. */
+H26X_API uint32_t h26x_packetizer_set_max_size(h26x_packetizer *p, uint16_t bytes);
 
-/* Makes the packets of a payload, which is one unit, or units behind start codes. Each packet has at most `mtu` bytes
- * (and at most the largest size). They take the place of those of the call before, and *count is how many there are.
- * Parameter sets wait for the next unit that is none. H26X_OUT_OF_MEMORY leaves the packets of the call before;
- * H26X_WRONG_END writes 0 to *count. The marker bit goes on the last packet of an access unit. The memory of packets is
- * kept for later calls. */
-uint32_t h26x_packetize(h26x_packetizer *p, size_t mtu, const uint8_t *payload, size_t payload_len, size_t *count);
+/* Makes the packets of a payload, which is one unit, or units behind start codes: of an access unit, or a part of
+ * one. They take the place of those of the call before, and *count is how many there are. No packet has more than
+ * `mtu` bytes, RTP's header not counted, and of H.265 and H.266 none more than the largest packet size, which is
+ * 1200 whatever the `mtu` until h26x_packetizer_set_max_size says otherwise. The marker bit goes on the last packet
+ * of an access unit. H26X_OUT_OF_MEMORY leaves the packets of the call before; H26X_WRONG_END writes 0 to *count.
+ * The memory of packets is kept for later calls.
+ *
+ * Parameter sets wait for the next unit that is none, and go before it, in one packet where they fit it together,
+ * else each alone. What a real stream meets:
+ * - A set that no packet holds is dropped, and no answer says so, since sets aren't fragmented. Keep `mtu` (and the
+ *   largest packet size) above the sets' lengths, by 2 bytes more with numbers; or give the sets to the peer in SDP.
+ * - Of several sets of a kind that wait together only the latest goes, whatever their ids. Send each itself by
+ *   h26x_packetize_unit, which is also how to send sets again every second.
+ * - A PPS waits until there is an SPS, an SPS until there is a PPS, and a VPS until there are both; pictures go
+ *   without them meanwhile. Where an encoder changes one alone, give the others again before it.
+ * - Access unit delimiters aren't sent, nor units of H.266 of types 28 and 29.
+ * - A unit of H.265 or H.266 that is a bare header of two bytes, as an end of sequence, is sent, but
+ *   h26x_depacketize refuses it as H26X_SHORT_PACKET, which changes nothing: leave such units out, or pass over the
+ *   refusal. */
+H26X_API uint32_t h26x_packetize(h26x_packetizer *p, size_t mtu, const uint8_t *payload, size_t payload_len,
+                                 size_t *count) H26X_MUST_USE;
 
-/* Makes the packets of one unit as it is: no start code is looked for in it, and whatever its kind it is sent now, itself
- * or in fragments. So a caller who has units need not join them, and may send parameter sets himself. Sets that wait stay.
- * There are no packets where no fragment has room for data or the unit has no whole header. The answers are those of
- * h26x_packetize. */
-uint32_t h26x_packetize_unit(h26x_packetizer *p, size_t mtu, const uint8_t *unit, size_t unit_len, size_t *count);
+/* Makes the packets of one unit as it is: no start code is looked for in it, and whatever its kind it is sent now,
+ * itself or in fragments. So a caller who has units need not join them, and may send parameter sets himself. Sets
+ * that wait stay. There are no packets where no fragment has room for data or the unit has no whole header. The
+ * answers are those of h26x_packetize. */
+H26X_API uint32_t h26x_packetize_unit(h26x_packetizer *p, size_t mtu, const uint8_t *unit, size_t unit_len,
+                                      size_t *count) H26X_MUST_USE;
 
-/* How many packets there are of the last call; 0 for a depacketizer. */
-size_t h26x_packet_count(h26x_packetizer *p);
+/* Makes the packets of a payload as h26x_packetize does, straight in the caller's memory: one behind the other from
+ * the front of `to`, each behind `headroom` bytes, which are left as they are for the headers of the layers below
+ * (`mtu` does not count them). ends[n] is where the n-th of them ends in `to`; it begins, with its headroom, where
+ * the one before it ends. *count is how many packets there are, *size how many bytes they take with their headroom.
+ * Where they don't fit in `room` bytes, or their ends in `ends_room` numbers, the answer is H26X_NO_ROOM, and all
+ * but *count and *size is left, so that the call can be made again with that much room. *size is SIZE_MAX where it
+ * would be more. `to` may be filled by more than one call; ends[n] counts from the `to` of its call. The packets
+ * that the handle holds, of h26x_packetize, stay. H26X_OUT_OF_MEMORY and H26X_WRONG_END write 0 to *count and *size.
+ * Each call takes memory for the list of its packets while it runs, but none for their bytes. */
+H26X_API uint32_t h26x_packetize_into(h26x_packetizer *p, size_t mtu, const uint8_t *payload, size_t payload_len,
+                                      size_t headroom, uint8_t *to, size_t room, size_t *ends, size_t ends_room,
+                                      size_t *count, size_t *size) H26X_MUST_USE;
 
-/* The length of packet i, in bytes; 0 past the last. */
-size_t h26x_packet_len(h26x_packetizer *p, size_t i);
+/* How many packets h26x_packetize_into would make of a payload, and how many bytes they take with their headroom. The
+ * packetizer is left. H26X_OUT_OF_MEMORY and H26X_WRONG_END write 0 to *count and *size. */
+H26X_API uint32_t h26x_packets_size(const h26x_packetizer *p, size_t mtu, const uint8_t *payload, size_t payload_len,
+                                    size_t headroom, size_t *count, size_t *size) H26X_MUST_USE;
+
+/* The same as h26x_packetize_into of one unit as it is, as h26x_packetize_unit sends it. */
+H26X_API uint32_t h26x_packetize_unit_into(h26x_packetizer *p, size_t mtu, const uint8_t *unit, size_t unit_len,
+                                           size_t headroom, uint8_t *to, size_t room, size_t *ends, size_t ends_room,
+                                           size_t *count, size_t *size) H26X_MUST_USE;
+
+/* How many packets there are of the last h26x_packetize or h26x_packetize_unit; 0 for a handle of another kind. */
+H26X_API size_t h26x_packet_count(const h26x_packetizer *p);
+
+/* The length of packet i of these, in bytes; 0 past the last. */
+H26X_API size_t h26x_packet_len(const h26x_packetizer *p, size_t i);
+
+/* How many bytes they are together: the room that h26x_packets_copy wants for all. */
+H26X_API size_t h26x_packets_len(const h26x_packetizer *p);
 
 /* Copies packet i to the front of `to` where it fits in `room` bytes, else leaves `to`. Answers the packet's length. */
-size_t h26x_packet_copy(h26x_packetizer *p, size_t i, uint8_t *to, size_t room);
+H26X_API size_t h26x_packet_copy(const h26x_packetizer *p, size_t i, uint8_t *to, size_t room);
 
-/* Copies packets, from packet `first` on, to the front of `to`, one behind the other, as many as fit in `room` bytes and
- * have room for their ends; ends[n] is where the n-th of them ends in `to`. Answers how many they are, and leaves the rest
- * of both buffers. */
-size_t h26x_packets_copy(h26x_packetizer *p, size_t first, uint8_t *to, size_t room, size_t *ends, size_t ends_room);
+/* Copies packets, from packet `first` on, to the front of `to`, one behind the other, as many as fit in `room` bytes
+ * and have room for their ends; ends[n] is where the n-th of them ends in `to`. Answers how many they are, and
+ * leaves the rest of both buffers. */
+H26X_API size_t h26x_packets_copy(const h26x_packetizer *p, size_t first, uint8_t *to, size_t room, size_t *ends,
+                                  size_t ends_room);
 
-/* ---- Receiving ---- */
+/* ---- Receiving packets of which none before it is missing ---- */
 
-/* A depacketizer with no fragmented unit open. `numbers`: whether packets bear decoding order numbers (H.265 and H.266).
- * The answers are those of h26x_packetizer_new. */
-uint32_t h26x_depacketizer_new(uint32_t codec, bool numbers, h26x_depacketizer *made);
+/* A depacketizer with no fragmented unit open. `numbers`: whether packets bear decoding order numbers (H.265 and
+ * H.266). The answers are those of h26x_packetizer_new. */
+H26X_API uint32_t h26x_depacketizer_new(uint32_t codec, bool numbers, h26x_depacketizer *made) H26X_MUST_USE;
 
 /* The same depacketizer again, with its open unit; not what its last packet completed. H26X_OUT_OF_MEMORY, or
  * H26X_WRONG_END. */
-uint32_t h26x_depacketizer_clone(h26x_depacketizer *d, h26x_depacketizer *made);
+H26X_API uint32_t h26x_depacketizer_clone(const h26x_depacketizer *d, h26x_depacketizer *made) H26X_MUST_USE;
 
-/* Frees it with its open unit. */
-void h26x_depacketizer_free(h26x_depacketizer d);
+/* Frees it with its open unit. A handle of NULL is nothing to be freed. */
+H26X_API void h26x_depacketizer_free(h26x_depacketizer d);
 
-/* Whether both are depacketizers, are of one codec and have the same settings and the same open unit; of H.265 they must
- * have accepted the same packet last as well. */
-bool h26x_depacketizer_same(h26x_depacketizer *a, h26x_depacketizer *b);
+/* Whether both are depacketizers, are of one codec and have the same settings and the same open unit; of H.265 they
+ * must have accepted the same packet last as well. */
+H26X_API bool h26x_depacketizer_same(const h26x_depacketizer *a, const h26x_depacketizer *b);
 
 /* Sets whether packets bear numbers. An open unit stays open. H26X_NOT_OF_THIS_CODEC for H.264;
  * H26X_WRONG_END. */
-uint32_t h26x_depacketizer_set_numbers(h26x_depacketizer *d, bool numbers);
+H26X_API uint32_t h26x_depacketizer_set_numbers(h26x_depacketizer *d, bool numbers);
 
-/* Takes a packet. The units that it completes, each behind 00 00 00 01, or with `avc` behind its length in four bytes
- * (as MP4 files have them: avc1, hvc1, vvc1; the highest byte first), are copied to the front of `to` where they fit in
- * `room` bytes; else `to` is left, and h26x_written_copy has them up to the next packet that is accepted. *written is
- * how many bytes they are. `avc` counts for this call alone.
- * *extra, in and out: 0 nothing told yet, 1 units but none of a keyframe, 2 a keyframe among them.
- * A refusal writes 0 to *written and its numbers to *why, and leaves all else: *extra, the open unit, and what the
- * packet before completed. H26X_WRONG_END. */
-uint32_t h26x_depacketize(h26x_depacketizer *d, bool avc, const uint8_t *packet, size_t packet_len, uint8_t *to,
-                          size_t room, size_t *written, uint8_t *extra, h26x_refusal *why);
+/* Takes a packet. The units that it completes, each behind 00 00 00 01, or with `avc` behind its length in four
+ * bytes (as MP4 files have them: avc1, hvc1, vvc1; the highest byte first), are written to the front of `to` where
+ * they fit in `room` bytes; else `to` is left, and h26x_written_copy has them up to the next packet that is
+ * accepted. *written is how many bytes they are. Without room the packet is read twice. `avc` counts for this call
+ * alone.
+ * *extra, in and out: 0 nothing told yet, 1 units but none of a keyframe, 2 a keyframe among them. A refusal
+ * writes 0 to *written and its numbers to *why, and leaves all else: *extra, the open unit, and what the packet
+ * before completed. So it is that packet's alone, and after H26X_OUT_OF_MEMORY the same one can be given again.
+ * H26X_WRONG_END.
+ *
+ * What a real stream meets:
+ * - It has no sequence numbers, so it doesn't notice a lost packet: where a fragment is missing the unit is written
+ *   without that one's data, and a recorder keeps it. Use h26x_receive; or call h26x_give_up_run wherever a number
+ *   is missing.
+ * - *extra tells of IDR pictures (H.264), IRAP pictures (H.265), IDR and CRA pictures (H.266), and not of a recovery
+ *   point without one (intra refresh, gradual decoding refresh): who begins there looks into the units.
+ * - A peer that never ends a unit makes the open unit as long as all it sends: h26x_receive has a limit; else add up
+ *   the lengths of the fragments since one had its S bit, and call h26x_give_up_run. What was written, and of H.265
+ *   the packet shown, are held too, each as large as the longest so far. */
+H26X_API uint32_t h26x_depacketize(h26x_depacketizer *d, bool avc, const uint8_t *packet, size_t packet_len,
+                                   uint8_t *to, size_t room, size_t *written, uint8_t *extra,
+                                   h26x_refusal *why) H26X_MUST_USE;
 
-/* Copies what the last accepted packet completed to the front of `to` where it fits, else leaves `to`. Answers how many
- * bytes it is; 0 for a packetizer. */
-size_t h26x_written_copy(h26x_depacketizer *d, uint8_t *to, size_t room);
+/* Copies what the last packet that was accepted completed, and had no room for, to the front of `to` where it fits,
+ * else leaves `to`. Answers how many bytes it is: 0 where that packet's units had room, and for a packetizer. Of a
+ * receiver, given as &r.at, it is so of the last packet that was taken. */
+H26X_API size_t h26x_written_copy(const h26x_depacketizer *d, uint8_t *to, size_t room);
 
-/* Gives up the open unit and frees its buffer, which grows by each fragment until the last one comes.
+/* Gives up the open unit and frees its buffer, which grows by each fragment until the last one comes. A caller of
+ * h26x_depacketize does so wherever a packet is missing, and where the unit has grown too long: h26x_receive does
+ * both. What follows of that unit is accepted and completes nothing. H26X_WRONG_END. */
+H26X_API uint32_t h26x_give_up_run(h26x_depacketizer *d);
+
+/* ---- Receiving packets with their sequence numbers ---- */
+
+/* What became of a packet (RFC 3550, 5.1). Numbers go round at 65536. */
+enum h26x_received {
+    H26X_IN_ORDER = 0, /* taken: it is the one that was expected, or the first of all. *count is 0 */
+    H26X_GAP = 1,      /* taken: *count packets before it are missing, and the unit that was open is given up */
+    H26X_TOO_LONG = 2, /* taken, with *count missing before it, and the unit that it left open is given up, since it held
+                        * more than the limit */
+    H26X_LATE = 3      /* not taken: it came late, or twice. *count is how far it is behind the one expected; 1 is the
+                        * number that was taken last */
+};
+
+/* A receiver that takes any number as the first, and then writes no unit of which a packet is missing, whatever a
+ * network loses, delays or brings twice, as long as gaps and delays are of fewer than 32768 packets. `numbers`:
+ * whether packets bear decoding order numbers (H.265 and H.266). `avc`: whether units are written behind lengths of
+ * four bytes, of every codec. `run_limit`: how many bytes of data, without the header, the open unit may hold from a
+ * packet to the next; while a packet is taken it holds that packet's data too. Choose it above the units that are
+ * expected: one that does not fit is left out whole. The answers are those of h26x_depacketizer_new. */
+H26X_API uint32_t h26x_receiver_new(uint32_t codec, bool numbers, bool avc, size_t run_limit,
+                                    h26x_receiver *made) H26X_MUST_USE;
+
+/* The same receiver again, with its open unit and the number that it expects; not what its last packet completed.
+ * H26X_OUT_OF_MEMORY, or H26X_WRONG_END. */
+H26X_API uint32_t h26x_receiver_clone(const h26x_receiver *r, h26x_receiver *made) H26X_MUST_USE;
+
+/* Frees it with its open unit. A handle of NULL is nothing to be freed. */
+H26X_API void h26x_receiver_free(h26x_receiver r);
+
+/* Sets whether packets bear decoding order numbers. An open unit stays open. H26X_NOT_OF_THIS_CODEC for H.264;
  * H26X_WRONG_END. */
-uint32_t h26x_give_up_run(h26x_depacketizer *d);
+H26X_API uint32_t h26x_receiver_set_numbers(h26x_receiver *r, bool numbers);
 
-/* ---- The packets that a depacketizer of H.265 shows ---- */
+/* Sets whether units are written behind lengths, or behind start codes. H26X_WRONG_END. */
+H26X_API uint32_t h26x_receiver_set_avc(h26x_receiver *r, bool avc);
+
+/* Takes a packet with its sequence number. *received is an h26x_received, and *count the number that it speaks of.
+ * What the packet completes is written to `to` where it fits, else h26x_written_copy(&r->at, ..) has it up to the
+ * next packet that is taken; *written is how many bytes that is, and *extra, in and out, what is told, as in
+ * h26x_depacketize. A unit is written only where each of its packets was taken, one behind the other; where one is
+ * missing the others of that unit are taken and complete nothing. Packets must come in their order: put a buffer
+ * before this call where a network changes it, since one that comes behind a later one is late. A packet that is
+ * late or comes twice writes 0 to *written and leaves all else. A refusal writes 0 to *written and its numbers to
+ * *why, and leaves all else, *received and *count too: it is as if the packet had not come, and one refused for want
+ * of memory can be given again. A number 32768 or more ahead of the one expected is late, so where a peer's numbers
+ * jump all its packets are late, one after the other: call h26x_receiver_restart. H26X_WRONG_END. */
+H26X_API uint32_t h26x_receive(h26x_receiver *r, uint16_t sequence, const uint8_t *packet, size_t packet_len,
+                               uint8_t *to, size_t room, size_t *written, uint8_t *extra, uint32_t *received,
+                               uint16_t *count, h26x_refusal *why) H26X_MUST_USE;
+
+/* Gives up the open unit, frees its buffer, and takes any number as the next. What the last packet completed and had
+ * no room for stays. H26X_WRONG_END. */
+H26X_API uint32_t h26x_receiver_restart(h26x_receiver *r);
+
+/* How many bytes of data the open unit holds, up to the limit; 0 where none is open, and for a handle of another
+ * kind. */
+H26X_API size_t h26x_receiver_run_len(const h26x_receiver *r);
+
+/* ---- The packets that a depacketizer or a receiver of H.265 shows ---- */
 
 /* What a packet is (RFC 7798, 4.4.1 to 4.4.4). */
 enum h26x_h265_kind { H26X_H265_SINGLE = 1, H26X_H265_FRAGMENT = 2, H26X_H265_AGGREGATE = 3, H26X_H265_PACI = 4 };
@@ -152,54 +314,57 @@ typedef struct {
     size_t parts;    /* how many h26x_h265_part_copy copies */
 } h26x_h265_packet;
 
-/* The packet that was accepted last; before there is one, H26X_H265_SINGLE with a header of 0 and a part without bytes.
- * H26X_NOT_OF_THIS_CODEC for H.264 and H.266; H26X_WRONG_END. */
-uint32_t h26x_h265_shown(h26x_depacketizer *d, h26x_h265_packet *shown);
+/* The packet that was accepted last; before there is one, H26X_H265_SINGLE with a header of 0 and a part without
+ * bytes. Of a receiver, given as &r.at, it is the packet that was taken last. H26X_NOT_OF_THIS_CODEC for H.264 and
+ * H.266; H26X_WRONG_END for a packetizer. */
+H26X_API uint32_t h26x_h265_shown(const h26x_depacketizer *d, h26x_h265_packet *shown) H26X_MUST_USE;
 
 /* What *number is where none was read. */
 enum { H26X_NO_NUMBER = 65536 };
 
-/* Copies part i of that packet to the front of `to` where it fits in `room` bytes, else leaves `to`. Answers the part's
- * length; 0 past the last part, and where nothing is shown. Parts are: of H26X_H265_SINGLE and H26X_H265_FRAGMENT what
- * stands behind the headers and DONL; of H26X_H265_AGGREGATE each unit; of H26X_H265_PACI the extension of the header,
- * in which TSCI is the first three bytes where F0 is set (4.5), and then the unit without its header.
- * *number is the number that stands before the part, DONL, or DOND of a unit behind the first, or H26X_NO_NUMBER. */
-size_t h26x_h265_part_copy(h26x_depacketizer *d, size_t i, uint8_t *to, size_t room, uint32_t *number);
+/* Copies part i of that packet to the front of `to` where it fits in `room` bytes, else leaves `to`. Answers the
+ * part's length; 0 past the last part, and where nothing is shown. Parts are: of H26X_H265_SINGLE and
+ * H26X_H265_FRAGMENT what stands behind the headers and DONL; of H26X_H265_AGGREGATE each unit; of H26X_H265_PACI
+ * the extension of the header, in which TSCI is the first three bytes where F0 is set (4.5), and then the unit
+ * without its header. *number is the number that stands before the part, DONL, or DOND of a unit behind the first,
+ * or H26X_NO_NUMBER. */
+H26X_API size_t h26x_h265_part_copy(const h26x_depacketizer *d, size_t i, uint8_t *to, size_t room, uint32_t *number);
 
 /* Packs a unit, its header first, into a PACI packet with an extension of the header (4.4.4), and copies that to the
  * front of `to` where it fits in `room` bytes, else leaves `to`; *len is the packet's length. F0 is set where the
  * extension has three bytes or more. H26X_SHORT_PACKET where the unit has under two bytes; else
  * H26X_H265_PACI_PHES_TOO_LONG where the extension has over 31; else H26X_OUT_OF_MEMORY. */
-uint32_t h26x_h265_paci_packet(const uint8_t *unit, size_t unit_len, const uint8_t *extension, size_t extension_len,
-                               uint8_t *to, size_t room, size_t *len);
+H26X_API uint32_t h26x_h265_paci_packet(const uint8_t *unit, size_t unit_len, const uint8_t *extension,
+                                        size_t extension_len, uint8_t *to, size_t room, size_t *len) H26X_MUST_USE;
 
 /* ---- Packets and payloads ---- */
 
 /* Whether a packet may be the first of an access unit; false for an unknown codec. */
-bool h26x_is_partition_head(uint32_t codec, const uint8_t *packet, size_t packet_len);
+H26X_API bool h26x_is_partition_head(uint32_t codec, const uint8_t *packet, size_t packet_len);
 
-/* Whether a packet is the last of an access unit, its marker bit given: of H.264 the marker; of H.265 and H.266 the E
- * bit of a fragment, whatever the marker, and the marker of every other packet. E is set where a unit ends, so an access
- * unit with a fragmented SEI message has more than one such packet: its end is told by the marker alone. False for an
- * unknown codec. */
-bool h26x_is_partition_tail(uint32_t codec, bool marker, const uint8_t *packet, size_t packet_len);
+/* Whether a packet is the last of an access unit, its marker bit given: of H.264 the marker; of H.265 and H.266 the
+ * E bit of a fragment, whatever the marker, and the marker of every other packet. E is set where a unit ends, so an
+ * access unit with a fragmented SEI message has more than one such packet: its end is told by the marker alone.
+ * False for an unknown codec. */
+H26X_API bool h26x_is_partition_tail(uint32_t codec, bool marker, const uint8_t *packet, size_t packet_len);
 
-/* Whether a packet without numbers is known to hold a unit of a keyframe, or to be the first fragment of one; false for
- * an unknown codec. */
-bool h26x_detect_keyframe(uint32_t codec, const uint8_t *packet, size_t packet_len);
+/* Whether a packet without numbers is known to hold a unit of a keyframe, or to be the first fragment of one; false
+ * for an unknown codec. */
+H26X_API bool h26x_detect_keyframe(uint32_t codec, const uint8_t *packet, size_t packet_len);
 
 /* Whether an H.264 packet is known to hold a unit of this type, or to be the first fragment of one. */
-bool h26x_detect_h264_nalu(const uint8_t *packet, size_t packet_len, uint8_t type);
+H26X_API bool h26x_detect_h264_nalu(const uint8_t *packet, size_t packet_len, uint8_t type);
 
-/* Where the next unit of a payload stands, from `from` on: the bytes from *begin up to *end, which are written where the
- * answer is true. Begin with 0, and go on from *end. A payload without a start code is one unit, and an empty unit is left
- * out. False where no unit is left, or for an unknown codec. */
-bool h26x_next_unit(uint32_t codec, const uint8_t *payload, size_t payload_len, size_t from, size_t *begin, size_t *end);
+/* Where the next unit of a payload stands, from `from` on: the bytes from *begin up to *end, which are written where
+ * the answer is true. Begin with 0, and go on from *end. A payload without a start code is one unit, and an empty
+ * unit is left out. False where no unit is left, or for an unknown codec. */
+H26X_API bool h26x_next_unit(uint32_t codec, const uint8_t *payload, size_t payload_len, size_t from, size_t *begin,
+                             size_t *end) H26X_MUST_USE;
 
-/* About how many bytes the units of packets of this many bytes take when they are written: these bytes, four more, and
- * four for each whole 1200 of them. It is no bound, since each unit of a short packet or an aggregate has four bytes
- * before it: 50 units of 100 bytes take 5200, and the hint is 5020. */
-size_t h26x_out_size_hint(size_t packets_size);
+/* About how many bytes the units of packets of this many bytes take when they are written: these bytes, four more,
+ * and four for each whole 1200 of them. It is no bound, since each unit of a short packet or an aggregate has four
+ * bytes before it: 50 units of 100 bytes take 5200, and the hint is 5020. */
+H26X_API size_t h26x_out_size_hint(size_t packets_size);
 
 /* ---- Profiles and levels, as SDP names them ---- */
 
@@ -243,7 +408,7 @@ enum h26x_h264_level {
 
 /* Whether the three bytes of a `profile-level-id`, the lower ones of the number, name a profile and a level of H.264
  * (RFC 6184, 8.1); *profile and *level are then the numbers above. Else both stay. 0x64001f is High at level 3.1. */
-bool h26x_h264_profile_level(uint32_t profile_level_id, uint8_t *profile, uint8_t *level);
+H26X_API bool h26x_h264_profile_level(uint32_t profile_level_id, uint8_t *profile, uint8_t *level);
 
 /* `profile-id` of H.265 (RFC 7798, 7.1). */
 enum h26x_h265_profile {
@@ -279,7 +444,7 @@ enum h26x_h265_level {
 
 /* Whether `profile-id`, `tier-flag` (0 Main, 1 High) and `level-id` of H.265 are all known (RFC 7798, 7.1). Where a
  * format says nothing they are H26X_H265_MAIN, 0 and H26X_H265_LEVEL_3_1. */
-bool h26x_h265_is_known(uint8_t profile_id, uint8_t tier_flag, uint8_t level_id);
+H26X_API bool h26x_h265_is_known(uint8_t profile_id, uint8_t tier_flag, uint8_t level_id);
 
 /* `profile-id` of H.266 (RFC 9328, 7.2). */
 enum h26x_h266_profile {
@@ -314,7 +479,7 @@ enum h26x_h266_level {
 
 /* Whether `profile-id`, `tier-flag` (0 Main, 1 High) and `level-id` of H.266 are all known (RFC 9328, 7.2). Where a
  * format says nothing they are H26X_H266_MAIN_10, 0 and H26X_H266_LEVEL_3_1. */
-bool h26x_h266_is_known(uint8_t profile_id, uint8_t tier_flag, uint8_t level_id);
+H26X_API bool h26x_h266_is_known(uint8_t profile_id, uint8_t tier_flag, uint8_t level_id);
 
 #ifdef __cplusplus
 }

@@ -34,17 +34,20 @@ macro_rules! codec_extra {
 }
 
 codec_extra! {
-    /// What is told of H.264 units. A keyframe's are slices of an IDR picture, type 5.
+    /// What is told of H.264 units. A keyframe's are slices of an IDR picture, type 5. A recovery point
+    /// without one, as of intra refresh, is none.
     H264CodecExtra
 }
 
 codec_extra! {
-    /// What is told of H.265 units. A keyframe's are slices of an IRAP picture, types 16 to 21.
+    /// What is told of H.265 units. A keyframe's are slices of an IRAP picture, types 16 to 21. A
+    /// recovery point without one, as of intra refresh, is none.
     H265CodecExtra
 }
 
 codec_extra! {
     /// What is told of H.266 units. A keyframe's are slices of an IDR or a CRA picture, types 7 to 9.
+    /// Those of a GDR picture, type 10, at which a gradual decoding refresh begins, are none.
     H266CodecExtra
 }
 

@@ -4,14 +4,28 @@ use crate::codec::{Codec, CodecExtra};
 use crate::error::PacketError;
 use crate::handle::{Handle, Receiving};
 use crate::packet::Depacketizer;
-use crate::shown::{H265Payload, shown};
-use crate::sys::{self, Refusal};
+use crate::shown::{H265Payload, LastPacket};
+use crate::sys;
 
-/// The bytes before a unit: a start code, or its length.
-const BEFORE_UNIT: usize = 4;
+/// What the depacketizers of all codecs are.
+#[derive(Debug, Clone)]
+struct Receiver {
+    handle: Handle<Receiving>,
+    /// Whether packets bear decoding order numbers, as the handle has it too.
+    has_donl: bool,
+    /// What one of H.265 shows.
+    last: LastPacket,
+}
 
-/// What the depacketizers of all codecs do.
-impl Handle<Receiving> {
+impl Receiver {
+    fn new(codec: Codec) -> Self {
+        Receiver {
+            handle: Handle::new(codec),
+            has_donl: false,
+            last: LastPacket::default(),
+        }
+    }
+
     /// Takes a packet, and has what it completes written straight behind what stands in `out`.
     fn depacketize(
         &mut self,
@@ -20,70 +34,60 @@ impl Handle<Receiving> {
         out: &mut Vec<u8>,
         extra: &mut CodecExtra,
     ) -> Result<(), PacketError> {
-        out.reserve(packet.len() + BEFORE_UNIT);
-        let room = out.spare_capacity_mut();
-        let mut told = extra.told(self.codec());
-        let (mut written, mut why) = (0, Refusal::default());
-        // SAFETY: the handle is live and ours alone, `packet` and `room` are one slice each, apart
-        // from one another, and the others are one number each. The call only writes to `room`.
-        let code = unsafe {
+        let handle = &mut self.handle;
+        // SAFETY: the handle is live and ours alone, `packet` and `to` are one slice each, apart
+        // from one another, and the others are one number each. The call only writes to `to`.
+        handle.take(packet, out, extra, |raw, packet, to, told| unsafe {
             sys::h26x_depacketize(
-                self.raw(),
+                raw,
                 avc,
                 packet.as_ptr(),
                 packet.len(),
-                room.as_mut_ptr().cast(),
-                room.len(),
-                &mut written,
-                &mut told,
-                &mut why,
+                to.as_mut_ptr().cast(),
+                to.len(),
+                &mut told.written,
+                &mut told.extra,
+                &mut told.why,
             )
-        };
-        PacketError::of(code, &why)?;
-        if written > room.len() {
-            self.copy_written(written, out);
-        }
-        // SAFETY: one of the calls wrote `written` bytes there, since they fit.
-        unsafe { out.set_len(out.len() + written) };
-        extra.tell(self.codec(), told);
+        })?;
+        self.last.is_another(self.has_donl);
         Ok(())
     }
 
-    /// Has what the last packet completed, so many bytes, written behind what stands in `out`.
-    fn copy_written(&mut self, written: usize, out: &mut Vec<u8>) {
-        out.reserve(written);
-        let room = out.spare_capacity_mut();
-        // SAFETY: the handle is live and ours alone, and `room` is one slice, which the call only
-        // writes to.
-        let copied =
-            unsafe { sys::h26x_written_copy(self.raw(), room.as_mut_ptr().cast(), room.len()) };
-        assert_eq!(copied, written, "it stays until the next packet");
-    }
-
-    fn set_numbers(&mut self, numbers: bool) {
+    fn set_numbers(&mut self, has_donl: bool) {
         // SAFETY: the handle is live and ours alone.
-        let code = unsafe { sys::h26x_depacketizer_set_numbers(self.raw(), numbers) };
+        let code = unsafe { sys::h26x_depacketizer_set_numbers(self.handle.raw(), has_donl) };
         assert_eq!(code, 0, "a codec with numbers");
+        self.has_donl = has_donl;
     }
 
     fn give_up_run(&mut self) {
         // SAFETY: the handle is live and ours alone.
-        let code = unsafe { sys::h26x_give_up_run(self.raw()) };
+        let code = unsafe { sys::h26x_give_up_run(self.handle.raw()) };
         assert_eq!(code, 0, "a depacketizer");
     }
 
     fn is_head(&self, packet: &[u8]) -> bool {
-        let codec = self.codec().number();
+        let codec = self.handle.codec().number();
         // SAFETY: `packet` is one slice.
         unsafe { sys::h26x_is_partition_head(codec, packet.as_ptr(), packet.len()) }
     }
 
     fn is_tail(&self, marker: bool, packet: &[u8]) -> bool {
-        let codec = self.codec().number();
+        let codec = self.handle.codec().number();
         // SAFETY: `packet` is one slice.
         unsafe { sys::h26x_is_partition_tail(codec, marker, packet.as_ptr(), packet.len()) }
     }
 }
+
+/// The library knows the settings, and what was accepted last.
+impl PartialEq for Receiver {
+    fn eq(&self, other: &Self) -> bool {
+        self.handle == other.handle
+    }
+}
+
+impl Eq for Receiver {}
 
 macro_rules! depacketizer {
     ($(#[$doc:meta])* $name:ident, $codec:expr) => {
@@ -96,30 +100,41 @@ macro_rules! depacketizer {
             /// Whether units are written behind lengths of four bytes, as MP4 files have them
             /// (ISO/IEC 14496-15: `avc1`, `hvc1`, `vvc1`), and not behind start codes. False at
             /// first.
+            ///
+            /// A unit has the form that is set when the packet comes that completes it.
             pub is_avc: bool,
-            handle: Handle<Receiving>,
+            receiver: Receiver,
         }
 
-        /// A depacketizer with no unit open.
+        /// A depacketizer with no unit open, which writes start codes and reads no decoding order
+        /// numbers.
         impl Default for $name {
             fn default() -> Self {
-                let handle = Handle::new($codec);
                 $name {
                     is_avc: false,
-                    handle,
+                    receiver: Receiver::new($codec),
                 }
             }
         }
 
         impl $name {
-            /// Gives up the unit that is open and frees its buffer. It takes no memory.
+            /// Gives up the open unit and frees its buffer (the reassembly buffer). It takes no
+            /// memory.
             ///
-            /// The buffer grows by each fragment until the last one comes, and stays for later
-            /// units: a caller that will not hold so much calls this, and so does one that misses a
-            /// fragment by its sequence number. What follows of that unit is accepted and completes
-            /// nothing.
+            /// A fragment that starts a unit opens it, each later one adds its data, and it stays open
+            /// until a fragment ends it or another starts one. There is no limit, so a peer that never
+            /// ends a unit makes the buffer as long as all that it sends; and the buffer is kept for
+            /// later units, as large as the longest so far. So a caller calls this
+            ///
+            /// - where a packet is missing by its sequence number: else the unit is written without
+            ///   that one's data;
+            /// - past a limit of its own. No call tells how long the open unit is: add up the lengths
+            ///   of the packets since one completed a unit.
+            ///
+            /// What follows of the unit is accepted and completes nothing, and the next start begins
+            /// anew. A [`SequencedDepacketizer`](crate::SequencedDepacketizer) does both by itself.
             pub fn give_up_run(&mut self) {
-                self.handle.give_up_run();
+                self.receiver.give_up_run();
             }
         }
 
@@ -134,16 +149,16 @@ macro_rules! depacketizer {
                 out: &mut Vec<u8>,
                 codec_extra: &mut CodecExtra,
             ) -> Result<(), PacketError> {
-                self.handle
+                self.receiver
                     .depacketize(self.is_avc, packet, out, codec_extra)
             }
 
             fn is_partition_head(&self, packet: &[u8]) -> bool {
-                self.handle.is_head(packet)
+                self.receiver.is_head(packet)
             }
 
             fn is_partition_tail(&self, marker: bool, packet: &[u8]) -> bool {
-                self.handle.is_tail(marker, packet)
+                self.receiver.is_tail(marker, packet)
             }
         }
     };
@@ -210,10 +225,13 @@ depacketizer! {
 macro_rules! numbered {
     ($name:ident) => {
         impl $name {
-            /// Sets whether packets bear decoding order numbers: where `sprop-max-don-diff` is over
-            /// 0 (RFC 7798, 7.1; RFC 9328, 7.2). An open unit stays open.
+            /// Sets whether packets bear decoding order numbers (DONL and DOND): where
+            /// `sprop-max-don-diff` is over 0 (RFC 7798, 7.1; RFC 9328, 7.2). An open unit stays open.
+            ///
+            /// Nothing in a packet tells it. Set otherwise than the sender's, numbers are read as
+            /// bytes of units, or bytes of units as numbers.
             pub fn with_donl(&mut self, value: bool) {
-                self.handle.set_numbers(value);
+                self.receiver.set_numbers(value);
             }
         }
     };
@@ -223,9 +241,13 @@ numbered!(H265Depacketizer);
 numbered!(H266Depacketizer);
 
 impl H265Depacketizer {
-    /// The packet that was accepted last (RFC 7798, 4.4), as a copy of what the library holds;
-    /// before any, a single NAL unit packet with a header of 0 and no bytes. A refused packet isn't
-    /// shown.
+    /// The packet that was accepted last (RFC 7798, 4.4); before any, a single NAL unit packet with a
+    /// header of 0 and no bytes. A refused packet isn't shown.
+    ///
+    /// The library keeps a copy of each packet for this, in memory of those before: a buffer as large
+    /// as the longest, and for the units of aggregates three lists, in which up to 256 units each stay
+    /// as large as the longest that stood in their place. The first call behind a packet copies it from
+    /// there, into memory of Rust's, and later ones answer that copy, up to the next packet.
     ///
     /// ```
     /// use emupedestal::{CodecExtra, Depacketizer, H265Depacketizer, H265Payload};
@@ -238,7 +260,7 @@ impl H265Depacketizer {
     /// assert_eq!((shown.fu_header().fu_type(), shown.payload()), (19, [0xaa].as_slice()));
     /// # Ok::<(), emupedestal::PacketError>(())
     /// ```
-    pub fn payload(&self) -> H265Payload {
-        shown(&self.handle)
+    pub fn payload(&self) -> &H265Payload {
+        self.receiver.last.of(&self.receiver.handle)
     }
 }

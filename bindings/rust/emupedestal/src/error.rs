@@ -5,14 +5,19 @@ use std::error::Error;
 use std::fmt;
 
 /// Why a call is refused. A refused call changes nothing.
+///
+/// Of a depacketizer it is that packet's alone: pass the packet over, and go on with the next. The
+/// names are str0m's, but for the last two: where those errors are mapped to others, as in the
+/// example `str0m_dispatch`, `AvcUnitTooLong` and `OutOfMemory` need variants of their own.
 #[derive(Debug, Clone, Copy, PartialEq, Eq)]
 #[non_exhaustive]
 pub enum PacketError {
     /// A packet ends before what its type asks for (RFC 6184, 5.6 to 5.8; RFC 7798, 4.4; RFC 9328,
-    /// 4.3).
+    /// 4.3). Of H.265 and H.266 a unit that is a bare header, as an end of sequence, comes to it too.
     ErrShortPacket,
 
-    /// H.264: a packet of this type is none that a depacketizer reads (RFC 6184, 5.2 and 5.4).
+    /// H.264: a packet of this type is none that a depacketizer reads: 0, 25 to 27 and 29 to 31 (RFC
+    /// 6184, 5.2 and 5.4).
     NaluTypeIsNotHandled(u8),
 
     /// H.264: a STAP-A gives this length where only so many bytes are left (RFC 6184, 5.7.1).
@@ -28,10 +33,11 @@ pub enum PacketError {
     /// (RFC 9328, 1.1.4 and 4.3.2).
     ErrH266CorruptedPacket,
 
-    /// Behind lengths: the unit's doesn't fit four bytes (ISO/IEC 14496-15).
+    /// Behind lengths: the unit's doesn't fit four bytes (ISO/IEC 14496-15). It has over
+    /// 4,294,967,295 bytes, so only a peer's endless unit comes to it: call `give_up_run`.
     AvcUnitTooLong,
 
-    /// The library had no memory: C's `malloc` gave none.
+    /// The library had no memory: C's `malloc` gave none. The same call can be made again.
     OutOfMemory,
 }
 

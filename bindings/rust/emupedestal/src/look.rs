@@ -26,12 +26,18 @@ pub fn detect_h264_keyframe(payload: &[u8]) -> bool {
 
 /// Whether an H.265 packet without decoding order numbers is known to hold a slice of an IRAP
 /// picture, types 16 to 21, or to be the first fragment of one (RFC 7798, 4.4).
+///
+/// The units of an aggregate with numbers are read at wrong places: look at
+/// [`CodecExtra`](crate::CodecExtra) there, once it is taken.
 pub fn detect_h265_keyframe(payload: &[u8]) -> bool {
     detect_keyframe(Codec::H265, payload)
 }
 
 /// Whether an H.266 packet without decoding order numbers is known to hold a slice of an IDR or a
 /// CRA picture, types 7 to 9, or to be the first fragment of one (RFC 9328, 4.3).
+///
+/// The units of an aggregate with numbers are read at wrong places: look at
+/// [`CodecExtra`](crate::CodecExtra) there, once it is taken.
 pub fn detect_h266_keyframe(payload: &[u8]) -> bool {
     detect_keyframe(Codec::H266, payload)
 }

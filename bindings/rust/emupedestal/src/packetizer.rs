@@ -5,26 +5,44 @@ use crate::error::PacketError;
 use crate::handle::{Handle, Sending};
 use crate::packet::Packetizer;
 use crate::packets::Packets;
-use crate::sys::{self, Raw, Refusal};
+use crate::sys::{self, NO_ROOM, Raw, Refusal};
 
-/// A call of the library that makes packets: of a payload, or of one unit.
-type Make = unsafe extern "C" fn(*mut Raw, usize, *const u8, usize, *mut usize) -> u32;
+/// A call of the library that makes packets in memory, each behind its headroom: of a payload, or of
+/// one unit.
+type Make = unsafe extern "C" fn(
+    *mut Raw,
+    usize,
+    *const u8,
+    usize,
+    usize,
+    *mut u8,
+    usize,
+    *mut usize,
+    usize,
+    *mut usize,
+    *mut usize,
+) -> u32;
 
-/// What the packetizers of all codecs do.
-impl Handle<Sending> {
-    /// Makes packets of `b`, which the handle keeps; how many they are.
-    fn make(&mut self, make: Make, mtu: usize, b: &[u8]) -> Result<usize, PacketError> {
-        let mut count = 0;
-        // SAFETY: the handle is live and ours alone, `b` is one slice, and `count` is a number.
-        let code = unsafe { make(self.raw(), mtu, b.as_ptr(), b.len(), &mut count) };
-        PacketError::of(code, &Refusal::default())?;
-        Ok(count)
+/// What the packetizers of all codecs are.
+#[derive(Debug)]
+struct Sender {
+    handle: Handle<Sending>,
+    /// Memory in which packets are made that go into `Vec`s of their own.
+    kept: Packets,
+}
+
+impl Sender {
+    fn new(codec: Codec) -> Self {
+        Sender {
+            handle: Handle::new(codec),
+            kept: Packets::default(),
+        }
     }
 
     /// The packets of `b`, each in memory of its own.
     fn packets(&mut self, make: Make, mtu: usize, b: &[u8]) -> Result<Vec<Vec<u8>>, PacketError> {
-        let count = self.make(make, mtu, b)?;
-        Ok((0..count).map(|i| self.kept(i)).collect())
+        make_into(&mut self.handle, make, mtu, b, &mut self.kept)?;
+        Ok(self.kept.iter().map(<[u8]>::to_vec).collect())
     }
 
     /// The packets of `b`, in the place of those in `packets`.
@@ -35,55 +53,68 @@ impl Handle<Sending> {
         b: &[u8],
         packets: &mut Packets,
     ) -> Result<(), PacketError> {
-        let count = self.make(make, mtu, b)?;
-        let len = (0..count).map(|i| self.kept_len(i)).sum();
-        let (bytes, ends) = packets.room(len, count);
-        // SAFETY: the handle is live and ours alone, and `bytes` and `ends` are one slice each, apart
-        // from one another, which the call only writes to.
-        let copied = unsafe {
-            sys::h26x_packets_copy(
-                self.raw(),
-                0,
-                bytes.as_mut_ptr().cast(),
-                bytes.len(),
-                ends.as_mut_ptr().cast(),
-                ends.len(),
-            )
-        };
-        assert_eq!(copied, count, "there is room for all packets");
-        // SAFETY: the call wrote all packets, `len` bytes, and `count` ends.
-        unsafe { packets.set_len(len, count) };
-        Ok(())
-    }
-
-    /// The length of packet `i`.
-    fn kept_len(&mut self, i: usize) -> usize {
-        // SAFETY: the handle is live and ours alone.
-        unsafe { sys::h26x_packet_len(self.raw(), i) }
-    }
-
-    /// A copy of packet `i`, written straight into its own memory.
-    fn kept(&mut self, i: usize) -> Vec<u8> {
-        let len = self.kept_len(i);
-        let mut packet = Vec::with_capacity(len);
-        // SAFETY: the handle is live and ours alone, and there is room for `len` bytes.
-        let copied = unsafe { sys::h26x_packet_copy(self.raw(), i, packet.as_mut_ptr(), len) };
-        assert_eq!(copied, len, "a packet keeps its length");
-        // SAFETY: the call wrote the packet, `len` bytes, since they fit.
-        unsafe { packet.set_len(len) };
-        packet
+        make_into(&mut self.handle, make, mtu, b, packets)
     }
 
     fn set_numbers(&mut self, numbers: bool) {
         // SAFETY: the handle is live and ours alone.
-        let code = unsafe { sys::h26x_packetizer_set_numbers(self.raw(), numbers) };
+        let code = unsafe { sys::h26x_packetizer_set_numbers(self.handle.raw(), numbers) };
         assert_eq!(code, 0, "a codec with numbers");
     }
 
     fn set_max_size(&mut self, bytes: u16) {
         // SAFETY: the handle is live and ours alone.
-        let code = unsafe { sys::h26x_packetizer_set_max_size(self.raw(), bytes) };
+        let code = unsafe { sys::h26x_packetizer_set_max_size(self.handle.raw(), bytes) };
         assert_eq!(code, 0, "a largest packet size is 4 or more");
+    }
+}
+
+/// What was made is not copied.
+impl Clone for Sender {
+    fn clone(&self) -> Self {
+        Sender {
+            handle: self.handle.clone(),
+            kept: Packets::default(),
+        }
+    }
+}
+
+/// Makes the packets of `b` in the place of those in `packets`, whose room grows where they don't fit.
+fn make_into(
+    handle: &mut Handle<Sending>,
+    make: Make,
+    mtu: usize,
+    b: &[u8],
+    packets: &mut Packets,
+) -> Result<(), PacketError> {
+    loop {
+        let headroom = packets.headroom();
+        let (bytes, ends) = packets.room();
+        let (mut count, mut size) = (0, 0);
+        // SAFETY: the handle is live and ours alone; `b`, `bytes` and `ends` are one slice each, apart
+        // from one another, and `count` and `size` are numbers.
+        let code = unsafe {
+            make(
+                handle.raw(),
+                mtu,
+                b.as_ptr(),
+                b.len(),
+                headroom,
+                bytes.as_mut_ptr(),
+                bytes.len(),
+                ends.as_mut_ptr(),
+                ends.len(),
+                &mut count,
+                &mut size,
+            )
+        };
+        if code == NO_ROOM {
+            packets.grow(count, size);
+            continue;
+        }
+        PacketError::of(code, &Refusal::default())?;
+        packets.take(count);
+        return Ok(());
     }
 }
 
@@ -95,14 +126,15 @@ macro_rules! packetizer {
         /// `default` panic where the library has no memory.
         #[derive(Debug, Clone)]
         pub struct $name {
-            handle: Handle<Sending>,
+            sender: Sender,
         }
 
         /// A packetizer for which nothing waits.
         impl Default for $name {
             fn default() -> Self {
-                let handle = Handle::new($codec);
-                $name { handle }
+                $name {
+                    sender: Sender::new($codec),
+                }
             }
         }
 
@@ -110,45 +142,52 @@ macro_rules! packetizer {
             /// The RTP payloads of `b` as [`Packetizer::packetize`] makes them, in the place of those
             /// in `packets`, whose memory is used again.
             ///
-            /// It is the faster call: it asks for no memory for each packet. A refusal leaves
-            /// `packets`.
+            /// It is the faster call: it asks for no memory for each packet. What stands there of
+            /// limits, of errors and of what isn't sent holds here too. A refusal leaves `packets`.
             pub fn packetize_into(
                 &mut self,
                 mtu: usize,
                 b: &[u8],
                 packets: &mut Packets,
             ) -> Result<(), PacketError> {
-                self.handle.packets_into(sys::h26x_packetize, mtu, b, packets)
+                self.sender
+                    .packets_into(sys::h26x_packetize_into, mtu, b, packets)
             }
 
             /// The RTP payloads of one NAL unit as it is: no start code is looked for in it, and
             /// whatever its kind it is sent now, itself or in fragments.
             ///
-            /// So whoever has units need not join them, and may send parameter sets himself. Sets
-            /// that wait stay.
+            /// So whoever has units need not join them, and may send parameter sets himself: several
+            /// of a kind, again every second, or longer than a packet. Sets that wait stay.
+            ///
+            /// There are no packets where no fragment has room for data, as
+            /// [`Packetizer::packetize`] says, or the unit has no whole header: one byte of H.264, two
+            /// of the others. `OutOfMemory` is the only error, and leaves the packetizer as it is.
             pub fn packetize_unit(
                 &mut self,
                 mtu: usize,
                 unit: &[u8],
             ) -> Result<Vec<Vec<u8>>, PacketError> {
-                self.handle.packets(sys::h26x_packetize_unit, mtu, unit)
+                self.sender
+                    .packets(sys::h26x_packetize_unit_into, mtu, unit)
             }
 
-            /// The same packets in the place of those in `packets`, whose memory is used again. A
-            /// refusal leaves `packets`.
+            /// The packets of [`packetize_unit`](Self::packetize_unit) in the place of those in
+            /// `packets`, whose memory is used again. A refusal leaves `packets`.
             pub fn packetize_unit_into(
                 &mut self,
                 mtu: usize,
                 unit: &[u8],
                 packets: &mut Packets,
             ) -> Result<(), PacketError> {
-                self.handle.packets_into(sys::h26x_packetize_unit, mtu, unit, packets)
+                self.sender
+                    .packets_into(sys::h26x_packetize_unit_into, mtu, unit, packets)
             }
         }
 
         impl Packetizer for $name {
             fn packetize(&mut self, mtu: usize, b: &[u8]) -> Result<Vec<Vec<u8>>, PacketError> {
-                self.handle.packets(sys::h26x_packetize, mtu, b)
+                self.sender.packets(sys::h26x_packetize_into, mtu, b)
             }
 
             fn is_marker(&mut self, _data: &[u8], _previous: Option<&[u8]>, last: bool) -> bool {
@@ -181,7 +220,8 @@ packetizer! {
     ///
     /// A VPS, an SPS and a PPS wait for the next unit that is none of them, and go before it, in
     /// one AP where that fits. Access unit delimiters aren't sent. No packet has more than 1200
-    /// bytes unless [`with_max_packet_size`](Self::with_max_packet_size) says so.
+    /// bytes, whatever the `mtu`, unless [`with_max_packet_size`](Self::with_max_packet_size) says
+    /// so.
     ///
     /// ```
     /// use emupedestal::{H265Packetizer, Packetizer};
@@ -200,7 +240,7 @@ packetizer! {
     ///
     /// A VPS, an SPS and a PPS wait for the next unit that is none of them, and go before it, in
     /// one AP where that fits. Access unit delimiters and units of types 28 and 29 aren't sent. No
-    /// packet has more than 1200 bytes unless
+    /// packet has more than 1200 bytes, whatever the `mtu`, unless
     /// [`with_max_packet_size`](Self::with_max_packet_size) says so.
     ///
     /// ```
@@ -219,21 +259,28 @@ packetizer! {
 macro_rules! numbered {
     ($name:ident) => {
         impl $name {
-            /// Turns decoding order numbers on, which begin at 0, or off (RFC 7798, 4.6; RFC 9328,
-            /// 4.4). Parameter sets that wait stay. A receiver learns of it by
-            /// `sprop-max-don-diff`.
+            /// Turns decoding order numbers (DONL and DOND) on, which begin at 0, or off (RFC 7798,
+            /// 4.6; RFC 9328, 4.4). Parameter sets that wait stay.
+            ///
+            /// A receiver learns of it by `sprop-max-don-diff` of the session description, over 0
+            /// (RFC 7798, 7.1; RFC 9328, 7.2): nothing in a packet tells it. Turned on again, they
+            /// begin at 0 again.
             pub fn with_donl(&mut self, has_donl: bool) {
-                self.handle.set_numbers(has_donl);
+                self.sender.set_numbers(has_donl);
             }
 
-            /// Sets the largest packet size, in bytes: no packet of a later call is longer, whatever
-            /// its `mtu`. It is 1200 at first.
+            /// Sets the largest packet size, in bytes, as the `mtu` counts them: no packet of a later
+            /// call is longer, whatever its `mtu`. It is 1200 at first.
+            ///
+            /// A parameter set that is longer is dropped, and no call says so, as
+            /// [`Packetizer::packetize`] tells: choose it above the longest set. Where packets bear
+            /// decoding order numbers, a fragment has room for data from 6 bytes on.
             ///
             /// # Panics
             ///
             /// Where `n` is under 4: no fragment has room for data then.
             pub fn with_max_packet_size(&mut self, n: u16) {
-                self.handle.set_max_size(n);
+                self.sender.set_max_size(n);
             }
         }
     };

@@ -1,94 +1,147 @@
 //! Packets in one buffer.
 
-use std::mem::MaybeUninit;
+use std::fmt;
 use std::ops::{Index, Range};
 
 /// The packets of a call, one behind the other in one buffer, which keeps its memory from call to
 /// call.
 ///
+/// Before each packet so many bytes are left as [`with_headroom`](Self::with_headroom) says, for the
+/// headers of the layers below. What stands there is the caller's: a call that makes packets leaves
+/// it as it is, so write all of it.
+///
 /// ```
 /// use emupedestal::{H264Packetizer, Packets};
 ///
 /// let mut packetizer = H264Packetizer::default();
-/// let mut packets = Packets::default();
+/// let mut packets = Packets::with_headroom(12);
 /// packetizer.packetize_into(5, &[0, 0, 1, 0x65, 1, 2, 3, 4, 5, 6], &mut packets)?;
 /// assert_eq!(packets.len(), 2);
 /// assert_eq!(packets[0], [0x7c, 0x85, 1, 2, 3]);
-/// for packet in &packets {
-///     assert_eq!(packet.len(), 5);
+/// for i in 0..packets.len() {
+///     // The header of RTP (RFC 3550, 5.1), and behind it the packet: ready for a socket.
+///     let datagram = packets.datagram_mut(i);
+///     datagram[0] = 0x80;
+///     assert_eq!(datagram.len(), 12 + 5);
 /// }
 /// # Ok::<(), emupedestal::PacketError>(())
 /// ```
-#[derive(Debug, Default, Clone, PartialEq, Eq)]
+#[derive(Default, Clone)]
 pub struct Packets {
+    // Both have all that they ever had room for; the packets stand in front.
     bytes: Vec<u8>,
     ends: Vec<usize>,
+    count: usize,
+    headroom: usize,
 }
 
 impl Packets {
+    /// No packets yet, and so many bytes before each of those that come, in bytes.
+    pub fn with_headroom(headroom: usize) -> Self {
+        Packets {
+            headroom,
+            ..Packets::default()
+        }
+    }
+
+    /// How many bytes are before each packet.
+    pub fn headroom(&self) -> usize {
+        self.headroom
+    }
+
     /// How many packets there are.
     pub fn len(&self) -> usize {
-        self.ends.len()
+        self.count
     }
 
     /// Whether there are none.
     pub fn is_empty(&self) -> bool {
-        self.ends.is_empty()
+        self.count == 0
     }
 
-    /// Packet `i`, counted from 0.
+    /// Packet `i`, counted from 0, without what is before it.
     pub fn get(&self, i: usize) -> Option<&[u8]> {
-        let end = *self.ends.get(i)?;
-        let begin = if i == 0 { 0 } else { self.ends[i - 1] };
-        Some(&self.bytes[begin..end])
+        let place = self.place(i)?;
+        Some(&self.bytes[place.start + self.headroom..place.end])
     }
 
-    /// The packets, in order.
+    /// The packets, in order, each without what is before it.
     pub fn iter(&self) -> PacketIter<'_> {
         self.into_iter()
     }
 
-    /// All packets, one behind the other.
+    /// Packet `i` behind its headroom, to be written: what goes to a socket once the headers stand
+    /// there. It panics past the last.
+    pub fn datagram_mut(&mut self, i: usize) -> &mut [u8] {
+        let place = self.place(i).expect("a packet with this number");
+        &mut self.bytes[place]
+    }
+
+    /// All packets, one behind the other, each behind its headroom.
     pub fn bytes(&self) -> &[u8] {
-        &self.bytes
+        &self.bytes[..self.end_of_first(self.count)]
     }
 
-    /// Where each packet ends in [`bytes`](Self::bytes); it begins where the one before it ends.
+    /// The same, to be written in place.
+    pub fn bytes_mut(&mut self) -> &mut [u8] {
+        let len = self.end_of_first(self.count);
+        &mut self.bytes[..len]
+    }
+
+    /// Where each packet ends in [`bytes`](Self::bytes). It begins, with its headroom, where the one
+    /// before it ends.
     pub fn ends(&self) -> &[usize] {
-        &self.ends
+        &self.ends[..self.count]
     }
 
-    /// Room for `count` packets of `len` bytes in all, in the place of those that stood here.
-    pub(crate) fn room(
-        &mut self,
-        len: usize,
-        count: usize,
-    ) -> (&mut [MaybeUninit<u8>], &mut [MaybeUninit<usize>]) {
-        self.bytes.clear();
-        self.ends.clear();
-        self.bytes.reserve(len);
-        self.ends.reserve(count);
-        (
-            &mut self.bytes.spare_capacity_mut()[..len],
-            &mut self.ends.spare_capacity_mut()[..count],
-        )
+    /// Where packet `i` stands with its headroom.
+    fn place(&self, i: usize) -> Option<Range<usize>> {
+        Some(self.end_of_first(i)..*self.ends().get(i)?)
     }
 
-    /// Takes the packets that were written into this room.
-    ///
-    /// # Safety
-    ///
-    /// `len` bytes and `count` ends were written.
-    pub(crate) unsafe fn set_len(&mut self, len: usize, count: usize) {
-        // SAFETY: the caller saw them written.
-        unsafe {
-            self.bytes.set_len(len);
-            self.ends.set_len(count);
+    /// Where the first so many packets end.
+    fn end_of_first(&self, count: usize) -> usize {
+        if count == 0 { 0 } else { self.ends[count - 1] }
+    }
+
+    /// All the room there is for packets and their ends.
+    pub(crate) fn room(&mut self) -> (&mut [u8], &mut [usize]) {
+        (&mut self.bytes, &mut self.ends)
+    }
+
+    /// Makes room for so many packets, of so many bytes with what is before them. Those that stand
+    /// here stay.
+    pub(crate) fn grow(&mut self, count: usize, bytes: usize) {
+        if self.bytes.len() < bytes {
+            self.bytes.resize(bytes.max(2 * self.bytes.len()), 0);
         }
+        if self.ends.len() < count {
+            self.ends.resize(count.max(2 * self.ends.len()), 0);
+        }
+    }
+
+    /// Takes the first so many packets that were written into that room.
+    pub(crate) fn take(&mut self, count: usize) {
+        self.count = count;
+    }
+
+    /// Copies of packets, in the place of those that stand here.
+    pub(crate) fn replace(&mut self, packets: &[Vec<u8>]) {
+        let headroom = self.headroom;
+        let size = packets.iter().map(|packet| headroom + packet.len()).sum();
+        self.grow(packets.len(), size);
+        let mut end = 0;
+        for (i, packet) in packets.iter().enumerate() {
+            let begin = end + headroom;
+            end = begin + packet.len();
+            self.bytes[begin..end].copy_from_slice(packet);
+            self.ends[i] = end;
+        }
+        self.take(packets.len());
     }
 }
 
-/// Packet `i`, counted from 0; it panics past the last.
+/// Packet `i`, counted from 0, without what is before it; it panics past the last.
 impl Index<usize> for Packets {
     type Output = [u8];
 
@@ -96,6 +149,24 @@ impl Index<usize> for Packets {
         self.get(i).expect("a packet with this number")
     }
 }
+
+/// As a list of the packets.
+impl fmt::Debug for Packets {
+    fn fmt(&self, f: &mut fmt::Formatter<'_>) -> fmt::Result {
+        f.debug_list().entries(self).finish()
+    }
+}
+
+/// The same packets with the same bytes before them.
+impl PartialEq for Packets {
+    fn eq(&self, other: &Self) -> bool {
+        self.headroom == other.headroom
+            && self.ends() == other.ends()
+            && self.bytes() == other.bytes()
+    }
+}
+
+impl Eq for Packets {}
 
 impl<'a> IntoIterator for &'a Packets {
     type Item = &'a [u8];

@@ -1,17 +1,16 @@
-//! The packets that a depacketizer of H.265 shows.
+//! The packets that an end of H.265 shows which receives.
 
 use crate::error::PacketError;
-use crate::handle::{Handle, Receiving};
-use crate::sys::{self, Refusal, Shown};
-use crate::words::{H265FragmentationUnitHeader, H265NALUHeader, H265TSCI};
+use crate::h265_types::PACI_MAX_PHES_SIZE;
+use crate::h265_words::{H265FragmentationUnitHeader, H265NALUHeader, H265TSCI};
+use crate::handle::{End, Handle};
+use crate::sys::{self, Raw, Refusal, Shown};
 use std::ptr::NonNull;
-
-/// The most bytes of the extension of a PACI packet.
-const MAX_EXTENSION: usize = 31;
+use std::sync::OnceLock;
 
 /// A packet that was read (RFC 7798, 4.4).
 ///
-/// Two are equal where all that they show is.
+/// Two are equal where all that they show is, and the mark that `with_donl` of the packets sets.
 #[derive(Debug, Clone, PartialEq, Eq)]
 pub enum H265Payload {
     /// A single NAL unit packet (RFC 7798, 4.4.1).
@@ -24,12 +23,38 @@ pub enum H265Payload {
     H265PACIPacket(H265PACIPacket),
 }
 
-/// A single NAL unit packet (RFC 7798, 4.4.1).
-#[derive(Debug, Clone, PartialEq, Eq)]
+/// A single NAL unit packet with a header of 0 and no bytes.
+impl Default for H265Payload {
+    fn default() -> Self {
+        H265Payload::H265SingleNALUnitPacket(H265SingleNALUnitPacket::default())
+    }
+}
+
+/// What the packets have alike whose units bear decoding order numbers, or none.
+macro_rules! marked {
+    ($name:ident) => {
+        impl $name {
+            /// Marks the packet as one with decoding order numbers, or as one without. Equality alone
+            /// tells the mark; the parts stay as they are. One that a depacketizer shows has the mark
+            /// of its setting.
+            pub fn with_donl(&mut self, value: bool) {
+                self.has_donl = value;
+            }
+        }
+    };
+}
+
+marked!(H265SingleNALUnitPacket);
+marked!(H265FragmentationUnitPacket);
+marked!(H265AggregationPacket);
+
+/// A single NAL unit packet (RFC 7798, 4.4.1). That of `default` has a header of 0 and no bytes.
+#[derive(Debug, Default, Clone, PartialEq, Eq)]
 pub struct H265SingleNALUnitPacket {
     header: H265NALUHeader,
     donl: Option<u16>,
     payload: Vec<u8>,
+    has_donl: bool,
 }
 
 impl H265SingleNALUnitPacket {
@@ -49,17 +74,18 @@ impl H265SingleNALUnitPacket {
     }
 }
 
-/// A fragmentation unit (RFC 7798, 4.4.3).
-#[derive(Debug, Clone, PartialEq, Eq)]
+/// A fragmentation unit (RFC 7798, 4.4.3). That of `default` has headers of 0 and no bytes.
+#[derive(Debug, Default, Clone, PartialEq, Eq)]
 pub struct H265FragmentationUnitPacket {
     header: H265NALUHeader,
     fu_header: H265FragmentationUnitHeader,
     donl: Option<u16>,
     payload: Vec<u8>,
+    has_donl: bool,
 }
 
 impl H265FragmentationUnitPacket {
-    /// The packet's header, of type 49.
+    /// The packet's header, of type 49 in a packet that was read.
     pub fn payload_header(&self) -> H265NALUHeader {
         self.header
     }
@@ -81,15 +107,16 @@ impl H265FragmentationUnitPacket {
     }
 }
 
-/// An aggregation packet (RFC 7798, 4.4.2).
-#[derive(Debug, Clone, PartialEq, Eq)]
+/// An aggregation packet (RFC 7798, 4.4.2). That of `default` has no unit.
+#[derive(Debug, Default, Clone, PartialEq, Eq)]
 pub struct H265AggregationPacket {
     first: Option<H265AggregationUnitFirst>,
     others: Vec<H265AggregationUnit>,
+    has_donl: bool,
 }
 
 impl H265AggregationPacket {
-    /// The first unit.
+    /// The first unit; there is one in every packet that was read.
     pub fn first_unit(&self) -> Option<&H265AggregationUnitFirst> {
         self.first.as_ref()
     }
@@ -107,8 +134,8 @@ impl H265AggregationPacket {
     }
 }
 
-/// The first unit of an aggregation packet (RFC 7798, 4.4.2).
-#[derive(Debug, Clone, PartialEq, Eq)]
+/// The first unit of an aggregation packet (RFC 7798, 4.4.2). That of `default` has no byte.
+#[derive(Debug, Default, Clone, PartialEq, Eq)]
 pub struct H265AggregationUnitFirst {
     donl: Option<u16>,
     nal_unit: Vec<u8>,
@@ -131,8 +158,8 @@ impl H265AggregationUnitFirst {
     }
 }
 
-/// A unit of an aggregation packet behind the first (RFC 7798, 4.4.2).
-#[derive(Debug, Clone, PartialEq, Eq)]
+/// A unit of an aggregation packet behind the first (RFC 7798, 4.4.2). That of `default` has no byte.
+#[derive(Debug, Default, Clone, PartialEq, Eq)]
 pub struct H265AggregationUnit {
     dond: Option<u8>,
     nal_unit: Vec<u8>,
@@ -156,7 +183,7 @@ impl H265AggregationUnit {
     }
 }
 
-/// A PACI packet (RFC 7798, 4.4.4).
+/// A PACI packet (RFC 7798, 4.4.4). That of `default` has words of 0 and no bytes.
 ///
 /// ```
 /// use emupedestal::{CodecExtra, Depacketizer, H265Depacketizer, H265PACIPacket, H265Payload};
@@ -173,7 +200,7 @@ impl H265AggregationUnit {
 /// assert_eq!(paci.tsci().map(|tsci| tsci.tl0picidx()), Some(0x11));
 /// # Ok::<(), emupedestal::PacketError>(())
 /// ```
-#[derive(Debug, Clone, PartialEq, Eq)]
+#[derive(Debug, Default, Clone, PartialEq, Eq)]
 pub struct H265PACIPacket {
     header: H265NALUHeader,
     fields: u16,
@@ -182,9 +209,14 @@ pub struct H265PACIPacket {
 }
 
 impl H265PACIPacket {
-    /// The packet's header, of type 50.
+    /// The packet's header, of type 50 in a packet that was read.
     pub fn payload_header(&self) -> H265NALUHeader {
         self.header
+    }
+
+    /// The word behind the header: A, cType, PHSsize, F0, F1, F2 and Y, from the highest bit down.
+    pub fn fields(&self) -> u16 {
+        self.fields
     }
 
     /// A, the bit F of the unit within.
@@ -251,7 +283,7 @@ impl H265PACIPacket {
         buf: &mut Vec<u8>,
     ) -> Result<Vec<u8>, PacketError> {
         // A header and the fields are four bytes, of which two take the place of the unit's own.
-        let mut packet = vec![0; inner_nalu.len() + 2 + phes.len().min(MAX_EXTENSION)];
+        let mut packet = vec![0; inner_nalu.len() + 2 + phes.len().min(PACI_MAX_PHES_SIZE)];
         let mut len = 0;
         // SAFETY: each of the three is one slice, apart from the others.
         let code = unsafe {
@@ -273,46 +305,80 @@ impl H265PACIPacket {
     }
 }
 
-/// The packet that a depacketizer of H.265 accepted last; before any, the single NAL unit packet of
-/// nothing.
-pub fn shown(handle: &Handle<Receiving>) -> H265Payload {
+/// The packet that an end of H.265 shows: it is read when it is asked for, and kept until the next is
+/// accepted.
+#[derive(Debug, Default, Clone)]
+pub struct LastPacket {
+    packet: OnceLock<H265Payload>,
+    /// Whether it was read with decoding order numbers, which the library doesn't tell.
+    has_donl: bool,
+}
+
+impl LastPacket {
+    /// Another packet was accepted, with numbers or without.
+    #[inline]
+    pub fn is_another(&mut self, has_donl: bool) {
+        if self.packet.get().is_some() {
+            self.forget();
+        }
+        self.has_donl = has_donl;
+    }
+
+    /// Apart from the path of all packets that nobody asked for.
+    #[cold]
+    fn forget(&mut self) {
+        self.packet = OnceLock::new();
+    }
+
+    /// The packet that the end accepted last; before any, the one of `default`.
+    pub fn of<E: End>(&self, handle: &Handle<E>) -> &H265Payload {
+        self.packet
+            .get_or_init(|| shown(&mut handle.locked(), self.has_donl))
+    }
+}
+
+/// The packet that a handle of H.265 shows which receives.
+fn shown(raw: &mut Raw, has_donl: bool) -> H265Payload {
     let mut shown = Shown::default();
-    // SAFETY: the handle is live and this thread's alone.
-    let code = unsafe { sys::h26x_h265_shown(handle.lent(), &mut shown) };
-    assert_eq!(code, 0, "a depacketizer of H.265");
+    // SAFETY: the handle is live and ours alone.
+    let code = unsafe { sys::h26x_h265_shown(raw, &mut shown) };
+    assert_eq!(code, 0, "an end of H.265 that receives");
     let header = H265NALUHeader(shown.header);
-    let first = Part::of(handle, 0);
+    let first = Part::of(raw, 0);
     match shown.kind {
         sys::FRAGMENT => H265Payload::H265FragmentationUnitPacket(H265FragmentationUnitPacket {
             header,
             fu_header: H265FragmentationUnitHeader(shown.word as u8),
             donl: first.number,
             payload: first.bytes,
+            has_donl,
         }),
         sys::AGGREGATE => H265Payload::H265AggregationPacket(H265AggregationPacket {
             first: (shown.parts > 0).then_some(H265AggregationUnitFirst {
                 donl: first.number,
                 nal_unit: first.bytes,
             }),
-            others: (1..shown.parts).map(|i| other_unit(handle, i)).collect(),
+            others: (1..shown.parts).map(|i| other_unit(raw, i)).collect(),
+            has_donl,
         }),
         sys::PACI => H265Payload::H265PACIPacket(H265PACIPacket {
             header,
             fields: shown.word,
             phes: first.bytes,
-            payload: Part::of(handle, 1).bytes,
+            payload: Part::of(raw, 1).bytes,
         }),
         _ => H265Payload::H265SingleNALUnitPacket(H265SingleNALUnitPacket {
             header,
             donl: first.number,
             payload: first.bytes,
+            has_donl,
         }),
     }
 }
 
 /// A unit behind the first of an aggregation packet.
-fn other_unit(handle: &Handle<Receiving>, i: usize) -> H265AggregationUnit {
-    let part = Part::of(handle, i);
+fn other_unit(raw: &mut Raw, i: usize) -> H265AggregationUnit {
+    let part = Part::of(raw, i);
     H265AggregationUnit {
         dond: part.number.map(|number| number as u8),
         nal_unit: part.bytes,
@@ -327,16 +393,15 @@ struct Part {
 
 impl Part {
     /// A part of the packet that was accepted last, counted from 0.
-    fn of(handle: &Handle<Receiving>, i: usize) -> Self {
+    fn of(raw: &mut Raw, i: usize) -> Self {
         let mut number = 0;
         let nowhere = NonNull::dangling().as_ptr();
-        // SAFETY: the handle is live and this thread's alone, and a buffer without room isn't
-        // written.
-        let len = unsafe { sys::h26x_h265_part_copy(handle.lent(), i, nowhere, 0, &mut number) };
+        // SAFETY: the handle is live and ours alone, and a buffer without room isn't written.
+        let len = unsafe { sys::h26x_h265_part_copy(raw, i, nowhere, 0, &mut number) };
         let mut bytes = vec![0; len];
         // SAFETY: as before, and `bytes` is one slice.
         unsafe {
-            sys::h26x_h265_part_copy(handle.lent(), i, bytes.as_mut_ptr(), len, &mut number);
+            sys::h26x_h265_part_copy(raw, i, bytes.as_mut_ptr(), len, &mut number);
         }
         Part {
             number: u16::try_from(number).ok(),

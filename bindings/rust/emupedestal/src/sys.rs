@@ -3,7 +3,7 @@
 use std::ffi::c_void;
 use std::ptr;
 
-/// A handle as it crosses: a struct of one pointer, the same for both ends.
+/// A handle as it crosses: a struct of one pointer, the same for every end.
 #[repr(C)]
 #[derive(Clone, Copy)]
 pub struct Raw {
@@ -41,6 +41,9 @@ pub struct Shown {
     pub parts: usize,
 }
 
+/// The code of a call whose output doesn't fit.
+pub const NO_ROOM: u32 = 13;
+
 // The kinds of packets, besides the single NAL unit packet.
 pub const FRAGMENT: u32 = 2;
 pub const AGGREGATE: u32 = 3;
@@ -52,30 +55,32 @@ unsafe extern "C" {
     pub fn h26x_packetizer_free(p: Raw);
     pub fn h26x_packetizer_set_numbers(p: *mut Raw, numbers: bool) -> u32;
     pub fn h26x_packetizer_set_max_size(p: *mut Raw, bytes: u16) -> u32;
-    pub fn h26x_packetize(
+    pub fn h26x_packetize_into(
         p: *mut Raw,
         mtu: usize,
         payload: *const u8,
         payload_len: usize,
-        count: *mut usize,
-    ) -> u32;
-    pub fn h26x_packetize_unit(
-        p: *mut Raw,
-        mtu: usize,
-        unit: *const u8,
-        unit_len: usize,
-        count: *mut usize,
-    ) -> u32;
-    pub fn h26x_packet_len(p: *mut Raw, i: usize) -> usize;
-    pub fn h26x_packet_copy(p: *mut Raw, i: usize, to: *mut u8, room: usize) -> usize;
-    pub fn h26x_packets_copy(
-        p: *mut Raw,
-        first: usize,
+        headroom: usize,
         to: *mut u8,
         room: usize,
         ends: *mut usize,
         ends_room: usize,
-    ) -> usize;
+        count: *mut usize,
+        size: *mut usize,
+    ) -> u32;
+    pub fn h26x_packetize_unit_into(
+        p: *mut Raw,
+        mtu: usize,
+        unit: *const u8,
+        unit_len: usize,
+        headroom: usize,
+        to: *mut u8,
+        room: usize,
+        ends: *mut usize,
+        ends_room: usize,
+        count: *mut usize,
+        size: *mut usize,
+    ) -> u32;
 
     pub fn h26x_depacketizer_new(codec: u32, numbers: bool, made: *mut Raw) -> u32;
     pub fn h26x_depacketizer_clone(d: *mut Raw, made: *mut Raw) -> u32;
@@ -95,6 +100,33 @@ unsafe extern "C" {
     ) -> u32;
     pub fn h26x_written_copy(d: *mut Raw, to: *mut u8, room: usize) -> usize;
     pub fn h26x_give_up_run(d: *mut Raw) -> u32;
+
+    pub fn h26x_receiver_new(
+        codec: u32,
+        numbers: bool,
+        avc: bool,
+        run_limit: usize,
+        made: *mut Raw,
+    ) -> u32;
+    pub fn h26x_receiver_clone(r: *mut Raw, made: *mut Raw) -> u32;
+    pub fn h26x_receiver_free(r: Raw);
+    pub fn h26x_receiver_set_numbers(r: *mut Raw, numbers: bool) -> u32;
+    pub fn h26x_receiver_set_avc(r: *mut Raw, avc: bool) -> u32;
+    pub fn h26x_receive(
+        r: *mut Raw,
+        sequence: u16,
+        packet: *const u8,
+        packet_len: usize,
+        to: *mut u8,
+        room: usize,
+        written: *mut usize,
+        extra: *mut u8,
+        received: *mut u32,
+        count: *mut u16,
+        why: *mut Refusal,
+    ) -> u32;
+    pub fn h26x_receiver_restart(r: *mut Raw) -> u32;
+    pub fn h26x_receiver_run_len(r: *mut Raw) -> usize;
 
     pub fn h26x_h265_shown(d: *mut Raw, shown: *mut Shown) -> u32;
     pub fn h26x_h265_part_copy(

@@ -1,5 +1,8 @@
 //! Tests of every call. Expected packets and units are written out by hand from the RFCs.
 
+mod access_units;
+mod caveats;
+mod codecs;
 mod depacketizer;
 mod ends;
 mod look;
@@ -8,8 +11,12 @@ mod packetizer;
 mod packets;
 mod profile;
 mod refusals;
+mod sequenced;
 mod shown;
 mod speed;
+mod take_all;
+mod threads;
+mod words;
 
 use crate::{CodecExtra, Depacketizer, PacketError, Packetizer};
 

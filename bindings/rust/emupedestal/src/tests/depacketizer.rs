@@ -92,7 +92,11 @@ fn h266_units_behind_lengths() {
         &["00e1 0000 0003 0079bb 0003 0081cc"],
         "00000003 0079bb 00000003 0081cc",
     );
-    writes(&mut end, &["00e987 0005 aa", "00e947bb"], "00000004 0039aabb");
+    writes(
+        &mut end,
+        &["00e987 0005 aa", "00e947bb"],
+        "00000004 0039aabb",
+    );
 }
 
 #[test]

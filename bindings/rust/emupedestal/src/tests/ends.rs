@@ -1,13 +1,11 @@
-//! Copies, equality, debug text, and ends that go between threads.
+//! Copies, equality and debug text.
 
 use super::{bytes, payload, sends, writes};
 use crate::{
-    Depacketizer, H264Depacketizer, H264Packetizer, H265Depacketizer, H265Packetizer,
-    H266Depacketizer, H266Packetizer,
+    Codec, Depacketizer, H264Depacketizer, H264Packetizer, H265Depacketizer, H265Packetizer,
+    H266Depacketizer, H266Packetizer, SequencedDepacketizer,
 };
 use std::fmt::Debug;
-use std::panic::UnwindSafe;
-use std::thread;
 
 #[test]
 fn copies_of_packetizers_have_what_waits() {
@@ -126,27 +124,6 @@ fn debug_text_names_the_type_and_what_is_public() {
     assert!(text.starts_with("H264Depacketizer { is_avc: false, "));
     let text = format!("{:?}", H266Packetizer::default());
     assert!(text.starts_with("H266Packetizer { "));
-}
-
-#[test]
-fn all_may_go_between_threads() {
-    fn check<T: Send + UnwindSafe>() {}
-    check::<H264Packetizer>();
-    check::<H265Packetizer>();
-    check::<H266Packetizer>();
-    check::<H264Depacketizer>();
-    check::<H265Depacketizer>();
-    check::<H266Depacketizer>();
-}
-
-#[test]
-fn an_open_unit_goes_on_in_another_thread() {
-    let mut end = H265Depacketizer::default();
-    writes(&mut end, &["620193aa"], "");
-    let finish = thread::spawn(move || {
-        writes(&mut end, &["620153bb"], "00000001 2601aabb");
-        end
-    });
-    let mut end = finish.join().unwrap();
-    writes(&mut end, &["0201cc"], "00000001 0201cc");
+    let text = format!("{:?}", SequencedDepacketizer::new(Codec::H265, 9));
+    assert!(text.starts_with("SequencedDepacketizer { ") && text.contains("is_avc: false"));
 }

@@ -74,6 +74,36 @@ fn units_as_they_are() {
 }
 
 #[test]
+fn each_packet_behind_its_headroom() {
+    let mut packets = Packets::with_headroom(2);
+    assert_eq!((packets.headroom(), packets.bytes().len()), (2, 0));
+    let mut end = H264Packetizer::default();
+    end.packetize_into(4, &bytes("6501020304"), &mut packets)
+        .unwrap();
+    assert_eq!(
+        packets.iter().collect::<Vec<_>>(),
+        [bytes("7c850102"), bytes("7c450304")]
+    );
+    assert_eq!(packets.ends(), [6, 12]);
+    packets.datagram_mut(1)[..2].copy_from_slice(&[0x80, 0xe0]);
+    packets.bytes_mut()[1] = 0x60;
+    assert_eq!(packets.bytes(), bytes("00607c850102 80e07c450304"));
+    // What stands in the headroom is the caller's, and a later call leaves it.
+    end.packetize_into(4, &bytes("65aabbccdd"), &mut packets)
+        .unwrap();
+    assert_eq!(packets.bytes(), bytes("00607c85aabb 80e07c45ccdd"));
+    let mut same = packets.clone();
+    assert_eq!(same, packets);
+    same.bytes_mut()[0] = 1;
+    assert_ne!(same, packets);
+    assert_ne!(Packets::with_headroom(1), Packets::default());
+    assert_eq!(
+        format!("{packets:?}"),
+        "[[124, 133, 170, 187], [124, 69, 204, 221]]"
+    );
+}
+
+#[test]
 fn memory_is_used_again() {
     let (mut end, mut packets) = (H264Packetizer::default(), Packets::default());
     end.packetize_into(100, &[0x65; 1000], &mut packets)

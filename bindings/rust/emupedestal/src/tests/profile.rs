@@ -3,8 +3,8 @@
 
 use crate::sys::{h26x_h265_is_known, h26x_h266_is_known};
 use crate::{
-    H264LevelIdc, H264Profile, H264ProfileLevel, H265Level, H265Profile, H265ProfileTierLevel,
-    H265Tier, H266Level, H266Profile, H266ProfileTierLevel, H266Tier,
+    H264LevelIdc, H264Profile, H264ProfileIdc, H264ProfileLevel, H265Level, H265Profile,
+    H265ProfileTierLevel, H265Tier, H266Level, H266Profile, H266ProfileTierLevel, H266Tier,
 };
 use std::collections::HashMap;
 
@@ -70,6 +70,106 @@ fn h264_levels() {
     assert!(levels.is_sorted_by(|(_, a), (_, b)| a < b));
     let level_1 = (H264Profile::Baseline, H264LevelIdc::Level1);
     assert_eq!(told(0x42100a), Some(level_1));
+}
+
+/// A profile_idc, a profile_iop, and the profile (RFC 6184, 8.1, table 5).
+#[test]
+fn h264_by_profile_idc_and_flags() {
+    for (idc, iop, profile) in [
+        (66, 0xc0, Some(H264Profile::ConstrainedBaseline)),
+        (66, 0xb0, Some(H264Profile::Baseline)),
+        (66, 0x01, None),
+        (77, 0x10, Some(H264Profile::Main)),
+        (88, 0x80, Some(H264Profile::Baseline)),
+        (88, 0x30, Some(H264Profile::Extended)),
+        (100, 0x00, Some(H264Profile::High)),
+        (100, 0x0c, Some(H264Profile::ConstrainedHigh)),
+        (100, 0x10, None),
+        (110, 0x10, Some(H264Profile::High10Intra)),
+        (122, 0x00, Some(H264Profile::High422)),
+        (244, 0x10, Some(H264Profile::High444Intra)),
+        (44, 0x10, Some(H264Profile::CAVLC444Intra)),
+        (44, 0x00, None),
+    ] {
+        let known = H264ProfileIdc::try_from(idc).expect("a known profile_idc");
+        assert_eq!(u8::from(known), idc);
+        for level in [H264LevelIdc::Level1B, H264LevelIdc::Level5_2] {
+            let it = H264ProfileLevel::new(known, iop, level);
+            let wanted = profile.map(|profile| (profile, level));
+            assert_eq!(it.map(|it| (it.profile(), it.level())), wanted, "{idc}");
+        }
+    }
+    for idc in [0, 43, 67, 99, 118, 255] {
+        assert_eq!(H264ProfileIdc::try_from(idc), Err(()));
+    }
+}
+
+/// Levels by their ids, from the lowest to the highest.
+#[test]
+fn places_of_levels() {
+    #[track_caller]
+    fn check<L>(ids: &[u8], ordinal: fn(L) -> usize)
+    where
+        L: TryFrom<u8, Error = ()> + Into<u8> + Ord + Copy,
+    {
+        let levels: Vec<L> = ids.iter().filter_map(|id| L::try_from(*id).ok()).collect();
+        assert!(levels.iter().copied().map(ordinal).eq(0..ids.len()));
+        assert!(levels.iter().map(|level| (*level).into()).eq(ids.to_vec()));
+        assert!(levels.is_sorted_by(|a, b| a < b));
+        let others = (0..=u8::MAX).filter(|id| !ids.contains(id));
+        assert!(others.map(L::try_from).all(|level| level.is_err()));
+    }
+    let h264 = [
+        10, 0, 11, 12, 13, 20, 21, 22, 30, 31, 32, 40, 41, 42, 50, 51, 52,
+    ];
+    check(&h264, H264LevelIdc::ordinal);
+    let h265 = [30, 60, 63, 90, 93, 120, 123, 150, 153, 156, 180, 183, 186];
+    check(&h265, H265Level::ordinal);
+    let h266 = [
+        16, 32, 35, 48, 51, 64, 67, 80, 83, 86, 96, 99, 102, 105, 255,
+    ];
+    check(&h266, H266Level::ordinal);
+}
+
+/// What `as` gives, as of str0m's enums: places of profiles, and ids of levels.
+#[test]
+fn values_as_numbers() {
+    let h264 = [
+        H264Profile::Baseline,
+        H264Profile::High,
+        H264Profile::CAVLC444Intra,
+    ];
+    assert_eq!(h264.map(|profile| profile as u8), [0, 4, 12]);
+    let idcs = [
+        H264ProfileIdc::X2C,
+        H264ProfileIdc::X42,
+        H264ProfileIdc::XF4,
+    ];
+    assert_eq!(idcs.map(|idc| idc as u8), [44, 66, 244]);
+    let levels = [
+        H264LevelIdc::Level1,
+        H264LevelIdc::Level1B,
+        H264LevelIdc::Level5_2,
+    ];
+    assert_eq!(levels.map(|level| level as u8), [10, 0, 52]);
+
+    let last = H265Profile::HighThroughputScreenContentCoding;
+    let h265 = [H265Profile::Main, H265Profile::Main10, last];
+    assert_eq!(h265.map(|profile| profile as u8), [0, 1, 10]);
+    assert_eq!(h265.map(u8::from), [1, 2, 11]);
+    let tiers = [H265Tier::Main, H265Tier::High];
+    assert_eq!(tiers.map(|tier| tier as u8), [0, 1]);
+    let levels = [H265Level::Level1, H265Level::Level6_2];
+    assert_eq!(levels.map(|level| level as u8), [30, 186]);
+
+    let last = H266Profile::MultilayerMain10_444StillPicture;
+    let h266 = [H266Profile::Main10, H266Profile::MultilayerMain10, last];
+    assert_eq!(h266.map(|profile| profile as u8), [0, 1, 7]);
+    assert_eq!(h266.map(u8::from), [1, 17, 113]);
+    let tiers = [H266Tier::Main, H266Tier::High];
+    assert_eq!(tiers.map(|tier| tier as u8), [0, 1]);
+    let levels = [H266Level::Level1, H266Level::Level15_5];
+    assert_eq!(levels.map(|level| level as u8), [16, 255]);
 }
 
 #[test]

@@ -1,10 +1,12 @@
-//! The packets that a depacketizer of H.265 shows, their header words, and PACI packets made here.
+//! The packets that a depacketizer of H.265 shows, and PACI packets made here.
 
 use super::{bytes, received, refuses, writes};
 use crate::{
-    H265Depacketizer, H265FragmentationUnitHeader, H265NALUHeader, H265PACIPacket, H265Payload,
-    H265TSCI, PacketError,
+    H265AggregationPacket, H265AggregationUnit, H265AggregationUnitFirst, H265Depacketizer,
+    H265FragmentationUnitHeader, H265FragmentationUnitPacket, H265NALUHeader, H265PACIPacket,
+    H265Payload, H265SingleNALUnitPacket, H265TSCI, PacketError,
 };
+use std::ptr;
 
 /// What is shown after a packet, which is accepted, of a depacketizer with numbers or without.
 #[track_caller]
@@ -12,12 +14,13 @@ fn shown(numbers: bool, packet: &str) -> H265Payload {
     let mut end = H265Depacketizer::default();
     end.with_donl(numbers);
     received(&mut end, &[packet]);
-    end.payload()
+    end.payload().clone()
 }
 
 #[test]
 fn nothing_is_shown_of_a_new_end() {
-    let H265Payload::H265SingleNALUnitPacket(single) = H265Depacketizer::default().payload() else {
+    let end = H265Depacketizer::default();
+    let H265Payload::H265SingleNALUnitPacket(single) = end.payload() else {
         panic!("not a single NAL unit packet");
     };
     assert_eq!(single.payload_header(), H265NALUHeader(0));
@@ -116,6 +119,7 @@ fn paci_packets() {
     };
     assert_eq!(paci.payload_header(), H265NALUHeader(0x6409));
     assert_eq!((paci.a(), paci.ctype(), paci.phs_size()), (true, 19, 3));
+    assert_eq!(paci.fields(), 0xa63f);
     assert!(paci.f0() && paci.f1() && paci.f2() && paci.y());
     assert_eq!(
         (paci.phes(), paci.payload()),
@@ -169,50 +173,96 @@ fn packed_paci_packets() {
 fn a_refused_packet_is_not_shown() {
     let mut end = H265Depacketizer::default();
     writes(&mut end, &["2601af"], "00000001 2601af");
-    let before = end.payload();
+    let before = end.payload().clone();
     refuses(&mut end, "6201", PacketError::ErrShortPacket);
-    assert_eq!(end.payload(), before);
+    assert_eq!(end.payload(), &before);
     writes(&mut end, &["2601ae"], "00000001 2601ae");
-    assert_ne!(end.payload(), before);
+    assert_ne!(end.payload(), &before);
 }
 
+/// It is copied out of the library once, whatever is asked of it, and by each of its copies again.
 #[test]
-fn header_words() {
-    let header = H265NALUHeader::new(0xa6, 0x0b);
-    assert_eq!(header, H265NALUHeader(0xa60b));
-    assert!(header.f() && !H265NALUHeader(0x7fff).f());
-    assert_eq!(
-        (header.nalu_type(), header.layer_id(), header.tid()),
-        (19, 1, 3)
-    );
-    let ones = H265NALUHeader(0xffff);
-    assert_eq!((ones.nalu_type(), ones.layer_id(), ones.tid()), (63, 63, 7));
-    let types = |is: fn(&H265NALUHeader) -> bool| -> Vec<u16> {
-        (0..64)
-            .filter(|nalu_type| is(&H265NALUHeader(nalu_type << 9)))
-            .collect()
-    };
-    assert_eq!(
-        types(H265NALUHeader::is_type_vcl_unit),
-        Vec::from_iter(0..32)
-    );
-    assert_eq!(types(H265NALUHeader::is_aggregation_packet), [48]);
-    assert_eq!(types(H265NALUHeader::is_fragmentation_unit), [49]);
-    assert_eq!(types(H265NALUHeader::is_paci_packet), [50]);
-    assert_eq!(types(H265NALUHeader::is_idr_picture), [19, 20]);
-    assert_eq!(types(H265NALUHeader::is_irap), [16, 17, 18, 19, 20, 21]);
+fn what_is_shown_is_kept_until_the_next_packet() {
+    let mut end = H265Depacketizer::default();
+    writes(&mut end, &["2601af"], "00000001 2601af");
+    let first = end.payload();
+    assert!(ptr::eq(first, end.payload()));
+    let copy = end.clone();
+    assert!(!ptr::eq(copy.payload(), end.payload()));
+    assert_eq!(copy.payload(), end.payload());
+    writes(&mut end, &["620193aa"], "");
+    assert!(matches!(
+        end.payload(),
+        H265Payload::H265FragmentationUnitPacket(_)
+    ));
+    assert_ne!(copy.payload(), end.payload());
+}
 
-    let fu_header = |byte| {
-        let word = H265FragmentationUnitHeader(byte);
-        (word.s(), word.e(), word.fu_type())
-    };
-    assert_eq!(fu_header(0x93), (true, false, 19));
-    assert_eq!(fu_header(0x41), (false, true, 1));
-    assert_eq!(fu_header(0x3f), (false, false, 63));
+/// What was asked of an end makes it no other.
+#[test]
+fn what_is_shown_counts_once_it_was_asked_for_or_not() {
+    let (mut asked, mut other) = (H265Depacketizer::default(), H265Depacketizer::default());
+    for end in [&mut asked, &mut other] {
+        writes(end, &["2601af"], "00000001 2601af");
+    }
+    asked.payload();
+    assert_eq!(asked, other);
+}
 
-    let tsci = H265TSCI(0x1122_bf00);
-    assert_eq!((tsci.tl0picidx(), tsci.irap_pic_id()), (0x11, 0x22));
-    assert_eq!((tsci.s(), tsci.e(), tsci.res()), (true, false, 0x3f));
-    let tsci = H265TSCI(0x4100);
-    assert_eq!((tsci.s(), tsci.e(), tsci.res()), (false, true, 1));
+/// Packets without parts, as those of `default` are, and the mark that equality alone sees.
+#[test]
+fn packets_of_nothing_and_marks() {
+    let none = H265Payload::H265SingleNALUnitPacket(H265SingleNALUnitPacket::default());
+    assert_eq!(H265Payload::default(), none);
+    assert_eq!(H265Depacketizer::default().payload(), &none);
+
+    macro_rules! marks {
+        ($name:ident) => {
+            let mut packet = $name::default();
+            packet.with_donl(true);
+            assert_ne!(packet, $name::default());
+            packet.with_donl(false);
+            assert_eq!(packet, $name::default());
+        };
+    }
+    marks!(H265SingleNALUnitPacket);
+    marks!(H265FragmentationUnitPacket);
+    marks!(H265AggregationPacket);
+
+    let fragment = H265FragmentationUnitPacket::default();
+    assert_eq!(fragment.payload_header(), H265NALUHeader(0));
+    assert_eq!(fragment.fu_header(), H265FragmentationUnitHeader(0));
+    assert_eq!((fragment.donl(), fragment.payload()), (None, &[][..]));
+    let aggregate = H265AggregationPacket::default();
+    assert_eq!(aggregate.first_unit(), None);
+    assert!(aggregate.other_units().is_empty() && aggregate.nal_units().is_empty());
+    let first = H265AggregationUnitFirst::default();
+    assert_eq!((first.donl(), first.nalu_size()), (None, 0));
+    let other = H265AggregationUnit::default();
+    assert_eq!((other.dond(), other.nalu_size()), (None, 0));
+    let paci = H265PACIPacket::default();
+    assert_eq!((paci.fields(), paci.tsci()), (0, None));
+    assert!(paci.phes().is_empty() && paci.payload().is_empty());
+}
+
+/// Of a packet that bears no number itself the mark alone tells the setting.
+#[test]
+fn shown_packets_have_the_mark_of_the_setting() {
+    for (packet, marked) in [("620113aa", true), ("6201 13 bb", false)] {
+        let H265Payload::H265FragmentationUnitPacket(mut fragment) = shown(marked, packet) else {
+            panic!("not a fragment: {packet}");
+        };
+        let H265Payload::H265FragmentationUnitPacket(other) = shown(!marked, packet) else {
+            panic!("not a fragment: {packet}");
+        };
+        assert_eq!((fragment.donl(), other.donl()), (None, None));
+        assert_ne!(fragment, other);
+        fragment.with_donl(!marked);
+        assert_eq!(fragment, other);
+    }
+    // The setting of a later call makes what is shown no other.
+    let mut end = H265Depacketizer::default();
+    writes(&mut end, &["620193aa"], "");
+    end.with_donl(true);
+    assert_eq!(end.payload(), &shown(false, "620193aa"));
 }

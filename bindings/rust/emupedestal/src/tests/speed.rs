@@ -37,12 +37,25 @@ fn print(what: &str, len: usize, alone: Duration, whole: Duration) {
     println!("{what}, {len} bytes: library {alone:?}, crate {whole:?}, {ratio:.2} times");
 }
 
-/// The packets stay in the handle.
-fn packetize_alone(handle: &mut Handle<Sending>, frame: &[u8]) {
-    let mut count = 0;
-    // SAFETY: the handle is live and ours alone, `frame` is one slice, and `count` is a number.
+/// The packets go into memory that has room for them.
+fn packetize_alone(handle: &mut Handle<Sending>, frame: &[u8], to: &mut [u8], ends: &mut [usize]) {
+    let (mut count, mut size) = (0, 0);
+    // SAFETY: the handle is live and ours alone; `frame`, `to` and `ends` are one slice each, apart
+    // from one another, and `count` and `size` are numbers.
     let code = unsafe {
-        sys::h26x_packetize(handle.raw(), LIMIT, frame.as_ptr(), frame.len(), &mut count)
+        sys::h26x_packetize_into(
+            handle.raw(),
+            LIMIT,
+            frame.as_ptr(),
+            frame.len(),
+            0,
+            to.as_mut_ptr(),
+            to.len(),
+            ends.as_mut_ptr(),
+            ends.len(),
+            &mut count,
+            &mut size,
+        )
     };
     assert_eq!(code, 0);
     black_box(count);
@@ -76,7 +89,10 @@ fn speed_of_packetize() {
     for (len, calls) in FRAMES {
         let frame = frame(len);
         let mut handle = Handle::new(Codec::H264);
-        let alone = least(calls, || packetize_alone(&mut handle, &frame));
+        let (mut to, mut ends) = (vec![0; 2 * len], vec![0; len]);
+        let alone = least(calls, || {
+            packetize_alone(&mut handle, &frame, &mut to, &mut ends);
+        });
         let mut end = H264Packetizer::default();
         let whole = least(calls, || {
             black_box(end.packetize(LIMIT, &frame).expect("memory"));

@@ -1,0 +1,137 @@
+/* What may be left out: buffers of length 0, outputs that aren't wanted, handles to be freed; and what
+ * calls say in words. */
+#include "calls.h"
+#include <stdio.h>
+#include <string.h>
+
+/* A payload without bytes has no packets, and packets without bytes are short, for all codecs. */
+static void check_empty_inputs(struct tally *t, uint32_t codec)
+{
+    h26x_packetizer p;
+    h26x_depacketizer d;
+    h26x_receiver r;
+    uint8_t to[4] = {7};
+    size_t count = 9, size = 9;
+    expect(t, h26x_packetizer_new(codec, false, &p) == H26X_OK);
+    expect(t, h26x_depacketizer_new(codec, false, &d) == H26X_OK);
+    expect(t, h26x_receiver_new(codec, false, false, 9, &r) == H26X_OK);
+    expect(t, h26x_packetize(&p, 9, NULL, 0, &count) == H26X_OK && count == 0);
+    count = 9;
+    expect(t, h26x_packetize_unit(&p, 9, NULL, 0, &count) == H26X_OK && count == 0);
+    expect(t, h26x_packetize_into(&p, 9, NULL, 0, 12, NULL, 0, NULL, 0, &count, &size) == H26X_OK);
+    expect(t, count == 0 && size == 0);
+    expect(t, h26x_packetize_unit_into(&p, 9, NULL, 0, 12, NULL, 0, NULL, 0, NULL, NULL) == H26X_OK);
+    expect(t, h26x_packets_size(&p, 9, NULL, 0, 12, NULL, NULL) == H26X_OK);
+    expect(t, h26x_depacketize(&d, false, NULL, 0, NULL, 0, NULL, NULL, NULL) == H26X_SHORT_PACKET);
+    expect(t, h26x_receive(&r, 1, NULL, 0, to, 4, NULL, NULL, NULL, NULL, NULL) == H26X_SHORT_PACKET);
+    expect(t, to[0] == 7);
+    expect(t, !h26x_is_partition_head(codec, NULL, 0) && !h26x_detect_keyframe(codec, NULL, 0));
+    expect(t, h26x_is_partition_tail(codec, true, NULL, 0) == (codec == H26X_H264));
+    expect(t, !h26x_next_unit(codec, NULL, 0, 0, NULL, NULL));
+    h26x_packetizer_free(p);
+    h26x_depacketizer_free(d);
+    h26x_receiver_free(r);
+}
+
+/* The same is done where nobody wants to know how much it is. */
+static void check_unwanted_outputs(struct tally *t)
+{
+    const uint8_t unit[] = {0x65, 1, 2, 3}, twice[] = {0, 0, 1, 9, 2, 0, 0, 1, 9, 3};
+    h26x_packetizer p;
+    h26x_depacketizer d;
+    h26x_receiver r;
+    uint8_t to[16], extra = 0;
+    size_t ends[2], count = 9, size = 9, begin = 9, end = 9;
+    expect(t, h26x_packetizer_new(H26X_H264, false, &p) == H26X_OK);
+    expect(t, h26x_packets_len(&p) == 0);
+    expect(t, h26x_packetize(&p, 3, unit, 4, NULL) == H26X_OK);
+    expect(t, h26x_packet_count(&p) == 3 && h26x_packets_len(&p) == 9);
+    expect(t, h26x_packets_copy(&p, 0, NULL, 0, NULL, 0) == 0);
+    expect(t, h26x_packets_copy(&p, 0, to, 9, ends, 2) == 2 && ends[1] == 6);
+    expect(t, h26x_packet_copy(&p, 2, NULL, 0) == 3);
+    expect(t, h26x_packetize_unit(&p, 9, unit, 4, NULL) == H26X_OK && h26x_packets_len(&p) == 4);
+    expect(t, h26x_packets_size(&p, 3, unit, 4, 5, NULL, &size) == H26X_OK && size == 24);
+    expect(t, h26x_packets_size(&p, 3, unit, 4, 5, &count, NULL) == H26X_OK && count == 3);
+    expect(t, h26x_packetize_into(&p, 9, unit, 4, 2, NULL, 0, NULL, 0, &count, &size) == H26X_NO_ROOM);
+    expect(t, count == 1 && size == 6);
+    expect(t, h26x_packetize_into(&p, 9, unit, 4, 2, to, 6, ends, 1, NULL, NULL) == H26X_OK);
+    expect(t, ends[0] == 6 && is_same(to + 2, 4, "65010203"));
+    h26x_packetizer_free(p);
+
+    expect(t, h26x_depacketizer_new(H26X_H264, false, &d) == H26X_OK);
+    expect(t, h26x_depacketize(&d, false, unit, 4, NULL, 0, NULL, &extra, NULL) == H26X_OK);
+    expect(t, extra == 2 && h26x_written_copy(&d, NULL, 0) == 8);
+    expect(t, h26x_written_copy(&d, to, 16) == 8 && is_same(to, 8, "00000001 65010203"));
+    expect(t, h26x_depacketize(&d, true, unit, 4, to, 16, &size, NULL, NULL) == H26X_OK);
+    expect(t, is_same(to, size, "00000004 65010203"));
+    h26x_depacketizer_free(d);
+
+    expect(t, h26x_receiver_new(H26X_H264, false, false, 9, &r) == H26X_OK);
+    expect(t, h26x_receive(&r, 7, unit, 4, to, 16, &size, NULL, NULL, NULL, NULL) == H26X_OK);
+    expect(t, is_same(to, size, "00000001 65010203"));
+    expect(t, h26x_receive(&r, 7, unit, 4, to, 16, NULL, &extra, NULL, &(uint16_t){0}, NULL) == H26X_OK);
+    h26x_receiver_free(r);
+
+    expect(t, h26x_next_unit(H26X_H264, twice, 10, 0, NULL, &end) && end == 5);
+    expect(t, h26x_next_unit(H26X_H264, twice, 10, end, &begin, NULL) && begin == 8);
+    expect(t, h26x_h264_profile_level(0x42e01f, NULL, NULL));
+    expect(t, !h26x_h264_profile_level(0, NULL, NULL));
+}
+
+/* Of H.265: what is shown, and a packed PACI packet. */
+static void check_h265(struct tally *t)
+{
+    const uint8_t unit[] = {2, 1, 0xaa};
+    h26x_depacketizer d;
+    uint8_t to[8];
+    size_t len = 9;
+    expect(t, h26x_depacketizer_new(H26X_H265, false, &d) == H26X_OK);
+    expect(t, h26x_depacketize(&d, false, unit, 3, to, 8, NULL, NULL, NULL) == H26X_OK);
+    expect(t, h26x_h265_part_copy(&d, 0, NULL, 0, NULL) == 1);
+    expect(t, h26x_h265_part_copy(&d, 0, to, 8, NULL) == 1 && to[0] == 0xaa);
+    h26x_depacketizer_free(d);
+    expect(t, h26x_h265_paci_packet(unit, 3, NULL, 0, to, 8, &len) == H26X_OK && len == 5);
+    expect(t, h26x_h265_paci_packet(unit, 3, NULL, 0, NULL, 0, NULL) == H26X_OK);
+    expect(t, h26x_h265_paci_packet(NULL, 0, NULL, 0, NULL, 0, NULL) == H26X_SHORT_PACKET);
+    expect(t, !h26x_detect_h264_nalu(NULL, 0, 5));
+}
+
+/* Handles of NULL are freed as often as anybody likes. */
+static void check_frees(void)
+{
+    for (int i = 0; i < 2; i++) {
+        h26x_packetizer_free((h26x_packetizer){NULL});
+        h26x_depacketizer_free((h26x_depacketizer){NULL});
+        h26x_receiver_free((h26x_receiver){{NULL}});
+    }
+}
+
+/* Each code has words of its own, and so does a number that is none. */
+static void check_words(struct tally *t)
+{
+    char version[16];
+    for (uint32_t code = 0; code <= H26X_NO_ROOM + 1; code++)
+        for (uint32_t other = 0; other < code; other++)
+            expect(t, strcmp(h26x_strerror(code), h26x_strerror(other)) != 0);
+    expect(t, strcmp(h26x_strerror(H26X_NO_ROOM + 1), h26x_strerror(UINT32_MAX)) == 0);
+    expect(t, strstr(h26x_strerror(H26X_OUT_OF_MEMORY), "memory") != NULL);
+    expect(t, strcmp(h26x_codec_name(H26X_H264), "H264") == 0);
+    expect(t, strcmp(h26x_codec_name(H26X_H265), "H265") == 0);
+    expect(t, strcmp(h26x_codec_name(H26X_H266), "H266") == 0);
+    expect(t, h26x_codec_name(0) == NULL && h26x_codec_name(263) == NULL);
+    expect(t, h26x_version() == H26X_VERSION_NUMBER);
+    snprintf(version, sizeof version, "%u.%u.%u", h26x_version() >> 16, h26x_version() >> 8 & 255,
+             h26x_version() & 255);
+    expect(t, strcmp(version, H26X_VERSION) == 0);
+}
+
+void check_optional(struct tally *t)
+{
+    check_empty_inputs(t, H26X_H264);
+    check_empty_inputs(t, H26X_H265);
+    check_empty_inputs(t, H26X_H266);
+    check_unwanted_outputs(t);
+    check_h265(t);
+    check_frees();
+    check_words(t);
+}

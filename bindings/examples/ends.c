@@ -1,0 +1,92 @@
+/* The two ends of a stream. */
+#include "ends.h"
+#include "stream.h"
+#include <stdlib.h>
+
+enum { PAYLOAD_TYPE = 96, SOURCE = 0x68323658, TICKS_A_FRAME = 90000 / 25 };
+
+/* Where sequence numbers begin. It should be random (RFC 3550, 5.1); from here they soon pass
+ * 65535. */
+enum { FIRST_SEQUENCE = 65530 };
+
+/* How many bytes of data a unit may have that waits for its last packet. */
+enum { RUN_LIMIT = 64 << 20 };
+
+/* Lets the buffer have room for so many packets, which take `size` bytes. */
+static void grow(struct server *s, size_t count, size_t size)
+{
+    if (size > s->room) {
+        s->at = grown(s->at, size);
+        s->room = size;
+    }
+    if (count > s->ends_room) {
+        s->ends = grown(s->ends, count * sizeof *s->ends);
+        s->ends_room = count;
+    }
+}
+
+bool make_ends(uint32_t codec, struct server *server, struct client *client)
+{
+    *server = (struct server){.header = {PAYLOAD_TYPE, false, FIRST_SEQUENCE, 0, SOURCE}};
+    *client = (struct client){0};
+    if (h26x_packetizer_new(codec, false, &server->packetizer) != H26X_OK
+        || h26x_receiver_new(codec, false, false, RUN_LIMIT, &client->receiver) != H26X_OK)
+        return fail("no memory");
+    return true;
+}
+
+void free_ends(struct server *server, struct client *client)
+{
+    h26x_packetizer_free(server->packetizer);
+    h26x_receiver_free(client->receiver);
+    free(server->at);
+    free(server->ends);
+    free(client->at);
+}
+
+/* Writes each packet's header before it. Those of a frame have one timestamp. */
+static void write_headers(struct server *s, const struct packets *made)
+{
+    for (size_t i = 0; i < made->count; i++) {
+        s->header.marker = i + 1 == made->count;
+        rtp_write(s->at + packet_begin(made, i), &s->header);
+        s->header.sequence++;
+    }
+    s->header.timestamp += TICKS_A_FRAME;
+}
+
+/* Where the buffer has no room for the packets it grows, and the call is made again. */
+bool make_packets(struct server *s, size_t limit, const uint8_t *frame, size_t len,
+                  struct packets *made)
+{
+    size_t count, size;
+    uint32_t code;
+    while ((code = h26x_packetize_into(&s->packetizer, limit, frame, len, RTP_HEADER, s->at,
+                                       s->room, s->ends, s->ends_room, &count, &size))
+           == H26X_NO_ROOM)
+        grow(s, count, size);
+    if (code != H26X_OK)
+        return fail("a frame is refused");
+    *made = (struct packets){s->at, s->ends, count};
+    write_headers(s, made);
+    return true;
+}
+
+/* Units that have no room are kept behind the handle up to the next packet, and copied once there
+ * is. */
+bool take_payload(struct client *c, uint16_t sequence, const uint8_t *payload, size_t len,
+                  struct answer *a)
+{
+    uint8_t extra = 0;
+    h26x_refusal why;
+    if (h26x_receive(&c->receiver, sequence, payload, len, c->at + c->len, c->room - c->len,
+                     &a->written, &extra, &a->received, &a->count, &why) != H26X_OK)
+        return fail("a packet is refused");
+    if (a->written > c->room - c->len) {
+        c->room = 2 * (c->len + a->written);
+        c->at = grown(c->at, c->room);
+        h26x_written_copy(&c->receiver.at, c->at + c->len, a->written);
+    }
+    c->len += a->written;
+    return true;
+}

@@ -1,0 +1,99 @@
+package h26x
+
+// #include <h26x.h>
+import "C"
+
+import (
+	"errors"
+	"strconv"
+)
+
+// ErrClosed is answered by calls of what is closed.
+var ErrClosed = errors.New("h26x: it is closed")
+
+// A Code is why a call is refused. It is found in an [*Error] by errors.Is.
+type Code uint32
+
+// Why a call is refused. Those from ErrShortPacket to ErrAVCUnitTooLong are of a packet.
+const (
+	// ErrShortPacket: a packet ends before what its type asks for (RFC 6184, 5.6 to 5.8; RFC 7798, 4.4;
+	// RFC 9328, 4.3). Of H.265 and H.266 a unit that is a bare header, as an end of sequence, comes to
+	// it too.
+	ErrShortPacket Code = C.H26X_SHORT_PACKET
+	// ErrNALUTypeNotHandled: H.264: a packet of this type is none that is read. First is the type: 0, 25
+	// to 27 or 29 to 31 (RFC 6184, 5.2).
+	ErrNALUTypeNotHandled Code = C.H26X_NALU_TYPE_NOT_HANDLED
+	// ErrSTAPATooLong: H.264: a STAP-A gives a unit a length, which is First, where fewer bytes are
+	// left, as many as Second (RFC 6184, 5.7.1).
+	ErrSTAPATooLong Code = C.H26X_STAP_A_TOO_LONG
+	// ErrH265Corrupted: the packet's forbidden bit is set (RFC 7798, 1.1.4).
+	ErrH265Corrupted Code = C.H26X_H265_CORRUPTED
+	// ErrPACIExtensionTooLong: an extension of a PACI packet has at most 31 bytes (RFC 7798, 4.4.4).
+	ErrPACIExtensionTooLong Code = C.H26X_H265_PACI_PHES_TOO_LONG
+	// ErrH266Corrupted: the packet's forbidden bit is set, or an aggregate holds an aggregate or a
+	// fragment (RFC 9328, 1.1.4 and 4.3.2).
+	ErrH266Corrupted Code = C.H26X_H266_CORRUPTED
+	// ErrAVCUnitTooLong: behind lengths, a unit has over 4,294,967,295 bytes. Only a peer that never
+	// ends one comes to it: give up the open unit.
+	ErrAVCUnitTooLong Code = C.H26X_AVC_UNIT_TOO_LONG
+	// ErrOutOfMemory: the library had no memory. The same call can be made again.
+	ErrOutOfMemory Code = C.H26X_OUT_OF_MEMORY
+	// ErrUnknownCodec: no codec has this number.
+	ErrUnknownCodec Code = C.H26X_UNKNOWN_CODEC
+	// ErrWrongEnd: a handle is of another kind. No call here is given such a one.
+	ErrWrongEnd Code = C.H26X_WRONG_END
+	// ErrNotOfThisCodec: H.264 has no decoding order numbers, no largest packet size, and shows no
+	// packets; H.266 shows none.
+	ErrNotOfThisCodec Code = C.H26X_NOT_OF_THIS_CODEC
+	// ErrOutOfRange: a largest packet size is under 4.
+	ErrOutOfRange Code = C.H26X_OUT_OF_RANGE
+	// ErrNoRoom: what is written doesn't fit. No call here answers it.
+	ErrNoRoom Code = C.H26X_NO_ROOM
+)
+
+// Error is the code in the library's words.
+func (c Code) Error() string {
+	return "h26x: " + C.GoString(C.h26x_strerror(C.uint32_t(c)))
+}
+
+// An Error is a refusal: its code, and what it is of in numbers. A refused call changes nothing. One of a
+// packet is that packet's alone: pass it over, and go on with the next.
+type Error struct {
+	Code          Code
+	First, Second uint
+}
+
+// Error is the refusal in the library's words, with its numbers.
+func (e *Error) Error() string {
+	first, second := strconv.FormatUint(uint64(e.First), 10), strconv.FormatUint(uint64(e.Second), 10)
+	switch e.Code {
+	case ErrNALUTypeNotHandled:
+		return e.Code.Error() + " (type " + first + ")"
+	case ErrSTAPATooLong:
+		return e.Code.Error() + " (" + first + " bytes, where " + second + " are left)"
+	default:
+		return e.Code.Error()
+	}
+}
+
+// Unwrap is the code.
+func (e *Error) Unwrap() error { return e.Code }
+
+// IsPacketError tells whether an error is of a packet: what it holds is wrong, so it is to be passed over.
+func IsPacketError(err error) bool {
+	var e *Error
+	return errors.As(err, &e) && e.Code >= ErrShortPacket && e.Code <= ErrAVCUnitTooLong
+}
+
+// refused is the error of what a call answered; nil where it was carried out.
+func refused(code C.uint32_t, why C.h26x_refusal) error {
+	if code == C.H26X_OK {
+		return nil
+	}
+	return &Error{Code(code), uint(why.first), uint(why.second)}
+}
+
+// refusedBy is the same of a call that tells no numbers.
+func refusedBy(code C.uint32_t) error {
+	return refused(code, C.h26x_refusal{})
+}

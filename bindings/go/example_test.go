@@ -1,0 +1,142 @@
+package h26x_test
+
+import (
+	"bytes"
+	"errors"
+	"fmt"
+	"os"
+
+	"emupedestal/h26x"
+)
+
+// A frame is sent and received.
+func Example() {
+	frame := []byte{0, 0, 0, 1, 0x67, 0x42, 0xc0, 0x1f, 0, 0, 0, 1, 0x68, 0xce, 0, 0, 0, 1, 0x65, 0x88, 0x84}
+	packetizer, err := h26x.NewPacketizer(h26x.H264)
+	if err != nil {
+		panic(err)
+	}
+	defer packetizer.Close()
+	receiver, err := h26x.NewReceiver(h26x.H264, 4_000_000)
+	if err != nil {
+		panic(err)
+	}
+	defer receiver.Close()
+	sequence, out := uint16(65535), []byte(nil)
+	for _, packet := range packetizer.Payload(1200, frame) {
+		got, err := receiver.Receive(sequence, packet)
+		if err != nil {
+			continue // that packet's alone: pass it over
+		}
+		fmt.Printf("%d: %x, %v\n", sequence, packet, got.Outcome)
+		out = append(out, got.Data...)
+		sequence++
+	}
+	fmt.Println(bytes.Equal(out, frame))
+	// Output:
+	// 65535: 7800046742c01f000268ce, InOrder
+	// 0: 658884, InOrder
+	// true
+}
+
+// A server makes the packets of a frame in one buffer that it keeps, each behind room for RTP's header.
+func ExamplePacketizer_PacketizeInto() {
+	packetizer, err := h26x.NewPacketizer(h26x.H264)
+	if err != nil {
+		panic(err)
+	}
+	defer packetizer.Close()
+	packets := h26x.NewPackets(12)
+	if err := packetizer.PacketizeInto(5, []byte{0x65, 1, 2, 3, 4, 5, 6}, packets); err != nil {
+		panic(err)
+	}
+	for i := 0; i < packets.Len(); i++ {
+		datagram := packets.Datagram(i)
+		datagram[0] = 0x80 // RTP's header (RFC 3550, 5.1), and behind it the packet
+		if i+1 == packets.Len() {
+			datagram[1] = 0x80 | 96
+		}
+		fmt.Printf("%d bytes, %x\n", len(datagram), packets.Packet(i))
+	}
+	// Output:
+	// 17 bytes, 7c85010203
+	// 17 bytes, 7c45040506
+}
+
+// byMarker ends access units at the marker alone.
+type byMarker struct{ *h26x.Depacketizer }
+
+func (byMarker) IsPartitionTail(marker bool, _ []byte) bool { return marker }
+
+// The last fragment of a unit that is not the last of its access unit.
+func ExampleDepacketizer_IsPartitionTail() {
+	depacketizer, err := h26x.NewDepacketizer(h26x.H265)
+	if err != nil {
+		panic(err)
+	}
+	defer depacketizer.Close()
+	fragment := []byte{0x62, 0x01, 0x53, 0xaa} // E is set (RFC 7798, 4.4.3)
+	fmt.Println(depacketizer.IsPartitionTail(false, fragment))
+	fmt.Println(byMarker{depacketizer}.IsPartitionTail(false, fragment))
+	// Output:
+	// true
+	// false
+}
+
+// A stream of 50 pictures, a keyframe every 5, is sent picture by picture, loses every twentieth packet, and is
+// received.
+func ExampleReceiver() {
+	stream, err := os.ReadFile("../streams/test_pictures.h264")
+	if err != nil {
+		panic(err)
+	}
+	whole, _ := sendAndReceive(stream, 0)
+	fmt.Println("nothing lost:", whole, "pictures")
+	some, gaps := sendAndReceive(stream, 20)
+	fmt.Println("some lost:", some < whole, gaps > 0)
+	// Output:
+	// nothing lost: 50 pictures
+	// some lost: true true
+}
+
+// sendAndReceive loses a packet of so many, none where it is 0, and counts the pictures that are received and the
+// gaps.
+func sendAndReceive(stream []byte, each int) (pictures, gaps int) {
+	packetizer, err := h26x.NewPacketizer(h26x.H264)
+	if err != nil {
+		panic(err)
+	}
+	defer packetizer.Close()
+	receiver, err := h26x.NewReceiver(h26x.H264, 4_000_000)
+	if err != nil {
+		panic(err)
+	}
+	defer receiver.Close()
+	sequence, packets := 0, h26x.NewPackets(0)
+	for units := h26x.UnitsOf(h26x.H264, stream); units.Next(); {
+		if err := packetizer.PacketizeUnitInto(200, units.Unit(), packets); err != nil {
+			panic(err)
+		}
+		for i := 0; i < packets.Len(); i++ {
+			sequence++
+			if each > 0 && sequence%each == 0 {
+				continue
+			}
+			got, err := receiver.Receive(uint16(sequence), packets.Packet(i))
+			if errors.Is(err, h26x.ErrOutOfMemory) {
+				panic(err)
+			} else if err != nil {
+				continue
+			}
+			if got.Outcome == h26x.Gap {
+				gaps++
+			}
+			for back := h26x.UnitsOf(h26x.H264, got.Data); back.Next(); {
+				if kind := back.Unit()[0] & 31; kind == 1 || kind == 5 {
+					pictures++
+				}
+			}
+		}
+	}
+	return pictures, gaps
+}

@@ -1,0 +1,3 @@
+module emupedestal/h26x
+
+go 1.19

@@ -1,0 +1,216 @@
+package h26x_test
+
+import (
+	"bytes"
+	"errors"
+	"os"
+	"runtime"
+	"strconv"
+	"strings"
+	"sync"
+	"testing"
+	"time"
+
+	"emupedestal/h26x"
+)
+
+// closedCalls are calls of what is closed.
+func closedCalls(p *h26x.Packetizer, d *h26x.Depacketizer, r *h26x.Receiver) map[string]func() error {
+	unit := []byte{2, 1, 3, 4, 5}
+	return map[string]func() error{
+		"Packetize":         func() error { _, err := p.Packetize(99, unit); return err },
+		"PacketizeUnit":     func() error { _, err := p.PacketizeUnit(99, unit); return err },
+		"PacketizeInto":     func() error { return p.PacketizeInto(99, unit, h26x.NewPackets(0)) },
+		"PacketizeUnitInto": func() error { return p.PacketizeUnitInto(99, unit, h26x.NewPackets(0)) },
+		"SetDONL":           func() error { return p.SetDONL(true) },
+		"SetMaxPacketSize":  func() error { return p.SetMaxPacketSize(9) },
+		"Clone":             func() error { _, err := p.Clone(); return err },
+		"Unmarshal":         func() error { _, err := d.Unmarshal(unit); return err },
+		"Append":            func() error { _, _, err := d.Append(nil, unit); return err },
+		"d.SetDONL":         func() error { return d.SetDONL(true) },
+		"d.SetAVC":          func() error { return d.SetAVC(true) },
+		"GiveUpRun":         func() error { return d.GiveUpRun() },
+		"d.Clone":           func() error { _, err := d.Clone(); return err },
+		"d.Shown":           func() error { _, err := d.Shown(); return err },
+		"Receive":           func() error { _, err := r.Receive(1, unit); return err },
+		"r.Append":          func() error { _, _, err := r.Append(nil, 1, unit); return err },
+		"r.SetDONL":         func() error { return r.SetDONL(true) },
+		"r.SetAVC":          func() error { return r.SetAVC(true) },
+		"Restart":           func() error { return r.Restart() },
+		"r.Clone":           func() error { _, err := r.Clone(); return err },
+		"r.Shown":           func() error { _, err := r.Shown(); return err },
+	}
+}
+
+func TestWhatIsClosedMakesNoCall(t *testing.T) {
+	p, d, r := newPacketizer(t, h26x.H265, false), newDepacketizer(t, h26x.H265, false, false),
+		newReceiver(t, h26x.H265, 9, false, false)
+	for name, call := range closedCalls(p, d, r) {
+		if err := call(); err != nil {
+			t.Errorf("%s: %v", name, err)
+		}
+	}
+	// Twice, since it may be.
+	for i := 0; i < 2; i++ {
+		done(t, p.Close())
+		done(t, d.Close())
+		done(t, r.Close())
+	}
+	for name, call := range closedCalls(p, d, r) {
+		if err := call(); !errors.Is(err, h26x.ErrClosed) {
+			t.Errorf("%s: %v", name, err)
+		}
+	}
+	if p.Payload(99, []byte{2, 1, 3}) != nil || r.RunLen() != 0 {
+		t.Error("a call is made")
+	}
+	for name, call := range closedCalls(new(h26x.Packetizer), new(h26x.Depacketizer), new(h26x.Receiver)) {
+		if err := call(); !errors.Is(err, h26x.ErrClosed) {
+			t.Errorf("%s of a zero value: %v", name, err)
+		}
+	}
+}
+
+// resident is how many bytes of memory the process has.
+func resident(t *testing.T) int {
+	t.Helper()
+	told, err := os.ReadFile("/proc/self/statm")
+	if err != nil {
+		t.Skip("the system doesn't tell how much memory a process has")
+	}
+	pages, err := strconv.Atoi(strings.Fields(string(told))[1])
+	done(t, err)
+	return pages * os.Getpagesize()
+}
+
+// What isn't closed is freed some time after it can't be reached; what is closed at once.
+func TestMemoryIsGivenBack(t *testing.T) {
+	packet, before := append(some("7c85"), make([]byte, 1<<20)...), resident(t)
+	for n := 0; n < 400; n++ {
+		d, err := h26x.NewDepacketizer(h26x.H264)
+		done(t, err)
+		_, _, err = d.Append(nil, packet)
+		done(t, err)
+		if n%2 == 0 {
+			d.Close()
+		}
+		if n%10 == 0 {
+			runtime.GC()
+			time.Sleep(time.Millisecond)
+		}
+	}
+	// The open units are 400 MiB together.
+	if more := resident(t) - before; more > 150<<20 {
+		t.Errorf("%d bytes more", more)
+	}
+}
+
+// One object in several goroutines: each call has the handle alone.
+func TestGoroutines(t *testing.T) {
+	p, d := newPacketizer(t, h26x.H264, false), newDepacketizer(t, h26x.H264, false, false)
+	r := newReceiver(t, h26x.H264, 99, false, false)
+	var group sync.WaitGroup
+	for n := 1; n <= 4; n++ {
+		unit := append([]byte{0x65}, bytes.Repeat([]byte{byte(n)}, 20000+3000*n)...)
+		group.Add(1)
+		go func() {
+			defer group.Done()
+			for i := 0; i < 100; i++ {
+				var data []byte
+				for _, packet := range p.Payload(102, unit) {
+					data = append(data, packet[2:]...)
+				}
+				if !bytes.Equal(data, unit[1:]) {
+					t.Error("packets of another call")
+				}
+				out, err := d.Unmarshal(unit)
+				if err != nil || !bytes.Equal(out[4:], unit) {
+					t.Error("a unit of another call")
+				}
+				got, err := r.Receive(uint16(i), unit)
+				if err != nil || got.Outcome != h26x.Late && !bytes.Equal(got.Data[4:], unit) {
+					t.Error("a unit of another packet")
+				}
+			}
+		}()
+	}
+	group.Wait()
+}
+
+func TestClosingWhileAnotherCalls(t *testing.T) {
+	for n := 0; n < 50; n++ {
+		d, unit := newDepacketizer(t, h26x.H264, false, false), bytes.Repeat([]byte{0x61}, 2000)
+		var group sync.WaitGroup
+		for i := 0; i < 2; i++ {
+			group.Add(1)
+			go func() {
+				defer group.Done()
+				for {
+					if _, err := d.Unmarshal(unit); errors.Is(err, h26x.ErrClosed) {
+						return
+					}
+				}
+			}()
+		}
+		d.Close()
+		group.Wait()
+	}
+}
+
+// In a buffer that has room a call asks Go for no memory.
+func TestNoMemoryForEachPacket(t *testing.T) {
+	p, r, into := newPacketizer(t, h26x.H265, false), newReceiver(t, h26x.H265, 1<<20, false, false), h26x.NewPackets(12)
+	unit, out, sequence := append(some("2601"), make([]byte, 20000)...), make([]byte, 0, 30000), uint16(0)
+	run := func() {
+		if err := p.PacketizeInto(1200, unit, into); err != nil {
+			t.Fatal(err)
+		}
+		rest := out
+		for i := 0; i < into.Len(); i++ {
+			var err error
+			if rest, _, err = r.Append(rest, sequence, into.Packet(i)); err != nil {
+				t.Fatal(err)
+			}
+			sequence++
+		}
+		if !bytes.Equal(rest[4:], unit) {
+			t.Fatal("another unit")
+		}
+	}
+	run()
+	if times := testing.AllocsPerRun(20, run); times > 0 {
+		t.Errorf("%v allocations", times)
+	}
+}
+
+func BenchmarkPacketizeInto(b *testing.B) {
+	p, err := h26x.NewPacketizer(h26x.H264)
+	if err != nil {
+		b.Fatal(err)
+	}
+	defer p.Close()
+	unit, into := append([]byte{0x65}, make([]byte, 100_000)...), h26x.NewPackets(12)
+	b.SetBytes(int64(len(unit)))
+	b.ReportAllocs()
+	for i := 0; i < b.N; i++ {
+		if err := p.PacketizeInto(1200, unit, into); err != nil {
+			b.Fatal(err)
+		}
+	}
+}
+
+func BenchmarkReceive(b *testing.B) {
+	r, err := h26x.NewReceiver(h26x.H264, 1<<20)
+	if err != nil {
+		b.Fatal(err)
+	}
+	defer r.Close()
+	packet, out := append([]byte{0x61}, make([]byte, 1199)...), make([]byte, 0, 4096)
+	b.SetBytes(int64(len(packet)))
+	b.ReportAllocs()
+	for i := 0; i < b.N; i++ {
+		if _, _, err := r.Append(out, uint16(i), packet); err != nil {
+			b.Fatal(err)
+		}
+	}
+}

@@ -1,0 +1,68 @@
+package h26x
+
+// #include <h26x.h>
+import "C"
+
+// IsPartitionHead tells whether a packet may be the first of an access unit: one of two bytes or more that is
+// no fragment, or the first of its unit. False for an unknown codec.
+func IsPartitionHead(codec Codec, packet []byte) bool {
+	return bool(C.h26x_is_partition_head(C.uint32_t(codec), at(packet), C.size_t(len(packet))))
+}
+
+// IsPartitionTail tells whether a packet is told to be the last of an access unit; marker is its marker bit.
+//
+// Of H.264 it is the marker. Of a fragment of H.265 or H.266 it is the E bit, whatever the marker, and the
+// marker of every other packet. E is set where a unit ends, so an access unit may have more than one such
+// packet: its end is told by the marker alone. False for an unknown codec.
+func IsPartitionTail(codec Codec, marker bool, packet []byte) bool {
+	return bool(C.h26x_is_partition_tail(C.uint32_t(codec), C.bool(marker), at(packet), C.size_t(len(packet))))
+}
+
+// DetectKeyframe tells whether a packet without decoding order numbers is known to hold a unit of a keyframe,
+// or to be the first fragment of one. False for an unknown codec.
+func DetectKeyframe(codec Codec, packet []byte) bool {
+	return bool(C.h26x_detect_keyframe(C.uint32_t(codec), at(packet), C.size_t(len(packet))))
+}
+
+// DetectH264NALU tells whether an H.264 packet is known to hold a unit of this type, or to be the first
+// fragment of one.
+func DetectH264NALU(packet []byte, naluType uint8) bool {
+	return bool(C.h26x_detect_h264_nalu(at(packet), C.size_t(len(packet)), C.uint8_t(naluType)))
+}
+
+// OutSizeHint is about how many bytes the units of packets of this many bytes take when they are written. It
+// is no bound, since each unit of a short packet has four bytes before it: 50 units of 100 bytes take 5200,
+// and the hint is 5020.
+func OutSizeHint(packetsSize uint) uint {
+	return uint(C.h26x_out_size_hint(C.size_t(packetsSize)))
+}
+
+// Units goes through the units of a payload, in order: call Next, and Unit where it answers true. A payload
+// without a start code is one unit, and an empty unit is left out.
+type Units struct {
+	codec      Codec
+	payload    []byte
+	begin, end C.size_t
+	found      bool
+}
+
+// UnitsOf goes through the units of a payload. It has none for an unknown codec.
+func UnitsOf(codec Codec, payload []byte) *Units {
+	return &Units{codec: codec, payload: payload}
+}
+
+// Next goes to the next unit. False where none is left.
+func (u *Units) Next() bool {
+	u.found = bool(C.h26x_next_unit(C.uint32_t(u.codec), at(u.payload), C.size_t(len(u.payload)), u.end,
+		&u.begin, &u.end))
+	return u.found
+}
+
+// Unit is the unit that Next went to, without its start code: a part of the payload, not a copy. It is nil
+// where Next answered false.
+func (u *Units) Unit() []byte {
+	if !u.found {
+		return nil
+	}
+	return u.payload[u.begin:u.end:u.end]
+}

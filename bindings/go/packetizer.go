@@ -1,0 +1,196 @@
+package h26x
+
+/*
+#include <h26x.h>
+
+// Makes the packets of a payload, or of one unit as it is.
+static uint32_t packets_into(bool is_unit, h26x_packetizer *p, size_t mtu, const uint8_t *bytes, size_t len,
+                             size_t headroom, uint8_t *to, size_t room, size_t *ends, size_t ends_room,
+                             size_t *count, size_t *size)
+{
+    return is_unit ? h26x_packetize_unit_into(p, mtu, bytes, len, headroom, to, room, ends, ends_room, count, size)
+                   : h26x_packetize_into(p, mtu, bytes, len, headroom, to, room, ends, ends_room, count, size);
+}
+*/
+import "C"
+
+import (
+	"runtime"
+	"sync"
+)
+
+// A Packetizer cuts encoded video into RTP payloads within a limit (RFC 6184, 5; RFC 7798, 4.4; RFC 9328,
+// 4.3). It has the method of Pion's rtp.Payloader.
+type Packetizer struct {
+	mu    sync.Mutex
+	codec Codec
+	call  *sending
+	// Memory in which packets are made that go into slices of their own.
+	kept Packets
+}
+
+// sending is what C is given: it has no pointer of Go's. It is nil where the Packetizer is closed.
+type sending struct {
+	handle      C.h26x_packetizer
+	count, size C.size_t
+}
+
+// NewPacketizer makes a packetizer for which no parameter set waits, whose packets bear no decoding order
+// numbers. Its errors are ErrUnknownCodec and ErrOutOfMemory.
+func NewPacketizer(codec Codec) (*Packetizer, error) {
+	call := new(sending)
+	if err := refusedBy(C.h26x_packetizer_new(C.uint32_t(codec), false, &call.handle)); err != nil {
+		return nil, err
+	}
+	return ownPacketizer(codec, call), nil
+}
+
+func ownPacketizer(codec Codec, call *sending) *Packetizer {
+	p := &Packetizer{codec: codec, call: call}
+	runtime.SetFinalizer(p, (*Packetizer).Close)
+	return p
+}
+
+// Close frees what the library holds, and answers nil. It may be called again.
+func (p *Packetizer) Close() error {
+	p.mu.Lock()
+	defer p.mu.Unlock()
+	if p.call != nil {
+		C.h26x_packetizer_free(p.call.handle)
+		p.call = nil
+		runtime.SetFinalizer(p, nil)
+	}
+	return nil
+}
+
+// Codec is its codec.
+func (p *Packetizer) Codec() Codec { return p.codec }
+
+// Clone is the same packetizer again: the sets that wait, its next number, its settings. Its errors are
+// ErrOutOfMemory and ErrClosed.
+func (p *Packetizer) Clone() (*Packetizer, error) {
+	p.mu.Lock()
+	defer p.mu.Unlock()
+	if p.call == nil {
+		return nil, ErrClosed
+	}
+	call := new(sending)
+	if err := refusedBy(C.h26x_packetizer_clone(&p.call.handle, &call.handle)); err != nil {
+		return nil, err
+	}
+	return ownPacketizer(p.codec, call), nil
+}
+
+// SetDONL sets whether packets bear decoding order numbers, from 0 on (H.265 and H.266), as
+// sprop-max-don-diff says. Sets that wait stay. Its errors are ErrNotOfThisCodec of H.264, and ErrClosed.
+func (p *Packetizer) SetDONL(donl bool) error {
+	p.mu.Lock()
+	defer p.mu.Unlock()
+	if p.call == nil {
+		return ErrClosed
+	}
+	return refusedBy(C.h26x_packetizer_set_numbers(&p.call.handle, C.bool(donl)))
+}
+
+// SetMaxPacketSize sets the largest packet size of H.265 and H.266, in bytes: no packet of a later call is
+// longer, whatever its mtu. It is 1200 at first. Its errors are ErrOutOfRange under 4, ErrNotOfThisCodec of
+// H.264, and ErrClosed.
+func (p *Packetizer) SetMaxPacketSize(bytes uint16) error {
+	p.mu.Lock()
+	defer p.mu.Unlock()
+	if p.call == nil {
+		return ErrClosed
+	}
+	return refusedBy(C.h26x_packetizer_set_max_size(&p.call.handle, C.uint16_t(bytes)))
+}
+
+// Payload is Packetize for Pion: it answers nil where that answers an error, which is for want of memory or
+// behind Close.
+func (p *Packetizer) Payload(mtu uint16, payload []byte) [][]byte {
+	packets, _ := p.Packetize(mtu, payload)
+	return packets
+}
+
+// Packetize answers the RTP payloads of a payload, in order, each of at most mtu bytes and in memory that
+// is the caller's.
+//
+// The payload is one NAL unit, or units behind start codes (Annex B), of an access unit or a part of one.
+// The mtu doesn't count RTP's header and what is below it. The marker bit goes on the last packet of an
+// access unit. Its errors are ErrOutOfMemory, which changes nothing, and ErrClosed.
+//
+// What bites:
+//
+//   - Packets of H.265 and H.266 have at most 1200 bytes whatever the mtu, until SetMaxPacketSize says
+//     otherwise.
+//   - Parameter sets wait for the next unit that is none, and go before it. One that no packet holds is
+//     dropped, and no answer says so, since sets aren't fragmented. Keep the mtu (and the largest packet
+//     size) above their lengths, by 2 bytes more with decoding order numbers; or give them to the peer in
+//     SDP.
+//   - Of several sets of a kind that wait together the latest alone goes, whatever their ids. Send each by
+//     PacketizeUnit.
+//   - A PPS waits until there is an SPS, an SPS until there is a PPS, and a VPS until there are both;
+//     pictures go without them meanwhile.
+//   - Access unit delimiters aren't sent, nor units of H.266 of types 28 and 29.
+//   - A unit of H.265 or H.266 that is a bare header of two bytes is sent, and depacketizers refuse its
+//     packet as ErrShortPacket, which changes nothing.
+func (p *Packetizer) Packetize(mtu uint16, payload []byte) ([][]byte, error) {
+	return p.copies(false, mtu, payload)
+}
+
+// PacketizeUnit answers the RTP payloads of one NAL unit as it is: no start code is looked for in it, and
+// whatever its kind it is sent now, itself or in fragments. Sets that wait stay.
+//
+// There are no packets where no fragment has room for data, or the unit has no whole header: one byte of
+// H.264, two of the others. Its errors are those of Packetize.
+func (p *Packetizer) PacketizeUnit(mtu uint16, unit []byte) ([][]byte, error) {
+	return p.copies(true, mtu, unit)
+}
+
+// PacketizeInto makes the packets of Packetize in the place of those in into, each behind its headroom. It
+// asks for no memory where they fit what into has from the calls before. An error leaves them; the errors
+// are those of Packetize.
+func (p *Packetizer) PacketizeInto(mtu uint16, payload []byte, into *Packets) error {
+	p.mu.Lock()
+	defer p.mu.Unlock()
+	return p.makes(false, mtu, payload, into)
+}
+
+// PacketizeUnitInto makes the packets of PacketizeUnit in the place of those in into, as PacketizeInto does.
+func (p *Packetizer) PacketizeUnitInto(mtu uint16, unit []byte, into *Packets) error {
+	p.mu.Lock()
+	defer p.mu.Unlock()
+	return p.makes(true, mtu, unit, into)
+}
+
+// copies makes packets in memory of their own.
+func (p *Packetizer) copies(isUnit bool, mtu uint16, bytes []byte) ([][]byte, error) {
+	p.mu.Lock()
+	defer p.mu.Unlock()
+	if err := p.makes(isUnit, mtu, bytes, &p.kept); err != nil {
+		return nil, err
+	}
+	return p.kept.copies(), nil
+}
+
+// makes makes packets in the place of those in into, whose room grows where they don't fit. The caller has
+// the lock.
+func (p *Packetizer) makes(isUnit bool, mtu uint16, bytes []byte, into *Packets) error {
+	call := p.call
+	if call == nil {
+		return ErrClosed
+	}
+	read := apart(bytes, into.bytes)
+	for {
+		code := C.packets_into(C.bool(isUnit), &call.handle, C.size_t(mtu), at(read), C.size_t(len(read)),
+			C.size_t(into.headroom), at(into.bytes), C.size_t(len(into.bytes)), into.endsAt(),
+			C.size_t(len(into.ends)), &call.count, &call.size)
+		if code != C.H26X_NO_ROOM {
+			if err := refusedBy(code); err != nil {
+				return err
+			}
+			into.count = int(call.count)
+			return nil
+		}
+		into.grow(int(call.count), int(call.size))
+	}
+}

@@ -1,0 +1,243 @@
+/* What C's callers may leave out: a buffer of length 0, an output that isn't wanted, a handle to be
+ * freed. For each of these the proved call is given something of the same meaning, since it can't
+ * take NULL: a reference of Rattle is never null, and `Option<&T>` doesn't cross to C.
+ *
+ * `proved_packetize` is what crates/h26x_c exports as h26x_packetize, and so on: bindings/build
+ * renames each export of which this file asks for the proved one. */
+#include "h26x.h"
+
+/* The proved calls that are handed on to, with the types of those in h26x.h. */
+#define PROVED(name) extern __typeof__(h26x_##name) proved_##name
+PROVED(packetizer_free);
+PROVED(packetize);
+PROVED(packetize_unit);
+PROVED(packetize_into);
+PROVED(packetize_unit_into);
+PROVED(packets_size);
+PROVED(packet_copy);
+PROVED(packets_copy);
+PROVED(depacketizer_free);
+PROVED(depacketize);
+PROVED(written_copy);
+PROVED(receiver_free);
+PROVED(receive);
+PROVED(h265_part_copy);
+PROVED(h265_paci_packet);
+PROVED(is_partition_head);
+PROVED(is_partition_tail);
+PROVED(detect_keyframe);
+PROVED(detect_h264_nalu);
+PROVED(next_unit);
+PROVED(h264_profile_level);
+
+/* Keeps what is seldom needed out of a call that is made for each packet, which then goes straight on
+ * to the proved one. */
+#define APART __attribute__((noinline, cold))
+#define GO_ON __attribute__((musttail)) return
+
+/* In the place of a buffer of length 0, which is neither read nor written. */
+static uint8_t no_bytes[1];
+static size_t no_ends[1];
+
+static const uint8_t *some(const uint8_t *bytes)
+{
+    return bytes != NULL ? bytes : no_bytes;
+}
+
+static uint8_t *room_at(uint8_t *to)
+{
+    return to != NULL ? to : no_bytes;
+}
+
+static size_t *room_for(size_t *ends)
+{
+    return ends != NULL ? ends : no_ends;
+}
+
+/* The output, or a place for it that nobody reads. */
+#define WANTED(output, unwanted) ((output) != NULL ? (output) : (unwanted))
+
+/* ---- Sending ---- */
+
+void h26x_packetizer_free(h26x_packetizer p)
+{
+    if (p.at != NULL)
+        proved_packetizer_free(p);
+}
+
+uint32_t h26x_packetize(h26x_packetizer *p, size_t mtu, const uint8_t *payload, size_t payload_len,
+                        size_t *count)
+{
+    size_t unwanted;
+    return proved_packetize(p, mtu, some(payload), payload_len, WANTED(count, &unwanted));
+}
+
+uint32_t h26x_packetize_unit(h26x_packetizer *p, size_t mtu, const uint8_t *unit, size_t unit_len,
+                             size_t *count)
+{
+    size_t unwanted;
+    return proved_packetize_unit(p, mtu, some(unit), unit_len, WANTED(count, &unwanted));
+}
+
+uint32_t h26x_packetize_into(h26x_packetizer *p, size_t mtu, const uint8_t *payload,
+                             size_t payload_len, size_t headroom, uint8_t *to, size_t room,
+                             size_t *ends, size_t ends_room, size_t *count, size_t *size)
+{
+    size_t unwanted[2];
+    return proved_packetize_into(p, mtu, some(payload), payload_len, headroom, room_at(to), room,
+                                 room_for(ends), ends_room, WANTED(count, &unwanted[0]),
+                                 WANTED(size, &unwanted[1]));
+}
+
+uint32_t h26x_packetize_unit_into(h26x_packetizer *p, size_t mtu, const uint8_t *unit,
+                                  size_t unit_len, size_t headroom, uint8_t *to, size_t room,
+                                  size_t *ends, size_t ends_room, size_t *count, size_t *size)
+{
+    size_t unwanted[2];
+    return proved_packetize_unit_into(p, mtu, some(unit), unit_len, headroom, room_at(to), room,
+                                      room_for(ends), ends_room, WANTED(count, &unwanted[0]),
+                                      WANTED(size, &unwanted[1]));
+}
+
+uint32_t h26x_packets_size(const h26x_packetizer *p, size_t mtu, const uint8_t *payload,
+                           size_t payload_len, size_t headroom, size_t *count, size_t *size)
+{
+    size_t unwanted[2];
+    return proved_packets_size(p, mtu, some(payload), payload_len, headroom,
+                               WANTED(count, &unwanted[0]), WANTED(size, &unwanted[1]));
+}
+
+size_t h26x_packet_copy(const h26x_packetizer *p, size_t i, uint8_t *to, size_t room)
+{
+    return proved_packet_copy(p, i, room_at(to), room);
+}
+
+size_t h26x_packets_copy(const h26x_packetizer *p, size_t first, uint8_t *to, size_t room,
+                         size_t *ends, size_t ends_room)
+{
+    return proved_packets_copy(p, first, room_at(to), room, room_for(ends), ends_room);
+}
+
+/* ---- Receiving ---- */
+
+void h26x_depacketizer_free(h26x_depacketizer d)
+{
+    if (d.at != NULL)
+        proved_depacketizer_free(d);
+}
+
+/* The same as h26x_depacketize, with something in the place of each NULL. */
+static APART uint32_t depacketize_in_part(h26x_depacketizer *d, bool avc, const uint8_t *packet,
+                                          size_t packet_len, uint8_t *to, size_t room,
+                                          size_t *written, uint8_t *extra, h26x_refusal *why)
+{
+    size_t unwanted_len;
+    uint8_t unwanted_extra = 0;
+    h26x_refusal unwanted_why;
+    return proved_depacketize(d, avc, some(packet), packet_len, room_at(to), room,
+                              WANTED(written, &unwanted_len), WANTED(extra, &unwanted_extra),
+                              WANTED(why, &unwanted_why));
+}
+
+uint32_t h26x_depacketize(h26x_depacketizer *d, bool avc, const uint8_t *packet, size_t packet_len,
+                          uint8_t *to, size_t room, size_t *written, uint8_t *extra,
+                          h26x_refusal *why)
+{
+    if (packet != NULL && to != NULL && written != NULL && extra != NULL && why != NULL)
+        GO_ON proved_depacketize(d, avc, packet, packet_len, to, room, written, extra, why);
+    return depacketize_in_part(d, avc, packet, packet_len, to, room, written, extra, why);
+}
+
+size_t h26x_written_copy(const h26x_depacketizer *d, uint8_t *to, size_t room)
+{
+    return proved_written_copy(d, room_at(to), room);
+}
+
+void h26x_receiver_free(h26x_receiver r)
+{
+    if (r.at.at != NULL)
+        proved_receiver_free(r);
+}
+
+/* The same as h26x_receive, with something in the place of each NULL. */
+static APART uint32_t receive_in_part(h26x_receiver *r, uint16_t sequence, const uint8_t *packet,
+                                      size_t packet_len, uint8_t *to, size_t room, size_t *written,
+                                      uint8_t *extra, uint32_t *received, uint16_t *count,
+                                      h26x_refusal *why)
+{
+    size_t unwanted_len;
+    uint8_t unwanted_extra = 0;
+    uint32_t unwanted_received;
+    uint16_t unwanted_count;
+    h26x_refusal unwanted_why;
+    return proved_receive(r, sequence, some(packet), packet_len, room_at(to), room,
+                          WANTED(written, &unwanted_len), WANTED(extra, &unwanted_extra),
+                          WANTED(received, &unwanted_received), WANTED(count, &unwanted_count),
+                          WANTED(why, &unwanted_why));
+}
+
+uint32_t h26x_receive(h26x_receiver *r, uint16_t sequence, const uint8_t *packet, size_t packet_len,
+                      uint8_t *to, size_t room, size_t *written, uint8_t *extra, uint32_t *received,
+                      uint16_t *count, h26x_refusal *why)
+{
+    if (packet != NULL && to != NULL && written != NULL && extra != NULL && received != NULL
+        && count != NULL && why != NULL)
+        GO_ON proved_receive(r, sequence, packet, packet_len, to, room, written, extra, received, count,
+                             why);
+    return receive_in_part(r, sequence, packet, packet_len, to, room, written, extra, received, count,
+                           why);
+}
+
+/* ---- The packets that H.265 shows ---- */
+
+size_t h26x_h265_part_copy(const h26x_depacketizer *d, size_t i, uint8_t *to, size_t room,
+                           uint32_t *number)
+{
+    uint32_t unwanted;
+    return proved_h265_part_copy(d, i, room_at(to), room, WANTED(number, &unwanted));
+}
+
+uint32_t h26x_h265_paci_packet(const uint8_t *unit, size_t unit_len, const uint8_t *extension,
+                               size_t extension_len, uint8_t *to, size_t room, size_t *len)
+{
+    size_t unwanted;
+    return proved_h265_paci_packet(some(unit), unit_len, some(extension), extension_len, room_at(to),
+                                   room, WANTED(len, &unwanted));
+}
+
+/* ---- Packets and payloads ---- */
+
+bool h26x_is_partition_head(uint32_t codec, const uint8_t *packet, size_t packet_len)
+{
+    return proved_is_partition_head(codec, some(packet), packet_len);
+}
+
+bool h26x_is_partition_tail(uint32_t codec, bool marker, const uint8_t *packet, size_t packet_len)
+{
+    return proved_is_partition_tail(codec, marker, some(packet), packet_len);
+}
+
+bool h26x_detect_keyframe(uint32_t codec, const uint8_t *packet, size_t packet_len)
+{
+    return proved_detect_keyframe(codec, some(packet), packet_len);
+}
+
+bool h26x_detect_h264_nalu(const uint8_t *packet, size_t packet_len, uint8_t type)
+{
+    return proved_detect_h264_nalu(some(packet), packet_len, type);
+}
+
+bool h26x_next_unit(uint32_t codec, const uint8_t *payload, size_t payload_len, size_t from,
+                    size_t *begin, size_t *end)
+{
+    size_t unwanted[2];
+    return proved_next_unit(codec, some(payload), payload_len, from, WANTED(begin, &unwanted[0]),
+                            WANTED(end, &unwanted[1]));
+}
+
+bool h26x_h264_profile_level(uint32_t profile_level_id, uint8_t *profile, uint8_t *level)
+{
+    uint8_t unwanted[2];
+    return proved_h264_profile_level(profile_level_id, WANTED(profile, &unwanted[0]),
+                                     WANTED(level, &unwanted[1]));
+}

@@ -1,0 +1,127 @@
+"""H.264, H.265 and H.266 as RTP payloads (RFC 6184, RFC 7798, RFC 9328), over the library libh26x.
+
+A Packetizer cuts encoded video into RTP payloads within a limit. A Depacketizer puts the units
+together again, and a Receiver does where packets come with their sequence numbers and some may be
+missing. RTP's own header is the caller's.
+
+>>> frame = bytes.fromhex("00000001 6742c01f 00000001 68ce 00000001 658884")  # SPS, PPS, IDR slice
+>>> with Packetizer(Codec.H264) as packetizer:
+...     packets = packetizer.packetize(1200, frame)
+>>> [packet.hex() for packet in packets]  # the sets in a STAP-A, then the slice
+['7800046742c01f000268ce', '658884']
+>>> with Receiver(Codec.H264, run_limit=4_000_000) as receiver:
+...     back = b"".join(receiver.receive(n, packet).data for n, packet in enumerate(packets))
+>>> back == frame
+True
+
+Words: *donl* stands for decoding order numbers (DON; DONL and DOND in packets). The *open unit* is one
+of which fragments came and the last one didn't yet; its data is called the run. A *unit* is a NAL unit
+without its start code, a *set* a parameter set (VPS, SPS, PPS).
+
+Bytes are given as `bytes`, `bytearray`, `memoryview`, or any other object that gives its bytes; all
+but `bytes` is copied first. A number that doesn't fit its place raises ValueError, and so does every
+call of an object that is closed.
+
+The library is the one that the environment's H26X_LIBRARY names by its path, else libh26x.so where the
+system finds it. It is proved to meet its contracts; this package is only tested.
+"""
+
+from ._library import library as _loaded
+from .codec import Codec
+from .depacketizer import Depacketizer, Units
+from .errors import (
+    AvcUnitTooLong,
+    Error,
+    H265Corrupted,
+    H266Corrupted,
+    NaluTypeNotHandled,
+    NoRoom,
+    NotOfThisCodec,
+    OutOfMemory,
+    OutOfRange,
+    PaciExtensionTooLong,
+    PacketError,
+    ShortPacket,
+    StapATooLong,
+    UnknownCodec,
+    WrongEnd,
+)
+from .look import (
+    detect_h264_nalu,
+    detect_keyframe,
+    is_partition_head,
+    is_partition_tail,
+    out_size_hint,
+    units,
+)
+from .packetizer import Packetizer
+from .profile import (
+    H264Level,
+    H264Profile,
+    H264ProfileLevel,
+    H265Level,
+    H265Profile,
+    H266Level,
+    H266Profile,
+    h265_is_known,
+    h266_is_known,
+    profile_level,
+)
+from .receiver import Outcome, Received, Receiver
+from .shown import Kind, Part, ShownPacket, paci_packet
+
+#: The version of this package.
+__version__ = "0.1.0"
+
+
+def version() -> str:
+    """The version of the library that is loaded, as "0.1.0"."""
+    number: int = _loaded.h26x_version()
+    return f"{number >> 16}.{number >> 8 & 255}.{number & 255}"
+
+
+__all__ = [
+    "AvcUnitTooLong",
+    "Codec",
+    "Depacketizer",
+    "Error",
+    "H264Level",
+    "H264Profile",
+    "H264ProfileLevel",
+    "H265Corrupted",
+    "H265Level",
+    "H265Profile",
+    "H266Corrupted",
+    "H266Level",
+    "H266Profile",
+    "Kind",
+    "NaluTypeNotHandled",
+    "NoRoom",
+    "NotOfThisCodec",
+    "Outcome",
+    "OutOfMemory",
+    "OutOfRange",
+    "PaciExtensionTooLong",
+    "PacketError",
+    "Packetizer",
+    "Part",
+    "Received",
+    "Receiver",
+    "ShortPacket",
+    "ShownPacket",
+    "StapATooLong",
+    "Units",
+    "UnknownCodec",
+    "WrongEnd",
+    "detect_h264_nalu",
+    "detect_keyframe",
+    "h265_is_known",
+    "h266_is_known",
+    "is_partition_head",
+    "is_partition_tail",
+    "out_size_hint",
+    "paci_packet",
+    "profile_level",
+    "units",
+    "version",
+]

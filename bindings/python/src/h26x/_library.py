@@ -1,0 +1,154 @@
+"""Finds the library libh26x.so, and declares its calls as h26x.h has them."""
+
+from __future__ import annotations
+
+import ctypes
+import ctypes.util
+import os
+from ctypes import (
+    POINTER,
+    Structure,
+    c_bool,
+    c_char_p,
+    c_size_t,
+    c_uint8,
+    c_uint16,
+    c_uint32,
+    c_void_p,
+)
+from typing import Any, Dict, List, Tuple
+
+#: The library's versions that are known: this major number, and this minor number or a later one.
+MAJOR, MINOR = 0, 1
+
+
+class Handle(Structure):
+    """A packetizer, a depacketizer or a receiver: each is a struct of one pointer."""
+
+    _fields_ = [("at", c_void_p)]
+
+
+class Refusal(Structure):
+    """The numbers of a refusal."""
+
+    _fields_ = [("first", c_size_t), ("second", c_size_t)]
+
+
+class ShownPacket(Structure):
+    """A packet of H.265 in numbers."""
+
+    _fields_ = [
+        ("kind", c_uint32),
+        ("header", c_uint16),
+        ("word", c_uint16),
+        ("parts", c_size_t),
+    ]
+
+
+_HANDLE = POINTER(Handle)
+_SIZE = POINTER(c_size_t)
+_BYTE = POINTER(c_uint8)
+_SHORT = POINTER(c_uint16)
+_WORD = POINTER(c_uint32)
+_WHY = POINTER(Refusal)
+_SHOWN = POINTER(ShownPacket)
+# Bytes that a call reads are a `bytes` object, which nobody changes meanwhile. Those that it writes
+# are an address.
+_IN = (c_char_p, c_size_t)
+_OUT = (c_void_p, c_size_t)
+
+_NEW = (c_uint32, [c_uint32, c_bool, _HANDLE])
+_CLONE = (c_uint32, [_HANDLE, _HANDLE])
+_FREE = (None, [Handle])
+_SET = (c_uint32, [_HANDLE, c_bool])
+_DO = (c_uint32, [_HANDLE])
+_MAKE = (c_uint32, [_HANDLE, c_size_t, *_IN, _SIZE])
+_INTO = (c_uint32, [_HANDLE, c_size_t, *_IN, c_size_t, *_OUT, *_OUT, _SIZE, _SIZE])
+_IS_KNOWN = (c_bool, [c_uint8, c_uint8, c_uint8])
+
+#: What each call answers, and what it is given.
+CALLS: Dict[str, Tuple[Any, List[Any]]] = {
+    "version": (c_uint32, []),
+    "codec_name": (c_char_p, [c_uint32]),
+    "strerror": (c_char_p, [c_uint32]),
+    "packetizer_new": _NEW,
+    "packetizer_clone": _CLONE,
+    "packetizer_free": _FREE,
+    "packetizer_set_numbers": _SET,
+    "packetizer_set_max_size": (c_uint32, [_HANDLE, c_uint16]),
+    "packetize": _MAKE,
+    "packetize_unit": _MAKE,
+    "packetize_into": _INTO,
+    "packetize_unit_into": _INTO,
+    "packets_size": (c_uint32, [_HANDLE, c_size_t, *_IN, c_size_t, _SIZE, _SIZE]),
+    "packet_count": (c_size_t, [_HANDLE]),
+    "packet_len": (c_size_t, [_HANDLE, c_size_t]),
+    "packets_len": (c_size_t, [_HANDLE]),
+    "packet_copy": (c_size_t, [_HANDLE, c_size_t, *_OUT]),
+    "packets_copy": (c_size_t, [_HANDLE, c_size_t, *_OUT, *_OUT]),
+    "depacketizer_new": _NEW,
+    "depacketizer_clone": _CLONE,
+    "depacketizer_free": _FREE,
+    "depacketizer_same": (c_bool, [_HANDLE, _HANDLE]),
+    "depacketizer_set_numbers": _SET,
+    "depacketize": (c_uint32, [_HANDLE, c_bool, *_IN, *_OUT, _SIZE, _BYTE, _WHY]),
+    "written_copy": (c_size_t, [_HANDLE, *_OUT]),
+    "give_up_run": _DO,
+    "receiver_new": (c_uint32, [c_uint32, c_bool, c_bool, c_size_t, _HANDLE]),
+    "receiver_clone": _CLONE,
+    "receiver_free": _FREE,
+    "receiver_set_numbers": _SET,
+    "receiver_set_avc": _SET,
+    "receive": (
+        c_uint32,
+        [_HANDLE, c_uint16, *_IN, *_OUT, _SIZE, _BYTE, _WORD, _SHORT, _WHY],
+    ),
+    "receiver_restart": _DO,
+    "receiver_run_len": (c_size_t, [_HANDLE]),
+    "h265_shown": (c_uint32, [_HANDLE, _SHOWN]),
+    "h265_part_copy": (c_size_t, [_HANDLE, c_size_t, *_OUT, _WORD]),
+    "h265_paci_packet": (c_uint32, [*_IN, *_IN, *_OUT, _SIZE]),
+    "is_partition_head": (c_bool, [c_uint32, *_IN]),
+    "is_partition_tail": (c_bool, [c_uint32, c_bool, *_IN]),
+    "detect_keyframe": (c_bool, [c_uint32, *_IN]),
+    "detect_h264_nalu": (c_bool, [*_IN, c_uint8]),
+    "next_unit": (c_bool, [c_uint32, *_IN, c_size_t, _SIZE, _SIZE]),
+    "out_size_hint": (c_size_t, [c_size_t]),
+    "h264_profile_level": (c_bool, [c_uint32, _BYTE, _BYTE]),
+    "h265_is_known": _IS_KNOWN,
+    "h266_is_known": _IS_KNOWN,
+}
+
+
+def _opened() -> ctypes.CDLL:
+    """The library that H26X_LIBRARY names, else the one that is installed."""
+    named = os.environ.get("H26X_LIBRARY")
+    names = [named] if named else ["libh26x.so.0", ctypes.util.find_library("h26x") or ""]
+    told = []
+    for name in filter(None, names):
+        try:
+            return ctypes.CDLL(name)
+        except OSError as why:
+            told.append(str(why))
+    raise ImportError(
+        "libh26x.so isn't found: install it, or let H26X_LIBRARY be its path ("
+        + "; ".join(told)
+        + ")"
+    )
+
+
+def _declared(opened: ctypes.CDLL) -> ctypes.CDLL:
+    """The same library, with the types of its calls, where it is of a version that is known."""
+    for name, (restype, argtypes) in CALLS.items():
+        try:
+            call = getattr(opened, "h26x_" + name)
+        except AttributeError as why:
+            raise ImportError(f"libh26x.so is of another version: {why}") from None
+        call.restype, call.argtypes = restype, argtypes
+    number = opened.h26x_version()
+    if number >> 16 != MAJOR or number >> 8 & 255 < MINOR:
+        raise ImportError(f"libh26x.so is of another version: its number is {number:#x}")
+    return opened
+
+
+library = _declared(_opened())

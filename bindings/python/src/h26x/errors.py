@@ -1,0 +1,180 @@
+"""Why a call is refused.
+
+A refused call changes nothing. A refused packet (PacketError) is that packet's alone: pass it over,
+and go on with the next.
+"""
+
+from __future__ import annotations
+
+from typing import Dict, Type
+
+from ._library import library
+
+
+class Error(Exception):
+    """A call is refused. Its text is the library's."""
+
+    #: The number of the refusal in h26x.h.
+    code = 0
+
+    def __init__(self, first: int = 0, second: int = 0) -> None:
+        super().__init__(first, second)
+        #: What the refusal is of, in numbers; 0 where it has none.
+        self.first, self.second = first, second
+
+    def __str__(self) -> str:
+        text: bytes = library.h26x_strerror(self.code)
+        return text.decode() + self._numbers()
+
+    def _numbers(self) -> str:
+        return ""
+
+
+class PacketError(Error):
+    """A packet is refused, or a unit: what it holds is wrong. Pass it over."""
+
+
+class ShortPacket(PacketError):
+    """A packet ends before what its type asks for (RFC 6184, 5.6 to 5.8; RFC 7798, 4.4; RFC 9328,
+    4.3). Of H.265 and H.266 a unit that is a bare header, as an end of sequence, comes to it too."""
+
+    code = 1
+
+
+class NaluTypeNotHandled(PacketError):
+    """H.264: a packet of this type is none that is read: 0, 25 to 27 and 29 to 31 (RFC 6184, 5.2)."""
+
+    code = 2
+
+    @property
+    def type(self) -> int:
+        """The type, from 0 to 31."""
+        return self.first
+
+    def _numbers(self) -> str:
+        return f" (type {self.type})"
+
+
+class StapATooLong(PacketError):
+    """H.264: a STAP-A gives a unit a length where fewer bytes are left (RFC 6184, 5.7.1)."""
+
+    code = 3
+
+    @property
+    def length(self) -> int:
+        """The length of the unit that the packet gives, in bytes."""
+        return self.first
+
+    @property
+    def left(self) -> int:
+        """How many bytes are left for it."""
+        return self.second
+
+    def _numbers(self) -> str:
+        return f" ({self.length} bytes, where {self.left} are left)"
+
+
+class H265Corrupted(PacketError):
+    """H.265: the packet's forbidden bit is set (RFC 7798, 1.1.4)."""
+
+    code = 4
+
+
+class PaciExtensionTooLong(PacketError):
+    """H.265: an extension of a PACI packet has at most 31 bytes (RFC 7798, 4.4.4)."""
+
+    code = 5
+
+
+class H266Corrupted(PacketError):
+    """H.266: the packet's forbidden bit is set, or an aggregate holds an aggregate or a fragment (RFC
+    9328, 1.1.4 and 4.3.2)."""
+
+    code = 6
+
+
+class AvcUnitTooLong(PacketError):
+    """Behind lengths: a unit has over 4,294,967,295 bytes. Only a peer that never ends one comes to
+    it: give up the open unit."""
+
+    code = 7
+
+
+class OutOfMemory(Error, MemoryError):
+    """The library had no memory. The same call can be made again."""
+
+    code = 8
+
+
+class UnknownCodec(Error, ValueError):
+    """No codec has this number."""
+
+    code = 9
+
+
+class WrongEnd(Error):
+    """A handle is of another kind. No call here is given such a one."""
+
+    code = 10
+
+
+class NotOfThisCodec(Error, ValueError):
+    """H.264 has no decoding order numbers, and no largest packet size."""
+
+    code = 11
+
+
+class OutOfRange(Error, ValueError):
+    """A largest packet size is under 4."""
+
+    code = 12
+
+
+class NoRoom(Error):
+    """Packets don't fit in the caller's memory. Nothing is changed, so the call can be made again."""
+
+    code = 13
+
+    @property
+    def count(self) -> int:
+        """How many packets there are."""
+        return self.first
+
+    @property
+    def size(self) -> int:
+        """How many bytes they take with their headroom."""
+        return self.second
+
+    def _numbers(self) -> str:
+        return f" ({self.count} packets, {self.size} bytes)"
+
+
+_ERRORS: Dict[int, Type[Error]] = {
+    error.code: error
+    for error in (
+        ShortPacket,
+        NaluTypeNotHandled,
+        StapATooLong,
+        H265Corrupted,
+        PaciExtensionTooLong,
+        H266Corrupted,
+        AvcUnitTooLong,
+        OutOfMemory,
+        UnknownCodec,
+        WrongEnd,
+        NotOfThisCodec,
+        OutOfRange,
+        NoRoom,
+    )
+}
+
+
+def error_of(code: int, first: int = 0, second: int = 0) -> Error:
+    """The error of a code that is none of H26X_OK."""
+    return _ERRORS[code](first, second)
+
+
+def check(code: int) -> None:
+    """Raises the error of a code where it is one."""
+    if code != 0:
+        raise error_of(code)

@@ -1,0 +1,68 @@
+"""Calls on packets and payloads that need no object."""
+
+from __future__ import annotations
+
+from ctypes import byref, c_size_t
+from typing import Iterator
+
+from ._library import library
+from ._memory import Buffer, as_bytes, number
+from .codec import Codec, codec_of
+
+
+def is_partition_head(codec: int, packet: Buffer) -> bool:
+    """Whether a packet may be the first of an access unit: one of two bytes or more that is no
+    fragment, or the first of its unit. Raises UnknownCodec."""
+    data = as_bytes(packet)
+    return bool(library.h26x_is_partition_head(codec_of(codec), data, len(data)))
+
+
+def is_partition_tail(codec: int, marker: bool, packet: Buffer) -> bool:
+    """Whether a packet is told to be the last of an access unit; `marker` is its marker bit.
+
+    Of H.264 it is the marker. Of a fragment of H.265 or H.266 it is the E bit, whatever the marker, and
+    the marker of every other packet. E is set where a unit ends, so **an access unit may have more than
+    one such packet**: its end is told by the marker alone. Raises UnknownCodec.
+    """
+    data = as_bytes(packet)
+    return bool(library.h26x_is_partition_tail(codec_of(codec), marker, data, len(data)))
+
+
+def detect_keyframe(codec: int, packet: Buffer) -> bool:
+    """Whether a packet without decoding order numbers is known to hold a unit of a keyframe, or to be
+    the first fragment of one. Raises UnknownCodec."""
+    data = as_bytes(packet)
+    return bool(library.h26x_detect_keyframe(codec_of(codec), data, len(data)))
+
+
+def detect_h264_nalu(packet: Buffer, nalu_type: int) -> bool:
+    """Whether an H.264 packet is known to hold a unit of this type, or to be the first fragment of
+    one."""
+    data = as_bytes(packet)
+    wanted = number("nalu_type", nalu_type, 255)
+    return bool(library.h26x_detect_h264_nalu(data, len(data), wanted))
+
+
+def units(codec: int, payload: Buffer) -> Iterator[bytes]:
+    """The units of a payload, in order, without their start codes. A payload without a start code is
+    one unit, and an empty unit is left out. Raises UnknownCodec.
+
+    >>> [unit.hex() for unit in units(Codec.H264, bytes.fromhex("000001 6742 000001 65"))]
+    ['6742', '65']
+    """
+    return _units(codec_of(codec), as_bytes(payload))
+
+
+def _units(codec: Codec, data: bytes) -> Iterator[bytes]:
+    begin, end = c_size_t(), c_size_t()
+    while library.h26x_next_unit(codec, data, len(data), end, byref(begin), byref(end)):
+        yield data[begin.value : end.value]
+
+
+def out_size_hint(packets_size: int) -> int:
+    """About how many bytes the units of packets of this many bytes take when they are written.
+
+    **It is no bound**, since each unit of a short packet has four bytes before it: 50 units of 100
+    bytes take 5200, and the hint is 5020.
+    """
+    return int(library.h26x_out_size_hint(number("packets_size", packets_size)))

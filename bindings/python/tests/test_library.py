@@ -1,0 +1,116 @@
+"""The library: that its calls are declared as the header has them, and how it is found."""
+
+import os
+import re
+import subprocess
+import sys
+from ctypes import c_bool, c_char_p, c_size_t, c_uint8, c_uint16, c_uint32, c_void_p
+from pathlib import Path
+from typing import Any, Dict, List
+
+import h26x
+import pytest
+from h26x import _library
+
+HEADER = Path(__file__).parents[2] / "include" / "h26x.h"
+
+#: What each type of the header is here. Bytes that are read are a `bytes`; those written an address.
+TYPES: Dict[str, Any] = {
+    "void": None,
+    "bool": c_bool,
+    "uint8_t": c_uint8,
+    "uint16_t": c_uint16,
+    "uint32_t": c_uint32,
+    "size_t": c_size_t,
+    "const char *": c_char_p,
+    "const uint8_t *": c_char_p,
+    "uint16_t *": _library._SHORT,
+    "uint32_t *": _library._WORD,
+    "h26x_refusal *": _library._WHY,
+    "h26x_h265_packet *": _library._SHOWN,
+}
+
+#: A pointer to one number, or to as many as there is room for: told apart by the name.
+ROOMS = {"to": c_void_p, "ends": c_void_p}
+
+
+def ctype(declared: str, name: str) -> Any:
+    """The type of an argument."""
+    if re.fullmatch(r"(const )?h26x_(packetizer|depacketizer|receiver) \*", declared):
+        return _library._HANDLE
+    if declared in ("h26x_packetizer", "h26x_depacketizer", "h26x_receiver"):
+        return _library.Handle
+    if declared in ("uint8_t *", "size_t *"):
+        one = _library._BYTE if declared == "uint8_t *" else _library._SIZE
+        return ROOMS.get(name, one)
+    return TYPES[declared]
+
+
+def arguments(text: str) -> List[Any]:
+    """The types of a list of arguments."""
+    found = []
+    for one in "" if text == "void" else text.split(","):
+        declared = re.fullmatch(r"\s*(.*?)(\w+)\s*", one, re.S)
+        assert declared is not None
+        found.append(ctype(declared[1].strip(), declared[2]))
+    return found
+
+
+def test_calls_are_declared_as_in_the_header() -> None:
+    if not HEADER.is_file():
+        pytest.skip("the header lies beside the package in its repository")
+    text = re.sub(r"/\*.*?\*/", "", HEADER.read_text(), flags=re.S)
+    pattern = r"H26X_API (const char \*|\w+ )h26x_(\w+)\((.*?)\)( H26X_MUST_USE)?;"
+    wanted = {}
+    for answer, name, listed, _ in re.findall(pattern, text, re.S):
+        wanted[name] = (TYPES[answer.strip()], arguments(re.sub(r"\s+", " ", listed)))
+    assert len(wanted) == text.count("H26X_API ") - text.count("#define H26X_API ")
+    assert wanted == _library.CALLS
+    for name, (restype, argtypes) in wanted.items():
+        call = getattr(_library.library, "h26x_" + name)
+        assert call.restype is restype and call.argtypes == argtypes
+
+
+def test_versions() -> None:
+    assert h26x.version() == "0.1.0" == h26x.__version__
+
+
+def test_codecs_are_called_as_in_sdp() -> None:
+    for codec in h26x.Codec:
+        assert _library.library.h26x_codec_name(codec) == codec.name.encode()
+
+
+def imports(library: str) -> "subprocess.CompletedProcess[str]":
+    """Imports the package in another process, with this library."""
+    environment = dict(os.environ, H26X_LIBRARY=library, PYTHONPATH=os.pathsep.join(sys.path))
+    command = [sys.executable, "-c", "import h26x; print(h26x.version())"]
+    return subprocess.run(command, env=environment, capture_output=True, text=True)
+
+
+def test_the_library_is_found() -> None:
+    assert imports(_library.library._name).stdout == "0.1.0\n"
+    for library in ("/nowhere/libh26x.so", "libc.so.6"):
+        told = imports(library).stderr.splitlines()[-1]
+        assert told.startswith("ImportError: libh26x.so is") and library in told
+
+
+class Newer:
+    """A library of another version."""
+
+    def __init__(self, number: int) -> None:
+        self._number = number
+
+    def __getattr__(self, name: str) -> Any:
+        number = self._number
+
+        def call() -> int:
+            return number
+
+        return call
+
+
+@pytest.mark.parametrize("number", [0x10000, 0x10100, 0x00FF])
+def test_other_versions_are_refused(number: int) -> None:
+    with pytest.raises(ImportError, match="another version"):
+        _library._declared(Newer(number))  # type: ignore[arg-type]
+    _library._declared(Newer(0x200))  # type: ignore[arg-type]

@@ -1,0 +1,118 @@
+"""Calls on packets and payloads."""
+
+from typing import Any, Callable, List
+
+import pytest
+from digits import many, some
+from h26x import (
+    Codec,
+    UnknownCodec,
+    detect_h264_nalu,
+    detect_keyframe,
+    is_partition_head,
+    is_partition_tail,
+    out_size_hint,
+    units,
+)
+
+H264, H265, H266 = Codec.H264, Codec.H265, Codec.H266
+
+
+@pytest.mark.parametrize(
+    "codec, heads, others",
+    [
+        (H264, "0100|7c85", "65|1c40"),
+        (H265, "8001|620193", "6201|620113"),
+        (H266, "0009|00e987", "00|00e947"),
+    ],
+)
+def test_heads(codec: Codec, heads: str, others: str) -> None:
+    assert all(is_partition_head(codec, packet) for packet in many(heads))
+    assert not any(is_partition_head(codec, packet) for packet in [b"", *many(others)])
+
+
+@pytest.mark.parametrize(
+    "codec, marker, packet, is_tail",
+    [
+        (H264, True, "7c05", True),
+        (H264, False, "7c45", False),
+        (H265, True, "0201", True),
+        (H265, True, "620113aa", False),
+        (H265, False, "620153", True),
+        (H265, False, "0201", False),
+        (H266, True, "0009", True),
+        (H266, True, "00e907aa", False),
+        (H266, False, "00e947", True),
+        (H264, True, "", True),
+        (H265, True, "", False),
+        (H266, True, "", False),
+    ],
+)
+def test_tails(codec: Codec, marker: bool, packet: str, is_tail: bool) -> None:
+    assert is_partition_tail(codec, marker, some(packet)) is is_tail
+
+
+@pytest.mark.parametrize(
+    "codec, keyframes, others",
+    [
+        (H264, "7c850000|18 0002 67aa 0002 65bb", "7c050000|7c"),
+        (H265, "620193aa|6001 0003 0201aa 0003 2601af", "620113aa|2c01aa"),
+        (H266, "00e987aa|0049aa", "00e907aa|0051aa"),
+    ],
+)
+def test_keyframes(codec: Codec, keyframes: str, others: str) -> None:
+    assert all(detect_keyframe(codec, packet) for packet in many(keyframes))
+    assert not any(detect_keyframe(codec, packet) for packet in [b"", *many(others)])
+
+
+def test_types_of_h264() -> None:
+    packet = some("18 0002 67aa 0002 68bb")
+    assert detect_h264_nalu(packet, 7) and not detect_h264_nalu(packet, 5)
+    assert detect_h264_nalu(some("6742"), 7) and not detect_h264_nalu(b"", 0)
+    with pytest.raises(ValueError):
+        detect_h264_nalu(packet, 256 + 7)
+
+
+@pytest.mark.parametrize(
+    "codec, payload, found",
+    [
+        (H264, "bb 000001 aa 00000000 01 000001 bb00", "aa|bb00"),
+        (H265, "bb 000001 aa 00000000 01 000001 bb00", "aa|bb00"),
+        # Zeros before the nearest three stay with the unit.
+        (H266, "bb 000001 aa 00000000 01 000001 bb00", "aa00|bb00"),
+        (H264, "bb00", "bb00"),
+        (H265, "", ""),
+        (H266, "000001", ""),
+        (H264, "000001 aa 000001 aa 000001 aa", "aa|aa|aa"),
+    ],
+)
+def test_units(codec: Codec, payload: str, found: str) -> None:
+    assert list(units(codec, some(payload))) == many(found)
+
+
+def test_units_are_those_of_when_they_were_asked_for() -> None:
+    payload = bytearray(some("000001 aa 000001 bb"))
+    left = units(H264, payload)
+    payload[3] = 0xCC
+    assert next(left) == b"\xaa"
+    payload.clear()
+    assert list(left) == [b"\xbb"]
+
+
+def test_unknown_codecs() -> None:
+    calls: List[Callable[[], Any]] = [
+        lambda: is_partition_head(0, b"\1\0"),
+        lambda: is_partition_tail(263, True, b"\1\0"),
+        lambda: detect_keyframe(2**32 + 264, b"\x65"),
+        lambda: units(1, b"\x65"),
+    ]
+    for call in calls:
+        with pytest.raises(UnknownCodec):
+            call()
+
+
+def test_the_hint_is_no_bound() -> None:
+    assert [out_size_hint(size) for size in (0, 1199, 1200, 5000)] == [4, 1203, 1208, 5020]
+    assert out_size_hint(2**64 - 1) == 2**64 - 1
+    with pytest.raises(ValueError):
+        out_size_hint(2**64)

@@ -1,0 +1,213 @@
+"""Real streams there and back, whole and through losses, repeats and swaps."""
+
+import random
+from typing import Dict, List, NamedTuple, Sequence, Tuple
+
+import pytest
+from digits import FRAGMENTS
+from h26x import (
+    Codec,
+    Depacketizer,
+    Outcome,
+    Packetizer,
+    PacketError,
+    Receiver,
+    detect_keyframe,
+    is_partition_head,
+    is_partition_tail,
+    units,
+)
+from rfc import TYPES, Placed, annex_b, behind_lengths, is_key, placed, split, stream, type_of
+
+MTUS = (1200, 150, 70)
+
+
+def sent(codec: Codec) -> List[bytes]:
+    """The units of the stream that are sent."""
+    delimiter = TYPES[codec][2]
+    return [unit for unit in split(codec, stream(codec)) if type_of(codec, unit) != delimiter]
+
+
+def access_units(codec: Codec) -> List[bytes]:
+    """The stream in parts, each of which is one unit that is a picture's, with what is before it."""
+    parts, part = [], b""
+    pictures = {Codec.H264: range(1, 6), Codec.H265: range(0, 32), Codec.H266: range(0, 12)}
+    for unit in split(codec, stream(codec)):
+        part += b"\0\0\0\1" + unit
+        if type_of(codec, unit) in pictures[codec]:
+            parts.append(part)
+            part = b""
+    assert part == b""
+    return parts
+
+
+def test_units_of_a_stream(codec: Codec) -> None:
+    data = stream(codec)
+    assert list(units(codec, data)) == split(codec, data)
+
+
+@pytest.mark.parametrize("mtu", MTUS)
+def test_packets_are_as_the_rfcs_have_them(codec: Codec, mtu: int) -> None:
+    with Packetizer(codec) as packetizer:
+        packets = [p for part in access_units(codec) for p in packetizer.packetize(mtu, part)]
+    assert max(map(len, packets)) <= mtu
+    assert [one.unit for one in placed(codec, packets)] == sent(codec)
+
+
+@pytest.mark.parametrize("avc", [False, True])
+@pytest.mark.parametrize("mtu", MTUS)
+def test_there_and_back(codec: Codec, mtu: int, avc: bool) -> None:
+    form = behind_lengths if avc else annex_b
+    with Packetizer(codec) as packetizer, Depacketizer(codec, avc=avc) as depacketizer:
+        packets = packetizer.packetize(mtu, stream(codec))
+        taken = [depacketizer.depacketize(packet) for packet in packets]
+    assert b"".join(one.data for one in taken) == form(sent(codec))
+    told = [one.keyframe for one in taken]
+    wanted = {one.last: False for one in placed(codec, packets)}
+    for one in placed(codec, packets):
+        wanted[one.last] |= is_key(codec, one.unit)
+    assert {n: is_it for n, is_it in enumerate(told) if is_it is not None} == wanted
+
+
+@pytest.mark.parametrize("codec", [Codec.H265, Codec.H266])
+@pytest.mark.parametrize("mtu", MTUS)
+def test_there_and_back_with_decoding_order_numbers(codec: Codec, mtu: int) -> None:
+    packets = Packetizer(codec, donl=True).packetize(mtu, stream(codec))
+    assert packets != Packetizer(codec).packetize(mtu, stream(codec))
+    receiver = Receiver(codec, 1 << 20, donl=True)
+    back = b"".join(receiver.receive(n, packet).data for n, packet in enumerate(packets))
+    assert back == annex_b(sent(codec))
+
+
+@pytest.mark.parametrize("headroom", [0, 12])
+@pytest.mark.parametrize("mtu", MTUS)
+def test_into_memory(codec: Codec, mtu: int, headroom: int) -> None:
+    packets, begin = Packetizer(codec).packetize(mtu, stream(codec)), 0
+    packetizer, memory = Packetizer(codec), bytearray(b"\xee" * 200_000)
+    for packet, end in zip(packets, packetizer.packetize_into(mtu, stream(codec), memory, headroom)):
+        assert memory[begin:end] == b"\xee" * headroom + packet
+        begin = end
+    count, size = Packetizer(codec).packets_size(mtu, stream(codec), headroom)
+    assert (count, size) == (len(packets), begin) and memory[begin:] == b"\xee" * (200_000 - begin)
+
+
+def test_units_one_by_one(codec: Codec) -> None:
+    """As a server sends that has units: none waits, so none is dropped."""
+    packetizer, receiver = Packetizer(codec), Receiver(codec, 1 << 20)
+    packets = [p for unit in sent(codec) for p in packetizer.packetize_unit(40, unit)]
+    back = b"".join(receiver.receive(n & 65535, packet).data for n, packet in enumerate(packets))
+    assert back == annex_b(sent(codec))
+
+
+def test_heads_tails_and_keyframes(codec: Codec) -> None:
+    packets = Packetizer(codec).packetize(150, stream(codec))
+    fragments = TYPES[codec][1]
+    for one in placed(codec, packets):
+        assert is_partition_head(codec, packets[one.first])
+        # A fragment tells no type but in its header: the first of a keyframe's does.
+        if is_key(codec, one.unit):
+            assert detect_keyframe(codec, packets[one.first])
+        for n in range(one.first, one.last + 1):
+            assert is_partition_head(codec, packets[n]) == (n == one.first)
+            is_fragment = type_of(codec, packets[n]) == fragments
+            ends = codec is not Codec.H264 and is_fragment and n == one.last
+            assert is_partition_tail(codec, False, packets[n]) == ends
+
+
+class Rates(NamedTuple):
+    """How many packets of 1000 are lost, come twice, or come behind later ones."""
+
+    lost: int
+    twice: int
+    behind: int
+
+
+def network(count: int, rates: Rates, seed: int) -> List[int]:
+    """The packets that come, in their order."""
+    draw, coming = random.Random(seed), []
+    for n in range(count):
+        if draw.randrange(1000) < rates.lost:
+            continue
+        late = draw.randrange(1, 6) if draw.randrange(1000) < rates.behind else 0.0
+        coming.append((n + late, n))
+        if draw.randrange(1000) < rates.twice:
+            coming.append((n + draw.randrange(1, 6) + 0.5, n))
+    return [n for _, n in sorted(coming)]
+
+
+def outcome(
+    found: Sequence[Placed], coming: Sequence[int]
+) -> Tuple[List[Tuple[Outcome, int, bytes]], List[bytes]]:
+    """What must be answered to each packet, and the units that must be written: computed from the order
+    in which packets come, and from nothing that a receiver says."""
+    ending: Dict[int, List[Placed]] = {}
+    for one in found:
+        ending.setdefault(one.last, []).append(one)
+    taken, up_to, answers, written = set(), -1, [], []
+    for n in coming:
+        if 0 <= up_to and n < up_to:
+            answers.append((Outcome.LATE, up_to - n, b""))
+            continue
+        missing = 0 if up_to < 0 else n - up_to
+        taken.add(n)
+        up_to = n + 1
+        whole = [
+            one.unit
+            for one in ending.get(n, [])
+            if all(m in taken for m in range(one.first, one.last + 1))
+        ]
+        written += whole
+        answers.append((Outcome.GAP if missing else Outcome.IN_ORDER, missing, annex_b(whole)))
+    return answers, written
+
+
+@pytest.mark.parametrize("rates", [Rates(100, 0, 0), Rates(0, 200, 0), Rates(20, 50, 200)])
+@pytest.mark.parametrize("mtu", [150, 70])
+def test_through_losses(codec: Codec, mtu: int, rates: Rates) -> None:
+    packets = Packetizer(codec).packetize(mtu, stream(codec))
+    found = placed(codec, packets)
+    lost = 0
+    for seed in range(20):
+        coming = network(len(packets), rates, seed)
+        answers, written = outcome(found, coming)
+        lost += len(found) - len(written)
+        # The numbers go round at 65536 in the middle of the stream.
+        receiver, first = Receiver(codec, 1 << 20), 65536 - len(packets) // 2
+        for n, wanted in zip(coming, answers):
+            assert receiver.receive(first + n & 65535, packets[n])[:3] == wanted
+    assert (lost > 0) == (rates != Rates(0, 200, 0))
+
+
+def test_a_lost_fragment_damages_a_unit_of_a_depacketizer(codec: Codec) -> None:
+    """As the caveat says: it sees no numbers."""
+    packets = Packetizer(codec).packetize(70, stream(codec))
+    long = next(one for one in placed(codec, packets) if one.last - one.first >= 2)
+    depacketizer = Depacketizer(codec)
+    kept = [n for n in range(long.first, long.last + 1) if n != long.first + 1]
+    written = b"".join(depacketizer.depacketize(packets[n]).data for n in kept)
+    header = 2 if codec is Codec.H264 else 3
+    assert written[:4] == b"\0\0\0\1" and long.unit[:40] == written[4:44]
+    assert len(written) == 4 + len(long.unit) - (70 - header)
+
+
+def test_any_bytes(codec: Codec) -> None:
+    """Whatever a stranger sends, packets are taken or refused."""
+    draw, depacketizer, receiver = random.Random(1), Depacketizer(codec), Receiver(codec, 1000)
+    refused = 0
+    for n in range(10000):
+        packet = bytes(draw.randrange(256) for _ in range(draw.randrange(20)))
+        answers: List[object] = [None, None]
+        try:
+            depacketizer.depacketize(packet)
+        except PacketError as why:
+            answers[0] = (type(why), why.first, why.second)
+        try:
+            receiver.receive(n, packet)
+        except PacketError as why:
+            answers[1] = (type(why), why.first, why.second)
+        assert answers[0] == answers[1] and receiver.run_len <= 1000
+        refused += answers[0] is not None
+    assert 0 < refused < 10000
+    fragments = FRAGMENTS[codec]
+    receiver.restart()
+    assert [receiver.receive(n, fragments[n]).data for n in range(3)][2] == annex_b([fragments.unit])
