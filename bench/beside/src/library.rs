@@ -4,6 +4,19 @@ use crate::format::Format;
 use crate::sys::{self, Raw, Refusal};
 use emupedestal::Codec;
 
+// The calls that the crate doesn't make.
+unsafe extern "C" {
+    fn h26x_packetize(
+        p: *mut Raw,
+        mtu: usize,
+        payload: *const u8,
+        payload_len: usize,
+        count: *mut usize,
+    ) -> u32;
+    fn h26x_packet_len(p: *const Raw, i: usize) -> usize;
+    fn h26x_packet_copy(p: *const Raw, i: usize, to: *mut u8, room: usize) -> usize;
+}
+
 /// The codec's number in `h26x.h`.
 fn number(codec: Codec) -> u32 {
     match codec {
@@ -35,7 +48,7 @@ impl Packetizer {
         let (raw, from, len) = (&mut self.0, payload.as_ptr(), payload.len());
         let mut count = 0;
         // SAFETY: the handle is live and ours alone, and the payload is one slice.
-        let code = unsafe { sys::h26x_packetize(raw, mtu, from, len, &mut count) };
+        let code = unsafe { h26x_packetize(raw, mtu, from, len, &mut count) };
         assert_eq!(code, 0, "packets");
         count
     }
@@ -43,11 +56,60 @@ impl Packetizer {
     /// A copy of packet `i`.
     pub fn packet(&mut self, i: usize) -> Vec<u8> {
         // SAFETY: the handle is live and ours alone.
-        let mut packet = vec![0; unsafe { sys::h26x_packet_len(&mut self.0, i) }];
+        let mut packet = vec![0; unsafe { h26x_packet_len(&self.0, i) }];
         let (to, room) = (packet.as_mut_ptr(), packet.len());
         // SAFETY: the handle is live and ours alone, and `packet` is one slice.
-        unsafe { sys::h26x_packet_copy(&mut self.0, i, to, room) };
+        unsafe { h26x_packet_copy(&self.0, i, to, room) };
         packet
+    }
+
+    /// Makes the packets of a payload in memory of the caller's, which grows where it has no room.
+    pub fn packetize_into(&mut self, mtu: usize, payload: &[u8], memory: &mut Memory) {
+        let (bytes, ends) = (&mut memory.bytes, &mut memory.ends);
+        let (mut count, mut size) = (0, 0);
+        // SAFETY: the handle is live and ours alone; the payload, `bytes` and `ends` are one slice
+        // each, apart from one another, and the others are one number each.
+        let code = unsafe {
+            sys::h26x_packetize_into(
+                &mut self.0,
+                mtu,
+                payload.as_ptr(),
+                payload.len(),
+                0,
+                bytes.as_mut_ptr(),
+                bytes.len(),
+                ends.as_mut_ptr(),
+                ends.len(),
+                &mut count,
+                &mut size,
+            )
+        };
+        if code == sys::NO_ROOM {
+            bytes.resize(size.max(bytes.len()), 0);
+            ends.resize(count.max(ends.len()), 0);
+            return self.packetize_into(mtu, payload, memory);
+        }
+        assert_eq!(code, 0, "packets");
+        memory.count = count;
+    }
+}
+
+/// Memory in which packets are made, one behind the other.
+#[derive(Default)]
+pub struct Memory {
+    bytes: Vec<u8>,
+    ends: Vec<usize>,
+    count: usize,
+}
+
+impl Memory {
+    /// The packets that were made last.
+    pub fn packets(&self) -> impl Iterator<Item = &[u8]> {
+        let ends = &self.ends[..self.count];
+        let begins = std::iter::once(&0).chain(ends);
+        begins
+            .zip(ends)
+            .map(|(begin, end)| &self.bytes[*begin..*end])
     }
 }
 

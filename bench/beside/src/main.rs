@@ -82,7 +82,7 @@ fn measure_all(turns: &str, batch: &str, only: &str) -> Result<(), String> {
 /// Packetizing a payload, and taking its packets where there are any.
 fn measure_payload(payload: &Payload, format: Format, plan: &Plan) {
     let packets = ways::packets(format, &payload.bytes);
-    let making = ways::packetizing(format, &payload.bytes, &packets);
+    let making = ways::packetizing(format, payload, &packets);
     tell("packetize", payload.name, format, making, plan);
     if !packets.is_empty() {
         let taking = ways::taking(format, &packets);

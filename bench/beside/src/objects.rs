@@ -5,22 +5,37 @@ use crate::format::Format;
 use crate::str0m;
 use emupedestal::{Codec, PacketError, Packets};
 
-/// A packetizer of emupedestal, with the call that its trait hasn't.
+/// A packetizer of emupedestal, with the calls that make packets in one buffer: of a payload, and of
+/// a unit as it is.
 pub trait Ours: emupedestal::Packetizer {
-    fn packetize_into(&mut self, mtu: usize, b: &[u8], to: &mut Packets)
-    -> Result<(), PacketError>;
+    fn make_into(&mut self, mtu: usize, b: &[u8], to: &mut Packets) -> Result<(), PacketError>;
+    fn make_unit_into(
+        &mut self,
+        mtu: usize,
+        unit: &[u8],
+        to: &mut Packets,
+    ) -> Result<(), PacketError>;
 }
 
 macro_rules! ours {
     ($name:ident) => {
         impl Ours for emupedestal::$name {
-            fn packetize_into(
+            fn make_into(
                 &mut self,
                 mtu: usize,
                 b: &[u8],
                 to: &mut Packets,
             ) -> Result<(), PacketError> {
-                emupedestal::$name::packetize_into(self, mtu, b, to)
+                self.packetize_into(mtu, b, to)
+            }
+
+            fn make_unit_into(
+                &mut self,
+                mtu: usize,
+                unit: &[u8],
+                to: &mut Packets,
+            ) -> Result<(), PacketError> {
+                self.packetize_unit_into(mtu, unit, to)
             }
         }
     };

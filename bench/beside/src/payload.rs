@@ -11,6 +11,15 @@ const SETS: [usize; 3] = [24, 24, 5];
 pub struct Payload {
     pub name: &'static str,
     pub bytes: Vec<u8>,
+    /// Whether it is one coded unit behind a start code.
+    is_unit: bool,
+}
+
+impl Payload {
+    /// The unit as it is, of a payload that is one.
+    pub fn unit(&self) -> Option<&[u8]> {
+        self.is_unit.then(|| &self.bytes[START_CODE.len()..])
+    }
 }
 
 /// The payloads that are timed, in a format's own headers.
@@ -23,11 +32,15 @@ pub fn payloads(format: Format) -> Vec<Payload> {
             .collect()
     };
     let frame = units(1, 8_000);
+    let unit_of_200_kb = units(1, 200_000);
     let hundreds = units(50, 100);
     let twenties = units(50, 20);
     let long = MEGABYTE - START_CODE.len() - slice.len();
-    let named = [
+    let one_unit = [
         ("a frame of 8 kB", frame),
+        ("a unit of 200 kB", unit_of_200_kb),
+    ];
+    let others = [
         (
             "an IDR picture of 200 kB with its sets",
             picture(format, &mut random),
@@ -41,9 +54,16 @@ pub fn payloads(format: Format) -> Vec<Payload> {
         ),
         ("a megabyte of start codes", [0, 0, 1].repeat(MEGABYTE / 3)),
     ];
-    named
-        .into_iter()
-        .map(|(name, bytes)| Payload { name, bytes })
+    let payload = |is_unit| {
+        move |(name, bytes)| Payload {
+            name,
+            bytes,
+            is_unit,
+        }
+    };
+    let one_unit = one_unit.into_iter().map(payload(true));
+    one_unit
+        .chain(others.into_iter().map(payload(false)))
         .collect()
 }
 

@@ -4,7 +4,7 @@
 
 use crate::format::Format;
 use crate::lines::Line;
-use crate::ways::{CRATE, INTO, LIBRARY, MEMCPY, PIECES, STR0M};
+use crate::ways::{CRATE, INTO, LIBRARY, LIBRARY_INTO, MEMCPY, PIECES, STR0M, UNIT_INTO};
 use std::fmt::Write;
 
 /// A call of which there is a table.
@@ -24,7 +24,9 @@ const PARTS: [Part; 2] = [
         title: "Packetizing",
         verb: "packetizing",
         ours: &[
-            (LIBRARY, "library"),
+            (LIBRARY, "library, `h26x_packetize`"),
+            (LIBRARY_INTO, "library, `h26x_packetize_into`"),
+            (UNIT_INTO, "crate, `packetize_unit_into`"),
             (INTO, "crate, `packetize_into`"),
             (CRATE, "crate, `packetize`"),
         ],
@@ -34,7 +36,10 @@ const PARTS: [Part; 2] = [
         call: "take",
         title: "Taking the packets",
         verb: "taking the packets of",
-        ours: &[(LIBRARY, "library"), (CRATE, "crate, `depacketize`")],
+        ours: &[
+            (LIBRARY, "library, `h26x_depacketize`"),
+            (CRATE, "crate, `depacketize`"),
+        ],
         pieces: "an append a packet",
     },
 ];
@@ -72,10 +77,10 @@ impl<'a> Builds<'a> {
             .collect()
     }
 
-    /// The greater ratio.
-    fn ratio(&self, part: &Part, case: Case, way: &str) -> f64 {
+    /// The greater ratio; none where the case isn't done in this way.
+    fn ratio(&self, part: &Part, case: Case, way: &str) -> Option<f64> {
         let lines = self.of(part, case, way);
-        lines.iter().map(|line| line.ratio).fold(0.0, f64::max)
+        lines.iter().map(|line| line.ratio).reduce(f64::max)
     }
 
     /// The longer time.
@@ -126,11 +131,11 @@ pub fn summary(builds: &[Vec<Line>]) -> String {
             .iter()
             .filter(|name| !name.starts_with("a megabyte"));
         for payload in short {
-            let ratio = |format: &&str| builds.ratio(part, (payload, format), CRATE);
-            let ratios = formats
-                .iter()
-                .map(|format| format!(" {:.2} |", ratio(format)));
-            let ratios: String = ratios.collect();
+            let cell = |format: &&str| {
+                let ratio = builds.ratio(part, (payload, format), CRATE);
+                ratio.map_or(" |".into(), |ratio| format!(" {ratio:.2} |"))
+            };
+            let ratios: String = formats.iter().map(cell).collect();
             write!(text, "\n| {} {payload} |{ratios}", part.verb).expect("a string");
         }
     }
@@ -142,8 +147,11 @@ fn counts(builds: &Builds, part: &Part, cases: &[Case]) -> String {
     let of_way = |(way, name): &(&str, &str)| {
         let mut ratios: Vec<f64> = cases
             .iter()
-            .map(|case| builds.ratio(part, *case, way))
+            .filter_map(|case| builds.ratio(part, *case, way))
             .collect();
+        if ratios.is_empty() {
+            return String::new();
+        }
         ratios.sort_by(f64::total_cmp);
         let faster = ratios.iter().filter(|ratio| **ratio < 1.0).count();
         format!(
@@ -173,11 +181,9 @@ fn head(part: &Part) -> String {
 
 fn row(builds: &Builds, part: &Part, case: Case) -> String {
     let of_way = |(way, _): &(&str, &str)| {
+        let time = microseconds(builds.longer(part, case, way));
         let ratio = builds.ratio(part, case, way);
-        format!(
-            " {ratio:.2} ({}) |",
-            microseconds(builds.longer(part, case, way))
-        )
+        ratio.map_or(" |".into(), |ratio| format!(" {ratio:.2} ({time}) |"))
     };
     let ours: String = part.ours.iter().map(of_way).collect();
     let theirs = builds.of(part, case, STR0M);

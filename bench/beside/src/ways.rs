@@ -1,6 +1,7 @@
 //! The ways in which a case is done. Before any is timed, all have to give the same bytes.
 
 use crate::format::Format;
+use crate::payload::Payload;
 use crate::turns::Way;
 use crate::{library, objects, str0m};
 use emupedestal::{CodecExtra, Packets};
@@ -12,6 +13,8 @@ pub const LIMIT: usize = 1200;
 // The names of the ways. These are calls:
 pub const STR0M: &str = "str0m";
 pub const LIBRARY: &str = "library";
+pub const LIBRARY_INTO: &str = "library into";
+pub const UNIT_INTO: &str = "packetize_unit_into";
 pub const INTO: &str = "packetize_into";
 pub const CRATE: &str = "crate";
 // And these are floors: an allocation and a copy a packet, or an append a packet; one copy of all bytes.
@@ -28,42 +31,74 @@ pub fn packets(format: Format, payload: &[u8]) -> Vec<Vec<u8>> {
 /// Packetizing a payload whose packets are these.
 pub fn packetizing<'a>(
     format: Format,
-    payload: &'a [u8],
+    payload: &'a Payload,
     packets: &'a [Vec<u8>],
 ) -> Result<Vec<Way<'a>>, String> {
     same_packets(format, payload, packets)?;
-    let mut library = library::Packetizer::new(format);
-    let mut joining = objects::packetizer(format);
-    let mut ours = objects::packetizer(format);
+    let bytes = &payload.bytes;
     let mut theirs = objects::their_packetizer(format);
-    let mut joined = Packets::default();
     let mut pieces = Vec::with_capacity(packets.len());
-    Ok(vec![
-        Way::new(LIBRARY, move || {
-            black_box(library.packetize(LIMIT, black_box(payload)));
-        }),
-        Way::new(INTO, move || {
-            let made = joining.packetize_into(LIMIT, black_box(payload), &mut joined);
-            made.expect("memory");
-            black_box(&joined);
-        }),
+    let mut ways = Vec::new();
+    ways.extend(packetizing_by_library(format, bytes));
+    ways.extend(payload.unit().map(|unit| packetizing_unit(format, unit)));
+    ways.extend(packetizing_by_crate(format, bytes));
+    ways.extend([
         Way::new(STR0M, move || {
-            black_box(
-                theirs
-                    .packetize(LIMIT, black_box(payload))
-                    .expect("packets"),
-            );
-        }),
-        Way::new(CRATE, move || {
-            black_box(ours.packetize(LIMIT, black_box(payload)).expect("memory"));
+            black_box(theirs.packetize(LIMIT, black_box(bytes)).expect("packets"));
         }),
         Way::new(PIECES, move || {
             pieces.clear();
             pieces.extend(black_box(packets).iter().map(|packet| packet.to_vec()));
             black_box(&pieces);
         }),
-        memcpy(payload.to_vec()),
-    ])
+        memcpy(bytes.to_vec()),
+    ]);
+    Ok(ways)
+}
+
+/// Packetizing by the calls of C, which leave packets behind their handle, or make them in memory of
+/// the caller's.
+fn packetizing_by_library(format: Format, payload: &[u8]) -> [Way<'_>; 2] {
+    let mut behind = library::Packetizer::new(format);
+    let mut into = library::Packetizer::new(format);
+    let mut memory = library::Memory::default();
+    [
+        Way::new(LIBRARY, move || {
+            black_box(behind.packetize(LIMIT, black_box(payload)));
+        }),
+        Way::new(LIBRARY_INTO, move || {
+            into.packetize_into(LIMIT, black_box(payload), &mut memory);
+            black_box(&memory);
+        }),
+    ]
+}
+
+/// Packetizing a unit as it is, in which no start code is looked for.
+fn packetizing_unit(format: Format, unit: &[u8]) -> Way<'_> {
+    let mut ours = objects::packetizer(format);
+    let mut joined = Packets::default();
+    Way::new(UNIT_INTO, move || {
+        let made = ours.make_unit_into(LIMIT, black_box(unit), &mut joined);
+        made.expect("memory");
+        black_box(&joined);
+    })
+}
+
+/// Packetizing by the crate, into one buffer, and into a `Vec` each.
+fn packetizing_by_crate(format: Format, payload: &[u8]) -> [Way<'_>; 2] {
+    let mut joining = objects::packetizer(format);
+    let mut ours = objects::packetizer(format);
+    let mut joined = Packets::default();
+    [
+        Way::new(INTO, move || {
+            let made = joining.make_into(LIMIT, black_box(payload), &mut joined);
+            made.expect("memory");
+            black_box(&joined);
+        }),
+        Way::new(CRATE, move || {
+            black_box(ours.packetize(LIMIT, black_box(payload)).expect("memory"));
+        }),
+    ]
 }
 
 /// Taking packets, which complete units.
@@ -149,14 +184,35 @@ fn take_by_str0m(
 }
 
 /// Whether all ways to make packets make these.
-fn same_packets(format: Format, payload: &[u8], packets: &[Vec<u8>]) -> Result<(), String> {
+fn same_packets(format: Format, payload: &Payload, packets: &[Vec<u8>]) -> Result<(), String> {
+    same_packets_of_crate(format, payload, packets);
+    same_packets_of_library(format, &payload.bytes, packets);
+    match objects::their_packetizer(format).packetize(LIMIT, &payload.bytes) {
+        Ok(theirs) if theirs == packets => Ok(()),
+        Ok(_) => Err("str0m makes other packets".into()),
+        Err(why) => Err(format!("str0m refuses it: {why:?}")),
+    }
+}
+
+fn same_packets_of_crate(format: Format, payload: &Payload, packets: &[Vec<u8>]) {
     let mut joined = Packets::default();
-    let made = objects::packetizer(format).packetize_into(LIMIT, payload, &mut joined);
+    let made = objects::packetizer(format).make_into(LIMIT, &payload.bytes, &mut joined);
     made.expect("memory");
     assert!(
         joined.iter().eq(packets),
         "packetize_into makes the packets of packetize"
     );
+    if let Some(unit) = payload.unit() {
+        let made = objects::packetizer(format).make_unit_into(LIMIT, unit, &mut joined);
+        made.expect("memory");
+        assert!(
+            joined.iter().eq(packets),
+            "packetize_unit_into makes the packets of packetize"
+        );
+    }
+}
+
+fn same_packets_of_library(format: Format, payload: &[u8], packets: &[Vec<u8>]) {
     let mut library = library::Packetizer::new(format);
     let count = library.packetize(LIMIT, payload);
     let behind = (0..count).map(|i| library.packet(i));
@@ -164,11 +220,12 @@ fn same_packets(format: Format, payload: &[u8], packets: &[Vec<u8>]) -> Result<(
         behind.eq(packets.iter().cloned()),
         "the library makes the packets of the crate"
     );
-    match objects::their_packetizer(format).packetize(LIMIT, payload) {
-        Ok(theirs) if theirs == packets => Ok(()),
-        Ok(_) => Err("str0m makes other packets".into()),
-        Err(why) => Err(format!("str0m refuses it: {why:?}")),
-    }
+    let mut memory = library::Memory::default();
+    library::Packetizer::new(format).packetize_into(LIMIT, payload, &mut memory);
+    assert!(
+        memory.packets().eq(packets),
+        "h26x_packetize_into makes the packets of h26x_packetize"
+    );
 }
 
 /// The units of packets, where all ways to take them give the same.
