@@ -15,7 +15,7 @@ pub fn receive_access_units(
     let mut buffer = ReorderBuffer::new(alloc, 64);
     let depacketizer = H264Depacketizer::new(alloc);
     let sequenced = SequencedDepacketizer::new(alloc, depacketizer, 4_000_000);
-    let mut receiver = FrameReceiver::new(alloc, sequenced);
+    let mut receiver = FrameReceiver::new(alloc, sequenced, 8_000_000);
     for packet in packets {
         buffer.push(packet)?;
         while let Some(held) = buffer.pop() {
@@ -46,6 +46,28 @@ mod tests {
         for (unit, (timestamp, is_whole)) in units.iter().zip(&want) {
             assert!(rt; unit.timestamp == *timestamp && unit.is_whole == *is_whole);
         }
+        Ok(())
+    }
+
+    /// A peer that sends units of 6 bytes in one access unit, without a marker.
+    #[test]
+    fn an_access_unit_that_does_not_end(rt: HostRuntime) -> Result<(), PacketError> {
+        let alloc = rt.alloc();
+        let sequenced = SequencedDepacketizer::new(alloc, H264Depacketizer::new(alloc), 100);
+        let mut receiver = FrameReceiver::new(alloc, sequenced, 12);
+        let mut units = Vec::new(alloc);
+        for (sequence, bytes_len) in [(1, 6), (2, 12), (3, 0), (4, 6)] {
+            let packet = RtpPacket {
+                sequence,
+                timestamp: 3000,
+                marker: false,
+                payload: &[0x61, 1],
+            };
+            receiver.receive(&packet, &mut units)?;
+            assert!(rt; receiver.unit.bytes_len() == bytes_len);
+        }
+        receiver.end(&mut units)?;
+        assert!(rt; units.len() == 1 && !units[0].is_whole && units[0].bytes.len() == 6);
         Ok(())
     }
 }

@@ -227,7 +227,7 @@ fn receive<D: RunDepacketizer>(
         })?;
     }
     let sequenced = SequencedDepacketizer::new(alloc, depacketizer, 4_000_000);
-    let mut receiver = FrameReceiver::new(alloc, sequenced);
+    let mut receiver = FrameReceiver::new(alloc, sequenced, 8_000_000);
     let mut given = Vec::new(alloc);
     for answer in receive_frames(alloc, &mut receiver, 16, &packets, &mut given)? {
         assert!(rt; answer.is_ok());

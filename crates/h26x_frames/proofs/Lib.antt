@@ -7,6 +7,8 @@ pub mod PlaceShiftLemmas
 pub mod TakeLemmas
 pub mod UnitLemmas
 pub mod StreamLemmas
+pub mod GivenLemmas
 pub mod OrderedLemmas
 pub mod WholeLemmas
 pub mod ReceivedLemmas
+pub mod RefusedLemmas

@@ -2,7 +2,7 @@
 use Rattle.std.proofs.Common.{◌≡◌, ℕ, zero, suc, ◌+◌, ◌<◌, ◌≤◌, Bool, true, false, List, [], ◌∷◌, ◌++◌, length, map, drop, Option, Some, None, Result, Ok, Err, refl, sym, ap, ◌∙◌, subst, arith, ⊎_elim}
 use Rattle.std.specs.Prelude.{◌==◌, ◌||◌, nat_lt, IsOk}
 use Rattle.std.specs.List.{AllByRecursion, range_with_len}
-use Rattle.std.proofs.lemmas.List.{append-nil, drop_more}
+use Rattle.std.proofs.lemmas.List.{append-nil, append_cancel_left, drop_more}
 use Rattle.std.proofs.lemmas.List.FromFn.{length-map-range_with_len}
 use Rattle.std.proofs.lemmas.Bool.Decides.{nat_tests}
 use Rattle.h26x_core.specs.declared.error.PacketError.{PacketError}
@@ -20,44 +20,48 @@ use Rattle.h26x_receiver.proofs.DeliveryLemmas.{DamagesNothing, GoUp, is_among, 
 use Rattle.h26x_receiver.proofs.AnswerLemmas.{accepted}
 use Rattle.h26x_receiver.proofs.OrderLemmas.{in_time_taken}
 use Rattle.h26x_frames.specs.Rtp.{RtpBody, rtp_body}
-use Rattle.h26x_frames.specs.AccessUnit.{AccessUnitValue, UnitDepacketization, taken_by, IsTakenAnswer, IsUnitAnswer, given_out, after_taken_rtp, after_rtp, after_end, after_all_rtp, HaveUnitAnswers}
-use Rattle.h26x_frames.specs.StampedCalls.{sent_bodies, body_of_place, units_left, AreApart, first_place, AreAccessUnitsLeft}
+use Rattle.h26x_frames.specs.AccessUnit.{AccessUnitValue, UnitDepacketization, taken_by, IsTakenAnswer, IsUnitAnswer, given_out, with_unit_within, after_taken_rtp, after_rtp, after_end, after_all_rtp, HaveUnitAnswers}
+use Rattle.h26x_frames.specs.StampedCalls.{sent_bodies, body_of_place, units_left, AreApart, AreUnitsWithin, first_place, AreAccessUnitsLeft}
 use Rattle.h26x_frames.proofs.UnitLemmas.{after_all_taken, kept_from, AreGapsShort, IsLeftOpen}
 use Rattle.h26x_frames.proofs.StreamLemmas.{GoesOn, over_calls}
+use Rattle.h26x_frames.proofs.GivenLemmas.{given_from, given_all, given_rest, open_within, unit_fits}
 
 -- an answer that is neither a refusal nor late leaves what a packet that is taken leaves
-taken_is : (most : ℕ) (s : UnitDepacketization) (p : ℕ × RtpBody) (answer : Result Received PacketError) → is_late s.expected p.0 ≡ false →
-    IsUnitAnswer most s p answer → IsOk answer → after_rtp most s p answer ≡ after_taken_rtp most s p
-taken_is most s p (Err e) timely is fine = absurd (let bad = fine in cc)
-taken_is most s p (Ok InOrder) timely is fine = refl
-taken_is most s p (Ok (Gap n)) timely is fine = refl
-taken_is most s p (Ok (TooLong n)) timely is fine = refl
-taken_is most s p (Ok (Late n)) timely is fine = absurd (⊎_elim
+taken_is : (most limit : ℕ) (s : UnitDepacketization) (p : ℕ × RtpBody) (answer : Result Received PacketError) → is_late s.expected p.0 ≡ false →
+    IsUnitAnswer most s p answer → IsOk answer → after_rtp most limit s p answer ≡ with_unit_within limit (after_taken_rtp most s p)
+taken_is most limit s p (Err e) timely is fine = absurd (let bad = fine in cc)
+taken_is most limit s p (Ok InOrder) timely is fine = refl
+taken_is most limit s p (Ok (Gap n)) timely is fine = refl
+taken_is most limit s p (Ok (TooLong n)) timely is fine = refl
+taken_is most limit s p (Ok (Late n)) timely is fine = absurd (⊎_elim
     (λ (want : accepted (Late n) ≡ Err OutOfMemory). cc)
     (λ (heard : IsTakenAnswer most s p (accepted (Late n))). in_time_taken (is_late s.expected p.0) n (missing_count s.expected p.0)
     (nat_lt most (run_len (after_sequenced_packet (taken_by s p.1.timestamp) p.0 p.1.payload).state.run)) (Late (distance_behind s.expected p.0)) _ timely heard)
     is)
 
--- packets in order are all taken
-pub all_taken : (most first : ℕ) (e : Option ℕ) (p : ℕ) (s : UnitDepacketization) (mask : List Bool) (bodies : List RtpBody) (answers : List (Result Received PacketError)) →
-    s.expected ≡ expected_at first e → AreGapsShort e p mask → HaveUnitAnswers most s (kept_from first p mask bodies) answers → NoneIsRefused answers →
-    after_all_rtp most s (kept_from first p mask bodies) answers ≡ after_all_taken most s (kept_from first p mask bodies)
-all_taken most first e p s [] bodies [] is gaps each none = refl
-all_taken most first e p s [] bodies (a ∷ answers) is gaps each none = absurd each
-all_taken most first e p s (true ∷ mask) [] [] is gaps each none = refl
-all_taken most first e p s (true ∷ mask) [] (a ∷ answers) is gaps each none = absurd each
-all_taken most first e p s (false ∷ mask) [] [] is gaps each none = refl
-all_taken most first e p s (false ∷ mask) [] (a ∷ answers) is gaps each none = absurd each
-all_taken most first e p s (false ∷ mask) (b ∷ bodies) answers is gaps each none = all_taken most first e (p + 1) s mask bodies answers is gaps each none
-all_taken most first e p s (true ∷ mask) (b ∷ bodies) [] is gaps each none = absurd each
-all_taken most first e p s (true ∷ mask) (b ∷ bodies) (a ∷ answers) is gaps each none =
+-- packets in order are all taken, and where what they give out is within the limit so is what is open
+pub all_taken : (most limit first : ℕ) (e : Option ℕ) (p : ℕ) (s : UnitDepacketization) (mask : List Bool) (bodies : List RtpBody) (answers : List (Result Received PacketError)) →
+    s.expected ≡ expected_at first e → AreGapsShort e p mask → HaveUnitAnswers most limit s (kept_from first p mask bodies) answers → NoneIsRefused answers →
+    AreUnitsWithin limit (given_from most s (kept_from first p mask bodies)) →
+    after_all_rtp most limit s (kept_from first p mask bodies) answers ≡ after_all_taken most s (kept_from first p mask bodies)
+all_taken most limit first e p s [] bodies [] is gaps each none within = refl
+all_taken most limit first e p s [] bodies (a ∷ answers) is gaps each none within = absurd each
+all_taken most limit first e p s (true ∷ mask) [] [] is gaps each none within = refl
+all_taken most limit first e p s (true ∷ mask) [] (a ∷ answers) is gaps each none within = absurd each
+all_taken most limit first e p s (false ∷ mask) [] [] is gaps each none within = refl
+all_taken most limit first e p s (false ∷ mask) [] (a ∷ answers) is gaps each none within = absurd each
+all_taken most limit first e p s (false ∷ mask) (b ∷ bodies) answers is gaps each none within = all_taken most limit first e (p + 1) s mask bodies answers is gaps each none within
+all_taken most limit first e p s (true ∷ mask) (b ∷ bodies) [] is gaps each none within = absurd each
+all_taken most limit first e p s (true ∷ mask) (b ∷ bodies) (a ∷ answers) is gaps each none within =
     let kept = kept_from first (p + 1) mask bodies in
     let timely : is_late s.expected (number_at first p) ≡ false = ap (λ (x : Option ℕ). is_late x (number_at first p)) is ∙ next_in_time first e p gaps.0 in
-    let here = taken_is most s (number_at first p, b) a timely each.0 none.0 in
     let next = after_taken_rtp most s (number_at first p, b) in
-    ap (λ (x : UnitDepacketization). after_all_rtp most x kept answers) here
-    ∙ all_taken most first (Some (p + 1)) (p + 1) next mask bodies answers (ap Some (next_number first p)) gaps.1
-    (subst (λ (x : UnitDepacketization). HaveUnitAnswers most x kept answers) here each.1) none.1
+    let later = given_rest limit most s (number_at first p, b) kept within in
+    let here : after_rtp most limit s (number_at first p, b) a ≡ next =
+    taken_is most limit s (number_at first p, b) a timely each.0 none.0 ∙ ap (λ (x : Option AccessUnitValue). record next { unit = x }) (unit_fits limit next.unit (open_within limit most next kept later)) in
+    ap (λ (x : UnitDepacketization). after_all_rtp most limit x kept answers) here
+    ∙ all_taken most limit first (Some (p + 1)) (p + 1) next mask bodies answers (ap Some (next_number first p)) gaps.1
+    (subst (λ (x : UnitDepacketization). HaveUnitAnswers most limit x kept answers) here each.1) none.1 later
 
 -- nothing at a place beyond the packets sent
 abbrev nothing : RtpBody
@@ -128,25 +132,30 @@ first_known true = refl
 first_known false = refl
 
 -- what is given out of packets in order
-pub come_in_order : (most : ℕ) (w : UnitDepacketization) (packets : List (ℕ × RtpBody)) (answers : List (Result Received PacketError)) → DamagesNothing → GoesOn →
-    IsPayloadFormat w.state.format → w.unit ≡ None → HaveUnitAnswers most w packets answers → NoneIsRefused answers →
-    AreAccessUnitsLeft most w packets (after_end (after_all_rtp most w packets answers)).ended
-come_in_order most w packets answers law on_law ok none_open each none = λ s calls first known places same expected it apart.
+pub come_in_order : (most limit : ℕ) (w : UnitDepacketization) (packets : List (ℕ × RtpBody)) (answers : List (Result Received PacketError)) → DamagesNothing → GoesOn →
+    IsPayloadFormat w.state.format → w.unit ≡ None → HaveUnitAnswers most limit w packets answers → NoneIsRefused answers →
+    AreAccessUnitsLeft most limit w packets (after_end (after_all_rtp most limit w packets answers)).ended
+come_in_order most limit w packets answers law on_law ok none_open each none = λ s calls first known places same expected it apart within.
     let sent = sent_bodies s calls in
     let e = first_place known in
     let mask = mask_of_places places (length sent) in
+    let left = units_left most s w.state.is_avc known calls mask in
     let long : length mask ≡ length sent = length-map-range_with_len (is_among places) 0 (length sent) in
     let kept = by_mask first sent e 0 (length sent) places (omega arith) (up_from_first e places (up_of e places it.order)) it.order it.sent in
-    let came : packets ≡ kept_from first 0 mask sent = it.each ∙ kept.same in
-    let took = all_taken most first e 0 w mask sent answers expected kept.gaps (subst (λ (x : List (ℕ × RtpBody)). HaveUnitAnswers most w x answers) came each) none in
+    let packets_kept = kept_from first 0 mask sent in
+    let came : packets ≡ packets_kept = it.each ∙ kept.same in
     let all : UnitDepacketization → List AccessUnitValue = λ x. x.ended ++ given_out false x.unit in
     let known_is = first_known known in
     let over = over_calls most first 0 e s w w.state.is_avc calls mask law on_law (subst (λ (f : Format). IsPayloadFormat f) same ok) it.streamed same refl expected 0
     (subst (λ (x : Option AccessUnitValue). IsLeftOpen 0 x e 0) (sym none_open) tt) (first_on known) kept.gaps long
     (subst (λ (x : Option AccessUnitValue). AreApart (given_out false x ++ units_left most s w.state.is_avc (is_place e 0) calls mask)) (sym none_open)
     (subst (λ (b : Bool). AreApart (units_left most s w.state.is_avc b calls mask)) (sym known_is) apart)) in
-    ap (λ (x : List (ℕ × RtpBody)). all (after_all_rtp most w x answers)) came
-    ∙ ap all took ∙ over
+    let whole : all (after_all_taken most w packets_kept) ≡ w.ended ++ left = over
     ∙ ap (λ (x : Option AccessUnitValue). (w.ended ++ given_out false x) ++ units_left most s w.state.is_avc (is_place e 0) calls mask) none_open
     ∙ ap (λ (l : List AccessUnitValue). l ++ units_left most s w.state.is_avc (is_place e 0) calls mask) (append-nil w.ended)
-    ∙ ap (λ (b : Bool). w.ended ++ units_left most s w.state.is_avc b calls mask) known_is
+    ∙ ap (λ (b : Bool). w.ended ++ units_left most s w.state.is_avc b calls mask) known_is in
+    let given : given_from most w packets_kept ≡ left = append_cancel_left w.ended (given_from most w packets_kept) left (sym (given_all most w packets_kept) ∙ whole) in
+    let took = all_taken most limit first e 0 w mask sent answers expected kept.gaps (subst (λ (x : List (ℕ × RtpBody)). HaveUnitAnswers most limit w x answers) came each) none
+    (subst (AreUnitsWithin limit) (sym given) within) in
+    ap (λ (x : List (ℕ × RtpBody)). all (after_all_rtp most limit w x answers)) came
+    ∙ ap all took ∙ whole

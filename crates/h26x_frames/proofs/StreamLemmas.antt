@@ -170,11 +170,11 @@ over_call most first p q e s w avc c rest mask law ok is small carried same form
     ] refl
 
 -- all of two lists
-all_front : (P : List ℕ → Type 0) (a b : List (List ℕ)) → AllByRecursion P (a ++ b) → AllByRecursion P a
+pub all_front : {A : Type 0} → (P : A → Type 0) (a b : List A) → AllByRecursion P (a ++ b) → AllByRecursion P a
 all_front P [] b all = tt
 all_front P (x ∷ a) b all = (all.0, all_front P a b all.1)
 
-all_rest : (P : List ℕ → Type 0) (a b : List (List ℕ)) → AllByRecursion P (a ++ b) → AllByRecursion P b
+pub all_rest : {A : Type 0} → (P : A → Type 0) (a b : List A) → AllByRecursion P (a ++ b) → AllByRecursion P b
 all_rest P [] b all = all
 all_rest P (x ∷ a) b all = all_rest P a b all.1
 

@@ -12,7 +12,7 @@ use Rattle.h26x_receiver.specs.Sequence.{missing_count, distance_behind, is_late
 use Rattle.h26x_receiver.specs.Sequenced.{SequencedDepacketization, sequenced_depacketization, after_sequenced_packet, after_taken_packet, answer_by_missing, is_taken, IsSequencedAnswer, after_answer}
 use Rattle.h26x_receiver.proofs.AnswerLemmas.{accepted}
 use Rattle.h26x_frames.specs.Rtp.{RtpBody}
-use Rattle.h26x_frames.specs.AccessUnit.{AccessUnitValue, empty_unit, whole_if, UnitDepacketization, unit_depacketization, is_unit_at, given_out, is_run_too_long, after_taken_rtp, after_rtp}
+use Rattle.h26x_frames.specs.AccessUnit.{AccessUnitValue, empty_unit, whole_if, UnitDepacketization, unit_depacketization, is_unit_at, given_out, is_run_too_long, with_unit_within, after_taken_rtp, after_rtp}
 
 -- an answer says whether the run was too long
 long_of : (lost : ℕ) (long : Bool) → is_run_too_long (accepted (answer_by_missing lost long)) ≡ long
@@ -40,19 +40,20 @@ taken_work most s number packet (Ok (Gap n)) taken = refl
 taken_work most s number packet (Ok (TooLong n)) taken = refl
 taken_work most s number packet (Ok (Late n)) taken = absurd (let bad = taken in cc)
 
-taken_unit : (most : ℕ) (s : UnitDepacketization) (p : ℕ × RtpBody) (r : Result Received PacketError) → is_taken r ≡ true → after_rtp most s p r ≡ after_taken_rtp most s p
-taken_unit most s p (Err e) taken = absurd (let bad = taken in cc)
-taken_unit most s p (Ok InOrder) taken = refl
-taken_unit most s p (Ok (Gap n)) taken = refl
-taken_unit most s p (Ok (TooLong n)) taken = refl
-taken_unit most s p (Ok (Late n)) taken = absurd (let bad = taken in cc)
+pub was_taken : (most limit : ℕ) (s : UnitDepacketization) (p : ℕ × RtpBody) (r : Result Received PacketError) → is_taken r ≡ true →
+    after_rtp most limit s p r ≡ with_unit_within limit (after_taken_rtp most s p)
+was_taken most limit s p (Err e) taken = absurd (let bad = taken in cc)
+was_taken most limit s p (Ok InOrder) taken = refl
+was_taken most limit s p (Ok (Gap n)) taken = refl
+was_taken most limit s p (Ok (TooLong n)) taken = refl
+was_taken most limit s p (Ok (Late n)) taken = absurd (let bad = taken in cc)
 
-pub not_taken : (most : ℕ) (s : UnitDepacketization) (p : ℕ × RtpBody) (r : Result Received PacketError) → is_taken r ≡ false → after_rtp most s p r ≡ s
-not_taken most s p (Err e) not = refl
-not_taken most s p (Ok InOrder) not = absurd (let bad = not in cc)
-not_taken most s p (Ok (Gap n)) not = absurd (let bad = not in cc)
-not_taken most s p (Ok (TooLong n)) not = absurd (let bad = not in cc)
-not_taken most s p (Ok (Late n)) not = refl
+pub not_taken : (most limit : ℕ) (s : UnitDepacketization) (p : ℕ × RtpBody) (r : Result Received PacketError) → is_taken r ≡ false → after_rtp most limit s p r ≡ s
+not_taken most limit s p (Err e) not = refl
+not_taken most limit s p (Ok InOrder) not = absurd (let bad = not in cc)
+not_taken most limit s p (Ok (Gap n)) not = absurd (let bad = not in cc)
+not_taken most limit s p (Ok (TooLong n)) not = absurd (let bad = not in cc)
+not_taken most limit s p (Ok (Late n)) not = refl
 
 -- an access unit with what a packet left
 abbrev pub filled : AccessUnitValue → SequencedDepacketization → AccessUnitValue
@@ -100,26 +101,26 @@ pub goes_on_taken : (most : ℕ) (state : DepacketizerState) (expected : Option 
     (sound : Bool) (work : SequencedDepacketization) → unit.timestamp ≡ p.1.timestamp → is_taken r ≡ true →
     IsSequencedAnswer most (sequenced_depacketization state expected unit.bytes unit.extra) p.0 p.1.payload r →
     work ≡ after_answer most (sequenced_depacketization state expected unit.bytes unit.extra) p.0 p.1.payload r → sound ≡ cond (is_run_too_long r) false (is_expected expected p.0) →
-    with_unit work ended p.1.marker (whole_if sound (filled unit work)) ≡ after_rtp most (unit_depacketization state expected (Some unit) ended) p r
+    with_unit work ended p.1.marker (whole_if sound (filled unit work)) ≡ after_taken_rtp most (unit_depacketization state expected (Some unit) ended) p
 goes_on_taken most state expected unit ended p r sound work same taken answer work_is sound_is =
     let s = sequenced_depacketization state expected unit.bytes unit.extra in
     let it : WasTaken most s p r sound work = record { taken = taken; answer = answer; work_is = work_is ∙ taken_work most s p.0 p.1.payload r taken; sound_is = sound_is } in
     ap (λ (w : SequencedDepacketization). with_unit w ended p.1.marker (whole_if sound (filled unit w))) it.work_is
     ∙ ap (λ (b : Bool). with_unit (after_taken_packet most s p.0 p.1.payload) ended p.1.marker (whole_if b (filled unit (after_taken_packet most s p.0 p.1.payload)))) (sound_at most s p r sound work it)
-    ∙ on_taken most state expected unit ended p same ∙ sym (taken_unit most (unit_depacketization state expected (Some unit) ended) p r taken)
+    ∙ on_taken most state expected unit ended p same
 
 pub begins_taken : (most : ℕ) (state : DepacketizerState) (expected : Option ℕ) (unit : Option AccessUnitValue) (ended : List AccessUnitValue) (p : ℕ × RtpBody) (r : Result Received PacketError)
     (sound : Bool) (work : SequencedDepacketization) → is_unit_at unit p.1.timestamp ≡ false → is_taken r ≡ true →
     IsSequencedAnswer most (sequenced_depacketization (state_with_run state None) expected [] extras.None) p.0 p.1.payload r →
     work ≡ after_taken_packet most (sequenced_depacketization (state_with_run state None) expected [] extras.None) p.0 p.1.payload → sound ≡ cond (is_run_too_long r) false (is_expected expected p.0) →
-    with_unit work (ended ++ given_out (is_expected expected p.0) unit) p.1.marker (whole_if sound (filled (empty_unit p.1.timestamp) work)) ≡ after_rtp most (unit_depacketization state expected unit ended) p r
+    with_unit work (ended ++ given_out (is_expected expected p.0) unit) p.1.marker (whole_if sound (filled (empty_unit p.1.timestamp) work)) ≡ after_taken_rtp most (unit_depacketization state expected unit ended) p
 begins_taken most state expected unit ended p r sound work other taken answer work_is sound_is =
     let s = sequenced_depacketization (state_with_run state None) expected [] extras.None in
     let it : WasTaken most s p r sound work = record { taken = taken; answer = answer; work_is = work_is; sound_is = sound_is } in
     let before = ended ++ given_out (is_expected expected p.0) unit in
     ap (λ (w : SequencedDepacketization). with_unit w before p.1.marker (whole_if sound (filled (empty_unit p.1.timestamp) w))) it.work_is
     ∙ ap (λ (b : Bool). with_unit (after_taken_packet most s p.0 p.1.payload) before p.1.marker (whole_if b (filled (empty_unit p.1.timestamp) (after_taken_packet most s p.0 p.1.payload)))) (sound_at most s p r sound work it)
-    ∙ first_taken most state expected unit ended p other ∙ sym (taken_unit most (unit_depacketization state expected unit ended) p r taken)
+    ∙ first_taken most state expected unit ended p other
 
 -- the first of two, where the test holds
 pub when_true : (b : Bool) (P Q : Type 0) → b ≡ true → MatchBool b P Q → P

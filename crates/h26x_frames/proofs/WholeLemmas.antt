@@ -88,7 +88,7 @@ all_behind : (y : AccessUnitValue) (xs units : List AccessUnitValue) → AllByRe
 all_behind y xs [] all = tt
 all_behind y xs (u ∷ units) all = (λ whole. behind_first u y xs (all.0 whole), all_behind y xs units all.1)
 
-all_append : (P : AccessUnitValue → Type 0) (a b : List AccessUnitValue) → AllByRecursion P a → AllByRecursion P b → AllByRecursion P (a ++ b)
+pub all_append : {A : Type 0} → (P : A → Type 0) (a b : List A) → AllByRecursion P a → AllByRecursion P b → AllByRecursion P (a ++ b)
 all_append P [] b x y = y
 all_append P (u ∷ a) b x y = (x.0, all_append P a b x.1 y)
 

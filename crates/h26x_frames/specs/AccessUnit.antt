@@ -119,6 +119,20 @@ unit_with most s p = whole_if (is_sound most s p) (record (unit_at s.unit p.1.ti
   extra = (after_taken_packet most (taken_by s p.1.timestamp) p.0 p.1.payload).at_work.extra;
 })
 
+-- an access unit whose text was given up, since it is longer than the limit
+abbrev pub without_text : AccessUnitValue → AccessUnitValue
+without_text unit = record unit { bytes = []; extra = extras.None; is_whole = false }
+
+-- the one that is open, its text given up where that has more bytes than this
+abbrev pub unit_within : ℕ → Option AccessUnitValue → Option AccessUnitValue
+unit_within limit None = None
+unit_within limit (Some unit) =
+    Some (if nat_lt limit (length unit.bytes) then without_text unit else unit)
+
+-- so of a receiver
+abbrev pub with_unit_within : ℕ → UnitDepacketization → UnitDepacketization
+with_unit_within limit s = record s { unit = unit_within limit s.unit }
+
 -- what is given out of the access unit that was open: it is known to be whole only if this holds too
 abbrev pub given_out : Bool → Option AccessUnitValue → List AccessUnitValue
 given_out holds None = []
@@ -128,8 +142,8 @@ given_out holds (Some unit) = whole_if holds unit ∷ []
 abbrev pub ended_by : Bool → Option AccessUnitValue → ℕ → List AccessUnitValue
 ended_by follows unit timestamp = if is_unit_at unit timestamp then [] else given_out follows unit
 
--- What stands after a packet that was taken: another timestamp ends the access unit that is open, and
--- the marker ends its own.
+-- What stands after a packet that was taken, before the access unit that is open is measured: another
+-- timestamp ends the one that was, and the marker ends the packet's own.
 abbrev pub after_taken_rtp : ℕ → UnitDepacketization → ℕ × RtpBody → UnitDepacketization
 after_taken_rtp most s p = unit_depacketization
     (after_taken_packet most (taken_by s p.1.timestamp) p.0 p.1.payload).at_work.state
@@ -139,11 +153,11 @@ after_taken_rtp most s p = unit_depacketization
     ++ (if p.1.marker then unit_with most s p ∷ [] else []))
 
 -- what stands after an answer: a packet that was not taken changes nothing
-abbrev pub after_rtp : ℕ → UnitDepacketization → ℕ × RtpBody → Result Received PacketError →
-    UnitDepacketization
-after_rtp most s p (Ok (Late n)) = s
-after_rtp most s p (Ok answer) = after_taken_rtp most s p
-after_rtp most s p (Err error) = s
+abbrev pub after_rtp : ℕ → ℕ → UnitDepacketization → ℕ × RtpBody →
+    Result Received PacketError → UnitDepacketization
+after_rtp most limit s p (Ok (Late n)) = s
+after_rtp most limit s p (Ok answer) = with_unit_within limit (after_taken_rtp most s p)
+after_rtp most limit s p (Err error) = s
 
 -- what stands after the end: what was open is not known to be whole, no run is open, and any number
 -- may be the first
@@ -152,23 +166,24 @@ after_end s = unit_depacketization (state_with_run s.state None) None None
     (s.ended ++ given_out false s.unit)
 
 -- what stands after answers
-abbrev pub after_all_rtp : ℕ → UnitDepacketization → List (ℕ × RtpBody) →
+abbrev pub after_all_rtp : ℕ → ℕ → UnitDepacketization → List (ℕ × RtpBody) →
     List (Result Received PacketError) → UnitDepacketization
-after_all_rtp most s (p ∷ packets) (answer ∷ answers) = after_all_rtp most
-    (after_rtp most s p answer) packets answers
-after_all_rtp most s packets answers = s
+after_all_rtp most limit s (p ∷ packets) (answer ∷ answers) = after_all_rtp most limit
+    (after_rtp most limit s p answer) packets answers
+after_all_rtp most limit s packets answers = s
 
 -- one answer for each packet, by what those before it left
-abbrev pub HaveUnitAnswers : ℕ → UnitDepacketization → List (ℕ × RtpBody) →
+abbrev pub HaveUnitAnswers : ℕ → ℕ → UnitDepacketization → List (ℕ × RtpBody) →
     List (Result Received PacketError) → Type 0
-HaveUnitAnswers most s [] [] = Unit {0}
-HaveUnitAnswers most s (p ∷ packets) (answer ∷ answers) =
-    IsUnitAnswer most s p answer × HaveUnitAnswers most (after_rtp most s p answer) packets answers
-HaveUnitAnswers most s packets answers = ⊥
+HaveUnitAnswers most limit s [] [] = Unit {0}
+HaveUnitAnswers most limit s (p ∷ packets) (answer ∷ answers) = IsUnitAnswer most s p answer
+    × HaveUnitAnswers most limit (after_rtp most limit s p answer) packets answers
+HaveUnitAnswers most limit s packets answers = ⊥
 
 -- What a receiver has done with packets, any whatever: each has its answer, and it stands after
 -- them.
-pub record AreUnitsReceived (most : ℕ) (s : UnitDepacketization) (packets : List (ℕ × RtpBody))
-    (answers : List (Result Received PacketError)) (new : UnitDepacketization) : Type 0 where
-  pub each : HaveUnitAnswers most s packets answers
-  pub stands : new ≡ after_all_rtp most s packets answers
+pub record AreUnitsReceived (most limit : ℕ) (s : UnitDepacketization)
+    (packets : List (ℕ × RtpBody)) (answers : List (Result Received PacketError))
+    (new : UnitDepacketization) : Type 0 where
+  pub each : HaveUnitAnswers most limit s packets answers
+  pub stands : new ≡ after_all_rtp most limit s packets answers

@@ -53,11 +53,12 @@ abbrev pub due_after : ℕ → List ℕ → ℕ
 due_after due [] = due
 due_after due (place ∷ places) = due_after (place + 1) places
 
--- what is given out when a packet comes, and the buffer then; one that is late, or held, is not taken
+-- what is given out when a packet comes, and the buffer then
 pub record Step : Type 0 where
   pub out : List ℕ
   pub buffer : Buffer
 
+-- so of a packet at this place; one that is late, or held, is not taken
 abbrev pub pushed : ℕ → Buffer → ℕ → Step
 pushed window b place =
     if nat_lt place b.due then record { out = []; buffer = b }

@@ -1,9 +1,10 @@
 -- Calls that each send an access unit, with its timestamp (RFC 6184, 5.1; RFC 7798, 4.1; RFC 9328,
 -- 4.1), and what is left of these where packets are missing (ours).
-use Rattle.std.specs.Prelude.{◌≡◌, ℕ, ◌+◌, ◌%◌, ◌^◌, ◌<◌, ◌≤◌, nat_lt, Bool, true, false, ◌&&◌, if◌then◌else◌, List, [], ◌∷◌, ◌++◌, length, map, take, drop, Option, Some, None, slice_index_or}
+use Rattle.std.specs.Prelude.{◌≡◌, ℕ, ◌+◌, ◌%◌, ◌^◌, ◌<◌, ◌≤◌, nat_lt, Bool, true, false, ◌&&◌, if◌then◌else◌, List, [], ◌∷◌, ◌++◌, length, map, take, drop, Option, Some, None, Result, slice_index_or}
 use Rattle.std.specs.Option.{option_map}
 use Rattle.std.specs.List.{AllByRecursion, Contains, list_any, list_all}
 use Rattle.h26x_core.specs.declared.extra.CodecExtra.TheVariants as extras
+use Rattle.h26x_core.specs.declared.error.PacketError.{PacketError}
 use Rattle.h26x_core.specs.ByteStream.{byte_stream}
 use Rattle.h26x_model.specs.Payload.Format.{Format}
 use Rattle.h26x_model.specs.Payload.Extra.{extra_after}
@@ -13,7 +14,8 @@ use Rattle.h26x_model.specs.Send.PacketizerState.{PacketizerState, IsPacketizerS
 use Rattle.h26x_model.specs.Receive.Received.{run_after}
 use Rattle.h26x_model.specs.Receive.RunLimit.{run_len}
 use Rattle.h26x_model.specs.Carry.Gaps.{whole_units}
-use Rattle.h26x_receiver.specs.Delivery.{AreNextPlaces, mask_of_places}
+use Rattle.h26x_receiver.specs.declared.received.Received.{Received}
+use Rattle.h26x_receiver.specs.Delivery.{AreNextPlaces, mask_of_places, IsWantOrTooLong}
 use Rattle.h26x_frames.specs.Reordering.{in_order, IsReordered}
 use Rattle.h26x_frames.specs.Rtp.{RtpBody, rtp_body}
 use Rattle.h26x_frames.specs.AccessUnit.{AccessUnitValue, UnitDepacketization}
@@ -31,10 +33,11 @@ stamped_call timestamp call = record { call = call; timestamp = timestamp }
 abbrev pub calls_of : List StampedCall → List Call
 calls_of calls = map (λ c. c.call) calls
 
--- the packets of one call, and the packetizer after it
+-- the packets of one call
 abbrev pub call_packets : PacketizerState → Call → List (List ℕ)
 call_packets s call = state_packets s (all_entries s.format (call ∷ []))
 
+-- the packetizer after it
 abbrev pub after_call : PacketizerState → Call → PacketizerState
 after_call s call = after_entries s (all_entries s.format (call ∷ []))
 
@@ -104,6 +107,10 @@ AreApart [] = Unit {0}
 AreApart (unit ∷ []) = Unit {0}
 AreApart (unit ∷ next ∷ units) = (unit.timestamp ≡ next.timestamp → ⊥) × AreApart (next ∷ units)
 
+-- no access unit holds more bytes than this
+abbrev pub AreUnitsWithin : ℕ → List AccessUnitValue → Type 0
+AreUnitsWithin limit units = AllByRecursion (λ unit. length unit.bytes ≤ limit) units
+
 -- Calls whose units packets can carry.
 pub record AreStreamed (s : PacketizerState) (calls : List StampedCall) : Type 0 where
   pub sender : IsPacketizerState s
@@ -155,14 +162,17 @@ pub record IsStream (s : PacketizerState) (calls : List StampedCall) (first : �
   pub order : AreNextPlaces (first_place known) places
 
 -- Of whatever calls the packets are a stream, these access units are those that the packets leave of
--- the calls, in order. Those that come one behind the other have other timestamps.
-abbrev pub AreAccessUnitsLeft : ℕ → UnitDepacketization → List (ℕ × RtpBody) →
+-- the calls, in order. Those that come one behind the other have other timestamps, and none holds more
+-- than the limit.
+abbrev pub AreAccessUnitsLeft : ℕ → ℕ → UnitDepacketization → List (ℕ × RtpBody) →
     List AccessUnitValue → Type 0
-AreAccessUnitsLeft most w packets units = (s : PacketizerState) (calls : List StampedCall) (first : ℕ)
-    (known : Bool) (places : List ℕ) → w.state.format ≡ s.format →
+AreAccessUnitsLeft most limit w packets units = (s : PacketizerState) (calls : List StampedCall)
+    (first : ℕ) (known : Bool) (places : List ℕ) → w.state.format ≡ s.format →
     w.expected ≡ option_map (λ place. (first + place) % 2 ^ 16) (first_place known) →
     IsStream s calls first known places packets →
     AreApart (units_left most s w.state.is_avc known calls
+    (mask_of_places places (length (sent_bodies s calls)))) →
+    AreUnitsWithin limit (units_left most s w.state.is_avc known calls
     (mask_of_places places (length (sent_bodies s calls)))) →
     units ≡ w.ended ++ units_left most s w.state.is_avc known calls
     (mask_of_places places (length (sent_bodies s calls)))
@@ -179,14 +189,27 @@ pub record IsBroughtStream (window : ℕ) (s : PacketizerState) (calls : List St
   pub gaps : AreNextPlaces (first_place known) (in_order places)
 
 -- Of whatever calls a network brought the packets, these access units are those that the packets
--- leave of the calls, in order. Those that come one behind the other have other timestamps.
-abbrev pub AreAccessUnitsBrought : ℕ → ℕ → UnitDepacketization → List (ℕ × RtpBody) →
+-- leave of the calls, in order. Those that come one behind the other have other timestamps, and none
+-- holds more than the limit.
+abbrev pub AreAccessUnitsBrought : ℕ → ℕ → ℕ → UnitDepacketization → List (ℕ × RtpBody) →
     List AccessUnitValue → Type 0
-AreAccessUnitsBrought window most w packets units = (s : PacketizerState) (calls : List StampedCall)
-    (first : ℕ) (known : Bool) (places : List ℕ) → w.state.format ≡ s.format →
+AreAccessUnitsBrought window most limit w packets units = (s : PacketizerState)
+    (calls : List StampedCall) (first : ℕ) (known : Bool) (places : List ℕ) →
+    w.state.format ≡ s.format →
     w.expected ≡ option_map (λ place. (first + place) % 2 ^ 16) (first_place known) →
     IsBroughtStream window s calls first known places packets →
     AreApart (units_left most s w.state.is_avc known calls
     (mask_of_places places (length (sent_bodies s calls)))) →
+    AreUnitsWithin limit (units_left most s w.state.is_avc known calls
+    (mask_of_places places (length (sent_bodies s calls)))) →
     units ≡ w.ended ++ units_left most s w.state.is_avc known calls
     (mask_of_places places (length (sent_bodies s calls)))
+
+-- Of whatever calls a network brought the packets, none that a buffer gives out is refused for what it
+-- is.
+abbrev pub NoneBroughtIsRefused : ℕ → UnitDepacketization → List (ℕ × RtpBody) →
+    List (Result Received PacketError) → Type 0
+NoneBroughtIsRefused window w packets answers = (s : PacketizerState) (calls : List StampedCall)
+    (first : ℕ) (known : Bool) (places : List ℕ) → w.state.format ≡ s.format →
+    IsBroughtStream window s calls first known places packets →
+    AllByRecursion (IsWantOrTooLong w.state.is_avc) answers

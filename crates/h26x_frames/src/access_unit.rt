@@ -1,7 +1,7 @@
 //! Access units, and the one that is open.
 
 ghost use Rattle.std.specs.Prelude.{◌≡◌, ◌+◌, ◌≤◌, ◌++◌, ◌∷◌, [], if◌then◌else◌, true, false, None, Some, MatchOption, map, vec_len, vec_capacity, is_some};
-ghost use Rattle.h26x_frames.specs.AccessUnit.{AccessUnitValue, access_unit_value, empty_unit, whole_if, unit_len, is_unit_at, given_out};
+ghost use Rattle.h26x_frames.specs.AccessUnit.{AccessUnitValue, access_unit_value, empty_unit, whole_if, unit_len, unit_within, is_unit_at, given_out};
 
 use h26x_core::CodecExtra;
 use std::alloc::Global;
@@ -14,14 +14,14 @@ pub struct AccessUnit {
     /// The timestamp of its packets (RFC 3550, 5.1).
     pub timestamp: u32,
     /// The text of its units, as the depacketizer writes it: nothing of a unit of which a packet is
-    /// missing.
+    /// missing, and nothing of what was given up since it was longer than the receiver's limit.
     pub bytes: Vec<u8>,
     /// What is told of these units; `CodecExtra::None` where there is none.
     pub extra: CodecExtra,
     /// Whether it is known that nothing of it is missing: its packets followed each other, its first
     /// the packet before it, and its last bore the marker or was followed by another timestamp; and no
-    /// run of it was too long. Where the packet before it is missing it isn't known, since that may
-    /// have been its first.
+    /// run of it was too long, nor its text. Where the packet before it is missing it isn't known,
+    /// since that may have been its first.
     pub is_whole: bool,
 }
 
@@ -77,6 +77,19 @@ impl OpenAccessUnit {
         match &self.unit {
             Some(unit) => unit.bytes.len(),
             None => 0,
+        }
+    }
+
+    /// Gives up its text where that has more bytes than this, and gives its memory back.
+    pub(crate) fn limit(&mut self, alloc: Global, most: usize)
+        ensures { self.new ≡ unit_within most self.old }
+    {
+        if let Some(unit) = &mut self.unit {
+            if unit.bytes.len() > most {
+                unit.bytes = Vec::new(alloc);
+                unit.extra = CodecExtra::None;
+                unit.is_whole = false;
+            }
         }
     }
 

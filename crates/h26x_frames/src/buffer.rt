@@ -113,7 +113,7 @@ impl Model for ReorderBuffer {
 }
 
 impl ReorderBuffer {
-    /// A buffer with a window of so many packets, at most 2^14: one that comes after another that was
+    /// A buffer with a window of so many packets, 1 to 2^14: one that comes after another that was
     /// sent so many or more behind it may be late. It takes any sequence number as the first.
     ///
     /// Of a stream that begins, packets are held until a window of them has come, since those sent

@@ -8,8 +8,8 @@ ghost use Rattle.h26x_frames.specs.Reordering.{empty_buffer, put, in_order, rele
 ghost use Rattle.h26x_frames.specs.ReorderBuffer.{buffer_state, fresh_buffer, push_answer, next_packet, reordered};
 ghost use Rattle.h26x_frames.specs.Network.{IsNetwork, released_packets};
 ghost use Rattle.h26x_frames.specs.Rtp.{rtp_body};
-ghost use Rattle.h26x_frames.specs.AccessUnit.{fresh_units, after_all_rtp, after_end, HaveUnitAnswers};
-ghost use Rattle.h26x_frames.specs.StampedCalls.{stamped_call, sent_bodies, units_left, AreApart, IsStream, IsBroughtStream};
+ghost use Rattle.h26x_frames.specs.AccessUnit.{empty_unit, fresh_units, after_all_rtp, after_end, HaveUnitAnswers};
+ghost use Rattle.h26x_frames.specs.StampedCalls.{stamped_call, call_packets, sent_bodies, unit_left, units_left, sent_unit, sent_units, packets_len, AreApart, AreUnitsWithin, IsStream, IsBroughtStream};
 
 use crate::buffer::Pushed;
 use h26x_receiver::Received;
@@ -105,33 +105,85 @@ pub fn a_network()
 /// timestamp the second. Each is known to be whole but the first of all, since a packet before its
 /// first may be missing; behind a gap, and where a gap may be in it, it isn't.
 pub fn access_units_by_marker_and_timestamp()
-    ensures not_ended { (after_all_rtp 4 (fresh_units (fresh_depacketizer_state h264))
+    ensures not_ended { (after_all_rtp 4 12 (fresh_units (fresh_depacketizer_state h264))
         ((7, rtp_body 3000 false (0x65 ∷ 0x01 ∷ [])) ∷ []) (Ok Received.InOrder ∷ [])).ended ≡ [] }
     ensures whole { map {B = ℕ × Bool} (λ u. (u.timestamp, u.is_whole))
-        (after_all_rtp 4 (fresh_units (fresh_depacketizer_state h264))
+        (after_all_rtp 4 12 (fresh_units (fresh_depacketizer_state h264))
         ((7, rtp_body 3000 true (0x65 ∷ 0x01 ∷ [])) ∷ (8, rtp_body 6000 false (0x61 ∷ 0x02 ∷ []))
         ∷ (9, rtp_body 9000 true (0x61 ∷ 0x03 ∷ [])) ∷ [])
         (Ok Received.InOrder ∷ Ok Received.InOrder ∷ Ok Received.InOrder ∷ [])).ended
         ≡ (3000, false) ∷ (6000, true) ∷ (9000, true) ∷ [] }
     ensures text { map (λ u. u.bytes)
-        (after_all_rtp 4 (fresh_units (fresh_depacketizer_state h264))
+        (after_all_rtp 4 12 (fresh_units (fresh_depacketizer_state h264))
         ((7, rtp_body 3000 false (0x65 ∷ 0x01 ∷ [])) ∷ (8, rtp_body 3000 true (0x65 ∷ 0x02 ∷ []))
         ∷ (9, rtp_body 6000 true (0x61 ∷ 0x03 ∷ [])) ∷ [])
         (Ok Received.InOrder ∷ Ok Received.InOrder ∷ Ok Received.InOrder ∷ [])).ended
         ≡ (0x00 ∷ 0x00 ∷ 0x00 ∷ 0x01 ∷ 0x65 ∷ 0x01 ∷ 0x00 ∷ 0x00 ∷ 0x00 ∷ 0x01 ∷ 0x65 ∷ 0x02 ∷ [])
         ∷ (0x00 ∷ 0x00 ∷ 0x00 ∷ 0x01 ∷ 0x61 ∷ 0x03 ∷ []) ∷ [] }
     ensures gap { map {B = ℕ × Bool} (λ u. (u.timestamp, u.is_whole))
-        (after_all_rtp 4 (fresh_units (fresh_depacketizer_state h264))
+        (after_all_rtp 4 12 (fresh_units (fresh_depacketizer_state h264))
         ((7, rtp_body 3000 true (0x65 ∷ 0x01 ∷ [])) ∷ (8, rtp_body 6000 false (0x61 ∷ 0x02 ∷ []))
         ∷ (10, rtp_body 9000 true (0x61 ∷ 0x03 ∷ [])) ∷ (11, rtp_body 12000 true (0x61 ∷ []))
         ∷ []) (Ok Received.InOrder ∷ Ok Received.InOrder ∷ Ok (Received.Gap 1)
         ∷ Ok Received.InOrder ∷ [])).ended
         ≡ (3000, false) ∷ (6000, false) ∷ (9000, false) ∷ (12000, true) ∷ [] }
     ensures at_the_end { map {B = ℕ × Bool} (λ u. (u.timestamp, u.is_whole))
-        (after_end (after_all_rtp 4 (fresh_units (fresh_depacketizer_state h264))
+        (after_end (after_all_rtp 4 12 (fresh_units (fresh_depacketizer_state h264))
         ((7, rtp_body 3000 true (0x65 ∷ [])) ∷ (8, rtp_body 6000 false (0x61 ∷ [])) ∷ [])
         (Ok Received.InOrder ∷ Ok Received.InOrder ∷ []))).ended
         ≡ (3000, false) ∷ (6000, false) ∷ [] }
+{}
+
+/// The text of an open access unit that is as long as the limit stays. One that is longer is given
+/// up, and what follows of that access unit isn't told to be whole; the next one is.
+pub fn access_units_at_the_limit()
+    ensures at { map {B = List ℕ × Bool} (λ u. (u.bytes, u.is_whole))
+        (after_all_rtp 4 6 (fresh_units (fresh_depacketizer_state h264))
+        ((7, rtp_body 3000 true (0x65 ∷ [])) ∷ (8, rtp_body 6000 false (0x61 ∷ 0x02 ∷ []))
+        ∷ (9, rtp_body 6000 true (0x61 ∷ [])) ∷ (10, rtp_body 9000 true (0x61 ∷ [])) ∷ [])
+        (Ok Received.InOrder ∷ Ok Received.InOrder ∷ Ok Received.InOrder ∷ Ok Received.InOrder
+        ∷ [])).ended
+        ≡ (0x00 ∷ 0x00 ∷ 0x00 ∷ 0x01 ∷ 0x65 ∷ [], false)
+        ∷ (0x00 ∷ 0x00 ∷ 0x00 ∷ 0x01 ∷ 0x61 ∷ 0x02 ∷ 0x00 ∷ 0x00 ∷ 0x00 ∷ 0x01 ∷ 0x61 ∷ [], true)
+        ∷ (0x00 ∷ 0x00 ∷ 0x00 ∷ 0x01 ∷ 0x61 ∷ [], true) ∷ [] }
+    ensures past { map {B = List ℕ × Bool} (λ u. (u.bytes, u.is_whole))
+        (after_all_rtp 4 5 (fresh_units (fresh_depacketizer_state h264))
+        ((7, rtp_body 3000 true (0x65 ∷ [])) ∷ (8, rtp_body 6000 false (0x61 ∷ 0x02 ∷ []))
+        ∷ (9, rtp_body 6000 true (0x61 ∷ [])) ∷ (10, rtp_body 9000 true (0x61 ∷ [])) ∷ [])
+        (Ok Received.InOrder ∷ Ok Received.InOrder ∷ Ok Received.InOrder ∷ Ok Received.InOrder
+        ∷ [])).ended
+        ≡ (0x00 ∷ 0x00 ∷ 0x00 ∷ 0x01 ∷ 0x65 ∷ [], false)
+        ∷ (0x00 ∷ 0x00 ∷ 0x00 ∷ 0x01 ∷ 0x61 ∷ [], false)
+        ∷ (0x00 ∷ 0x00 ∷ 0x00 ∷ 0x01 ∷ 0x61 ∷ [], true) ∷ [] }
+{}
+
+/// Access units with one timestamp are apart only where one with another stands between them; a limit
+/// holds a text of its own length, and none that is longer.
+pub fn access_units_apart_and_within()
+    ensures same { AreApart (empty_unit 3000 ∷ empty_unit 3000 ∷ []) → ⊥ }
+    ensures between { AreApart (empty_unit 3000 ∷ empty_unit 6000 ∷ empty_unit 3000 ∷ []) }
+    ensures within { AreUnitsWithin 6 (units_left 4 (fresh_packetizer_state h264) false true
+        (stamped_call 6000 (fresh_call 3 (0x61 ∷ 0x05 ∷ [])) ∷ []) (true ∷ [])) }
+    ensures longer { AreUnitsWithin 5 (units_left 4 (fresh_packetizer_state h264) false true
+        (stamped_call 6000 (fresh_call 3 (0x61 ∷ 0x05 ∷ [])) ∷ []) (true ∷ [])) → ⊥ }
+{}
+
+/// What two calls send, as access units; and the first of them as it is left where each of its
+/// packets came, which have nine bytes together, as many as the limit on a run.
+pub fn access_units_sent()
+    ensures sent { map {B = ℕ × List ℕ × Bool} (λ u. (u.timestamp, u.bytes, u.is_whole))
+        (sent_units (fresh_packetizer_state h264) false
+        (stamped_call 3000 (fresh_call 3 (0x65 ∷ 0x01 ∷ 0x02 ∷ 0x03 ∷ []))
+        ∷ stamped_call 6000 (fresh_call 3 (0x61 ∷ 0x05 ∷ [])) ∷ []))
+        ≡ (3000, 0x00 ∷ 0x00 ∷ 0x00 ∷ 0x01 ∷ 0x65 ∷ 0x01 ∷ 0x02 ∷ 0x03 ∷ [], true)
+        ∷ (6000, 0x00 ∷ 0x00 ∷ 0x00 ∷ 0x01 ∷ 0x61 ∷ 0x05 ∷ [], true) ∷ [] }
+    ensures packets { packets_len (call_packets (fresh_packetizer_state h264)
+        (fresh_call 3 (0x65 ∷ 0x01 ∷ 0x02 ∷ 0x03 ∷ []))) ≡ 9 }
+    ensures left { unit_left 9 (fresh_packetizer_state h264) false true
+        (stamped_call 3000 (fresh_call 3 (0x65 ∷ 0x01 ∷ 0x02 ∷ 0x03 ∷ [])))
+        (true ∷ true ∷ true ∷ [])
+        ≡ sent_unit (fresh_packetizer_state h264) false
+        (stamped_call 3000 (fresh_call 3 (0x65 ∷ 0x01 ∷ 0x02 ∷ 0x03 ∷ []))) ∷ [] }
 {}
 
 /// Two calls, the first of three fragments: their packets, and what is left of them where all came,
@@ -185,7 +237,7 @@ pub fn a_stream()
         (stamped_call 3000 (fresh_call 3 (0x65 ∷ 0x01 ∷ 0x02 ∷ 0x03 ∷ []))
         ∷ stamped_call 6000 (fresh_call 3 (0x61 ∷ 0x05 ∷ [])) ∷ [])
         (true ∷ false ∷ true ∷ true ∷ [])) }
-    ensures answers { HaveUnitAnswers 4 (fresh_units (fresh_depacketizer_state h264))
+    ensures answers { HaveUnitAnswers 4 12 (fresh_units (fresh_depacketizer_state h264))
         ((65535, rtp_body 3000 false (0x7c ∷ 0x85 ∷ 0x01 ∷ []))
         ∷ (1, rtp_body 3000 true (0x7c ∷ 0x45 ∷ 0x03 ∷ []))
         ∷ (2, rtp_body 6000 true (0x61 ∷ 0x05 ∷ [])) ∷ [])

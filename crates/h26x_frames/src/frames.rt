@@ -3,9 +3,10 @@
 ghost use Rattle.std.specs.Prelude.{◌≡◌, ◌<◌, ◌≤◌, ◌^◌, ◌++◌, false, IfOk, OnErr, Err, None, map};
 ghost use Rattle.h26x_model.specs.Receive.RunLimit.{run_len};
 ghost use Rattle.h26x_receiver.specs.Delivery.{NoneIsRefused};
+ghost use Rattle.h26x_receiver.specs.Sequenced.{having_taken_all};
 ghost use Rattle.h26x_frames.specs.ReorderBuffer.{reordered};
-ghost use Rattle.h26x_frames.specs.AccessUnit.{access_unit_value, unit_depacketization, given_out, AreUnitsReceived};
-ghost use Rattle.h26x_frames.specs.StampedCalls.{AreAccessUnitsBrought};
+ghost use Rattle.h26x_frames.specs.AccessUnit.{access_unit_value, unit_depacketization, unit_len, given_out, AreUnitsReceived};
+ghost use Rattle.h26x_frames.specs.StampedCalls.{AreAccessUnitsBrought, NoneBroughtIsRefused};
 
 use crate::access_unit::AccessUnit;
 use crate::packet::RtpPacket;
@@ -16,8 +17,8 @@ use h26x_model::laws;
 use h26x_receiver::{Received, RunDepacketizer};
 use std::alloc::Global;
 
-/// Puts packets in the order of their sequence numbers through a buffer with this window, at most
-/// 2^14, and gives them to a receiver, in that order; the access units that they end are appended to
+/// Puts packets in the order of their sequence numbers through a buffer with this window, 1 to 2^14,
+/// and gives them to a receiver, in that order; the access units that they end are appended to
 /// `out`, and what became of each packet that the buffer gave out is answered. One that is refused is
 /// passed over. The access unit of the last packets stays open where its marker is missing:
 /// [`FrameReceiver::end`] gives it out.
@@ -42,7 +43,7 @@ pub fn receive_frames<D: RunDepacketizer>(
     // Any packets whatever: the answer for each that the buffer gave out by what those before it
     // left, and what stands after them.
     ensures received { IfOk result (λ answers. AreUnitsReceived receiver.old.packets.run_limit
-        (unit_depacketization (D.state receiver.old.packets.depacketizer)
+        receiver.old.unit_limit (unit_depacketization (D.state receiver.old.packets.depacketizer)
         receiver.old.packets.expected receiver.old.unit (map access_unit_value out.old.items))
         (reordered window packets.now) answers.items
         (unit_depacketization (D.state receiver.new.packets.depacketizer)
@@ -53,16 +54,31 @@ pub fn receive_frames<D: RunDepacketizer>(
     // what the packets that came leave of the calls, in order.
     ensures in_order { receiver.old.unit ≡ None →
         IfOk result (λ answers. NoneIsRefused answers.items →
-        AreAccessUnitsBrought window receiver.old.packets.run_limit
+        AreAccessUnitsBrought window receiver.old.packets.run_limit receiver.old.unit_limit
         (unit_depacketization (D.state receiver.old.packets.depacketizer)
         receiver.old.packets.expected receiver.old.unit (map access_unit_value out.old.items))
         packets.now (map access_unit_value out.new.items ++ given_out false receiver.new.unit)) }
 
-    // The run that is open is within the limit.
+    // None of these is refused for what it is: memory lacks or, in AVC form, a unit is too long.
+    ensures refusals { IfOk result (λ answers. NoneBroughtIsRefused window
+        (unit_depacketization (D.state receiver.old.packets.depacketizer)
+        receiver.old.packets.expected receiver.old.unit (map access_unit_value out.old.items))
+        packets.now answers.items) }
+
+    // What else the packets that were taken change, as what a depacketizer of H.265 shows.
+    ensures rest { IfOk result (λ answers. D.with_run None receiver.new.packets.depacketizer
+        ≡ D.with_run None (having_taken_all D.having_taken
+        (map (λ p. p.1.payload) (reordered window packets.now)) answers.items
+        receiver.old.packets.depacketizer)) }
+
+    // The run that is open is within its limit, and the open access unit within its own.
     ensures bounded { run_len (D.state receiver.old.packets.depacketizer).run
         ≤ receiver.old.packets.run_limit →
         run_len (D.state receiver.new.packets.depacketizer).run ≤ receiver.old.packets.run_limit }
+    ensures bounded_unit { unit_len receiver.old.unit ≤ receiver.old.unit_limit →
+        unit_len receiver.new.unit ≤ receiver.old.unit_limit }
     ensures limit { receiver.new.packets.run_limit ≡ receiver.old.packets.run_limit }
+    ensures unit_limit { receiver.new.unit_limit ≡ receiver.old.unit_limit }
 
     // Without room for the packets and the answers nothing was taken.
     ensures memory { OnErr result (result ≡ Err PacketError.OutOfMemory) }
@@ -72,6 +88,7 @@ pub fn receive_frames<D: RunDepacketizer>(
     receiver.packets.depacketizer.meets_the_facts();
     laws::nothing_is_damaged();
     laws::packetizers_go_on();
+    laws::what_calls_send_is_carried();
     let ordered = reorder_all(alloc, window, packets)?;
     let mut answers = Vec::with_capacity(alloc, ordered.len())?;
     for held in &ordered {

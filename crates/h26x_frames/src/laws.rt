@@ -52,10 +52,11 @@ pub fn units_come_through_a_network()
 /// access units that a receiver gives out, with what is open at the end, are what those packets leave
 /// of the calls.
 pub fn access_units_are_those_left()
-    ensures { (most : ℕ) (w : UnitDepacketization) (packets : List (ℕ × RtpBody))
+    ensures { (most limit : ℕ) (w : UnitDepacketization) (packets : List (ℕ × RtpBody))
         (answers : List (Result Received PacketError)) → IsPayloadFormat w.state.format →
-        w.unit ≡ None → HaveUnitAnswers most w packets answers → NoneIsRefused answers →
-        AreAccessUnitsLeft most w packets (after_end (after_all_rtp most w packets answers)).ended }
+        w.unit ≡ None → HaveUnitAnswers most limit w packets answers → NoneIsRefused answers →
+        AreAccessUnitsLeft most limit w packets
+        (after_end (after_all_rtp most limit w packets answers)).ended }
 {
     model_laws::nothing_is_damaged();
     model_laws::packetizers_go_on();
@@ -80,12 +81,12 @@ pub fn whole_access_units_are_those_sent()
 /// receiver gives out, with what is open at the end, are what the packets that came leave of the
 /// calls.
 pub fn access_units_come_through_a_network()
-    ensures { (window most : ℕ) (w : UnitDepacketization) (packets : List (ℕ × RtpBody))
+    ensures { (window most limit : ℕ) (w : UnitDepacketization) (packets : List (ℕ × RtpBody))
         (answers : List (Result Received PacketError)) → 0 < window → window ≤ 2 ^ 14 →
         IsPayloadFormat w.state.format → w.unit ≡ None →
-        HaveUnitAnswers most w (reordered window packets) answers → NoneIsRefused answers →
-        AreAccessUnitsBrought window most w packets
-        (after_end (after_all_rtp most w (reordered window packets) answers)).ended }
+        HaveUnitAnswers most limit w (reordered window packets) answers → NoneIsRefused answers →
+        AreAccessUnitsBrought window most limit w packets
+        (after_end (after_all_rtp most limit w (reordered window packets) answers)).ended }
 {
     model_laws::nothing_is_damaged();
     model_laws::packetizers_go_on();

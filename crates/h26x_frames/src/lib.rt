@@ -1,5 +1,5 @@
 //! Packets that a network brings in any order, put in the order of their sequence numbers (RFC 3550,
-//! 5.1), and what is written of them.
+//! 5.1), and the access units of such packets, by their timestamps and markers.
 #![tactic(auto)]
 
 mod access_unit;

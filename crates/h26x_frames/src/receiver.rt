@@ -4,7 +4,7 @@ ghost use Rattle.std.specs.Prelude.{◌≡◌, ◌+◌, ◌≤◌, ◌++◌, ◌
 ghost use Rattle.h26x_model.specs.Receive.RunLimit.{run_len, state_with_run};
 ghost use Rattle.h26x_receiver.specs.Sequence.{is_expected};
 ghost use Rattle.h26x_receiver.specs.Sequenced.{sequenced_depacketization, IsSequencedAnswer, after_taken_packet, is_taken};
-ghost use Rattle.h26x_frames.specs.AccessUnit.{access_unit_value, is_unit_at, unit_depacketization, IsTakenAnswer, IsUnitAnswer, after_rtp, after_end, is_run_too_long};
+ghost use Rattle.h26x_frames.specs.AccessUnit.{access_unit_value, is_unit_at, unit_depacketization, IsTakenAnswer, IsUnitAnswer, after_taken_rtp, after_rtp, after_end, is_run_too_long, unit_len};
 
 use crate::access_unit::{AccessUnit, OpenAccessUnit};
 use crate::packet::RtpPacket;
@@ -96,12 +96,13 @@ fn go_on<D: RunDepacketizer>(
         (D.state packets.old.depacketizer) packets.old.expected (Some (access_unit_value unit))
         (map access_unit_value out.old.items))
         packet.now result }
-    ensures after { unit_depacketization (D.state packets.new.depacketizer) packets.new.expected
+    ensures after { is_taken result ≡ true →
+        unit_depacketization (D.state packets.new.depacketizer) packets.new.expected
         place.new (map access_unit_value out.new.items)
-        ≡ after_rtp packets.old.run_limit (unit_depacketization
+        ≡ after_taken_rtp packets.old.run_limit (unit_depacketization
         (D.state packets.old.depacketizer) packets.old.expected (Some (access_unit_value unit))
         (map access_unit_value out.old.items))
-        packet.now result }
+        packet.now }
     ensures rest { is_taken result ≡ true → D.with_run None packets.new.depacketizer
         ≡ D.with_run None (D.having_taken packet.now.1.payload packets.old.depacketizer) }
     ensures limit { packets.new.run_limit ≡ packets.old.run_limit }
@@ -140,12 +141,13 @@ fn begin<D: RunDepacketizer>(
         (D.state packets.old.depacketizer) packets.old.expected place.old
         (map access_unit_value out.old.items))
         packet.now result }
-    ensures after { unit_depacketization (D.state packets.new.depacketizer) packets.new.expected
+    ensures after { is_taken result ≡ true →
+        unit_depacketization (D.state packets.new.depacketizer) packets.new.expected
         place.new (map access_unit_value out.new.items)
-        ≡ after_rtp packets.old.run_limit (unit_depacketization
+        ≡ after_taken_rtp packets.old.run_limit (unit_depacketization
         (D.state packets.old.depacketizer) packets.old.expected place.old
         (map access_unit_value out.old.items))
-        packet.now result }
+        packet.now }
     ensures rest { is_taken result ≡ true → D.with_run None packets.new.depacketizer
         ≡ D.with_run None (D.having_taken packet.now.1.payload packets.old.depacketizer) }
     ensures limit { packets.new.run_limit ≡ packets.old.run_limit }
@@ -166,6 +168,40 @@ fn begin<D: RunDepacketizer>(
     received
 }
 
+/// Takes a packet, and appends the access units that it ends.
+fn take<D: RunDepacketizer>(
+    alloc: Global,
+    packets: &mut SequencedDepacketizer<D>,
+    place: &mut OpenAccessUnit,
+    packet: &RtpPacket<'_>,
+    out: &mut Vec<AccessUnit>,
+) -> Result<Received, PacketError>
+    requires room { vec_len out.old + 2 ≤ vec_capacity out.old }
+    ensures answer { IsTakenAnswer packets.old.run_limit (unit_depacketization
+        (D.state packets.old.depacketizer) packets.old.expected place.old
+        (map access_unit_value out.old.items))
+        packet.now result }
+    ensures after { is_taken result ≡ true →
+        unit_depacketization (D.state packets.new.depacketizer) packets.new.expected
+        place.new (map access_unit_value out.new.items)
+        ≡ after_taken_rtp packets.old.run_limit (unit_depacketization
+        (D.state packets.old.depacketizer) packets.old.expected place.old
+        (map access_unit_value out.old.items))
+        packet.now }
+    ensures rest { is_taken result ≡ true → D.with_run None packets.new.depacketizer
+        ≡ D.with_run None (D.having_taken packet.now.1.payload packets.old.depacketizer) }
+    ensures limit { packets.new.run_limit ≡ packets.old.run_limit }
+    ensures bounded { run_len (D.state packets.old.depacketizer).run ≤ packets.old.run_limit →
+        run_len (D.state packets.new.depacketizer).run ≤ packets.old.run_limit }
+    ensures kept { MatchBool (is_taken result) (Unit {0}) ((packets.new ≡ packets.old)
+        × (place.new ≡ place.old) × (out.new.items ≡ out.old.items)) }
+{
+    match place.take_at(packet.timestamp) {
+        Some(unit) => go_on(packets, place, unit, packet, out),
+        None => begin(alloc, packets, place, packet, out),
+    }
+}
+
 /// Gives out access units, by the timestamps and markers of RTP packets (RFC 3550, 5.1), over a
 /// [`SequencedDepacketizer`]: nothing of a unit of which a packet is missing, and of each access unit
 /// whether it is known to be whole.
@@ -173,7 +209,7 @@ fn begin<D: RunDepacketizer>(
 /// ```rust
 /// let depacketizer = H264Depacketizer::new(alloc);
 /// let packets = SequencedDepacketizer::new(alloc, depacketizer, 4_000_000);
-/// let mut receiver = FrameReceiver::new(alloc, packets);
+/// let mut receiver = FrameReceiver::new(alloc, packets, 8_000_000);
 /// let packet = RtpPacket { sequence, timestamp, marker, payload };
 /// receiver.receive(&packet, &mut units)?;
 /// for unit in units.drain(..) {
@@ -188,19 +224,23 @@ pub struct FrameReceiver<D: RunDepacketizer> {
     pub packets: SequencedDepacketizer<D>,
     /// The access unit that is open.
     pub unit: OpenAccessUnit,
+    /// How many bytes the text of an open access unit may hold from a packet to the next.
+    pub unit_limit: usize,
     alloc: Global,
 }
 
 impl<D: RunDepacketizer> FrameReceiver<D> {
     /// A receiver for which no access unit is open. A run that is open in the depacketizer is given
     /// up with the first packet. It takes no memory.
-    pub fn new(alloc: Global, packets: SequencedDepacketizer<D>) -> Self
+    pub fn new(alloc: Global, packets: SequencedDepacketizer<D>, unit_limit: usize) -> Self
         ensures packets { result.packets ≡ packets }
         ensures unit { result.unit ≡ None }
+        ensures limit { result.unit_limit ≡ unit_limit }
     {
         FrameReceiver {
             packets,
             unit: OpenAccessUnit::none(),
+            unit_limit,
             alloc,
         }
     }
@@ -213,9 +253,9 @@ impl<D: RunDepacketizer> FrameReceiver<D> {
     /// or is refused changes nothing, nor `out`: it is as if it had not come, and one refused for
     /// want of memory can be given again. The errors are those of the depacketizer.
     ///
-    /// The open run is within its limit after each packet. The access unit that is open holds what
-    /// its packets complete, and a peer that sends neither a marker nor another timestamp makes it as
-    /// long as it likes: against such a peer look at `unit.bytes_len()`, and `restart`.
+    /// The open run is within its limit after each packet, and so is the text of the access unit that
+    /// is open: where it is longer, as where a peer sends neither a marker nor another timestamp, it
+    /// is given up, and what follows of that access unit is not told to be whole.
     pub fn receive(
         &mut self,
         packet: &RtpPacket<'_>,
@@ -227,18 +267,21 @@ impl<D: RunDepacketizer> FrameReceiver<D> {
             (map access_unit_value out.old.items)) packet.now result }
         ensures after { unit_depacketization (D.state self.new.packets.depacketizer)
             self.new.packets.expected self.new.unit (map access_unit_value out.new.items)
-            ≡ after_rtp self.old.packets.run_limit (unit_depacketization
+            ≡ after_rtp self.old.packets.run_limit self.old.unit_limit (unit_depacketization
             (D.state self.old.packets.depacketizer) self.old.packets.expected self.old.unit
             (map access_unit_value out.old.items)) packet.now result }
         ensures rest { is_taken result ≡ true → D.with_run None self.new.packets.depacketizer
             ≡ D.with_run None (D.having_taken packet.now.1.payload
             self.old.packets.depacketizer) }
         ensures limit { self.new.packets.run_limit ≡ self.old.packets.run_limit }
+        ensures unit_limit { self.new.unit_limit ≡ self.old.unit_limit }
 
-        // The open run is within the limit.
+        // The open run is within its limit, and the open access unit within its own.
         ensures bounded { run_len (D.state self.old.packets.depacketizer).run
             ≤ self.old.packets.run_limit →
             run_len (D.state self.new.packets.depacketizer).run ≤ self.old.packets.run_limit }
+        ensures bounded_unit { unit_len self.old.unit ≤ self.old.unit_limit →
+            unit_len self.new.unit ≤ self.old.unit_limit }
 
         // A late packet and a refusal leave everything.
         ensures late { (n : ℕ) → result ≡ Ok (Received.Late n) → self.new ≡ self.old }
@@ -248,10 +291,11 @@ impl<D: RunDepacketizer> FrameReceiver<D> {
         ensures kept_out { OnErr result (out.new.items ≡ out.old.items) }
     {
         out.reserve(2)?;
-        match self.unit.take_at(packet.timestamp) {
-            Some(unit) => go_on(&mut self.packets, &mut self.unit, unit, packet, out),
-            None => begin(self.alloc, &mut self.packets, &mut self.unit, packet, out),
+        let received = take(self.alloc, &mut self.packets, &mut self.unit, packet, out);
+        if was_taken(&received) {
+            self.unit.limit(self.alloc, self.unit_limit);
         }
+        received
     }
 
     /// At the end of a stream: appends the access unit that is open, which isn't known to be whole,
@@ -266,6 +310,7 @@ impl<D: RunDepacketizer> FrameReceiver<D> {
         ensures rest { OnOk result (self.new.packets.depacketizer
             ≡ D.with_run None self.old.packets.depacketizer) }
         ensures limit { self.new.packets.run_limit ≡ self.old.packets.run_limit }
+        ensures unit_limit { self.new.unit_limit ≡ self.old.unit_limit }
         ensures memory { OnErr result (result ≡ Err PacketError.OutOfMemory) }
         ensures kept { OnErr result (self.new ≡ self.old) }
         ensures kept_out { OnErr result (out.new.items ≡ out.old.items) }
@@ -284,6 +329,7 @@ impl<D: RunDepacketizer> FrameReceiver<D> {
             ≡ D.with_run None self.old.packets.depacketizer }
         ensures expected { self.new.packets.expected ≡ None }
         ensures limit { self.new.packets.run_limit ≡ self.old.packets.run_limit }
+        ensures unit_limit { self.new.unit_limit ≡ self.old.unit_limit }
         ensures unit { self.new.unit ≡ None }
     {
         self.packets.restart();

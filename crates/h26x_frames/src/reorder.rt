@@ -33,8 +33,8 @@ fn take_all(buffer: &mut ReorderBuffer, out: &mut Vec<HeldPacket>) -> Result<(),
     Ok(())
 }
 
-/// Puts packets in the order of their sequence numbers through a buffer with this window, at most
-/// 2^14: those that come late or twice are left out.
+/// Puts packets in the order of their sequence numbers through a buffer with this window, 1 to 2^14:
+/// those that come late or twice are left out.
 pub fn reorder_all(
     alloc: Global,
     window: u16,

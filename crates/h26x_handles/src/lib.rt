@@ -1,6 +1,7 @@
 //! What stands behind a handle of the C library: a packetizer with the packets of its last call, or
-//! a depacketizer, or a receiver of packets with their sequence numbers, with what its last accepted
-//! packet completed; the numbers by which calls answer, and the copies into a caller's buffers.
+//! a depacketizer, or a receiver of packets with their sequence numbers, each with what its last
+//! packet completed and had no room for in the caller's memory; the numbers by which calls answer,
+//! and the copies into a caller's buffers.
 #![tactic(auto)]
 
 pub mod code;

@@ -33,7 +33,7 @@ impl Receiver {
     fn new(alloc: Global, codec: Codec) -> Self {
         let packets = SequencedDepacketizer::new(alloc, AnyDepacketizer::new(alloc, codec), 1000);
         Receiver {
-            it: FrameReceiver::new(alloc, packets),
+            it: FrameReceiver::new(alloc, packets, 1000),
             out: Vec::new(alloc),
         }
     }

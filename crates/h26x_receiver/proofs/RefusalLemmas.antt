@@ -26,11 +26,11 @@ abbrev refused : PacketError → Result (Unit {0}) PacketError
 refused e = Err e
 
 -- as an answer of a receiver
-abbrev no_answer : PacketError → Result Received PacketError
+abbrev pub no_answer : PacketError → Result Received PacketError
 no_answer e = Err e
 
 -- what holds of each holds of the one at a place
-at_place : {A : Type 0} (P : A → Type 0) (xs : List A) (i : ℕ) (d : A) → AllByRecursion P xs → i < length xs → P (get_or xs i d)
+pub at_place : {A : Type 0} (P : A → Type 0) (xs : List A) (i : ℕ) (d : A) → AllByRecursion P xs → i < length xs → P (get_or xs i d)
 at_place P [] i d all within = absurd (omega arith)
 at_place P (x ∷ xs) zero d all within = all.0
 at_place P (x ∷ xs) (suc i) d all within = at_place P xs i d all.1 (omega arith)
@@ -52,7 +52,7 @@ cause_of avc run (Fragment start end head number body) e read outcome = by_lengt
 cause_of avc run (Paci head fields extension body) e read outcome = by_length avc (list_any is_too_long (reading_units run (Paci head fields extension body))) e outcome
 
 -- the same of an answer
-want_of : (late : Bool) (avc : Bool) (run : Option (List ℕ)) (reading : Reading) (e : PacketError) (answer : Received) → IsRead reading →
+pub want_of : (late : Bool) (avc : Bool) (run : Option (List ℕ)) (reading : Reading) (e : PacketError) (answer : Received) → IsRead reading →
     MatchBool late (no_answer e ≡ accepted answer) (IsReadingOutcome avc run reading (Err e) × Unit {0}) → IsWantOrTooLong avc (Err e)
 want_of true avc run reading e answer read h = absurd cc
 want_of false avc run reading e answer read h = cause_of avc run reading e read h.0

@@ -39,6 +39,7 @@ any_depacketizer_with_run run (a.H266 it) = a.H266 (record it { run = run })
 abbrev pub any_depacketizer_meaning : AnyDepacketizer → List (List ℕ)
 any_depacketizer_meaning it = depacketizer_meaning (any_depacketizer_state it)
 
+-- its codec
 abbrev pub any_depacketizer_codec : AnyDepacketizer → Codec
 any_depacketizer_codec (a.H264 it) = c.H264
 any_depacketizer_codec (a.H265 it) = c.H265

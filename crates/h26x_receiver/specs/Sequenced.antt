@@ -85,6 +85,13 @@ after_answers most s (p ∷ packets) (answer ∷ answers) = after_answers most
     (after_answer most s p.0 p.1 answer) packets answers
 after_answers most s packets answers = s
 
+-- a depacketizer, or what else changes with each packet that is taken, once those that were taken are
+abbrev pub having_taken_all : {A : Type 0} → (List ℕ → A → A) → List (List ℕ) →
+    List (Result Received PacketError) → A → A
+having_taken_all having (packet ∷ packets) (answer ∷ answers) it =
+    having_taken_all having packets answers (if is_taken answer then having packet it else it)
+having_taken_all having packets answers it = it
+
 -- one answer for each packet, by what those before it left
 abbrev pub HaveSequencedAnswers : ℕ → SequencedDepacketization → List (ℕ × List ℕ) →
     List (Result Received PacketError) → Type 0

@@ -1,20 +1,23 @@
 //! A depacketizer of one of the codecs, chosen when it is made.
 
-ghost use Rattle.std.specs.Prelude.{◌≡◌, [], ◌∷◌, false, Some, None, Err, IfOk, OnErr, OnOk, refl};
+ghost use Rattle.std.specs.Prelude.{◌≡◌, [], ◌∷◌, false, Some, None, Err, IfOk, IsOk, OnErr, OnOk, true, refl};
 ghost use Rattle.std.specs.Option.{option_map};
 ghost use Rattle.h26x_core.specs.Front.{IsFrontOf};
 ghost use Rattle.h26x_core.specs.H264AccessUnit.{may_begin_h264};
 ghost use Rattle.h26x_core.specs.Hint.{size_hint};
 ghost use Rattle.h26x_model.specs.Payload.TwoBytes.{is_two_byte_fragment};
+ghost use Rattle.h26x_model.specs.Receive.Outcome.{is_startless};
 ghost use Rattle.h26x_model.specs.Receive.DepacketizerState.{after_packets, IsPacketOutcome};
 ghost use Rattle.h26x_payload.specs.AccessUnit.{may_begin, is_last};
 ghost use Rattle.h26x_payload.specs.DepacketizerView.{DepacketizerView};
 ghost use Rattle.h26x_payload.specs.UnitSink.{grown_to};
 ghost use Rattle.h264_payload.specs.declared.packetizer.H264.{H264};
+ghost use Rattle.h264_payload.specs.H264.{h264};
 ghost use Rattle.h265_payload.specs.DepacketizerView.{H265DepacketizerView};
 ghost use Rattle.h265_payload.specs.H265.{h265_header};
 ghost use Rattle.h266_payload.specs.declared.packetizer.H266.{H266};
 ghost use Rattle.h266_payload.specs.H266.{h266_header};
+ghost use Rattle.h266_payload.specs.Setting.{setting_format};
 ghost use Rattle.h26x_codec.specs.Codec.{default_format, fresh_depacketizer_state};
 ghost use Rattle.h26x_receiver.specs.AnyDepacketizer.{any_depacketizer_state, any_depacketization, any_depacketizer_with_run, any_depacketizer_meaning, any_depacketizer_codec, any_depacketizer_avc, any_depacketizer_with_avc, any_depacketizer_with_donl, fresh_any_depacketizer, any_depacketizer_shown, any_depacketizer_showing, are_same_depacketizers};
 ghost use Rattle.h26x_receiver.specs.declared.any.AnyDepacketizer.TheVariants as a;
@@ -141,7 +144,8 @@ impl AnyDepacketizer {
 
     /// Takes a packet as `depacketize` does, and writes the units that it completes to a list of
     /// bytes or to memory of a caller. Where that has no room for them the error is `OutOfMemory`;
-    /// a refusal leaves everything, the memory too.
+    /// a refusal leaves everything, the memory too. A fragment without a start before it is accepted
+    /// and completes nothing, and of H.264 and H.266 it takes no memory.
     #[inline]
     pub fn depacketize_into<W: UnitSink>(
         &mut self,
@@ -159,6 +163,10 @@ impl AnyDepacketizer {
         ensures accepted { OnOk result (IsFrontOf (W.sink out.old).bytes (W.sink out.new).bytes) }
         ensures rest { OnOk result (any_depacketizer_with_run None self.new
             ≡ any_depacketizer_with_run None (any_depacketizer_showing packet.now self.old)) }
+        ensures startless_h264 { (it : DepacketizerView H264) → self.old ≡ a.H264 it →
+            is_startless it.run (h264.read packet.now) ≡ true → IsOk result }
+        ensures startless_h266 { (it : DepacketizerView H266) → self.old ≡ a.H266 it →
+            is_startless it.run ((setting_format it.codec).read packet.now) ≡ true → IsOk result }
         ensures kept { OnErr result (self.new ≡ self.old) }
         ensures kept_sink { OnErr result (W.sink out.new ≡ W.sink out.old) }
         ensures kept_extra { OnErr result (codec_extra.new ≡ codec_extra.old) }
@@ -200,6 +208,10 @@ impl Depacketizer for AnyDepacketizer {
             codec_extra.old) (packet.now ∷ [])) }
         ensures rest { OnOk result (any_depacketizer_with_run None self.new
             ≡ any_depacketizer_with_run None (any_depacketizer_showing packet.now self.old)) }
+        ensures startless_h264 { (it : DepacketizerView H264) → self.old ≡ a.H264 it →
+            is_startless it.run (h264.read packet.now) ≡ true → IsOk result }
+        ensures startless_h266 { (it : DepacketizerView H266) → self.old ≡ a.H266 it →
+            is_startless it.run ((setting_format it.codec).read packet.now) ≡ true → IsOk result }
         ensures kept { OnErr result (self.new ≡ self.old) }
         ensures accepted { OnOk result (IsFrontOf out.old.items out.new.items) }
         ensures kept_out { OnErr result (out.new.items ≡ out.old.items) }

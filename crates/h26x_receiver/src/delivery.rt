@@ -1,11 +1,11 @@
 //! Packets with their sequence numbers, any whatever, through a receiver.
 
-ghost use Rattle.std.specs.Prelude.{◌≡◌, ◌≤◌, IfOk, OnErr, Err, length, vec_len, None};
+ghost use Rattle.std.specs.Prelude.{◌≡◌, ◌≤◌, IfOk, OnErr, Err, length, map, vec_len, None};
 ghost use Rattle.h26x_core.specs.Front.{IsFrontOf};
 ghost use Rattle.h26x_model.specs.Receive.DepacketizerState.{depacketization};
 ghost use Rattle.h26x_model.specs.Receive.RunLimit.{run_len};
 ghost use Rattle.h26x_receiver.specs.Delivery.{sequenced_packets, NoneIsRefused, NoneIsRefusedForWhatItIs, WholeUnitsAreWritten, ThoseThatCameAreWritten};
-ghost use Rattle.h26x_receiver.specs.Sequenced.{sequenced_depacketization, AreAllReceived};
+ghost use Rattle.h26x_receiver.specs.Sequenced.{sequenced_depacketization, AreAllReceived, having_taken_all};
 
 use crate::received::Received;
 use crate::run::RunDepacketizer;
@@ -55,6 +55,12 @@ pub fn receive_all<D: RunDepacketizer>(
     ensures refusals { IfOk result (λ answers. NoneIsRefusedForWhatItIs
         (depacketization (D.state receiver.old.depacketizer) out.old.items codec_extra.old)
         (sequenced_packets packets.now) answers.items) }
+
+    // What else the packets that were taken change, as what a depacketizer of H.265 shows.
+    ensures rest { IfOk result (λ answers. D.with_run None receiver.new.depacketizer
+        ≡ D.with_run None (having_taken_all D.having_taken
+        (map (λ p. p.1) (sequenced_packets packets.now)) answers.items
+        receiver.old.depacketizer)) }
 
     // The run that is open is within the limit.
     ensures bounded { run_len (D.state receiver.old.depacketizer).run ≤ receiver.old.run_limit →

@@ -18,8 +18,7 @@ use h266_payload::H266;
 /// A depacketizer whose open run may be measured, exchanged and given up: those of the codecs, and a
 /// caller's own that implements this.
 ///
-/// An implementation names its state, itself with another run, and itself once it
-/// has taken a packet.
+/// An implementation names its state, itself with another run, and itself once it has taken a packet.
 pub trait RunDepacketizer: Depacketizer {
     ghost state: { Self → DepacketizerState };
 

@@ -1,15 +1,15 @@
-use Rattle.std.proofs.Common.{rules, ◌≡◌, ◌∙◌, ap, sym, subst, map, Bool, true, false, cond, ℕ, List, [], ◌∷◌, None, Some, ◌++◌}
+use Rattle.std.proofs.Common.{◌≡◌, ◌∙◌, ap, sym, subst, map, Bool, false, cond, ℕ, List, [], ◌∷◌, None, Some, ◌++◌}
 use Rattle.h26x_core.specs.declared.extra.CodecExtra.{CodecExtra}
 use Rattle.h26x_core.specs.declared.extra.CodecExtra.TheVariants as extras
 use Rattle.h26x_model.specs.Receive.RunLimit.{state_with_run}
 use Rattle.h26x_receiver.specs.Sequenced.{sequenced_depacketization, is_taken, after_taken_packet, IsSequencedAnswer}
 use Rattle.h26x_frames.specs.Rtp.{RtpBody, rtp_body}
-use Rattle.h26x_frames.specs.AccessUnit.{AccessUnitValue, access_unit_value, empty_unit, whole_if, given_out, unit_depacketization, is_run_too_long, is_unit_at, after_rtp}
+use Rattle.h26x_frames.specs.AccessUnit.{AccessUnitValue, access_unit_value, empty_unit, whole_if, given_out, unit_depacketization, is_run_too_long, is_unit_at, after_taken_rtp}
 use Rattle.h26x_frames.proofs.TakeLemmas.{begins_taken, filled, with_unit, when_true, same_parts, same_unit}
 use Rattle.h26x_frames.proofs.receiver.begin.Goals as goal
 
 pub returns-clause-after : goal.returns-clause-after
-returns-clause-after g c =
+returns-clause-after g c = λ taken.
     let inside = c.packet.inside in
     let p : ℕ × RtpBody = (inside.sequence, rtp_body inside.timestamp inside.marker inside.payload.now) in
     let view : c.args.packet.now ≡ p = sym c.packet.view_is in
@@ -24,7 +24,6 @@ returns-clause-after g c =
     let unit = c.receive_anew-received.new.unit in
     let r = c.receive_anew-received.result in
     let heard = c.receive_anew-received.ensures in
-    let taken : is_taken r ≡ true = search rules in
     let none = state_with_run (state old.depacketizer) None in
     let s = sequenced_depacketization none old.expected [] extras.None in
     let no_bytes : before.bytes.items ≡ [] = ap (λ (v : AccessUnitValue). v.bytes) empty in
@@ -51,4 +50,4 @@ returns-clause-after g c =
     ∙ ap (λ (b : Bool). with_unit work (ended ++ given_out b place) inside.marker (whole_if sound (filled (empty_unit p.1.timestamp) work))) follows
     ∙ begins_taken most (state old.depacketizer) old.expected place ended p r sound work
     other taken answer after (c.is_sound-is_sound.ensures ∙ ap (λ (b : Bool). cond (is_run_too_long r) false b) follows)
-    ∙ ap (λ (q : ℕ × RtpBody). after_rtp most (unit_depacketization (state old.depacketizer) old.expected place ended) q r) (sym view)
+    ∙ ap (λ (q : ℕ × RtpBody). after_taken_rtp most (unit_depacketization (state old.depacketizer) old.expected place ended) q) (sym view)

@@ -1,11 +1,14 @@
-use Rattle.std.proofs.Common.{rules, arith, ◌≡◌, ◌∙◌, ◌<◌, ◌≤◌, ◌++◌, ◌∷◌, [], sym, ℕ, Option, length, subst}
+use Rattle.std.proofs.Common.{rules, arith, ◌≡◌, ◌∙◌, ◌<◌, ◌≤◌, ◌++◌, ◌∷◌, [], sym, ap, ℕ, List, Option, None, get_or, map, length, subst}
 use Rattle.std.proofs.lemmas.Grind.{common_steps}
-use Rattle.std.proofs.lemmas.List.{length-map}
+use Rattle.std.proofs.lemmas.List.{length-map, get_or-map, take_all}
+use Rattle.std.specs.Prelude.{OnErr}
 use Rattle.h26x_model.specs.Receive.RunLimit.{run_len}
 use Rattle.h26x_model.specs.Receive.DepacketizerState.{depacketization}
 use Rattle.h26x_receiver.specs.Delivery.{sequenced_packets}
-use Rattle.h26x_receiver.specs.Sequenced.{with_expected, sequenced_depacketization, IsSequencedAnswer, after_answer, AreAllReceived}
-use Rattle.h26x_receiver.proofs.AnswerLemmas.{received_more, received_to_end, pair_at, still_front}
+use Rattle.h26x_receiver.specs.Sequenced.{with_expected, sequenced_depacketization, IsSequencedAnswer, after_answer, AreAllReceived, having_taken_all}
+use Rattle.h26x_receiver.specs.declared.received.Received.TheVariants.{Late}
+use Rattle.h26x_receiver.proofs.AnswerLemmas.{accepted, received_more, received_to_end, pair_at, still_front}
+use Rattle.h26x_receiver.proofs.TakenLemmas.{taken_on}
 use Rattle.h26x_receiver.proofs.DeliveryLemmas.{whole_written}
 use Rattle.h26x_receiver.proofs.OrderLemmas.{came_written}
 use Rattle.h26x_receiver.proofs.RefusalLemmas.{refusals_are_want}
@@ -21,6 +24,13 @@ loop-sequence-preserved g c =
     let state = g.D.RunDepacketizer.state in
     let within : i < length packets = rw length-map c.loop-sequence-test.true in
     let same_limit = c.loop-sequence.invariant.limit in
+    let payloads = map (λ (p : ℕ × List ℕ). p.1) packets in
+    let pair = pair_at c.args.packets.now i item c.deref.result.now c.loop-sequence-test.true c.loop-sequence-item.is c.deref.ensures.value in
+    let within_payloads : i < length payloads = rw length-map within in
+    let payload : get_or payloads i c.deref.result.now ≡ c.deref.result.now = get_or-map (λ (p : ℕ × List ℕ). p.1) packets i (item.0, c.deref.result.now) c.deref.result.now within ∙ ap (λ (p : ℕ × List ℕ). p.1) pair in
+    let count : length c.loop-sequence.answers.items ≡ i = search rules in
+    let late : (n : ℕ) → o ≡ accepted (Late n) → c.receive-answer.new.self.depacketizer ≡ c.loop-sequence.receiver.depacketizer = λ n is. ap (λ s. s.depacketizer) (c.receive-answer.ensures.late n is) in
+    let kept : OnErr o (c.receive-answer.new.self.depacketizer ≡ c.loop-sequence.receiver.depacketizer) = search rules in
     let old = sequenced_depacketization (state c.loop-sequence.receiver.depacketizer) c.loop-sequence.receiver.expected c.loop-sequence.out.items c.loop-sequence.codec_extra in
     let new = sequenced_depacketization (state c.receive-answer.new.self.depacketizer) c.receive-answer.new.self.expected c.receive-answer.new.out.items c.receive-answer.new.codec_extra in
     record {
@@ -31,8 +41,11 @@ loop-sequence-preserved g c =
       bounded = λ short.
           subst (λ (m : ℕ). run_len (state c.receive-answer.new.self.depacketizer).run ≤ m) same_limit
           (c.receive-answer.ensures.bounded (subst (λ (m : ℕ). run_len (state c.loop-sequence.receiver.depacketizer).run ≤ m) (sym same_limit) (c.loop-sequence.invariant.bounded short)));
+      rest = rw pushed (taken_on g.D.RunDepacketizer.with_run g.D.RunDepacketizer.having_taken payloads i c.deref.result.now c.loop-sequence.answers.items o c.args.receiver.now.depacketizer
+          c.loop-sequence.receiver.depacketizer c.receive-answer.new.self.depacketizer within_payloads payload count (g.met.D.RunDepacketizer.taken_beside c.deref.result.now) c.loop-sequence.invariant.rest
+          c.receive-answer.ensures.rest late kept);
       received = rw pushed (received_more c.args.receiver.now.run_limit _ packets i c.loop-sequence.answers.items o (item.0, c.deref.result.now) old new
-          within (pair_at c.args.packets.now i item c.deref.result.now c.loop-sequence-test.true c.loop-sequence-item.is c.deref.ensures.value) c.loop-sequence.invariant.received
+          within pair c.loop-sequence.invariant.received
           (subst (λ (m : ℕ). IsSequencedAnswer m old item.0 c.deref.result.now o) same_limit c.receive-answer.ensures.answer)
           (subst (λ (m : ℕ). new ≡ after_answer m old item.0 c.deref.result.now o) same_limit c.receive-answer.ensures.after));
     }
@@ -66,3 +79,11 @@ returns-clause-refusals g c =
     let w = depacketization (g.D.RunDepacketizer.state c.args.receiver.now.depacketizer) c.args.out.now.items c.args.codec_extra.now in
     refusals_are_want c.args.receiver.now.run_limit w c.args.receiver.now.expected (sequenced_packets c.args.packets.now) c.loop-sequence.answers.items
     c.what_calls_send_is_carried.ensures c.meets_the_facts.ensures (returns-clause-received g c).each
+
+pub returns-clause-rest : goal.returns-clause-rest
+returns-clause-rest g c =
+    let payloads = map (λ (p : ℕ × List ℕ). p.1) (sequenced_packets c.args.packets.now) in
+    let past : length payloads ≤ c.loop-sequence.sequence-index = rw (length-map, length-map) c.loop-sequence-test.false in
+    subst (λ (l : List (List ℕ)). g.D.RunDepacketizer.with_run None c.loop-sequence.receiver.depacketizer
+    ≡ g.D.RunDepacketizer.with_run None (having_taken_all g.D.RunDepacketizer.having_taken l c.loop-sequence.answers.items c.args.receiver.now.depacketizer))
+    (take_all c.loop-sequence.sequence-index payloads past) c.loop-sequence.invariant.rest
