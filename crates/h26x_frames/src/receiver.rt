@@ -9,8 +9,7 @@ ghost use Rattle.h26x_frames.specs.AccessUnit.{access_unit_value, is_unit_at, un
 use crate::access_unit::{AccessUnit, OpenAccessUnit};
 use crate::packet::RtpPacket;
 use h26x_core::PacketError;
-use h26x_payload::OpenRun;
-use h26x_receiver::{Received, RunDepacketizer, SequencedDepacketizer};
+use h26x_receiver::{Received, RunDepacketizer, SequencedDepacketizer, take_run};
 use std::alloc::Global;
 
 /// Whether a sequence number is the one expected.
@@ -68,8 +67,7 @@ fn receive_anew<D: RunDepacketizer>(
     ensures same { (unit.new.timestamp ≡ unit.old.timestamp)
         × (unit.new.is_whole ≡ unit.old.is_whole) }
 {
-    let mut run = OpenRun::none(alloc);
-    packets.depacketizer.swap_run(&mut run);
+    let mut run = take_run(alloc, &mut packets.depacketizer);
     let received = packets.receive(
         packet.sequence,
         packet.payload,

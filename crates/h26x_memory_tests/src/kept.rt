@@ -6,6 +6,7 @@ use h26x_codec::Codec;
 use h26x_core::{CodecExtra, Depacketizer, PacketError};
 use h26x_handles::receiving::ReceivingEndpoint;
 use h26x_handles::sending::SendingEndpoint;
+use h26x_receiver::{RunDepacketizer, SequencedDepacketizer};
 use h264_payload::H264Depacketizer;
 use h265_payload::H265Depacketizer;
 use h266_payload::H266Depacketizer;
@@ -128,6 +129,40 @@ fn packets_of_an_endpoint_into_kept_buffers(rt: HostRuntime) {
         }
     }
     assert!(rt; it.packetize(20, &UNIT).is_ok());
+}
+
+/// Whether each of these packets is taken, numbered on from this number.
+fn takes<D: RunDepacketizer>(
+    it: &mut SequencedDepacketizer<D>,
+    out: &mut Vec<u8>,
+    mut sequence: u16,
+    packets: &[&[u8]],
+) -> bool {
+    out.clear();
+    for packet in packets {
+        if it
+            .receive(sequence, packet, out, &mut CodecExtra::None)
+            .is_err()
+        {
+            return false;
+        }
+        sequence += 1;
+    }
+    true
+}
+
+/// Units in fragments, with packets missing between one and the next.
+#[test]
+fn fragments_behind_gaps_into_kept_buffers(rt: HostRuntime) {
+    let depacketizer = H264Depacketizer::new(rt.alloc());
+    let mut it = SequencedDepacketizer::new(rt.alloc(), depacketizer, 1000);
+    let mut out = Vec::new(rt.alloc());
+    let start = fragment(&[0x7c, 0x85, 1], 9);
+    let middle = longer_fragment(&[0x7c, 0x05, 1], 8);
+    let packets: [&[u8]; 3] = [&start, &middle, &[0x7c, 0x45, 2]];
+    if takes(&mut it, &mut out, 10, &packets) && takes(&mut it, &mut out, 20, &packets) {
+        assert!(rt; takes(&mut it, &mut out, 30, &packets));
+    }
 }
 
 /// Begins a run, gives it up, and begins another, which needs a buffer again.

@@ -24,5 +24,5 @@ mod sequenced;
 pub use any::AnyDepacketizer;
 pub use delivery::receive_all;
 pub use received::Received;
-pub use run::{LawfulReader, RunDepacketizer};
+pub use run::{LawfulReader, RunDepacketizer, take_run};
 pub use sequenced::SequencedDepacketizer;

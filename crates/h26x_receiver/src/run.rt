@@ -14,6 +14,7 @@ use h26x_payload::{OpenRun, PacketReader, PayloadDepacketizer, UnitSink};
 use h264_payload::H264;
 use h265_payload::H265Depacketizer;
 use h266_payload::H266;
+use std::alloc::Global;
 
 /// A depacketizer whose open run may be measured, exchanged and given up: those of the codecs, and a
 /// caller's own that implements this.
@@ -78,6 +79,20 @@ pub trait RunDepacketizer: Depacketizer {
 
     ghost taken_beside: { (packet : List ℕ) (run : Option (List ℕ)) (it : Self) →
         having_taken packet (with_run run it) ≡ with_run run (having_taken packet it) };
+}
+
+/// Takes out the open run, for a packet that is to be taken without it. Where none is open a
+/// depacketizer keeps its buffer, for the next one.
+pub fn take_run<D: RunDepacketizer>(alloc: Global, depacketizer: &mut D) -> OpenRun
+    ensures run { result ≡ (D.state depacketizer.old).run }
+    ensures rest { depacketizer.new ≡ D.with_run None depacketizer.old }
+{
+    let mut run = OpenRun::none(alloc);
+    depacketizer.swap_run(&mut run);
+    if !run.is_open() {
+        depacketizer.swap_run(&mut run);
+    }
+    run
 }
 
 /// A codec whose format meets the facts on which the laws of every format stand, whatever its

@@ -9,10 +9,10 @@ ghost use Rattle.h26x_receiver.specs.Sequence.{missing_count, is_expected};
 ghost use Rattle.h26x_receiver.specs.Sequenced.{sequenced_depacketization, with_run_if, after_sequenced_packet, IsSequencedAnswer, after_answer, is_taken};
 
 use crate::received::Received;
-use crate::run::RunDepacketizer;
+use crate::run::{RunDepacketizer, take_run};
 use h26x_core::{CodecExtra, PacketError};
 use h26x_model::laws;
-use h26x_payload::{OpenRun, UnitSink};
+use h26x_payload::UnitSink;
 use std::alloc::Global;
 
 /// How far ahead of the expected number a number is taken as behind it: half of the circle (RFC
@@ -51,8 +51,7 @@ fn take_anew<D: RunDepacketizer, W: UnitSink>(
     ensures kept_sink { OnErr result (W.sink out.new ≡ W.sink out.old) }
     ensures kept_extra { OnErr result (codec_extra.new ≡ codec_extra.old) }
 {
-    let mut run = OpenRun::none(alloc);
-    depacketizer.swap_run(&mut run);
+    let mut run = take_run(alloc, depacketizer);
     match depacketizer.take(packet, out, codec_extra) {
         Ok(()) => Ok(()),
         Err(error) => {
