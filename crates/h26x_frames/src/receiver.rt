@@ -228,8 +228,9 @@ pub struct FrameReceiver<D: RunDepacketizer> {
 }
 
 impl<D: RunDepacketizer> FrameReceiver<D> {
-    /// A receiver for which no access unit is open. A run that is open in the depacketizer is given
-    /// up with the first packet. It takes no memory.
+    /// A receiver for which no access unit is open; from a packet to the next the text of one that is
+    /// may hold `unit_limit` bytes. A run that is open in the depacketizer is given up with the first
+    /// packet. It takes no memory.
     pub fn new(alloc: Global, packets: SequencedDepacketizer<D>, unit_limit: usize) -> Self
         ensures packets { result.packets ≡ packets }
         ensures unit { result.unit ≡ None }
