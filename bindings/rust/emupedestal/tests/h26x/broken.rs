@@ -1,7 +1,7 @@
 //! Files that are broken, or none of those that are wanted: a sentence and a status each, and nothing
 //! under the name of the output.
 
-use crate::build::{Order, Rtp, pcap_of, pcap_with, three_packets};
+use crate::build::{Order, Rtp, THREE_UNITS, pcap_of, pcap_with, three_packets};
 use crate::program::{Folder, Ran, small_streams};
 use std::fs;
 use std::os::unix::fs::symlink;
@@ -120,7 +120,7 @@ fn another_codec() {
                 .says(1, &["this stream is no H.26"]);
             folder
                 .run(&["send", &input, "other.pcap", "--codec", other])
-                .says(1, &["this stream is no H.26"]);
+                .says(1, &["this stream is no H.26", &say_codec]);
             assert_eq!(folder.names(), [input.as_str(), "out.pcap"]);
         }
     }
@@ -251,18 +251,50 @@ fn no_permission() {
     assert!(ran.err.contains("h26x: /proc/out.h264: "), "{ran:#?}");
 }
 
-/// What a link names is written, and the link stays.
+/// What a link names is written, and the link stays; also where that isn't there yet.
 #[test]
 fn a_link_as_output() {
     let folder = Folder::new();
     folder.write("in.pcap", &pcap_with(&three_packets()));
     folder.write("real.h264", b"before");
-    symlink("real.h264", folder.path("link.h264")).expect("a link");
-    folder
-        .run(&["receive", "in.pcap", "link.h264"])
-        .says(0, &[]);
-    assert!(folder.path("link.h264").is_symlink());
-    assert_eq!(folder.read("real.h264"), crate::build::THREE_UNITS);
+    for (link, real) in [("link.h264", "real.h264"), ("other.h264", "new.h264")] {
+        symlink(real, folder.path(link)).expect("a link");
+        folder.run(&["receive", "in.pcap", link]).says(0, &[]);
+        assert!(folder.path(link).is_symlink());
+        assert_eq!(folder.read(real), THREE_UNITS);
+    }
+}
+
+/// Standard output is what the shell made it: what stands in a file stays, and what is written goes
+/// behind it.
+#[test]
+fn standard_output() {
+    let folder = Folder::new();
+    folder.write("in.pcap", &pcap_with(&three_packets()));
+    let receive = "\"$0\" receive in.pcap /dev/stdout --codec h264";
+    folder.write("all", b"before");
+    folder.shell(&format!("{receive} >>all")).says(0, &[]);
+    let both = [b"before", &THREE_UNITS[..]].concat();
+    assert_eq!(folder.read("all"), both);
+    let twice = format!("{{ {receive}; {receive}; printf end; }} >twice");
+    folder.shell(&twice).says(0, &[]);
+    assert_eq!(
+        folder.read("twice"),
+        [&THREE_UNITS[..], &THREE_UNITS, b"end"].concat()
+    );
+    assert_eq!(folder.names(), ["all", "in.pcap", "twice"]);
+}
+
+/// What one left that was killed is in nobody's way: here it has the number of the one that comes.
+#[test]
+fn a_part_that_was_left() {
+    let folder = Folder::new();
+    folder.write("in.pcap", &pcap_with(&three_packets()));
+    let receive = "exec \"$0\" receive in.pcap out.h264";
+    let left = format!("printf left >.out.h264.$$.part; {receive}");
+    folder.shell(&left).says(0, &[]);
+    assert_eq!(folder.read("out.h264"), THREE_UNITS);
+    assert_eq!(folder.names().len(), 3, "{:?}", folder.names());
 }
 
 #[test]
@@ -318,6 +350,14 @@ fn words_that_are_unknown() {
         (
             &["inspect", "a.pcap", "--payload-type", "128"],
             "--payload-type 128: give a number from 0 to 127",
+        ),
+        (
+            &["inspect", "a.pcap", "--payload-type", "64"],
+            "--payload-type 64: 64 to 95 can't be told from RTCP",
+        ),
+        (
+            &["send", "a.h264", "b.pcap", "--payload-type", "95"],
+            "--payload-type 95: 64 to 95 can't be told from RTCP",
         ),
     ] {
         folder.run(words).says(2, &[said, "h26x --help"]);

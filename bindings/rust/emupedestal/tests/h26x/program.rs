@@ -6,6 +6,8 @@ use std::sync::OnceLock;
 use std::sync::atomic::{AtomicU32, Ordering};
 use std::{env, fs, process};
 
+const PROGRAM: &str = env!("CARGO_BIN_EXE_h26x");
+
 static FOLDERS: AtomicU32 = AtomicU32::new(0);
 
 /// A folder that is removed at the end.
@@ -46,10 +48,16 @@ impl Folder {
 
     /// Runs the program there.
     pub fn run(&self, words: &[&str]) -> Ran {
-        let output = Command::new(env!("CARGO_BIN_EXE_h26x"))
-            .args(words)
-            .current_dir(&self.0)
-            .output();
+        self.run_with(Command::new(PROGRAM).args(words))
+    }
+
+    /// Runs a line of shell there, in which `$0` is the program.
+    pub fn shell(&self, line: &str) -> Ran {
+        self.run_with(Command::new("sh").args(["-c", line, PROGRAM]))
+    }
+
+    fn run_with(&self, command: &mut Command) -> Ran {
+        let output = command.current_dir(&self.0).output();
         Ran::of(output.expect("the program"))
     }
 }

@@ -2,6 +2,7 @@
 
 use crate::errors::Failure;
 use crate::frames::LONGEST_PAYLOAD;
+use crate::rtp::RTCP;
 use crate::streams::Choice;
 use crate::window::LONGEST;
 use crate::words::Words;
@@ -104,7 +105,7 @@ impl Words {
             mtu: self
                 .number("--mtu", least, LONGEST_PAYLOAD as u64)?
                 .unwrap_or(1200) as u16,
-            payload_type: self.number("--payload-type", 0, 127)?.unwrap_or(96) as u8,
+            payload_type: self.payload_type()?.unwrap_or(96),
             port: self.number("--port", 1, 65535)?.unwrap_or(5004) as u16,
             ssrc: self
                 .number("--ssrc", 0, u32::MAX.into())?
@@ -129,6 +130,17 @@ impl Words {
         }
     }
 
+    fn payload_type(&mut self) -> Result<Option<u8>, Failure> {
+        let number = self.number("--payload-type", 0, 127)?.map(|it| it as u8);
+        match number.filter(|it| RTCP.contains(it)) {
+            Some(number) => Err(Failure::usage(format!(
+                "--payload-type {number}: 64 to 95 can't be told from RTCP (RFC 5761, 4); give \
+                 another"
+            ))),
+            None => Ok(number),
+        }
+    }
+
     fn donl(&mut self, codec: Option<Codec>) -> Result<bool, Failure> {
         let has_donl = self.flag("--donl");
         if has_donl && codec == Some(Codec::H264) {
@@ -142,7 +154,7 @@ impl Words {
     fn looking(&mut self, input: PathBuf, codec: Option<Codec>) -> Result<Looking, Failure> {
         let choice = Choice {
             port: self.number("--port", 1, 65535)?.map(|it| it as u16),
-            payload_type: self.number("--payload-type", 0, 127)?.map(|it| it as u8),
+            payload_type: self.payload_type()?,
             ssrc: self
                 .number("--ssrc", 0, u32::MAX.into())?
                 .map(|it| it as u32),

@@ -13,6 +13,15 @@ pub fn name(codec: Codec) -> &'static str {
     }
 }
 
+/// What `--codec` calls it.
+pub fn word(codec: Codec) -> &'static str {
+    match codec {
+        Codec::H264 => "h264",
+        Codec::H265 => "h265",
+        Codec::H266 => "h266",
+    }
+}
+
 /// The codec that `--codec` names so.
 pub fn named(word: &str) -> Option<Codec> {
     match word.to_ascii_lowercase().as_str() {

@@ -16,7 +16,7 @@ send
   --mtu BYTES          the longest RTP payload (1200)
   --fps RATE           pictures a second, as 25 or 30000/1001 (25); timestamps follow the order of
                        the stream, which is the order of decoding
-  --payload-type N     0 to 127 (96)
+  --payload-type N     0 to 63 or 96 to 127 (96)
   --port N             UDP port (5004)
   --ssrc N             as 1234 or 0x4d2 (0x68323658)
   --sequence N         the first sequence number (0)
@@ -38,8 +38,8 @@ all
   --donl               packets bear decoding order numbers (sprop-max-don-diff over 0; H.265, H.266)
   --help, --version
 
-OUT is written beside its name, as .OUT.*.part, and gets it once it is whole. A device or a pipe is
-written straight, as in: h26x receive IN.pcap /dev/stdout --codec h264 | ffplay -
+OUT is written beside its name, as .OUT.*.part, and gets it once it is whole. Standard output, a device
+or a pipe is written straight, as in: h26x receive IN.pcap /dev/stdout --codec h264 | ffplay -
 
 Status: 0 all went well; 1 nothing was written, and a sentence says why; 2 the command is none that
 h26x knows; 3 it was done, but packets are lost, refused or cut, or the capture is cut off.

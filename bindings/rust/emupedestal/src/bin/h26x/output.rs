@@ -3,57 +3,65 @@
 use crate::errors::Failure;
 use std::ffi::OsString;
 use std::fs::{self, File, OpenOptions};
-use std::io::{ErrorKind, Write};
+use std::io::{self, ErrorKind, Write};
 use std::path::{Path, PathBuf};
 use std::process;
 
 /// How many bytes are gathered before they are written.
 const GATHERED: usize = 1 << 20;
+/// The names of standard output, which a shell may have opened as a file.
+const STANDARD_OUTPUT: [&str; 3] = ["/dev/stdout", "/dev/fd/1", "/proc/self/fd/1"];
 
 pub struct Output {
     /// As the user names it.
     path: PathBuf,
     target: PathBuf,
-    /// Where it is written until it is whole; nothing where it is a device or a pipe.
+    /// Where it is written until it is whole; nothing where it is written straight.
     beside: Option<PathBuf>,
-    file: File,
+    to: Box<dyn Write>,
     /// Bytes that are to be written next. Whoever appends to it calls `pass_on` behind.
     pub gathered: Vec<u8>,
     written: u64,
 }
 
 impl Output {
-    /// A file beside this path, unless that is a device or a pipe. `input` may not be the same file.
+    /// A file beside this path, unless that is standard output, a device or a pipe. `input` may not be
+    /// the same file.
     pub fn create(path: &Path, input: &Path) -> Result<Self, Failure> {
         let failed = |error| Failure::writing(path, &error);
         let there = fs::metadata(path).ok();
         if there.as_ref().is_some_and(fs::Metadata::is_dir) {
             return Err(failed(ErrorKind::IsADirectory.into()));
         }
-        // Where it is a link, what it names is replaced, and not the link.
-        let target = fs::canonicalize(path).unwrap_or_else(|_| path.into());
-        if fs::canonicalize(input).is_ok_and(|input| input == target) {
+        let real = fs::canonicalize(path).ok();
+        if real.is_some() && real == fs::canonicalize(input).ok() {
             return Err(Failure::of(
                 path,
                 "this is the input too; name another file",
             ));
         }
-        let (beside, file) = match there {
-            Some(there) if !there.is_file() => (
-                None,
-                OpenOptions::new().write(true).open(path).map_err(failed)?,
-            ),
+        // Where it is a link, what it names is replaced, and not the link.
+        let target = real.clone().unwrap_or_else(|| linked(path));
+        let (beside, to): (_, Box<dyn Write>) = match there {
+            // It goes on behind what is there already, as the shell opened it.
+            _ if STANDARD_OUTPUT.iter().any(|it| path == Path::new(it)) => {
+                (None, Box::new(io::stdout()))
+            }
+            // Also a file that is open and has no name any more.
+            Some(there) if !there.is_file() || real.is_none() => {
+                let file = OpenOptions::new().write(true).open(path);
+                (None, Box::new(file.map_err(failed)?))
+            }
             _ => {
-                let beside = beside(&target)?;
-                let file = File::create_new(&beside).map_err(failed)?;
-                (Some(beside), file)
+                let (beside, file) = create_beside(&target, path)?;
+                (Some(beside), Box::new(file))
             }
         };
         Ok(Output {
             path: path.into(),
             target,
             beside,
-            file,
+            to,
             gathered: Vec::with_capacity(4 * GATHERED),
             written: 0,
         })
@@ -68,8 +76,9 @@ impl Output {
     }
 
     fn write_out(&mut self) -> Result<(), Failure> {
-        self.file
+        self.to
             .write_all(&self.gathered)
+            .and_then(|()| self.to.flush())
             .map_err(|error| Failure::writing(&self.path, &error))?;
         self.written += self.gathered.len() as u64;
         self.gathered.clear();
@@ -88,15 +97,31 @@ impl Output {
     }
 }
 
-/// The name beside a path under which it is written until it is whole.
-fn beside(path: &Path) -> Result<PathBuf, Failure> {
-    let Some(name) = path.file_name() else {
+/// What a link names that isn't there yet; of what is no link the path itself.
+fn linked(path: &Path) -> PathBuf {
+    fs::read_link(path).map_or_else(|_| path.into(), |link| path.with_file_name(link))
+}
+
+/// A new file beside this one, whose name the user gives as `path`.
+fn create_beside(target: &Path, path: &Path) -> Result<(PathBuf, File), Failure> {
+    let Some(name) = target.file_name() else {
         return Err(Failure::of(path, "this is no name of a file; name one"));
     };
-    let mut hidden = OsString::from(".");
-    hidden.push(name);
-    hidden.push(format!(".{}.part", process::id()));
-    Ok(path.with_file_name(hidden))
+    let mut number = process::id();
+    loop {
+        let mut hidden = OsString::from(".");
+        hidden.push(name);
+        hidden.push(format!(".{number}.part"));
+        let beside = target.with_file_name(hidden);
+        match File::create_new(&beside) {
+            Ok(file) => return Ok((beside, file)),
+            // One that was killed had this number, or one has it on another machine.
+            Err(error) if error.kind() == ErrorKind::AlreadyExists => {
+                number = number.wrapping_add(1)
+            }
+            Err(error) => return Err(Failure::writing(path, &error)),
+        }
+    }
 }
 
 /// What is not whole is removed.

@@ -6,7 +6,7 @@ use std::ops::RangeInclusive;
 pub const HEADER: usize = 12;
 /// What the second byte of RTCP's packets would be as a payload type, where both share a port (RFC
 /// 5761, 4).
-const RTCP: RangeInclusive<u8> = 64..=95;
+pub const RTCP: RangeInclusive<u8> = 64..=95;
 
 /// An RTP packet.
 #[derive(Clone, Copy)]

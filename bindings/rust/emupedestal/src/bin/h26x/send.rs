@@ -1,7 +1,7 @@
 //! Sends a stream into a capture.
 
 use crate::arguments::Send;
-use crate::codecs::{Likeness, name};
+use crate::codecs::{Likeness, name, word};
 use crate::errors::Failure;
 use crate::frames::{HEADROOM, MARKER, file_header, write_headers};
 use crate::output::Output;
@@ -174,9 +174,10 @@ impl<'a> Sender<'a> {
         }
         if let Some(other) = self.likeness.other_than(*codec) {
             let what = format!(
-                "this stream is no {}; its units look as those of {}",
+                "this stream is no {}: its units look as those of {} do; say --codec {}",
                 name(*codec),
-                name(other)
+                name(other),
+                word(other)
             );
             return Err(Failure::of(input, what));
         }
