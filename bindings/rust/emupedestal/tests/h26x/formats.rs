@@ -154,6 +154,50 @@ fn pcapng_of_simple_packets() {
     is_read(&file, ["0.000000"; 3]);
 }
 
+/// Packet blocks, as older programs write them: their interface is a number of two bytes, and another
+/// of two bytes, how many packets were dropped, stands behind it.
+#[test]
+fn pcapng_of_older_packets() {
+    for order in [Order::Big, Order::Little] {
+        let mut file = [
+            section(order),
+            interface(order, 147, &[]),
+            interface(order, 1, &[]),
+        ]
+        .concat();
+        for (time, frame) in (7..).zip(frames()) {
+            let len = order.word(frame.len() as u32);
+            let numbers = [order.word(0), order.word(time), len, len].concat();
+            let body = [&order.half(1)[..], &order.half(9), &numbers, &frame].concat();
+            file.extend(block(order, 2, &body));
+        }
+        is_read(&file, ["0.000000", "0.000001", "0.000002"]);
+    }
+}
+
+/// Frames of another interface that aren't read are told, since packets may be among them.
+#[test]
+fn pcapng_with_frames_that_are_not_read() {
+    let order = Order::Little;
+    let mut file = [
+        section(order),
+        interface(order, 1, &[]),
+        interface(order, 105, &[]),
+        enhanced(order, 1, 1, b"a frame"),
+    ]
+    .concat();
+    for frame in frames() {
+        file.extend(enhanced(order, 0, 1, &frame));
+    }
+    let folder = Folder::new();
+    folder.write("in.pcapng", &file);
+    let told = "passed over: frames of link type 105";
+    folder
+        .run(&["receive", "in.pcapng", "out.h264"])
+        .says(0, &[told]);
+    folder.run(&["inspect", "in.pcapng"]).says(0, &[told]);
+}
+
 /// Packets of an interface whose frames aren't read, and of none that is there.
 #[test]
 fn pcapng_without_frames_that_are_read() {

@@ -194,11 +194,7 @@ impl Inspector {
         } = self;
         let tally = reception.finish();
         let mut end = tally.oddities();
-        if passed.fragments > 0 {
-            let fragments = counted(passed.fragments, "later IP fragment");
-            end.push(format!("passed over: {fragments} of UDP datagrams"));
-        }
-        end.extend(passed.end.clone());
+        end.extend(passed.told());
         end.push(tally.totals());
         writeln!(to, "{}", end.join("\n"))
             .and_then(|()| to.flush())

@@ -5,6 +5,7 @@ use crate::errors::Failure;
 use crate::ip::{self, Held, Part};
 use crate::progress::Progress;
 use crate::rtp::{self, Rtp};
+use crate::streams::counted;
 use std::fmt;
 use std::net::IpAddr;
 use std::path::Path;
@@ -60,6 +61,21 @@ pub struct PassedOver {
     pub unread: Option<u32>,
     /// Why the capture ends before its end.
     pub end: Option<String>,
+}
+
+impl PassedOver {
+    /// What of the capture was not read, a sentence each.
+    pub fn told(&self) -> Vec<String> {
+        let fragments = (self.fragments > 0).then(|| {
+            let fragments = counted(self.fragments, "later IP fragment");
+            format!("passed over: {fragments} of UDP datagrams")
+        });
+        let unread = self.unread.map(|number| {
+            format!("passed over: frames of link type {number}, which h26x doesn't read")
+        });
+        let told = [fragments, unread, self.end.clone()];
+        told.into_iter().flatten().collect()
+    }
 }
 
 /// Gives all RTP packets of a capture to `take`. There is a bar where the work has a name.

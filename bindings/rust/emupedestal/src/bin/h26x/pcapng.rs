@@ -4,10 +4,12 @@ use crate::capture::{Frame, LONGEST_FRAME, Next, check_len};
 use crate::errors::Failure;
 use crate::input::Input;
 use crate::interface::{Interface, SHORTEST};
-use crate::order::word;
+use crate::order::{half, word};
 
 const SECTION_HEADER: u32 = 0x0a0d_0d0a;
 const INTERFACE: u32 = 1;
+/// What older programs write in the place of an enhanced packet.
+const PACKET: u32 = 2;
 const SIMPLE_PACKET: u32 = 3;
 const ENHANCED_PACKET: u32 = 6;
 const BYTE_ORDER: u32 = 0x1a2b_3c4d;
@@ -82,7 +84,7 @@ impl Pcapng {
         self.left = u64::from(len);
         let place = match kind {
             INTERFACE => return self.interface(len, input),
-            ENHANCED_PACKET => self.enhanced(input)?,
+            PACKET | ENHANCED_PACKET => self.enhanced(kind, input)?,
             SIMPLE_PACKET => self.simple(len, input)?,
             _ => return Ok(Block::Other),
         };
@@ -113,13 +115,18 @@ impl Pcapng {
         Ok(Block::Other)
     }
 
-    fn enhanced(&mut self, input: &mut Input) -> Result<Option<Place>, Failure> {
+    /// A packet with its interface, whose number an older one has in two bytes.
+    fn enhanced(&mut self, kind: u32, input: &mut Input) -> Result<Option<Place>, Failure> {
         let Some(header) = self.header::<28>(input)? else {
             return Ok(None);
         };
-        let [interface, high, low, len] =
+        let [number, high, low, len] =
             [8, 12, 16, 20].map(|at| word(&header, at, self.is_big_endian));
-        let interface = self.interfaces.get(interface as usize);
+        let number = match kind {
+            PACKET => half(&header, 8, self.is_big_endian).into(),
+            _ => number,
+        };
+        let interface = self.interfaces.get(number as usize);
         Ok(interface.map(|interface| Place {
             interface: *interface,
             ticks: u64::from(high) << 32 | u64::from(low),

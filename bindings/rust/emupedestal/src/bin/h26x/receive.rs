@@ -1,7 +1,7 @@
 //! Writes the units of a stream in a capture.
 
 use crate::arguments::{Looking, Receive};
-use crate::codecs::name;
+use crate::codecs::{name, word};
 use crate::errors::{Failure, INCOMPLETE};
 use crate::output::Output;
 use crate::packets::{PassedOver, each_packet};
@@ -66,11 +66,8 @@ fn finish(
     passed: &PassedOver,
 ) -> Result<u8, Failure> {
     let written = output.finish()?;
-    for oddity in tally.oddities() {
-        say(&oddity);
-    }
-    if let Some(end) = &passed.end {
-        say(end);
+    for oddity in tally.oddities().iter().chain(&passed.told()) {
+        say(oddity);
     }
     say(&format!(
         "{}: {}; {} written",
@@ -99,7 +96,7 @@ pub fn check_codec(looking: &Looking, codec: Codec, known: &Known) -> Result<(),
             name(codec),
             likeness.usual(other),
             name(other),
-            name(other).to_lowercase().replace('.', "")
+            word(other)
         ),
         None if likeness.usual(codec) * 4 < packets && !looking.is_codec_given => format!(
             "{} of the {packets} packets of {} look as those of {} do; choose another stream \
