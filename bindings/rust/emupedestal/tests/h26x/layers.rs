@@ -195,6 +195,62 @@ fn fragments_of_ipv6() {
     );
 }
 
+/// Frames of a host that has the kernel cut datagrams (UDP_SEGMENT) hold several packets of one length,
+/// of which the last may be shorter. A packet in whose payload the SSRC stands is one.
+#[test]
+fn datagrams_of_several_packets() {
+    let ssrc = [1, 2, 3, 4];
+    for len in [20, 63, 64, 65, 1200] {
+        let payload = |front: [u8; 2], len: usize| -> Vec<u8> {
+            let rest = ssrc.into_iter().cycle().skip(2).take(len);
+            front.into_iter().chain(rest).collect()
+        };
+        // An SPS, an IDR slice in four fragments across 65536, and one that stands alone.
+        let packets = [
+            Rtp::new(65533, 0, false, &payload([0x67, 0x42], len)),
+            Rtp::new(65534, 0, false, &payload([0x7c, 0x85], len)),
+            Rtp::new(65535, 0, false, &payload([0x7c, 0x05], len)),
+            Rtp::new(0, 0, false, &payload([0x7c, 0x05], len)),
+            Rtp::new(1, 0, true, &payload([0x7c, 0x45], len / 3)),
+            Rtp::new(2, 3600, true, &payload([0x41, 0x9a], len)),
+        ];
+        let datagram = |packets: &[Rtp]| {
+            let bytes: Vec<u8> = packets.iter().flat_map(Rtp::bytes).collect();
+            ethernet(&[], 0x0800, &ipv4(&[], 0, &udp(&bytes)))
+        };
+        let folder = Folder::new();
+        let cut: Vec<Vec<u8>> = packets.chunks(1).map(datagram).collect();
+        folder.write("cut.pcap", &pcap(&cut));
+        folder.write(
+            "joined.pcap",
+            &pcap(&[datagram(&packets[..5]), datagram(&packets[5..])]),
+        );
+        for name in ["cut", "joined"] {
+            let (from, to) = (format!("{name}.pcap"), format!("{name}.h264"));
+            folder
+                .run(&["receive", &from, &to])
+                .says(0, &["6 packets", "2 access units"]);
+        }
+        assert_eq!(folder.read("joined.h264"), folder.read("cut.h264"));
+    }
+}
+
+/// Where the end of such a datagram wasn't captured, it is the last packet that isn't taken.
+#[test]
+fn a_datagram_of_several_packets_that_is_cut() {
+    let packets = three_packets();
+    let bytes: Vec<u8> = packets.iter().flat_map(Rtp::bytes).collect();
+    let mut frame = ethernet(&[], 0x0800, &ipv4(&[], 0, &udp(&bytes)));
+    frame.pop();
+    let folder = Folder::new();
+    folder.write("in.pcap", &pcap(&[frame]));
+    let part = "1 packet: not taken, with only a front in the capture";
+    folder
+        .run(&["receive", "in.pcap", "out.h264"])
+        .says(3, &["3 packets", part]);
+    assert_eq!(folder.read("out.h264"), THREE_UNITS[..8]);
+}
+
 /// A datagram whose length is 0 goes up to the end of its IP packet, and not of the frame.
 #[test]
 fn datagrams_without_a_length() {

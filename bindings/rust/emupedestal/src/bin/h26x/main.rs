@@ -26,6 +26,7 @@ mod receive;
 mod reception;
 mod refusals;
 mod rtp;
+mod segments;
 mod send;
 mod streams;
 mod tally;

@@ -5,6 +5,7 @@ use crate::errors::Failure;
 use crate::ip::{self, Held, Part};
 use crate::progress::Progress;
 use crate::rtp::{self, Rtp};
+use crate::segments;
 use crate::streams::counted;
 use std::fmt;
 use std::net::IpAddr;
@@ -92,13 +93,21 @@ pub fn each_packet(
         let time = frame.time;
         match frame.link.packet(frame.bytes).map(ip::held) {
             Some(Held::Datagram(datagram)) => {
-                if let Some(rtp) = rtp::rtp(datagram.bytes) {
+                let mut packets = segments::packets(datagram.bytes).peekable();
+                while let Some(packet) = packets.next() {
+                    let Some(rtp) = rtp::rtp(packet) else {
+                        continue;
+                    };
                     let stream = Stream {
                         ssrc: rtp.ssrc,
                         payload_type: rtp.payload_type,
                         to: datagram.to,
                     };
-                    let part = datagram.part;
+                    // Where the end of a datagram lacks, it is the last packet's.
+                    let part = match packets.peek() {
+                        Some(_) => Part::Whole,
+                        None => datagram.part,
+                    };
                     take(&stream, &Captured { time, part, rtp })?;
                 }
             }
