@@ -143,7 +143,7 @@ func (d *Depacketizer) Unmarshal(packet []byte) ([]byte, error) {
 // can be given again.
 //
 // A peer that never ends a unit makes the open unit as long as all that it sends: a Receiver has a limit;
-// else add up the lengths of the packets since one completed a unit, and call GiveUpRun.
+// else add up the lengths of the fragments since one had its S bit, and call GiveUpRun.
 func (d *Depacketizer) Append(dst, packet []byte) ([]byte, Told, error) {
 	d.mu.Lock()
 	defer d.mu.Unlock()

@@ -23,8 +23,9 @@
  * - no call is made in a signal handler, or in the child that a program with threads forked.
  *
  * Words: `numbers` are decoding order numbers (DON; DONL and DOND in packets). The open unit is one of which
- * fragments came and the last one didn't yet, in the depacketizer's reassembly buffer. `to` is an output buffer, and
- * `room` its capacity in bytes. A unit is a NAL unit without its start code, a set a parameter set (VPS, SPS, PPS). */
+ * fragments came and the last one didn't yet; what came of it, in the depacketizer's reassembly buffer, is the run
+ * (run_limit, h26x_give_up_run). `made` is where a new handle is written, `to` an output buffer, and `room` its
+ * capacity in bytes. A unit is a NAL unit without its start code, a set a parameter set (VPS, SPS, PPS). */
 #ifndef H26X_H
 #define H26X_H
 
@@ -123,8 +124,8 @@ H26X_API uint32_t h26x_packetizer_set_max_size(h26x_packetizer *p, uint16_t byte
  * one. They take the place of those of the call before, and *count is how many there are. No packet has more than
  * `mtu` bytes, RTP's header not counted, and of H.265 and H.266 none more than the largest packet size, which is
  * 1200 whatever the `mtu` until h26x_packetizer_set_max_size says otherwise. The marker bit goes on the last packet
- * of an access unit. H26X_OUT_OF_MEMORY leaves the packets of the call before; H26X_WRONG_END writes 0 to *count.
- * The memory of packets is kept for later calls.
+ * of an access unit. H26X_OUT_OF_MEMORY leaves the packets of the call before, and *count is how many these are;
+ * H26X_WRONG_END writes 0 to *count. The memory of packets is kept for later calls.
  *
  * Parameter sets wait for the next unit that is none, and go before it, in one packet where they fit it together,
  * else each alone. What a real stream meets:

@@ -144,7 +144,7 @@ class Depacketizer(Taking):
         the next. After OutOfMemory the same one can be given again.
 
         A peer that never ends a unit makes the open unit as long as all that it sends: a Receiver has a
-        limit; else add up the lengths of the packets since one completed a unit, and call
+        limit; else add up the lengths of the fragments since one had its S bit, and call
         `give_up_run`.
         """
         data = as_bytes(packet)

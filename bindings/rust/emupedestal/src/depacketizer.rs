@@ -129,7 +129,8 @@ macro_rules! depacketizer {
             /// - where a packet is missing by its sequence number: else the unit is written without
             ///   that one's data;
             /// - past a limit of its own. No call tells how long the open unit is: add up the lengths
-            ///   of the packets since one completed a unit.
+            ///   of the fragments since one had its S bit. That a unit was completed says nothing,
+            ///   since one that comes whole between fragments leaves the other open.
             ///
             /// What follows of the unit is accepted and completes nothing, and the next start begins
             /// anew. A [`SequencedDepacketizer`](crate::SequencedDepacketizer) does both by itself.
