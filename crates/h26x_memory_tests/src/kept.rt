@@ -146,7 +146,7 @@ fn takes<D: RunDepacketizer>(
         {
             return false;
         }
-        sequence += 1;
+        sequence = sequence.wrapping_add(1);
     }
     true
 }
