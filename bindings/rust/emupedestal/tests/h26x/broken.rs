@@ -53,6 +53,32 @@ fn a_record_that_no_file_has() {
     fails(&capture, &["so the file is damaged"]);
 }
 
+/// What is before such a record is received, and the status says that it isn't all.
+#[test]
+fn a_record_in_the_middle_that_no_file_has() {
+    let packets: Vec<Rtp> = (0..5)
+        .map(|i| Rtp::new(i, 0, true, &[0x41, 0x9a, 1]))
+        .collect();
+    let mut capture = pcap_with(&packets);
+    let third = 24 + 2 * (capture.len() - 24) / 5;
+    capture[third + 8..third + 12].copy_from_slice(&0x7000_0000_u32.to_le_bytes());
+    let folder = Folder::new();
+    folder.write("in.pcap", &capture);
+    let damaged = format!(
+        "in.pcap: the record at byte {third} says that it has 1879048192 bytes, so the file is damaged"
+    );
+    folder
+        .run(&["receive", "in.pcap", "out.h264"])
+        .says(3, &["2 packets", &damaged]);
+    assert_eq!(
+        folder.read("out.h264"),
+        [0, 0, 0, 1, 0x41, 0x9a, 1].repeat(2)
+    );
+    folder
+        .run(&["inspect", "in.pcap"])
+        .says(3, &["2 packets", &damaged]);
+}
+
 /// What is before the cut is received, and the status says that it isn't all.
 #[test]
 fn captures_that_are_cut_off() {

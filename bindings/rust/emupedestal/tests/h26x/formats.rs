@@ -220,22 +220,35 @@ fn pcapng_without_frames_that_are_read() {
 fn pcapng_that_is_broken() {
     let order = Order::Little;
     let front = [section(order), interface(order, 1, &[])].concat();
-    let packets: Vec<u8> = (0..)
+    let packets: Vec<Vec<u8>> = (0..)
         .zip(frames())
-        .flat_map(|(i, it)| enhanced(order, 0, i, &it))
+        .map(|(i, it)| enhanced(order, 0, i, &it))
         .collect();
-    let whole = [&front[..], &packets].concat();
+    let whole = [front, packets.concat()].concat();
+    let cut = format!(
+        "the capture is cut off: its last record begins at byte {}",
+        whole.len() - packets[2].len()
+    );
     let folder = Folder::new();
     for len in [whole.len() - 1, whole.len() - 40, whole.len() - 100] {
         folder.write("in.pcapng", &whole[..len]);
         folder
             .run(&["receive", "in.pcapng", "out.h264"])
-            .says(3, &["the capture is cut off"]);
+            .says(3, &[&cut]);
     }
     for len in [0u32, 8, 13, 0x7fff_fffc] {
         let short = [&whole[..], &order.word(6), &order.word(len), &[0; 40]].concat();
         folder.write("in.pcapng", &short);
-        let ran = folder.run(&["inspect", "in.pcapng"]);
-        ran.says(1, &["so the file is damaged; capture or copy it again"]);
+        let damaged = format!(
+            "the record at byte {} says that it has {len} bytes, so the file is damaged",
+            whole.len()
+        );
+        for words in [
+            &["inspect", "in.pcapng"][..],
+            &["receive", "in.pcapng", "out.h264"],
+        ] {
+            folder.run(words).says(3, &[&damaged]);
+        }
+        assert_eq!(folder.read("out.h264"), THREE_UNITS);
     }
 }

@@ -10,7 +10,7 @@ use std::path::Path;
 /// A record with more bytes than this holds no UDP datagram (65535 bytes at most), and is passed over.
 pub const LONGEST_FRAME: u32 = 1 << 18;
 /// No capture has a longer record, so where one says so the file is damaged.
-const LONGEST_RECORD: u32 = 1 << 28;
+pub const LONGEST_RECORD: u32 = 1 << 28;
 
 /// A frame of a capture.
 pub struct Frame<'a> {
@@ -28,9 +28,8 @@ enum Format {
 pub struct Capture {
     input: Input,
     format: Format,
-    /// Where in the file the record begins that was read last.
-    record: u64,
-    is_cut: bool,
+    /// Why nothing more can be read, where that is not the end of the file.
+    fault: Option<Fault>,
 }
 
 impl Capture {
@@ -54,14 +53,12 @@ impl Capture {
         Ok(Capture {
             input,
             format,
-            record: 0,
-            is_cut: false,
+            fault: None,
         })
     }
 
-    /// The next frame; nothing at the end of the file, or where it is cut off.
+    /// The next frame; nothing at the end of the file, or where it is cut off or damaged.
     pub fn next(&mut self) -> Result<Option<Frame<'_>>, Failure> {
-        self.record = self.input.position();
         let frame = match &mut self.format {
             Format::Pcap(it) => it.next(&mut self.input)?,
             Format::Pcapng(it) => it.next(&mut self.input)?,
@@ -69,15 +66,16 @@ impl Capture {
         Ok(match frame {
             Next::Frame(frame) => Some(frame),
             Next::End => None,
-            Next::Cut => {
-                self.is_cut = true;
+            Next::Fault(fault) => {
+                self.fault = Some(fault);
                 None
             }
         })
     }
 
+    /// Where in the file the record begins that was read last.
     pub fn position(&self) -> u64 {
-        self.record
+        self.input.record()
     }
 
     pub fn len(&self) -> u64 {
@@ -92,35 +90,36 @@ impl Capture {
         }
     }
 
-    /// Says where the file ends in the middle of a record.
-    pub fn cut(&self) -> Option<String> {
-        let said = format!(
-            "{}: the capture is cut off: its last record begins at byte {} and is not whole. \
-             What is before it was read; copy the file again, or stop the capturing program \
-             before copying",
-            self.input.path().display(),
-            self.record
-        );
-        self.is_cut.then_some(said)
+    /// Says at which record nothing more could be read, and what to do.
+    pub fn fault(&self) -> Option<String> {
+        let (path, record) = (self.input.path().display(), self.input.record());
+        self.fault.map(|fault| match fault {
+            Fault::Cut => format!(
+                "{path}: the capture is cut off: its last record begins at byte {record} and is \
+                 not whole. What is before it was read; copy the file again, or stop the capturing \
+                 program before copying"
+            ),
+            Fault::Damaged(len) => format!(
+                "{path}: the record at byte {record} says that it has {len} bytes, so the file is \
+                 damaged. What is before it was read; capture or copy it again"
+            ),
+        })
     }
+}
+
+/// What is wrong with a record.
+#[derive(Clone, Copy)]
+pub enum Fault {
+    /// The file ends inside it.
+    Cut,
+    /// It says that it has so many bytes, as none has.
+    Damaged(u32),
 }
 
 /// What is next in a capture.
 pub enum Next<'a> {
     Frame(Frame<'a>),
     End,
-    Cut,
-}
-
-/// Refuses a record that no capture has.
-pub fn check_len(input: &Input, len: u32) -> Result<(), Failure> {
-    if len <= LONGEST_RECORD {
-        return Ok(());
-    }
-    let what = format!(
-        "the record before byte {} says that it has {len} bytes, so the file is damaged; capture \
-         or copy it again",
-        input.position()
-    );
-    Err(Failure::of(input.path(), what))
+    /// What follows can't be told any more.
+    Fault(Fault),
 }

@@ -42,5 +42,5 @@ OUT is written beside its name, as .OUT.*.part, and gets it once it is whole. St
 or a pipe is written straight, as in: h26x receive IN.pcap /dev/stdout --codec h264 | ffplay -
 
 Status: 0 all went well; 1 nothing was written, and a sentence says why; 2 the command is none that
-h26x knows; 3 it was done, but packets are lost, refused or cut, or the capture is cut off.
+h26x knows; 3 it was done, but packets are lost, refused or cut, or the capture is cut off or damaged.
 ";

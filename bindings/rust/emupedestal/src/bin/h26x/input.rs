@@ -17,6 +17,8 @@ pub struct Input {
     end: usize,
     /// Where in the file `begin` is, in bytes.
     position: u64,
+    /// Where in the file the record begins that was begun last.
+    record: u64,
     len: u64,
 }
 
@@ -42,6 +44,7 @@ impl Input {
             begin: 0,
             end: 0,
             position: 0,
+            record: 0,
             len: about.len(),
         })
     }
@@ -54,9 +57,14 @@ impl Input {
         self.len
     }
 
-    /// How many bytes were taken or passed over.
-    pub fn position(&self) -> u64 {
-        self.position
+    /// A record of the capture begins with the next byte.
+    pub fn begin_record(&mut self) {
+        self.record = self.position;
+    }
+
+    /// Where in the file the record begins that was begun last.
+    pub fn record(&self) -> u64 {
+        self.record
     }
 
     /// The next bytes, which stay to be taken; fewer where the file ends before.

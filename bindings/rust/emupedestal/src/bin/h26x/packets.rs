@@ -116,6 +116,6 @@ pub fn each_packet(
         }
         progress.at(capture.position());
     }
-    (passed.unread, passed.end) = (capture.unread(), capture.cut());
+    (passed.unread, passed.end) = (capture.unread(), capture.fault());
     Ok(passed)
 }

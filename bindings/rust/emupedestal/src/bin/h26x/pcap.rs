@@ -1,6 +1,6 @@
 //! The file format pcap (LINKTYPE values: www.tcpdump.org/linktypes.html).
 
-use crate::capture::{Frame, LONGEST_FRAME, Next, check_len};
+use crate::capture::{Fault, Frame, LONGEST_FRAME, LONGEST_RECORD, Next};
 use crate::errors::Failure;
 use crate::input::Input;
 use crate::link::Link;
@@ -51,19 +51,22 @@ impl Pcap {
 
     pub fn next<'a>(&mut self, input: &'a mut Input) -> Result<Next<'a>, Failure> {
         let header = loop {
+            input.begin_record();
             if input.peek(1)?.is_empty() {
                 return Ok(Next::End);
             }
             let Some(header) = input.take_array::<RECORD_HEADER>()? else {
-                return Ok(Next::Cut);
+                return Ok(Next::Fault(Fault::Cut));
             };
             let len = word(&header, 8, self.is_big_endian);
-            check_len(input, len)?;
+            if len > LONGEST_RECORD {
+                return Ok(Next::Fault(Fault::Damaged(len)));
+            }
             if len <= LONGEST_FRAME {
                 break header;
             }
             if !input.skip(len.into())? {
-                return Ok(Next::Cut);
+                return Ok(Next::Fault(Fault::Cut));
             }
         };
         let [seconds, rest, len] = [0, 4, 8].map(|at| word(&header, at, self.is_big_endian));
@@ -72,6 +75,6 @@ impl Pcap {
             link: self.link,
             bytes,
         });
-        Ok(frame.map_or(Next::Cut, Next::Frame))
+        Ok(frame.map_or(Next::Fault(Fault::Cut), Next::Frame))
     }
 }

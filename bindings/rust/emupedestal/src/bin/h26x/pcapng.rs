@@ -1,6 +1,6 @@
 //! The file format pcapng: sections of blocks. Those with packets and with interfaces are read.
 
-use crate::capture::{Frame, LONGEST_FRAME, Next, check_len};
+use crate::capture::{Fault, Frame, LONGEST_FRAME, LONGEST_RECORD, Next};
 use crate::errors::Failure;
 use crate::input::Input;
 use crate::interface::{Interface, SHORTEST};
@@ -39,13 +39,14 @@ impl Pcapng {
     pub fn next<'a>(&mut self, input: &'a mut Input) -> Result<Next<'a>, Failure> {
         let (link, place) = loop {
             if !input.skip(std::mem::take(&mut self.left))? {
-                return Ok(Next::Cut);
+                return Ok(Next::Fault(Fault::Cut));
             }
+            input.begin_record();
             if input.peek(1)?.is_empty() {
                 return Ok(Next::End);
             }
             let Some(front) = input.peek(12)?.first_chunk::<12>().copied() else {
-                return Ok(Next::Cut);
+                return Ok(Next::Fault(Fault::Cut));
             };
             match self.block(&front, input)? {
                 Block::Packet(place) => match place.interface.link {
@@ -53,11 +54,11 @@ impl Pcapng {
                     Err(number) => self.unread = Some(number),
                 },
                 Block::Other => {}
-                Block::Cut => return Ok(Next::Cut),
+                Block::Fault(fault) => return Ok(Next::Fault(fault)),
             }
         };
         let Some(bytes) = input.take(place.len as usize)? else {
-            return Ok(Next::Cut);
+            return Ok(Next::Fault(Fault::Cut));
         };
         let time = place.interface.time(place.ticks);
         self.left -= u64::from(place.len);
@@ -72,14 +73,8 @@ impl Pcapng {
             self.interfaces.clear();
         }
         let len = word(front, 4, self.is_big_endian);
-        check_len(input, len)?;
-        if len < BLOCK_FRAME || len % 4 != 0 {
-            let what = format!(
-                "the block at byte {} says that it has {len} bytes, so the file is damaged; \
-                 capture or copy it again",
-                input.position()
-            );
-            return Err(Failure::of(input.path(), what));
+        if !(BLOCK_FRAME..=LONGEST_RECORD).contains(&len) || len % 4 != 0 {
+            return Ok(Block::Fault(Fault::Damaged(len)));
         }
         self.left = u64::from(len);
         let place = match kind {
@@ -92,7 +87,7 @@ impl Pcapng {
             return Ok(if self.left > 0 {
                 Block::Other
             } else {
-                Block::Cut
+                Block::Fault(Fault::Cut)
             });
         };
         if u64::from(place.len) + 4 > self.left || place.len > LONGEST_FRAME {
@@ -108,7 +103,7 @@ impl Pcapng {
         }
         self.left = 0;
         let Some(block) = input.take(len as usize)? else {
-            return Ok(Block::Cut);
+            return Ok(Block::Fault(Fault::Cut));
         };
         self.interfaces
             .push(Interface::of(block, self.is_big_endian));
@@ -166,5 +161,5 @@ impl Pcapng {
 enum Block {
     Packet(Place),
     Other,
-    Cut,
+    Fault(Fault),
 }
