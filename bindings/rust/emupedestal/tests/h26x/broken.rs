@@ -317,10 +317,25 @@ fn a_part_that_was_left() {
     let folder = Folder::new();
     folder.write("in.pcap", &pcap_with(&three_packets()));
     let receive = "exec \"$0\" receive in.pcap out.h264";
-    let left = format!("printf left >.out.h264.$$.part; {receive}");
+    let left = format!("printf left >.h26x.$$.part; {receive}");
     folder.shell(&left).says(0, &[]);
     assert_eq!(folder.read("out.h264"), THREE_UNITS);
     assert_eq!(folder.names().len(), 3, "{:?}", folder.names());
+}
+
+/// The longest name that there is, and one that is longer.
+#[test]
+fn long_names() {
+    let folder = Folder::new();
+    folder.write("in.pcap", &pcap_with(&three_packets()));
+    let longest = format!("{}.h264", "o".repeat(250));
+    folder.run(&["receive", "in.pcap", &longest]).says(0, &[]);
+    assert_eq!(folder.read(&longest), THREE_UNITS);
+    let longer = format!("o{longest}");
+    folder
+        .run(&["receive", "in.pcap", &longer])
+        .says(1, &["its name is longer than names may be there"]);
+    assert_eq!(folder.names(), ["in.pcap", &longest]);
 }
 
 #[test]

@@ -4,6 +4,8 @@ use std::fmt::Display;
 use std::io::{self, ErrorKind};
 use std::path::Path;
 
+/// ENAMETOOLONG of Linux, for which `ErrorKind` has a name since Rust 1.87 alone.
+const NAME_TOO_LONG: i32 = 36;
 /// Nothing was made, or what there is can't be read.
 const FAILED: u8 = 1;
 /// The words of the command line are none that the program knows.
@@ -64,6 +66,9 @@ impl Failure {
                 "this user may not write there; change the permissions, or name a file elsewhere"
             }
             ErrorKind::ReadOnlyFilesystem => "nothing can be written there; name a file elsewhere",
+            _ if error.raw_os_error() == Some(NAME_TOO_LONG) => {
+                "its name is longer than names may be there; give a shorter one"
+            }
             _ => return Failure::of(path, format!("it can't be written: {error}")),
         };
         Failure::of(path, what)

@@ -38,8 +38,8 @@ all
   --donl               packets bear decoding order numbers (sprop-max-don-diff over 0; H.265, H.266)
   --help, --version
 
-OUT is written beside its name, as .OUT.*.part, and gets it once it is whole. Standard output, a device
-or a pipe is written straight, as in: h26x receive IN.pcap /dev/stdout --codec h264 | ffplay -
+OUT is written in its folder as .h26x.*.part, and gets its name once it is whole. Standard output, a
+device or a pipe is written straight, as in: h26x receive IN.pcap /dev/stdout --codec h264 | ffplay -
 
 Status: 0 all went well; 1 nothing was written, and a sentence says why; 2 the command is none that
 h26x knows; 3 it was done, but packets are lost, refused or cut, or the capture is cut off or damaged.

@@ -1,7 +1,6 @@
 //! A file that stands under its name once it is whole, and not before.
 
 use crate::errors::Failure;
-use std::ffi::OsString;
 use std::fs::{self, File, OpenOptions};
 use std::io::{self, ErrorKind, Write};
 use std::path::{Path, PathBuf};
@@ -29,7 +28,10 @@ impl Output {
     /// the same file.
     pub fn create(path: &Path, input: &Path) -> Result<Self, Failure> {
         let failed = |error| Failure::writing(path, &error);
-        let there = fs::metadata(path).ok();
+        let there = match fs::metadata(path) {
+            Err(error) if error.kind() != ErrorKind::NotFound => return Err(failed(error)),
+            other => other.ok(),
+        };
         if there.as_ref().is_some_and(fs::Metadata::is_dir) {
             return Err(failed(ErrorKind::IsADirectory.into()));
         }
@@ -102,17 +104,15 @@ fn linked(path: &Path) -> PathBuf {
     fs::read_link(path).map_or_else(|_| path.into(), |link| path.with_file_name(link))
 }
 
-/// A new file beside this one, whose name the user gives as `path`.
+/// A new file beside this one, whose name the user gives as `path`. Its own name is short, whatever
+/// the other is.
 fn create_beside(target: &Path, path: &Path) -> Result<(PathBuf, File), Failure> {
-    let Some(name) = target.file_name() else {
+    if target.file_name().is_none() {
         return Err(Failure::of(path, "this is no name of a file; name one"));
-    };
+    }
     let mut number = process::id();
     loop {
-        let mut hidden = OsString::from(".");
-        hidden.push(name);
-        hidden.push(format!(".{number}.part"));
-        let beside = target.with_file_name(hidden);
+        let beside = target.with_file_name(format!(".h26x.{number}.part"));
         match File::create_new(&beside) {
             Ok(file) => return Ok((beside, file)),
             // One that was killed had this number, or one has it on another machine.
