@@ -12,6 +12,8 @@
 //! Not told: pictures of H.264 whose slices come in arbitrary order, redundant pictures, and pictures
 //! of several slices with a prefix unit (type 14) before each. They are cut at each such slice.
 //!
+//! Streams are read in Annex B form; [`FromLengths`] makes it of units behind lengths.
+//!
 //! ```
 //! use emupedestal::Codec;
 //! use emupedestal::access_units::{AccessUnitReader, access_units};
@@ -32,8 +34,10 @@
 //! # Ok::<(), std::io::Error>(())
 //! ```
 
+mod lengths;
 mod reader;
 
+pub use lengths::FromLengths;
 pub use reader::AccessUnitReader;
 
 use crate::codec::Codec;

@@ -34,9 +34,9 @@
 //! runs, or a caller's own in a box; [`take_all`] gives many packets to one. [`H264ProfileLevel`],
 //! [`H265ProfileTierLevel`] and [`H266ProfileTierLevel`] read profiles and levels out of SDP.
 //!
-//! [`access_units`] cuts a stream in Annex B form into access units, also one that is read piece by
-//! piece. The program `h26x` of this package sends such streams into captures, receives them from
-//! there, and says of a capture what is in it.
+//! [`access_units`] cuts a stream in Annex B form, or behind lengths, into access units, also one that
+//! is read piece by piece. The program `h26x` of this package sends such streams into captures,
+//! receives them from there, and says of a capture what is in it.
 //!
 //! No call panics on bytes, whatever they are.
 //!

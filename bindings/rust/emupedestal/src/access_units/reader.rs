@@ -13,7 +13,8 @@ const NO_START_CODE: &str = "no start code at the front of the stream";
 /// Reads a stream in Annex B form and answers its access units, one after the other. It holds a piece
 /// of the stream: 4 MiB, or where an access unit is longer up to twice its length and 2 MiB more.
 ///
-/// It does its own buffering: give it the file itself.
+/// It does its own buffering: give it the file itself, or where the file has units behind lengths a
+/// [`FromLengths`](super::FromLengths) of it.
 #[derive(Debug)]
 pub struct AccessUnitReader<R> {
     from: R,
@@ -111,7 +112,10 @@ impl<R: Read> AccessUnitReader<R> {
         }
         let begin = self.begin.unwrap_or(self.scanner.at);
         if self.filled - begin > self.limit {
-            return Err(invalid("an access unit is longer than the limit"));
+            let at = self.passed + begin as u64;
+            return Err(invalid(&format!(
+                "the access unit at byte {at} is longer than the limit"
+            )));
         }
         if self.buffer.len() - self.filled < PIECE {
             self.make_room(begin);

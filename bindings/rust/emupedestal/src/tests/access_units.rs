@@ -2,7 +2,7 @@
 
 use super::bytes;
 use crate::Codec;
-use crate::access_units::{AccessUnitFinder, AccessUnitReader, access_units};
+use crate::access_units::{AccessUnitFinder, AccessUnitReader, FromLengths, access_units};
 use std::io::{self, ErrorKind, Read};
 
 /// Units, of which those with a star begin an access unit.
@@ -196,4 +196,97 @@ fn streams_that_are_refused() {
     refused(&bytes("65"), 1 << 20);
     refused(&[9; 3_000_000], 1 << 30);
     refused(&[&bytes("0000016588")[..], &[7; 6 << 20]].concat(), 1 << 20);
+}
+
+/// What comes of units behind lengths that are read in pieces of so many bytes, and what ends it.
+fn from_lengths(stream: &[u8], piece: usize, limit: u32) -> (Vec<u8>, io::Result<()>) {
+    let mut reader = FromLengths::with_limit(Pieces(stream, piece), limit);
+    let mut came = Vec::new();
+    let end = reader.read_to_end(&mut came).map(|_| ());
+    let said = |end: &io::Result<()>| end.as_ref().err().map(io::Error::to_string);
+    let again = reader.read(&mut [0; 9]).map(|_| ());
+    assert_eq!(said(&end), said(&again), "the end stays");
+    (came, end)
+}
+
+#[test]
+fn lengths_in_pieces_of_any_length() {
+    // A unit of one byte, one with zeros before a 1 that is the next length's, one that ends in zeros.
+    let stream =
+        bytes("0000000109 00000005658800aa01 000000020100 00000003419a02 000000046742 0000");
+    let wanted =
+        bytes("0000000109 00000001658800aa01 000000010100 00000001419a02 000000016742 0000");
+    for piece in 1..=stream.len() {
+        let (came, end) = from_lengths(&stream, piece, 5);
+        assert_eq!((came, end.is_ok()), (wanted.clone(), true), "{piece}");
+        let mut reader =
+            AccessUnitReader::new(Codec::H264, FromLengths::new(Pieces(&stream, piece)));
+        let mut found = Vec::new();
+        while let Some(access_unit) = reader.next_access_unit().expect("a stream") {
+            found.push(access_unit.to_vec());
+        }
+        let wanted = [
+            "00000109 00000001658800aa01 0000000101",
+            "000001419a02",
+            "0000016742",
+        ];
+        assert_eq!(found, wanted.map(bytes), "{piece}");
+        assert_eq!(reader.position(), stream.len() as u64);
+    }
+}
+
+#[test]
+fn lengths_that_are_refused() {
+    let good = "00000003658807";
+    for (bad, kind, what) in [
+        (
+            "00",
+            ErrorKind::UnexpectedEof,
+            "the length at byte 7 is not whole",
+        ),
+        (
+            "000000",
+            ErrorKind::UnexpectedEof,
+            "the length at byte 7 is not whole",
+        ),
+        (
+            "00000003",
+            ErrorKind::UnexpectedEof,
+            "the length at byte 7 says that its unit has 3 bytes, of which 0 are there",
+        ),
+        (
+            "000000034188",
+            ErrorKind::UnexpectedEof,
+            "the length at byte 7 says that its unit has 3 bytes, of which 2 are there",
+        ),
+        (
+            "00000000",
+            ErrorKind::InvalidData,
+            "the length at byte 7 is 0",
+        ),
+        (
+            "0000000b",
+            ErrorKind::InvalidData,
+            "the length at byte 7 says that its unit has 11 bytes, more than the 10 that one may have",
+        ),
+        (
+            "00000007 41 000001 67 42 07",
+            ErrorKind::InvalidData,
+            "the unit behind the length at byte 7 holds a start code, at byte 12, which no unit does",
+        ),
+        (
+            "00000007 41 00000001 67 42",
+            ErrorKind::InvalidData,
+            "the unit behind the length at byte 7 holds a start code, at byte 13, which no unit does",
+        ),
+    ] {
+        let stream = bytes(&format!("{good} {bad}"));
+        for piece in 1..=stream.len() {
+            let (came, end) = from_lengths(&stream, piece, 10);
+            let error = end.expect_err("a refusal");
+            assert_eq!((error.kind(), error.to_string().as_str()), (kind, what));
+            assert_eq!(came[..7], bytes("00000001658807"), "what is before came");
+        }
+    }
+    assert_eq!(from_lengths(&[], 1, 10).0, [0; 0]);
 }

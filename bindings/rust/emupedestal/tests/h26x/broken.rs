@@ -353,6 +353,10 @@ fn words_that_are_unknown() {
             "a.mp4: its ending tells no codec",
         ),
         (
+            &["send", "--lengths", "units", "b.pcap"],
+            "units: its ending tells no codec",
+        ),
+        (
             &["send", "a.h264", "b.pcap", "--mtu", "2"],
             "--mtu 2: give a number from 3",
         ),
@@ -405,7 +409,12 @@ fn words_that_are_unknown() {
     }
     folder.run(&["--help"]).says(
         0,
-        &["h26x send IN.h264 OUT.pcap", "Status: 0 all went well"],
+        &[
+            "h26x send IN.h264 OUT.pcap",
+            "IN has its units behind lengths of four bytes",
+            "as .h26x.*.part",
+            "Status: 0 all went well",
+        ],
     );
     folder
         .run(&["receive", "--help"])

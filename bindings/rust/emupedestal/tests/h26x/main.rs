@@ -7,6 +7,7 @@ mod build;
 mod formats;
 mod inspected;
 mod layers;
+mod lengths;
 mod losses;
 mod peers;
 mod program;

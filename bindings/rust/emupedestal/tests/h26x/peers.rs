@@ -331,6 +331,29 @@ fn what_gstreamer_sends_with_error_correction() {
     }
 }
 
+/// Units behind lengths, as GStreamer writes them.
+#[test]
+fn what_gstreamer_writes_behind_lengths() {
+    for ((codec, stream), form) in small_streams().into_iter().zip(["avc3", "hev1"]) {
+        let folder = Folder::new();
+        folder.write("in", &stream);
+        let pipeline = format!(
+            "filesrc location=in ! {codec}parse ! \
+             video/x-{codec},stream-format={form},alignment=au ! filesink location=units"
+        );
+        let words: Vec<&str> = pipeline.split_whitespace().collect();
+        let Some(peer) = Peer::start(&folder, "gst-launch-1.0", &words) else {
+            return;
+        };
+        if !peer.end() {
+            return;
+        }
+        let send = ["send", "--lengths", "units", "out.pcap", "--codec", codec];
+        folder.run(&send).says(0, &[]);
+        check_capture(&folder, "out.pcap", codec, &stream, &[]);
+    }
+}
+
 /// A set, a unit in two fragments, and between them packets of another payload type, marked by an
 /// empty payload; all with these numbers.
 fn with_another_type(packets: &[(u16, &[u8])]) -> Vec<u8> {

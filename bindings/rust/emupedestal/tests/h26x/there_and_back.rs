@@ -1,5 +1,6 @@
 //! The small streams, sent and received again.
 
+use crate::lengths::check_lengths;
 use crate::program::{Folder, cut, small_streams};
 
 /// Units that are never sent: delimiters, and of H.266 types 28 and 29.
@@ -17,7 +18,7 @@ fn sent(codec: &str, stream: &[u8]) -> Vec<Vec<u8>> {
     units
 }
 
-/// Sends a stream, receives it, and compares all units.
+/// Sends a stream, receives it, and compares all units; and so behind lengths.
 #[track_caller]
 fn there_and_back(codec: &str, stream: &[u8], sending: &[&str], receiving: &[&str]) -> Vec<u8> {
     let folder = Folder::new();
@@ -40,6 +41,7 @@ fn there_and_back(codec: &str, stream: &[u8], sending: &[&str], receiving: &[&st
     );
     let back = folder.read(&back);
     assert_eq!(cut(&back), sent(codec, stream));
+    check_lengths(&folder, codec, sending, receiving);
     back
 }
 

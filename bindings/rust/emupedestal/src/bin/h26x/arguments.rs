@@ -22,6 +22,7 @@ pub struct Send {
     pub codec: Codec,
     pub input: PathBuf,
     pub output: PathBuf,
+    pub has_lengths: bool,
     pub mtu: u16,
     pub has_donl: bool,
     pub payload_type: u8,
@@ -112,6 +113,7 @@ impl Words {
                 .unwrap_or(0x6832_3658) as u32,
             sequence: self.number("--sequence", 0, 65535)?.unwrap_or(0) as u16,
             frames: self.frames()?,
+            has_lengths: self.flag("--lengths"),
             input,
             output,
         })

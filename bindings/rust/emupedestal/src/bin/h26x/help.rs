@@ -3,7 +3,7 @@
 pub const HELP: &str = "\
 h26x: H.264, H.265 and H.266 over RTP, in captures
 
-    h26x send IN.h264 OUT.pcap       sends a stream in Annex B form into a capture
+    h26x send IN.h264 OUT.pcap       sends a stream, in Annex B form or behind lengths, into a capture
     h26x receive IN.pcap OUT.h264    writes the units of a stream in a capture
     h26x inspect IN.pcap             says what each packet is, and what is lost and refused
 
@@ -20,6 +20,8 @@ send
   --port N             UDP port (5004)
   --ssrc N             as 1234 or 0x4d2 (0x68323658)
   --sequence N         the first sequence number (0)
+  --lengths            IN has its units behind lengths of four bytes, as in MP4 files (ISO/IEC
+                       14496-15; what receive --lengths writes), and not behind start codes
   Every unit is sent but access unit delimiters, and of H.266 types 28 and 29: they are left out.
 
 receive, inspect

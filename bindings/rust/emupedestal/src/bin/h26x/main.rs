@@ -1,6 +1,7 @@
 //! Sends streams of H.264, H.265 and H.266 into captures as RTP, receives them from captures, and says
 //! of a capture what is in it. `h26x --help` has the rest.
 
+mod access_units;
 mod arguments;
 mod capture;
 mod codecs;

@@ -1,5 +1,6 @@
 //! Sends a stream into a capture.
 
+use crate::access_units::AccessUnits;
 use crate::arguments::Send;
 use crate::codecs::{Likeness, name, word};
 use crate::errors::Failure;
@@ -9,10 +10,8 @@ use crate::printing::say;
 use crate::progress::Progress;
 use crate::rtp::Rtp;
 use crate::streams::counted;
-use emupedestal::access_units::{AccessUnitReader, is_parameter_set_type, unit_type};
+use emupedestal::access_units::{is_parameter_set_type, unit_type};
 use emupedestal::{Codec, CodecPacketizer, PacketError, Packets, units};
-use std::fs::File;
-use std::io::{self, ErrorKind};
 
 const TICKS_A_SECOND: u128 = 90_000;
 const MICROS_A_SECOND: u128 = 1_000_000;
@@ -34,34 +33,15 @@ struct Sender<'a> {
 
 /// Sends, and answers the status to end with.
 pub fn send(asked: &Send) -> Result<u8, Failure> {
-    let failed = |error: io::Error| failure(asked, &error);
-    let file = File::open(&asked.input).map_err(failed)?;
-    let about = file.metadata().map_err(failed)?;
-    if about.is_dir() {
-        return Err(failed(ErrorKind::IsADirectory.into()));
-    }
-    let mut progress = Progress::new(Some("sending"), about.len());
+    let mut access_units = AccessUnits::open(asked)?;
+    let mut progress = Progress::new(Some("sending"), access_units.len);
     let mut sender = Sender::new(asked)?;
-    let mut reader = AccessUnitReader::new(asked.codec, file);
-    while let Some(access_unit) = reader.next_access_unit().map_err(failed)? {
+    while let Some(access_unit) = access_units.next_access_unit()? {
         sender.send(access_unit)?;
-        progress.at(reader.position());
+        progress.at(access_units.position());
     }
     drop(progress);
     sender.finish()
-}
-
-/// Why a stream can't be read further.
-fn failure(asked: &Send, error: &io::Error) -> Failure {
-    if error.kind() != ErrorKind::InvalidData {
-        return Failure::reading(&asked.input, error);
-    }
-    let what = format!(
-        "this is no stream in Annex B form: {error}. Take the stream out of an MP4 or Matroska \
-         file first (ffmpeg -i IN -c copy -bsf:v h264_mp4toannexb OUT.h264, or hevc_mp4toannexb, \
-         vvc_mp4toannexb)"
-    );
-    Failure::of(&asked.input, what)
 }
 
 impl<'a> Sender<'a> {
