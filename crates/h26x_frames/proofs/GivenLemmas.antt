@@ -39,15 +39,7 @@ pub unit_fits : (limit : ℕ) (unit : Option AccessUnitValue) → unit_len unit 
 unit_fits limit None le = refl
 unit_fits limit (Some unit) le = let short : nat_lt limit (length unit.bytes) ≡ false = grind (arith, nat_tests) in rw short refl
 
--- one of the limit is within it
-pub within_limit : (limit : ℕ) (unit : Option AccessUnitValue) → unit_len (unit_within limit unit) ≤ limit
-within_limit limit None = omega arith
-within_limit limit (Some unit) =
-    elim (nat_lt limit (length unit.bytes)) as (λ b. nat_lt limit (length unit.bytes) ≡ b → unit_len (unit_within limit (Some unit)) ≤ limit) [
-      | true ↦ λ long. rw long (omega arith)
-      | false ↦ λ short. rw short (let le : length unit.bytes ≤ limit = grind (arith, nat_tests) in le)
-    ] refl
-
+-- a front is no longer than the whole
 front_le : (a b : List ℕ) → length a ≤ length (a ++ b)
 front_le a b = let both = length-append a b in omega (arith, both)
 

@@ -64,7 +64,7 @@ all_taken most limit first e p s (true ∷ mask) (b ∷ bodies) (a ∷ answers) 
     (subst (λ (x : UnitDepacketization). HaveUnitAnswers most limit x kept answers) here each.1) none.1 later
 
 -- nothing at a place beyond the packets sent
-abbrev nothing : RtpBody
+abbrev pub nothing : RtpBody
 nothing = rtp_body 0 false []
 
 -- the packets at places, and those that the mask of these keeps

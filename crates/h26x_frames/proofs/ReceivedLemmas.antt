@@ -7,7 +7,7 @@ use Rattle.h26x_model.specs.Payload.Facts.{IsPayloadFormat}
 use Rattle.h26x_receiver.specs.declared.received.Received.{Received}
 use Rattle.h26x_receiver.specs.Delivery.{NoneIsRefused, mask_of_places}
 use Rattle.h26x_receiver.proofs.DeliveryLemmas.{DamagesNothing}
-use Rattle.h26x_frames.specs.Rtp.{RtpBody, rtp_body}
+use Rattle.h26x_frames.specs.Rtp.{RtpBody}
 use Rattle.h26x_frames.specs.Reordering.{in_order}
 use Rattle.h26x_frames.specs.ReorderBuffer.{reordered}
 use Rattle.h26x_frames.specs.AccessUnit.{AccessUnitValue, UnitDepacketization, IsUnitAnswer, given_out, after_rtp, after_all_rtp, HaveUnitAnswers, AreUnitsReceived}
@@ -16,7 +16,7 @@ use Rattle.h26x_frames.proofs.ReorderLemmas.{puts_below}
 use Rattle.h26x_frames.proofs.PlaceShiftLemmas.{put_in_order_all}
 use Rattle.h26x_frames.proofs.NetworkLemmas.{same_in_range}
 use Rattle.h26x_frames.proofs.StreamLemmas.{GoesOn}
-use Rattle.h26x_frames.proofs.OrderedLemmas.{come_in_order}
+use Rattle.h26x_frames.proofs.OrderedLemmas.{nothing, come_in_order}
 
 -- one packet more, and its answer
 answers_more : (most limit : ℕ) (s : UnitDepacketization) (packets : List (ℕ × RtpBody)) (answers : List (Result Received PacketError)) (packet : ℕ × RtpBody) (answer : Result Received PacketError) →
@@ -63,7 +63,6 @@ pub units_brought_by : (window most limit : ℕ) (w : UnitDepacketization) (pack
     AreAccessUnitsBrought window most limit w packets (new.ended ++ given_out false new.unit)
 units_brought_by window most limit w packets answers new law on_law some half ok none_open all none = λ s calls first known places same expected it apart within.
     let sent = sent_bodies s calls in
-    let nothing = rtp_body 0 false [] in
     let masks : mask_of_places (in_order places) (length sent) ≡ mask_of_places places (length sent) = same_in_range places 0 (length sent) in
     let left : List Bool → List AccessUnitValue = λ mask. units_left most s w.state.is_avc known calls mask in
     let ordered = come_in_order most limit w (reordered window packets) answers law on_law ok none_open all.each none s calls first known (in_order places) same expected (record {

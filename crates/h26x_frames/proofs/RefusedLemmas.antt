@@ -16,7 +16,7 @@ use Rattle.h26x_receiver.specs.Sequenced.{with_run_if}
 use Rattle.h26x_receiver.specs.Delivery.{IsWantOrTooLong}
 use Rattle.h26x_receiver.proofs.PlaceLemmas.{number_at}
 use Rattle.h26x_receiver.proofs.RefusalLemmas.{no_answer, at_place, want_of}
-use Rattle.h26x_frames.specs.Rtp.{RtpBody, rtp_body}
+use Rattle.h26x_frames.specs.Rtp.{RtpBody}
 use Rattle.h26x_frames.specs.Reordering.{in_order}
 use Rattle.h26x_frames.specs.ReorderBuffer.{reordered}
 use Rattle.h26x_frames.specs.AccessUnit.{UnitDepacketization, taken_by, IsTakenAnswer, after_rtp, HaveUnitAnswers}
@@ -24,6 +24,7 @@ use Rattle.h26x_frames.specs.StampedCalls.{StampedCall, call_packets, after_call
 use Rattle.h26x_frames.proofs.ReorderLemmas.{puts_below}
 use Rattle.h26x_frames.proofs.PlaceShiftLemmas.{put_in_order_all}
 use Rattle.h26x_frames.proofs.StreamLemmas.{GoesOn, next_call}
+use Rattle.h26x_frames.proofs.OrderedLemmas.{nothing}
 use Rattle.h26x_frames.proofs.WholeLemmas.{Carries, all_append}
 
 -- the packets of one call are read
@@ -41,10 +42,6 @@ bodies_read s (c ∷ calls) on_law carry ok it =
     let whole = carry s (depacketization state [] extras.None) (c.call ∷ []) ok it.sender (it.calls_are.0, tt) refl split.carried in
     all_append (λ (b : RtpBody). IsRead (s.format.read b.payload)) (unit_bodies c.timestamp (call_packets s c.call)) (sent_bodies (after_call s c.call) calls)
     (unit_read s.format c.timestamp (call_packets s c.call) whole.read) (bodies_read (after_call s c.call) calls on_law carry ok split.streamed)
-
--- nothing at a place beyond the packets sent
-abbrev nothing : RtpBody
-nothing = rtp_body 0 false []
 
 -- what is read is refused for want of memory, or in AVC form for a unit that is too long
 all_want : (most limit first : ℕ) (sent : List RtpBody) (s : UnitDepacketization) (places : List ℕ) (answers : List (Result Received PacketError)) →

@@ -12,7 +12,7 @@ use Rattle.h26x_receiver.specs.Sequence.{missing_count, distance_behind, is_late
 use Rattle.h26x_receiver.specs.Sequenced.{SequencedDepacketization, sequenced_depacketization, after_sequenced_packet, after_taken_packet, answer_by_missing, is_taken, IsSequencedAnswer, after_answer}
 use Rattle.h26x_receiver.proofs.AnswerLemmas.{accepted}
 use Rattle.h26x_frames.specs.Rtp.{RtpBody}
-use Rattle.h26x_frames.specs.AccessUnit.{AccessUnitValue, empty_unit, whole_if, UnitDepacketization, unit_depacketization, is_unit_at, given_out, is_run_too_long, with_unit_within, after_taken_rtp, after_rtp}
+use Rattle.h26x_frames.specs.AccessUnit.{AccessUnitValue, empty_unit, whole_if, UnitDepacketization, unit_depacketization, is_unit_at, given_out, is_run_too_long, after_taken_rtp}
 
 -- an answer says whether the run was too long
 long_of : (lost : ℕ) (long : Bool) → is_run_too_long (accepted (answer_by_missing lost long)) ≡ long
@@ -39,21 +39,6 @@ taken_work most s number packet (Ok InOrder) taken = refl
 taken_work most s number packet (Ok (Gap n)) taken = refl
 taken_work most s number packet (Ok (TooLong n)) taken = refl
 taken_work most s number packet (Ok (Late n)) taken = absurd (let bad = taken in cc)
-
-pub was_taken : (most limit : ℕ) (s : UnitDepacketization) (p : ℕ × RtpBody) (r : Result Received PacketError) → is_taken r ≡ true →
-    after_rtp most limit s p r ≡ with_unit_within limit (after_taken_rtp most s p)
-was_taken most limit s p (Err e) taken = absurd (let bad = taken in cc)
-was_taken most limit s p (Ok InOrder) taken = refl
-was_taken most limit s p (Ok (Gap n)) taken = refl
-was_taken most limit s p (Ok (TooLong n)) taken = refl
-was_taken most limit s p (Ok (Late n)) taken = absurd (let bad = taken in cc)
-
-pub not_taken : (most limit : ℕ) (s : UnitDepacketization) (p : ℕ × RtpBody) (r : Result Received PacketError) → is_taken r ≡ false → after_rtp most limit s p r ≡ s
-not_taken most limit s p (Err e) not = refl
-not_taken most limit s p (Ok InOrder) not = absurd (let bad = not in cc)
-not_taken most limit s p (Ok (Gap n)) not = absurd (let bad = not in cc)
-not_taken most limit s p (Ok (TooLong n)) not = absurd (let bad = not in cc)
-not_taken most limit s p (Ok (Late n)) not = refl
 
 -- an access unit with what a packet left
 abbrev pub filled : AccessUnitValue → SequencedDepacketization → AccessUnitValue

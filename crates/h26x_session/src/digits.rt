@@ -1,5 +1,7 @@
 //! Bytes from text, by two hexadecimal digits each.
 
+ghost use Rattle.std.specs.Prelude.{◌≡◌, ◌/◌, ◌%◌, false, length, IfOk, OnOk};
+
 use std::alloc::AllocError;
 
 /// Stands for a byte that is no digit; no digit has its bits.
@@ -27,7 +29,10 @@ impl Digits {
     ///
     /// Text has as many digits of one kind as of the other, in no order, so no branch hangs on
     /// what a byte is.
-    pub fn read(&self, text: &[u8], bytes: &mut Vec<u8>) -> Result<bool, AllocError> {
+    pub fn read(&self, text: &[u8], bytes: &mut Vec<u8>) -> Result<bool, AllocError>
+        ensures len { OnOk result (length bytes.new.items ≡ length text.now / 2) }
+        ensures odd { length text.now % 2 ≡ 1 → IfOk result (λ is_text. is_text ≡ false) }
+    {
         bytes.resize(text.len() / 2, 0)?;
         let mut all = 0;
         for (byte, pair) in bytes.iter_mut().zip(text.chunks_exact(2)) {
