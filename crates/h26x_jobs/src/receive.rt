@@ -1,0 +1,243 @@
+//! A player or a gateway receives over a lossy network: packets put in order one by one and as a
+//! list, and access units.
+
+ghost use Rattle.std.specs.Prelude.{◌^◌, ◌<◌, ◌≤◌};
+
+use crate::Work;
+use crate::digest::Digest;
+use crate::draws::Draws;
+use crate::network::arrivals;
+use crate::packets::{Packet, packets_of};
+use crate::setting::{SETTINGS, Setting};
+use crate::stream::{pictures, small_pictures};
+use h26x_core::{CodecExtra, PacketError};
+use h26x_frames::{AccessUnit, FrameReceiver, ReorderBuffer, RtpPacket, receive_frames};
+use h26x_receiver::{AnyDepacketizer, Received, SequencedDepacketizer};
+use std::alloc::Global;
+
+/// How many bytes an open run may hold.
+const RUN_LIMIT: usize = 1_000_000;
+
+/// How many bytes an open access unit may hold.
+const UNIT_LIMIT: usize = 4_000_000;
+
+/// How far timestamps of pictures lie apart, at 30 a second.
+const TICKS: u32 = 3_000;
+
+/// What packets of a round bear: the number of the first, and its timestamp.
+#[derive(Debug, Clone, Copy)]
+struct First {
+    sequence: u16,
+    timestamp: u32,
+}
+
+/// A depacketizer of a setting.
+fn depacketizer_of(alloc: Global, setting: Setting) -> AnyDepacketizer {
+    let mut depacketizer = AnyDepacketizer::new(alloc, setting.codec);
+    depacketizer.with_donl(setting.has_donl);
+    depacketizer
+}
+
+/// Adds what became of a packet.
+#[inline]
+fn add_received(digest: &mut Digest, received: Result<Received, PacketError>) {
+    let number = match received {
+        Ok(Received::InOrder) => 1,
+        Ok(Received::Gap(missing)) => 0x1_0000 + u64::from(missing),
+        Ok(Received::TooLong(missing)) => 0x2_0000 + u64::from(missing),
+        Ok(Received::Late(behind)) => 0x3_0000 + u64::from(behind),
+        Err(_) => 2,
+    };
+    digest.number(number);
+}
+
+/// Adds access units, and drops them.
+fn add_units(digest: &mut Digest, units: &mut Vec<AccessUnit>) {
+    for unit in units.iter() {
+        digest.number(u64::from(unit.timestamp));
+        digest.number(u64::from(unit.is_whole));
+        digest.bytes(&unit.bytes);
+    }
+    units.clear();
+}
+
+/// The packets of a round with their numbers and timestamps.
+fn numbered<'a>(
+    alloc: Global,
+    packets: &'a [Packet],
+    first: First,
+) -> Result<Vec<RtpPacket<'a>>, PacketError> {
+    let mut numbered = Vec::new(alloc);
+    let First {
+        mut sequence,
+        mut timestamp,
+    } = first;
+    for packet in packets {
+        numbered.push(RtpPacket {
+            sequence,
+            timestamp,
+            marker: packet.marker,
+            payload: &packet.payload,
+        })?;
+        sequence = sequence.wrapping_add(1);
+        if packet.marker {
+            timestamp = timestamp.wrapping_add(TICKS);
+        }
+    }
+    Ok(numbered)
+}
+
+/// Receives packets as they come, one by one, through a buffer with a window.
+fn receive_each(
+    alloc: Global,
+    setting: Setting,
+    window: u16,
+    packets: &[RtpPacket<'_>],
+    order: &[usize],
+    digest: &mut Digest,
+) -> Result<(), PacketError>
+    requires some { 0 < window }
+    requires half { window ≤ 2 ^ 14 }
+{
+    let sequenced = SequencedDepacketizer::new(alloc, depacketizer_of(alloc, setting), RUN_LIMIT);
+    let mut receiver = FrameReceiver::new(alloc, sequenced, UNIT_LIMIT);
+    let mut buffer = ReorderBuffer::new(alloc, window);
+    let mut units = Vec::new(alloc);
+    for place in order {
+        if let Some(packet) = packets.get(*place) {
+            buffer.push(packet)?;
+            while let Some(held) = buffer.pop() {
+                add_received(digest, receiver.receive(&held.packet(), &mut units));
+            }
+            add_units(digest, &mut units);
+        }
+    }
+    while let Some(held) = buffer.pop_first() {
+        add_received(digest, receiver.receive(&held.packet(), &mut units));
+    }
+    receiver.end(&mut units)?;
+    add_units(digest, &mut units);
+    Ok(())
+}
+
+/// Receives packets that came as a list.
+fn receive_list(
+    alloc: Global,
+    setting: Setting,
+    window: u16,
+    packets: &[RtpPacket<'_>],
+    order: &[usize],
+    digest: &mut Digest,
+) -> Result<(), PacketError>
+    requires some { 0 < window }
+    requires half { window ≤ 2 ^ 14 }
+{
+    let sequenced = SequencedDepacketizer::new(alloc, depacketizer_of(alloc, setting), RUN_LIMIT);
+    let mut receiver = FrameReceiver::new(alloc, sequenced, UNIT_LIMIT);
+    let mut came = Vec::new(alloc);
+    for place in order {
+        if let Some(packet) = packets.get(*place) {
+            came.push(RtpPacket {
+                sequence: packet.sequence,
+                timestamp: packet.timestamp,
+                marker: packet.marker,
+                payload: packet.payload,
+            })?;
+        }
+    }
+    let mut units = Vec::new(alloc);
+    for received in receive_frames(alloc, &mut receiver, window, &came, &mut units)? {
+        add_received(digest, received);
+    }
+    add_units(digest, &mut units);
+    Ok(())
+}
+
+/// Receives packets as they come, without a buffer and without access units.
+fn receive_sequenced(
+    alloc: Global,
+    setting: Setting,
+    packets: &[RtpPacket<'_>],
+    order: &[usize],
+    digest: &mut Digest,
+) -> Result<(), PacketError> {
+    let mut receiver = SequencedDepacketizer::new(
+        alloc,
+        depacketizer_of(alloc, setting),
+        RUN_LIMIT,
+    );
+    let mut out = Vec::new(alloc);
+    let mut extra = CodecExtra::None;
+    for place in order {
+        if let Some(packet) = packets.get(*place) {
+            let received = receiver.receive(packet.sequence, packet.payload, &mut out, &mut extra);
+            add_received(digest, received);
+            if packet.marker {
+                digest.bytes(&out);
+                out.clear();
+            }
+        }
+    }
+    Ok(())
+}
+
+/// Receives the packets of a setting in each round: each time with other numbers, and others of them
+/// lost, repeated and late.
+fn receive_setting(
+    alloc: Global,
+    rounds: u32,
+    setting: Setting,
+    packets: &[Packet],
+    draws: &mut Draws,
+    digest: &mut Digest,
+) -> Result<(), PacketError> {
+    let mut first = First {
+        sequence: 65_000,
+        timestamp: 4_294_000_000,
+    };
+    for round in 0..rounds {
+        let sent = numbered(alloc, packets, first)?;
+        let order = arrivals(alloc, draws, sent.len())?;
+        let window = 64 + draws.below(961) as u16;
+        match round % 4 {
+            0 | 2 => receive_each(alloc, setting, window, &sent, &order, digest)?,
+            1 => receive_list(alloc, setting, window, &sent, &order, digest)?,
+            _ => receive_sequenced(alloc, setting, &sent, &order, digest)?,
+        }
+        first = First {
+            sequence: first.sequence.wrapping_add(7_919),
+            timestamp: first.timestamp.wrapping_add(1_000_003),
+        };
+    }
+    Ok(())
+}
+
+/// Receives the pictures of each setting, and small ones.
+pub fn run(alloc: Global, work: Work) -> Result<Digest, PacketError> {
+    let mut draws = Draws::new(work.seed);
+    let mut digest = Digest::new();
+    for setting in &SETTINGS {
+        let stream = pictures(alloc, &mut draws, *setting, work.pictures)?;
+        let packets = packets_of(alloc, *setting, &stream)?;
+        receive_setting(
+            alloc,
+            work.rounds,
+            *setting,
+            &packets,
+            &mut draws,
+            &mut digest,
+        )?;
+        let count = work.pictures.saturating_mul(40);
+        let stream = small_pictures(alloc, &mut draws, *setting, count)?;
+        let packets = packets_of(alloc, *setting, &stream)?;
+        receive_setting(
+            alloc,
+            work.rounds,
+            *setting,
+            &packets,
+            &mut draws,
+            &mut digest,
+        )?;
+    }
+    Ok(digest)
+}
