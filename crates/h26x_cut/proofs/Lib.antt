@@ -3,5 +3,7 @@ pub mod TextLemmas
 pub mod MarkLemmas
 pub mod SliceLemmas
 pub mod PlaceLemmas
+pub mod LeastLemmas
+pub mod RunLemmas
 pub mod SearchLemmas
 pub mod UnitLemmas

@@ -4,6 +4,7 @@
 
 mod cases;
 pub mod laws;
+mod search;
 mod slices;
 
 pub use slices::{UnitSlices, next_unit, units};

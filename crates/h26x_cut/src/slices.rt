@@ -2,17 +2,13 @@
 
 ghost use Rattle.std.specs.Prelude.{◌≡◌, [], None, IfSome, drop};
 ghost use Rattle.std.specs.Iterator.{YieldsFirstBy, item_count};
-ghost use Rattle.memchr.specs.Find.{FindsNeedle};
 ghost use Rattle.h26x_cut.specs.Cutting.{AreUnits, IsNextUnit, trimmed, units_of};
-ghost use Rattle.h26x_cut.specs.Slices.{IsFirstCode, code, units_behind};
+ghost use Rattle.h26x_cut.specs.Slices.{units_behind};
 
 use crate::ZeroRule;
-use memchr::memmem::Finder;
+use crate::search::{CODE, first_code};
 use std::marker::Model;
 use std::ops::Range;
-
-/// The nearest zeros of a start code, and its mark.
-const CODE: &[u8] = &[0, 0, 1];
 
 /// The units of a payload that are left, in order, as slices of it (Annex B of H.264, H.265 and
 /// H.266).
@@ -23,26 +19,17 @@ pub struct UnitSlices<'a> {
     /// Where the next start code begins in it, by its two nearest zeros.
     next_code: Option<usize>,
     rule: ZeroRule,
-    finder: Finder<'static>,
 }
 
 impl<'a> Model for UnitSlices<'a> {
     ghost use Rattle.std.specs.Prelude.{◌≡◌, List, ℕ};
-    ghost use Rattle.h26x_cut.specs.Slices.{units_behind, IsFirstCode, code};
+    ghost use Rattle.h26x_cut.specs.Slices.{units_behind, IsFirstCode};
 
     ghost Value = { List (List ℕ) };
 
     ghost view = { λ a. units_behind a.rule a.rest.now };
 
-    ghost invariant = { λ a. IsFirstCode a.rest.now a.next_code × (a.finder ≡ code) };
-}
-
-/// Where the first start code of bytes begins, by its two nearest zeros.
-fn first_code(finder: &Finder<'static>, bytes: &[u8]) -> Option<usize>
-    requires { finder.now ≡ code }
-    ensures { IsFirstCode bytes.now result }
-{
-    finder.find(bytes)
+    ghost invariant = { λ a. IsFirstCode a.rest.now a.next_code };
 }
 
 /// A piece without the zeros that the start code behind it takes.
@@ -69,15 +56,13 @@ fn without_code_zeros(piece: &[u8], rule: ZeroRule) -> &[u8]
 }
 
 /// The units of bytes that stand behind a start code.
-fn units_behind_code<'a>(bytes: &'a [u8], rule: ZeroRule, finder: Finder<'static>) -> UnitSlices<'a>
-    requires { finder ≡ code }
+fn units_behind_code(bytes: &[u8], rule: ZeroRule) -> UnitSlices<'_>
     ensures { result ≡ units_behind rule bytes.now }
 {
     UnitSlices {
         rest: bytes,
-        next_code: first_code(&finder, bytes),
+        next_code: first_code(bytes),
         rule,
-        finder,
     }
 }
 
@@ -95,14 +80,12 @@ fn units_behind_code<'a>(bytes: &'a [u8], rule: ZeroRule, finder: Finder<'static
 pub fn units(payload: &[u8], rule: ZeroRule) -> UnitSlices<'_>
     ensures { AreUnits rule payload.now result }
 {
-    let finder = Finder::new(CODE);
-    match first_code(&finder, payload) {
-        Some(place) => units_behind_code(&payload[place + CODE.len()..], rule, finder),
+    match first_code(payload) {
+        Some(place) => units_behind_code(&payload[place + CODE.len()..], rule),
         None => UnitSlices {
             rest: payload,
             next_code: None,
             rule,
-            finder,
         },
     }
 }
@@ -124,16 +107,15 @@ pub fn next_unit(payload: &[u8], rule: ZeroRule, from: usize) -> Option<Range<us
     ensures some { IfSome result (λ place. IsNextUnit (units_of rule) payload.now from
         place.start place.end) }
 {
-    let finder = Finder::new(CODE);
     let behind = payload.get(from..)?;
-    let mut rest = match first_code(&finder, behind) {
+    let mut rest = match first_code(behind) {
         Some(place) => &behind[place + CODE.len()..],
         None if behind.is_empty() => return None,
         None => return Some(from..payload.len()),
     };
     while !rest.is_empty() {
         let begin = payload.len() - rest.len();
-        let Some(place) = first_code(&finder, rest) else {
+        let Some(place) = first_code(rest) else {
             return Some(begin..payload.len());
         };
         let unit = without_code_zeros(&rest[..place], rule);
@@ -158,7 +140,7 @@ impl<'a> Iterator for UnitSlices<'a> {
                 Some(place) => {
                     let unit = without_code_zeros(&self.rest[..place], self.rule);
                     self.rest = &self.rest[place + CODE.len()..];
-                    self.next_code = first_code(&self.finder, self.rest);
+                    self.next_code = first_code(self.rest);
                     if !unit.is_empty() {
                         return Some(unit);
                     }

@@ -82,6 +82,28 @@ fn every_short_payload_as_by_the_plain_scan(rt: HostRuntime) {
     assert!(rt; same == 3280);
 }
 
+/// Writes a start code at a place of bytes, or as much of one as there is room for.
+fn write_code(bytes: &mut [u8], place: usize) {
+    for (byte, value) in bytes.iter_mut().skip(place).zip([0, 0, 1]) {
+        *byte = value;
+    }
+}
+
+/// Lengths on both sides of those at which the search goes on in another way.
+static LENGTHS: [usize; 12] = [17, 18, 19, 33, 34, 65, 66, 67, 130, 193, 194, 330];
+
+#[test]
+fn a_code_at_each_place_as_by_the_plain_scan(rt: HostRuntime) -> Result<(), Fail> {
+    for len in &LENGTHS {
+        for place in 0..*len {
+            let mut payload = vec![in rt.alloc(); 1u8; *len]?;
+            write_code(&mut payload, place);
+            assert!(rt; is_as_by_the_plain_scan(&payload));
+        }
+    }
+    Ok(())
+}
+
 #[test]
 fn a_long_run_of_zeros(rt: HostRuntime) -> Result<(), Fail> {
     let mut payload = vec![in rt.alloc(); 0u8; 100_000]?;
