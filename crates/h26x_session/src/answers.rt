@@ -3,6 +3,7 @@
 ghost use Rattle.std.specs.Prelude.{◌≤◌, length};
 
 use crate::session::RunError;
+use crate::to_digits::write_lower;
 use h26x_codec::Carried;
 use h26x_core::{CodecExtra, PacketError};
 use std::alloc::Global;
@@ -138,7 +139,7 @@ impl<W: Write + Drop> Answers<W> {
     {
         let mut digits = [0; 2 * CHUNK];
         let digits = &mut digits[..2 * bytes.len()];
-        let _ = hex::encode_to_slice(bytes, digits);
+        write_lower(bytes, digits);
         self.write(digits)
     }
 

@@ -2,6 +2,7 @@
 
 ghost use Rattle.std.specs.Prelude.{◌≡◌, ◌/◌, ◌%◌, false, length, IfOk, OnOk};
 
+use crate::from_digits::{LANES, read_blocks};
 use std::alloc::AllocError;
 
 /// Stands for a byte that is no digit; no digit has its bits.
@@ -34,8 +35,13 @@ impl Digits {
         ensures odd { length text.now % 2 ≡ 1 → IfOk result (λ is_text. is_text ≡ false) }
     {
         bytes.resize(text.len() / 2, 0)?;
-        let mut all = 0;
-        for (byte, pair) in bytes.iter_mut().zip(text.chunks_exact(2)) {
+        let whole = bytes.len() / LANES * LANES;
+        let are_digits = read_blocks(&text[..2 * whole], &mut bytes[..whole]);
+        let mut all = if are_digits { 0 } else { NONE };
+        for (byte, pair) in bytes[whole..]
+            .iter_mut()
+            .zip(text[2 * whole..].chunks_exact(2))
+        {
             let high = self.values[usize::from(pair[0])];
             let low = self.values[usize::from(pair[1])];
             all |= high | low;

@@ -4,8 +4,12 @@
 
 pub mod answers;
 pub mod digits;
+mod from_digits;
 mod line;
 mod session;
 mod settings;
+#[cfg(test)]
+mod tests;
+mod to_digits;
 
 pub use session::{RunError, run};
