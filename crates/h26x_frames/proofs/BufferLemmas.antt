@@ -7,8 +7,7 @@ use Rattle.std.proofs.lemmas.Bool.Decides.{nat_tests}
 use Rattle.h26x_receiver.specs.Sequence.{distance_ahead, next_sequence_number, is_late}
 use Rattle.std.proofs.lemmas.List.{drop_more}
 use Rattle.h26x_frames.specs.Rtp.{RtpBody}
-use Rattle.h26x_frames.specs.declared.buffer.HeldPacket.{HeldPacket}
-use Rattle.h26x_frames.specs.ReorderBuffer.{BufferState, IsBufferState, buffer_state, numbered_packet, due_at, put_packet, is_number_held, last_number, may_go, first_ready, next_packet, without_first_of, without_first, after_push, ready_front, without_front, ready_packets, without_ready, IsReadyStep, IsNothingReady, reordered_from, AreHeldInOrder, IsHeldInOrder}
+use Rattle.h26x_frames.specs.ReorderBuffer.{BufferState, IsBufferState, buffer_state, due_at, put_packet, is_number_held, last_number, may_go, first_ready, next_packet, without_first_of, without_first, after_push, ready_front, without_front, ready_packets, without_ready, IsReadyStep, IsNothingReady, reordered_from, AreHeldInOrder, IsHeldInOrder}
 use Rattle.h26x_frames.proofs.HeldLemmas.{same_distance, distance_of}
 
 -- the number that is due when a packet comes
@@ -102,21 +101,14 @@ rest_in_order (Some due) p held (small, order) =
     let from : distance_ahead due p.0 + 1 ≡ distance_ahead due (next_sequence_number p.0) + 0 = omega (arith, far) in
     (omega arith, later_order due (next_sequence_number p.0) 0 held small (omega arith) (subst (λ (n : ℕ). AreHeldInOrder due n held) from order.3))
 
--- packets with one more, as contracts see them
-pub numbered_insert : (held : List HeldPacket) (at : ℕ) (p : HeldPacket) → map numbered_packet (insert held at p) ≡ insert (map numbered_packet held) at (numbered_packet p)
-numbered_insert [] zero p = refl
-numbered_insert [] (suc at) p = refl
-numbered_insert (q ∷ held) zero p = refl
-numbered_insert (q ∷ held) (suc at) p = ap (λ (l : List (ℕ × RtpBody)). numbered_packet q ∷ l) (numbered_insert held at p)
-
 -- the last of packets has the last number
-last_is : (q : HeldPacket) (held : List HeldPacket) (d : HeldPacket) → last_number q.sequence (map numbered_packet held) ≡ (get_or (q ∷ held) (length held) d).sequence
+last_is : (q : ℕ × RtpBody) (held : List (ℕ × RtpBody)) (d : ℕ × RtpBody) → last_number q.0 held ≡ (get_or (q ∷ held) (length held) d).0
 last_is q [] d = refl
 last_is q (p ∷ held) d = last_is p held d
 
 -- the last is no nearer than the first
-last_behind : (due from : ℕ) (q : HeldPacket) (held : List HeldPacket) → AreHeldInOrder due from (map numbered_packet (q ∷ held)) →
-    (distance_of due q ≤ distance_ahead due (last_number q.sequence (map numbered_packet held))) × (distance_ahead due (last_number q.sequence (map numbered_packet held)) < 32768)
+last_behind : (due from : ℕ) (q : ℕ × RtpBody) (held : List (ℕ × RtpBody)) → AreHeldInOrder due from ((q ∷ held)) →
+    (distance_of due q ≤ distance_ahead due (last_number q.0 held)) × (distance_ahead due (last_number q.0 held) < 32768)
 last_behind due from q [] order = (omega arith, order.2)
 last_behind due from q (p ∷ held) order =
     let rest = last_behind due (distance_of due q + 1) p held order.3 in
@@ -124,26 +116,26 @@ last_behind due from q (p ∷ held) order =
     (omega (arith, rest.0), rest.1)
 
 -- whether the first may go, by the first and the last
-pub record AreEnds (window due : ℕ) (held : List HeldPacket) (first last : HeldPacket) : Type 0 where
+pub record AreEnds (window due : ℕ) (held : List (ℕ × RtpBody)) (first last : ℕ × RtpBody) : Type 0 where
   pub rise : distance_of due first ≤ distance_of due last
-  pub ready : is_some (first_ready window (Some due) (map numbered_packet held)) ≡ may_go window last.sequence due first.sequence
+  pub ready : is_some (first_ready window (Some due) held) ≡ may_go window last.0 due first.0
 
 some_if : (b : Bool) (p : ℕ × RtpBody) → is_some (cond b (Some p) None) ≡ b
 some_if true p = refl
 some_if false p = refl
 
-pub ends : (window due : ℕ) (held : List HeldPacket) (first last : HeldPacket) → 0 < length held → first ≡ get_or held 0 first → last ≡ get_or held (length held - 1) last →
-    AreHeldInOrder due 0 (map numbered_packet held) → AreEnds window due held first last
+pub ends : (window due : ℕ) (held : List (ℕ × RtpBody)) (first last : ℕ × RtpBody) → 0 < length held → first ≡ get_or held 0 first → last ≡ get_or held (length held - 1) last →
+    AreHeldInOrder due 0 held → AreEnds window due held first last
 ends window due [] first last some f l order = absurd (omega arith)
 ends window due (q ∷ held) first last some f l order =
     let there : last ≡ get_or (q ∷ held) (length held) last = l ∙ ap (λ (n : ℕ). get_or (q ∷ held) n last) (omega arith) in
-    let number : last_number q.sequence (map numbered_packet held) ≡ last.sequence = last_is q held last ∙ ap (λ (p : HeldPacket). p.sequence) (sym there) in
-    let same : q.sequence ≡ first.sequence = ap (λ (p : HeldPacket). p.sequence) (sym f) in
+    let number : last_number q.0 held ≡ last.0 = last_is q held last ∙ ap (λ (p : ℕ × RtpBody). p.0) (sym there) in
+    let same : q.0 ≡ first.0 = ap (λ (p : ℕ × RtpBody). p.0) (sym f) in
     let up = last_behind due 0 q held order in
     record {
-      rise = subst (λ (n : ℕ). distance_of due first ≤ distance_ahead due n) number (subst (λ (n : ℕ). distance_ahead due n ≤ distance_ahead due (last_number q.sequence (map numbered_packet held))) same up.0);
-      ready = some_if (may_go window (last_number q.sequence (map numbered_packet held)) due q.sequence) (numbered_packet q)
-          ∙ ap (λ (n : ℕ). may_go window n due q.sequence) number ∙ ap (λ (n : ℕ). may_go window last.sequence due n) same;
+      rise = subst (λ (n : ℕ). distance_of due first ≤ distance_ahead due n) number (subst (λ (n : ℕ). distance_ahead due n ≤ distance_ahead due (last_number q.0 held)) same up.0);
+      ready = some_if (may_go window (last_number q.0 held) due q.0) q
+          ∙ ap (λ (n : ℕ). may_go window n due q.0) number ∙ ap (λ (n : ℕ). may_go window last.0 due n) same;
     }
 
 -- a packet that is not late is put to the others
@@ -230,9 +222,21 @@ pub few_is : (b : BufferState RtpBody) → IsBufferState b → (result : Bool) �
 few_is b is result ready not = few_held b.window b.due b.held is.some is.order (sym ready ∙ not)
 
 -- packets with one more
-pub numbered_more : (packets : List HeldPacket) (p : HeldPacket) → map numbered_packet (packets ++ p ∷ []) ≡ map numbered_packet packets ++ numbered_packet p ∷ []
-numbered_more [] p = refl
-numbered_more (q ∷ packets) p = ap (λ (l : List (ℕ × RtpBody)). numbered_packet q ∷ l) (numbered_more packets p)
+pub map_more : {A : Type 0} (f : A → ℕ × RtpBody) (packets : List A) (p : A) → map f (packets ++ p ∷ []) ≡ map f packets ++ f p ∷ []
+map_more f [] p = refl
+map_more f (q ∷ packets) p = ap (λ (l : List (ℕ × RtpBody)). f q ∷ l) (map_more f packets p)
+
+-- a list of no length is empty
+pub empty_is : {A : Type 0} (items : List A) → (0 < length items → ⊥) → items ≡ []
+empty_is [] none = refl
+empty_is (x ∷ items) none = absurd (none (omega arith))
+
+-- packets with one put at a place
+pub map_insert : {A : Type 0} (f : A → ℕ × RtpBody) (held : List A) (at : ℕ) (p : A) → map f (insert held at p) ≡ insert (map f held) at (f p)
+map_insert f [] zero p = refl
+map_insert f [] (suc at) p = refl
+map_insert f (q ∷ held) zero p = refl
+map_insert f (q ∷ held) (suc at) p = ap (λ (l : List (ℕ × RtpBody)). f q ∷ l) (map_insert f held at p)
 
 -- what is given out of packets that are left, one of them taken
 pub one_taken : (b new : BufferState RtpBody) (packets : List (ℕ × RtpBody)) (i : ℕ) (p : ℕ × RtpBody) (out more : List (ℕ × RtpBody)) → i < length packets → get_or packets i p ≡ p →

@@ -4,3 +4,4 @@ pub mod Network
 pub mod Rtp
 pub mod AccessUnit
 pub mod StampedCalls
+pub mod NumberOrder

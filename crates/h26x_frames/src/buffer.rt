@@ -6,14 +6,10 @@ ghost use Rattle.std.specs.Option.{option_map};
 ghost use Rattle.h26x_frames.specs.Rtp.{RtpBody};
 ghost use Rattle.h26x_frames.specs.ReorderBuffer.{BufferState, IsBufferState, buffer_state, numbered_packet, fresh_buffer, put_packet, is_number_held, push_answer, after_push, next_packet, without_first, AreHeldInOrder};
 
+use crate::order::NumberOrder;
 use crate::packet::RtpPacket;
 use std::alloc::{AllocError, Global};
-use std::collections::VecDeque;
 use std::marker::Model;
-
-/// How far ahead of the number that is due a number is taken as behind it: half of the circle (RFC
-/// 3550, A.1).
-const HALF: u16 = 0x8000;
 
 /// A packet that a buffer gave out.
 #[derive(Debug, Drop)]
@@ -30,7 +26,11 @@ pub struct HeldPacket {
 
 impl HeldPacket {
     /// A copy of a packet, with this sequence number.
-    fn copy(alloc: Global, sequence: u16, packet: &RtpPacket<'_>) -> Result<Self, AllocError>
+    pub(crate) fn copy(
+        alloc: Global,
+        sequence: u16,
+        packet: &RtpPacket<'_>,
+    ) -> Result<Self, AllocError>
         ensures { IfOk result (λ held. numbered_packet held ≡ (sequence, packet.now.1)) }
     {
         Ok(HeldPacket {
@@ -67,23 +67,6 @@ pub enum Pushed {
     Twice,
 }
 
-/// Where among packets in the order of their numbers one with this number stands, or else where it
-/// belongs.
-fn place_of(held: &VecDeque<HeldPacket>, due: u16, number: u16) -> Result<usize, usize>
-    requires { AreHeldInOrder due 0 (map numbered_packet held.now.items) }
-    ensures found { IfOk result (λ _. is_number_held number
-        (map numbered_packet held.now.items) ≡ true) }
-    ensures absent { IfErr result (λ _. is_number_held number
-        (map numbered_packet held.now.items) ≡ false) }
-    ensures range { IfErr result (λ at. at ≤ length held.now.items) }
-    ensures place { (packet : RtpBody) → IfErr result (λ at.
-        insert (map numbered_packet held.now.items) at (number, packet)
-        ≡ put_packet due (number, packet) (map numbered_packet held.now.items)) }
-{
-    let ahead = number.wrapping_sub(due);
-    held.binary_search_by_key(&ahead, |p| p.sequence.wrapping_sub(due))
-}
-
 /// Holds packets that came before earlier ones until those have come, or until a window of packets
 /// has passed (a jitter buffer), and gives them out in the order of their sequence numbers of RTP
 /// (RFC 3550, 5.1), each once.
@@ -97,19 +80,14 @@ fn place_of(held: &VecDeque<HeldPacket>, due: u16, number: u16) -> Result<usize,
 /// ```
 #[derive(Debug, Drop)]
 pub struct ReorderBuffer {
-    window: u16,
-    due: Option<u16>,
-    held: VecDeque<HeldPacket>,
+    held: NumberOrder<HeldPacket>,
     alloc: Global,
 }
 
 impl Model for ReorderBuffer {
     ghost Value = { BufferState RtpBody };
 
-    ghost view = { λ b. buffer_state b.window b.due (map numbered_packet b.held.items) };
-
-    ghost invariant = { λ b. IsBufferState
-        (buffer_state b.window b.due (map numbered_packet b.held.items)) };
+    ghost view = { λ b. b.held };
 }
 
 impl ReorderBuffer {
@@ -124,9 +102,7 @@ impl ReorderBuffer {
         ensures { result ≡ fresh_buffer window }
     {
         ReorderBuffer {
-            window,
-            due: None,
-            held: VecDeque::new(alloc),
+            held: NumberOrder::new(alloc, window),
             alloc,
         }
     }
@@ -167,20 +143,13 @@ impl ReorderBuffer {
         ensures kept { OnErr result (self.new ≡ self.old) }
         ensures one_more { length self.new.held ≤ length self.old.held + 1 }
     {
-        let first_due = sequence.wrapping_add(1).wrapping_sub(self.window);
-        let due = self.due.unwrap_or(first_due);
-        let ahead = sequence.wrapping_sub(due);
-        if ahead >= HALF {
-            return Ok(Pushed::Late(u16::MAX - ahead + 1));
-        }
-        match place_of(&self.held, due, sequence) {
-            Ok(_) => Ok(Pushed::Twice),
-            Err(place) => {
+        match self.held.place_of(sequence) {
+            Ok((due, place)) => {
                 let held = HeldPacket::copy(self.alloc, sequence, packet)?;
-                self.held.insert(place, held)?;
-                self.due = Some(due);
+                self.held.put(due, place, held)?;
                 Ok(Pushed::Held)
             }
+            Err(answer) => Ok(answer),
         }
     }
 
@@ -193,11 +162,7 @@ impl ReorderBuffer {
         // Where none may go, fewer are held than the window has.
         ensures bounded { result ≡ None → length self.new.held < self.new.window }
     {
-        if self.is_ready() {
-            self.pop_first()
-        } else {
-            None
-        }
+        self.held.pop()
     }
 
     /// The first of the packets held, whether it may go or not: at the end of a stream, or where the
@@ -206,24 +171,7 @@ impl ReorderBuffer {
         ensures packet { option_map numbered_packet result ≡ slice_get self.old.held 0 }
         ensures after { self.new ≡ without_first self.old }
     {
-        let first = self.held.pop_front()?;
-        self.due = Some(first.sequence.wrapping_add(1));
-        Some(first)
-    }
-
-    /// Whether the first of the packets held may go.
-    fn is_ready(&self) -> bool
-        ensures ready { result ≡ is_some (next_packet self.now) }
-        ensures few { result ≡ false → length self.now.held < self.now.window }
-    {
-        match (self.due, self.held.front(), self.held.back()) {
-            (Some(due), Some(first), Some(last)) => {
-                let ahead = first.sequence.wrapping_sub(due);
-                let newest = last.sequence.wrapping_sub(due);
-                first.sequence == due || newest - ahead + 1 >= self.window
-            }
-            _ => false,
-        }
+        self.held.pop_first()
     }
 
     /// Drops what it holds, and takes any sequence number as the next: for a peer that begins anew,
@@ -231,7 +179,6 @@ impl ReorderBuffer {
     pub fn restart(&mut self)
         ensures { self.new ≡ fresh_buffer self.old.window }
     {
-        self.held.clear();
-        self.due = None;
+        self.held.restart();
     }
 }

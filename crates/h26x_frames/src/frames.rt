@@ -11,7 +11,7 @@ ghost use Rattle.h26x_frames.specs.StampedCalls.{AreAccessUnitsBrought, NoneBrou
 use crate::access_unit::AccessUnit;
 use crate::packet::RtpPacket;
 use crate::receiver::FrameReceiver;
-use crate::reorder::reorder_all;
+use crate::reorder::ordered;
 use h26x_core::PacketError;
 use h26x_model::laws;
 use h26x_receiver::{Received, RunDepacketizer};
@@ -89,10 +89,10 @@ pub fn receive_frames<D: RunDepacketizer>(
     laws::nothing_is_damaged();
     laws::packetizers_go_on();
     laws::what_calls_send_is_carried();
-    let ordered = reorder_all(alloc, window, packets)?;
+    let ordered = ordered(alloc, window, packets)?;
     let mut answers = Vec::with_capacity(alloc, ordered.len())?;
-    for held in &ordered {
-        let answer = receiver.receive(&held.packet(), out);
+    for packet in &ordered {
+        let answer = receiver.receive(packet, out);
         answers.push(answer).unwrap();
     }
     Ok(answers)

@@ -7,7 +7,10 @@ mod buffer;
 mod cases;
 mod frames;
 pub mod laws;
+mod numbered;
+mod order;
 mod packet;
+mod parted;
 mod receiver;
 mod reorder;
 

@@ -1,4 +1,4 @@
-use Rattle.std.proofs.Common.{rules, arith, ◌≡◌, ◌∙◌, ◌<◌, ◌≤◌, ◌++◌, ◌∷◌, [], sym, ap, map, ℕ, List, None, true, length, get_or, subst}
+use Rattle.std.proofs.Common.{rules, arith, ◌≡◌, ◌∙◌, ◌<◌, ◌≤◌, ◌++◌, ◌∷◌, [], sym, ap, map, ℕ, List, None, true, length, get_or, subst, Bor}
 use Rattle.std.proofs.lemmas.Grind.{common_steps}
 use Rattle.std.proofs.lemmas.List.{length-map, get_or-map, take_all}
 use Rattle.std.specs.Prelude.{OnErr}
@@ -8,39 +8,43 @@ use Rattle.h26x_receiver.specs.Sequenced.{is_taken, having_taken_all}
 use Rattle.h26x_receiver.proofs.AnswerLemmas.{accepted}
 use Rattle.h26x_receiver.proofs.TakenLemmas.{taken_on}
 use Rattle.h26x_frames.specs.Rtp.{RtpBody}
-use Rattle.h26x_frames.specs.ReorderBuffer.{numbered_packet, reordered}
+use Rattle.h26x_frames.specs.ReorderBuffer.{reordered}
 use Rattle.h26x_frames.specs.AccessUnit.{access_unit_value, unit_depacketization, unit_len, IsUnitAnswer, after_rtp, AreUnitsReceived}
 use Rattle.h26x_frames.proofs.ReceivedLemmas.{units_more, units_to_end, units_brought_by}
 use Rattle.h26x_frames.proofs.RefusedLemmas.{brought_want}
 use Rattle.h26x_frames.proofs.frames.receive_frames.Goals as goal
 
-pub loop-held-preserved : goal.loop-held-preserved
-loop-held-preserved g c =
+-- the packet that a reference is of
+abbrev seen : Bor (ℕ × RtpBody) → ℕ × RtpBody
+seen p = p.now
+
+pub loop-packet-preserved : goal.loop-packet-preserved
+loop-packet-preserved g c =
     let o = c.receive-answer.result in
-    let pushed : c.push.new.self.items ≡ c.loop-held.answers.items ++ o ∷ [] = search rules in
-    let held = c.deref-held-items.result.now in
-    let packets = map numbered_packet held in
-    let i = c.loop-held.held-index in
-    let item = c.held-item.result in
-    let p = numbered_packet item in
+    let pushed : c.push.new.self.items ≡ c.loop-packet.answers.items ++ o ∷ [] = search rules in
+    let held = c.deref-packet-items.result.now in
+    let packets = map seen held in
+    let i = c.loop-packet.packet-index in
+    let item = c.packet-item.result in
+    let p = seen item in
     let state = g.D.RunDepacketizer.state in
-    let within : i < length packets = rw length-map c.loop-held-test.true in
-    let here : get_or packets i p ≡ p = get_or-map numbered_packet held i item p c.loop-held-test.true ∙ ap numbered_packet (sym c.held-item.is) in
-    let same_limit = c.loop-held.invariant.limit in
-    let now = c.loop-held.receiver.packets in
+    let within : i < length packets = rw length-map c.loop-packet-test.true in
+    let here : get_or packets i p ≡ p = get_or-map seen held i item p c.loop-packet-test.true ∙ ap seen (sym c.packet-item.is) in
+    let same_limit = c.loop-packet.invariant.limit in
+    let now = c.loop-packet.receiver.packets in
     let then = c.receive-answer.new.self.packets in
     let most = c.args.receiver.now.packets.run_limit in
-    let old = unit_depacketization (state now.depacketizer) now.expected c.loop-held.receiver.unit (map access_unit_value c.loop-held.out.items) in
+    let old = unit_depacketization (state now.depacketizer) now.expected c.loop-packet.receiver.unit (map access_unit_value c.loop-packet.out.items) in
     let new = unit_depacketization (state then.depacketizer) then.expected c.receive-answer.new.self.unit (map access_unit_value c.receive-answer.new.out.items) in
     let limit = c.args.receiver.now.unit_limit in
-    let same_unit_limit = c.loop-held.invariant.unit_limit in
+    let same_unit_limit = c.loop-packet.invariant.unit_limit in
     let payloads = map (λ (q : ℕ × RtpBody). q.1.payload) packets in
     let payload : get_or payloads i p.1.payload ≡ p.1.payload = get_or-map (λ (q : ℕ × RtpBody). q.1.payload) packets i p p.1.payload within ∙ ap (λ (q : ℕ × RtpBody). q.1.payload) here in
-    let count : length c.loop-held.answers.items ≡ i = search rules in
+    let count : length c.loop-packet.answers.items ≡ i = search rules in
     let with_run = g.D.RunDepacketizer.with_run in
     let having = g.D.RunDepacketizer.having_taken in
     let took : is_taken o ≡ true → with_run None then.depacketizer ≡ with_run None (having p.1.payload now.depacketizer) =
-    λ yes. subst (λ (q : ℕ × RtpBody). with_run None then.depacketizer ≡ with_run None (having q.1.payload now.depacketizer)) c.packet.ensures (c.receive-answer.ensures.rest yes) in
+    λ yes. c.receive-answer.ensures.rest yes in
     let late : (n : ℕ) → o ≡ accepted (Late n) → then.depacketizer ≡ now.depacketizer = λ n is. ap (λ s. s.packets.depacketizer) (c.receive-answer.ensures.late n is) in
     let kept : OnErr o (then.depacketizer ≡ now.depacketizer) = search rules in
     record {
@@ -49,18 +53,17 @@ loop-held-preserved g c =
       limit = c.receive-answer.ensures.limit ∙ same_limit;
       bounded = λ short.
           subst (λ (m : ℕ). run_len (state then.depacketizer).run ≤ m) same_limit
-          (c.receive-answer.ensures.bounded (subst (λ (m : ℕ). run_len (state now.depacketizer).run ≤ m) (sym same_limit) (c.loop-held.invariant.bounded short)));
+          (c.receive-answer.ensures.bounded (subst (λ (m : ℕ). run_len (state now.depacketizer).run ≤ m) (sym same_limit) (c.loop-packet.invariant.bounded short)));
       unit_limit = c.receive-answer.ensures.unit_limit ∙ same_unit_limit;
       bounded_unit = λ short.
           subst (λ (m : ℕ). unit_len c.receive-answer.new.self.unit ≤ m) same_unit_limit
-          (c.receive-answer.ensures.bounded_unit (subst (λ (m : ℕ). unit_len c.loop-held.receiver.unit ≤ m) (sym same_unit_limit) (c.loop-held.invariant.bounded_unit short)));
-      rest = rw pushed (taken_on with_run having payloads i p.1.payload c.loop-held.answers.items o c.args.receiver.now.packets.depacketizer now.depacketizer then.depacketizer
-          (rw length-map within) payload count (g.met.D.RunDepacketizer.taken_beside p.1.payload) c.loop-held.invariant.rest took late kept);
-      received = rw pushed (units_more most limit _ packets i c.loop-held.answers.items o p old new within here c.loop-held.invariant.received
-          (subst (λ (q : ℕ × RtpBody). IsUnitAnswer most old q o) c.packet.ensures (subst (λ (m : ℕ). IsUnitAnswer m old c.packet.result o) same_limit c.receive-answer.ensures.answer))
-          (subst (λ (q : ℕ × RtpBody). new ≡ after_rtp most limit old q o) c.packet.ensures
-          (subst (λ (m : ℕ). new ≡ after_rtp m limit old c.packet.result o) same_limit
-          (subst (λ (m : ℕ). new ≡ after_rtp now.run_limit m old c.packet.result o) same_unit_limit c.receive-answer.ensures.after))));
+          (c.receive-answer.ensures.bounded_unit (subst (λ (m : ℕ). unit_len c.loop-packet.receiver.unit ≤ m) (sym same_unit_limit) (c.loop-packet.invariant.bounded_unit short)));
+      rest = rw pushed (taken_on with_run having payloads i p.1.payload c.loop-packet.answers.items o c.args.receiver.now.packets.depacketizer now.depacketizer then.depacketizer
+          (rw length-map within) payload count (g.met.D.RunDepacketizer.taken_beside p.1.payload) c.loop-packet.invariant.rest took late kept);
+      received = rw pushed (units_more most limit _ packets i c.loop-packet.answers.items o p old new within here c.loop-packet.invariant.received
+          (subst (λ (m : ℕ). IsUnitAnswer m old p o) same_limit c.receive-answer.ensures.answer)
+          (subst (λ (m : ℕ). new ≡ after_rtp m limit old p o) same_limit
+          (subst (λ (m : ℕ). new ≡ after_rtp now.run_limit m old p o) same_unit_limit c.receive-answer.ensures.after)));
     }
 
 pub returns-clause-received : goal.returns-clause-received
@@ -68,40 +71,40 @@ returns-clause-received g c =
     let state = g.D.RunDepacketizer.state in
     let first = c.args.receiver.now in
     let most = first.packets.run_limit in
-    let held = c.deref-held-items.result.now in
-    let last = c.loop-held.receiver in
+    let held = c.deref-packet-items.result.now in
+    let last = c.loop-packet.receiver in
     let old = unit_depacketization (state first.packets.depacketizer) first.packets.expected first.unit (map access_unit_value c.args.out.now.items) in
-    let new = unit_depacketization (state last.packets.depacketizer) last.packets.expected last.unit (map access_unit_value c.loop-held.out.items) in
-    let given : map numbered_packet held ≡ reordered c.args.window c.args.packets.now = ap (map numbered_packet) c.deref-held-items.ensures.value ∙ c.in_ok-ordered.ensures.packets in
-    subst (λ (l : List (ℕ × RtpBody)). AreUnitsReceived most first.unit_limit old l c.loop-held.answers.items new) given
-    (units_to_end most first.unit_limit old (map numbered_packet held) c.loop-held.held-index c.loop-held.answers.items new (rw length-map c.loop-held-test.false) c.loop-held.invariant.received)
+    let new = unit_depacketization (state last.packets.depacketizer) last.packets.expected last.unit (map access_unit_value c.loop-packet.out.items) in
+    let given : map seen held ≡ reordered c.args.window c.args.packets.now = ap (map seen) c.deref-packet-items.ensures.value ∙ c.in_ok-ordered.ensures in
+    subst (λ (l : List (ℕ × RtpBody)). AreUnitsReceived most first.unit_limit old l c.loop-packet.answers.items new) given
+    (units_to_end most first.unit_limit old (map seen held) c.loop-packet.packet-index c.loop-packet.answers.items new (rw length-map c.loop-packet-test.false) c.loop-packet.invariant.received)
 
 pub returns-clause-in_order : goal.returns-clause-in_order
 returns-clause-in_order g c = λ none_open fine.
     let state = g.D.RunDepacketizer.state in
     let first = c.args.receiver.now in
-    let last = c.loop-held.receiver in
+    let last = c.loop-packet.receiver in
     let old = unit_depacketization (state first.packets.depacketizer) first.packets.expected first.unit (map access_unit_value c.args.out.now.items) in
-    let new = unit_depacketization (state last.packets.depacketizer) last.packets.expected last.unit (map access_unit_value c.loop-held.out.items) in
-    units_brought_by c.args.window first.packets.run_limit first.unit_limit old c.args.packets.now c.loop-held.answers.items new
+    let new = unit_depacketization (state last.packets.depacketizer) last.packets.expected last.unit (map access_unit_value c.loop-packet.out.items) in
+    units_brought_by c.args.window first.packets.run_limit first.unit_limit old c.args.packets.now c.loop-packet.answers.items new
     c.nothing_is_damaged.ensures (λ s ok is. c.packetizers_go_on.ensures.goes_on s ok.limits ok.dons is) c.requires.some c.requires.half c.meets_the_facts.ensures none_open (returns-clause-received g c) fine
 
 pub returns-clause-refusals : goal.returns-clause-refusals
 returns-clause-refusals g c =
     let first = c.args.receiver.now in
     let old = unit_depacketization (g.D.RunDepacketizer.state first.packets.depacketizer) first.packets.expected first.unit (map access_unit_value c.args.out.now.items) in
-    brought_want c.args.window first.packets.run_limit first.unit_limit old c.args.packets.now c.loop-held.answers.items
+    brought_want c.args.window first.packets.run_limit first.unit_limit old c.args.packets.now c.loop-packet.answers.items
     (λ s ok is. c.packetizers_go_on.ensures.goes_on s ok.limits ok.dons is) c.what_calls_send_is_carried.ensures c.requires.some c.requires.half c.meets_the_facts.ensures (returns-clause-received g c).each
 
 pub returns-clause-rest : goal.returns-clause-rest
 returns-clause-rest g c =
-    let held = c.deref-held-items.result.now in
+    let held = c.deref-packet-items.result.now in
     let first = c.args.receiver.now.packets.depacketizer in
-    let last = c.loop-held.receiver.packets.depacketizer in
+    let last = c.loop-packet.receiver.packets.depacketizer in
     let with_run = g.D.RunDepacketizer.with_run in
     let having = g.D.RunDepacketizer.having_taken in
-    let payloads = map (λ (q : ℕ × RtpBody). q.1.payload) (map numbered_packet held) in
-    let past : length payloads ≤ c.loop-held.held-index = rw (length-map, length-map) c.loop-held-test.false in
-    let given : map numbered_packet held ≡ reordered c.args.window c.args.packets.now = ap (map numbered_packet) c.deref-held-items.ensures.value ∙ c.in_ok-ordered.ensures.packets in
-    subst (λ (l : List (ℕ × RtpBody)). with_run None last ≡ with_run None (having_taken_all having (map (λ (q : ℕ × RtpBody). q.1.payload) l) c.loop-held.answers.items first)) given
-    (subst (λ (l : List (List ℕ)). with_run None last ≡ with_run None (having_taken_all having l c.loop-held.answers.items first)) (take_all c.loop-held.held-index payloads past) c.loop-held.invariant.rest)
+    let payloads = map (λ (q : ℕ × RtpBody). q.1.payload) (map seen held) in
+    let past : length payloads ≤ c.loop-packet.packet-index = rw (length-map, length-map) c.loop-packet-test.false in
+    let given : map seen held ≡ reordered c.args.window c.args.packets.now = ap (map seen) c.deref-packet-items.ensures.value ∙ c.in_ok-ordered.ensures in
+    subst (λ (l : List (ℕ × RtpBody)). with_run None last ≡ with_run None (having_taken_all having (map (λ (q : ℕ × RtpBody). q.1.payload) l) c.loop-packet.answers.items first)) given
+    (subst (λ (l : List (List ℕ)). with_run None last ≡ with_run None (having_taken_all having l c.loop-packet.answers.items first)) (take_all c.loop-packet.packet-index payloads past) c.loop-packet.invariant.rest)

@@ -1,7 +1,11 @@
-use Rattle.std.proofs.Common.{◌≡◌, ◌++◌, drop, map}
-use Rattle.h26x_frames.specs.ReorderBuffer.{numbered_packet, reordered, reordered_from}
+use Rattle.std.proofs.Common.{◌≡◌, ◌≤◌, length, map, take, vec_len, vec_capacity}
+use Rattle.h26x_frames.specs.ReorderBuffer.{numbered_packet}
 use Rattle.h26x_frames.proofs.reorder.reorder_all.Given as goal
 
--- what was given out, and what the buffer gives out of the packets that are left
+-- the packets so far were copied
 abbrev pub invariant-loop-packet : goal.invariant-loop-packet
-invariant-loop-packet l = map numbered_packet l.out.items ++ reordered_from l.buffer (drop l.packet-index l.packets) ≡ reordered l.fn.window l.packets
+invariant-loop-packet l = record {
+  count : vec_len l.out ≡ l.packet-index;
+  room : length l.packet-items ≤ vec_capacity l.out;
+  copies : map numbered_packet l.out.items ≡ take l.packet-index (map (λ p. p.now) l.packet-items);
+}

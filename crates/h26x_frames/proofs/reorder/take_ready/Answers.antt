@@ -1,25 +1,27 @@
-use Rattle.std.proofs.Common.{rules, arith, ◌≡◌, ◌∙◌, ◌++◌, ◌∷◌, [], ℕ, List, map, sym, ap, append_assoc, Some}
+use Rattle.std.proofs.Common.{rules, arith, ◌≡◌, ◌∙◌, ◌++◌, ◌∷◌, [], ℕ, List, map, sym, ap, append_assoc, Some, Bor}
 use Rattle.std.proofs.lemmas.Grind.{common_steps}
 use Rattle.h26x_frames.specs.Rtp.{RtpBody}
-use Rattle.h26x_frames.specs.ReorderBuffer.{ready_packets, without_first, next_packet, numbered_packet}
-use Rattle.h26x_frames.proofs.BufferLemmas.{step_is, numbered_more}
+use Rattle.h26x_frames.specs.ReorderBuffer.{ready_packets, without_first, next_packet}
+use Rattle.h26x_frames.proofs.BufferLemmas.{step_is, map_more}
 use Rattle.h26x_frames.proofs.reorder.take_ready.Goals as goal
 
-pub loop-held-preserved : goal.loop-held-preserved
-loop-held-preserved c =
-    let p = numbered_packet c.in-Some.held in
-    let old = c.loop-held.buffer in
+pub loop-packet-preserved : goal.loop-packet-preserved
+loop-packet-preserved c =
+    let p = c.in-Some.packet.now in
+    let now : Bor (ℕ × RtpBody) → ℕ × RtpBody = λ q. q.now in
+    let old = c.loop-packet.order in
     let next : next_packet old ≡ Some p = sym c.in-Some.ensures.packet in
     let new : c.pop.new.self ≡ without_first old = c.in-Some.ensures.after in
     let step = step_is old p next in
-    let items : c.push.new.self.items ≡ c.loop-held.out.items ++ c.in-Some.held ∷ [] = search rules in
-    let pushed : map numbered_packet c.push.new.self.items ≡ map numbered_packet c.loop-held.out.items ++ p ∷ [] =
-    ap (map numbered_packet) items ∙ numbered_more c.loop-held.out.items c.in-Some.held in
+    let items : c.push.new.self.items ≡ c.loop-packet.out.items ++ c.in-Some.packet ∷ [] = search rules in
+    let pushed : map now c.push.new.self.items ≡ map now c.loop-packet.out.items ++ p ∷ [] =
+    ap (map now) items ∙ map_more now c.loop-packet.out.items c.in-Some.packet in
     let short = step.length_is in
     record {
-      room = rw new (grind (arith, common_steps, short));
-      packets = rw (new, pushed) (append_assoc (map numbered_packet c.loop-held.out.items) (p ∷ []) (ready_packets (without_first old).window (without_first old).due (without_first old).held)
-          ∙ ap (λ (l : List (ℕ × RtpBody)). map numbered_packet c.loop-held.out.items ++ l) (sym step.ready)
-          ∙ c.loop-held.invariant.packets);
-      after = rw new (sym step.without ∙ c.loop-held.invariant.after);
+      len = rw new (grind (arith, common_steps, short));
+      capacity = grind (arith, common_steps);
+      packets = rw (new, pushed) (append_assoc (map now c.loop-packet.out.items) (p ∷ []) (ready_packets (without_first old).window (without_first old).due (without_first old).held)
+          ∙ ap (λ (l : List (ℕ × RtpBody)). map now c.loop-packet.out.items ++ l) (sym step.ready)
+          ∙ c.loop-packet.invariant.packets);
+      after = rw new (sym step.without ∙ c.loop-packet.invariant.after);
     }

@@ -1,0 +1,16 @@
+-- Where a packet belongs among those that a buffer holds (ours).
+use Rattle.std.specs.Prelude.{◌≡◌, ℕ, ◌<◌, ◌≤◌, ◌^◌, false, length, Some}
+use Rattle.std.specs.List.{insert}
+use Rattle.h26x_receiver.specs.Sequence.{is_late}
+use Rattle.h26x_frames.specs.Rtp.{RtpBody}
+use Rattle.h26x_frames.specs.ReorderBuffer.{BufferState, due_at, put_packet}
+
+-- A packet with this number is neither late nor held: where it is put this number is due, and it
+-- belongs at this place.
+pub record IsPlaceOf (b : BufferState RtpBody) (number due place : ℕ) : Type 0 where
+  pub due_is : due ≡ due_at b.window b.due number
+  pub small : number < 2 ^ 16
+  pub early : is_late (Some due) number ≡ false
+  pub in_range : place ≤ length b.held
+  pub put : (packet : RtpBody) → insert b.held place (number, packet)
+      ≡ put_packet due (number, packet) b.held

@@ -1,0 +1,223 @@
+//! Packets in the order of their sequence numbers, until they may go.
+
+ghost use Rattle.std.specs.Prelude.{◌≡◌, ◌+◌, ◌^◌, ◌<◌, ◌≤◌, ◌==◌, ◌++◌, if◌then◌else◌, true, false, ℕ, IfOk, IfErr, OnOk, OnErr, None, is_some, length, map, slice_get, slice_index_or};
+ghost use Rattle.std.specs.List.{insert};
+ghost use Rattle.std.specs.Option.{option_map};
+ghost use Rattle.h26x_receiver.specs.Sequence.{distance_ahead};
+ghost use Rattle.h26x_frames.specs.Rtp.{RtpBody};
+ghost use Rattle.h26x_frames.specs.NumberOrder.{IsPlaceOf};
+ghost use Rattle.h26x_frames.specs.ReorderBuffer.{fresh_buffer, put_packet, is_number_held, push_answer, after_push, next_packet, without_first, AreHeldInOrder};
+
+use crate::buffer::Pushed;
+use crate::numbered::Numbered;
+use crate::parted;
+use std::alloc::{AllocError, Global};
+use std::collections::VecDeque;
+use std::marker::Model;
+
+/// How far ahead of the number that is due a number is taken as behind it: half of the circle (RFC
+/// 3550, A.1).
+const HALF: u16 = 0x8000;
+
+/// Packets in the order of their numbers, each once, from one that is due on. They lie in two parts,
+/// the second of which is mostly empty: a packet that comes before many others parts them where it
+/// is put, so that those that follow it there move none.
+#[derive(Debug, Drop)]
+pub(crate) struct NumberOrder<T: Numbered> {
+    window: u16,
+    due: Option<u16>,
+    front: VecDeque<T>,
+    back: VecDeque<T>,
+}
+
+impl<T: Numbered> Model for NumberOrder<T> {
+    ghost use Rattle.std.specs.Prelude.{◌++◌, map};
+    ghost use Rattle.h26x_frames.specs.Rtp.{RtpBody};
+    ghost use Rattle.h26x_frames.specs.ReorderBuffer.{BufferState, IsBufferState, buffer_state};
+
+    ghost Value = { BufferState RtpBody };
+
+    ghost view = { λ b. buffer_state b.window b.due (map T.numbered (b.front.items ++ b.back.items)) };
+
+    ghost invariant = { λ b. IsBufferState
+        (buffer_state b.window b.due (map T.numbered (b.front.items ++ b.back.items))) };
+}
+
+impl<T: Numbered> NumberOrder<T> {
+    /// None, with a window of so many.
+    pub(crate) fn new(alloc: Global, window: u16) -> Self
+        requires some { 0 < window }
+        requires half { window ≤ 2 ^ 14 }
+        ensures { result ≡ fresh_buffer window }
+    {
+        NumberOrder {
+            window,
+            due: None,
+            front: VecDeque::new(alloc),
+            back: VecDeque::new(alloc),
+        }
+    }
+
+    /// How many packets it holds.
+    pub(crate) fn len(&self) -> usize
+        ensures { result ≡ length self.now.held }
+    {
+        self.front.len() + self.back.len()
+    }
+
+    /// Whether it holds none.
+    pub(crate) fn is_empty(&self) -> bool
+        ensures { result ≡ (length self.now.held == 0) }
+    {
+        self.front.is_empty() && self.back.is_empty()
+    }
+
+    /// How far ahead of a number the packet at a place is.
+    #[inline]
+    fn ahead_at(&self, due: u16, place: usize) -> u16
+        requires { place < length self.now.held }
+        ensures { (d : ℕ × RtpBody) → result
+            ≡ distance_ahead due (slice_index_or self.now.held place d).0 }
+    {
+        let len = self.front.len();
+        let packet = if place < len {
+            &self.front[place]
+        } else {
+            &self.back[place - len]
+        };
+        packet.sequence().wrapping_sub(due)
+    }
+
+    /// Where a packet with this number stands, or else where it belongs, by halves.
+    fn search(&self, due: u16, number: u16) -> Result<usize, usize>
+        requires { AreHeldInOrder due 0 self.now.held }
+        ensures found { IfOk result (λ _. is_number_held number self.now.held ≡ true) }
+        ensures absent { IfErr result (λ _. is_number_held number self.now.held ≡ false) }
+        ensures range { IfErr result (λ at. at ≤ length self.now.held) }
+        ensures place { (packet : RtpBody) → IfErr result (λ at.
+            insert self.now.held at (number, packet)
+            ≡ put_packet due (number, packet) self.now.held) }
+    {
+        let ahead = number.wrapping_sub(due);
+        let (mut low, mut high) = (0, self.len());
+        while low < high {
+            let middle = low + (high - low) / 2;
+            let there = self.ahead_at(due, middle);
+            if there == ahead {
+                return Ok(middle);
+            }
+            if there < ahead {
+                low = middle + 1;
+            } else {
+                high = middle;
+            }
+        }
+        Err(low)
+    }
+
+    /// So, but a packet ahead of the last one, as most are, is not searched for.
+    #[inline]
+    fn place_from(&self, due: u16, number: u16) -> Result<usize, usize>
+        requires { AreHeldInOrder due 0 self.now.held }
+        ensures found { IfOk result (λ _. is_number_held number self.now.held ≡ true) }
+        ensures absent { IfErr result (λ _. is_number_held number self.now.held ≡ false) }
+        ensures range { IfErr result (λ at. at ≤ length self.now.held) }
+        ensures place { (packet : RtpBody) → IfErr result (λ at.
+            insert self.now.held at (number, packet)
+            ≡ put_packet due (number, packet) self.now.held) }
+    {
+        let len = self.len();
+        if len == 0 || self.ahead_at(due, len - 1) < number.wrapping_sub(due) {
+            return Err(len);
+        }
+        self.search(due, number)
+    }
+
+    /// The number that is due once a packet comes, and the place where that packet is put; or what
+    /// is answered for one that isn't held.
+    #[inline]
+    pub(crate) fn place_of(&self, sequence: u16) -> Result<(u16, usize), Pushed>
+        ensures held { IfOk result (λ at. IsPlaceOf self.now sequence at.0 at.1) }
+        ensures answer { IfOk result (λ _. push_answer self.now sequence ≡ Pushed.Held) }
+        ensures other { IfErr result (λ answer. answer ≡ push_answer self.now sequence) }
+        ensures same { (packet : RtpBody) → OnErr result
+            (self.now ≡ after_push self.now (sequence, packet)) }
+    {
+        let first_due = sequence.wrapping_add(1).wrapping_sub(self.window);
+        let due = self.due.unwrap_or(first_due);
+        let ahead = sequence.wrapping_sub(due);
+        if ahead >= HALF {
+            return Err(Pushed::Late(u16::MAX - ahead + 1));
+        }
+        match self.place_from(due, sequence) {
+            Ok(_) => Err(Pushed::Twice),
+            Err(place) => Ok((due, place)),
+        }
+    }
+
+    /// Puts a packet at its place. Without memory all stays as it was.
+    #[inline]
+    pub(crate) fn put(&mut self, due: u16, place: usize, packet: T) -> Result<(), AllocError>
+        requires { IsPlaceOf self.old (T.numbered packet).0 due place }
+        ensures after { OnOk result (self.new ≡ after_push self.old (T.numbered packet)) }
+        ensures kept { OnErr result (self.new ≡ self.old) }
+    {
+        parted::insert_at(&mut self.front, &mut self.back, place, packet)?;
+        self.due = Some(due);
+        Ok(())
+    }
+
+    /// The first packet, if it may go: the one that is due, or one that the window has passed.
+    #[inline]
+    pub(crate) fn pop(&mut self) -> Option<T>
+        ensures packet { option_map T.numbered result ≡ next_packet self.old }
+        ensures after { self.new ≡ (if is_some result then without_first self.old else self.old) }
+        ensures bounded { result ≡ None → length self.new.held < self.new.window }
+    {
+        if self.is_ready() {
+            self.pop_first()
+        } else {
+            None
+        }
+    }
+
+    /// The first packet, whether it may go or not.
+    #[inline]
+    pub(crate) fn pop_first(&mut self) -> Option<T>
+        ensures packet { option_map T.numbered result ≡ slice_get self.old.held 0 }
+        ensures after { self.new ≡ without_first self.old }
+    {
+        let first = parted::pop_first(&mut self.front, &mut self.back)?;
+        self.due = Some(first.sequence().wrapping_add(1));
+        Some(first)
+    }
+
+    /// Whether the first packet may go.
+    #[inline]
+    fn is_ready(&self) -> bool
+        ensures ready { result ≡ is_some (next_packet self.now) }
+        ensures few { result ≡ false → length self.now.held < self.now.window }
+    {
+        let first = parted::first(&self.front, &self.back);
+        let last = parted::last(&self.front, &self.back);
+        match (self.due, first, last) {
+            (Some(due), Some(first), Some(last)) => {
+                let number = first.sequence();
+                let ahead = number.wrapping_sub(due);
+                let newest = last.sequence().wrapping_sub(due);
+                number == due || newest - ahead + 1 >= self.window
+            }
+            _ => false,
+        }
+    }
+
+    /// Drops the packets, and takes any number as the next.
+    pub(crate) fn restart(&mut self)
+        ensures { self.new ≡ fresh_buffer self.old.window }
+    {
+        let alloc = *self.front.allocator();
+        self.front.clear();
+        self.back = VecDeque::new(alloc);
+        self.due = None;
+    }
+}
