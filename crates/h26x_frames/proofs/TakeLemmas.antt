@@ -48,19 +48,6 @@ filled unit work = record unit { bytes = work.at_work.out; extra = work.at_work.
 abbrev pub with_unit : SequencedDepacketization → List AccessUnitValue → Bool → AccessUnitValue → UnitDepacketization
 with_unit work ended marker unit = unit_depacketization work.at_work.state work.expected (cond marker None (Some unit)) (ended ++ cond marker (unit ∷ []) [])
 
--- a packet that goes on with an access unit
-on_taken : (most : ℕ) (state : DepacketizerState) (expected : Option ℕ) (unit : AccessUnitValue) (ended : List AccessUnitValue) (p : ℕ × RtpBody) → unit.timestamp ≡ p.1.timestamp →
-    (let s = sequenced_depacketization state expected unit.bytes unit.extra in
-    let work = after_taken_packet most s p.0 p.1.payload in
-    with_unit work ended p.1.marker (whole_if (cond (nat_lt most (run_len (after_sequenced_packet s p.0 p.1.payload).state.run)) false (is_expected expected p.0)) (filled unit work))
-    ≡ after_taken_rtp most (unit_depacketization state expected (Some unit) ended) p)
-on_taken most state expected unit ended p same =
-    let s = sequenced_depacketization state expected unit.bytes unit.extra in
-    let work = after_taken_packet most s p.0 p.1.payload in
-    let one = whole_if (cond (nat_lt most (run_len (after_sequenced_packet s p.0 p.1.payload).state.run)) false (is_expected expected p.0)) (filled unit work) in
-    let at : (unit.timestamp == p.1.timestamp) ≡ true = eq-eqb unit.timestamp p.1.timestamp same in
-    rw at (ap (λ (l : List AccessUnitValue). with_unit work l p.1.marker one) (sym (append-nil ended)))
-
 -- one that begins an access unit
 first_taken : (most : ℕ) (state : DepacketizerState) (expected : Option ℕ) (unit : Option AccessUnitValue) (ended : List AccessUnitValue) (p : ℕ × RtpBody) → is_unit_at unit p.1.timestamp ≡ false →
     (let s = sequenced_depacketization (state_with_run state None) expected [] extras.None in
@@ -81,18 +68,6 @@ record WasTaken (most : ℕ) (s : SequencedDepacketization) (p : ℕ × RtpBody)
 sound_at : (most : ℕ) (s : SequencedDepacketization) (p : ℕ × RtpBody) (r : Result Received PacketError) (sound : Bool) (work : SequencedDepacketization) → WasTaken most s p r sound work →
     sound ≡ cond (nat_lt most (run_len (after_sequenced_packet s p.0 p.1.payload).state.run)) false (is_expected s.expected p.0)
 sound_at most s p r sound work it = it.sound_is ∙ ap (λ (b : Bool). cond b false (is_expected s.expected p.0)) (answer_long most s p.0 p.1.payload r it.taken it.answer)
-
-pub goes_on_taken : (most : ℕ) (state : DepacketizerState) (expected : Option ℕ) (unit : AccessUnitValue) (ended : List AccessUnitValue) (p : ℕ × RtpBody) (r : Result Received PacketError)
-    (sound : Bool) (work : SequencedDepacketization) → unit.timestamp ≡ p.1.timestamp → is_taken r ≡ true →
-    IsSequencedAnswer most (sequenced_depacketization state expected unit.bytes unit.extra) p.0 p.1.payload r →
-    work ≡ after_answer most (sequenced_depacketization state expected unit.bytes unit.extra) p.0 p.1.payload r → sound ≡ cond (is_run_too_long r) false (is_expected expected p.0) →
-    with_unit work ended p.1.marker (whole_if sound (filled unit work)) ≡ after_taken_rtp most (unit_depacketization state expected (Some unit) ended) p
-goes_on_taken most state expected unit ended p r sound work same taken answer work_is sound_is =
-    let s = sequenced_depacketization state expected unit.bytes unit.extra in
-    let it : WasTaken most s p r sound work = record { taken = taken; answer = answer; work_is = work_is ∙ taken_work most s p.0 p.1.payload r taken; sound_is = sound_is } in
-    ap (λ (w : SequencedDepacketization). with_unit w ended p.1.marker (whole_if sound (filled unit w))) it.work_is
-    ∙ ap (λ (b : Bool). with_unit (after_taken_packet most s p.0 p.1.payload) ended p.1.marker (whole_if b (filled unit (after_taken_packet most s p.0 p.1.payload)))) (sound_at most s p r sound work it)
-    ∙ on_taken most state expected unit ended p same
 
 pub begins_taken : (most : ℕ) (state : DepacketizerState) (expected : Option ℕ) (unit : Option AccessUnitValue) (ended : List AccessUnitValue) (p : ℕ × RtpBody) (r : Result Received PacketError)
     (sound : Bool) (work : SequencedDepacketization) → is_unit_at unit p.1.timestamp ≡ false → is_taken r ≡ true →

@@ -1,9 +1,15 @@
 //! Access units, and the one that is open.
 
-ghost use Rattle.std.specs.Prelude.{◌≡◌, ◌+◌, ◌≤◌, ◌++◌, ◌∷◌, [], if◌then◌else◌, true, false, None, Some, MatchOption, map, vec_len, vec_capacity, is_some};
-ghost use Rattle.h26x_frames.specs.AccessUnit.{AccessUnitValue, access_unit_value, empty_unit, whole_if, unit_len, unit_within, is_unit_at, given_out};
+ghost use Rattle.std.specs.Prelude.{◌≡◌, ◌+◌, ◌≤◌, ◌++◌, ◌∷◌, [], if◌then◌else◌, true, false, None, Some, MatchBool, map, vec_len, vec_capacity, is_some};
+ghost use Rattle.h26x_model.specs.Receive.RunLimit.{run_len};
+ghost use Rattle.h26x_receiver.specs.Sequenced.{is_taken};
+ghost use Rattle.h26x_frames.specs.Rtp.{rtp_body};
+ghost use Rattle.h26x_frames.specs.AccessUnit.{AccessUnitValue, access_unit_value, empty_unit, whole_if, unit_len, unit_within, is_unit_at, given_out, unit_depacketization, IsTakenAnswer, after_taken_rtp};
 
-use h26x_core::CodecExtra;
+use crate::answers::{is_next, is_sound, was_taken};
+use crate::packet::RtpPacket;
+use h26x_core::{CodecExtra, PacketError};
+use h26x_receiver::{Received, RunDepacketizer, SequencedDepacketizer};
 use std::alloc::Global;
 use std::marker::Model;
 
@@ -93,26 +99,56 @@ impl OpenAccessUnit {
         }
     }
 
-    /// Takes it out, if it has this timestamp.
-    pub(crate) fn take_at(&mut self, timestamp: u32) -> Option<AccessUnit>
-        ensures taken { MatchOption result (is_unit_at self.old timestamp ≡ false)
-            (λ unit. (self.old ≡ Some (access_unit_value unit)) × (unit.timestamp ≡ timestamp)) }
-        ensures rest { self.new ≡ (if is_some result then None else self.old) }
+    /// Whether one is open that has this timestamp.
+    #[inline]
+    pub(crate) fn is_at(&self, timestamp: u32) -> bool
+        ensures { result ≡ is_unit_at self.now timestamp }
     {
-        match self.unit.take() {
-            Some(unit) if unit.timestamp == timestamp => Some(unit),
-            other => {
-                self.unit = other;
-                None
-            }
+        match &self.unit {
+            Some(unit) => unit.timestamp == timestamp,
+            None => false,
         }
     }
 
-    /// Puts one in its place, as it was.
-    pub(crate) fn put_back(&mut self, unit: AccessUnit)
-        ensures { self.new ≡ Some (access_unit_value unit) }
+    /// Takes a packet into the one that is open, where it stands. A marker does not end it yet.
+    #[inline]
+    pub(crate) fn go_on<D: RunDepacketizer>(
+        &mut self,
+        packets: &mut SequencedDepacketizer<D>,
+        packet: &RtpPacket<'_>,
+    ) -> Result<Received, PacketError>
+        requires { is_unit_at self.old packet.now.1.timestamp ≡ true }
+        ensures answer { IsTakenAnswer packets.old.run_limit (unit_depacketization
+            (D.state packets.old.depacketizer) packets.old.expected self.old []) packet.now result }
+        ensures after { is_taken result ≡ true →
+            unit_depacketization (D.state packets.new.depacketizer) packets.new.expected
+            self.new [] ≡ after_taken_rtp packets.old.run_limit (unit_depacketization
+            (D.state packets.old.depacketizer) packets.old.expected self.old [])
+            (packet.now.0, rtp_body packet.now.1.timestamp false packet.now.1.payload) }
+        ensures rest { is_taken result ≡ true → D.with_run None packets.new.depacketizer
+            ≡ D.with_run None (D.having_taken packet.now.1.payload packets.old.depacketizer) }
+        ensures limit { packets.new.run_limit ≡ packets.old.run_limit }
+        ensures bounded { run_len (D.state packets.old.depacketizer).run ≤ packets.old.run_limit →
+            run_len (D.state packets.new.depacketizer).run ≤ packets.old.run_limit }
+        ensures kept { MatchBool (is_taken result) (Unit {0}) ((packets.new ≡ packets.old)
+            × (self.new ≡ self.old)) }
     {
-        self.unit = Some(unit);
+        let follows = is_next(packets.expected, packet.sequence);
+        match &mut self.unit {
+            Some(unit) => {
+                let received = packets.receive(
+                    packet.sequence,
+                    packet.payload,
+                    &mut unit.bytes,
+                    &mut unit.extra,
+                );
+                if was_taken(&received) {
+                    unit.is_whole = unit.is_whole && is_sound(follows, &received);
+                }
+                received
+            }
+            None => unreachable!(),
+        }
     }
 
     /// Puts one in its place, or appends it where it has ended.

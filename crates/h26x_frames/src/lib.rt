@@ -3,6 +3,7 @@
 #![tactic(auto)]
 
 mod access_unit;
+mod answers;
 mod buffer;
 mod cases;
 mod frames;

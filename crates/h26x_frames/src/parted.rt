@@ -112,6 +112,11 @@ pub(crate) fn insert_at<T: Drop>(
     ensures kept { OnErr result (front.new.items ++ back.new.items
         ≡ front.old.items ++ back.old.items) }
 {
+    // Most come last of all, and mostly there is no back.
+    if back.is_empty() && place == front.len() {
+        front.push_back(value)?;
+        return Ok(());
+    }
     part_at(front, back, place);
     let len = front.len();
     if place <= len {

@@ -7,40 +7,11 @@ ghost use Rattle.h26x_receiver.specs.Sequenced.{sequenced_depacketization, IsSeq
 ghost use Rattle.h26x_frames.specs.AccessUnit.{access_unit_value, is_unit_at, unit_depacketization, IsTakenAnswer, IsUnitAnswer, after_taken_rtp, after_rtp, after_end, is_run_too_long, unit_len};
 
 use crate::access_unit::{AccessUnit, OpenAccessUnit};
+use crate::answers::{is_next, is_sound, was_taken};
 use crate::packet::RtpPacket;
 use h26x_core::PacketError;
 use h26x_receiver::{Received, RunDepacketizer, SequencedDepacketizer, take_run};
 use std::alloc::Global;
-
-/// Whether a sequence number is the one expected.
-fn is_next(expected: Option<u16>, sequence: u16) -> bool
-    ensures { result ≡ is_expected expected sequence }
-{
-    match expected {
-        Some(expected) => sequence == expected,
-        None => false,
-    }
-}
-
-/// Whether a packet was taken.
-fn was_taken(received: &Result<Received, PacketError>) -> bool
-    ensures { result ≡ is_taken received.now }
-{
-    match received {
-        Ok(received) => received.is_taken(),
-        Err(_) => false,
-    }
-}
-
-/// Whether a packet that was taken follows the one before it, and left no run that was too long.
-fn is_sound(follows: bool, received: &Result<Received, PacketError>) -> bool
-    ensures { result ≡ (if is_run_too_long received.now then false else follows) }
-{
-    match received {
-        Ok(Received::TooLong(_)) => false,
-        _ => follows,
-    }
-}
 
 /// Takes a packet where no run is open: the one that was is given up once the packet is taken.
 fn receive_anew<D: RunDepacketizer>(
@@ -84,21 +55,20 @@ fn receive_anew<D: RunDepacketizer>(
 fn go_on<D: RunDepacketizer>(
     packets: &mut SequencedDepacketizer<D>,
     place: &mut OpenAccessUnit,
-    mut unit: AccessUnit,
     packet: &RtpPacket<'_>,
     out: &mut Vec<AccessUnit>,
 ) -> Result<Received, PacketError>
-    requires same { unit.timestamp ≡ packet.now.1.timestamp }
+    requires same { is_unit_at place.old packet.now.1.timestamp ≡ true }
     requires room { vec_len out.old + 2 ≤ vec_capacity out.old }
     ensures answer { IsTakenAnswer packets.old.run_limit (unit_depacketization
-        (D.state packets.old.depacketizer) packets.old.expected (Some (access_unit_value unit))
+        (D.state packets.old.depacketizer) packets.old.expected place.old
         (map access_unit_value out.old.items))
         packet.now result }
     ensures after { is_taken result ≡ true →
         unit_depacketization (D.state packets.new.depacketizer) packets.new.expected
         place.new (map access_unit_value out.new.items)
         ≡ after_taken_rtp packets.old.run_limit (unit_depacketization
-        (D.state packets.old.depacketizer) packets.old.expected (Some (access_unit_value unit))
+        (D.state packets.old.depacketizer) packets.old.expected place.old
         (map access_unit_value out.old.items))
         packet.now }
     ensures rest { is_taken result ≡ true → D.with_run None packets.new.depacketizer
@@ -107,20 +77,11 @@ fn go_on<D: RunDepacketizer>(
     ensures bounded { run_len (D.state packets.old.depacketizer).run ≤ packets.old.run_limit →
         run_len (D.state packets.new.depacketizer).run ≤ packets.old.run_limit }
     ensures kept { MatchBool (is_taken result) (Unit {0}) ((packets.new ≡ packets.old)
-        × (place.new ≡ Some (access_unit_value unit)) × (out.new.items ≡ out.old.items)) }
+        × (place.new ≡ place.old) × (out.new.items ≡ out.old.items)) }
 {
-    let follows = is_next(packets.expected, packet.sequence);
-    let received = packets.receive(
-        packet.sequence,
-        packet.payload,
-        &mut unit.bytes,
-        &mut unit.extra,
-    );
-    if was_taken(&received) {
-        let is_sound = is_sound(follows, &received);
-        place.put(unit, is_sound, packet.marker, out);
-    } else {
-        place.put_back(unit);
+    let received = place.go_on(packets, packet);
+    if packet.marker && was_taken(&received) {
+        place.end(true, out);
     }
     received
 }
@@ -194,9 +155,10 @@ fn take<D: RunDepacketizer>(
     ensures kept { MatchBool (is_taken result) (Unit {0}) ((packets.new ≡ packets.old)
         × (place.new ≡ place.old) × (out.new.items ≡ out.old.items)) }
 {
-    match place.take_at(packet.timestamp) {
-        Some(unit) => go_on(packets, place, unit, packet, out),
-        None => begin(alloc, packets, place, packet, out),
+    if place.is_at(packet.timestamp) {
+        go_on(packets, place, packet, out)
+    } else {
+        begin(alloc, packets, place, packet, out)
     }
 }
 

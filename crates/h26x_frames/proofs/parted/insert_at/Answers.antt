@@ -8,7 +8,7 @@ returns-in_ok-insert-2-clause-put g c =
     let front = c.part_at.new.front.items in
     let back = c.part_at.new.back.items in
     let len : length front ≡ c.len-len.result = search rules in
-    let items : c.insert-else-place-len.new.self.items ≡ insert back (c.args.place - c.len-len.result) c.args.value = search rules in
+    let items : c.insert-else-place-len-2.new.self.items ≡ insert back (c.args.place - c.len-len.result) c.args.value = search rules in
     ap (λ l. front ++ l) items
     ∙ sym (insert-append_right front back c.len-len.result c.args.place c.args.value len (omega arith))
     ∙ ap (λ l. insert l c.args.place c.args.value) c.part_at.ensures
