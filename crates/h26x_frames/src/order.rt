@@ -20,14 +20,15 @@ use std::marker::Model;
 const HALF: u16 = 0x8000;
 
 /// Packets in the order of their numbers, each once, from one that is due on. They lie in two parts,
-/// the second of which is mostly empty: a packet that comes before many others parts them where it
-/// is put, so that those that follow it there move none.
+/// the second of which is mostly empty: where packets come again and again before many others, they
+/// are parted there, so that those that follow move none.
 #[derive(Debug, Drop)]
 pub(crate) struct NumberOrder<T: Numbered> {
     window: u16,
     due: Option<u16>,
     front: VecDeque<T>,
     back: VecDeque<T>,
+    latest: usize,
 }
 
 impl<T: Numbered> Model for NumberOrder<T> {
@@ -55,6 +56,7 @@ impl<T: Numbered> NumberOrder<T> {
             due: None,
             front: VecDeque::new(alloc),
             back: VecDeque::new(alloc),
+            latest: 0,
         }
     }
 
@@ -162,7 +164,8 @@ impl<T: Numbered> NumberOrder<T> {
         ensures after { OnOk result (self.new ≡ after_push self.old (T.numbered packet)) }
         ensures kept { OnErr result (self.new ≡ self.old) }
     {
-        parted::insert_at(&mut self.front, &mut self.back, place, packet)?;
+        let latest = &mut self.latest;
+        parted::insert_at(&mut self.front, &mut self.back, latest, place, packet)?;
         self.due = Some(due);
         Ok(())
     }

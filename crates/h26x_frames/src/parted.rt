@@ -8,7 +8,8 @@ use std::alloc::AllocError;
 use std::collections::VecDeque;
 use std::mem;
 
-/// How many values are moved for one that is put between them, before the list is parted there.
+/// How many values may move for one that is put before them without the list being parted there,
+/// and how near to each other two places count as one.
 const NEAR: usize = 32;
 
 /// The first of all.
@@ -80,11 +81,20 @@ fn move_before<T: Drop>(front: &mut VecDeque<T>, back: &mut VecDeque<T>, count: 
     }
 }
 
-/// Parts the list at a place that is far from the ends of its part, so that what comes there next
-/// moves nothing. Where that would move much more than one value put there does, it is left.
-fn part_at<T: Drop>(front: &mut VecDeque<T>, back: &mut VecDeque<T>, place: usize)
+/// Where values come again, parts the list at a place that is far from the ends of its part, so that
+/// what comes there next moves nothing. Where that would move much more than one value put there
+/// does, it is left.
+fn part_at<T: Drop>(
+    front: &mut VecDeque<T>,
+    back: &mut VecDeque<T>,
+    place: usize,
+    comes_again: bool,
+)
     ensures { front.new.items ++ back.new.items ≡ front.old.items ++ back.old.items }
 {
+    if !comes_again {
+        return;
+    }
     let len = front.len();
     if place <= len {
         let behind = len - place;
@@ -99,10 +109,11 @@ fn part_at<T: Drop>(front: &mut VecDeque<T>, back: &mut VecDeque<T>, place: usiz
     }
 }
 
-/// Puts a value at a place.
+/// Puts a value at a place, and keeps in `latest` where one was put before others.
 pub(crate) fn insert_at<T: Drop>(
     front: &mut VecDeque<T>,
     back: &mut VecDeque<T>,
+    latest: &mut usize,
     place: usize,
     value: T,
 ) -> Result<(), AllocError>
@@ -117,7 +128,9 @@ pub(crate) fn insert_at<T: Drop>(
         front.push_back(value)?;
         return Ok(());
     }
-    part_at(front, back, place);
+    let comes_again = place.abs_diff(*latest) <= NEAR;
+    *latest = place;
+    part_at(front, back, place, comes_again);
     let len = front.len();
     if place <= len {
         front.insert(place, value)?;
