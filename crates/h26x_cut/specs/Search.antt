@@ -14,7 +14,8 @@ HasNoCode bytes from to = (place : ℕ) → from ≤ place → place < to → ¬
 -- of the places from one on up to another it stands first here, or at none
 abbrev pub IsFirstFrom : List ℕ → ℕ → ℕ → Option ℕ → Type 0
 IsFirstFrom bytes from to None = HasNoCode bytes from to
-IsFirstFrom bytes from to (Some place) = (from ≤ place) × IsCodeAt bytes place × HasNoCode bytes from place
+IsFirstFrom bytes from to (Some place) = (from ≤ place) × IsCodeAt bytes place
+    × HasNoCode bytes from place
 
 -- each of 16 lanes is at most each of the n bytes from a place on that stand in it
 pub record AreLeast (bytes : List ℕ) (place n : ℕ) (lanes : List ℕ) : Type 0 where
