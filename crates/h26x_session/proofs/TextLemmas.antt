@@ -2,10 +2,11 @@
 use Rattle.std.proofs.Common.{◌≡◌, ℕ, ◌+◌, ◌*◌, ◌/◌, ◌%◌, ◌-◌, ◌<◌, ◌≤◌, List, [], ◌∷◌, ◌++◌, map, length, get_or, take, drop, replicate, slice_index, refl, sym, ap, ◌∙◌, subst, arith, w8, Fits, rules}
 use Rattle.std.specs.Prelude.{IsOk, OnOk, Result, Ok, Err}
 use borrow.Rule.Slice.PartMut.{put_mid, post_of}
-use Rattle.std.proofs.lemmas.List.{append_assoc, append-nil, drop-take, ext_get_or, get_or-map, length-map, nil_from_length, take-append-drop, take-take}
+use Rattle.std.proofs.lemmas.List.{append_assoc, append-nil, ext_get_or, get_or-map, length-map, nil_from_length, take-append-drop}
 use Rattle.std.proofs.lemmas.Simd.{Each1-weaker, Each1-zip2, Each2-splat, below_from_Fits, length-zip2, swz_l, SwzOk, SwzOk-from_below, length-swz_l, get_or-swz_l_below, Each1-get_or, pick_l_whole, zip2_splat, length-put_chunk, take_more_put_chunk}
 use Rattle.std.proofs.lemmas.Slice.{overwrites}
 use lib.Lanes.{zip2, Each1, pick_l, chunk, put_chunk}
+use Rattle.h26x_session.proofs.DigitLemmas.{take_plus}
 use Rattle.hex.specs.Hex.{encode_with}
 
 abbrev pub IsVector : List ℕ → Type 0
@@ -46,19 +47,10 @@ by_turns t v long =
     (0 ∷ 16 ∷ 1 ∷ 17 ∷ 2 ∷ 18 ∷ 3 ∷ 19 ∷ 4 ∷ 20 ∷ 5 ∷ 21 ∷ 6 ∷ 22 ∷ 7 ∷ 23 ∷ 8 ∷ 24 ∷ 9 ∷ 25 ∷ 10 ∷ 26 ∷ 11 ∷ 27 ∷ 12 ∷ 28 ∷ 13 ∷ 29 ∷ 14 ∷ 30 ∷ 15 ∷ 31 ∷ [])
     ≡ encode_with t u) (pick_l_whole 0 v 16 long) refl
 
-pub length-encode_with : (t xs : List ℕ) → length (encode_with t xs) ≡ 2 * length xs
-unfolding encode_with
-length-encode_with t [] = refl
-length-encode_with t (b ∷ rest) = let e = length-encode_with t rest in omega (arith, e)
-
 pub encode_with-append : (t xs ys : List ℕ) → encode_with t (xs ++ ys) ≡ encode_with t xs ++ encode_with t ys
 unfolding encode_with
 encode_with-append t [] ys = refl
 encode_with-append t (b ∷ rest) ys = ap (λ l. slice_index t (b / 16) ∷ slice_index t (b % 16) ∷ l) (encode_with-append t rest ys)
-
-pub take_plus : (n m : ℕ) (xs : List ℕ) → take (n + m) xs ≡ take n xs ++ take m (drop n xs)
-take_plus n m xs =
-    sym (take-append-drop n (take (n + m) xs)) ∙ rw (take-take n (n + m) xs (omega arith), drop-take n m xs) refl
 
 -- 16 bytes more are written
 pub next_digits : (t bytes digits first second : List ℕ) (at : ℕ) → at + 16 ≤ length bytes → length digits ≡ 2 * length bytes

@@ -28,16 +28,17 @@ impl Digits {
     /// Reads a text of two digits each into `bytes`, in the place of what it holds. Where the text
     /// isn't one, it says so, and what `bytes` then holds means nothing.
     ///
-    /// Text has as many digits of one kind as of the other, in no order, so no branch hangs on
-    /// what a byte is.
+    /// Whole blocks are read by vectors; what is left, or a text that isn't one, by the table, where
+    /// no branch hangs on what a byte is.
     pub fn read(&self, text: &[u8], bytes: &mut Vec<u8>) -> Result<bool, AllocError>
         ensures len { OnOk result (length bytes.new.items ≡ length text.now / 2) }
         ensures odd { length text.now % 2 ≡ 1 → IfOk result (λ is_text. is_text ≡ false) }
     {
         bytes.resize(text.len() / 2, 0)?;
-        let whole = bytes.len() / LANES * LANES;
-        let are_digits = read_blocks(&text[..2 * whole], &mut bytes[..whole]);
-        let mut all = if are_digits { 0 } else { NONE };
+        let blocks = bytes.len() / LANES * LANES;
+        let are_digits = read_blocks(&text[..2 * blocks], &mut bytes[..blocks]);
+        let whole = if are_digits { blocks } else { 0 };
+        let mut all = 0;
         for (byte, pair) in bytes[whole..]
             .iter_mut()
             .zip(text[2 * whole..].chunks_exact(2))

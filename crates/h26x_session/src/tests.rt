@@ -26,15 +26,33 @@ fn text_of(alloc: Global, length: usize) -> Result<Vec<u8>, AllocError> {
     Ok(text)
 }
 
+/// The value of a digit, and the bits of what is none.
+fn value_of(byte: u8) -> u8 {
+    match byte {
+        b'0'..=b'9' => byte - b'0',
+        b'a'..=b'f' => byte - b'a' + 10,
+        b'A'..=b'F' => byte - b'A' + 10,
+        _ => 0xf0,
+    }
+}
+
+/// The bytes of a text, digit by digit: what is left where a text isn't one, too.
+fn bytes_by_digits(alloc: Global, text: &[u8]) -> Result<Vec<u8>, AllocError> {
+    let mut bytes = Vec::new(alloc);
+    for pair in text.chunks_exact(2) {
+        let (high, low) = (value_of(pair[0]), value_of(pair[1]));
+        bytes.push((high << 4) | (low & 0x0f))?;
+    }
+    Ok(bytes)
+}
+
 /// Reads a text over other bytes, and compares.
 fn compare(rt: &impl Abort, alloc: Global, digits: &Digits, text: &[u8]) -> Result<(), Fail> {
     let mut bytes = vec![in alloc; 0xffu8; 20]?;
     let want = hex::decode(alloc, text).ok();
-    let made = if digits.read(text, &mut bytes)? {
-        Some(bytes)
-    } else {
-        None
-    };
+    let is_text = digits.read(text, &mut bytes)?;
+    assert!(rt; bytes == bytes_by_digits(alloc, text)?, "{text:?}");
+    let made = if is_text { Some(bytes) } else { None };
     assert!(rt; made == want, "{text:?}");
     Ok(())
 }
