@@ -1,10 +1,9 @@
 //! A buffer for packets that come before earlier ones.
 
-ghost use Rattle.std.specs.Prelude.{◌≡◌, ◌+◌, ◌^◌, ◌<◌, ◌≤◌, ◌==◌, if◌then◌else◌, true, false, ℕ, List, [], Ok, None, IfOk, IfErr, OnOk, OnErr, is_some, length, map, slice_get};
-ghost use Rattle.std.specs.List.{insert};
+ghost use Rattle.std.specs.Prelude.{◌≡◌, ◌+◌, ◌^◌, ◌<◌, ◌≤◌, ◌==◌, if◌then◌else◌, ℕ, Ok, None, IfOk, OnOk, OnErr, is_some, length, slice_get};
 ghost use Rattle.std.specs.Option.{option_map};
 ghost use Rattle.h26x_frames.specs.Rtp.{RtpBody};
-ghost use Rattle.h26x_frames.specs.ReorderBuffer.{BufferState, IsBufferState, buffer_state, numbered_packet, fresh_buffer, put_packet, is_number_held, push_answer, after_push, next_packet, without_first, AreHeldInOrder};
+ghost use Rattle.h26x_frames.specs.ReorderBuffer.{BufferState, numbered_packet, fresh_buffer, push_answer, after_push, next_packet, without_first};
 
 use crate::order::NumberOrder;
 use crate::packet::RtpPacket;

@@ -1,10 +1,9 @@
 //! A receiver that gives out access units.
 
-ghost use Rattle.std.specs.Prelude.{◌≡◌, ◌+◌, ◌≤◌, ◌++◌, ◌∷◌, ℕ, true, false, None, Some, Ok, Err, OnOk, OnErr, map, vec_len, vec_capacity, if◌then◌else◌, MatchBool};
+ghost use Rattle.std.specs.Prelude.{◌≡◌, ◌+◌, ◌≤◌, ℕ, true, false, None, Ok, Err, OnOk, OnErr, map, vec_len, vec_capacity, if◌then◌else◌, MatchBool};
 ghost use Rattle.h26x_model.specs.Receive.RunLimit.{run_len, state_with_run};
-ghost use Rattle.h26x_receiver.specs.Sequence.{is_expected};
 ghost use Rattle.h26x_receiver.specs.Sequenced.{sequenced_depacketization, IsSequencedAnswer, after_taken_packet, is_taken};
-ghost use Rattle.h26x_frames.specs.AccessUnit.{access_unit_value, is_unit_at, unit_depacketization, IsTakenAnswer, IsUnitAnswer, after_taken_rtp, after_rtp, after_end, is_run_too_long, unit_len};
+ghost use Rattle.h26x_frames.specs.AccessUnit.{access_unit_value, is_unit_at, unit_depacketization, IsTakenAnswer, IsUnitAnswer, after_taken_rtp, after_rtp, after_end, unit_len};
 
 use crate::access_unit::{AccessUnit, OpenAccessUnit};
 use crate::answers::{is_next, is_sound, was_taken};
