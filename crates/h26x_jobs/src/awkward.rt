@@ -21,13 +21,13 @@ const SIZE: usize = 60_000;
 /// How many packets a window has, the most that it can have.
 const WINDOW: u16 = 16_384;
 
-/// A payload of this text again and again, behind a byte of each round.
+/// A payload of this text again and again, behind the number of a round.
 fn repeated(alloc: Global, text: &[u8], round: u32) -> Result<Picture, PacketError> {
     let mut payload = Picture::new(alloc);
     payload.bytes.reserve(SIZE)?;
     payload.bytes.extend_from_slice(&[0, 0, 1, 0x41, 0x01])?;
-    for byte in round.to_le_bytes() {
-        payload.bytes.push(byte | 0x80)?;
+    for shift in [0, 7, 14, 21] {
+        payload.bytes.push(0x80 | (round >> shift & 0x7f) as u8)?;
     }
     for _ in 0..SIZE / text.len().max(1) {
         payload.bytes.extend_from_slice(text)?;
@@ -88,10 +88,11 @@ fn fragments(
     Ok(packets)
 }
 
-/// Receives fragments that a stranger sends, with a small limit on the open run.
+/// Receives fragments that a stranger sends, from this number on, with a small limit on the open run.
 fn receive_fragments(
     alloc: Global,
     setting: Setting,
+    first: u16,
     packets: &[Vec<u8>],
     digest: &mut Digest,
 ) -> Result<(), PacketError> {
@@ -100,7 +101,7 @@ fn receive_fragments(
     let mut receiver = SequencedDepacketizer::new(alloc, depacketizer, 100);
     let mut out = Vec::new(alloc);
     let mut extra = CodecExtra::None;
-    let mut sequence: u16 = 60_000;
+    let mut sequence = first;
     for packet in packets {
         let received = receiver.receive(sequence, packet, &mut out, &mut extra);
         digest.number(u64::from(received.is_ok()));
@@ -158,10 +159,8 @@ fn do_setting(
             stamp_end(packet, round);
         }
         take_list(alloc, setting, &empty, digest)?;
-        let begin = draws.below(100) as usize;
-        if let Some(some) = strange.get(begin..) {
-            receive_fragments(alloc, setting, some, digest)?;
-        }
+        let first = (round & 0xffff) as u16;
+        receive_fragments(alloc, setting, first, &strange, digest)?;
     }
     Ok(())
 }
