@@ -19,9 +19,12 @@ const RUN: usize = 64;
 /// The same in short bytes.
 const SHORT_RUN: usize = 16;
 
-/// After so many blocks that may have had a start code and had none the search is left to memchr,
-/// which passes over zeros faster.
-const PATIENCE: u32 = 256;
+/// After so many runs without a start code, each near the one before, the search is left to memchr,
+/// which passes faster over zeros and the like.
+const PATIENCE: u32 = 8;
+
+/// How far from the one before a run is near.
+const NEAR: usize = 1024;
 
 /// The bytes from a place on.
 #[inline(always)]
@@ -159,15 +162,17 @@ pub fn first_code(bytes: &[u8]) -> Option<usize>
         return first_of_short(bytes);
     }
     let last = len - RUN - 2;
-    let mut place = 0;
-    for _ in 0..PATIENCE {
-        if place >= last {
-            return first_of_run::<RUN>(bytes, last);
-        }
+    let (mut place, mut failed) = (0, 0);
+    while place < last && failed < PATIENCE {
         if let Some(found) = first_of_run::<RUN>(bytes, place) {
             return Some(found);
         }
-        place = skip_quiet(bytes, place + RUN);
+        let next = skip_quiet(bytes, place + RUN);
+        failed = if next - place < NEAR { failed + 1 } else { 0 };
+        place = next;
+    }
+    if place >= last {
+        return first_of_run::<RUN>(bytes, last);
     }
     match memmem::find(&bytes[place..], CODE) {
         Some(rest) => Some(place + rest),
