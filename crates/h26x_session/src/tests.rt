@@ -1,8 +1,11 @@
 //! Texts on both sides of what is read at a time and of what is written at a time, beside what the
-//! crate `hex` makes of them.
+//! reading by a table made of them and what the crate `hex` makes of them.
+
+mod by_table;
 
 use crate::answers::Answers;
 use crate::digits::Digits;
+use by_table::TableDigits;
 use std::alloc::{AllocError, Global};
 use std::process::Abort;
 use std::test::Fail;
@@ -26,47 +29,46 @@ fn text_of(alloc: Global, length: usize) -> Result<Vec<u8>, AllocError> {
     Ok(text)
 }
 
-/// The value of a digit, and the bits of what is none.
-fn value_of(byte: u8) -> u8 {
-    match byte {
-        b'0'..=b'9' => byte - b'0',
-        b'a'..=b'f' => byte - b'a' + 10,
-        b'A'..=b'F' => byte - b'A' + 10,
-        _ => 0xf0,
-    }
+/// What reads texts, now and before.
+#[derive(Drop)]
+struct Readers {
+    digits: Digits,
+    before: TableDigits,
 }
 
-/// The bytes of a text, digit by digit: what is left where a text isn't one, too.
-fn bytes_by_digits(alloc: Global, text: &[u8]) -> Result<Vec<u8>, AllocError> {
-    let mut bytes = Vec::new(alloc);
-    for pair in text.chunks_exact(2) {
-        let (high, low) = (value_of(pair[0]), value_of(pair[1]));
-        bytes.push((high << 4) | (low & 0x0f))?;
+impl Readers {
+    fn new() -> Self {
+        Readers {
+            digits: Digits::new(),
+            before: TableDigits::new(),
+        }
     }
-    Ok(bytes)
-}
 
-/// Reads a text over other bytes, and compares.
-fn compare(rt: &impl Abort, alloc: Global, digits: &Digits, text: &[u8]) -> Result<(), Fail> {
-    let mut bytes = vec![in alloc; 0xffu8; 20]?;
-    let want = hex::decode(alloc, text).ok();
-    let is_text = digits.read(text, &mut bytes)?;
-    assert!(rt; bytes == bytes_by_digits(alloc, text)?, "{text:?}");
-    let made = if is_text { Some(bytes) } else { None };
-    assert!(rt; made == want, "{text:?}");
-    Ok(())
+    /// Reads a text over other bytes, and compares: what is left where it isn't one, too.
+    fn compare(&self, rt: &impl Abort, alloc: Global, text: &[u8]) -> Result<(), Fail> {
+        let mut bytes = vec![in alloc; 0xffu8; 20]?;
+        let mut bytes_before = vec![in alloc; 0xffu8; 20]?;
+        let is_text = self.digits.read(text, &mut bytes)?;
+        let was_text = self.before.read(text, &mut bytes_before)?;
+        assert!(rt; is_text == was_text, "{text:?}");
+        assert!(rt; bytes == bytes_before, "{text:?}");
+        let want = hex::decode(alloc, text).ok();
+        let made = if is_text { Some(bytes) } else { None };
+        assert!(rt; made == want, "{text:?}");
+        Ok(())
+    }
 }
 
 #[test]
 fn texts_are_read_as_the_crate_hex_reads_them(rt: HostRuntime) -> Result<(), Fail> {
-    let digits = Digits::new();
+    let readers = Readers::new();
     for length in 0..100 {
         let mut text = text_of(rt.alloc(), length)?;
-        compare(&rt, rt.alloc(), &digits, &text)?;
+        readers.compare(&rt, rt.alloc(), &text)?;
         for place in 0..text.len() {
             let digit = text[place];
             text[place] = BYTES[DIGITS + place % (BYTES.len() - DIGITS)];
-            compare(&rt, rt.alloc(), &digits, &text)?;
+            readers.compare(&rt, rt.alloc(), &text)?;
             text[place] = digit;
         }
     }
@@ -75,13 +77,13 @@ fn texts_are_read_as_the_crate_hex_reads_them(rt: HostRuntime) -> Result<(), Fai
 
 #[test]
 fn each_byte_stands_at_each_place(rt: HostRuntime) -> Result<(), Fail> {
-    let digits = Digits::new();
+    let readers = Readers::new();
     let mut text = text_of(rt.alloc(), 66)?;
     for place in 0..text.len() {
         let digit = text[place];
         for byte in 0..=255 {
             text[place] = byte;
-            compare(&rt, rt.alloc(), &digits, &text)?;
+            readers.compare(&rt, rt.alloc(), &text)?;
         }
         text[place] = digit;
     }
