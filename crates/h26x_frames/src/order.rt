@@ -28,6 +28,8 @@ pub(crate) struct NumberOrder<T: Numbered> {
     due: Option<u16>,
     front: VecDeque<T>,
     back: VecDeque<T>,
+    /// Where the latest packet was put that others stood behind, by which it is known whether
+    /// packets come again and again.
     latest: usize,
 }
 
@@ -117,7 +119,8 @@ impl<T: Numbered> NumberOrder<T> {
         Err(low)
     }
 
-    /// So, but a packet ahead of the last one, as most are, is not searched for.
+    /// Where a packet with this number stands, or else where it belongs. One ahead of the last, as
+    /// most are, is not searched for.
     #[inline]
     fn place_from(&self, due: u16, number: u16) -> Result<usize, usize>
         requires { AreHeldInOrder due 0 self.now.held }

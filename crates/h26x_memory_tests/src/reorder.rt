@@ -3,7 +3,7 @@
 
 use crate::tries::Tries;
 use h26x_core::PacketError;
-use h26x_frames::{Pushed, ReorderBuffer, RtpPacket, reorder_all};
+use h26x_frames::{HeldPacket, Pushed, ReorderBuffer, RtpPacket, reorder_all};
 use std::alloc::Global;
 use std::process::Abort;
 
@@ -37,9 +37,9 @@ fn push(
     Ok(())
 }
 
-/// Takes the next packet that may go, and compares its number.
-fn pop(rt: &impl Abort, buffer: &mut ReorderBuffer, want: Option<u16>) {
-    let number = match buffer.pop() {
+/// Compares the number of a packet that was given out.
+fn compare(rt: &impl Abort, held: Option<HeldPacket>, want: Option<u16>) {
+    let number = match held {
         Some(held) => {
             let packet = held.packet();
             assert!(rt; packet.payload == [0x61, 5].as_slice());
@@ -49,6 +49,11 @@ fn pop(rt: &impl Abort, buffer: &mut ReorderBuffer, want: Option<u16>) {
         None => None,
     };
     assert!(rt; number == want);
+}
+
+/// Takes the next packet that may go, and compares its number.
+fn pop(rt: &impl Abort, buffer: &mut ReorderBuffer, want: Option<u16>) {
+    compare(rt, buffer.pop(), want);
 }
 
 /// Packets that come out of order, twice and late, the numbers round 65535.
@@ -77,6 +82,34 @@ fn packets_reordered_again(rt: HostRuntime) -> Result<(), PacketError> {
 #[test]
 fn packets_reordered_at_once(rt: HostRuntime) -> Result<(), PacketError> {
     reorder(&rt, rt.alloc(), Tries::Once)
+}
+
+/// Packets that come one behind the other before a hundred others, for which the list is parted, and
+/// more behind all of them.
+fn reorder_parted(rt: &impl Abort, alloc: Global, tries: Tries) -> Result<(), PacketError> {
+    let mut buffer = ReorderBuffer::new(alloc, 1024);
+    for numbers in [0..60, 200..300, 60..70, 300..420] {
+        for number in numbers {
+            push(rt, tries, &mut buffer, number, Pushed::Held)?;
+        }
+    }
+    for numbers in [0..70, 200..420] {
+        for number in numbers {
+            compare(rt, buffer.pop_first(), Some(number));
+        }
+    }
+    assert!(rt; buffer.is_empty());
+    Ok(())
+}
+
+#[test]
+fn packets_reordered_in_two_parts_again(rt: HostRuntime) -> Result<(), PacketError> {
+    reorder_parted(&rt, rt.alloc(), Tries::Twice)
+}
+
+#[test]
+fn packets_reordered_in_two_parts_at_once(rt: HostRuntime) -> Result<(), PacketError> {
+    reorder_parted(&rt, rt.alloc(), Tries::Once)
 }
 
 /// A list in another order, with a loss and one that comes twice.

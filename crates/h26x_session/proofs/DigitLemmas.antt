@@ -1,5 +1,6 @@
 -- Bytes read from digits, 32 at a time.
 use Rattle.std.proofs.Common.{◌≡◌, ℕ, zero, suc, ◌+◌, ◌*◌, ◌%◌, ◌^◌, ◌-◌, ◌<◌, ◌≤◌, Bool, true, false, ◌&&◌, cond, ltb, eqb, T, List, [], ◌∷◌, ◌++◌, map, length, take, drop, bit_and, bit_or, refl, sym, ap, ◌∙◌, subst, arith, w8, Fits, min, eqb→eq, inl, inr}
+use Rattle.std.proofs.lemmas.Bool.{and_parts}
 use Rattle.std.proofs.lemmas.Grind.{common_steps}
 use Rattle.std.proofs.lemmas.List.{map-append, take-append-drop, take-take, drop-drop, drop-take, length-take-le, length-map}
 use Rattle.std.proofs.Math.Nat.{eq-zero-or-pos}
@@ -74,15 +75,11 @@ and_assoc : (a b c : Bool) → ((a && b) && c) ≡ (a && (b && c))
 and_assoc true b c = refl
 and_assoc false b c = refl
 
-and_true : (a : Bool) → (a && true) ≡ a
+pub and_true : (a : Bool) → (a && true) ≡ a
 and_true true = refl
 and_true false = refl
 
-pub both_true : (a b : Bool) → (a && b) ≡ true → (a ≡ true) × (b ≡ true)
-both_true true b e = (refl, e)
-both_true false b e = cc
-
-small_or : (x y : ℕ) → ltb (bit_or x y) 16 ≡ (ltb x 16 && ltb y 16)
+pub small_or : (x y : ℕ) → ltb (bit_or x y) 16 ≡ (ltb x 16 && ltb y 16)
 small_or x y = grind (arith, common_steps, le_or_l x y, le_or_r x y, or_lt 4 x y)
 
 small_capped : (x : ℕ) → ltb (capped x) 16 ≡ ltb x 16
@@ -111,7 +108,7 @@ values_of_capped (x ∷ xs) = rw (small_capped x, values_of_capped xs) refl
 pub capped_values : (xs : List ℕ) → are_values xs ≡ true → map capped xs ≡ xs
 capped_values [] e = refl
 capped_values (x ∷ xs) e =
-    let parts = both_true (ltb x 16) (are_values xs) e in
+    let parts = and_parts (ltb x 16) (are_values xs) e in
     let small : capped x ≡ x = grind (arith, common_steps, parts.0) in
     rw (small, capped_values xs parts.1) refl
 
@@ -123,7 +120,7 @@ joined_bits [] = []
 joined_bits (value ∷ []) = []
 joined_bits (high ∷ low ∷ rest) = bit_or (high * 16 % 256) low ∷ joined_bits rest
 
-one_byte : (high low : ℕ) → high < 16 → low < 16 → bit_or (high * 16 % 256) low ≡ 16 * high + low
+pub one_byte : (high low : ℕ) → high < 16 → low < 16 → bit_or (high * 16 % 256) low ≡ 16 * high + low
 one_byte high low h l =
     let whole : high * 16 % 256 ≡ high * 2 ^ 4 = omega arith in
     rw whole (or_shifted high 4 low l ∙ omega arith)
@@ -133,8 +130,8 @@ unfolding joined
 joined_by_bits [] e = refl
 joined_by_bits (value ∷ []) e = refl
 joined_by_bits (high ∷ low ∷ rest) e =
-    let a = both_true (ltb high 16) (are_values (low ∷ rest)) e in
-    let b = both_true (ltb low 16) (are_values rest) a.1 in
+    let a = and_parts (ltb high 16) (are_values (low ∷ rest)) e in
+    let b = and_parts (ltb low 16) (are_values rest) a.1 in
     let h : high < 16 = grind (arith, common_steps, a.0) in
     let l : low < 16 = grind (arith, common_steps, b.0) in
     rw (one_byte high low h l, joined_by_bits rest b.1) refl
@@ -192,8 +189,8 @@ module _ (text : List ℕ) (at : ℕ) (room : 2 * at + 32 ≤ length text) (firs
       → (are_digits before ≡ true → take at bytes ≡ bytes_of before) → are_digits (take (2 * (at + 16)) text) ≡ true
       → take (at + 16) (put_chunk at bytes read) ≡ bytes_of (take (2 * (at + 16)) text)
   next_bytes bytes read fits long is so_far all =
-      let parts = both_true (are_digits before) (are_values first && are_values second) (sym are_next ∙ all) in
-      let both = both_true (are_values first) (are_values second) parts.1 in
+      let parts = and_parts (are_digits before) (are_values first && are_values second) (sym are_next ∙ all) in
+      let both = and_parts (are_values first) (are_values second) parts.1 in
       let one : first ≡ map digit_value (chunk (2 * at) 16 text) = sym (capped_values first both.0) ∙ e1 in
       let two : second ≡ map digit_value (chunk (2 * at + 16) 16 text) = sym (capped_values second both.1) ∙ e2 in
       let len : length (map digit_value before) ≡ 2 * at = length-map before digit_value ∙ length-take-le (2 * at) text (omega arith) in

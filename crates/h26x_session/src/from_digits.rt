@@ -31,7 +31,8 @@ pub fn read_blocks(text: &[u8], bytes: &mut [u8]) -> bool
     seen.reduce_or() < 16
 }
 
-/// The value of each byte as a digit, and 16 or more where it is none.
+/// The value of each byte as a digit, and 16 or more where it is none, as Geoff Langdale and Wojciech
+/// Muła compute it ("Parsing hex numbers with validation", 2022).
 ///
 /// `0` to `9` are moved to 246 to 255. Taking 6 off, but not below 0, leaves all others at 239 or
 /// less, and taking 240 off with a wrap then leaves them at 16 or more. Letters lose the bit of

@@ -1,5 +1,5 @@
 //! Texts on both sides of what is read at a time and of what is written at a time, beside what the
-//! reading by a table made of them and what the crate `hex` makes of them.
+//! reading by a table made of them, and what the crate `hex` makes of them.
 
 mod by_table;
 

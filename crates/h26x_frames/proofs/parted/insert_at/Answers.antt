@@ -5,10 +5,10 @@ use Rattle.h26x_frames.proofs.parted.insert_at.Goals as goal
 
 pub returns-in_ok-insert-2-clause-put : goal.returns-in_ok-insert-2-clause-put
 returns-in_ok-insert-2-clause-put g c =
-    let front = c.part_at.new.front.items in
-    let back = c.part_at.new.back.items in
+    let front = c.join_for_room.new.front.items in
+    let back = c.join_for_room.new.back.items in
     let len : length front ≡ c.len-len.result = search rules in
     let items : c.insert-else-place-len-2.new.self.items ≡ insert back (c.args.place - c.len-len.result) c.args.value = search rules in
     ap (λ l. front ++ l) items
     ∙ sym (insert-append_right front back c.len-len.result c.args.place c.args.value len (omega arith))
-    ∙ ap (λ l. insert l c.args.place c.args.value) c.part_at.ensures
+    ∙ ap (λ l. insert l c.args.place c.args.value) (c.join_for_room.ensures ∙ c.part_at.ensures)
