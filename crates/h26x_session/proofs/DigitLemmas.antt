@@ -1,9 +1,10 @@
 -- Bytes read from digits, 32 at a time.
-use Rattle.std.proofs.Common.{◌≡◌, ℕ, zero, suc, ◌+◌, ◌*◌, ◌%◌, ◌^◌, ◌-◌, ◌<◌, ◌≤◌, Bool, true, false, ◌&&◌, cond, ltb, eqb, T, List, [], ◌∷◌, ◌++◌, map, length, take, drop, bit_and, bit_or, refl, sym, ap, ◌∙◌, subst, arith, w8, Fits, min, eqb→eq, inl, inr}
+use Rattle.std.proofs.Common.{◌≡◌, ℕ, zero, suc, ◌+◌, ◌*◌, ◌%◌, ◌^◌, ◌-◌, ◌<◌, ◌≤◌, Bool, true, false, ◌&&◌, cond, ltb, eqb, List, [], ◌∷◌, ◌++◌, map, length, take, drop, bit_and, bit_or, refl, sym, ap, ◌∙◌, subst, arith, w8, Fits, min}
+use Rattle.std.proofs.Math.Bool.{and-true, and_assoc}
 use Rattle.std.proofs.lemmas.Bool.{and_parts}
+use Rattle.std.proofs.lemmas.Bool.Decides.{Decides-below_and, Decides-eqb}
 use Rattle.std.proofs.lemmas.Grind.{common_steps}
 use Rattle.std.proofs.lemmas.List.{map-append, take-append-drop, take-take, drop-drop, drop-take, length-take-le, length-map}
-use Rattle.std.proofs.Math.Nat.{eq-zero-or-pos}
 use Rattle.std.proofs.lemmas.Nat.{le_or_l, le_or_r, or_lt, or_shifted}
 use Rattle.std.proofs.lemmas.Simd.{length-zip2, take_more_put_chunk, pick_l_whole}
 use lib.Lanes.{zip2, Each1, fold_l, top, chunk, put_chunk, pick_l}
@@ -36,28 +37,14 @@ capped value = min value 16
 abbrev agree : ℕ → Bool
 agree c = eqb (capped (lane c)) (digit_value c)
 
-abbrev all_agree : ℕ → Bool
-all_agree zero = true
-all_agree (suc n) = agree n && all_agree n
-
-and_l : (a b : Bool) → T (a && b) → T a
-and_l true b h = tt
-and_l false b h = absurd h
-
-and_r : (a b : Bool) → T (a && b) → T b
-and_r true b h = h
-and_r false b h = absurd h
-
-every_agrees : (n : ℕ) → T (all_agree n) → (c : ℕ) → c < n → T (agree c)
-every_agrees zero h c l = absurd (omega arith)
-every_agrees (suc n) h c l =
-    elim (eq-zero-or-pos (n - c)) [
-      | inl z ↦ let e : n ≡ c = omega arith in subst (λ x. T (agree x)) e (and_l _ _ h)
-      | inr g ↦ every_agrees n (and_r (agree n) _ h) c (omega arith)
-    ]
+-- a test of each number below another
+abbrev pub all_below : (ℕ → Bool) → ℕ → Bool
+all_below test zero = true
+all_below test (suc n) = test n && all_below test n
 
 pub lane_is : (c : ℕ) → c < 256 → capped (lane c) ≡ digit_value c
-lane_is c l = eqb→eq _ _ (every_agrees 256 tt c l)
+lane_is =
+    (Decides-below_and agree (λ c. capped (lane c) ≡ digit_value c) (all_below agree) (λ c. Decides-eqb (capped (lane c)) (digit_value c)) refl (λ _. refl) 256).0 refl
 
 pub map_same : (f g : ℕ → ℕ) → ((x : ℕ) → x < 256 → f x ≡ g x) → (v : List ℕ) → Each1 (Fits w8) v → map f v ≡ map g v
 map_same f g same [] fits = refl
@@ -70,14 +57,6 @@ and_swap true true c d = refl
 and_swap true false true d = refl
 and_swap true false false d = refl
 and_swap false b c d = refl
-
-and_assoc : (a b c : Bool) → ((a && b) && c) ≡ (a && (b && c))
-and_assoc true b c = refl
-and_assoc false b c = refl
-
-pub and_true : (a : Bool) → (a && true) ≡ a
-and_true true = refl
-and_true false = refl
 
 pub small_or : (x y : ℕ) → ltb (bit_or x y) 16 ≡ (ltb x 16 && ltb y 16)
 small_or x y = grind (arith, common_steps, le_or_l x y, le_or_r x y, or_lt 4 x y)
@@ -97,7 +76,7 @@ values_of_append [] ys = refl
 values_of_append (x ∷ xs) ys = rw (values_of_append xs ys) (sym (and_assoc (ltb x 16) (are_values xs) (are_values ys)))
 
 pub values_of_fold : (a : ℕ) (xs : List ℕ) → ltb (fold_l bit_or a xs) 16 ≡ (ltb a 16 && are_values xs)
-values_of_fold a [] = sym (and_true (ltb a 16))
+values_of_fold a [] = sym (and-true (ltb a 16))
 values_of_fold a (x ∷ xs) =
     values_of_fold (bit_or a x) xs ∙ rw (small_or a x) (and_assoc (ltb a 16) (ltb x 16) (are_values xs))
 

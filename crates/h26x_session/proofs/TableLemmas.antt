@@ -1,71 +1,67 @@
 -- Bytes read from digits by a table, two digits at a time.
-use Rattle.std.proofs.Common.{◌≡◌, ℕ, zero, suc, ◌+◌, ◌*◌, ◌%◌, ◌<◌, ◌≤◌, Bool, true, false, ◌&&◌, cond, ltb, eqb, List, [], ◌∷◌, ◌++◌, map, length, take, drop, get_or, set, bit_and, bit_or, refl, sym, ap, subst, ◌∙◌, arith, inl, inr}
-use Rattle.std.proofs.lemmas.Bool.{and_parts, cases_lt, eqb-true}
+use Rattle.std.proofs.Common.{◌≡◌, ℕ, suc, ◌+◌, ◌*◌, ◌%◌, ◌<◌, ◌≤◌, Bool, true, ◌&&◌, cond, ltb, List, [], ◌∷◌, ◌++◌, map, replicate, Option, Some, None, unwrap_or, length, take, drop, get_or, set, bit_and, bit_or, refl, sym, ap, ◌∙◌, arith}
+use Rattle.std.proofs.Math.Bool.{and-true}
+use Rattle.std.proofs.lemmas.Bool.{and_parts}
+use Rattle.std.proofs.lemmas.Bool.Decides.{Decides-below_and}
 use Rattle.std.proofs.lemmas.Grind.{common_steps}
 use Rattle.std.proofs.lemmas.List.{append_assoc, length-map, length-take-le, map-append, take-append-drop, take_more_set}
 use Rattle.std.proofs.lemmas.List.FromFn.{get_or-map-range_with_len}
 use Rattle.std.proofs.lemmas.Nat.{and_mask}
 use Rattle.std.proofs.Math.Seq.{take-suc}
-use Rattle.hex.specs.Hex.{lower_digits, upper_digits}
-use Rattle.h26x_session.specs.Digits.{are_digits, bytes_of, digit_table, digit_value, joined, value_under, values_under}
-use Rattle.h26x_session.proofs.DigitLemmas.{and_true, joined-append, one_byte, small_or, values_of_append}
+use Rattle.std.proofs.lemmas.Slice.Eq.{bytes_eq-Decides}
+use Rattle.std.specs.List.{range_with_len}
+use Rattle.std.specs.Str.{bytes_eq}
+use Rattle.hex.specs.Hex.{hex_digit_value, lower_digits, upper_digits}
+use Rattle.h26x_session.specs.Digits.{are_digits, bytes_of, digit_table, digit_value, joined}
+use Rattle.h26x_session.proofs.DigitLemmas.{all_below, joined-append, one_byte, small_or, values_of_append}
 
 -- ---- the table
 
-abbrev same : List ℕ → List ℕ → Bool
-same [] [] = true
-same (x ∷ xs) (y ∷ ys) = eqb x y && same xs ys
-same [] (y ∷ ys) = false
-same (x ∷ xs) [] = false
+-- of each byte its value as a digit where that is less than n, and 240 where it is not
+unfoldable pub values_below : ℕ → List ℕ
+values_below n = map (λ c. cond (ltb (digit_value c) n) (digit_value c) 240) (range_with_len 0 256)
 
-same_is : (xs ys : List ℕ) → same xs ys ≡ true → xs ≡ ys
-same_is [] [] e = refl
-same_is (x ∷ xs) (y ∷ ys) e =
-    let parts = and_parts (eqb x y) (same xs ys) e in
-    rw (eqb-true x y parts.0, same_is xs ys parts.1) refl
-same_is [] (y ∷ ys) e = cc
-same_is (x ∷ xs) [] e = cc
-
--- the digits under one more number, in either case
+-- one more digit, in either case
 abbrev with_next : ℕ → List ℕ
-with_next n = set (set (values_under n) (get_or lower_digits n 0) n) (get_or upper_digits n 0) n
+with_next n = set (set (values_below n) (get_or lower_digits n 0) n) (get_or upper_digits n 0) n
 
-abbrev all_next : ℕ → Bool
-all_next zero = true
-all_next (suc n) = same (with_next n) (values_under (suc n)) && all_next n
+abbrev is_next : ℕ → Bool
+is_next n = bytes_eq (with_next n) (values_below (suc n))
 
-next_of : (n k : ℕ) → all_next n ≡ true → k < n → with_next k ≡ values_under (suc k)
-next_of zero k e l = absurd (omega arith)
-next_of (suc n) k e l =
-    let parts = and_parts (same (with_next n) (values_under (suc n))) (all_next n) e in
-    elim (cases_lt k n) [
-      | inl below ↦ next_of n k parts.1 below
-      | inr top ↦
-          let is : n ≡ k = omega arith in
-          subst (λ m. with_next m ≡ values_under (suc m)) is (same_is (with_next n) (values_under (suc n)) parts.0)
-    ]
+all_next : all_below is_next 16 ≡ true
+unfolding values_below
+all_next = refl
 
-pub next_values : (k : ℕ) → k < 16 → with_next k ≡ values_under (k + 1)
-unfolding values_under
-next_values k l = next_of 16 k refl l ∙ ap values_under (omega arith)
+pub next_values : (k : ℕ) → k < 16 → with_next k ≡ values_below (k + 1)
+next_values k l =
+    (Decides-below_and is_next (λ n. with_next n ≡ values_below (suc n)) (all_below is_next) (λ n. bytes_eq-Decides (with_next n) (values_below (suc n))) refl (λ _. refl) 16).0 all_next k l
+    ∙ ap values_below (omega arith)
 
-in_table : (c : ℕ) → c < 256 → get_or digit_table c 0 ≡ value_under 16 c
-unfolding values_under
-in_table c l = get_or-map-range_with_len (value_under 16) 0 256 c c 0 l (omega arith)
+pub no_values : values_below 0 ≡ replicate 256 240
+unfolding values_below
+no_values = refl
 
-small_if : (b : Bool) (d : ℕ) → ltb d 16 ≡ b → ltb (cond b d 240) 16 ≡ b
-small_if true d e = e
-small_if false d e = refl
+pub all_values : values_below 16 ≡ digit_table
+unfolding values_below digit_table
+all_values = refl
+
+in_table : (c : ℕ) → c < 256 → get_or digit_table c 0 ≡ unwrap_or (hex_digit_value c) 240
+unfolding digit_table
+in_table c l = get_or-map-range_with_len (λ k. unwrap_or (hex_digit_value k) 240) 0 256 c c 0 l (omega arith)
+
+small_or_none : (v : Option ℕ) → ltb (unwrap_or v 240) 16 ≡ ltb (unwrap_or v 16) 16
+small_or_none None = refl
+small_or_none (Some v) = refl
+
+same_if_small : (v : Option ℕ) → ltb (unwrap_or v 16) 16 ≡ true → unwrap_or v 240 ≡ unwrap_or v 16
+same_if_small None e = cc
+same_if_small (Some v) e = refl
 
 is_digit : (c : ℕ) → c < 256 → ltb (get_or digit_table c 0) 16 ≡ ltb (digit_value c) 16
-is_digit c l = ap (λ v. ltb v 16) (in_table c l) ∙ small_if (ltb (digit_value c) 16) (digit_value c) refl
-
-whole_if : (b : Bool) (d : ℕ) → b ≡ true → cond b d 240 ≡ d
-whole_if true d e = refl
-whole_if false d e = cc
+is_digit c l = ap (λ v. ltb v 16) (in_table c l) ∙ small_or_none (hex_digit_value c)
 
 value_of : (c : ℕ) → c < 256 → ltb (digit_value c) 16 ≡ true → get_or digit_table c 0 ≡ digit_value c
-value_of c l e = in_table c l ∙ whole_if (ltb (digit_value c) 16) (digit_value c) e
+value_of c l e = in_table c l ∙ same_if_small (hex_digit_value c) e
 
 -- ---- two digits more
 
@@ -84,7 +80,7 @@ module _ (text : List ℕ) (at high low : ℕ) (h : high < 256) (l : low < 256)
 
   are_next : are_digits (take (2 * (at + 1)) text) ≡ (are_digits before && (ltb (digit_value high) 16 && ltb (digit_value low) 16))
   are_next =
-      rw (next, map-append digit_value before (high ∷ low ∷ []), values_of_append (map digit_value before) (digit_value high ∷ digit_value low ∷ []), and_true (ltb (digit_value low) 16)) refl
+      rw (next, map-append digit_value before (high ∷ low ∷ []), values_of_append (map digit_value before) (digit_value high ∷ digit_value low ∷ []), and-true (ltb (digit_value low) 16)) refl
 
   pub pair_seen : (all : ℕ) → ltb all 16 ≡ are_digits before
       → ltb (bit_or all (bit_or (get_or digit_table high 0) (get_or digit_table low 0))) 16 ≡ are_digits (take (2 * (at + 1)) text)

@@ -1,5 +1,5 @@
 -- Bytes by two hexadecimal digits each.
-use Rattle.std.specs.Prelude.{ℕ, ◌+◌, ◌*◌, ◌&&◌, Bool, true, nat_lt, if◌then◌else◌, List, [], ◌∷◌, map, unwrap_or}
+use Rattle.std.specs.Prelude.{ℕ, ◌+◌, ◌*◌, ◌&&◌, Bool, true, nat_lt, List, [], ◌∷◌, map, unwrap_or}
 use Rattle.std.specs.List.{range_with_len}
 use Rattle.hex.specs.Hex.{hex_digit_value}
 
@@ -26,14 +26,6 @@ joined (high ∷ low ∷ rest) = (16 * high + low) ∷ joined rest
 abbrev pub bytes_of : List ℕ → List ℕ
 bytes_of text = joined (map digit_value text)
 
--- the value of a digit, where it is less than n, and 240 (0xf0) for any other byte
-abbrev pub value_under : ℕ → ℕ → ℕ
-value_under n c = if nat_lt (digit_value c) n then digit_value c else 240
-
--- the same of each byte, 0 to 255
-unfoldable pub values_under : ℕ → List ℕ
-values_under n = map (value_under n) (range_with_len 0 256)
-
--- what each byte is as a digit: its value, and 240 where it is none
-abbrev pub digit_table : List ℕ
-digit_table = values_under 16
+-- what each byte is as a digit: its value, and 240 (0xf0) where it is none
+unfoldable pub digit_table : List ℕ
+digit_table = map (λ c. unwrap_or (hex_digit_value c) 240) (range_with_len 0 256)

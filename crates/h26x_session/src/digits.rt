@@ -6,9 +6,10 @@ ghost use Rattle.h26x_session.specs.Digits.{are_digits, bytes_of, digit_table};
 use crate::from_digits::{LANES, read_blocks};
 use std::alloc::AllocError;
 
-/// The digits in either case, by their values.
+/// The digits, by their values.
 const LOWER: [u8; 16] = *b"0123456789abcdef";
 
+/// The same in upper case.
 const UPPER: [u8; 16] = *b"0123456789ABCDEF";
 
 /// Stands for a byte that is no digit; no digit has its bits.

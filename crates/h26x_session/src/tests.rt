@@ -1,5 +1,5 @@
 //! Texts on both sides of what is read at a time and of what is written at a time, beside what the
-//! reading by a table made of them, and what the crate `hex` makes of them.
+//! plain reading and the crate `hex` make of them.
 
 mod by_table;
 
@@ -29,29 +29,29 @@ fn text_of(alloc: Global, length: usize) -> Result<Vec<u8>, AllocError> {
     Ok(text)
 }
 
-/// What reads texts, now and before.
+/// What reads texts, and the plain form of it.
 #[derive(Drop)]
 struct Readers {
     digits: Digits,
-    before: TableDigits,
+    plain: TableDigits,
 }
 
 impl Readers {
     fn new() -> Self {
         Readers {
             digits: Digits::new(),
-            before: TableDigits::new(),
+            plain: TableDigits::new(),
         }
     }
 
     /// Reads a text over other bytes, and compares: what is left where it isn't one, too.
     fn compare(&self, rt: &impl Abort, alloc: Global, text: &[u8]) -> Result<(), Fail> {
         let mut bytes = vec![in alloc; 0xffu8; 20]?;
-        let mut bytes_before = vec![in alloc; 0xffu8; 20]?;
+        let mut plain_bytes = vec![in alloc; 0xffu8; 20]?;
         let is_text = self.digits.read(text, &mut bytes)?;
-        let was_text = self.before.read(text, &mut bytes_before)?;
-        assert!(rt; is_text == was_text, "{text:?}");
-        assert!(rt; bytes == bytes_before, "{text:?}");
+        let is_plain_text = self.plain.read(text, &mut plain_bytes)?;
+        assert!(rt; is_text == is_plain_text, "{text:?}");
+        assert!(rt; bytes == plain_bytes, "{text:?}");
         let want = hex::decode(alloc, text).ok();
         let made = if is_text { Some(bytes) } else { None };
         assert!(rt; made == want, "{text:?}");

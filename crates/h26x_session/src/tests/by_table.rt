@@ -1,5 +1,5 @@
-//! The reading of digits as it was before vectors: each byte by a table. What reads them now is
-//! compared with it.
+//! Digits read one after the other by a table alone: the plain form, which the reading by vectors is
+//! compared with.
 
 use std::alloc::AllocError;
 
