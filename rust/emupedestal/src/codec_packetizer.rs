@@ -1,0 +1,166 @@
+//! A packetizer of any codec, or a caller's own.
+
+use crate::{Codec, PacketError, Packetizer, Packets};
+use crate::{H264Packetizer, H265Packetizer, H266Packetizer};
+use alloc::boxed::Box;
+use alloc::vec::Vec;
+use core::panic::UnwindSafe;
+
+/// A packetizer of one of the codecs, or a caller's own in a box. Every call goes to the packetizer
+/// that it holds.
+///
+///
+///
+/// ```
+/// use emupedestal::{Codec, CodecPacketizer, Packetizer};
+///
+/// let mut packetizer = CodecPacketizer::new(Codec::H265);
+/// packetizer.configure_for(Some(1)); // `sprop-max-don-diff=1`
+/// let packets = packetizer.packetize(1200, &[0, 0, 1, 0x26, 0x01, 0xaf])?;
+/// assert_eq!(packets, [[0x26, 0x01, 0x00, 0x00, 0xaf]]);
+/// # Ok::<(), emupedestal::PacketError>(())
+/// ```
+#[derive(Debug)]
+pub enum CodecPacketizer {
+    /// Sends H.264 (RFC 6184).
+    H264(H264Packetizer),
+    /// Sends H.265 (RFC 7798).
+    H265(H265Packetizer),
+    /// Sends H.266 (RFC 9328).
+    H266(H266Packetizer),
+    /// A caller's own packetizer.
+    Boxed(Box<dyn Packetizer + Send + Sync + UnwindSafe>),
+}
+
+/// A call to the packetizer within, whichever it is.
+macro_rules! within {
+    ($packetizer:expr, $it:ident => $call:expr) => {
+        match $packetizer {
+            CodecPacketizer::H264($it) => $call,
+            CodecPacketizer::H265($it) => $call,
+            CodecPacketizer::H266($it) => $call,
+            CodecPacketizer::Boxed($it) => $call,
+        }
+    };
+}
+
+impl CodecPacketizer {
+    /// A packetizer of a codec for which nothing waits, without decoding order numbers, and with 1200
+    /// bytes as the largest packet size of H.265 and H.266.
+    pub fn new(codec: Codec) -> Self {
+        match codec {
+            Codec::H264 => CodecPacketizer::H264(H264Packetizer::default()),
+            Codec::H265 => CodecPacketizer::H265(H265Packetizer::default()),
+            Codec::H266 => CodecPacketizer::H266(H266Packetizer::default()),
+        }
+    }
+
+    /// Sets decoding order numbers (DONL and DOND) up by `sprop-max-don-diff` of a session
+    /// description, the greatest distance between decoding and sending order (RFC 7798, 7.1; RFC 9328,
+    /// 7.2).
+    ///
+    /// Where it is over 0, units of H.265 and H.266 bear numbers from then on, which begin at 0, and
+    /// parameter sets that wait stay. `None` and 0 change nothing, and neither does any value for H.264
+    /// or a packetizer in a box.
+    pub fn configure_for(&mut self, sprop_max_don_diff: Option<u32>) {
+        if sprop_max_don_diff.unwrap_or(0) == 0 {
+            return;
+        }
+        match self {
+            CodecPacketizer::H265(it) => it.with_donl(true),
+            CodecPacketizer::H266(it) => it.with_donl(true),
+            CodecPacketizer::H264(_) | CodecPacketizer::Boxed(_) => {}
+        }
+    }
+
+    /// Sets the largest packet size of H.265 and H.266, as
+    /// [`H265Packetizer::with_max_packet_size`] tells. For H.264 and a packetizer in a box it changes
+    /// nothing.
+    ///
+    /// # Panics
+    ///
+    /// Of H.265 and H.266, where `n` is under 4: no fragment has room for data then.
+    pub fn with_max_packet_size(&mut self, n: u16) {
+        match self {
+            CodecPacketizer::H265(it) => it.with_max_packet_size(n),
+            CodecPacketizer::H266(it) => it.with_max_packet_size(n),
+            CodecPacketizer::H264(_) | CodecPacketizer::Boxed(_) => {}
+        }
+    }
+
+    /// The RTP payloads of `b` as [`Packetizer::packetize`] makes them, in the place of those in
+    /// `packets`, whose memory is used again. A refusal leaves `packets`.
+    ///
+    /// One in a box makes its packets first, and they are copied in.
+    pub fn packetize_into(
+        &mut self,
+        mtu: usize,
+        b: &[u8],
+        packets: &mut Packets,
+    ) -> Result<(), PacketError> {
+        match self {
+            CodecPacketizer::H264(it) => it.packetize_into(mtu, b, packets),
+            CodecPacketizer::H265(it) => it.packetize_into(mtu, b, packets),
+            CodecPacketizer::H266(it) => it.packetize_into(mtu, b, packets),
+            CodecPacketizer::Boxed(it) => {
+                packets.replace(&it.packetize(mtu, b)?);
+                Ok(())
+            }
+        }
+    }
+
+    /// The RTP payloads of one NAL unit as it is, as [`H264Packetizer::packetize_unit`] makes them. One
+    /// in a box is given the unit as a payload.
+    pub fn packetize_unit(&mut self, mtu: usize, unit: &[u8]) -> Result<Vec<Vec<u8>>, PacketError> {
+        match self {
+            CodecPacketizer::H264(it) => it.packetize_unit(mtu, unit),
+            CodecPacketizer::H265(it) => it.packetize_unit(mtu, unit),
+            CodecPacketizer::H266(it) => it.packetize_unit(mtu, unit),
+            CodecPacketizer::Boxed(it) => it.packetize(mtu, unit),
+        }
+    }
+
+    /// The packets of [`packetize_unit`](Self::packetize_unit) in the place of those in `packets`, as
+    /// [`packetize_into`](Self::packetize_into) has it.
+    pub fn packetize_unit_into(
+        &mut self,
+        mtu: usize,
+        unit: &[u8],
+        packets: &mut Packets,
+    ) -> Result<(), PacketError> {
+        match self {
+            CodecPacketizer::H264(it) => it.packetize_unit_into(mtu, unit, packets),
+            CodecPacketizer::H265(it) => it.packetize_unit_into(mtu, unit, packets),
+            CodecPacketizer::H266(it) => it.packetize_unit_into(mtu, unit, packets),
+            CodecPacketizer::Boxed(it) => {
+                packets.replace(&it.packetize(mtu, unit)?);
+                Ok(())
+            }
+        }
+    }
+}
+
+/// As [`CodecPacketizer::new`].
+impl From<Codec> for CodecPacketizer {
+    fn from(codec: Codec) -> Self {
+        CodecPacketizer::new(codec)
+    }
+}
+
+impl Packetizer for CodecPacketizer {
+    fn packetize(&mut self, mtu: usize, b: &[u8]) -> Result<Vec<Vec<u8>>, PacketError> {
+        within!(self, it => it.packetize(mtu, b))
+    }
+
+    fn is_marker(&mut self, data: &[u8], previous: Option<&[u8]>, last: bool) -> bool {
+        within!(self, it => it.is_marker(data, previous, last))
+    }
+
+    fn marks_talkspurt(&self) -> bool {
+        within!(self, it => it.marks_talkspurt())
+    }
+
+    fn nackable(&self) -> bool {
+        within!(self, it => it.nackable())
+    }
+}

@@ -1,0 +1,142 @@
+//! Access units from packets that a network loses, repeats and reorders.
+
+use crate::proved::h26x_frames::FrameReceiver as Frames;
+use crate::proved::h26x_receiver::{AnyDepacketizer, RunDepacketizer, SequencedDepacketizer};
+use crate::sequenced::{are_same, copied};
+use crate::{
+    AccessUnit, Codec, H265Payload, PacketError, Pushed, Received, ReorderBuffer, RtpPacket,
+};
+use alloc::vec::Vec;
+
+impl ReorderBuffer {
+    /// Takes a packet, and copies it. Without memory the buffer stays as it was, and the packet can be
+    /// given again.
+    pub fn push(&mut self, packet: &RtpPacket<'_>) -> Result<Pushed, PacketError> {
+        Ok(self.try_push(packet)?)
+    }
+}
+
+/// A receiver of any codec that gives out access units, by the timestamps and markers of their packets
+/// (RFC 6184, 5.1; RFC 7798, 4.1; RFC 9328, 4.1), and tells of each whether it is known to be whole.
+///
+/// Packets must come in the order of their sequence numbers: put a [`ReorderBuffer`] before it.
+///
+/// `clone` copies all that is open. It panics where memory lacks.
+///
+/// ```
+/// use emupedestal::{Codec, FrameReceiver, ReorderBuffer, RtpPacket};
+///
+/// let mut buffer = ReorderBuffer::new(2);
+/// let mut receiver = FrameReceiver::new(Codec::H264, 4_000_000, 8_000_000);
+/// let mut units = Vec::new();
+/// // Two fragments of a unit, which come in the other order, and a unit of the next picture.
+/// let packets: [(u16, u32, bool, &[u8]); 3] = [
+///     (8, 3000, true, &[0x7c, 0x45, 2]),
+///     (7, 3000, false, &[0x7c, 0x85, 1]),
+///     (9, 6000, true, &[0x61, 9]),
+/// ];
+/// for (sequence, timestamp, marker, payload) in packets {
+///     let packet = RtpPacket { sequence, timestamp, marker, payload };
+///     buffer.push(&packet)?;
+///     while let Some(held) = buffer.pop() {
+///         receiver.receive(&held.packet(), &mut units)?;
+///     }
+/// }
+/// while let Some(held) = buffer.pop_first() {
+///     receiver.receive(&held.packet(), &mut units)?;
+/// }
+/// assert_eq!(units.len(), 2);
+/// assert_eq!(units[0].bytes, [0, 0, 0, 1, 0x65, 1, 2]);
+/// assert_eq!(units[1].bytes, [0, 0, 0, 1, 0x61, 9]);
+/// assert!(units[1].is_whole);
+/// # Ok::<(), emupedestal::PacketError>(())
+/// ```
+#[derive(Debug)]
+pub struct FrameReceiver {
+    inner: Frames<AnyDepacketizer>,
+}
+
+impl Clone for FrameReceiver {
+    fn clone(&self) -> Self {
+        let mut inner = Frames::new(copied(&self.inner.packets), self.inner.unit_limit);
+        inner.unit = self.inner.unit.clone();
+        FrameReceiver { inner }
+    }
+}
+
+/// Of H.265 what is shown counts too.
+impl PartialEq for FrameReceiver {
+    fn eq(&self, other: &Self) -> bool {
+        are_same(&self.inner.packets, &other.inner.packets)
+            && self.inner.unit == other.inner.unit
+            && self.inner.unit_limit == other.inner.unit_limit
+    }
+}
+
+impl Eq for FrameReceiver {}
+
+impl FrameReceiver {
+    /// A receiver with nothing open, which takes any sequence number as the first. It reads no decoding
+    /// order numbers, and writes start codes.
+    ///
+    /// `run_limit` is how many bytes of data an open unit may hold from a packet to the next, and
+    /// `unit_limit` how many an open access unit may.
+    pub fn new(codec: Codec, run_limit: usize, unit_limit: usize) -> Self {
+        let packets = SequencedDepacketizer::new(AnyDepacketizer::new(codec), run_limit);
+        FrameReceiver {
+            inner: Frames::new(packets, unit_limit),
+        }
+    }
+
+    /// Its codec.
+    pub fn codec(&self) -> Codec {
+        self.inner.packets.depacketizer.codec()
+    }
+
+    /// Sets whether packets bear decoding order numbers, as
+    /// [`SequencedDepacketizer::with_donl`](crate::SequencedDepacketizer::with_donl) does.
+    pub fn with_donl(&mut self, value: bool) {
+        self.inner.packets.depacketizer.with_donl(value);
+    }
+
+    /// Sets whether units are written behind lengths of four bytes.
+    pub fn with_avc(&mut self, value: bool) {
+        self.inner.packets.depacketizer.with_avc(value);
+    }
+
+    /// Takes a packet, and appends the access units that it ends to `out`: none, one or two.
+    ///
+    /// A packet that is late, comes twice or is refused changes nothing.
+    pub fn receive(
+        &mut self,
+        packet: &RtpPacket<'_>,
+        out: &mut Vec<AccessUnit>,
+    ) -> Result<Received, PacketError> {
+        self.inner.receive(packet, out)
+    }
+
+    /// Ends the access unit that is open, if one is, and appends it; any sequence number is the next.
+    pub fn end(&mut self, out: &mut Vec<AccessUnit>) -> Result<(), PacketError> {
+        self.inner.end(out)
+    }
+
+    /// Drops what is open, and takes any sequence number as the next. It takes no memory.
+    pub fn restart(&mut self) {
+        self.inner.restart();
+    }
+
+    /// How many bytes of data the open unit holds.
+    pub fn run_len(&self) -> usize {
+        self.inner.packets.depacketizer.run_len()
+    }
+
+    /// How many bytes the open access unit holds.
+    pub fn unit_len(&self) -> usize {
+        self.inner.unit.bytes_len()
+    }
+
+    /// The packet that was taken last, of H.265. `None` of the other codecs.
+    pub fn payload(&self) -> Option<&H265Payload> {
+        self.inner.packets.depacketizer.shown()
+    }
+}

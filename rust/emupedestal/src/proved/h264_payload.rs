@@ -1,0 +1,13 @@
+// Made from crates/h264_payload/src/lib.rt by tools/to-rust.
+
+mod depacketizer;
+mod detect;
+mod packet;
+mod packetizer;
+mod stap;
+
+pub use crate::proved::h26x_core::ANNEXB_NALUSTART_CODE;
+pub use crate::proved::h26x_payload::{BufferPackets, PacketBuffer};
+pub use depacketizer::H264Depacketizer;
+pub use detect::{detect_h264_keyframe, detect_h264_nalu};
+pub use packetizer::{H264, H264Packetizer};

@@ -1,0 +1,22 @@
+// Made from crates/h265_payload/src/lib.rt by tools/to-rust.
+
+//! The H.265 payload format (RFC 7798): a packetizer, a depacketizer that shows the packet that it
+//! accepted last, PACI packets and the detection of keyframes, with the format's definitions and
+//! their laws.
+mod aggregate;
+mod depacketizer;
+mod detect;
+mod packet;
+mod packetizer;
+mod show;
+mod spare;
+
+pub use crate::proved::h26x_core::ANNEXB_NALUSTART_CODE;
+pub use crate::proved::h26x_payload::{BufferPackets, PacketBuffer};
+pub use crate::proved::h265_packets::{
+    H265AggregationPacket, H265AggregationUnit, H265AggregationUnitFirst,
+    H265FragmentationUnitPacket, H265PACIPacket, H265Payload, H265SingleNALUnitPacket,
+};
+pub use depacketizer::H265Depacketizer;
+pub use detect::detect_h265_keyframe;
+pub use packetizer::{H265, H265Packetizer};

@@ -1,0 +1,124 @@
+// Made from crates/h265_payload/src/spare.rt by tools/to-rust.
+
+//! The memory that the next packet is shown by.
+
+use crate::proved::h265_packets::{H265AggregationUnit, H265Payload};
+use crate::support::AllocError;
+use crate::support::{AppendBytes, TryVec};
+use alloc::vec::Vec;
+use core::mem;
+
+/// How many units of a list keep their memory for later ones, so that no sender has a depacketizer
+/// keep a long list, in each place of which a long unit stood once.
+const MOST_KEPT: usize = 256;
+
+/// Memory of packets that were shown before. What the next packet is shown by is put there first,
+/// and changes places with what is shown when nothing can fail any more.
+pub struct Spare {
+    /// The next packet's data, or the first unit of an aggregate.
+    pub data: Vec<u8>,
+    /// The further units of an aggregate. Until then, those of one that was shown before.
+    pub others: Vec<H265AggregationUnit>,
+    /// The second list of further units, while no aggregate is shown that has it.
+    second: Vec<H265AggregationUnit>,
+    /// Units behind the last of a shorter aggregate. The next longer one takes from the end, and so
+    /// finds what stood behind its own last.
+    surplus: Vec<H265AggregationUnit>,
+}
+
+/// Of bytes it tells how many there are.
+impl core::fmt::Debug for Spare {
+    fn fmt(&self, f: &mut core::fmt::Formatter<'_>) -> core::fmt::Result {
+        use crate::support::Count;
+        f.debug_struct("Spare")
+            .field("data", &Count(self.data.len()))
+            .field("others", &self.others)
+            .field("second", &self.second)
+            .field("surplus", &self.surplus)
+            .finish()
+    }
+}
+
+impl Spare {
+    /// No memory.
+    pub fn new() -> Self {
+        Spare {
+            data: Vec::new(),
+            others: Vec::new(),
+            second: Vec::new(),
+            surplus: Vec::new(),
+        }
+    }
+
+    /// Puts the next packet's data in place.
+    pub(crate) fn put_data(&mut self, data: &[u8]) -> Result<(), AllocError> {
+        self.data.clear();
+        self.data.try_extend_from_slice(data)
+    }
+
+    /// Takes the data out.
+    pub fn take_data(&mut self) -> Vec<u8> {
+        mem::take(&mut self.data)
+    }
+
+    /// Begins the further units of the next aggregate.
+    pub fn begin_others(&mut self) {
+        self.others.truncate(MOST_KEPT);
+    }
+
+    /// Puts a further unit of the next aggregate behind so many others.
+    pub(crate) fn put_other(
+        &mut self,
+        count: usize,
+        dond: Option<u8>,
+        unit: &[u8],
+    ) -> Result<(), AllocError> {
+        if count < self.others.len() {
+            return self.others[count].set(dond, unit);
+        }
+        let mut other = match self.surplus.pop() {
+            Some(other) => other,
+            None => H265AggregationUnit::empty(),
+        };
+        other.set(dond, unit)?;
+        self.others.try_push(other)?;
+        Ok(())
+    }
+
+    /// Leaves so many further units, and keeps the memory of those behind them where there is room
+    /// for it.
+    pub(crate) fn limit_others(&mut self, count: usize) {
+        while self.others.len() > count {
+            let Some(unit) = self.others.pop() else {
+                return;
+            };
+            if self.surplus.len() < MOST_KEPT {
+                let _ = self.surplus.try_push(unit);
+            }
+        }
+    }
+
+    /// Takes the further units out.
+    pub fn take_others(&mut self) -> Vec<H265AggregationUnit> {
+        let second = mem::take(&mut self.second);
+        mem::replace(&mut self.others, second)
+    }
+
+    /// Keeps the memory of what was shown before.
+    pub fn keep(&mut self, before: H265Payload) {
+        match before {
+            H265Payload::H265AggregationPacket(packet) => {
+                let (first, others) = packet.into_units();
+                self.second = others;
+                if let Some(unit) = first {
+                    self.data = unit.into_buffer();
+                }
+            }
+            other => {
+                if let Some(buffer) = other.into_buffer() {
+                    self.data = buffer;
+                }
+            }
+        }
+    }
+}

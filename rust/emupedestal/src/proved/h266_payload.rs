@@ -1,0 +1,15 @@
+// Made from crates/h266_payload/src/lib.rt by tools/to-rust.
+
+//! The H.266 payload format (RFC 9328): a packetizer, a depacketizer and the detection of
+//! keyframes, with the format's definitions and their laws.
+mod aggregate;
+mod depacketizer;
+mod detect;
+mod packet;
+mod packetizer;
+
+pub use crate::proved::h26x_core::ANNEXB_NALUSTART_CODE;
+pub use crate::proved::h26x_payload::{BufferPackets, PacketBuffer};
+pub use depacketizer::H266Depacketizer;
+pub use detect::detect_h266_keyframe;
+pub use packetizer::{H266, H266Packetizer};

@@ -1,0 +1,21 @@
+// Made from crates/h26x_frames/src/lib.rt by tools/to-rust.
+
+//! Packets that a network brings in any order, put in the order of their sequence numbers (RFC 3550,
+//! 5.1), and the access units of such packets, by their timestamps and markers.
+mod access_unit;
+mod answers;
+mod buffer;
+mod frames;
+mod numbered;
+mod order;
+mod packet;
+mod parted;
+mod receiver;
+mod reorder;
+
+pub use access_unit::{AccessUnit, OpenAccessUnit};
+pub use buffer::{HeldPacket, Pushed, ReorderBuffer};
+pub use frames::receive_frames;
+pub use packet::RtpPacket;
+pub use receiver::FrameReceiver;
+pub(crate) use reorder::reorder_all;

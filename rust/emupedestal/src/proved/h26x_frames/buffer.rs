@@ -1,0 +1,139 @@
+// Made from crates/h26x_frames/src/buffer.rt by tools/to-rust.
+
+//! A buffer for packets that come before earlier ones.
+
+use crate::proved::h26x_frames::order::NumberOrder;
+use crate::proved::h26x_frames::packet::RtpPacket;
+use crate::support::AllocError;
+use crate::support::TryVec;
+use alloc::vec::Vec;
+
+/// A packet that a buffer gave out.
+#[derive(Clone, PartialEq, Eq, Hash)]
+pub struct HeldPacket {
+    /// Its sequence number.
+    pub sequence: u16,
+    /// Its timestamp.
+    pub timestamp: u32,
+    /// Its marker bit.
+    pub marker: bool,
+    /// Its payload.
+    pub payload: Vec<u8>,
+}
+
+/// Of bytes it tells how many there are.
+impl core::fmt::Debug for HeldPacket {
+    fn fmt(&self, f: &mut core::fmt::Formatter<'_>) -> core::fmt::Result {
+        use crate::support::Count;
+        f.debug_struct("HeldPacket")
+            .field("sequence", &self.sequence)
+            .field("timestamp", &self.timestamp)
+            .field("marker", &self.marker)
+            .field("payload", &Count(self.payload.len()))
+            .finish()
+    }
+}
+
+impl HeldPacket {
+    /// A copy of a packet, with this sequence number.
+    pub(crate) fn copy(sequence: u16, packet: &RtpPacket<'_>) -> Result<Self, AllocError> {
+        Ok(HeldPacket {
+            sequence,
+            timestamp: packet.timestamp,
+            marker: packet.marker,
+            payload: Vec::try_from_slice(packet.payload)?,
+        })
+    }
+
+    /// The packet, for a receiver.
+    pub fn packet(&self) -> RtpPacket<'_> {
+        RtpPacket {
+            sequence: self.sequence,
+            timestamp: self.timestamp,
+            marker: self.marker,
+            payload: &self.payload,
+        }
+    }
+}
+
+/// What became of a packet that was given to a buffer.
+#[derive(Debug, Clone, Copy, PartialEq, Eq, Hash)]
+pub enum Pushed {
+    /// It is held, until those before it have come or the window has passed.
+    Held,
+
+    /// It is not held: its number is so far behind the one that is due.
+    Late(u16),
+
+    /// It is not held: a packet with its number is.
+    Twice,
+}
+
+/// Holds packets that came before earlier ones until those have come, or until a window of packets
+/// has passed (a jitter buffer), and gives them out in the order of their sequence numbers of RTP
+/// (RFC 3550, 5.1), each once.
+#[derive(Debug, Clone)]
+pub struct ReorderBuffer {
+    held: NumberOrder<HeldPacket>,
+}
+
+impl ReorderBuffer {
+    /// A buffer with a window of so many packets, 1 to 2^14: one that comes after another that was
+    /// sent so many or more behind it may be late. It takes any sequence number as the first.
+    ///
+    /// Of a stream that begins, packets are held until a window of them has come, since those sent
+    /// before the first that came may still come.
+    pub fn new(window: u16) -> Self {
+        assert!(0 < window);
+        assert!(window <= 16384);
+        ReorderBuffer {
+            held: NumberOrder::new(window),
+        }
+    }
+
+    /// How many packets it holds.
+    pub fn len(&self) -> usize {
+        self.held.len()
+    }
+
+    /// Whether it holds none.
+    pub fn is_empty(&self) -> bool {
+        self.held.is_empty()
+    }
+
+    /// Takes a packet, and copies it. Without memory the buffer stays as it was, and the packet can be
+    /// given again.
+    pub(crate) fn try_push(&mut self, packet: &RtpPacket<'_>) -> Result<Pushed, AllocError> {
+        self.push_at(packet.sequence, packet)
+    }
+
+    /// Takes a packet, which has this sequence number.
+    fn push_at(&mut self, sequence: u16, packet: &RtpPacket<'_>) -> Result<Pushed, AllocError> {
+        match self.held.place_of(sequence) {
+            Ok((due, place)) => {
+                let held = HeldPacket::copy(sequence, packet)?;
+                self.held.put(due, place, held)?;
+                Ok(Pushed::Held)
+            }
+            Err(answer) => Ok(answer),
+        }
+    }
+
+    /// The first of the packets held, if it may go: the one that is due, or one that the window has
+    /// passed.
+    pub fn pop(&mut self) -> Option<HeldPacket> {
+        self.held.pop()
+    }
+
+    /// The first of the packets held, whether it may go or not: at the end of a stream, or where the
+    /// caller has waited long enough.
+    pub fn pop_first(&mut self) -> Option<HeldPacket> {
+        self.held.pop_first()
+    }
+
+    /// Drops what it holds, and takes any sequence number as the next: for a peer that begins anew,
+    /// whose packets are late one after the other.
+    pub fn restart(&mut self) {
+        self.held.restart();
+    }
+}

@@ -1,0 +1,17 @@
+// Made from crates/h26x_payload/src/receive.rt by tools/to-rust.
+
+//! The receiving half: units are put together from packets (RFC 6184, 5 and 7; RFC 7798, 4.4 and 6;
+//! RFC 9328, 4.3 and 6).
+
+pub mod access_unit;
+pub mod aggregate;
+pub mod byte_stream;
+pub mod depacketizer;
+pub mod extra;
+pub mod memory;
+pub mod parts;
+pub mod reader;
+pub mod reassembly;
+pub mod run;
+pub mod sink;
+pub mod take;

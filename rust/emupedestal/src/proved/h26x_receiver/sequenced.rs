@@ -1,0 +1,117 @@
+// Made from crates/h26x_receiver/src/sequenced.rt by tools/to-rust.
+
+//! A depacketizer that is given packets with their sequence numbers.
+
+use crate::proved::h26x_core::{CodecExtra, PacketError};
+use crate::proved::h26x_payload::UnitSink;
+use crate::proved::h26x_receiver::received::Received;
+use crate::proved::h26x_receiver::run::{RunDepacketizer, take_run};
+/// How far ahead of the expected number a number is taken as behind it: half of the circle (RFC
+/// 3550, A.1).
+const HALF: u16 = 0x8000;
+
+/// How many packets are missing before a number, and whether it is the one expected.
+fn place_of(expected: Option<u16>, sequence: u16) -> (u16, bool) {
+    match expected {
+        Some(expected) => (sequence.wrapping_sub(expected), sequence == expected),
+        None => (0, false),
+    }
+}
+
+/// Takes a packet where no run is open: the one that was is given up once the packet is taken.
+fn take_anew<D: RunDepacketizer, W: UnitSink>(
+    depacketizer: &mut D,
+    packet: &[u8],
+    out: &mut W,
+    codec_extra: &mut CodecExtra,
+) -> Result<(), PacketError> {
+    let mut run = take_run(depacketizer);
+    match depacketizer.take(packet, out, codec_extra) {
+        Ok(()) => Ok(()),
+        Err(error) => {
+            depacketizer.swap_run(&mut run);
+            Err(error)
+        }
+    }
+}
+
+/// Takes a packet; where it isn't the one expected, the open run is given up once it is taken.
+fn take<D: RunDepacketizer, W: UnitSink>(
+    is_next: bool,
+    depacketizer: &mut D,
+    packet: &[u8],
+    out: &mut W,
+    codec_extra: &mut CodecExtra,
+) -> Result<(), PacketError> {
+    if is_next {
+        depacketizer.take(packet, out, codec_extra)
+    } else {
+        take_anew(depacketizer, packet, out, codec_extra)
+    }
+}
+
+/// Gives up an open run that holds more bytes than this, and tells whether it did.
+fn limit_run<D: RunDepacketizer>(depacketizer: &mut D, most: usize) -> bool {
+    if depacketizer.run_len() > most {
+        depacketizer.give_up_run();
+        true
+    } else {
+        false
+    }
+}
+
+/// A depacketizer that is given packets with their sequence numbers of RTP (RFC 3550, 5.1). It gives
+/// up the open run wherever a packet is missing, and where it holds more than a limit: so no unit is
+/// written of which a part is missing, and no peer makes it hold more.
+#[derive(Debug)]
+pub struct SequencedDepacketizer<D: RunDepacketizer> {
+    /// The depacketizer.
+    pub depacketizer: D,
+    /// The sequence number that is expected next, if a packet was taken.
+    pub expected: Option<u16>,
+    /// How many bytes an open run may hold from a packet to the next.
+    pub run_limit: usize,
+}
+
+impl<D: RunDepacketizer> SequencedDepacketizer<D> {
+    /// A receiver that takes any sequence number as the first. A run that is open in `depacketizer`
+    /// is given up with the first packet.
+    pub fn new(depacketizer: D, run_limit: usize) -> Self {
+        SequencedDepacketizer {
+            depacketizer,
+            expected: None,
+            run_limit,
+        }
+    }
+
+    /// Gives up the open run, and takes any sequence number as the next: for a peer that begins
+    /// anew, whose packets are late one after the other.
+    pub fn restart(&mut self) {
+        self.depacketizer.give_up_run();
+        self.expected = None;
+    }
+
+    /// Takes a packet with its sequence number. What it completes is written to `out`, a list of bytes
+    /// or memory of the caller, behind what stands there, and told in `codec_extra`.
+    ///
+    /// A packet that is late, comes twice or is refused changes nothing, nor the number that is
+    /// expected: it is as if it had not come, and one refused for want of memory can be given again.
+    /// The errors are those of the depacketizer.
+    pub fn receive<W: UnitSink>(
+        &mut self,
+        sequence: u16,
+        packet: &[u8],
+        out: &mut W,
+        codec_extra: &mut CodecExtra,
+    ) -> Result<Received, PacketError> {
+        let (missing, is_next) = place_of(self.expected, sequence);
+        if missing >= HALF {
+            return Ok(Received::Late(u16::MAX - missing + 1));
+        }
+        let depacketizer = &mut self.depacketizer;
+        take(is_next, depacketizer, packet, out, codec_extra)?;
+        self.expected = Some(sequence.wrapping_add(1));
+        let is_long = limit_run(&mut self.depacketizer, self.run_limit);
+        Ok(Received::taken(missing, is_long))
+    }
+}

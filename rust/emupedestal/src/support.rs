@@ -1,0 +1,177 @@
+//! What the proved modules ask of Rattle's std and Rust's lacks: fallible calls of lists, and the error of a
+//! request for memory. Such a call answers an error where memory lacks, and changes nothing then; behind its
+//! `try_reserve` std's own call takes no memory.
+
+use alloc::collections::{TryReserveError, VecDeque};
+use alloc::vec::Vec;
+use core::fmt;
+
+/// There was no memory.
+#[derive(Debug, Clone, Copy, PartialEq, Eq)]
+pub struct AllocError;
+
+impl From<TryReserveError> for AllocError {
+    #[inline]
+    fn from(_: TryReserveError) -> Self {
+        AllocError
+    }
+}
+
+impl From<TryReserveError> for crate::PacketError {
+    #[inline]
+    fn from(_: TryReserveError) -> Self {
+        Self::OutOfMemory
+    }
+}
+
+/// The calls of `Vec` that want memory.
+pub trait TryVec<T>: Sized {
+    /// A list without items, with room for so many.
+    fn try_with_room(capacity: usize) -> Result<Self, AllocError>;
+
+    /// Appends an item.
+    fn try_push(&mut self, item: T) -> Result<(), AllocError>;
+
+    /// Moves the items of another list to the end of this one.
+    fn try_append(&mut self, other: &mut Vec<T>) -> Result<(), AllocError>;
+
+    /// A list of copies of items.
+    fn try_from_slice(items: &[T]) -> Result<Self, AllocError>
+    where
+        T: Copy;
+
+    /// A copy of a list.
+    fn try_clone(&self) -> Result<Self, AllocError>
+    where
+        T: Copy;
+}
+
+impl<T> TryVec<T> for Vec<T> {
+    #[inline]
+    fn try_with_room(capacity: usize) -> Result<Self, AllocError> {
+        let mut made = Vec::new();
+        made.try_reserve_exact(capacity)?;
+        Ok(made)
+    }
+
+    #[inline]
+    fn try_push(&mut self, item: T) -> Result<(), AllocError> {
+        self.try_reserve(1)?;
+        self.push(item);
+        Ok(())
+    }
+
+    #[inline]
+    fn try_append(&mut self, other: &mut Vec<T>) -> Result<(), AllocError> {
+        self.try_reserve(other.len())?;
+        self.append(other);
+        Ok(())
+    }
+
+    #[inline]
+    fn try_from_slice(items: &[T]) -> Result<Self, AllocError>
+    where
+        T: Copy,
+    {
+        let mut made = Self::try_with_room(items.len())?;
+        made.extend_from_slice(items);
+        Ok(made)
+    }
+
+    #[inline]
+    fn try_clone(&self) -> Result<Self, AllocError>
+    where
+        T: Copy,
+    {
+        Self::try_from_slice(self)
+    }
+}
+
+/// Bytes appended to others.
+pub trait AppendBytes {
+    /// Appends bytes for which there is room.
+    fn append_bytes(&mut self, bytes: &[u8]);
+
+    /// Appends bytes.
+    fn try_extend_from_slice(&mut self, bytes: &[u8]) -> Result<(), AllocError>;
+}
+
+impl AppendBytes for Vec<u8> {
+    #[cfg(feature = "std")]
+    #[inline(always)]
+    fn append_bytes(&mut self, bytes: &[u8]) {
+        // It is `extend_from_slice`, but always inlined, wherever the compiler has put that one: half of the
+        // time that a small packet takes. It answers no error.
+        let _ = std::io::Write::write_all(self, bytes);
+    }
+
+    #[cfg(not(feature = "std"))]
+    #[inline(always)]
+    fn append_bytes(&mut self, bytes: &[u8]) {
+        self.extend_from_slice(bytes);
+    }
+
+    #[inline]
+    fn try_extend_from_slice(&mut self, bytes: &[u8]) -> Result<(), AllocError> {
+        self.try_reserve(bytes.len())?;
+        self.append_bytes(bytes);
+        Ok(())
+    }
+}
+
+/// The call of a slice that wants memory.
+pub trait TrySlice<T> {
+    /// A list of copies of the items.
+    fn try_to_vec(&self) -> Result<Vec<T>, AllocError>;
+}
+
+impl<T: Copy> TrySlice<T> for [T] {
+    #[inline]
+    fn try_to_vec(&self) -> Result<Vec<T>, AllocError> {
+        Vec::try_from_slice(self)
+    }
+}
+
+/// The calls of `VecDeque` that want memory.
+pub trait TryDeque<T> {
+    /// Puts an item behind the others.
+    fn try_push_back(&mut self, item: T) -> Result<(), AllocError>;
+
+    /// Puts an item at a place.
+    fn try_insert(&mut self, place: usize, item: T) -> Result<(), AllocError>;
+
+    /// Moves the items of another queue to the end of this one.
+    fn try_append(&mut self, other: &mut VecDeque<T>) -> Result<(), AllocError>;
+}
+
+impl<T> TryDeque<T> for VecDeque<T> {
+    #[inline]
+    fn try_push_back(&mut self, item: T) -> Result<(), AllocError> {
+        self.try_reserve(1)?;
+        self.push_back(item);
+        Ok(())
+    }
+
+    #[inline]
+    fn try_insert(&mut self, place: usize, item: T) -> Result<(), AllocError> {
+        self.try_reserve(1)?;
+        self.insert(place, item);
+        Ok(())
+    }
+
+    #[inline]
+    fn try_append(&mut self, other: &mut VecDeque<T>) -> Result<(), AllocError> {
+        self.try_reserve(other.len())?;
+        self.append(other);
+        Ok(())
+    }
+}
+
+/// So many bytes, which aren't shown.
+pub struct Count(pub usize);
+
+impl fmt::Debug for Count {
+    fn fmt(&self, f: &mut fmt::Formatter<'_>) -> fmt::Result {
+        write!(f, "{} bytes", self.0)
+    }
+}

@@ -1,0 +1,221 @@
+//! Detection, heads, tails, hints, and the units of a payload.
+
+use super::bytes;
+use crate::{
+    Codec, Depacketizer, H264Depacketizer, H265Depacketizer, H266Depacketizer,
+    detect_h264_keyframe, detect_h264_nalu, detect_h265_keyframe, detect_h266_keyframe, units,
+};
+
+#[track_caller]
+fn all(answer: impl Fn(&[u8]) -> bool, wanted: bool, packets: &[&str]) {
+    for packet in packets {
+        assert_eq!(answer(&bytes(packet)), wanted, "{packet}");
+    }
+}
+
+#[test]
+fn h264_keyframes_are_detected() {
+    let key = [
+        "650000",
+        "18 0002 67aa 0002 65bb",
+        "7c850000",
+        "78 0000 0002 65aa",
+    ];
+    all(detect_h264_keyframe, true, &key);
+    let other = [
+        "",
+        "410000",
+        "670000",
+        "7c810000",
+        "7c050000",
+        "7c",
+        "18 0002 67aa 0002 68bb",
+    ];
+    all(detect_h264_keyframe, false, &other);
+    assert!(detect_h264_nalu(&bytes("18 0002 67aa 0002 68bb"), 7));
+    assert!(!detect_h264_nalu(&bytes("18 0002 67aa 0002 68bb"), 9));
+}
+
+#[test]
+fn h265_keyframes_are_detected() {
+    // Types 16 to 21 alone, in an aggregate, and in a first fragment.
+    let key = [
+        "2001aa",
+        "2a01aa",
+        "6001 0003 0201aa 0003 2601af",
+        "620193aa",
+    ];
+    all(detect_h265_keyframe, true, &key);
+    let other = [
+        "",
+        "26",
+        "0201aa",
+        "2c01aa",
+        "620113aa",
+        "6201",
+        "6401 2638 112233 aa",
+    ];
+    all(detect_h265_keyframe, false, &other);
+}
+
+#[test]
+fn h266_keyframes_are_detected() {
+    let key = [
+        "0039aa",
+        "0049aa",
+        "00e1 0003 0001aa 0003 0039bb",
+        "00e987aa",
+    ];
+    all(detect_h266_keyframe, true, &key);
+    let other = [
+        "",
+        "00",
+        "0001aa",
+        "0051aa",
+        "00e907aa",
+        "00e1 0001 00 0003 0039bb",
+    ];
+    all(detect_h266_keyframe, false, &other);
+}
+
+#[test]
+fn heads() {
+    let h264 = H264Depacketizer::default();
+    all(
+        |p| h264.is_partition_head(p),
+        true,
+        &["0100", "1800", "1c80", "1d80", "7c85"],
+    );
+    all(
+        |p| h264.is_partition_head(p),
+        false,
+        &["", "65", "1c40", "1d40"],
+    );
+    let h265 = H265Depacketizer::default();
+    all(
+        |p| h265.is_partition_head(p),
+        true,
+        &["8001", "0201", "620193"],
+    );
+    all(
+        |p| h265.is_partition_head(p),
+        false,
+        &["", "02", "6201", "620113"],
+    );
+    let h266 = H266Depacketizer::default();
+    all(
+        |p| h266.is_partition_head(p),
+        true,
+        &["8001", "0009", "00e987"],
+    );
+    all(
+        |p| h266.is_partition_head(p),
+        false,
+        &["", "00", "00e9", "00e947"],
+    );
+}
+
+#[test]
+fn tails() {
+    let h264 = H264Depacketizer::default();
+    all(
+        |p| h264.is_partition_tail(true, p),
+        true,
+        &["65", "7c85", ""],
+    );
+    all(
+        |p| h264.is_partition_tail(false, p),
+        false,
+        &["65", "7c45", ""],
+    );
+    let h265 = H265Depacketizer::default();
+    all(
+        |p| h265.is_partition_tail(true, p),
+        true,
+        &["0201", "620153"],
+    );
+    all(
+        |p| h265.is_partition_tail(true, p),
+        false,
+        &["", "02", "620113aa"],
+    );
+    all(|p| h265.is_partition_tail(false, p), true, &["620153"]);
+    all(
+        |p| h265.is_partition_tail(false, p),
+        false,
+        &["0201", "6201"],
+    );
+    let h266 = H266Depacketizer::default();
+    all(
+        |p| h266.is_partition_tail(true, p),
+        true,
+        &["0009", "00e947"],
+    );
+    all(
+        |p| h266.is_partition_tail(true, p),
+        false,
+        &["", "00", "00e907aa"],
+    );
+    all(|p| h266.is_partition_tail(false, p), true, &["00e947"]);
+    all(
+        |p| h266.is_partition_tail(false, p),
+        false,
+        &["0009", "00e9"],
+    );
+}
+
+#[test]
+fn hints() {
+    fn check(end: impl Depacketizer) {
+        for (size, hint) in [(0, 4), (1199, 1203), (1200, 1208), (usize::MAX, usize::MAX)] {
+            assert_eq!(end.out_size_hint(size), Some(hint));
+        }
+    }
+    check(H264Depacketizer::default());
+    check(H265Depacketizer::default());
+    check(H266Depacketizer::default());
+}
+
+fn cut(codec: Codec, payload: &[u8]) -> Vec<&[u8]> {
+    units(codec, payload).collect()
+}
+
+#[test]
+fn units_between_start_codes() {
+    for (payload, all_zeros, at_most_three) in [
+        ("", &[][..], &[][..]),
+        ("000001", &[], &[]),
+        ("000000", &["000000"], &["000000"]),
+        ("bb 000001 aa", &["aa"], &["aa"]),
+        ("000001 01aa", &["01aa"], &["01aa"]),
+        ("000001 000001 aa", &["aa"], &["aa"]),
+        ("00000000 01 aa", &["aa"], &["aa"]),
+        (
+            "000001 aa 00000000 01 bb00",
+            &["aa", "bb00"],
+            &["aa00", "bb00"],
+        ),
+    ] {
+        let payload = bytes(payload);
+        let wanted = |units: &[&str]| units.iter().map(|unit| bytes(unit)).collect::<Vec<_>>();
+        assert_eq!(cut(Codec::H264, &payload), wanted(all_zeros));
+        assert_eq!(cut(Codec::H265, &payload), wanted(all_zeros));
+        assert_eq!(cut(Codec::H266, &payload), wanted(at_most_three));
+    }
+}
+
+#[test]
+fn units_are_slices_of_the_payload() {
+    let payload = bytes("000001 aa 000001 aa");
+    let mut left = units(Codec::H264, &payload);
+    assert!(std::ptr::eq(left.next().unwrap(), &payload[3..4]));
+    assert!(std::ptr::eq(left.next().unwrap(), &payload[7..8]));
+    assert_eq!((left.next(), left.next()), (None, None));
+}
+
+#[test]
+fn many_units() {
+    let wanted: Vec<[u8; 2]> = (0..1000_u32).map(|i| [0x41, i as u8 | 1]).collect();
+    let payload: Vec<u8> = wanted.iter().flat_map(|u| [0, 0, 1, u[0], u[1]]).collect();
+    assert_eq!(cut(Codec::H264, &payload), wanted);
+}

@@ -1,0 +1,293 @@
+//! Profiles and levels out of SDP. What is wanted was taken from the tables of the RFCs and of the
+//! standards' Annex A.
+
+use crate::known::{h26x_h265_is_known, h26x_h266_is_known};
+use crate::{
+    H264LevelIdc, H264Profile, H264ProfileIdc, H264ProfileLevel, H265Level, H265Profile,
+    H265ProfileTierLevel, H265Tier, H266Level, H266Profile, H266ProfileTierLevel, H266Tier,
+};
+use std::collections::HashMap;
+
+/// What a `profile-level-id` says.
+fn told(id: u32) -> Option<(H264Profile, H264LevelIdc)> {
+    let it = H264ProfileLevel::try_from(id).ok()?;
+    Some((it.profile(), it.level()))
+}
+
+#[test]
+fn h264_profiles() {
+    for (id, profile) in [
+        (0x42001f, H264Profile::Baseline),
+        (0x58801f, H264Profile::Baseline),
+        (0x42e01f, H264Profile::ConstrainedBaseline),
+        (0x4d801f, H264Profile::ConstrainedBaseline),
+        (0x58c01f, H264Profile::ConstrainedBaseline),
+        (0x4d001f, H264Profile::Main),
+        (0x58001f, H264Profile::Extended),
+        (0x64001f, H264Profile::High),
+        (0xff64001f, H264Profile::High),
+        (0x640c1f, H264Profile::ConstrainedHigh),
+        (0x6e001f, H264Profile::High10),
+        (0x7a001f, H264Profile::High422),
+        (0xf4001f, H264Profile::High444Predictive),
+        (0x6e101f, H264Profile::High10Intra),
+        (0x7a101f, H264Profile::High422Intra),
+        (0xf4101f, H264Profile::High444Intra),
+        (0x2c101f, H264Profile::CAVLC444Intra),
+    ] {
+        assert_eq!(told(id), Some((profile, H264LevelIdc::Level3_1)), "{id:x}");
+    }
+    for id in [0x64101f, 0x640063, 0x63001f, 0x2c001f, 0x42011f, 0] {
+        assert_eq!(H264ProfileLevel::try_from(id), Err(()), "{id:x}");
+    }
+}
+
+#[test]
+fn h264_levels() {
+    let levels = [
+        (0x42000a, H264LevelIdc::Level1),
+        (0x42100b, H264LevelIdc::Level1B),
+        (0x42000b, H264LevelIdc::Level1_1),
+        (0x42000c, H264LevelIdc::Level1_2),
+        (0x42000d, H264LevelIdc::Level1_3),
+        (0x420014, H264LevelIdc::Level2),
+        (0x420015, H264LevelIdc::Level2_1),
+        (0x420016, H264LevelIdc::Level2_2),
+        (0x42001e, H264LevelIdc::Level3),
+        (0x42001f, H264LevelIdc::Level3_1),
+        (0x420020, H264LevelIdc::Level3_2),
+        (0x420028, H264LevelIdc::Level4),
+        (0x420029, H264LevelIdc::Level4_1),
+        (0x42002a, H264LevelIdc::Level4_2),
+        (0x420032, H264LevelIdc::Level5),
+        (0x420033, H264LevelIdc::Level5_1),
+        (0x420034, H264LevelIdc::Level5_2),
+    ];
+    for (place, (id, level)) in levels.into_iter().enumerate() {
+        assert_eq!(told(id), Some((H264Profile::Baseline, level)), "{id:x}");
+        assert_eq!(level.ordinal(), place);
+    }
+    assert!(levels.is_sorted_by(|(_, a), (_, b)| a < b));
+    let level_1 = (H264Profile::Baseline, H264LevelIdc::Level1);
+    assert_eq!(told(0x42100a), Some(level_1));
+}
+
+/// A profile_idc, a profile_iop, and the profile (RFC 6184, 8.1, table 5).
+#[test]
+fn h264_by_profile_idc_and_flags() {
+    for (idc, iop, profile) in [
+        (66, 0xc0, Some(H264Profile::ConstrainedBaseline)),
+        (66, 0xb0, Some(H264Profile::Baseline)),
+        (66, 0x01, None),
+        (77, 0x10, Some(H264Profile::Main)),
+        (88, 0x80, Some(H264Profile::Baseline)),
+        (88, 0x30, Some(H264Profile::Extended)),
+        (100, 0x00, Some(H264Profile::High)),
+        (100, 0x0c, Some(H264Profile::ConstrainedHigh)),
+        (100, 0x10, None),
+        (110, 0x10, Some(H264Profile::High10Intra)),
+        (122, 0x00, Some(H264Profile::High422)),
+        (244, 0x10, Some(H264Profile::High444Intra)),
+        (44, 0x10, Some(H264Profile::CAVLC444Intra)),
+        (44, 0x00, None),
+    ] {
+        let known = H264ProfileIdc::try_from(idc).expect("a known profile_idc");
+        assert_eq!(u8::from(known), idc);
+        for level in [H264LevelIdc::Level1B, H264LevelIdc::Level5_2] {
+            let it = H264ProfileLevel::new(known, iop, level);
+            let wanted = profile.map(|profile| (profile, level));
+            assert_eq!(it.map(|it| (it.profile(), it.level())), wanted, "{idc}");
+        }
+    }
+    for idc in [0, 43, 67, 99, 118, 255] {
+        assert_eq!(H264ProfileIdc::try_from(idc), Err(()));
+    }
+}
+
+/// Levels by their ids, from the lowest to the highest.
+#[test]
+fn places_of_levels() {
+    #[track_caller]
+    fn check<L>(ids: &[u8], ordinal: fn(L) -> usize)
+    where
+        L: TryFrom<u8, Error = ()> + Into<u8> + Ord + Copy,
+    {
+        let levels: Vec<L> = ids.iter().filter_map(|id| L::try_from(*id).ok()).collect();
+        assert!(levels.iter().copied().map(ordinal).eq(0..ids.len()));
+        assert!(levels.iter().map(|level| (*level).into()).eq(ids.to_vec()));
+        assert!(levels.is_sorted_by(|a, b| a < b));
+        let others = (0..=u8::MAX).filter(|id| !ids.contains(id));
+        assert!(others.map(L::try_from).all(|level| level.is_err()));
+    }
+    let h264 = [
+        10, 0, 11, 12, 13, 20, 21, 22, 30, 31, 32, 40, 41, 42, 50, 51, 52,
+    ];
+    check(&h264, H264LevelIdc::ordinal);
+    let h265 = [30, 60, 63, 90, 93, 120, 123, 150, 153, 156, 180, 183, 186];
+    check(&h265, H265Level::ordinal);
+    let h266 = [
+        16, 32, 35, 48, 51, 64, 67, 80, 83, 86, 96, 99, 102, 105, 255,
+    ];
+    check(&h266, H266Level::ordinal);
+}
+
+/// What `as` gives, as of str0m's enums: places of profiles, and ids of levels.
+#[test]
+fn values_as_numbers() {
+    let h264 = [
+        H264Profile::Baseline,
+        H264Profile::High,
+        H264Profile::CAVLC444Intra,
+    ];
+    assert_eq!(h264.map(|profile| profile as u8), [0, 4, 12]);
+    let idcs = [
+        H264ProfileIdc::X2C,
+        H264ProfileIdc::X42,
+        H264ProfileIdc::XF4,
+    ];
+    assert_eq!(idcs.map(|idc| idc as u8), [44, 66, 244]);
+    let levels = [
+        H264LevelIdc::Level1,
+        H264LevelIdc::Level1B,
+        H264LevelIdc::Level5_2,
+    ];
+    assert_eq!(levels.map(|level| level as u8), [10, 0, 52]);
+
+    let last = H265Profile::HighThroughputScreenContentCoding;
+    let h265 = [H265Profile::Main, H265Profile::Main10, last];
+    assert_eq!(h265.map(|profile| profile as u8), [0, 1, 10]);
+    assert_eq!(h265.map(u8::from), [1, 2, 11]);
+    let tiers = [H265Tier::Main, H265Tier::High];
+    assert_eq!(tiers.map(|tier| tier as u8), [0, 1]);
+    let levels = [H265Level::Level1, H265Level::Level6_2];
+    assert_eq!(levels.map(|level| level as u8), [30, 186]);
+
+    let last = H266Profile::MultilayerMain10_444StillPicture;
+    let h266 = [H266Profile::Main10, H266Profile::MultilayerMain10, last];
+    assert_eq!(h266.map(|profile| profile as u8), [0, 1, 7]);
+    assert_eq!(h266.map(u8::from), [1, 17, 113]);
+    let tiers = [H266Tier::Main, H266Tier::High];
+    assert_eq!(tiers.map(|tier| tier as u8), [0, 1]);
+    let levels = [H266Level::Level1, H266Level::Level15_5];
+    assert_eq!(levels.map(|level| level as u8), [16, 255]);
+}
+
+#[test]
+fn what_stands_where_a_format_says_nothing() {
+    let h264 = H264ProfileLevel::FALLBACK;
+    assert_eq!(H264ProfileLevel::try_from(0x42001f), Ok(h264));
+    assert_eq!(
+        (h264.profile(), h264.level()),
+        (H264Profile::Baseline, H264LevelIdc::Level3_1)
+    );
+    let h265 = H265ProfileTierLevel::FALLBACK;
+    assert_eq!(H265ProfileTierLevel::new(1, 0, 93), Some(h265));
+    let h266 = H266ProfileTierLevel::FALLBACK;
+    assert_eq!(H266ProfileTierLevel::new(1, 0, 51), Some(h266));
+}
+
+#[test]
+fn h265_by_its_numbers() {
+    let high = H265ProfileTierLevel::new(2, 1, 186).expect("known numbers");
+    assert_eq!(high.profile(), H265Profile::Main10);
+    assert_eq!(high.tier(), H265Tier::High);
+    assert_eq!(high.level(), H265Level::Level6_2);
+    let lower = high.with_level(H265Level::Level4_1);
+    assert_eq!(
+        (lower.profile_id(), lower.tier_flag(), lower.level_id()),
+        (2, 1, 123)
+    );
+    assert!(lower.level() < high.level());
+    for (profile, tier, level) in [(1, 0, 255), (99, 0, 93), (1, 5, 93), (1, 0, 51), (0, 0, 93)] {
+        assert_eq!(H265ProfileTierLevel::new(profile, tier, level), None);
+    }
+}
+
+#[test]
+fn h266_by_its_numbers() {
+    let high = H266ProfileTierLevel::new(33, 1, 255).expect("known numbers");
+    assert_eq!(high.profile(), H266Profile::Main10_444);
+    assert_eq!(high.tier(), H266Tier::High);
+    assert_eq!(high.level(), H266Level::Level15_5);
+    let lower = high.with_level(H266Level::Level6_3);
+    assert_eq!(
+        (lower.profile_id(), lower.tier_flag(), lower.level_id()),
+        (33, 1, 105)
+    );
+    assert!(lower.level() < high.level());
+    for (profile, tier, level) in [(1, 0, 93), (2, 0, 51), (1, 2, 51), (0, 0, 51), (1, 0, 0)] {
+        assert_eq!(H266ProfileTierLevel::new(profile, tier, level), None);
+    }
+}
+
+#[test]
+fn unknown_numbers_are_the_fallback() {
+    let main = H265ProfileTierLevel::from((1, 0, 120));
+    assert_eq!(main.level(), H265Level::Level4);
+    assert_eq!(
+        H265ProfileTierLevel::from((99, 1, 120)),
+        H265ProfileTierLevel::FALLBACK
+    );
+    let main = H266ProfileTierLevel::from((17, 1, 64));
+    assert_eq!(main.profile(), H266Profile::MultilayerMain10);
+    assert_eq!(
+        H266ProfileTierLevel::from((17, 1, 93)),
+        H266ProfileTierLevel::FALLBACK
+    );
+}
+
+/// Parameters of a format, as `name=value`.
+fn params(of: &[&str]) -> HashMap<String, String> {
+    of.iter()
+        .filter_map(|param| param.split_once('='))
+        .map(|(name, value)| (name.to_string(), value.to_string()))
+        .collect()
+}
+
+#[test]
+fn parameters_of_a_format() {
+    let h265 = H265ProfileTierLevel::from_fmtp;
+    let h266 = H266ProfileTierLevel::from_fmtp;
+    let main = params(&[
+        "profile-id=1",
+        "tier-flag=1",
+        "level-id=120",
+        "tx-mode=SRST",
+    ]);
+    assert_eq!(h265(&main), H265ProfileTierLevel::new(1, 1, 120));
+    assert_eq!(h266(&main), None);
+    let plus = params(&["profile-id=+65", "tier-flag=0", "level-id=016"]);
+    assert_eq!(h266(&plus), H266ProfileTierLevel::new(65, 0, 16));
+    assert_eq!(h265(&plus), None);
+    for other in [
+        &["tier-flag=0", "level-id=93"][..],
+        &["profile-id=1", "level-id=93"],
+        &["profile-id=1", "tier-flag=0"],
+        &["profile-id=257", "tier-flag=0", "level-id=93"],
+        &["profile-id= 1", "tier-flag=0", "level-id=93"],
+        &["profile-id=1", "tier-flag=", "level-id=93"],
+        &["profile-id=1", "tier-flag=-0", "level-id=93"],
+    ] {
+        assert_eq!(h265(&params(other)), None, "{other:?}");
+    }
+}
+
+/// The crate names just the numbers that the library knows, and gives each back.
+#[test]
+fn the_library_knows_the_same_numbers() {
+    for n in 0..=u8::MAX {
+        let profile = H265Profile::from_id(n).map(H265Profile::to_id);
+        assert_eq!(profile, h26x_h265_is_known(n, 0, 93).then_some(n));
+        let tier = H265Tier::from_flag(n).map(H265Tier::to_flag);
+        assert_eq!(tier, h26x_h265_is_known(1, n, 93).then_some(n));
+        let level = H265Level::from_id(n).map(H265Level::to_id);
+        assert_eq!(level, h26x_h265_is_known(1, 0, n).then_some(n));
+
+        let profile = H266Profile::from_id(n).map(H266Profile::to_id);
+        assert_eq!(profile, h26x_h266_is_known(n, 0, 51).then_some(n));
+        let tier = H266Tier::from_flag(n).map(H266Tier::to_flag);
+        assert_eq!(tier, h26x_h266_is_known(1, n, 51).then_some(n));
+        let level = H266Level::from_id(n).map(H266Level::to_id);
+        assert_eq!(level, h26x_h266_is_known(1, 0, n).then_some(n));
+    }
+}

@@ -1,0 +1,52 @@
+//! The forms of stored values, as serde_json writes and reads them.
+
+use crate::*;
+use serde::Serialize;
+use serde::de::DeserializeOwned;
+use std::fmt::Debug;
+
+/// A value is written as this text, and read from it.
+#[track_caller]
+fn stored<T: Serialize + DeserializeOwned + Debug + PartialEq>(value: T, text: &str) {
+    assert_eq!(serde_json::to_string(&value).unwrap(), text);
+    assert_eq!(serde_json::from_str::<T>(text).unwrap(), value);
+}
+
+#[test]
+fn words_are_numbers() {
+    stored(H265NALUHeader::new(0x26, 0x01), "9729");
+    stored(H265FragmentationUnitHeader::new(true, false, 19), "147");
+    stored(H265TSCI(0x0102_0380), "16909184");
+    stored(H266NALUHeader::new(0x00, 0x39), "57");
+    stored(H266FragmentationUnitHeader(0x87), "135");
+}
+
+#[test]
+fn codecs_and_what_is_told_are_names() {
+    stored(Codec::H264, r#""H264""#);
+    stored(CodecExtra::None, r#""None""#);
+    let told = H265CodecExtra { is_keyframe: true };
+    stored(CodecExtra::H265(told), r#"{"H265":{"is_keyframe":true}}"#);
+    assert!(serde_json::from_str::<Codec>(r#""H263""#).is_err());
+}
+
+#[test]
+fn profiles_are_names() {
+    stored(H264ProfileIdc::X64, r#""X64""#);
+    stored(H265Profile::Main10, r#""Main10""#);
+    stored(H265Tier::High, r#""High""#);
+    stored(H266Level::Level15_5, r#""Level15_5""#);
+    let high = H264ProfileLevel::try_from(0x64001f).unwrap();
+    stored(high, r#"{"profile":"High","level":"Level3_1"}"#);
+    let main = H265ProfileTierLevel::new(1, 0, 93).unwrap();
+    stored(
+        main,
+        r#"{"profile":"Main","tier":"Main","level":"Level3_1"}"#,
+    );
+    let main = H266ProfileTierLevel::new(1, 1, 64).unwrap();
+    stored(
+        main,
+        r#"{"profile":"Main10","tier":"High","level":"Level4"}"#,
+    );
+    assert!(serde_json::from_str::<H265Level>(r#""Level7""#).is_err());
+}

@@ -1,0 +1,106 @@
+"""The order of the rules, and the files that they are used on."""
+
+from pathlib import Path
+
+from . import contracts, idiom, laws, memory, types
+from .tree import Refused, after, at, deep, is_sign, is_word, parse, words_of, written
+
+
+class Crate:
+    """The files of a crate by their places below its `src`."""
+
+    def __init__(self, folder, name, owed):
+        self.name, self.root, self.owed = name, folder / name / "src", owed
+        self.files, self.words = {}, {}
+        self.read("lib.rt", self.root / "lib.rt", self.root)
+        self.files = idiom.use_portable(name, self.files)
+
+    def read(self, place, path, folder):
+        """Reads a file and those that its modules name; tests are left out."""
+        items = parse(path.read_text(encoding="utf-8"))
+        self.words[place] = words_of(items)
+        self.owed.lower(items, f"{self.name}/src/{place}")
+        self.files[place] = items = contracts.without_contracts(items)
+        for name in modules(items):
+            inner = folder / f"{name}.rt"
+            self.read(str(inner.relative_to(self.root)), inner, folder / name)
+
+    def thin(self, names):
+        """Leaves what runs; files of which nothing is left are dropped, with their modules."""
+        files = {place: laws.erase_laws(items, names) for place, items in self.files.items()}
+        files = {place: deep(items, memory.erase_allocators) for place, items in files.items()}
+        empty = set()
+        while True:
+            files = {place: laws.erase_modules(place, empty)(items) for place, items in files.items()}
+            more = {place for place, items in files.items() if laws.is_empty(items)} - empty
+            if not more:
+                break
+            empty |= more
+        self.files = {place: items for place, items in files.items() if place not in empty}
+        self.gone = {place.removesuffix(".rt").split("/")[-1] for place in empty} - {"lib"}
+
+
+def modules(items):
+    for i, it in enumerate(items):
+        if is_word(it, "mod") and is_sign(at(items, after(items, after(items, i))), ";"):
+            yield items[after(items, i)].text
+
+
+class Translation:
+    """The proved crates of a folder as modules of one module of Rust."""
+
+    def __init__(self, folder, module, crates):
+        self.module, self.names = module, set(crates)
+        self.owed = contracts.Owed(idiom.RENAMED)
+        self.types = types.Types()
+        self.crates = [Crate(Path(folder), name, self.owed) for name in crates]
+        self.owed.check()
+        self.laws = laws.laws_among([items for crate in self.crates for items in crate.files.values()])
+        for crate in self.crates:
+            crate.thin(self.laws)
+        self.of_std = {name for crate in self.crates for items in crate.files.values()
+                       for name in idiom.std_alone(items)}
+        self.without = {crate.name for crate in self.crates if not crate.files}
+
+    def texts(self):
+        """The text of each file, by its path."""
+        out = {}
+        for crate in self.crates:
+            for place, items in crate.files.items():
+                path = f"{crate.name}.rs" if place == "lib.rt" else f"{crate.name}/{place[:-3]}.rs"
+                out[f"{self.module}/{path}"] = self.file(crate, place, items)
+        kept = sorted(crate.name for crate in self.crates if crate.files)
+        out[f"{self.module}.rs"] = "\n".join([
+            "//! The proved modules, translated from the sources in `crates`. `tools/to-rust` makes them: edit none.",
+            "", *(f"pub mod {name};" for name in kept), ""])
+        out[f"{self.module}/erased.txt"] = self.erased()
+        return out
+
+    def file(self, crate, place, items):
+        # What only contracts and laws named is not imported.
+        unnamed = crate.words[place] - words_of(items)
+        gone = self.laws | unnamed | {"Model", "Global", "AllocFailed", "Serialize", "Deserialize", "Error"}
+        items = laws.erase_uses(items, gone, crate.gone | self.without)
+        items = idiom.mark_unread(self.owed.lower_uses(items))
+        fallible = memory.Fallible(items)
+        items = memory.convert_ends(deep(items, fallible.change), fallible.lists | fallible.queues)
+        items = deep(deep(items, idiom.write_formatters), memory.write_takes)
+        items = deep(items, idiom.rename)
+        items = deep(items, idiom.erase_examples)
+        items = deep(items, idiom.put_behind_std(self.of_std))
+        items = deep(items, idiom.rewrite_paths(self.module, crate.name, self.names))
+        items = deep(items, self.types.change)
+        items = idiom.add_imports(items, fallible.traits)
+        idiom.check_words(items, f"{crate.name}/{place}")
+        text = idiom.OF_MEMORY.sub("", written(items))
+        return f"// Made from crates/{crate.name}/src/{place} by tools/to-rust.\n\n{text}"
+
+    def erased(self):
+        """What a reviewer looks through: what was dropped, and what was kept from callers."""
+        places = {f"{crate.name}/src/{place}" for crate in self.crates for place in crate.files}
+        owed = [said for name, said in self.owed.said if name not in self.laws and said.split(":")[0] in places]
+        return "\n".join([
+            "Functions that are dropped, with the calls of them: they do nothing, and stand there for a contract.", "",
+            *(f"    {name}" for name in sorted(self.laws)), "",
+            "Functions that only the crate may call, since nothing checks what a caller owes.", "",
+            *(f"    {said}" for said in sorted(owed)), ""])
