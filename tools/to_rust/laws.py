@@ -114,7 +114,8 @@ def erase_uses(items, names, modules):
             tree = used(items[i + 1:j], names, modules)
             if tree is None:
                 drop_heading(out)
-                j += at(items, j + 1) is not None and items[j + 1].kind == "space"
+                behind = at(items, j + 1)
+                j += behind is not None and behind.kind == "space" and behind.text.count("\n") < 2
             else:
                 out += [items[i]] + tree + [items[j]]
             i = j + 1

@@ -3,6 +3,7 @@
 //! Why a packet or a payload is refused.
 
 use crate::support::AllocError;
+
 /// Why a call is refused. A refused call changes nothing.
 ///
 /// The packets are those of RFC 6184 (H.264), RFC 7798 (H.265) and RFC 9328 (H.266).

@@ -6,6 +6,7 @@ use crate::proved::h26x_frames::buffer::Pushed;
 use crate::proved::h26x_frames::numbered::Numbered;
 use crate::proved::h26x_frames::parted::Parted;
 use crate::support::AllocError;
+
 /// How far ahead of the number that is due a number is taken as behind it: half of the circle (RFC
 /// 3550, A.1).
 const HALF: u16 = 0x8000;

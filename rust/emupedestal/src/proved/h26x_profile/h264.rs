@@ -3,6 +3,7 @@
 //! Profiles and levels of H.264.
 
 use crate::proved::h26x_profile::table;
+
 /// A profile of H.264 (RFC 6184, section 8.1, table 5; Rec. ITU-T H.264, Annex A).
 #[derive(Debug, Clone, Copy, PartialEq, Eq)]
 pub enum H264Profile {

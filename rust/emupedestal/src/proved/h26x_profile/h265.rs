@@ -4,6 +4,7 @@
 
 use crate::proved::h26x_profile::numbered::Numbered;
 use crate::proved::h26x_profile::profile_tier_level::ProfileTierLevel;
+
 /// A profile of H.265, as `profile-id` names it (RFC 7798, section 7.1; Rec. ITU-T H.265, Annex A).
 #[cfg_attr(feature = "serde", derive(serde::Serialize, serde::Deserialize))]
 #[derive(Debug, Clone, Copy, PartialEq, Eq)]

@@ -4,6 +4,7 @@
 
 use crate::proved::h26x_profile::bit_pattern::BitPattern;
 use crate::proved::h26x_profile::h264::{H264LevelIdc, H264Profile, H264ProfileIdc};
+
 /// A profile, and the profile_idc and the pattern of constraint flags that name it.
 #[derive(Clone, Copy)]
 struct ProfileRow {

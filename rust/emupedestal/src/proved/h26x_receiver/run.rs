@@ -7,6 +7,7 @@ use crate::proved::h26x_payload::{OpenRun, PacketReader, PayloadDepacketizer, Un
 use crate::proved::h264_payload::H264;
 use crate::proved::h265_payload::H265Depacketizer;
 use crate::proved::h266_payload::H266;
+
 /// A depacketizer whose open run may be measured, exchanged and given up: those of the codecs, and a
 /// caller's own that implements this.
 ///

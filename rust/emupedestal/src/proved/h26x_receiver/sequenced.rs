@@ -6,6 +6,7 @@ use crate::proved::h26x_core::{CodecExtra, PacketError};
 use crate::proved::h26x_payload::UnitSink;
 use crate::proved::h26x_receiver::received::Received;
 use crate::proved::h26x_receiver::run::{RunDepacketizer, take_run};
+
 /// How far ahead of the expected number a number is taken as behind it: half of the circle (RFC
 /// 3550, A.1).
 const HALF: u16 = 0x8000;

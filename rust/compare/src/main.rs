@@ -1,0 +1,111 @@
+//! Gives the Rust crate and the proved library the same drawn calls, and compares every answer:
+//!
+//! ```text
+//! compare [--seed N] [--cases N | --seconds N] [--threads N]
+//! ```
+//!
+//! It prints each case in which an answer differs, and at the end how many calls there were and a sum of the crate's
+//! answers, which a seed and a number of cases give on every machine. The status is 1 where an answer differs.
+
+mod making;
+mod random;
+mod runs;
+
+use runs::{Log, frames, library_run, our_run, reordered};
+use std::env;
+use std::process::ExitCode;
+use std::sync::atomic::{AtomicU64, Ordering};
+use std::thread;
+use std::time::{Duration, Instant};
+
+/// What is asked for on the command line.
+struct Asked {
+    seed: u64,
+    cases: u64,
+    time: Duration,
+    threads: u64,
+}
+
+impl Asked {
+    fn read() -> Self {
+        let mut asked = Asked {
+            seed: 1,
+            cases: 20_000,
+            time: Duration::MAX,
+            threads: 1,
+        };
+        let words: Vec<String> = env::args().skip(1).collect();
+        for pair in words.chunks(2) {
+            let value: u64 = pair
+                .get(1)
+                .and_then(|it| it.parse().ok())
+                .expect("a number");
+            match pair[0].as_str() {
+                "--seed" => asked.seed = value,
+                "--cases" => asked.cases = value,
+                "--seconds" => {
+                    asked.cases = u64::MAX;
+                    asked.time = Duration::from_secs(value);
+                }
+                "--threads" => asked.threads = value.max(1),
+                other => panic!("{other} is none of --seed, --cases, --seconds and --threads"),
+            }
+        }
+        asked
+    }
+}
+
+/// What came of the cases so far.
+#[derive(Default)]
+struct Found {
+    cases: AtomicU64,
+    calls: AtomicU64,
+    differences: AtomicU64,
+    sum: AtomicU64,
+}
+
+impl Found {
+    /// Runs a case on both sides, and compares them.
+    fn take(&self, seed: u64, case: u64) {
+        let (mut ours, mut theirs) = (Log::default(), Log::default());
+        our_run(seed, case, &mut ours);
+        library_run(seed, case, &mut theirs);
+        frames(seed, case, &mut ours, &mut theirs);
+        if case % 20 == 0 {
+            reordered(seed, case, &mut ours, &mut theirs);
+        }
+        self.cases.fetch_add(1, Ordering::Relaxed);
+        self.calls.fetch_add(ours.calls, Ordering::Relaxed);
+        self.sum.fetch_add(ours.sum(), Ordering::Relaxed);
+        if ours != theirs {
+            self.differences.fetch_add(1, Ordering::Relaxed);
+            println!("case {case} of seed {seed}: {}", ours.difference(&theirs));
+        }
+    }
+}
+
+fn main() -> ExitCode {
+    let asked = Asked::read();
+    let (seed, started) = (asked.seed, Instant::now());
+    runs::numbers();
+    let found = Found::default();
+    thread::scope(|scope| {
+        for first in 0..asked.threads {
+            let (found, asked) = (&found, &asked);
+            scope.spawn(move || {
+                let mut case = first;
+                while case < asked.cases && started.elapsed() < asked.time {
+                    found.take(seed, case);
+                    case += asked.threads;
+                }
+            });
+        }
+    });
+    let cases = found.cases.into_inner();
+    let (calls, sum) = (found.calls.into_inner(), found.sum.into_inner());
+    let differences = found.differences.into_inner();
+    println!(
+        "seed {seed}: {cases} cases, {calls} calls of each, sum {sum:016x}, {differences} differences"
+    );
+    ExitCode::from(u8::from(differences != 0))
+}

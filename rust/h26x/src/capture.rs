@@ -1,0 +1,125 @@
+//! A capture of any of the file formats, frame by frame.
+
+use crate::errors::Failure;
+use crate::input::Input;
+use crate::link::Link;
+use crate::pcap::Pcap;
+use crate::pcapng::Pcapng;
+use std::path::Path;
+
+/// A record with more bytes than this holds no UDP datagram (65535 bytes at most), and is passed over.
+pub const LONGEST_FRAME: u32 = 1 << 18;
+/// No capture has a longer record, so where one says so the file is damaged.
+pub const LONGEST_RECORD: u32 = 1 << 28;
+
+/// A frame of a capture.
+pub struct Frame<'a> {
+    /// Nanoseconds since the epoch.
+    pub time: u64,
+    pub link: Link,
+    pub bytes: &'a [u8],
+}
+
+enum Format {
+    Pcap(Pcap),
+    Pcapng(Pcapng),
+}
+
+pub struct Capture {
+    input: Input,
+    format: Format,
+    /// Why nothing more can be read, where that is not the end of the file.
+    fault: Option<Fault>,
+}
+
+impl Capture {
+    pub fn open(path: &Path) -> Result<Self, Failure> {
+        let mut input = Input::open(path)?;
+        if input.len() == 0 {
+            return Err(Failure::of(
+                path,
+                "the file is empty; capture again, and let it end by itself",
+            ));
+        }
+        let front = input.peek(4)?.to_vec();
+        let format = match front[..] {
+            [0x0a, 0x0d, 0x0d, 0x0a] => Format::Pcapng(Pcapng::default()),
+            [0x1f, 0x8b, ..] => {
+                let what = "this file is compressed; unpack it with gunzip first";
+                return Err(Failure::of(path, what));
+            }
+            _ => Format::Pcap(Pcap::open(&mut input)?),
+        };
+        Ok(Capture {
+            input,
+            format,
+            fault: None,
+        })
+    }
+
+    /// The next frame; nothing at the end of the file, or where it is cut off or damaged.
+    pub fn next(&mut self) -> Result<Option<Frame<'_>>, Failure> {
+        let frame = match &mut self.format {
+            Format::Pcap(it) => it.next(&mut self.input)?,
+            Format::Pcapng(it) => it.next(&mut self.input)?,
+        };
+        Ok(match frame {
+            Next::Frame(frame) => Some(frame),
+            Next::End => None,
+            Next::Fault(fault) => {
+                self.fault = Some(fault);
+                None
+            }
+        })
+    }
+
+    /// Where in the file the record begins that was read last.
+    pub fn position(&self) -> u64 {
+        self.input.record()
+    }
+
+    pub fn len(&self) -> u64 {
+        self.input.len()
+    }
+
+    /// The link type of packets that were passed over.
+    pub fn unread(&self) -> Option<u32> {
+        match &self.format {
+            Format::Pcap(_) => None,
+            Format::Pcapng(it) => it.unread,
+        }
+    }
+
+    /// Says at which record nothing more could be read, and what to do.
+    pub fn fault(&self) -> Option<String> {
+        let (path, record) = (self.input.path().display(), self.input.record());
+        self.fault.map(|fault| match fault {
+            Fault::Cut => format!(
+                "{path}: the capture is cut off: its last record begins at byte {record} and is \
+                 not whole. What is before it was read; copy the file again, or stop the capturing \
+                 program before copying"
+            ),
+            Fault::Damaged(len) => format!(
+                "{path}: the record at byte {record} says that it has {len} bytes, so the file is \
+                 damaged. What is before it was read; capture or copy it again"
+            ),
+        })
+    }
+}
+
+/// What is wrong with a record.
+#[derive(Clone, Copy)]
+pub enum Fault {
+    /// The file ends inside it.
+    Cut,
+    /// It says that it has so many bytes, as none has.
+    Damaged(u32),
+}
+
+/// What is next in a capture.
+pub enum Next<'a> {
+    Frame(Frame<'a>),
+    End,
+    /// What follows can't be told any more.
+    Fault(Fault),
+}

@@ -1,0 +1,63 @@
+//! Sends streams of H.264, H.265 and H.266 into captures as RTP, receives them from captures, and says
+//! of a capture what is in it. `h26x --help` has the rest.
+
+mod access_units;
+mod arguments;
+mod capture;
+mod codecs;
+mod errors;
+mod frames;
+mod help;
+mod input;
+mod inspect;
+mod interface;
+mod ip;
+mod kept;
+mod link;
+mod names;
+mod order;
+mod output;
+mod packets;
+mod payload;
+mod pcap;
+mod pcapng;
+mod printing;
+mod progress;
+mod receive;
+mod reception;
+mod refusals;
+mod rtp;
+mod segments;
+mod send;
+mod streams;
+mod tally;
+mod window;
+mod words;
+
+use arguments::Command;
+use errors::Failure;
+use std::process::ExitCode;
+
+const VERSION: &str = concat!("h26x ", env!("CARGO_PKG_VERSION"), "\n");
+
+fn main() -> ExitCode {
+    match run() {
+        Ok(status) => ExitCode::from(status),
+        Err(failure) => {
+            if !failure.message.is_empty() {
+                printing::say(&failure.message);
+            }
+            ExitCode::from(failure.status)
+        }
+    }
+}
+
+fn run() -> Result<u8, Failure> {
+    match arguments::command(std::env::args_os().skip(1).collect())? {
+        Command::Send(asked) => send::send(&asked),
+        Command::Receive(asked) => receive::receive(&asked),
+        Command::Inspect(asked) => inspect::inspect(&asked),
+        Command::Help => printing::print(help::HELP).map(|()| 0),
+        Command::Version => printing::print(VERSION).map(|()| 0),
+    }
+}

@@ -1,0 +1,134 @@
+//! A file that stands under its name once it is whole, and not before.
+
+use crate::errors::Failure;
+use std::fs::{self, File, OpenOptions};
+use std::io::{self, ErrorKind, Write};
+use std::path::{Path, PathBuf};
+use std::process;
+
+/// How many bytes are gathered before they are written.
+const GATHERED: usize = 1 << 20;
+/// The names of standard output, which a shell may have opened as a file.
+const STANDARD_OUTPUT: [&str; 3] = ["/dev/stdout", "/dev/fd/1", "/proc/self/fd/1"];
+
+pub struct Output {
+    /// As the user names it.
+    path: PathBuf,
+    target: PathBuf,
+    /// Where it is written until it is whole; nothing where it is written straight.
+    beside: Option<PathBuf>,
+    to: Box<dyn Write>,
+    /// Bytes that are to be written next. Whoever appends to it calls `pass_on` behind.
+    pub gathered: Vec<u8>,
+    written: u64,
+}
+
+impl Output {
+    /// A file beside this path, unless that is standard output, a device or a pipe. `input` may not be
+    /// the same file.
+    pub fn create(path: &Path, input: &Path) -> Result<Self, Failure> {
+        let failed = |error| Failure::writing(path, &error);
+        let there = match fs::metadata(path) {
+            Err(error) if error.kind() != ErrorKind::NotFound => return Err(failed(error)),
+            other => other.ok(),
+        };
+        if there.as_ref().is_some_and(fs::Metadata::is_dir) {
+            return Err(failed(ErrorKind::IsADirectory.into()));
+        }
+        let real = fs::canonicalize(path).ok();
+        if real.is_some() && real == fs::canonicalize(input).ok() {
+            return Err(Failure::of(
+                path,
+                "this is the input too; name another file",
+            ));
+        }
+        // Where it is a link, what it names is replaced, and not the link.
+        let target = real.clone().unwrap_or_else(|| linked(path));
+        let (beside, to): (_, Box<dyn Write>) = match there {
+            // It goes on behind what is there already, as the shell opened it.
+            _ if STANDARD_OUTPUT.iter().any(|it| path == Path::new(it)) => {
+                (None, Box::new(io::stdout()))
+            }
+            // Also a file that is open and has no name any more.
+            Some(there) if !there.is_file() || real.is_none() => {
+                let file = OpenOptions::new().write(true).open(path);
+                (None, Box::new(file.map_err(failed)?))
+            }
+            _ => {
+                let (beside, file) = create_beside(&target, path)?;
+                (Some(beside), Box::new(file))
+            }
+        };
+        Ok(Output {
+            path: path.into(),
+            target,
+            beside,
+            to,
+            gathered: Vec::with_capacity(4 * GATHERED),
+            written: 0,
+        })
+    }
+
+    /// Writes what is gathered, once it is enough.
+    pub fn pass_on(&mut self) -> Result<(), Failure> {
+        if self.gathered.len() < GATHERED {
+            return Ok(());
+        }
+        self.write_out()
+    }
+
+    fn write_out(&mut self) -> Result<(), Failure> {
+        self.to
+            .write_all(&self.gathered)
+            .and_then(|()| self.to.flush())
+            .map_err(|error| Failure::writing(&self.path, &error))?;
+        self.written += self.gathered.len() as u64;
+        self.gathered.clear();
+        Ok(())
+    }
+
+    /// Writes the rest, and gives the file its name. Answers how many bytes it has.
+    pub fn finish(mut self) -> Result<u64, Failure> {
+        self.write_out()?;
+        if let Some(beside) = &self.beside {
+            fs::rename(beside, &self.target)
+                .map_err(|error| Failure::writing(&self.path, &error))?;
+            self.beside = None;
+        }
+        Ok(self.written)
+    }
+}
+
+/// What a link names that isn't there yet; of what is no link the path itself.
+fn linked(path: &Path) -> PathBuf {
+    fs::read_link(path).map_or_else(|_| path.into(), |link| path.with_file_name(link))
+}
+
+/// A new file beside this one, whose name the user gives as `path`. Its own name is short, whatever
+/// the other is.
+fn create_beside(target: &Path, path: &Path) -> Result<(PathBuf, File), Failure> {
+    if target.file_name().is_none() {
+        return Err(Failure::of(path, "this is no name of a file; name one"));
+    }
+    let mut number = process::id();
+    loop {
+        let beside = target.with_file_name(format!(".h26x.{number}.part"));
+        match File::create_new(&beside) {
+            Ok(file) => return Ok((beside, file)),
+            // One that was killed had this number, or one has it on another machine.
+            Err(error) if error.kind() == ErrorKind::AlreadyExists => {
+                number = number.wrapping_add(1)
+            }
+            Err(error) => return Err(Failure::writing(path, &error)),
+        }
+    }
+}
+
+/// What is not whole is removed.
+impl Drop for Output {
+    fn drop(&mut self) {
+        if let Some(beside) = &self.beside {
+            let _ = fs::remove_file(beside);
+        }
+    }
+}

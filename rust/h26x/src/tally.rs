@@ -1,0 +1,135 @@
+//! What is counted of a stream, and how it is said.
+
+use crate::streams::counted;
+
+/// How many losses, and how many kinds of refusals, are named.
+const NAMED: usize = 20;
+const CUT: &str =
+    "not taken, with only a front in the capture (use a longer snap length) or in IP fragments";
+
+#[derive(Default)]
+pub struct Tally {
+    pub packets: u64,
+    /// Of payloads.
+    pub bytes: u64,
+    pub late: u64,
+    pub twice: u64,
+    /// Packets that came behind a later one, and were put before it.
+    pub moved: u64,
+    pub strays: u64,
+    pub anew: u64,
+    /// Packets of which the capture doesn't have all.
+    pub parts: u64,
+    pub given_up: u64,
+    pub too_long: u64,
+    pub access_units: u64,
+    pub keyframes: u64,
+    missing: u64,
+    gaps: u64,
+    /// The first gaps: how many packets before which number.
+    first_gaps: Vec<(u16, u16)>,
+    pub refused: u64,
+    /// The first kinds of refusals: why, how many, and the number of the first.
+    reasons: Vec<(String, u64, u16)>,
+}
+
+impl Tally {
+    /// So many packets before this number are missing.
+    pub fn miss(&mut self, sequence: u16, missing: u16) {
+        if missing == 0 {
+            return;
+        }
+        self.missing += u64::from(missing);
+        self.gaps += 1;
+        if self.first_gaps.len() < NAMED {
+            self.first_gaps.push((missing, sequence));
+        }
+    }
+
+    pub fn refuse(&mut self, sequence: u16, reason: &str) {
+        self.refused += 1;
+        match self.reasons.iter().position(|it| it.0 == reason) {
+            Some(known) => self.reasons[known].1 += 1,
+            None if self.reasons.len() < NAMED => self.reasons.push((reason.into(), 1, sequence)),
+            None => {}
+        }
+    }
+
+    /// Whether all packets came and were taken.
+    pub fn is_whole(&self) -> bool {
+        let lost = self.missing + self.given_up + self.too_long + self.refused;
+        lost + self.strays + self.parts == 0
+    }
+
+    /// Why most packets were refused, where they were.
+    pub fn refusal_of_most(&self) -> Option<&str> {
+        let reason = self.reasons.iter().max_by_key(|it| it.1);
+        reason
+            .filter(|_| self.refused * 2 > self.packets)
+            .map(|it| it.0.as_str())
+    }
+
+    /// What is lost, refused or otherwise odd, a sentence each.
+    pub fn oddities(&self) -> Vec<String> {
+        let counts = self.counts().into_iter().filter(|it| it.0 > 0);
+        let counts = counts.map(|(count, word, what)| format!("{}: {what}", counted(count, word)));
+        let refusals = self.reasons.iter().map(|(reason, count, first)| {
+            let refused = counted(*count, "packet");
+            format!("refused: {refused}, the first is {first}: {reason}")
+        });
+        self.losses()
+            .into_iter()
+            .chain(counts)
+            .chain(refusals)
+            .collect()
+    }
+
+    /// How many packets are missing, and before which.
+    fn losses(&self) -> Option<String> {
+        let gaps = self.first_gaps.iter();
+        let mut gaps: Vec<String> = gaps
+            .map(|(count, before)| format!("{count} before {before}"))
+            .collect();
+        if self.gaps > NAMED as u64 {
+            gaps.push(format!("and {} more gaps", self.gaps - NAMED as u64));
+        }
+        let lost = counted(self.missing, "packet");
+        (self.missing > 0).then(|| format!("lost: {lost}: {}", gaps.join(", ")))
+    }
+
+    fn counts(&self) -> [(u64, &'static str, &'static str); 8] {
+        [
+            (self.given_up, "unit", "left out, for want of a packet"),
+            (self.too_long, "unit", "left out, longer than --run-limit"),
+            (self.parts, "packet", CUT),
+            (
+                self.late,
+                "packet",
+                "not taken, come twice or too late (--window)",
+            ),
+            (self.twice, "packet", "passed over, come twice"),
+            (self.moved, "packet", "put before those that came earlier"),
+            (
+                self.strays,
+                "packet",
+                "not taken, with a number far from all others",
+            ),
+            (
+                self.anew,
+                "time",
+                "the sender began anew with another number",
+            ),
+        ]
+    }
+
+    /// What there is.
+    pub fn totals(&self) -> String {
+        format!(
+            "{} of {}, {}, {}",
+            counted(self.packets, "packet"),
+            counted(self.bytes, "byte"),
+            counted(self.access_units, "access unit"),
+            counted(self.keyframes, "keyframe")
+        )
+    }
+}
