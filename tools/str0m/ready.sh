@@ -1,5 +1,5 @@
-# What a comparison with str0m needs: a checkout of str0m, the library, cargo and gcc. Read by
-# tools/compare-with-str0m and bench/beside-str0m.
+# What a comparison with str0m needs: a checkout of str0m, cargo and gcc. Read by tools/compare-with-str0m
+# and bench/beside-str0m.
 
 top=$(cd "$(dirname "${BASH_SOURCE[0]}")/../.." && pwd) || exit 1
 
@@ -9,8 +9,8 @@ stop() {
     exit 1
 }
 
-# Looks for all of it, and names the folders in STR0M_DIR and H26X_LIB_DIR: how the script is called,
-# and its first argument, which is to be the checkout.
+# Looks for all of it, and names the checkout in STR0M_DIR: how the script is called, and its first
+# argument, which is to be the checkout.
 ready() {
     local usage=$1 checkout=${2:-} program module
     [ -n "$checkout" ] && [[ $checkout != -* ]] || stop "usage: $usage" \
@@ -27,16 +27,13 @@ ready() {
         [ -f "$STR0M_DIR/src/packet/$module.rs" ] || stop \
             "$STR0M_DIR is no folder of str0m 0.25.0: src/packet/$module.rs is missing"
     done
-    H26X_LIB_DIR=$(cd "${H26X_LIB_DIR:-$top/bindings/lib}" 2>/dev/null && pwd)
-    [ -f "$H26X_LIB_DIR/libh26x.a" ] || stop \
-        "libh26x.a is missing: run bindings/build, or name its folder by H26X_LIB_DIR"
-    export STR0M_DIR H26X_LIB_DIR
+    export STR0M_DIR
 }
 
-# Builds a program, without the network: its folder, where its parts go, flags of the compiler.
+# Builds a program: its folder, where its parts go, flags of the compiler.
 build() {
     local program=$1 parts=$2
     shift 2
-    RUSTFLAGS="-C linker=gcc $*" CARGO_TARGET_DIR=$parts cargo build --offline --quiet --release \
+    RUSTFLAGS="-C linker=gcc $*" CARGO_TARGET_DIR=$parts "$top/tools/cargo" build --quiet --release \
         --manifest-path "$program/Cargo.toml" || stop "$program doesn't build"
 }

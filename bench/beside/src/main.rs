@@ -23,6 +23,9 @@ mod turns;
 mod util;
 mod ways;
 
+// Links libh26x.a.
+extern crate library as _;
+
 use format::Format;
 use lines::{LEFT_OUT, Line};
 use payload::Payload;
@@ -33,8 +36,7 @@ use turns::{Plan, Way, measure};
 pub use util::ArrayVec;
 
 const AGGREGATE: &str = "an aggregate of eleven units of 100 bytes";
-const USAGE: &str =
-    "usage: beside measure TURNS MILLISECONDS [TEXT]\n       beside table|summary FILE...";
+const USAGE: &str = "usage: beside measure TURNS MILLISECONDS [TEXT]\n       beside table|summary FILE...\n       beside count packetize|take FORMAT PAYLOAD WAY CALLS";
 
 fn main() -> ExitCode {
     let words: Vec<String> = std::env::args().skip(1).collect();
@@ -42,6 +44,7 @@ fn main() -> ExitCode {
     let done = match words[..] {
         ["measure", turns, batch] => measure_all(turns, batch, ""),
         ["measure", turns, batch, only] => measure_all(turns, batch, only),
+        ["count", call, format, payload, way, calls] => count(call, format, payload, way, calls),
         ["table", ref files @ ..] if !files.is_empty() => print_table(files),
         ["summary", ref files @ ..] if !files.is_empty() => print_summary(files),
         _ => Err(USAGE.into()),
@@ -100,6 +103,27 @@ fn tell(call: &str, payload: &str, format: Format, ways: Result<Vec<Way>, String
         }
         Err(why) => println!("{LEFT_OUT}{call}, {payload}, {}: {why}", format.name),
     }
+}
+
+/// Makes so many calls in one way, for a program that counts instructions. A payload that is none of the
+/// cases is an aggregate of eleven units of 100 bytes.
+fn count(call: &str, format: &str, name: &str, way: &str, calls: &str) -> Result<(), String> {
+    let format = Format::ALL.iter().find(|it| it.name == format);
+    let format = *format.ok_or("no such format")?;
+    let payloads = payload::payloads(format);
+    let aggregate = [payload::aggregate(format, 11, 100)];
+    let payload = payloads.iter().find(|it| it.name == name);
+    let packets = payload.map(|it| ways::packets(format, &it.bytes));
+    let packets = packets.as_deref().unwrap_or(&aggregate);
+    let ways = match (call, payload) {
+        ("packetize", Some(payload)) => ways::packetizing(format, payload, packets)?,
+        _ => ways::taking(format, packets)?,
+    };
+    let way = ways.into_iter().find(|it| it.name == way);
+    let mut way = way.ok_or("no such way")?;
+    let calls: u32 = calls.parse().map_err(|_| USAGE)?;
+    (0..calls).for_each(|_| (way.call)());
+    Ok(())
 }
 
 /// Prints the table of what builds of this program measured.
