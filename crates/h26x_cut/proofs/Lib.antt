@@ -4,6 +4,6 @@ pub mod MarkLemmas
 pub mod SliceLemmas
 pub mod PlaceLemmas
 pub mod LeastLemmas
-pub mod RunLemmas
 pub mod SearchLemmas
+pub mod ZeroLemmas
 pub mod UnitLemmas

@@ -2,8 +2,12 @@
 //! H.266).
 #![tactic(auto)]
 
+mod behind;
+mod blocks;
 mod cases;
 pub mod laws;
+mod marks;
+mod portable;
 mod search;
 mod slices;
 

@@ -6,7 +6,8 @@ ghost use Rattle.h26x_cut.specs.Cutting.{AreUnits, IsNextUnit, trimmed, units_of
 ghost use Rattle.h26x_cut.specs.Slices.{units_behind};
 
 use crate::ZeroRule;
-use crate::search::{CODE, first_code};
+use crate::marks::CODE;
+use crate::search::first_code;
 use std::marker::Model;
 use std::ops::Range;
 

@@ -1,9 +1,16 @@
 -- Where a packet belongs among those that a buffer holds (ours).
-use Rattle.std.specs.Prelude.{◌≡◌, ℕ, ◌<◌, ◌≤◌, ◌^◌, false, length, Some}
+use Rattle.std.specs.Prelude.{◌≡◌, ℕ, ◌<◌, ◌≤◌, ◌^◌, false, List, length, Some}
 use Rattle.std.specs.List.{insert}
 use Rattle.h26x_receiver.specs.Sequence.{is_late}
 use Rattle.h26x_frames.specs.Rtp.{RtpBody}
-use Rattle.h26x_frames.specs.ReorderBuffer.{BufferState, due_at, put_packet}
+use Rattle.h26x_frames.specs.ReorderBuffer.{BufferState, due_at, is_number_held, put_packet}
+
+-- No packet with this number is held, and one belongs at this place.
+pub record IsPlaceAmong (held : List (ℕ × RtpBody)) (due number place : ℕ) : Type 0 where
+  pub absent : is_number_held number held ≡ false
+  pub in_range : place ≤ length held
+  pub put : (packet : RtpBody) → insert held place (number, packet)
+      ≡ put_packet due (number, packet) held
 
 -- A packet with this number is neither late nor held: where it is put this number is due, and it
 -- belongs at this place.

@@ -1,49 +1,40 @@
 //! Packets in the order of their sequence numbers, until they may go.
 
-ghost use Rattle.std.specs.Prelude.{◌≡◌, ◌+◌, ◌^◌, ◌<◌, ◌≤◌, ◌==◌, ◌++◌, if◌then◌else◌, true, false, ℕ, IfOk, IfErr, OnOk, OnErr, None, is_some, length, map, slice_get, slice_index_or};
-ghost use Rattle.std.specs.List.{insert};
+ghost use Rattle.std.specs.Prelude.{◌≡◌, ◌+◌, ◌^◌, ◌<◌, ◌≤◌, ◌==◌, ◌++◌, if◌then◌else◌, true, false, ℕ, IfOk, IfErr, OnOk, OnErr, MatchResult, None, is_some, length, map, slice_get, slice_index_or};
 ghost use Rattle.std.specs.Option.{option_map};
 ghost use Rattle.h26x_receiver.specs.Sequence.{distance_ahead};
 ghost use Rattle.h26x_frames.specs.Rtp.{RtpBody};
-ghost use Rattle.h26x_frames.specs.NumberOrder.{IsPlaceOf};
-ghost use Rattle.h26x_frames.specs.ReorderBuffer.{fresh_buffer, put_packet, is_number_held, push_answer, after_push, next_packet, without_first, AreHeldInOrder};
+ghost use Rattle.h26x_frames.specs.NumberOrder.{IsPlaceAmong, IsPlaceOf};
+ghost use Rattle.h26x_frames.specs.ReorderBuffer.{fresh_buffer, is_number_held, push_answer, after_push, next_packet, without_first, AreHeldInOrder};
 
 use crate::buffer::Pushed;
 use crate::numbered::Numbered;
-use crate::parted;
+use crate::parted::Parted;
 use std::alloc::{AllocError, Global};
-use std::collections::VecDeque;
 use std::marker::Model;
 
 /// How far ahead of the number that is due a number is taken as behind it: half of the circle (RFC
 /// 3550, A.1).
 const HALF: u16 = 0x8000;
 
-/// Packets in the order of their numbers, each once, from one that is due on. They lie in two parts,
-/// the second of which is mostly empty: where packets come again and again before many others, they
-/// are parted there, so that those that follow move none.
+/// Packets in the order of their numbers, each once, from one that is due on.
 #[derive(Debug, Drop)]
 pub(crate) struct NumberOrder<T: Numbered> {
     window: u16,
     due: Option<u16>,
-    front: VecDeque<T>,
-    back: VecDeque<T>,
-    /// Where the latest packet was put that others stood behind, by which it is known whether
-    /// packets come again and again.
-    latest: usize,
+    held: Parted<T>,
 }
 
 impl<T: Numbered> Model for NumberOrder<T> {
-    ghost use Rattle.std.specs.Prelude.{◌++◌, map};
+    ghost use Rattle.std.specs.Prelude.{map};
     ghost use Rattle.h26x_frames.specs.Rtp.{RtpBody};
     ghost use Rattle.h26x_frames.specs.ReorderBuffer.{BufferState, IsBufferState, buffer_state};
 
     ghost Value = { BufferState RtpBody };
 
-    ghost view = { λ b. buffer_state b.window b.due (map T.numbered (b.front.items ++ b.back.items)) };
+    ghost view = { λ b. buffer_state b.window b.due (map T.numbered b.held) };
 
-    ghost invariant = { λ b. IsBufferState
-        (buffer_state b.window b.due (map T.numbered (b.front.items ++ b.back.items))) };
+    ghost invariant = { λ b. IsBufferState (buffer_state b.window b.due (map T.numbered b.held)) };
 }
 
 impl<T: Numbered> NumberOrder<T> {
@@ -56,9 +47,7 @@ impl<T: Numbered> NumberOrder<T> {
         NumberOrder {
             window,
             due: None,
-            front: VecDeque::new(alloc),
-            back: VecDeque::new(alloc),
-            latest: 0,
+            held: Parted::new(alloc),
         }
     }
 
@@ -66,14 +55,14 @@ impl<T: Numbered> NumberOrder<T> {
     pub(crate) fn len(&self) -> usize
         ensures { result ≡ length self.now.held }
     {
-        self.front.len() + self.back.len()
+        self.held.len()
     }
 
     /// Whether it holds none.
     pub(crate) fn is_empty(&self) -> bool
         ensures { result ≡ (length self.now.held == 0) }
     {
-        self.front.is_empty() && self.back.is_empty()
+        self.held.is_empty()
     }
 
     /// How far ahead of a number the packet at a place is.
@@ -83,24 +72,14 @@ impl<T: Numbered> NumberOrder<T> {
         ensures { (d : ℕ × RtpBody) → result
             ≡ distance_ahead due (slice_index_or self.now.held place d).0 }
     {
-        let len = self.front.len();
-        let packet = if place < len {
-            &self.front[place]
-        } else {
-            &self.back[place - len]
-        };
-        packet.sequence().wrapping_sub(due)
+        self.held.get(place).sequence().wrapping_sub(due)
     }
 
     /// Where a packet with this number stands, or else where it belongs, by halves.
     fn search(&self, due: u16, number: u16) -> Result<usize, usize>
         requires { AreHeldInOrder due 0 self.now.held }
-        ensures found { IfOk result (λ _. is_number_held number self.now.held ≡ true) }
-        ensures absent { IfErr result (λ _. is_number_held number self.now.held ≡ false) }
-        ensures range { IfErr result (λ at. at ≤ length self.now.held) }
-        ensures place { (packet : RtpBody) → IfErr result (λ at.
-            insert self.now.held at (number, packet)
-            ≡ put_packet due (number, packet) self.now.held) }
+        ensures { MatchResult result (λ _. is_number_held number self.now.held ≡ true)
+            (λ place. IsPlaceAmong self.now.held due number place) }
     {
         let ahead = number.wrapping_sub(due);
         let (mut low, mut high) = (0, self.len());
@@ -124,12 +103,8 @@ impl<T: Numbered> NumberOrder<T> {
     #[inline]
     fn place_from(&self, due: u16, number: u16) -> Result<usize, usize>
         requires { AreHeldInOrder due 0 self.now.held }
-        ensures found { IfOk result (λ _. is_number_held number self.now.held ≡ true) }
-        ensures absent { IfErr result (λ _. is_number_held number self.now.held ≡ false) }
-        ensures range { IfErr result (λ at. at ≤ length self.now.held) }
-        ensures place { (packet : RtpBody) → IfErr result (λ at.
-            insert self.now.held at (number, packet)
-            ≡ put_packet due (number, packet) self.now.held) }
+        ensures { MatchResult result (λ _. is_number_held number self.now.held ≡ true)
+            (λ place. IsPlaceAmong self.now.held due number place) }
     {
         let len = self.len();
         if len == 0 || self.ahead_at(due, len - 1) < number.wrapping_sub(due) {
@@ -167,8 +142,7 @@ impl<T: Numbered> NumberOrder<T> {
         ensures after { OnOk result (self.new ≡ after_push self.old (T.numbered packet)) }
         ensures kept { OnErr result (self.new ≡ self.old) }
     {
-        let latest = &mut self.latest;
-        parted::insert_at(&mut self.front, &mut self.back, latest, place, packet)?;
+        self.held.insert(place, packet)?;
         self.due = Some(due);
         Ok(())
     }
@@ -193,7 +167,7 @@ impl<T: Numbered> NumberOrder<T> {
         ensures packet { option_map T.numbered result ≡ slice_get self.old.held 0 }
         ensures after { self.new ≡ without_first self.old }
     {
-        let first = parted::pop_first(&mut self.front, &mut self.back)?;
+        let first = self.held.pop_first()?;
         self.due = Some(first.sequence().wrapping_add(1));
         Some(first)
     }
@@ -204,9 +178,7 @@ impl<T: Numbered> NumberOrder<T> {
         ensures ready { result ≡ is_some (next_packet self.now) }
         ensures few { result ≡ false → length self.now.held < self.now.window }
     {
-        let first = parted::first(&self.front, &self.back);
-        let last = parted::last(&self.front, &self.back);
-        match (self.due, first, last) {
+        match (self.due, self.held.first(), self.held.last()) {
             (Some(due), Some(first), Some(last)) => {
                 let number = first.sequence();
                 let ahead = number.wrapping_sub(due);
@@ -221,9 +193,7 @@ impl<T: Numbered> NumberOrder<T> {
     pub(crate) fn restart(&mut self)
         ensures { self.new ≡ fresh_buffer self.old.window }
     {
-        let alloc = *self.front.allocator();
-        self.front.clear();
-        self.back = VecDeque::new(alloc);
+        self.held.clear();
         self.due = None;
     }
 }

@@ -84,16 +84,16 @@ fn packets_reordered_at_once(rt: HostRuntime) -> Result<(), PacketError> {
     reorder(&rt, rt.alloc(), Tries::Once)
 }
 
-/// Packets that come one behind the other before a hundred others, for which the list is parted, and
-/// more behind all of them.
+/// Packets that come one behind the other before a hundred others, for which the list is parted once
+/// they have paid for it, more behind all of them, and one between those before.
 fn reorder_parted(rt: &impl Abort, alloc: Global, tries: Tries) -> Result<(), PacketError> {
     let mut buffer = ReorderBuffer::new(alloc, 1024);
-    for numbers in [0..60, 200..300, 60..70, 300..420] {
+    for numbers in [0..30, 31..60, 200..300, 60..160, 300..420, 30..31] {
         for number in numbers {
             push(rt, tries, &mut buffer, number, Pushed::Held)?;
         }
     }
-    for numbers in [0..70, 200..420] {
+    for numbers in [0..160, 200..420] {
         for number in numbers {
             compare(rt, buffer.pop_first(), Some(number));
         }

@@ -1,4 +1,5 @@
 use super::*;
+use std::alloc::{AllocError, Global};
 use std::test::Fail;
 
 /// A payload, its units under the rule of all zeros, and those under the rule of at most three.
@@ -90,17 +91,40 @@ fn write_code(bytes: &mut [u8], place: usize) {
 }
 
 /// Lengths on both sides of those at which the search goes on in another way.
-static LENGTHS: [usize; 12] = [17, 18, 19, 33, 34, 65, 66, 67, 130, 193, 194, 330];
+static LENGTHS: [usize; 12] = [17, 65, 66, 67, 68, 128, 129, 130, 131, 193, 194, 330];
+
+/// How many payloads of a length, with a byte 01 in so many and a start code at one place each, have
+/// the units of the plain scan.
+fn count_same_places(alloc: Global, len: usize, apart: usize) -> Result<usize, AllocError> {
+    let mut same: usize = 0;
+    for place in 0..len {
+        let mut payload = vec![in alloc; 0x41u8; len]?;
+        for byte in payload.iter_mut().step_by(apart) {
+            *byte = 1;
+        }
+        write_code(&mut payload, place);
+        if is_as_by_the_plain_scan(&payload) {
+            same = same.saturating_add(1);
+        }
+    }
+    Ok(same)
+}
 
 #[test]
 fn a_code_at_each_place_as_by_the_plain_scan(rt: HostRuntime) -> Result<(), Fail> {
     for len in &LENGTHS {
-        for place in 0..*len {
-            let mut payload = vec![in rt.alloc(); 1u8; *len]?;
-            write_code(&mut payload, place);
-            assert!(rt; is_as_by_the_plain_scan(&payload));
+        for apart in [1, 16] {
+            assert!(rt; count_same_places(rt.alloc(), *len, apart)? == *len);
         }
     }
+    Ok(())
+}
+
+#[test]
+fn a_code_behind_many_zeros_that_are_none(rt: HostRuntime) -> Result<(), Fail> {
+    let mut payload = [0u8, 0, 2, 1].repeat(rt.alloc(), 1000)?;
+    payload.extend_from_slice(&[0, 0, 1, 0x65, 0xaa])?;
+    assert!(rt; has_units(&payload, &[&[0x65, 0xaa]], &[&[0x65, 0xaa]]));
     Ok(())
 }
 

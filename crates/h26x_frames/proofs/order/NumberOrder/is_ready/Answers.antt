@@ -1,4 +1,4 @@
-use Rattle.std.proofs.Common.{rules, arith, ◌≡◌, ◌<◌, ◌≤◌, ◌+◌, ◌-◌, ◌++◌, ℕ, Bool, false, length, Option, ap, subst, sym, map, get_or, ◌∙◌}
+use Rattle.std.proofs.Common.{rules, arith, ◌≡◌, ◌<◌, ◌≤◌, ◌+◌, ◌-◌, ℕ, Bool, false, length, Option, ap, subst, sym, map, get_or, ◌∙◌}
 use Rattle.std.specs.Prelude.{is_some, nat_le, ◌==◌, ◌||◌}
 use Rattle.std.proofs.lemmas.Bool.Decides.{nat_tests}
 use Rattle.std.proofs.lemmas.List.{length-map, get_or-map}
@@ -10,11 +10,11 @@ use Rattle.h26x_frames.proofs.order.NumberOrder.is_ready.Given.{Over}
 use Rattle.h26x_frames.proofs.order.NumberOrder.is_ready.Goals as goal
 
 -- the first and the last of what is held
-are_ends : (g : Over) (c : goal.Else-number-due g) → AreEnds c.self.inside.window c.in-Some-Some-Some.due (map g.T.Numbered.numbered (c.self.inside.front.items ++ c.self.inside.back.items))
+are_ends : (g : Over) (c : goal.Else-number-due g) → AreEnds c.self.inside.window c.in-Some-Some-Some.due (map g.T.Numbered.numbered c.self.inside.held)
     (g.T.Numbered.numbered c.in-Some-Some-Some.first.now) (g.T.Numbered.numbered c.in-Some-Some-Some.last.now)
 are_ends g c =
     let n = g.T.Numbered.numbered in
-    let items = c.self.inside.front.items ++ c.self.inside.back.items in
+    let items = c.self.inside.held in
     let first = c.in-Some-Some-Some.first.now in
     let last = c.in-Some-Some-Some.last.now in
     let order = subst (λ (due : Option ℕ). IsHeldInOrder due (map n items)) c.in-Some-Some-Some.is-0 c.self.invariant.order in
@@ -38,7 +38,7 @@ overflow_sub-result g c = rises g c
 pub returns-else-number-due-clause-ready : goal.returns-else-number-due-clause-ready
 returns-else-number-due-clause-ready g c =
     let n = g.T.Numbered.numbered in
-    let items = c.self.inside.front.items ++ c.self.inside.back.items in
+    let items = c.self.inside.held in
     let d = c.in-Some-Some-Some.due in
     let first = c.sequence-number.result in
     let last = c.sequence.result in

@@ -13,8 +13,11 @@ belongs g c =
           w.ahead_at.ensures w.if-ahead_at-number.true
     ]
 
-pub returns-then-len-eq0-clause-absent : goal.returns-then-len-eq0-clause-absent
-returns-then-len-eq0-clause-absent g c = not_held c.args.due c.args.number c.args.self.now.held c.len-len.result (belongs g c)
-
-pub returns-then-len-eq0-clause-place : goal.returns-then-len-eq0-clause-place
-returns-then-len-eq0-clause-place g c = λ packet. put_at c.args.due c.args.number packet c.args.self.now.held c.len-len.result (belongs g c)
+pub returns-then-len-eq0 : goal.returns-then-len-eq0
+returns-then-len-eq0 g c =
+    let at = belongs g c in
+    record {
+      absent = not_held c.args.due c.args.number c.args.self.now.held c.len-len.result at;
+      in_range = at.in_range;
+      put = λ packet. put_at c.args.due c.args.number packet c.args.self.now.held c.len-len.result at;
+    }

@@ -1,4 +1,4 @@
-use Rattle.std.proofs.Common.{rules, ◌≡◌, ◌∙◌, ◌++◌, ◌∷◌, [], ap, subst, sym, map, List, Some, ℕ}
+use Rattle.std.proofs.Common.{rules, ◌≡◌, ◌∙◌, ◌∷◌, [], ap, subst, sym, map, List, Some, ℕ}
 use Rattle.std.specs.Prelude.{slice_get}
 use Rattle.std.specs.Option.{option_map}
 use Rattle.h26x_receiver.specs.Sequence.{next_sequence_number}
@@ -9,8 +9,8 @@ use Rattle.h26x_frames.proofs.order.NumberOrder.pop_first.Given.{Over}
 use Rattle.h26x_frames.proofs.order.NumberOrder.pop_first.Goals as goal
 
 -- nothing is held where nothing came out
-none : (g : Over) (c : goal.After-from_residual g) → c.self.inside.front.items ++ c.self.inside.back.items ≡ []
-none g c = empty_is (c.self.inside.front.items ++ c.self.inside.back.items) (λ some. let bad = c.in_err-first.ensures.variant.1 some in cc)
+none : (g : Over) (c : goal.After-from_residual g) → c.self.inside.held ≡ []
+none g c = empty_is c.self.inside.held (λ some. let bad = c.in_err-first.ensures.variant.1 some in cc)
 
 pub returns-in_err-first-clause-packet : goal.returns-in_err-first-clause-packet
 returns-in_err-first-clause-packet g c =
@@ -31,8 +31,8 @@ returns-in_err-first-clause-after g c =
 pub invariant_of-self-2 : goal.invariant_of-self-2
 invariant_of-self-2 g c =
     let n = g.T.Numbered.numbered in
-    let rest = c.pop_first.new.front.items ++ c.pop_first.new.back.items in
-    let items : c.self.inside.front.items ++ c.self.inside.back.items ≡ c.in_ok-first.first ∷ rest = search rules in
+    let rest = c.pop_first.new.self in
+    let items : c.self.inside.held ≡ c.in_ok-first.first ∷ rest = search rules in
     let order = subst (λ (l : List (ℕ × RtpBody)). IsHeldInOrder c.self.inside.due l) (ap (map n) items) c.self.invariant.order in
     let next = rest_in_order c.self.inside.due (n c.in_ok-first.first) (map n rest) order in
     record {

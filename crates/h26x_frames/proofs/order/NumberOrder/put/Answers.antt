@@ -1,4 +1,4 @@
-use Rattle.std.proofs.Common.{arith, ◌≡◌, ◌<◌, ◌++◌, ◌∙◌, ℕ, List, Some, ap, subst, sym, map}
+use Rattle.std.proofs.Common.{arith, ◌≡◌, ◌<◌, ◌∙◌, ℕ, List, Some, ap, subst, sym, map}
 use Rattle.std.proofs.lemmas.Bool.Decides.{nat_tests}
 use Rattle.h26x_receiver.specs.Sequence.{distance_ahead}
 use Rattle.h26x_frames.specs.Rtp.{RtpBody}
@@ -9,7 +9,7 @@ use Rattle.h26x_frames.proofs.order.NumberOrder.put.Given.{Over}
 use Rattle.h26x_frames.proofs.order.NumberOrder.put.Goals as goal
 
 -- what is required, of the fields
-at : (g : Over) (c : goal.After-self-1 g) → IsPlaceOf (buffer_state c.self.inside.window c.self.inside.due (map g.T.Numbered.numbered (c.self.inside.front.items ++ c.self.inside.back.items)))
+at : (g : Over) (c : goal.After-self-1 g) → IsPlaceOf (buffer_state c.self.inside.window c.self.inside.due (map g.T.Numbered.numbered c.self.inside.held))
     (g.T.Numbered.numbered c.args.packet).0 c.args.due c.args.place
 at g c = subst (λ (b : BufferState RtpBody). IsPlaceOf b (g.T.Numbered.numbered c.args.packet).0 c.args.due c.args.place) (sym c.self.view_is) c.requires
 
@@ -17,18 +17,18 @@ near : (g : Over) (c : goal.After-self-1 g) → distance_ahead c.args.due (g.T.N
 near g c = let early = (at g c).early in grind (arith, nat_tests)
 
 -- the packets held with the new one
-items : (g : Over) (c : goal.After-self-1 g) → map g.T.Numbered.numbered (c.insert_at.new.front.items ++ c.insert_at.new.back.items)
-    ≡ put_packet c.args.due (g.T.Numbered.numbered c.args.packet) (map g.T.Numbered.numbered (c.self.inside.front.items ++ c.self.inside.back.items))
+items : (g : Over) (c : goal.After-self-1 g) → map g.T.Numbered.numbered c.insert.new.self
+    ≡ put_packet c.args.due (g.T.Numbered.numbered c.args.packet) (map g.T.Numbered.numbered c.self.inside.held)
 items g c =
     let n = g.T.Numbered.numbered in
-    ap (map n) c.in_ok-insert_at.ensures.put
-    ∙ map_insert n (c.self.inside.front.items ++ c.self.inside.back.items) c.args.place c.args.packet
+    ap (map n) c.in_ok-insert.ensures.put
+    ∙ map_insert n c.self.inside.held c.args.place c.args.packet
     ∙ (at g c).put (n c.args.packet).1
 
 pub invariant_of-self-2 : goal.invariant_of-self-2
 invariant_of-self-2 g c =
     let p = g.T.Numbered.numbered c.args.packet in
-    let held = map g.T.Numbered.numbered (c.self.inside.front.items ++ c.self.inside.back.items) in
+    let held = map g.T.Numbered.numbered c.self.inside.held in
     let order = subst (λ (d : ℕ). (d < 65536) × AreHeldInOrder d 0 held) (sym (at g c).due_is) (order_at c.self.inside.window c.self.inside.due p.0 held c.self.invariant.order) in
     let one = (at g c).small in
     record {
@@ -43,7 +43,7 @@ invariant_of-self-2 g c =
 pub returns-clause-after : goal.returns-clause-after
 returns-clause-after g c =
     let p = g.T.Numbered.numbered c.args.packet in
-    let b : BufferState RtpBody = buffer_state c.self.inside.window c.self.inside.due (map g.T.Numbered.numbered (c.self.inside.front.items ++ c.self.inside.back.items)) in
+    let b : BufferState RtpBody = buffer_state c.self.inside.window c.self.inside.due (map g.T.Numbered.numbered c.self.inside.held) in
     let due = (at g c).due_is in
     ap (λ (l : List (ℕ × RtpBody)). buffer_state b.window (Some c.args.due) l) (items g c)
     ∙ ap (λ (d : ℕ). buffer_state b.window (Some d) (put_packet d p b.held)) due

@@ -3,8 +3,8 @@ use Rattle.h26x_frames.proofs.HeldLemmas.{BelongsAt, nearer_up_to, further_from,
 use Rattle.h26x_frames.proofs.order.NumberOrder.search.Given.{Over}
 use Rattle.h26x_frames.proofs.order.NumberOrder.search.Goals as goal
 
-pub returns-then-there-ahead-clause-found : goal.returns-then-there-ahead-clause-found
-returns-then-there-ahead-clause-found g c =
+pub returns-then-there-ahead : goal.returns-then-there-ahead
+returns-then-there-ahead g c =
     let middle = c.loop-low.low + (c.loop-low.high - c.loop-low.low) / 2 in
     let within : middle < length c.args.self.now.held = omega arith in
     let small : c.args.due < 65536 = omega (arith, c.ranges.due.fits) in
@@ -42,8 +42,11 @@ belongs g c =
       behind = λ k d le lt. c.loop-low.invariant.behind k d (omega arith) lt;
     }
 
-pub returns-clause-absent : goal.returns-clause-absent
-returns-clause-absent g c = not_held c.args.due c.args.number c.args.self.now.held c.loop-low.low (belongs g c)
-
-pub returns-clause-place : goal.returns-clause-place
-returns-clause-place g c = λ packet. put_at c.args.due c.args.number packet c.args.self.now.held c.loop-low.low (belongs g c)
+pub returns : goal.returns
+returns g c =
+    let at = belongs g c in
+    record {
+      absent = not_held c.args.due c.args.number c.args.self.now.held c.loop-low.low at;
+      in_range = at.in_range;
+      put = λ packet. put_at c.args.due c.args.number packet c.args.self.now.held c.loop-low.low at;
+    }

@@ -1,0 +1,31 @@
+//! The search of [`crate::behind`] by memchr alone, for compilers without `std::simd`.
+
+ghost use Rattle.std.specs.Prelude.{◌+◌, ◌<◌, length};
+ghost use Rattle.h26x_cut.specs.Slices.{IsFirstCode};
+ghost use Rattle.h26x_cut.specs.Search.{HasNoCode};
+
+use crate::marks::{CODE, is_behind_zeros, next_mark};
+use memchr::memmem;
+
+/// How many bytes 01 that end no start code are tried before whole start codes are searched for.
+const PATIENCE: usize = 2;
+
+/// Where the first start code of bytes begins of which none begins up to a byte 01.
+#[inline(never)]
+pub fn first_behind(bytes: &[u8], mark: usize) -> Option<usize>
+    requires within { mark < length bytes.now }
+    requires passed { HasNoCode bytes.now 0 (mark + 1) }
+    ensures { IsFirstCode bytes.now result }
+{
+    let (mut place, mut failed) = (mark + 1, 0);
+    while failed < PATIENCE {
+        let mark = next_mark(bytes, place)?;
+        if is_behind_zeros(bytes, mark) {
+            return Some(mark - 2);
+        }
+        failed += 1;
+        place = mark + 1;
+    }
+    let rest = memmem::find(&bytes[place..], CODE)?;
+    Some(place + rest)
+}
