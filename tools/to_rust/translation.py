@@ -3,7 +3,7 @@
 from pathlib import Path
 
 from . import contracts, idiom, laws, memory, types
-from .tree import Refused, after, at, deep, is_sign, is_word, parse, words_of, written
+from .tree import after, at, deep, is_sign, is_word, parse, words_of, written
 
 
 class Crate:

@@ -6,12 +6,12 @@
 | the types of `ADDED` | those derives too | they are data; each name must be found |
 | the enums of `GROWING` | `#[non_exhaustive]` | a codec may come |
 | a derived `Debug` of a struct with bytes in a field | one that tells how many | payloads aren't printed |
-| derived `thiserror::Error` with `#[error("..")]` | `#[non_exhaustive]`, `Display` and `core::error::Error` | it is what thiserror makes, without three crates for eight texts |
+| derived `thiserror::Error` with `#[error("..")]` | `#[non_exhaustive]`, `Display` and `core::error::Error` | it is what thiserror makes, without the crates that it brings |
 """
 
 import re
 
-from .tree import (Refused, Token, after, at, bare, commas, generics_end, is_attribute, is_group, is_sign, is_trivia,
+from .tree import (Refused, after, at, bare, commas, generics_end, is_attribute, is_group, is_sign, is_trivia,
                    is_word, parse)
 
 SERDE = ("Serialize", "Deserialize")
@@ -23,10 +23,8 @@ ADDED = {
     "PacketError": "Hash", "Received": "Hash", "Pushed": "Hash",
     "RtpPacket": "Clone Copy PartialEq Eq Hash", "HeldPacket": "Clone PartialEq Eq Hash",
     "AccessUnit": "Clone PartialEq Eq Hash", "OpenAccessUnit": "Clone PartialEq Eq", "ReorderBuffer": "Clone",
+    "NumberOrder": "Clone", "Parted": "Clone",
 }
-# What holds lists of `ADDED`'s types, and isn't in every state of the sources.
-INNER = {"NumberOrder": "Clone", "Parted": "Clone"}
-
 GROWING = {"CodecExtra"}
 
 # A field's type that is bytes, and what is shown of `it`.
@@ -74,7 +72,7 @@ class Types:
         name = items[after(items, keyword)].text
         derive = items[after(items, 0)].items[-1]
         traits = [bare(t) for t in commas(derive.items) if bare(t)]
-        traits += (ADDED | INNER).get(name, "").split()
+        traits += ADDED.get(name, "").split()
         self.found.add(name)
         behind = []
         if "Error" in traits:
@@ -152,8 +150,7 @@ class Types:
             "}", "}", "}", "", f"impl core::error::Error for {name} {{}}", ""])
         marked = items[:keyword]
         place = next((i for i, it in enumerate(marked) if is_word(it, "pub", "pub(crate)")), keyword)
-        items = items[:place] + parse("#[non_exhaustive]\n") + items[place:]
-        return items, parse(text)
+        return items[:place] + parse("#[non_exhaustive]\n") + items[place:], parse(text)
 
 
 def check_added(found):
