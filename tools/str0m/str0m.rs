@@ -5,7 +5,7 @@ use h265::H265CodecExtra;
 use h266::H266CodecExtra;
 
 // The two traits have str0m's signatures, here over str0m's types.
-#[path = "../../bindings/rust/emupedestal/src/packet.rs"]
+#[path = "../../rust/compare/library/src/packet.rs"]
 mod packet;
 
 pub use packet::{Depacketizer, Packetizer};

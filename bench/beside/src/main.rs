@@ -13,7 +13,7 @@ mod payload;
 #[path = "../../../tools/str0m/str0m.rs"]
 #[allow(dead_code)]
 mod str0m;
-#[path = "../../../bindings/rust/emupedestal/src/sys.rs"]
+#[path = "../../../rust/compare/library/src/sys.rs"]
 #[allow(dead_code)]
 mod sys;
 mod table;

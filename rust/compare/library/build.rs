@@ -1,5 +1,5 @@
-//! Links `libh26x.a`: the one in the folder that `H26X_LIB_DIR` names, else the one for the target that
-//! the package carries in `lib`, beside a file `BUILT` that says what it was built from.
+//! Links `libh26x.a`: the one in the folder that `H26X_LIB_DIR` names, else the one for the target that is
+//! committed in `bindings/recorded`.
 
 use std::env;
 use std::path::PathBuf;
@@ -32,12 +32,14 @@ fn library_folder() -> Result<PathBuf, String> {
     let [arch, os, environment] = ["ARCH", "OS", "ENV"].map(of_target);
     let target = format!("{arch}-unknown-{os}-{environment}");
     let package = env::var_os("CARGO_MANIFEST_DIR").expect("cargo sets it");
-    let folder = PathBuf::from(package).join("lib").join(&target);
+    let folder = PathBuf::from(package)
+        .join("../../../bindings/recorded")
+        .join(&target);
     if folder.join("libh26x.a").is_file() {
         return Ok(folder);
     }
     Err(format!(
-        "no libh26x.a for {target} comes with this package: build one, and let H26X_LIB_DIR name its folder"
+        "no libh26x.a for {target} is committed: build one, and let H26X_LIB_DIR name its folder"
     ))
 }
 
