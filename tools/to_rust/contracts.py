@@ -3,7 +3,7 @@
 | In Rattle | In Rust | Reason |
 |---|---|---|
 | `ensures {..}`, `ghost ..`, `#[tactic]`, `#[cycle]`, `impl Model`, derived `Drop`, the bound `Drop` | nothing | they say, and do nothing |
-| `requires` of a public function that compares a parameter with a number | `assert!` | a caller of Rust has no prover |
+| `requires` of a public function that compares a parameter with a number | `assert!`, and `# Panics` in its docs | a caller of Rust has no prover |
 | any other `requires` of a public function, or of a trait's method | the function, or the trait, is `pub(crate)` | nobody outside can call it; the layer keeps it |
 | a public function that answers `AllocError` | it is `pub(crate)` | callers are told `PacketError` |
 | the methods of `INNER` | they are `pub(crate)` | the crates call them of one another |
@@ -13,7 +13,7 @@
 import re
 
 from .tree import (Function, Refused, Token, after, at, bare, before, commas, deep, drop_heading, functions,
-                   generics_end, is_attribute, is_function, is_group, is_sign, is_word, joined, parse)
+                   generics_end, heading_start, is_attribute, is_function, is_group, is_sign, is_word, joined, parse)
 
 # Methods by which the proved crates make and take apart what callers only look at.
 INNER = {"empty", "of", "set", "into_buffer", "into_units", "try_clone", "zero_rule"}
@@ -33,13 +33,13 @@ def clause_at(items, i):
     return items[j], j + 1
 
 
-def assertion(clause):
-    """The assertion of a `requires` that compares a parameter with a number; None of another."""
+def condition(clause):
+    """What a `requires` asks that compares a parameter with a number; None of another."""
     owed = OWED.fullmatch(bare(clause.items))
     if not owed or owed[1][0].isdigit() == owed[2][0].isdigit():
         return None
     text = re.sub(r"(\d+) \^ (\d+)", lambda power: str(int(power[1]) ** int(power[2])), owed[0])
-    return f"assert!({text.replace('≤', '<=')});"
+    return text.replace("≤", "<=")
 
 
 def owed_clauses(items, i):
@@ -120,7 +120,7 @@ class Owed:
         if pub is None:
             return
         function = Function(items, i)
-        owed = [clause for clause in owed_clauses(items, i) if assertion(clause) is None]
+        owed = [clause for clause in owed_clauses(items, i) if condition(clause) is None]
         name = f"{of}::{function.name}" if of else function.name
         reason = None
         if owed:
@@ -176,15 +176,16 @@ class Owed:
 
 def erase_contracts(items):
     """Drops clauses with the comments among them, and ghost items; asserts what a caller of a public function
-    owes of a number."""
-    out, i, is_public, owed = [], 0, False, []
+    owes of a number, and says so in its docs."""
+    out, i, is_public, owed, keyword = [], 0, False, [], 0
     while i < len(items):
         it = items[i]
         if is_word(it, "fn"):
             pub = visibility(out, len(out))
-            is_public, owed = pub is not None and out[pub].text == "pub", []
+            is_public, owed, keyword = pub is not None and out[pub].text == "pub", [], len(out)
         if is_group(it, "{") and owed:
-            it.items = parse("\n" + "\n".join(owed) + "\n") + it.items
+            it.items = parse("\n" + "".join(f"assert!({asked});\n" for asked in owed)) + it.items
+            out = with_panics(out, keyword, owed)
             owed = []
         if is_word(it, "requires", "ensures"):
             while out and out[-1].kind in ("space", "comment", "doc"):
@@ -192,7 +193,7 @@ def erase_contracts(items):
             out.append(Token("space", "\n"))
             clause, i = clause_at(items, i)
             if is_public and it.text == "requires":
-                owed.append(assertion(clause))
+                owed.append(condition(clause))
             continue
         if is_word(it, "ghost"):
             drop_heading(out)
@@ -202,6 +203,16 @@ def erase_contracts(items):
             out.append(it)
         i += 1
     return out
+
+
+def with_panics(items, keyword, owed):
+    """Says in a function's docs, if it has any, where it panics."""
+    docs = [i for i in range(heading_start(items, keyword), keyword) if items[i].kind == "doc"]
+    if not docs:
+        return items
+    asked = " and ".join(f"`{one}`" for one in owed)
+    lines = parse(f"\n///\n/// # Panics\n///\n/// Unless {asked}.")
+    return items[:docs[-1] + 1] + lines + items[docs[-1] + 1:]
 
 
 def erase_attributes(items):

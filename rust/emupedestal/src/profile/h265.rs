@@ -95,6 +95,6 @@ profile_tier_level! {
     /// ```
     H265ProfileTierLevel { profile: H265Profile, tier: H265Tier, level: H265Level },
     fallback: (Main, Main, Level3_1),
-    known: known::h26x_h265_is_known,
+    known: known::h265_is_known,
     section: "RFC 7798, 7.1",
 }

@@ -91,6 +91,6 @@ profile_tier_level! {
     /// ```
     H266ProfileTierLevel { profile: H266Profile, tier: H266Tier, level: H266Level },
     fallback: (Main10, Main, Level3_1),
-    known: known::h26x_h266_is_known,
+    known: known::h266_is_known,
     section: "RFC 9328, 7.2",
 }

@@ -1,7 +1,7 @@
 //! Profiles and levels out of SDP. What is wanted was taken from the tables of the RFCs and of the
 //! standards' Annex A.
 
-use crate::known::{h26x_h265_is_known, h26x_h266_is_known};
+use crate::known::{h265_is_known, h266_is_known};
 use crate::{
     H264LevelIdc, H264Profile, H264ProfileIdc, H264ProfileLevel, H265Level, H265Profile,
     H265ProfileTierLevel, H265Tier, H266Level, H266Profile, H266ProfileTierLevel, H266Tier,
@@ -277,17 +277,17 @@ fn parameters_of_a_format() {
 fn the_library_knows_the_same_numbers() {
     for n in 0..=u8::MAX {
         let profile = H265Profile::from_id(n).map(H265Profile::to_id);
-        assert_eq!(profile, h26x_h265_is_known(n, 0, 93).then_some(n));
+        assert_eq!(profile, h265_is_known(n, 0, 93).then_some(n));
         let tier = H265Tier::from_flag(n).map(H265Tier::to_flag);
-        assert_eq!(tier, h26x_h265_is_known(1, n, 93).then_some(n));
+        assert_eq!(tier, h265_is_known(1, n, 93).then_some(n));
         let level = H265Level::from_id(n).map(H265Level::to_id);
-        assert_eq!(level, h26x_h265_is_known(1, 0, n).then_some(n));
+        assert_eq!(level, h265_is_known(1, 0, n).then_some(n));
 
         let profile = H266Profile::from_id(n).map(H266Profile::to_id);
-        assert_eq!(profile, h26x_h266_is_known(n, 0, 51).then_some(n));
+        assert_eq!(profile, h266_is_known(n, 0, 51).then_some(n));
         let tier = H266Tier::from_flag(n).map(H266Tier::to_flag);
-        assert_eq!(tier, h26x_h266_is_known(1, n, 51).then_some(n));
+        assert_eq!(tier, h266_is_known(1, n, 51).then_some(n));
         let level = H266Level::from_id(n).map(H266Level::to_id);
-        assert_eq!(level, h26x_h266_is_known(1, 0, n).then_some(n));
+        assert_eq!(level, h266_is_known(1, 0, n).then_some(n));
     }
 }

@@ -4,6 +4,10 @@
 
 /// The first byte of a header with this F and this type; the highest bit of the layer is that of
 /// another first byte (RFC 7798, 1.1.4).
+///
+/// # Panics
+///
+/// Unless `f < 2` and `nalu_type < 64`.
 pub fn high_byte(f: u8, nalu_type: u8, layer_of: u8) -> u8 {
     assert!(f < 2);
     assert!(nalu_type < 64);

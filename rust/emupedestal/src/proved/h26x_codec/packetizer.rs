@@ -67,6 +67,10 @@ impl CodecPacketizer {
 
     /// Sets the largest packet size of H.265 and H.266, in bytes, 4 or more: no packet of a later
     /// call is longer. For H.264 and a packetizer in a box it changes nothing. It takes no memory.
+    ///
+    /// # Panics
+    ///
+    /// Unless `4 <= n`.
     pub fn with_max_packet_size(&mut self, n: u16) {
         assert!(4 <= n);
         match self {

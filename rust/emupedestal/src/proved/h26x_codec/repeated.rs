@@ -115,6 +115,10 @@ fn again_with(
 /// refusal of the first packet of `first` that a depacketizer refuses. Where packets can carry each
 /// unit sent, none is dropped for its size and, for H.264 and H.265, none but the last ends in a zero
 /// byte, `second` is `first`.
+///
+/// # Panics
+///
+/// Unless `4 <= max_packet_size`.
 pub fn again(
     codec: Codec,
     donl: bool,

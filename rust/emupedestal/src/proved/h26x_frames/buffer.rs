@@ -83,6 +83,10 @@ impl ReorderBuffer {
     ///
     /// Of a stream that begins, packets are held until a window of them has come, since those sent
     /// before the first that came may still come.
+    ///
+    /// # Panics
+    ///
+    /// Unless `0 < window` and `window <= 16384`.
     pub fn new(window: u16) -> Self {
         assert!(0 < window);
         assert!(window <= 16384);

@@ -19,6 +19,10 @@ use alloc::vec::Vec;
 ///
 /// Room for the packets and the answers is taken first; where there is none the error is
 /// `OutOfMemory`, and nothing was taken.
+///
+/// # Panics
+///
+/// Unless `0 < window` and `window <= 16384`.
 pub fn receive_frames<D: RunDepacketizer>(
     receiver: &mut FrameReceiver<D>,
     window: u16,

@@ -398,6 +398,10 @@ impl<C: DonlFormat> PayloadPacketizer<C> {
 
     /// Sets the largest packet size, in bytes, 4 or more: no packet of a later call is longer. It
     /// is 1200 at first.
+    ///
+    /// # Panics
+    ///
+    /// Unless `4 <= n`.
     pub fn with_max_packet_size(&mut self, n: u16) {
         assert!(4 <= n);
         self.max_packet_size = n;
