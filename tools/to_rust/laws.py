@@ -8,8 +8,8 @@ values; one that does more stops the translation.
 
 import re
 
-from .tree import (Function, Refused, after, at, bare, bare_words, commas, drop_heading, functions, is_among,
-                   is_group, is_sign, is_trivia, is_word, joined, Group)
+from .tree import (Function, Group, Refused, after, at, bare, bare_words, before, commas, drop_heading, functions,
+                   is_among, is_group, is_sign, is_trivia, is_word, joined)
 
 
 def is_law(function):
@@ -23,10 +23,23 @@ def laws_among(files):
     laws = {f.name for f in every if is_law(f)} - {f.name for f in every if not is_law(f)}
     texts = [bare_words(items) for items in files]
     aliases = {alias for text in texts for name, alias in re.findall(r"(\w+) as (\w+)", text) if name in laws}
+    methods = {f.name for f in every if re.search(r"\bself\b", bare(f.parameters.items))}
+    for items in files:
+        check_methods(items, laws - methods)
     for function in every:
         if function.name in laws:
             check_law(function, laws | aliases)
     return laws
+
+
+def check_methods(items, laws):
+    """Refuses the call of a method that has the name of a law that is none: it would be dropped with the law's."""
+    for i, it in enumerate(items):
+        if it.kind == "group":
+            check_methods(it.items, laws)
+        elif is_among(it, laws) and is_sign(at(items, before(items, i)), ".") \
+                and is_group(at(items, after(items, i)), "("):
+            raise Refused(f"a method by the name of the law {it.text}")
 
 
 def check_law(function, laws):
