@@ -95,8 +95,8 @@ pub trait Depacketizer: fmt::Debug {
     ///
     /// The data of an open unit (the reassembly buffer): there is no limit, so a peer that starts a
     /// unit and never ends it makes the buffer as long as all that it sends. It is kept for later
-    /// units, as large as the longest so far, and so are two buffers for what a packet completed and
-    /// `out` had no room for. `give_up_run` frees the first; a `SequencedDepacketizer` has a limit.
+    /// units, as large as the longest so far. `give_up_run` frees it; a `SequencedDepacketizer` has a
+    /// limit.
     fn depacketize(
         &mut self,
         packet: &[u8],

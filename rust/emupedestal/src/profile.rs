@@ -1,4 +1,4 @@
-//! Profiles and levels out of SDP. Which numbers are known, the library says.
+//! Profiles and levels out of SDP. Which numbers are known, the proved modules say.
 
 mod h264;
 mod h265;

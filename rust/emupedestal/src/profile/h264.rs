@@ -44,7 +44,7 @@ pub enum H264Profile {
 }
 
 impl H264Profile {
-    /// The profile with this number in `h26x.h`, which is its place.
+    /// The profile at this place of the list.
     fn at(place: u8) -> Option<Self> {
         use H264Profile::*;
         let all = [

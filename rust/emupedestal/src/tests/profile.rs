@@ -272,9 +272,9 @@ fn parameters_of_a_format() {
     }
 }
 
-/// The crate names just the numbers that the library knows, and gives each back.
+/// The crate names just the numbers that the proved modules know, and gives each back.
 #[test]
-fn the_library_knows_the_same_numbers() {
+fn the_proved_modules_know_the_same_numbers() {
     for n in 0..=u8::MAX {
         let profile = H265Profile::from_id(n).map(H265Profile::to_id);
         assert_eq!(profile, h265_is_known(n, 0, 93).then_some(n));

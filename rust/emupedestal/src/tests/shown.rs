@@ -180,7 +180,7 @@ fn a_refused_packet_is_not_shown() {
     assert_ne!(end.payload(), &before);
 }
 
-/// It is copied out of the library once, whatever is asked of it, and by each of its copies again.
+/// It stays where it is until then, and a copy of the end has its own.
 #[test]
 fn what_is_shown_is_kept_until_the_next_packet() {
     let mut end = H265Depacketizer::default();
