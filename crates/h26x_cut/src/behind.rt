@@ -13,7 +13,7 @@ const PATIENCE: usize = 2;
 
 /// How many runs of places are tested for two zeros before whole start codes are searched for, and one
 /// more for each `NEAR` bytes before them.
-const RUNS: usize = 16;
+const RUNS: usize = 4;
 
 /// How many bytes pay for one more try, so that a large unit isn't searched by another way for some
 /// bytes at its begin.
