@@ -16,6 +16,14 @@ def functions(text):
     return found
 
 
+def first_of_item(text, line):
+    """The first line of the attributes and comments right above a function, or its own."""
+    lines = text.split("\n")
+    while line > 1 and lines[line - 2].strip() and not re.search(r"[{};]$", lines[line - 2]):
+        line -= 1
+    return line
+
+
 def last_line(lines, at, indent):
     one_line = re.compile(rf"{indent}\S.*(;|\{{.*\}})$|{indent}\{{.*\}}$")
     while at < len(lines) - 1:

@@ -4,12 +4,15 @@ import dataclasses
 import re
 
 GOAL = re.compile(r"note: (?:\./)?(src/\S+?):(\d+):\d+: it is not proved that (.*?) \(`([^`]+)`\)(.*)")
-IN_PROOF = re.compile(r"(?:\./)?proofs/(\S+)/(\w+)\.antt:(\d+):\d+: error: (.*)")
+# (what an error says may go on in the next line)
+IN_PROOF = re.compile(r"(?:\./)?proofs/(\S+)/(\w+)\.antt:(\d+):\d+: error: (.*(?:\n  .*)?)")
 # What says no more than that a proof names what the edit took away, or that it can't be read so.
 NAMES = re.compile(
     r"has no field|is not in scope|has no `|was not admitted|is no name|operand is missing"
     r"|expected the end|cannot continue|no goal"
 )
+# What says no more than that an answer cites another call of the same function than the goal is of.
+STEPS = re.compile(r"one has `c\.([\w-]+?)(?:-\d+)?((?:\.\w+)*)` .*the other has `c\.\1(?:-\d+)?\2`")
 ENDED = re.compile(r"^only=\d+ (?:proved|holes)=\d+$", re.M)
 
 
@@ -55,7 +58,9 @@ def proof_errors(said, target):
     answers, names = [], []
     for folder, file, line, text in IN_PROOF.findall(said):
         if target.is_named(folder.replace("/", "::")):
-            is_answer = file in ("Answers", "Proof") and not NAMES.search(text)
+            text = re.sub(r"\s+", " ", text)
+            is_shape = NAMES.search(text) or STEPS.search(text)
+            is_answer = file in ("Answers", "Proof") and not is_shape
             goal, _, why = text.partition(": ")
             (answers if is_answer else names).append(f"{goal} ({file}.antt:{line}): {why}")
     return answers, names
