@@ -18,6 +18,8 @@ mod carry;
 #[cfg(test)]
 mod codec;
 #[cfg(test)]
+mod drawn;
+#[cfg(test)]
 mod ends;
 #[cfg(test)]
 mod h264;
