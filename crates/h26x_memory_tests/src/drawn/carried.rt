@@ -16,7 +16,7 @@ fn calls(
 ) -> Result<Vec<(usize, Vec<u8>)>, PacketError> {
     let mut calls = Vec::new(alloc);
     for _ in 0..12 {
-        let mut payload = Vec::new(alloc);
+        let mut payload = Vec::with_capacity(alloc, 100)?;
         payload.extend_from_slice(&[0, 0, 0, 1])?;
         payload.extend_from_slice(format.kind(is_key).header)?;
         for _ in 0..2 + draws.below(90) {

@@ -155,14 +155,15 @@ impl PlainReceiver {
     }
 }
 
-/// A receiver, its plain form, the number that is next, and whether the latest unit begun is a key
-/// unit.
+/// A receiver, its plain form, the latest packet, the number that is next, and whether the latest unit
+/// begun is a key unit.
 #[derive(Drop)]
 struct Receivers {
     it: SequencedDepacketizer<AnyDepacketizer>,
     out: Vec<u8>,
     told: CodecExtra,
     plain: PlainReceiver,
+    packet: Vec<u8>,
     next: u16,
     is_key: bool,
 }
@@ -180,13 +181,29 @@ impl Receivers {
                 out: Vec::new(alloc),
                 told: CodecExtra::None,
             },
+            packet: Vec::new(alloc),
             next: 65_500,
             is_key: false,
         }
     }
 
-    /// Gives a packet, and compares the answer, and what was written and told.
+    /// Compares an answer, and what was written and told.
     fn compare(
+        &self,
+        rt: &impl Abort,
+        got: Result<Received, PacketError>,
+        want: Result<Received, PacketError>,
+    ) -> Result<(), PacketError> {
+        if got == Err(PacketError::OutOfMemory) {
+            return Err(PacketError::OutOfMemory);
+        }
+        assert!(rt; got == want);
+        assert!(rt; self.out == self.plain.out && self.told == self.plain.told);
+        Ok(())
+    }
+
+    /// Gives a packet that isn't taken, and compares.
+    fn give(
         &mut self,
         rt: &impl Abort,
         number: u16,
@@ -196,53 +213,52 @@ impl Receivers {
         let got = self
             .it
             .receive(number, packet, &mut self.out, &mut self.told);
-        if got == Err(PacketError::OutOfMemory) {
-            return Err(PacketError::OutOfMemory);
-        }
-        assert!(rt; got == want);
-        assert!(rt; self.out == self.plain.out && self.told == self.plain.told);
-        Ok(())
+        self.compare(rt, got, want)
     }
 }
 
-/// Gives a drawn fragment, behind some that are lost.
+/// Gives a drawn fragment, behind some that are lost, and compares.
 fn give_fragment(
     rt: &impl Abort,
-    alloc: Global,
     format: &Format,
     draws: &mut Draws,
     it: &mut Receivers,
 ) -> Result<(), PacketError> {
-    let missing = draws.below(16).saturating_sub(13) as u16;
+    let missing = match it.it.expected {
+        None => 0,
+        Some(_) => draws.below(16).saturating_sub(13) as u16,
+    };
     let marks = [START, END, 0, 0][draws.below(4) as usize];
     if marks == START {
         it.is_key = draws.below(3) == 0;
     }
     let is_key = it.is_key;
-    let mut packet = Vec::new(alloc);
-    packet.extend_from_slice(format.head)?;
-    packet.push(marks | format.kind(is_key).unit_type)?;
+    it.packet.clear();
+    it.packet.extend_from_slice(format.head)?;
+    it.packet.push(marks | format.kind(is_key).unit_type)?;
     let data = [draws.below(256) as u8; 40];
     let data = &data[..1 + draws.below(40) as usize];
-    packet.extend_from_slice(data)?;
+    it.packet.extend_from_slice(data)?;
     let number = it.next.wrapping_add(missing);
     it.next = number.wrapping_add(1);
     let want = it.plain.take(format, marks, is_key, data, missing)?;
-    it.compare(rt, number, &packet, Ok(want))
+    let got = it.it.receive(number, &it.packet, &mut it.out, &mut it.told);
+    it.compare(rt, got, Ok(want))
 }
 
 /// Gives drawn packets of a codec.
 fn compare_each(rt: &impl Abort, alloc: Global, format: &Format) -> Result<(), PacketError> {
     let mut draws = Draws { state: 3 };
     let mut it = Receivers::new(alloc, format.codec);
-    it.compare(rt, 65_499, &[], Err(PacketError::ErrShortPacket))?;
+    it.give(rt, 65_499, &[], Err(PacketError::ErrShortPacket))?;
     for _ in 0..120 {
-        give_fragment(rt, alloc, format, &mut draws, &mut it)?;
+        give_fragment(rt, format, &mut draws, &mut it)?;
         let (packet, error) = &format.refused[draws.below(3) as usize];
-        it.compare(rt, it.next, packet, Err(*error))?;
+        let next = it.next;
+        it.give(rt, next, packet, Err(*error))?;
         let behind = 1 + draws.below(9) as u16;
-        let late = it.next.wrapping_sub(behind);
-        it.compare(rt, late, packet, Ok(Received::Late(behind)))?;
+        let late = next.wrapping_sub(behind);
+        it.give(rt, late, packet, Ok(Received::Late(behind)))?;
     }
     Ok(())
 }
