@@ -32,7 +32,7 @@ pub(crate) struct Format {
     pub(crate) head: &'static [u8],
     pub(crate) other: UnitKind,
     pub(crate) key: UnitKind,
-    pub(crate) refused: [(&'static [u8], PacketError); 3],
+    pub(crate) refused: &'static [(&'static [u8], PacketError)],
 }
 
 pub(crate) static FORMATS: [Format; 3] = [
@@ -49,7 +49,7 @@ pub(crate) static FORMATS: [Format; 3] = [
             header: &[0x65],
             told: CodecExtra::H264(H264CodecExtra { is_keyframe: true }),
         },
-        refused: [
+        refused: &[
             (&[0x7c], PacketError::ErrShortPacket),
             (&[0x7f, 1], PacketError::NaluTypeIsNotHandled(31)),
             (
@@ -71,7 +71,7 @@ pub(crate) static FORMATS: [Format; 3] = [
             header: &[0x26, 1],
             told: CodecExtra::H265(H265CodecExtra { is_keyframe: true }),
         },
-        refused: [
+        refused: &[
             (&[0x62, 1, 0x93], PacketError::ErrShortPacket),
             (&[0x82, 1, 0xaa], PacketError::ErrH265CorruptedPacket),
             (&[], PacketError::ErrShortPacket),
@@ -90,7 +90,7 @@ pub(crate) static FORMATS: [Format; 3] = [
             header: &[0, 0x39],
             told: CodecExtra::H266(H266CodecExtra { is_keyframe: true }),
         },
-        refused: [
+        refused: &[
             (&[0, 0xe9], PacketError::ErrShortPacket),
             (&[0x80, 1, 0xaa, 0xbb], PacketError::ErrH266CorruptedPacket),
             (&[0, 9], PacketError::ErrShortPacket),
@@ -253,12 +253,12 @@ fn compare_each(rt: &impl Abort, alloc: Global, format: &Format) -> Result<(), P
     it.give(rt, 65_499, &[], Err(PacketError::ErrShortPacket))?;
     for _ in 0..120 {
         give_fragment(rt, format, &mut draws, &mut it)?;
-        let (packet, error) = &format.refused[draws.below(3) as usize];
-        let next = it.next;
-        it.give(rt, next, packet, Err(*error))?;
         let behind = 1 + draws.below(9) as u16;
-        let late = next.wrapping_sub(behind);
-        it.give(rt, late, packet, Ok(Received::Late(behind)))?;
+        let (next, late) = (it.next, it.next.wrapping_sub(behind));
+        for (packet, error) in format.refused {
+            it.give(rt, next, packet, Err(*error))?;
+            it.give(rt, late, packet, Ok(Received::Late(behind)))?;
+        }
     }
     Ok(())
 }
