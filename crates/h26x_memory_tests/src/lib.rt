@@ -5,6 +5,7 @@
 //! are, nothing is refused. A test whose name ends in `_at_once` makes no call again, and has to
 //! fail where one of its requests is refused; one whose name ends in `_no_memory` makes no request.
 //! Every other makes one or more, and has to pass.
+//! Those of `drawn` compare all answers with plain models.
 #![tactic(auto)]
 
 #[cfg(test)]
@@ -17,6 +18,8 @@ mod buffer;
 mod carry;
 #[cfg(test)]
 mod codec;
+#[cfg(test)]
+mod drawn;
 #[cfg(test)]
 mod ends;
 #[cfg(test)]

@@ -112,6 +112,34 @@ fn packets_reordered_in_two_parts_at_once(rt: HostRuntime) -> Result<(), PacketE
     reorder_parted(&rt, rt.alloc(), Tries::Once)
 }
 
+/// Packets behind a full back, while the front has room: where memory lacks for the back, both parts
+/// are joined in the front, and the packet is held at once. It has no bytes, so that memory is asked
+/// for the back alone.
+#[test]
+fn packets_behind_a_full_back_again(rt: HostRuntime) -> Result<(), PacketError> {
+    let mut buffer = ReorderBuffer::new(rt.alloc(), 1024);
+    for numbers in [0..40, 200..233, 40..81] {
+        for number in numbers {
+            push(&rt, Tries::Twice, &mut buffer, number, Pushed::Held)?;
+        }
+    }
+    for sequence in 233..260 {
+        let packet = RtpPacket {
+            payload: &[],
+            ..packet_of(sequence)
+        };
+        assert!(&rt; buffer.push(&packet)? == Pushed::Held);
+    }
+    for numbers in [0..81, 200..260] {
+        for number in numbers {
+            let held = buffer.pop_first();
+            assert!(&rt; held.map(|held| held.sequence) == Some(number));
+        }
+    }
+    assert!(&rt; buffer.is_empty());
+    Ok(())
+}
+
 /// A list in another order, with a loss and one that comes twice.
 #[test]
 fn a_list_reordered_again(rt: HostRuntime) -> Result<(), PacketError> {

@@ -1,3 +1,4 @@
 pub mod DigitLemmas
 pub mod TableLemmas
 pub mod TextLemmas
+pub mod WrittenLemmas

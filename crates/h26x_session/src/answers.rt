@@ -1,6 +1,8 @@
 //! The answers to the program's lines, as text.
 
-ghost use Rattle.std.specs.Prelude.{◌≤◌, length};
+ghost use Rattle.std.specs.Prelude.{◌≤◌, length, OnOk};
+ghost use Rattle.std.specs.Io.KnownBytes.{Appends};
+ghost use Rattle.hex.specs.Hex.{encode_lower};
 
 use crate::session::RunError;
 use crate::to_digits::write_lower;
@@ -8,6 +10,7 @@ use h26x_codec::Carried;
 use h26x_core::{CodecExtra, PacketError};
 use std::alloc::Global;
 use std::io::{BufWriter, Write};
+use std::marker::Model;
 
 /// How many bytes are written as digits at a time.
 const CHUNK: usize = 256;
@@ -16,6 +19,17 @@ const CHUNK: usize = 256;
 #[derive(Drop)]
 pub struct Answers<W: Write + Drop> {
     writer: BufWriter<W>,
+}
+
+/// Contracts see the bytes that were written, where the writer says which it holds.
+impl<W: Write + Drop> Model for Answers<W> {
+    ghost use Rattle.std.specs.Prelude.{ℕ, List};
+    ghost use Rattle.std.specs.Io.Buffered.{writer_contents};
+    ghost use Rattle.std.specs.declared.option.Option.{Option};
+
+    ghost Value = { Option (List ℕ) };
+
+    ghost view = { λ answers. writer_contents W.contents answers.writer };
 }
 
 impl<W: Write + Drop> Answers<W> {
@@ -136,6 +150,7 @@ impl<W: Write + Drop> Answers<W> {
     /// Writes at most `CHUNK` bytes by two digits each.
     fn write_digits(&mut self, bytes: &[u8]) -> Result<(), RunError>
         requires { length bytes.now ≤ 256 }
+        ensures { OnOk result (Appends self.old self.new (encode_lower bytes.now)) }
     {
         let mut digits = [0; 2 * CHUNK];
         let digits = &mut digits[..2 * bytes.len()];
@@ -143,7 +158,10 @@ impl<W: Write + Drop> Answers<W> {
         self.write(digits)
     }
 
-    fn write(&mut self, text: &[u8]) -> Result<(), RunError> {
+    /// Writes a text as it is.
+    fn write(&mut self, text: &[u8]) -> Result<(), RunError>
+        ensures { OnOk result (Appends self.old self.new text.now) }
+    {
         self.writer.write_all(text).map_err(|_| RunError::Write)
     }
 }

@@ -3,8 +3,10 @@
 #![tactic(auto)]
 
 pub mod answers;
+mod cases;
 pub mod digits;
 mod from_digits;
+pub mod laws;
 mod line;
 mod session;
 mod settings;

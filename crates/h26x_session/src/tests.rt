@@ -90,6 +90,13 @@ fn each_byte_stands_at_each_place(rt: HostRuntime) -> Result<(), Fail> {
     Ok(())
 }
 
+/// A text of more digits than a number of two bytes counts.
+#[test]
+fn a_long_text_is_read_as_the_crate_hex_reads_it(rt: HostRuntime) -> Result<(), Fail> {
+    let text = text_of(rt.alloc(), 300_000)?;
+    Readers::new().compare(&rt, rt.alloc(), &text)
+}
+
 #[test]
 fn bytes_are_written_as_the_crate_hex_writes_them(rt: HostRuntime) -> Result<(), Fail> {
     let mut bytes = Vec::new(rt.alloc());

@@ -1,0 +1,108 @@
+"""Where functions stand in a source file, and how the prover names them."""
+
+import re
+
+HEAD = re.compile(r'(\s*)(?:pub(?:\([^)]*\))? )?(?:const )?(?:unsafe )?(?:extern "C" )?fn (\w+)')
+OUTER = re.compile(r"\s*(?:pub(?:\(.*\))? )?(?:(?:unsafe )?(impl)\b|(?:trait|mod) (\w+))")
+
+
+def functions(text):
+    """The first and the last line of each function, counted from 1, as `rt fmt` lays them out."""
+    lines, found = text.split("\n"), []
+    for at, line in enumerate(lines):
+        head = HEAD.match(line)
+        if head:
+            found.append((at + 1, last_line(lines, at, head[1]) + 1))
+    return found
+
+
+def first_of_item(text, line):
+    """The first line of the attributes and comments right above a function, or its own."""
+    lines = text.split("\n")
+    while line > 1 and lines[line - 2].strip() and not re.search(r"[{};]$", lines[line - 2]):
+        line -= 1
+    return line
+
+
+def last_line(lines, at, indent):
+    one_line = re.compile(rf"{indent}\S.*(;|\{{.*\}})$|{indent}\{{.*\}}$")
+    while at < len(lines) - 1:
+        if lines[at].startswith(f"{indent}}}") or one_line.match(lines[at]):
+            break
+        at += 1
+    return at
+
+
+def function_at(text, place):
+    """Which of the file's functions a place stands in, counted from 0: the innermost, or None."""
+    line = text.count("\n", 0, place) + 1
+    around = [n for n, (first, last) in enumerate(functions(text)) if first <= line <= last]
+    return around[-1] if around else None
+
+
+def path_of(file, text, line):
+    """The path below its crate of the function that begins in this line of a file."""
+    lines = text.split("\n")
+    head = HEAD.match(lines[line - 1])
+    indent, inside = len(head[1]), []
+    for at in range(line - 2, -1, -1):
+        its = len(lines[at]) - len(lines[at].lstrip())
+        outer = OUTER.match(lines[at]) if lines[at].strip() and its < indent else None
+        if outer:
+            inside.insert(0, name_of_impl(head_of(lines, at)) if outer[1] else outer[2])
+            indent = its
+    modules = file[len("src/") : -len(".rt")].split("/")
+    modules = [] if modules in (["lib"], ["main"]) else modules
+    return "::".join([*modules, *inside, head[2]])
+
+
+def head_of(lines, at):
+    """The lines of an impl as far as its brace, as one."""
+    end = at
+    while "{" not in lines[end]:
+        end += 1
+    return " ".join(it.strip() for it in lines[at : end + 1])
+
+
+def name_of_impl(head):
+    """How the prover names an impl: by its type, behind which its trait stands."""
+    head = re.sub(r"^(unsafe )?impl\s*", "", head)
+    if head.startswith("<"):
+        head = head[closing(head) + 1 :].strip()
+    head = re.split(r"\bwhere\b|\{", head)[0].strip()
+    trait, has_trait, type_of = parted_at_for(head)
+    first = re.compile(r"[&\s]*(?:mut )?(?:\w+::)*(\w+)")
+    if not has_trait:
+        return first.match(head)[1]
+    return first.match(type_of)[1] + words_of(trait)
+
+
+def closing(text):
+    """Where the bracket ends with which a text begins."""
+    depth = 0
+    for at, sign in enumerate(text):
+        depth += (sign == "<") - (sign == ">" and text[at - 1] != "-")
+        if not depth:
+            return at
+    return len(text) - 1
+
+
+def parted_at_for(head):
+    """What stands before the ` for ` outside of brackets, whether there is one, and what behind it."""
+    depth = 0
+    for at, sign in enumerate(head):
+        depth += (sign == "<") - (sign == ">" and head[at - 1] != "-")
+        if not depth and head.startswith(" for ", at):
+            return head[:at], True, head[at + len(" for ") :]
+    return head, False, ""
+
+
+def words_of(trait):
+    """The words of a trait in the prover's name of an impl, without the types' own parameters."""
+    names = re.sub(r"\w+::|'\w+", "", trait)
+    names = re.sub(r"<(\w+)<.*>>$", r"<\1>", names)
+    tuple_of = re.search(r"\((.*)\)", names)
+    if tuple_of:
+        count = tuple_of[1].count(",") + 1
+        names = names.replace(tuple_of[0], f"Tuple{count} {tuple_of[1]}")
+    return "".join(it[0].upper() + it[1:] for it in re.findall(r"\w+", names))
