@@ -93,7 +93,7 @@ fn laid(
 }
 
 /// The packets of a buffer, one after the other.
-fn packets_of(alloc: Global, buffer: &PacketBuffer) -> Result<Vec<Vec<u8>>, AllocError> {
+pub(crate) fn packets_of(alloc: Global, buffer: &PacketBuffer) -> Result<Vec<Vec<u8>>, AllocError> {
     let mut packets = Vec::new(alloc);
     for packet in buffer.iter() {
         packets.push(packet.to_vec(alloc)?)?;
@@ -117,6 +117,18 @@ fn headed_packets(alloc: Global, buffer: &PacketBuffer) -> Result<Vec<Vec<u8>>, 
         packets.push(buffer.with_headroom(place).to_vec(alloc)?)?;
     }
     Ok(packets)
+}
+
+/// Whether these packets lie in a buffer as they should.
+pub(crate) fn lie_well(
+    alloc: Global,
+    buffer: &PacketBuffer,
+    packets: &[Vec<u8>],
+) -> Result<bool, AllocError> {
+    let (bytes, ends) = laid(alloc, buffer.headroom(), packets)?;
+    let lie = (buffer.bytes(), buffer.ends(), buffer.is_empty());
+    let want = (bytes.as_slice(), ends.as_slice(), packets.is_empty());
+    Ok(lie == want && packets_by_place(alloc, buffer)?.as_slice() == packets)
 }
 
 /// A buffer to which nothing but packets was written has these, and they lie in it as they should.

@@ -155,7 +155,7 @@ pub(crate) fn sends_long<P: Packetizer>(
 }
 
 /// Hands packets to a depacketizer.
-fn hand<D: Depacketizer>(
+pub(crate) fn hand<D: Depacketizer>(
     depacketizer: &mut D,
     packets: &[Vec<u8>],
     out: &mut Vec<u8>,
@@ -208,7 +208,7 @@ pub(crate) fn writes_once<D: Depacketizer>(
 }
 
 /// What was told before a packet that is refused.
-const STOOD: CodecExtra = CodecExtra::H264(H264CodecExtra { is_keyframe: true });
+pub(crate) const STOOD: CodecExtra = CodecExtra::H264(H264CodecExtra { is_keyframe: true });
 
 /// What a packet is answered, and whether what was written and told stands.
 fn answer<D: Depacketizer>(
