@@ -19,12 +19,22 @@ fn packets_in_a_list(rt: HostRuntime) -> Result<(), Fail> {
 
 #[test]
 fn packets_in_a_buffer(rt: HostRuntime) -> Result<(), Fail> {
-    walk(&rt, rt.alloc(), &mut Sender::new(rt.alloc(), Way::Buffer(0)), SENDING)
+    walk(
+        &rt,
+        rt.alloc(),
+        &mut Sender::new(rt.alloc(), Way::Buffer(0)),
+        SENDING,
+    )
 }
 
 #[test]
 fn packets_behind_headroom(rt: HostRuntime) -> Result<(), Fail> {
-    walk(&rt, rt.alloc(), &mut Sender::new(rt.alloc(), Way::Buffer(12)), SENDING)
+    walk(
+        &rt,
+        rt.alloc(),
+        &mut Sender::new(rt.alloc(), Way::Buffer(12)),
+        SENDING,
+    )
 }
 
 #[test]

@@ -1,8 +1,9 @@
 //! Rows as text, from outside: a line is a call and what comes of it.
 //!
-//! Words stand between single spaces: the call's name, what it is given, `=`, and its answer. A line
-//! that begins with `#` is for the reader. Bytes have two hexadecimal digits each and `-` stands for
-//! none; `+` joins parts, `aa*3` is `aa` three times, and `3:aabb` stands for three packets `aabb`.
+//! Words stand between single spaces: the call's name, what it is given, `=`, and its answer. A
+//! line that begins with `#` is for the reader. Bytes have two hexadecimal digits each and `-`
+//! stands for none; `+` joins parts, `aa*3` is `aa` three times, and `3:aabb` stands for three
+//! packets `aabb`.
 //!
 //! A row costs no proof: what is proved is how a line is read and done.
 

@@ -3,8 +3,13 @@
 /// Packets, what is written and told of them, and what is told of a packet alone.
 #[rattlefmt::skip]
 pub(super) const RECEIVING: &str = "\
-# A call a line, with what comes of it behind `=`. Bytes are in hexadecimal, `-` for none; `+` joins
-# parts, `aa*3` is `aa` three times, `3:aabb` is three packets `aabb`.
+# A call a line, with what comes of it behind `=`. Bytes are in hexadecimal, `-` for none; `+`
+# joins parts, `aa*3` is `aa` three times, `3:aabb` is three packets `aabb`.
+# `depacketizer`: makes one of a codec, with settings, that has taken packets. `take`: what is
+# written of packets together, and told. `refuse`: why a packet is refused, which leaves what was
+# written and told, and the state. `like`: whether it is the same as one that is made so. `copy`:
+# goes on with a copy. `marked-tail`: whether a packet with the marker is the last of an access
+# unit.
 depacketizer h264
 take 78000f6742c01f1a323501407a403c2211a80005681a34e3c800 = \
     000000016742c01f1a323501407a403c2211a800000001681a34e3c8 no-key

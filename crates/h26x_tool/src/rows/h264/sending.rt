@@ -3,8 +3,10 @@
 /// Payloads, units as they are, and their packets, in a list or in a buffer.
 #[rattlefmt::skip]
 pub(super) const SENDING: &str = "\
-# A call a line, with what comes of it behind `=`. Bytes are in hexadecimal, `-` for none; `+` joins
-# parts, `aa*3` is `aa` three times, `3:aabb` is three packets `aabb`.
+# A call a line, with what comes of it behind `=`. Bytes are in hexadecimal, `-` for none; `+`
+# joins parts, `aa*3` is `aa` three times, `3:aabb` is three packets `aabb`.
+# `packetizer`: makes one of a codec, with numbers or without. `pack`: the packets of a payload
+# within a limit; `unit`: those of a unit as it is.
 packetizer h264
 pack 5 00000100010203040506070809101112131415 = 1c80010203 1c00040506 1c00070809 1c00101112 \
     1c40131415
@@ -95,8 +97,12 @@ unit 2 65010203 =
 /// Long payloads, limits, copies and the marker.
 #[rattlefmt::skip]
 pub(super) const LONG: &str = "\
-# A call a line, with what comes of it behind `=`. Bytes are in hexadecimal, `-` for none; `+` joins
-# parts, `aa*3` is `aa` three times, `3:aabb` is three packets `aabb`.
+# A call a line, with what comes of it behind `=`. Bytes are in hexadecimal, `-` for none; `+`
+# joins parts, `aa*3` is `aa` three times, `3:aabb` is three packets `aabb`.
+# `packetizer`: makes one of a codec, with numbers or without. `pack`: the packets of a payload
+# within a limit; `count`: how many they are, if none is longer; `repeat`: those of the last of so
+# many times. `copy`: goes on with a copy; `other`: goes on with the one before. `alike`: whether
+# the payload and then the unit go to a buffer as the other lists the unit and then the payload.
 packetizer h264
 count 0 6501020304050607 = 0
 count 1 6501020304050607 = 0

@@ -7,9 +7,6 @@ use crate::rows::buffers::{Appends, How, lie_well, packets_of};
 use h26x_codec::{Codec, CodecPacketizer};
 use h26x_core::{PacketError, Packetizer};
 use h26x_payload::PacketBuffer;
-use h264_payload::H264Packetizer;
-use h265_payload::H265Packetizer;
-use h266_payload::H266Packetizer;
 use std::alloc::{AllocError, Global};
 use std::mem;
 use std::test::Fail;
@@ -34,8 +31,13 @@ pub(crate) struct Sender {
 
 impl Sender {
     pub(crate) fn new(alloc: Global, way: Way) -> Self {
+        Sender::of_packetizer(alloc, CodecPacketizer::new(alloc, Codec::H264), way)
+    }
+
+    /// One that begins with this packetizer.
+    pub(crate) fn of_packetizer(alloc: Global, packetizer: CodecPacketizer, way: Way) -> Self {
         Sender {
-            packetizer: CodecPacketizer::new(alloc, Codec::H264),
+            packetizer,
             other: CodecPacketizer::new(alloc, Codec::H264),
             buffer: empty(alloc, way),
             way,
@@ -85,7 +87,7 @@ impl Sender {
     fn count(&mut self, alloc: Global, limit: &str, bytes: &str) -> Result<String, Fail> {
         let sent = self.send(alloc, How::Payload, limit, bytes)?;
         let longest = number(limit)?;
-        if sent.iter().any(|packet| packet.len() > longest) {
+        if !are_within(&sent, longest) {
             return Ok("longer".to_string(alloc)?);
         }
         Ok(format!(in alloc; "{}", sent.len())?)
@@ -154,11 +156,9 @@ impl Answers for Sender {
             ["packetizer", words @ ..] => self.begin(alloc, words)?,
             ["copy"] => self.copy()?,
             ["other"] => self.exchange(),
-            ["size", bytes] => set_size(&mut self.packetizer, number(bytes)?),
+            ["size", bytes] => set_size(&mut self.packetizer, bytes.parse::<u16>()?),
             ["configure", "none"] => self.packetizer.configure_for(None),
-            ["configure", number] => self
-                .packetizer
-                .configure_for(Some(number.parse::<u32>()?)),
+            ["configure", number] => self.packetizer.configure_for(Some(number.parse::<u32>()?)),
             _ => return self.answer_sent(alloc, call),
         }
         Ok(String::new(alloc))
@@ -174,19 +174,13 @@ fn empty(alloc: Global, way: Way) -> PacketBuffer {
 
 /// A packetizer for which nothing waits.
 fn fresh(alloc: Global, settings: Settings) -> CodecPacketizer {
-    match settings.codec {
-        Codec::H264 => CodecPacketizer::H264(H264Packetizer::new(alloc)),
-        Codec::H265 => {
-            let mut packetizer = H265Packetizer::new(alloc);
-            packetizer.with_donl(settings.numbers);
-            CodecPacketizer::H265(packetizer)
-        }
-        Codec::H266 => {
-            let mut packetizer = H266Packetizer::new(alloc);
-            packetizer.with_donl(settings.numbers);
-            CodecPacketizer::H266(packetizer)
-        }
+    let mut packetizer = CodecPacketizer::new(alloc, settings.codec);
+    match &mut packetizer {
+        CodecPacketizer::H265(it) => it.with_donl(settings.numbers),
+        CodecPacketizer::H266(it) => it.with_donl(settings.numbers),
+        CodecPacketizer::H264(_) | CodecPacketizer::Boxed(_) => {}
     }
+    packetizer
 }
 
 fn copy_of(packetizer: &CodecPacketizer) -> Result<CodecPacketizer, Fail> {
@@ -199,8 +193,18 @@ fn copy_of(packetizer: &CodecPacketizer) -> Result<CodecPacketizer, Fail> {
 }
 
 /// Sets the largest packet size, which is 4 or more.
-fn set_size(packetizer: &mut CodecPacketizer, bytes: usize) {
-    packetizer.with_max_packet_size(bytes.clamp(4, 65535) as u16);
+fn set_size(packetizer: &mut CodecPacketizer, bytes: u16) {
+    packetizer.with_max_packet_size(bytes.max(4));
+}
+
+/// Whether no packet is longer than a limit.
+fn are_within(packets: &[Vec<u8>], limit: usize) -> bool {
+    for packet in packets {
+        if packet.len() > limit {
+            return false;
+        }
+    }
+    true
 }
 
 /// The packets of bytes in a list.
@@ -246,8 +250,8 @@ fn copies(alloc: Global, packets: &[Vec<u8>]) -> Result<Vec<Vec<u8>>, AllocError
     Ok(list)
 }
 
-/// Whether one appends the packets of a payload, and then those of it as a unit, that the other sends
-/// of the unit, and then of the payload.
+/// Whether one appends the packets of a payload, and then those of it as a unit, that the other
+/// sends of the unit, and then of the payload.
 fn are_alike<P: Appends>(
     alloc: Global,
     one: &mut P,

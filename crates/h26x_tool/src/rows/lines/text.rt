@@ -61,14 +61,22 @@ pub(crate) fn push_bytes(text: &mut String, alloc: Global, bytes: &[u8]) -> Resu
     push_word(text, hex::encode(alloc, bytes)?.as_str())
 }
 
-/// The answer of a line, each word with all its digits and as often as it stands for.
+/// Writes a word of an answer with all its digits, as often as it stands for.
+fn push_wanted(text: &mut String, alloc: Global, word: &str) -> Result<(), Fail> {
+    let (times, word) = word.split_once(':').unwrap_or(("1", word));
+    let word = spelt_out(alloc, word)?;
+    for _ in 0..number(times)? {
+        push_word(text, word.as_str())?;
+    }
+    Ok(())
+}
+
+/// The answer of a line in full.
 pub(super) fn wanted(alloc: Global, want: &str) -> Result<String, Fail> {
     let mut text = String::new(alloc);
-    for word in want.split(' ').filter(|word| !word.is_empty()) {
-        let (times, word) = word.split_once(':').unwrap_or(("1", word));
-        let word = spelt_out(alloc, word)?;
-        for _ in 0..number(times)? {
-            push_word(&mut text, word.as_str())?;
+    for word in want.split(' ') {
+        if !word.is_empty() {
+            push_wanted(&mut text, alloc, word)?;
         }
     }
     Ok(text)
