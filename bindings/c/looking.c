@@ -92,6 +92,33 @@ static void check_units(struct tally *t)
     expect(t, begin == 5 && end == 6);
 }
 
+/* Whether the next unit from a place on stands there. */
+static bool is_next(uint32_t codec, const char *payload, size_t from, size_t begin, size_t end)
+{
+    struct bytes in = bytes_of(payload);
+    size_t first = 99, last = 99;
+    return h26x_next_unit(codec, in.at, in.len, from, &first, &last) && first == begin
+           && last == end;
+}
+
+/* Whether there is none, and what stood there stays. */
+static bool is_last(uint32_t codec, const char *payload, size_t from)
+{
+    struct bytes in = bytes_of(payload);
+    size_t first = 99, last = 99;
+    return !h26x_next_unit(codec, in.at, in.len, from, &first, &last) && first == 99 && last == 99;
+}
+
+static void check_places(struct tally *t)
+{
+    const char *payload = "000001 aa 00000000 01 bb";
+    expect(t, is_next(264, payload, 0, 3, 4) && is_next(264, payload, 4, 9, 10));
+    expect(t, is_next(265, payload, 0, 3, 4));
+    expect(t, is_next(266, payload, 0, 3, 5) && is_next(266, payload, 5, 9, 10));
+    expect(t, is_last(264, "000001 aa", 4) && is_last(265, "000001", 0));
+    expect(t, is_last(266, "aa", 2) && is_last(263, "aa", 0));
+}
+
 static void check_hints(struct tally *t)
 {
     expect(t, h26x_out_size_hint(0) == 4);
@@ -105,5 +132,6 @@ void check_looking(struct tally *t)
     check_heads_and_tails(t);
     check_detection(t);
     check_units(t);
+    check_places(t);
     check_hints(t);
 }

@@ -1,5 +1,5 @@
-/* What may be left out: buffers of length 0, outputs that aren't wanted, handles to be freed; and what
- * calls say in words. */
+/* What may be left out: buffers, outputs that aren't wanted, handles to be freed; and what calls say in
+ * words. */
 #include "calls.h"
 #include <stdio.h>
 #include <string.h>
@@ -31,6 +31,106 @@ static void check_empty_inputs(struct tally *t, uint32_t codec)
     h26x_packetizer_free(p);
     h26x_depacketizer_free(d);
     h26x_receiver_free(r);
+}
+
+/* Packets and payloads of NULL have length 0, whatever length is said. */
+static void check_inputs_of_null(struct tally *t, uint32_t codec, size_t len)
+{
+    h26x_packetizer p;
+    h26x_depacketizer d;
+    h26x_receiver r;
+    uint8_t to[16], extra = 0;
+    size_t ends[2], count = 9, size = 9, begin = 9, end = 9;
+    expect(t, h26x_packetizer_new(codec, false, &p) == H26X_OK);
+    expect(t, h26x_depacketizer_new(codec, false, &d) == H26X_OK);
+    expect(t, h26x_receiver_new(codec, false, false, 9, &r) == H26X_OK);
+    expect(t, h26x_packetize(&p, 1200, NULL, len, &count) == H26X_OK && count == 0);
+    count = 9;
+    expect(t, h26x_packetize_unit(&p, 1200, NULL, len, &count) == H26X_OK && count == 0);
+    count = 9;
+    expect(t, h26x_packetize_into(&p, 9, NULL, len, 0, to, 16, ends, 2, &count, &size) == H26X_OK);
+    expect(t, count == 0 && size == 0);
+    count = size = 9;
+    expect(t, h26x_packetize_unit_into(&p, 9, NULL, len, 0, to, 16, ends, 2, &count, &size) == H26X_OK);
+    expect(t, count == 0 && size == 0);
+    count = size = 9;
+    expect(t, h26x_packets_size(&p, 1200, NULL, len, 12, &count, &size) == H26X_OK);
+    expect(t, count == 0 && size == 0);
+    expect(t, h26x_depacketize(&d, true, NULL, len, to, 16, &size, &extra, NULL) == H26X_SHORT_PACKET);
+    expect(t, h26x_receive(&r, 7, NULL, len, to, 16, &size, &extra, NULL, NULL, NULL)
+                  == H26X_SHORT_PACKET);
+    expect(t, !h26x_is_partition_head(codec, NULL, len) && !h26x_detect_keyframe(codec, NULL, len));
+    expect(t, h26x_is_partition_tail(codec, true, NULL, len) == (codec == H26X_H264));
+    expect(t, !h26x_detect_h264_nalu(NULL, len, 0));
+    expect(t, !h26x_next_unit(codec, NULL, len, 0, &begin, &end) && begin == 9 && end == 9);
+    h26x_packetizer_free(p);
+    h26x_depacketizer_free(d);
+    h26x_receiver_free(r);
+}
+
+/* Memory of NULL has no room, whatever room is said. */
+static void check_memory_of_null(struct tally *t, size_t room)
+{
+    const uint8_t unit[] = {0x65, 1, 2, 3};
+    h26x_packetizer p;
+    h26x_depacketizer d;
+    h26x_receiver r;
+    uint8_t to[16] = {7};
+    size_t ends[2] = {9, 9}, size = 9;
+    expect(t, h26x_packetizer_new(H26X_H264, false, &p) == H26X_OK);
+    expect(t, h26x_packetize_into(&p, 9, unit, 4, 0, NULL, room, ends, 2, NULL, &size) == H26X_NO_ROOM);
+    expect(t, size == 4 && ends[0] == 9);
+    expect(t, h26x_packetize_into(&p, 9, unit, 4, 0, to, 16, NULL, room, NULL, NULL) == H26X_NO_ROOM);
+    expect(t, h26x_packetize_unit_into(&p, 9, unit, 4, 0, NULL, room, ends, 2, NULL, NULL)
+                  == H26X_NO_ROOM);
+    expect(t, h26x_packetize_unit_into(&p, 9, unit, 4, 0, to, 16, NULL, room, NULL, NULL)
+                  == H26X_NO_ROOM);
+    expect(t, h26x_packetize(&p, 3, unit, 4, NULL) == H26X_OK);
+    expect(t, h26x_packet_copy(&p, 2, NULL, room) == 3);
+    expect(t, h26x_packets_copy(&p, 0, NULL, room, ends, 2) == 0);
+    expect(t, h26x_packets_copy(&p, 0, to, 16, NULL, room) == 0);
+    expect(t, to[0] == 7 && ends[0] == 9);
+    h26x_packetizer_free(p);
+
+    expect(t, h26x_depacketizer_new(H26X_H264, false, &d) == H26X_OK);
+    expect(t, h26x_depacketize(&d, false, unit, 4, NULL, room, NULL, NULL, NULL) == H26X_OK);
+    expect(t, h26x_written_copy(&d, NULL, room) == 8);
+    expect(t, h26x_written_copy(&d, to, 16) == 8 && is_same(to, 8, "00000001 65010203"));
+    h26x_depacketizer_free(d);
+
+    expect(t, h26x_receiver_new(H26X_H264, false, false, 9, &r) == H26X_OK);
+    expect(t, h26x_receive(&r, 7, unit, 4, NULL, room, NULL, NULL, NULL, NULL, NULL) == H26X_OK);
+    expect(t, h26x_written_copy(&r.at, to, 16) == 8 && is_same(to, 8, "00000001 65010203"));
+    h26x_receiver_free(r);
+}
+
+/* The same of the calls of H.265. */
+static void check_null_of_h265(struct tally *t, size_t len)
+{
+    const uint8_t unit[] = {2, 1, 0xaa};
+    h26x_depacketizer d;
+    uint8_t to[8];
+    size_t size = 9;
+    expect(t, h26x_depacketizer_new(H26X_H265, false, &d) == H26X_OK);
+    expect(t, h26x_depacketize(&d, false, unit, 3, to, 8, NULL, NULL, NULL) == H26X_OK);
+    expect(t, h26x_h265_part_copy(&d, 0, NULL, len, NULL) == 1);
+    h26x_depacketizer_free(d);
+    expect(t, h26x_h265_paci_packet(NULL, len, NULL, 0, to, 8, NULL) == H26X_SHORT_PACKET);
+    expect(t, h26x_h265_paci_packet(unit, 3, NULL, len, to, 8, &size) == H26X_OK && size == 5);
+    expect(t, h26x_h265_paci_packet(unit, 3, NULL, 0, NULL, len, &size) == H26X_OK && size == 5);
+}
+
+/* NULL with a length of one byte, of some, and of as many as there can be. */
+static void check_null_with_lengths(struct tally *t)
+{
+    const size_t lengths[] = {1, 4, 400, SIZE_MAX};
+    for (size_t i = 0; i < sizeof lengths / sizeof *lengths; i++) {
+        check_inputs_of_null(t, H26X_H264, lengths[i]);
+        check_inputs_of_null(t, H26X_H265, lengths[i]);
+        check_inputs_of_null(t, H26X_H266, lengths[i]);
+        check_memory_of_null(t, lengths[i]);
+        check_null_of_h265(t, lengths[i]);
+    }
 }
 
 /* The same is done where nobody wants to know how much it is. */
@@ -130,6 +230,7 @@ void check_optional(struct tally *t)
     check_empty_inputs(t, H26X_H264);
     check_empty_inputs(t, H26X_H265);
     check_empty_inputs(t, H26X_H266);
+    check_null_with_lengths(t);
     check_unwanted_outputs(t);
     check_h265(t);
     check_frees();

@@ -81,8 +81,26 @@ static void check_h266_profiles(struct tally *t)
     knows(t, h26x_h266_is_known, H26X_H266_LEVEL_15_5, 8, 15);
 }
 
+/* The numbers themselves, whatever the header calls them. */
+static void check_numbers(struct tally *t)
+{
+    const uint32_t ids[] = {0x42001f, 0x42e01f, 0x4d001f, 0x58001f, 0x64001f, 0x640c1f, 0x6e001f,
+                            0x7a001f, 0xf4001f, 0x6e101f, 0x7a101f, 0xf4101f, 0x2c101f};
+    for (uint8_t profile = 0; profile < sizeof ids / sizeof ids[0]; profile++)
+        expect(t, is_named(ids[profile], profile, 9));
+    expect(t, is_named(0xff64001f, 4, 9) && is_named(0x640c34, 5, 16));
+    expect(t, is_named(0x42000a, 0, 0) && is_named(0x42100a, 0, 0));
+    expect(t, is_named(0x42100b, 0, 1) && is_named(0x42000b, 0, 2));
+    expect(t, is_named(0x42001f, 0, 9) && is_named(0x420034, 0, 16));
+
+    expect(t, h26x_h265_is_known(1, 0, 93) && h26x_h265_is_known(11, 1, 186));
+    expect(t, h26x_h266_is_known(1, 0, 51) && h26x_h266_is_known(113, 1, 255));
+    expect(t, !h26x_h266_is_known(1, 0, 93));
+}
+
 void check_profiles(struct tally *t)
 {
+    check_numbers(t);
     check_h264_profiles(t);
     check_h264_levels(t);
     check_h265_profiles(t);

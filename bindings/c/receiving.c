@@ -184,7 +184,7 @@ static void check_refusals(struct tally *t)
     h26x_packetizer p, q;
     uint8_t packet[] = {0x65}, to[8] = {7}, extra = 1;
     size_t len = 9;
-    h26x_refusal why;
+    h26x_refusal why = {7, 8};
     expect(t, h26x_depacketizer_new(263, false, &d) == H26X_UNKNOWN_CODEC && d.at == NULL);
     expect(t, h26x_depacketizer_new(H26X_H264, true, &d) == H26X_NOT_OF_THIS_CODEC);
 
@@ -201,7 +201,7 @@ static void check_refusals(struct tally *t)
     d.at = NULL;
     expect(t, h26x_depacketize(&packetizer, false, packet, 1, to, 8, &len, &extra, &why)
                   == H26X_WRONG_END);
-    expect(t, len == 0 && extra == 1 && to[0] == 7);
+    expect(t, len == 0 && extra == 1 && to[0] == 7 && why.first == 7 && why.second == 8);
     expect(t, h26x_depacketizer_clone(&packetizer, &d) == H26X_WRONG_END && d.at == NULL);
     expect(t, h26x_depacketizer_set_numbers(&packetizer, true) == H26X_WRONG_END);
     expect(t, h26x_give_up_run(&packetizer) == H26X_WRONG_END);

@@ -212,6 +212,7 @@ static void check_ends(struct tally *t)
         expect(t, h26x_receive(&as_receiver, 1, packet, 1, to, 8, &len, &extra, &received, &counted,
                                &why) == H26X_WRONG_END);
         expect(t, len == 0 && extra == 1 && to[0] == 7 && received == 9 && counted == 9);
+        expect(t, why.first == 7 && why.second == 8);
         expect(t, h26x_receiver_clone(&as_receiver, &r) == H26X_WRONG_END && r.at.at == NULL);
         expect(t, h26x_receiver_set_numbers(&as_receiver, true) == H26X_WRONG_END);
         expect(t, h26x_receiver_set_avc(&as_receiver, true) == H26X_WRONG_END);
@@ -223,7 +224,7 @@ static void check_ends(struct tally *t)
     as_packetizer.at = r.at.at;
     len = 9;
     expect(t, h26x_depacketize(&r.at, false, packet, 1, to, 8, &len, &extra, &why) == H26X_WRONG_END);
-    expect(t, len == 0 && extra == 1 && to[0] == 7);
+    expect(t, len == 0 && extra == 1 && to[0] == 7 && why.first == 7 && why.second == 8);
     expect(t, h26x_depacketizer_clone(&r.at, &made) == H26X_WRONG_END && made.at == NULL);
     expect(t, h26x_depacketizer_set_numbers(&r.at, true) == H26X_WRONG_END);
     expect(t, h26x_give_up_run(&r.at) == H26X_WRONG_END);

@@ -58,6 +58,32 @@ static void check_kinds_with_numbers(struct tally *t, h26x_depacketizer *d)
     shows(t, d, H26X_H265_AGGREGATE, 0, 0, "0201aa|2601afaf|0201bb", 5, 0, 255);
 }
 
+/* Gives a packet of H.265, and compares a part of it that takes one byte, for which there is just
+ * room, and its number. */
+static void has_byte_at(struct tally *t, bool numbers, const char *packet, const char *written,
+                        uint8_t told, size_t i, uint8_t byte, uint32_t number, const char *file,
+                        int line)
+{
+    h26x_depacketizer d;
+    uint8_t to = 0;
+    uint32_t found = 77;
+    expect_at(t, h26x_depacketizer_new(H26X_H265, numbers, &d) == H26X_OK, packet, file, line);
+    takes_at(t, &d, packet, written, told, file, line);
+    expect_at(t, h26x_h265_part_copy(&d, i, &to, 1, &found) == 1, packet, file, line);
+    expect_at(t, to == byte && found == number, packet, file, line);
+    h26x_depacketizer_free(d);
+}
+#define has_byte(t, numbers, packet, written, told, i, byte, number) \
+    has_byte_at(t, numbers, packet, written, told, i, byte, number, __FILE__, __LINE__)
+
+static void check_numbers_of_parts(struct tally *t)
+{
+    has_byte(t, false, "2601aa", "00000001 2601aa", 2, 0, 0xaa, 65536);
+    /* A PACI packet bears no number. */
+    has_byte(t, true, "6401 2638 112233 aa", "00000001 2601aa", 2, 1, 0xaa, 65536);
+    has_byte(t, true, "2601 ffff aa", "00000001 2601aa", 2, 0, 0xaa, 65535);
+}
+
 /* A refused packet leaves what is shown, and so does a part for which there is no room. */
 static void check_what_stays(struct tally *t, h26x_depacketizer *d)
 {
@@ -145,5 +171,6 @@ void check_showing(struct tally *t)
     check_what_stays(t, &d);
     h26x_depacketizer_free(d);
     check_what_shows_nothing(t);
+    check_numbers_of_parts(t);
     check_packing(t);
 }

@@ -140,8 +140,9 @@ func (p *Packetizer) Packetize(mtu uint16, payload []byte) ([][]byte, error) {
 // PacketizeUnit answers the RTP payloads of one NAL unit as it is: no start code is looked for in it, and
 // whatever its kind it is sent now, itself or in fragments. Sets that wait stay.
 //
-// There are no packets where no fragment has room for data, or the unit has no whole header: one byte of
-// H.264, two of the others. Its errors are those of Packetize.
+// There are no packets where the unit has no whole header (one byte of H.264, two of the others), under an
+// mtu of 1 (H.264) or 4, and of a unit longer than a packet where no fragment has room for data. Its errors
+// are those of Packetize.
 func (p *Packetizer) PacketizeUnit(mtu uint16, unit []byte) ([][]byte, error) {
 	return p.copies(true, mtu, unit)
 }

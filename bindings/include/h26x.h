@@ -7,16 +7,16 @@
  * A handle is a struct of one pointer. No call keeps a pointer that it is given, waits, prints, or has state beside
  * its handle; memory comes from malloc, realloc and free. A handle may go from one thread to another.
  *
- * What may be NULL: a buffer of length 0; the pointer to a number that isn't wanted (count, size, written, extra,
- * received, why, number, len, begin, end, profile, level); and the pointer in a handle that is freed, which is then
- * no handle: so set it to {0} and free it in any case.
+ * What may be NULL: a buffer, which then has length 0 whatever is said to be its length or its room; the pointer to a
+ * number that isn't wanted (count, size, written, extra, received, why, number, len, begin, end, profile, level); and
+ * the pointer in a handle that is freed, which is then no handle: so set it to {0} and free it in any case.
  *
  * What a caller owes, since nothing checks it:
  * - a handle is one that a _new or _clone wrote, and was not freed since;
  * - while a call runs, no other call is given the same handle, not even as a const one, and no other thread writes
  *   its buffers;
  * - a handle goes to another thread by a lock, a start or a join of a thread, or as ordered as that;
- * - a pointer and its length are those of one buffer;
+ * - a pointer that isn't NULL and its length are those of one buffer;
  * - what a call writes overlaps nothing else that it is given, and of two handles neither is the other;
  * - a bool is 0 or 1;
  * - malloc and realloc align each block to every power of two up to 16 that divides its size;
@@ -144,7 +144,8 @@ H26X_API uint32_t h26x_packetize(h26x_packetizer *p, size_t mtu, const uint8_t *
 
 /* Makes the packets of one unit as it is: no start code is looked for in it, and whatever its kind it is sent now,
  * itself or in fragments. So a caller who has units need not join them, and may send parameter sets himself. Sets
- * that wait stay. There are no packets where no fragment has room for data or the unit has no whole header. The
+ * that wait stay. There are no packets of a unit without a whole header, nor where `mtu` is under 1 (H.264) or 4, nor
+ * of a unit longer than a packet where no fragment has room for data: under 3 (H.264), 4, or 6 with numbers. The
  * answers are those of h26x_packetize. */
 H26X_API uint32_t h26x_packetize_unit(h26x_packetizer *p, size_t mtu, const uint8_t *unit, size_t unit_len,
                                       size_t *count) H26X_MUST_USE;
@@ -219,7 +220,7 @@ H26X_API uint32_t h26x_depacketizer_set_numbers(h26x_depacketizer *d, bool numbe
  * *extra, in and out: 0 nothing told yet, 1 units but none of a keyframe, 2 a keyframe among them. A refusal
  * writes 0 to *written and its numbers to *why, and leaves all else: *extra, the open unit, and what the packet
  * before completed. So it is that packet's alone, and after H26X_OUT_OF_MEMORY the same one can be given again.
- * H26X_WRONG_END.
+ * H26X_WRONG_END, which has no numbers, leaves *why.
  *
  * What a real stream meets:
  * - It has no sequence numbers, so it doesn't notice a lost packet: where a fragment is missing the unit is written
@@ -288,7 +289,7 @@ H26X_API uint32_t h26x_receiver_set_avc(h26x_receiver *r, bool avc);
  * late or comes twice writes 0 to *written and leaves all else. A refusal writes 0 to *written and its numbers to
  * *why, and leaves all else, *received and *count too: it is as if the packet had not come, and one refused for want
  * of memory can be given again. A number 32768 or more ahead of the one expected is late, so where a peer's numbers
- * jump all its packets are late, one after the other: call h26x_receiver_restart. H26X_WRONG_END. */
+ * jump all its packets are late, one after the other: call h26x_receiver_restart. H26X_WRONG_END leaves *why. */
 H26X_API uint32_t h26x_receive(h26x_receiver *r, uint16_t sequence, const uint8_t *packet, size_t packet_len,
                                uint8_t *to, size_t room, size_t *written, uint8_t *extra, uint32_t *received,
                                uint16_t *count, h26x_refusal *why) H26X_MUST_USE;

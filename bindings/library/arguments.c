@@ -1,6 +1,7 @@
-/* What C's callers may leave out: a buffer of length 0, an output that isn't wanted, a handle to be
- * freed. For each of these the proved call is given something of the same meaning, since it can't
- * take NULL: a reference of Rattle is never null, and `Option<&T>` doesn't cross to C.
+/* What C's callers may leave out: a buffer, an output that isn't wanted, a handle to be freed. For each
+ * of these the proved call is given something of the same meaning, since it can't take NULL: a
+ * reference of Rattle is never null, and `Option<&T>` doesn't cross to C. c/handed_on.c checks what it
+ * is given.
  *
  * `proved_packetize` is what crates/h26x_c exports as h26x_packetize, and so on: bindings/build
  * renames each export of which this file asks for the proved one. */
@@ -33,29 +34,22 @@ PROVED(h264_profile_level);
 /* Keeps what is seldom needed out of a call that is made for each packet, which then goes straight on
  * to the proved one. */
 #define APART __attribute__((noinline, cold))
+#if __has_attribute(musttail)
 #define GO_ON __attribute__((musttail)) return
+#else
+#define GO_ON return
+#endif
+
+/* The output, or a place for it that nobody reads. */
+#define WANTED(output, unwanted) ((output) != NULL ? (output) : (unwanted))
 
 /* In the place of a buffer of length 0, which is neither read nor written. */
 static uint8_t no_bytes[1];
 static size_t no_ends[1];
 
-static const uint8_t *some(const uint8_t *bytes)
-{
-    return bytes != NULL ? bytes : no_bytes;
-}
-
-static uint8_t *room_at(uint8_t *to)
-{
-    return to != NULL ? to : no_bytes;
-}
-
-static size_t *room_for(size_t *ends)
-{
-    return ends != NULL ? ends : no_ends;
-}
-
-/* The output, or a place for it that nobody reads. */
-#define WANTED(output, unwanted) ((output) != NULL ? (output) : (unwanted))
+/* A buffer and its length, as two arguments: NULL has length 0, whatever the caller says. */
+#define BYTES(at, len) WANTED(at, no_bytes), (at) != NULL ? (len) : 0
+#define ENDS(at, len) WANTED(at, no_ends), (at) != NULL ? (len) : 0
 
 /* ---- Sending ---- */
 
@@ -69,14 +63,14 @@ uint32_t h26x_packetize(h26x_packetizer *p, size_t mtu, const uint8_t *payload, 
                         size_t *count)
 {
     size_t unwanted;
-    return proved_packetize(p, mtu, some(payload), payload_len, WANTED(count, &unwanted));
+    return proved_packetize(p, mtu, BYTES(payload, payload_len), WANTED(count, &unwanted));
 }
 
 uint32_t h26x_packetize_unit(h26x_packetizer *p, size_t mtu, const uint8_t *unit, size_t unit_len,
                              size_t *count)
 {
     size_t unwanted;
-    return proved_packetize_unit(p, mtu, some(unit), unit_len, WANTED(count, &unwanted));
+    return proved_packetize_unit(p, mtu, BYTES(unit, unit_len), WANTED(count, &unwanted));
 }
 
 uint32_t h26x_packetize_into(h26x_packetizer *p, size_t mtu, const uint8_t *payload,
@@ -84,8 +78,8 @@ uint32_t h26x_packetize_into(h26x_packetizer *p, size_t mtu, const uint8_t *payl
                              size_t *ends, size_t ends_room, size_t *count, size_t *size)
 {
     size_t unwanted[2];
-    return proved_packetize_into(p, mtu, some(payload), payload_len, headroom, room_at(to), room,
-                                 room_for(ends), ends_room, WANTED(count, &unwanted[0]),
+    return proved_packetize_into(p, mtu, BYTES(payload, payload_len), headroom, BYTES(to, room),
+                                 ENDS(ends, ends_room), WANTED(count, &unwanted[0]),
                                  WANTED(size, &unwanted[1]));
 }
 
@@ -94,8 +88,8 @@ uint32_t h26x_packetize_unit_into(h26x_packetizer *p, size_t mtu, const uint8_t 
                                   size_t *ends, size_t ends_room, size_t *count, size_t *size)
 {
     size_t unwanted[2];
-    return proved_packetize_unit_into(p, mtu, some(unit), unit_len, headroom, room_at(to), room,
-                                      room_for(ends), ends_room, WANTED(count, &unwanted[0]),
+    return proved_packetize_unit_into(p, mtu, BYTES(unit, unit_len), headroom, BYTES(to, room),
+                                      ENDS(ends, ends_room), WANTED(count, &unwanted[0]),
                                       WANTED(size, &unwanted[1]));
 }
 
@@ -103,19 +97,19 @@ uint32_t h26x_packets_size(const h26x_packetizer *p, size_t mtu, const uint8_t *
                            size_t payload_len, size_t headroom, size_t *count, size_t *size)
 {
     size_t unwanted[2];
-    return proved_packets_size(p, mtu, some(payload), payload_len, headroom,
+    return proved_packets_size(p, mtu, BYTES(payload, payload_len), headroom,
                                WANTED(count, &unwanted[0]), WANTED(size, &unwanted[1]));
 }
 
 size_t h26x_packet_copy(const h26x_packetizer *p, size_t i, uint8_t *to, size_t room)
 {
-    return proved_packet_copy(p, i, room_at(to), room);
+    return proved_packet_copy(p, i, BYTES(to, room));
 }
 
 size_t h26x_packets_copy(const h26x_packetizer *p, size_t first, uint8_t *to, size_t room,
                          size_t *ends, size_t ends_room)
 {
-    return proved_packets_copy(p, first, room_at(to), room, room_for(ends), ends_room);
+    return proved_packets_copy(p, first, BYTES(to, room), ENDS(ends, ends_room));
 }
 
 /* ---- Receiving ---- */
@@ -134,7 +128,7 @@ static APART uint32_t depacketize_in_part(h26x_depacketizer *d, bool avc, const 
     size_t unwanted_len;
     uint8_t unwanted_extra = 0;
     h26x_refusal unwanted_why;
-    return proved_depacketize(d, avc, some(packet), packet_len, room_at(to), room,
+    return proved_depacketize(d, avc, BYTES(packet, packet_len), BYTES(to, room),
                               WANTED(written, &unwanted_len), WANTED(extra, &unwanted_extra),
                               WANTED(why, &unwanted_why));
 }
@@ -150,7 +144,7 @@ uint32_t h26x_depacketize(h26x_depacketizer *d, bool avc, const uint8_t *packet,
 
 size_t h26x_written_copy(const h26x_depacketizer *d, uint8_t *to, size_t room)
 {
-    return proved_written_copy(d, room_at(to), room);
+    return proved_written_copy(d, BYTES(to, room));
 }
 
 void h26x_receiver_free(h26x_receiver r)
@@ -170,7 +164,7 @@ static APART uint32_t receive_in_part(h26x_receiver *r, uint16_t sequence, const
     uint32_t unwanted_received;
     uint16_t unwanted_count;
     h26x_refusal unwanted_why;
-    return proved_receive(r, sequence, some(packet), packet_len, room_at(to), room,
+    return proved_receive(r, sequence, BYTES(packet, packet_len), BYTES(to, room),
                           WANTED(written, &unwanted_len), WANTED(extra, &unwanted_extra),
                           WANTED(received, &unwanted_received), WANTED(count, &unwanted_count),
                           WANTED(why, &unwanted_why));
@@ -194,44 +188,44 @@ size_t h26x_h265_part_copy(const h26x_depacketizer *d, size_t i, uint8_t *to, si
                            uint32_t *number)
 {
     uint32_t unwanted;
-    return proved_h265_part_copy(d, i, room_at(to), room, WANTED(number, &unwanted));
+    return proved_h265_part_copy(d, i, BYTES(to, room), WANTED(number, &unwanted));
 }
 
 uint32_t h26x_h265_paci_packet(const uint8_t *unit, size_t unit_len, const uint8_t *extension,
                                size_t extension_len, uint8_t *to, size_t room, size_t *len)
 {
     size_t unwanted;
-    return proved_h265_paci_packet(some(unit), unit_len, some(extension), extension_len, room_at(to),
-                                   room, WANTED(len, &unwanted));
+    return proved_h265_paci_packet(BYTES(unit, unit_len), BYTES(extension, extension_len),
+                                   BYTES(to, room), WANTED(len, &unwanted));
 }
 
 /* ---- Packets and payloads ---- */
 
 bool h26x_is_partition_head(uint32_t codec, const uint8_t *packet, size_t packet_len)
 {
-    return proved_is_partition_head(codec, some(packet), packet_len);
+    return proved_is_partition_head(codec, BYTES(packet, packet_len));
 }
 
 bool h26x_is_partition_tail(uint32_t codec, bool marker, const uint8_t *packet, size_t packet_len)
 {
-    return proved_is_partition_tail(codec, marker, some(packet), packet_len);
+    return proved_is_partition_tail(codec, marker, BYTES(packet, packet_len));
 }
 
 bool h26x_detect_keyframe(uint32_t codec, const uint8_t *packet, size_t packet_len)
 {
-    return proved_detect_keyframe(codec, some(packet), packet_len);
+    return proved_detect_keyframe(codec, BYTES(packet, packet_len));
 }
 
 bool h26x_detect_h264_nalu(const uint8_t *packet, size_t packet_len, uint8_t type)
 {
-    return proved_detect_h264_nalu(some(packet), packet_len, type);
+    return proved_detect_h264_nalu(BYTES(packet, packet_len), type);
 }
 
 bool h26x_next_unit(uint32_t codec, const uint8_t *payload, size_t payload_len, size_t from,
                     size_t *begin, size_t *end)
 {
     size_t unwanted[2];
-    return proved_next_unit(codec, some(payload), payload_len, from, WANTED(begin, &unwanted[0]),
+    return proved_next_unit(codec, BYTES(payload, payload_len), from, WANTED(begin, &unwanted[0]),
                             WANTED(end, &unwanted[1]));
 }
 

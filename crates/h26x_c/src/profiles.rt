@@ -61,6 +61,3 @@ fn number_of(profile: H264Profile) -> u8
 {
     profile as u8
 }
-
-#[cfg(test)]
-mod tests;

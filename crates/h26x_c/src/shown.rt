@@ -221,6 +221,3 @@ fn other_unit_of(units: &[H265AggregationUnit], i: usize) -> Part<'_>
         None => Part::part_without_don(&[]),
     }
 }
-
-#[cfg(test)]
-mod tests;

@@ -37,6 +37,3 @@ pub extern "C" fn h26x_next_unit(
         None => false,
     }
 }
-
-#[cfg(test)]
-mod tests;

@@ -34,7 +34,7 @@ pub enum PacketError {
     #[error("corrupted H.266 packet")]
     ErrH266CorruptedPacket,
 
-    /// H.264: the unit's length doesn't fit the four bytes of an AVC length (ISO/IEC 14496-15).
+    /// Behind lengths, of every codec: the unit's length doesn't fit four bytes (ISO/IEC 14496-15).
     #[error("unit is too long for an AVC length")]
     AvcUnitTooLong,
 

@@ -20,6 +20,7 @@ mod ends;
 mod h264;
 mod h265;
 mod h266;
+pub(crate) mod lines;
 mod placed;
 mod sequenced;
 mod take;

@@ -109,8 +109,9 @@ class Packetizer(Owner):
         """The RTP payloads of one NAL unit as it is: no start code is looked for in it, and whatever
         its kind it is sent now, itself or in fragments. Parameter sets that wait stay.
 
-        There are no packets where no fragment has room for data, or the unit has no whole header: one
-        byte of H.264, two of the others. Raises OutOfMemory alone.
+        There are no packets where the unit has no whole header (one byte of H.264, two of the others),
+        under an `mtu` of 1 (H.264) or 4, and of a unit longer than a packet where no fragment has room
+        for data. Raises OutOfMemory alone.
         """
         return self._packets(library.h26x_packetize_unit_into, mtu, unit)
 

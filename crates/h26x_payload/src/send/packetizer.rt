@@ -508,9 +508,10 @@ impl<C: PayloadFormat> PayloadPacketizer<C> {
     /// its fragments. Nothing is searched in it, and the sets that wait stay.
     ///
     /// So whoever has units sends each without copying it, and whoever has several parameter sets of
-    /// a kind, or wants them again, sends these himself. There are no packets where no fragment has
-    /// room for data, where the unit has no whole header, and under the least `mtu`. A unit whose
-    /// type is one of packets, as an aggregate, is not read back as a unit.
+    /// a kind, or wants them again, sends these himself. There are no packets where the unit has no
+    /// whole header, under the least `mtu`, and of a unit longer than a packet where no fragment
+    /// has room for data. A unit whose type is one of packets, as an aggregate, is not read back as
+    /// a unit.
     ///
     /// `OutOfMemory` is its only error, and leaves everything.
     pub fn packetize_unit(&mut self, mtu: usize, unit: &[u8]) -> Result<Vec<Vec<u8>>, PacketError>

@@ -52,8 +52,8 @@ fn fits_one<C: PayloadFormat>(codec: C, limit: usize, unit: &[u8]) -> bool
     unit.len() + donl_len(codec) <= limit
 }
 
-/// Appends the packets of one unit: itself, or its fragments; none where no fragment has room for
-/// data.
+/// Appends the packets of one unit: itself where it fits one, else its fragments; none where these
+/// have no room for data.
 pub(crate) fn push_unit<'a, C: PayloadFormat, S: PacketSink<'a>>(
     codec: C,
     limit: usize,

@@ -1,158 +1,161 @@
-use crate::rows::{bytes_of, same};
+use crate::rows::lines::settings::Settings;
+use crate::rows::lines::text::{bytes_of, push_bytes, refusal, yes_or_no};
+use crate::rows::lines::{Answers, walk};
 use h26x_codec::Codec;
 use h26x_core::{CodecExtra, PacketError};
 use h26x_handles::receiving::ReceivingEndpoint;
 use h26x_receiver::RunDepacketizer;
-use std::alloc::{AllocError, Global};
-use std::process::Abort;
+use std::alloc::Global;
+use std::mem;
 use std::test::Fail;
 
-/// Whether a packet is to be written in AVC form, and the packet.
-type Packet = (bool, &'static str);
+/// An endpoint, and the one that it was copied from.
+#[derive(Drop)]
+struct Receiver {
+    endpoint: ReceivingEndpoint,
+    other: ReceivingEndpoint,
+}
 
-/// Hands packets to an endpoint with no room for what they complete, which answers the last so.
-fn take(
-    alloc: Global,
-    endpoint: &mut ReceivingEndpoint,
-    packets: &[Packet],
-) -> Result<Result<(), PacketError>, AllocError> {
-    let mut answer = Ok(());
-    for &(is_avc, packet) in packets {
+impl Receiver {
+    fn new(alloc: Global) -> Self {
+        Receiver {
+            endpoint: ReceivingEndpoint::new(alloc, Codec::H264, false),
+            other: ReceivingEndpoint::new(alloc, Codec::H264, false),
+        }
+    }
+
+    fn begin(&mut self, alloc: Global, words: &[&str]) -> Result<(), Fail> {
+        let settings = Settings::of_words(words)?;
+        self.endpoint = ReceivingEndpoint::new(alloc, settings.codec, settings.numbers);
+        Ok(())
+    }
+
+    fn copy(&mut self, alloc: Global) -> Result<(), PacketError> {
+        self.other = self.endpoint.clone(alloc)?;
+        self.exchange();
+        Ok(())
+    }
+
+    fn exchange(&mut self) {
+        mem::swap(&mut self.endpoint, &mut self.other);
+    }
+
+    fn is_alike(&self) -> bool {
+        self.endpoint.depacketizer.is_same(&self.other.depacketizer)
+    }
+
+    /// What a packet is answered without room for what it completes, and what is kept then.
+    fn keep(&mut self, alloc: Global, form: &str, packet: &str) -> Result<String, Fail> {
         let packet = bytes_of(alloc, packet)?;
-        let told = &mut CodecExtra::None;
-        answer = endpoint.depacketize(is_avc, &packet, &mut [], &mut 0, told);
+        let answer = take(&mut self.endpoint, form, &packet, &mut [], &mut 0);
+        let mut text = match answer {
+            Ok(()) => "ok".to_string(alloc)?,
+            Err(error) => refusal(alloc, error)?,
+        };
+        push_bytes(&mut text, alloc, self.endpoint.written())?;
+        Ok(text)
     }
-    Ok(answer)
+
+    /// What stands in memory that a packet is given, what is kept then, and how many bytes it
+    /// completed.
+    fn put(
+        &mut self,
+        alloc: Global,
+        form: &str,
+        memory: &str,
+        packet: &str,
+    ) -> Result<String, Fail> {
+        let packet = bytes_of(alloc, packet)?;
+        let mut memory = bytes_of(alloc, memory)?;
+        let mut written = 0;
+        take(&mut self.endpoint, form, &packet, &mut memory, &mut written)?;
+        let mut text = format!(in alloc; "{written}")?;
+        push_bytes(&mut text, alloc, &memory)?;
+        push_bytes(&mut text, alloc, self.endpoint.written())?;
+        Ok(text)
+    }
 }
 
-/// An endpoint answers the last of these packets so, and has kept this then.
-fn answers(
-    rt: &impl Abort,
-    alloc: Global,
+/// Takes a packet, whose units are written in AVC form or behind start codes.
+fn take(
     endpoint: &mut ReceivingEndpoint,
-    packets: &[Packet],
-    want: Result<(), PacketError>,
-    written: &str,
-) -> Result<(), Fail> {
-    let answer = take(alloc, endpoint, packets)?;
-    let bytes = bytes_of(alloc, written)?;
-    same(
-        rt,
-        &(answer, endpoint.written()),
-        &(want, bytes.as_slice()),
+    form: &str,
+    packet: &[u8],
+    memory: &mut [u8],
+    written: &mut usize,
+) -> Result<(), PacketError> {
+    endpoint.depacketize(
+        form == "avc",
+        packet,
+        memory,
         written,
-    );
-    Ok(())
-}
-
-/// Packets for a fresh endpoint of H.264, the answer to the last, and what is written then.
-static PACKETS: [(&[Packet], Result<(), PacketError>, &str); 3] = [
-    // A refusal leaves what was completed.
-    (
-        &[(false, "6501"), (false, "7f01")],
-        Err(PacketError::NaluTypeIsNotHandled(31)),
-        "00000001 6501",
-    ),
-    (&[(true, "6501")], Ok(()), "00000002 6501"),
-    // The form of a packet is not kept.
-    (&[(true, "6501"), (false, "6501")], Ok(()), "00000001 6501"),
-];
-
-#[test]
-fn packets_and_what_is_written(rt: HostRuntime) -> Result<(), Fail> {
-    for &(packets, want, written) in &PACKETS {
-        let mut endpoint = ReceivingEndpoint::new(rt.alloc(), Codec::H264, false);
-        answers(&rt, rt.alloc(), &mut endpoint, packets, want, written)?;
-    }
-    Ok(())
-}
-
-/// The start of a unit of H.266, and its end.
-static START: [Packet; 1] = [(false, "00e98701")];
-
-static END: [Packet; 1] = [(false, "00e94702")];
-
-/// An endpoint that has taken the start.
-fn with_a_run(alloc: Global) -> Result<ReceivingEndpoint, PacketError> {
-    let mut endpoint = ReceivingEndpoint::new(alloc, Codec::H266, false);
-    take(alloc, &mut endpoint, &START)??;
-    Ok(endpoint)
-}
-
-#[test]
-fn a_copy_goes_on_with_the_open_unit(rt: HostRuntime) -> Result<(), Fail> {
-    let mut copy = with_a_run(rt.alloc())?.clone(rt.alloc())?;
-    answers(
-        &rt,
-        rt.alloc(),
-        &mut copy,
-        &END,
-        Ok(()),
-        "00000001 00390102",
+        &mut CodecExtra::None,
     )
 }
 
-#[test]
-fn a_run_that_is_given_up(rt: HostRuntime) -> Result<(), Fail> {
-    let mut endpoint = with_a_run(rt.alloc())?;
-    endpoint.depacketizer.give_up_run();
-    answers(&rt, rt.alloc(), &mut endpoint, &END, Ok(()), "")
-}
-
-/// Whether an endpoint's depacketizer is the same as its copy's, before its run is given up and
-/// then.
-fn compared(alloc: Global, endpoint: &mut ReceivingEndpoint) -> Result<[bool; 2], PacketError> {
-    let copy = endpoint.clone(alloc)?;
-    let before = copy.depacketizer.is_same(&endpoint.depacketizer);
-    endpoint.depacketizer.give_up_run();
-    Ok([before, copy.depacketizer.is_same(&endpoint.depacketizer)])
-}
-
-#[test]
-fn a_copy_is_the_same_until_one_goes_on(rt: HostRuntime) -> Result<(), Fail> {
-    let mut endpoint = with_a_run(rt.alloc())?;
-    assert!(rt; compared(rt.alloc(), &mut endpoint)? == [true, false]);
-    Ok(())
-}
-
-/// Memory that a unit of six bytes behind its start code may go to, what stands there then, and what
-/// is kept.
-type Room = (&'static str, &'static str, &'static str);
-
-static ROOMS: [Room; 3] = [
-    ("77777777777777", "00000001 6501 77", ""),
-    ("777777777777", "00000001 6501", ""),
-    ("7777777777", "7777777777", "00000001 6501"),
-];
-
-/// An endpoint that has kept what a packet completed.
-fn with_output(alloc: Global) -> Result<ReceivingEndpoint, PacketError> {
-    let mut endpoint = ReceivingEndpoint::new(alloc, Codec::H264, false);
-    take(alloc, &mut endpoint, &[(false, "6701")])??;
-    Ok(endpoint)
-}
-
-/// Gives an endpoint a packet with this room, and compares what stands where.
-fn goes(
-    rt: &impl Abort,
-    alloc: Global,
-    endpoint: &mut ReceivingEndpoint,
-    room: &Room,
-) -> Result<(), Fail> {
-    let mut memory = bytes_of(alloc, room.0)?;
-    let (to, kept) = (bytes_of(alloc, room.1)?, bytes_of(alloc, room.2)?);
-    let (mut written, mut told) = (0, CodecExtra::None);
-    endpoint.depacketize(false, &[0x65, 1], &mut memory, &mut written, &mut told)?;
-    let has = (memory.as_slice(), endpoint.written(), written);
-    same(rt, &has, &(to.as_slice(), kept.as_slice(), 6), room.0);
-    Ok(())
-}
-
-#[test]
-fn units_go_where_they_have_room(rt: HostRuntime) -> Result<(), Fail> {
-    for room in &ROOMS {
-        let mut endpoint = with_output(rt.alloc())?;
-        goes(&rt, rt.alloc(), &mut endpoint, room)?;
+impl Answers for Receiver {
+    fn answer(&mut self, alloc: Global, call: &[&str]) -> Result<String, Fail> {
+        match call {
+            ["depacketizer", words @ ..] => self.begin(alloc, words)?,
+            ["copy"] => self.copy(alloc)?,
+            ["other"] => self.exchange(),
+            ["give-up"] => self.endpoint.depacketizer.give_up_run(),
+            ["alike"] => return Ok(yes_or_no(alloc, self.is_alike())?),
+            ["keep", form, packet] => return self.keep(alloc, form, packet),
+            ["put", form, memory, packet] => return self.put(alloc, form, memory, packet),
+            _ => return Err("no such call of a depacketizer")?,
+        }
+        Ok(String::new(alloc))
     }
-    Ok(())
+}
+
+/// Endpoints, which keep what a packet completes where memory has no room for it.
+#[rattlefmt::skip]
+const RECEIVING: &str = "\
+# A call a line, with what comes of it behind `=`. Bytes are in hexadecimal, `-` for none, and
+# `aa*3` is `aa` three times. `keep`: the answer without memory, and what is kept then. `put`: how
+# many bytes are completed, the memory then, and what is kept.
+# A refusal leaves what was completed.
+depacketizer h264
+keep codes 6501 = ok 000000016501
+keep codes 7f01 = type 31 000000016501
+depacketizer h264
+keep avc 6501 = ok 000000026501
+# The form of a packet is not kept.
+depacketizer h264
+keep avc 6501 = ok 000000026501
+keep codes 6501 = ok 000000016501
+# A copy goes on with the open unit.
+depacketizer h266
+keep codes 00e98701 = ok -
+copy
+keep codes 00e94702 = ok 0000000100390102
+# A run that is given up.
+depacketizer h266
+keep codes 00e98701 = ok -
+give-up
+keep codes 00e94702 = ok -
+# A copy is the same until one goes on.
+depacketizer h266
+keep codes 00e98701 = ok -
+copy
+alike = yes
+other
+give-up
+alike = no
+# Units go where they have room.
+depacketizer h264
+keep codes 6701 = ok 000000016701
+put codes 77*7 6501 = 6 00000001650177 -
+depacketizer h264
+keep codes 6701 = ok 000000016701
+put codes 77*6 6501 = 6 000000016501 -
+depacketizer h264
+keep codes 6701 = ok 000000016701
+put codes 77*5 6501 = 6 77*5 000000016501
+";
+
+#[test]
+fn units_and_where_they_go(rt: HostRuntime) -> Result<(), Fail> {
+    walk(&rt, rt.alloc(), &mut Receiver::new(rt.alloc()), RECEIVING)
 }

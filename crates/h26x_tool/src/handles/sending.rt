@@ -1,99 +1,143 @@
-use crate::rows::{list_of, same};
+use crate::rows::lines::settings::Settings;
+use crate::rows::lines::text::{bytes_of, number, packets, push_bytes};
+use crate::rows::lines::{Answers, walk};
 use h26x_codec::Codec;
 use h26x_core::PacketError;
 use h26x_handles::sending::SendingEndpoint;
 use std::alloc::{AllocError, Global};
-use std::process::Abort;
+use std::mem;
 use std::test::Fail;
 
-/// Sends payloads, a call each.
-fn send(
-    endpoint: &mut SendingEndpoint,
-    mtu: usize,
-    payloads: &[Vec<u8>],
-) -> Result<(), PacketError> {
-    for payload in payloads {
-        endpoint.packetize(mtu, payload)?;
-    }
-    Ok(())
+/// An endpoint, and the one that it was copied from.
+#[derive(Drop)]
+struct Sender {
+    endpoint: SendingEndpoint,
+    other: SendingEndpoint,
 }
 
-/// An endpoint that has sent payloads, with numbers where its codec has them.
-fn sent(alloc: Global, codec: Codec, mtu: usize, payloads: &str) -> Result<SendingEndpoint, Fail> {
-    let mut endpoint = SendingEndpoint::new(alloc, codec, codec != Codec::H264);
-    send(&mut endpoint, mtu, &list_of(alloc, payloads)?)?;
-    Ok(endpoint)
-}
-
-/// The packets of the last call, and what is told of one behind them.
-fn packets_of(alloc: Global, endpoint: &SendingEndpoint) -> Result<Vec<Vec<u8>>, AllocError> {
-    let mut packets = Vec::new(alloc);
-    for index in 0..=endpoint.count() {
-        packets.push(endpoint.packet(index).to_vec(alloc)?)?;
-    }
-    Ok(packets)
-}
-
-/// An endpoint has these packets, and nothing behind them.
-fn has(rt: &impl Abort, alloc: Global, endpoint: &SendingEndpoint, want: &str) -> Result<(), Fail> {
-    same(
-        rt,
-        &packets_of(alloc, endpoint)?,
-        &list_of(alloc, want)?,
-        want,
-    );
-    Ok(())
-}
-
-/// A codec, a limit, payloads, and the packets of the last call, with none behind them, and how many
-/// bytes they are together.
-static CALLS: [(Codec, usize, &str, &str, usize); 3] = [
-    (Codec::H264, 4, "", "-", 0),
-    (Codec::H264, 4, "6501020304", "7c850102 7c450304 -", 8),
-    (Codec::H265, 100, "0201aa 0201bb", "02010001bb -", 5),
-];
-
-#[test]
-fn packets_of_the_last_call_alone(rt: HostRuntime) -> Result<(), Fail> {
-    for &(codec, mtu, payloads, want, len) in &CALLS {
-        let endpoint = sent(rt.alloc(), codec, mtu, payloads)?;
-        has(&rt, rt.alloc(), &endpoint, want)?;
-        assert!(rt; endpoint.bytes_len() == len);
-    }
-    Ok(())
-}
-
-#[test]
-fn a_copy_has_no_packets(rt: HostRuntime) -> Result<(), Fail> {
-    let endpoint = sent(rt.alloc(), Codec::H266, 100, "0039aa")?;
-    has(&rt, rt.alloc(), &endpoint.clone(rt.alloc())?, "-")?;
-    has(&rt, rt.alloc(), &endpoint, "00390000aa -")
-}
-
-#[test]
-fn a_copy_goes_on(rt: HostRuntime) -> Result<(), Fail> {
-    let endpoint = sent(rt.alloc(), Codec::H266, 100, "0039aa")?;
-    let mut copy = endpoint.clone(rt.alloc())?;
-    send(&mut copy, 100, &list_of(rt.alloc(), "0039bb")?)?;
-    has(&rt, rt.alloc(), &copy, "00390001bb -")?;
-    has(&rt, rt.alloc(), &endpoint, "00390000aa -")
-}
-
-/// A codec, units, each sent as it is, and the packets of the last one.
-static UNITS: [(Codec, &str, &str); 3] = [
-    (Codec::H264, "67aa", "67aa -"),
-    (Codec::H264, "6501 65020304000001", "65020304000001 -"),
-    (Codec::H265, "4201aa 4201bb", "42010001bb -"),
-];
-
-#[test]
-fn units_as_they_are(rt: HostRuntime) -> Result<(), Fail> {
-    for &(codec, units, want) in &UNITS {
-        let mut endpoint = SendingEndpoint::new(rt.alloc(), codec, codec != Codec::H264);
-        for unit in &list_of(rt.alloc(), units)? {
-            endpoint.packetize_unit(100, unit)?;
+impl Sender {
+    fn new(alloc: Global) -> Self {
+        Sender {
+            endpoint: SendingEndpoint::new(alloc, Codec::H264, false),
+            other: SendingEndpoint::new(alloc, Codec::H264, false),
         }
-        has(&rt, rt.alloc(), &endpoint, want)?;
     }
-    Ok(())
+
+    fn begin(&mut self, alloc: Global, words: &[&str]) -> Result<(), Fail> {
+        let settings = Settings::of_words(words)?;
+        self.endpoint = SendingEndpoint::new(alloc, settings.codec, settings.numbers);
+        Ok(())
+    }
+
+    fn copy(&mut self, alloc: Global) -> Result<(), PacketError> {
+        self.other = self.endpoint.clone(alloc)?;
+        self.exchange();
+        Ok(())
+    }
+
+    fn exchange(&mut self) {
+        mem::swap(&mut self.endpoint, &mut self.other);
+    }
+
+    fn pack(&mut self, limit: usize, payload: &[u8]) -> Result<(), PacketError> {
+        self.endpoint.packetize(limit, payload)
+    }
+
+    fn pack_unit(&mut self, limit: usize, unit: &[u8]) -> Result<(), PacketError> {
+        self.endpoint.packetize_unit(limit, unit)
+    }
+
+    fn answer_told(&self, alloc: Global, call: &[&str]) -> Result<String, Fail> {
+        match call {
+            ["held"] => Ok(held(alloc, &self.endpoint)?),
+            ["bytes"] => Ok(format!(in alloc; "{}", self.endpoint.bytes_len())?),
+            _ => Err("no such call of a packetizer")?,
+        }
+    }
+}
+
+/// The packets of the last call.
+fn sent(alloc: Global, endpoint: &SendingEndpoint) -> Result<String, AllocError> {
+    let mut list = Vec::new(alloc);
+    for place in 0..endpoint.count() {
+        list.push(endpoint.packet(place).to_vec(alloc)?)?;
+    }
+    packets(alloc, &list)
+}
+
+/// The same, and what is told of one behind them.
+fn held(alloc: Global, endpoint: &SendingEndpoint) -> Result<String, AllocError> {
+    let mut text = sent(alloc, endpoint)?;
+    push_bytes(&mut text, alloc, endpoint.packet(endpoint.count()))?;
+    Ok(text)
+}
+
+impl Answers for Sender {
+    fn answer(&mut self, alloc: Global, call: &[&str]) -> Result<String, Fail> {
+        match call {
+            ["packetizer", words @ ..] => self.begin(alloc, words)?,
+            ["copy"] => self.copy(alloc)?,
+            ["other"] => self.exchange(),
+            ["pack", limit, payload] => {
+                self.pack(number(limit)?, &bytes_of(alloc, payload)?)?;
+                return Ok(sent(alloc, &self.endpoint)?);
+            }
+            ["unit", limit, unit] => {
+                self.pack_unit(number(limit)?, &bytes_of(alloc, unit)?)?;
+                return Ok(sent(alloc, &self.endpoint)?);
+            }
+            _ => return self.answer_told(alloc, call),
+        }
+        Ok(String::new(alloc))
+    }
+}
+
+/// Endpoints, which hold the packets of the last call and none behind them. A copy has none.
+#[rattlefmt::skip]
+const SENDING: &str = "\
+# A call a line, with what comes of it behind `=`. Bytes are in hexadecimal, `-` for none.
+# `pack`: the packets of a payload within a limit; `unit`: those of a unit as it is. `held`: those
+# of the last call, and what stands behind them; `bytes`: how many bytes they have. `copy`: goes
+# on with a copy; `other`: goes on with the one before.
+packetizer h264
+held = -
+bytes = 0
+packetizer h264
+pack 4 6501020304 = 7c850102 7c450304
+held = 7c850102 7c450304 -
+bytes = 8
+packetizer h265 numbers
+pack 100 0201aa = 02010000aa
+pack 100 0201bb = 02010001bb
+held = 02010001bb -
+bytes = 5
+packetizer h266 numbers
+pack 100 0039aa = 00390000aa
+copy
+held = -
+other
+held = 00390000aa -
+packetizer h266 numbers
+pack 100 0039aa = 00390000aa
+copy
+pack 100 0039bb = 00390001bb
+held = 00390001bb -
+other
+held = 00390000aa -
+packetizer h264
+unit 100 67aa = 67aa
+held = 67aa -
+packetizer h264
+unit 100 6501 = 6501
+unit 100 65020304000001 = 65020304000001
+held = 65020304000001 -
+packetizer h265 numbers
+unit 100 4201aa = 42010000aa
+unit 100 4201bb = 42010001bb
+held = 42010001bb -
+";
+
+#[test]
+fn packets_of_the_last_call(rt: HostRuntime) -> Result<(), Fail> {
+    walk(&rt, rt.alloc(), &mut Sender::new(rt.alloc()), SENDING)
 }

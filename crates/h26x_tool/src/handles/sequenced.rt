@@ -1,180 +1,200 @@
-use crate::rows::{bytes_of, same};
+use crate::rows::lines::receiving::word_of;
+use crate::rows::lines::settings::{Settings, name_of};
+use crate::rows::lines::text::{bytes_of, number, push_bytes, push_word, refusal};
+use crate::rows::lines::{Answers, walk};
 use h26x_codec::Codec;
-use h26x_core::{CodecExtra, H264CodecExtra, PacketError};
+use h26x_core::{CodecExtra, PacketError};
 use h26x_handles::sequenced::SequencedEndpoint;
 use h26x_receiver::Received;
-use std::alloc::Global;
-use std::process::Abort;
+use std::alloc::{AllocError, Global};
+use std::mem;
 use std::test::Fail;
 
-/// A packet with its number, what becomes of it, what the endpoint has kept then, and how many bytes
-/// are open.
-type Row = (
-    u16,
-    &'static str,
-    Result<Received, PacketError>,
-    &'static str,
-    usize,
-);
+/// An endpoint, the one that it was copied from, and what was told.
+#[derive(Drop)]
+struct Receiver {
+    endpoint: SequencedEndpoint,
+    other: SequencedEndpoint,
+    told: CodecExtra,
+}
 
-/// Gives packets to an endpoint with no room for what they complete, and compares what becomes of
-/// each.
-fn receives(
-    rt: &impl Abort,
-    alloc: Global,
-    endpoint: &mut SequencedEndpoint,
-    rows: &[Row],
-) -> Result<(), Fail> {
-    for &(sequence, packet, want, written, run_len) in rows {
-        let bytes = bytes_of(alloc, packet)?;
-        let told = &mut CodecExtra::None;
-        let answer = endpoint.receive(sequence, &bytes, &mut [], &mut 0, told);
-        let written = bytes_of(alloc, written)?;
-        same(
-            rt,
-            &(answer, endpoint.written(), endpoint.run_len()),
-            &(want, written.as_slice(), run_len),
-            packet,
-        );
+impl Receiver {
+    fn new(alloc: Global) -> Self {
+        Receiver {
+            endpoint: SequencedEndpoint::new(alloc, Codec::H264, false, false, 0),
+            other: SequencedEndpoint::new(alloc, Codec::H264, false, false, 0),
+            told: CodecExtra::None,
+        }
     }
-    Ok(())
-}
 
-/// A unit of which a packet is missing, one that is whole, and packets that are late or refused,
-/// which leave what was completed.
-static LOSSES: [Row; 8] = [
-    (65534, "7c8501", Ok(Received::InOrder), "", 1),
-    (0, "7c4503", Ok(Received::Gap(1)), "", 0),
-    (1, "7c8501", Ok(Received::InOrder), "", 1),
-    (2, "7c4502", Ok(Received::InOrder), "00000001 650102", 0),
-    (2, "7c8501", Ok(Received::Late(1)), "00000001 650102", 0),
-    (3, "7c8505", Ok(Received::InOrder), "", 1),
-    (4, "6501", Ok(Received::InOrder), "00000001 6501", 1),
-    (
-        5,
-        "7f01",
-        Err(PacketError::NaluTypeIsNotHandled(31)),
-        "00000001 6501",
-        1,
-    ),
-];
-
-#[test]
-fn packets_that_are_missing(rt: HostRuntime) -> Result<(), Fail> {
-    let mut endpoint = SequencedEndpoint::new(rt.alloc(), Codec::H264, false, false, 1000);
-    receives(&rt, rt.alloc(), &mut endpoint, &LOSSES)
-}
-
-/// Runs of H.266 at a limit of two bytes, behind lengths.
-static LIMITED: [Row; 4] = [
-    (1, "00e987 0102", Ok(Received::InOrder), "", 2),
-    (
-        2,
-        "00e947 0304",
-        Ok(Received::InOrder),
-        "00000006 003901020304",
-        0,
-    ),
-    (4, "00e987 010203", Ok(Received::TooLong(1)), "", 0),
-    (5, "00e947 0304", Ok(Received::InOrder), "", 0),
-];
-
-#[test]
-fn runs_at_the_limit(rt: HostRuntime) -> Result<(), Fail> {
-    let mut endpoint = SequencedEndpoint::new(rt.alloc(), Codec::H266, false, true, 2);
-    receives(&rt, rt.alloc(), &mut endpoint, &LIMITED)
-}
-
-/// The start of a unit of H.265, and its end with the number behind it.
-static START: [Row; 1] = [(8, "620193 0005 aa", Ok(Received::InOrder), "", 1)];
-
-static END: [Row; 1] = [(
-    9,
-    "620153 bb",
-    Ok(Received::InOrder),
-    "00000001 2601aabb",
-    0,
-)];
-
-/// An endpoint that has taken the start.
-fn with_a_run(rt: &impl Abort, alloc: Global) -> Result<SequencedEndpoint, Fail> {
-    let mut endpoint = SequencedEndpoint::new(alloc, Codec::H265, true, false, 1000);
-    receives(rt, alloc, &mut endpoint, &START)?;
-    Ok(endpoint)
-}
-
-#[test]
-fn a_copy_goes_on_with_the_open_unit(rt: HostRuntime) -> Result<(), Fail> {
-    let mut endpoint = with_a_run(&rt, rt.alloc())?;
-    receives(&rt, rt.alloc(), &mut endpoint, &END)?;
-    let mut copy = endpoint.clone(rt.alloc())?;
-    assert!(rt; copy.written().is_empty());
-    let mut copy_of_open = with_a_run(&rt, rt.alloc())?.clone(rt.alloc())?;
-    receives(&rt, rt.alloc(), &mut copy_of_open, &END)?;
-    let again = [(9, "620153 bb", Ok(Received::Late(1)), "", 0)];
-    receives(&rt, rt.alloc(), &mut copy, &again)
-}
-
-/// The end of a unit that was given up, and a unit that bears no number, behind its length.
-static ANEW: [Row; 2] = [
-    (40000, "620153 bb", Ok(Received::InOrder), "", 0),
-    (40001, "0201cc", Ok(Received::InOrder), "00000003 0201cc", 0),
-];
-
-#[test]
-fn a_restart_and_other_settings(rt: HostRuntime) -> Result<(), Fail> {
-    let mut endpoint = with_a_run(&rt, rt.alloc())?;
-    endpoint.restart();
-    endpoint.with_donl(false);
-    endpoint.with_avc(true);
-    assert!(rt; endpoint.run_len() == 0 && endpoint.depacketizer().codec() == Codec::H265);
-    receives(&rt, rt.alloc(), &mut endpoint, &ANEW)
-}
-
-#[test]
-fn what_is_told_of_packets(rt: HostRuntime) -> Result<(), Fail> {
-    let mut endpoint = SequencedEndpoint::new(rt.alloc(), Codec::H264, false, false, 1000);
-    let mut told = CodecExtra::None;
-    endpoint.receive(1, &[0x65, 1], &mut [], &mut 0, &mut told)?;
-    endpoint.receive(1, &[0x61, 1], &mut [], &mut 0, &mut told)?;
-    assert!(rt; told == CodecExtra::H264(H264CodecExtra { is_keyframe: true }));
-    Ok(())
-}
-
-/// Memory that a unit of six bytes behind its start code may go to, what stands there then, and what
-/// is kept.
-type Room = (&'static str, &'static str, &'static str);
-
-static ROOMS: [Room; 2] = [
-    ("777777777777", "00000001 6501", ""),
-    ("7777777777", "7777777777", "00000001 6501"),
-];
-
-/// A unit that is kept.
-static KEPT: [Row; 1] = [(1, "6701", Ok(Received::InOrder), "00000001 6701", 0)];
-
-/// Gives an endpoint a packet with this room, and compares what stands where.
-fn goes(
-    rt: &impl Abort,
-    alloc: Global,
-    endpoint: &mut SequencedEndpoint,
-    room: &Room,
-) -> Result<(), Fail> {
-    let mut memory = bytes_of(alloc, room.0)?;
-    let (to, kept) = (bytes_of(alloc, room.1)?, bytes_of(alloc, room.2)?);
-    let (mut written, mut told) = (0, CodecExtra::None);
-    endpoint.receive(2, &[0x65, 1], &mut memory, &mut written, &mut told)?;
-    let has = (memory.as_slice(), endpoint.written(), written);
-    same(rt, &has, &(to.as_slice(), kept.as_slice(), 6), room.0);
-    Ok(())
-}
-
-#[test]
-fn units_go_where_they_have_room(rt: HostRuntime) -> Result<(), Fail> {
-    for room in &ROOMS {
-        let mut endpoint = SequencedEndpoint::new(rt.alloc(), Codec::H264, false, false, 1000);
-        receives(&rt, rt.alloc(), &mut endpoint, &KEPT)?;
-        goes(&rt, rt.alloc(), &mut endpoint, room)?;
+    fn begin(&mut self, alloc: Global, run_limit: usize, words: &[&str]) -> Result<(), Fail> {
+        let it = Settings::of_words(words)?;
+        self.endpoint = SequencedEndpoint::new(alloc, it.codec, it.numbers, it.avc, run_limit);
+        self.told = CodecExtra::None;
+        Ok(())
     }
-    Ok(())
+
+    fn copy(&mut self, alloc: Global) -> Result<(), PacketError> {
+        self.other = self.endpoint.clone(alloc)?;
+        self.exchange();
+        Ok(())
+    }
+
+    fn exchange(&mut self) {
+        mem::swap(&mut self.endpoint, &mut self.other);
+    }
+
+    fn receive(
+        &mut self,
+        sequence: u16,
+        packet: &[u8],
+        memory: &mut [u8],
+        written: &mut usize,
+    ) -> Result<Received, PacketError> {
+        self.endpoint
+            .receive(sequence, packet, memory, written, &mut self.told)
+    }
+
+    /// What becomes of a packet without room for what it completes, what is kept then, and how many
+    /// bytes are open.
+    fn keep(&mut self, alloc: Global, sequence: &str, packet: &str) -> Result<String, Fail> {
+        let packet = bytes_of(alloc, packet)?;
+        let answer = self.receive(sequence.parse::<u16>()?, &packet, &mut [], &mut 0);
+        let mut text = answered(alloc, answer)?;
+        push_bytes(&mut text, alloc, self.endpoint.written())?;
+        let open = format!(in alloc; "{}", self.endpoint.run_len())?;
+        push_word(&mut text, open.as_str())?;
+        Ok(text)
+    }
+
+    /// What stands in memory that a packet is given, what is kept then, and how many bytes it
+    /// completed.
+    fn put(
+        &mut self,
+        alloc: Global,
+        sequence: &str,
+        memory: &str,
+        packet: &str,
+    ) -> Result<String, Fail> {
+        let packet = bytes_of(alloc, packet)?;
+        let mut memory = bytes_of(alloc, memory)?;
+        let mut written = 0;
+        self.receive(sequence.parse::<u16>()?, &packet, &mut memory, &mut written)?;
+        let mut text = format!(in alloc; "{written}")?;
+        push_bytes(&mut text, alloc, &memory)?;
+        push_bytes(&mut text, alloc, self.endpoint.written())?;
+        Ok(text)
+    }
+
+    fn answer_told(&self, alloc: Global, call: &[&str]) -> Result<String, Fail> {
+        match call {
+            ["kept"] => {
+                let mut text = String::new(alloc);
+                push_bytes(&mut text, alloc, self.endpoint.written())?;
+                Ok(text)
+            }
+            ["open"] => Ok(format!(in alloc; "{}", self.endpoint.run_len())?),
+            ["codec"] => {
+                let codec = self.endpoint.depacketizer().codec();
+                Ok(name_of(codec).to_string(alloc)?)
+            }
+            ["told"] => {
+                let codec = self.endpoint.depacketizer().codec();
+                Ok(word_of(codec, self.told).to_string(alloc)?)
+            }
+            _ => Err("no such call of a receiver")?,
+        }
+    }
+}
+
+/// What becomes of a packet.
+fn answered(alloc: Global, answer: Result<Received, PacketError>) -> Result<String, AllocError> {
+    match answer {
+        Ok(Received::InOrder) => "in-order".to_string(alloc),
+        Ok(Received::Gap(missing)) => format!(in alloc; "gap {missing}"),
+        Ok(Received::TooLong(missing)) => format!(in alloc; "too-long {missing}"),
+        Ok(Received::Late(behind)) => format!(in alloc; "late {behind}"),
+        Err(error) => refusal(alloc, error),
+    }
+}
+
+impl Answers for Receiver {
+    fn answer(&mut self, alloc: Global, call: &[&str]) -> Result<String, Fail> {
+        match call {
+            ["receiver", limit, words @ ..] => self.begin(alloc, number(limit)?, words)?,
+            ["copy"] => self.copy(alloc)?,
+            ["other"] => self.exchange(),
+            ["restart"] => self.endpoint.restart(),
+            ["numbers", "off"] => self.endpoint.with_donl(false),
+            ["avc", "on"] => self.endpoint.with_avc(true),
+            ["keep", sequence, packet] => return self.keep(alloc, sequence, packet),
+            ["put", sequence, memory, packet] => return self.put(alloc, sequence, memory, packet),
+            _ => return self.answer_told(alloc, call),
+        }
+        Ok(String::new(alloc))
+    }
+}
+
+/// Endpoints of packets with their sequence numbers.
+#[rattlefmt::skip]
+const SEQUENCED: &str = "\
+# A call a line, with what comes of it behind `=`. Bytes are in hexadecimal, `-` for none, and
+# `aa*3` is `aa` three times. `receiver`: the most bytes that may be open, the codec, its settings.
+# `keep`: what becomes of a packet without memory, what is kept then, and how many bytes are open.
+# `put`: how many bytes are completed, the memory then, and what is kept.
+# A unit of which a packet is missing, one that is whole, and packets that are late or refused,
+# which leave what was completed.
+receiver 1000 h264
+keep 65534 7c8501 = in-order - 1
+keep 0 7c4503 = gap 1 - 0
+keep 1 7c8501 = in-order - 1
+keep 2 7c4502 = in-order 00000001650102 0
+keep 2 7c8501 = late 1 00000001650102 0
+keep 3 7c8505 = in-order - 1
+keep 4 6501 = in-order 000000016501 1
+keep 5 7f01 = type 31 000000016501 1
+# Runs at a limit of two bytes, behind lengths.
+receiver 2 h266 avc
+keep 1 00e9870102 = in-order - 2
+keep 2 00e9470304 = in-order 00000006003901020304 0
+keep 4 00e987010203 = too-long 1 - 0
+keep 5 00e9470304 = in-order - 0
+# A copy goes on with the open unit, and not with what was completed.
+receiver 1000 h265 numbers
+keep 8 6201930005aa = in-order - 1
+keep 9 620153bb = in-order 000000012601aabb 0
+copy
+kept = -
+keep 9 620153bb = late 1 - 0
+receiver 1000 h265 numbers
+keep 8 6201930005aa = in-order - 1
+copy
+keep 9 620153bb = in-order 000000012601aabb 0
+# A restart gives the unit up and takes any number; then a unit without a number, behind its length.
+receiver 1000 h265 numbers
+keep 8 6201930005aa = in-order - 1
+restart
+numbers off
+avc on
+open = 0
+codec = h265
+keep 40000 620153bb = in-order - 0
+keep 40001 0201cc = in-order 000000030201cc 0
+# A late packet leaves what is told.
+receiver 1000 h264
+keep 1 6501 = in-order 000000016501 0
+keep 1 6101 = late 1 000000016501 0
+told = key
+# Units go where they have room.
+receiver 1000 h264
+keep 1 6701 = in-order 000000016701 0
+put 2 77*6 6501 = 6 000000016501 -
+receiver 1000 h264
+keep 1 6701 = in-order 000000016701 0
+put 2 77*5 6501 = 6 77*5 000000016501
+";
+
+#[test]
+fn packets_with_their_numbers(rt: HostRuntime) -> Result<(), Fail> {
+    walk(&rt, rt.alloc(), &mut Receiver::new(rt.alloc()), SEQUENCED)
 }

@@ -1,11 +1,13 @@
 ghost use Rattle.std.specs.Prelude.{[]};
 
 use super::*;
-use crate::rows::buffers::{How, Step, appends_steps, sends_steps};
+use crate::rows::lines::sending::{Sender, Way};
+use crate::rows::lines::walk;
 use crate::rows::{calls_of, same, same_bytes, same_packets};
 use h26x_codec::{Carried, CodecDepacketizer, CodecPacketizer, carry};
 use h26x_core::H265CodecExtra;
 use std::fmt;
+use std::process::Abort;
 use std::test::Fail;
 
 const PAYLOAD: [u8; 3] = [2, 1, 0xaa];
@@ -79,31 +81,32 @@ fn a_packetizer_in_a_box(rt: HostRuntime) -> Result<(), Fail> {
 }
 
 /// Payloads and units, each of which is one packet or none.
-static STEPS: [Step; 5] = [
-    (
-        How::Payload,
-        0,
-        "000001 0201aa 000001 41",
-        "0000010201aa00000141",
-    ),
-    (How::Unit, 0, "0201aa", "0201aa"),
-    (How::Payload, 9, "", ""),
-    (How::Unit, 9, "", ""),
-    (How::Payload, 1, "67", "67"),
-];
+#[rattlefmt::skip]
+const PAYLOADS: &str = "\
+# A call a line, with what comes of it behind `=`. Bytes are in hexadecimal, `-` for none.
+pack 0 0000010201aa00000141 = 0000010201aa00000141
+unit 0 0201aa = 0201aa
+pack 9 - =
+unit 9 - =
+pack 1 67 = 67
+";
+
+/// Sends these out of a box.
+fn send_out_of_a_box(rt: &impl Abort, alloc: Global, way: Way) -> Result<(), Fail> {
+    let plain = PlainPacketizer::new(alloc);
+    let packetizer = CodecPacketizer::Boxed(Box::new(alloc, plain)?);
+    let mut sender = Sender::of_packetizer(alloc, packetizer, way);
+    walk(rt, alloc, &mut sender, PAYLOADS)
+}
 
 #[test]
 fn units_out_of_a_box(rt: HostRuntime) -> Result<(), Fail> {
-    let plain = PlainPacketizer::new(rt.alloc());
-    let mut packetizer = CodecPacketizer::Boxed(Box::new(rt.alloc(), plain)?);
-    sends_steps(&rt, rt.alloc(), &mut packetizer, &STEPS)
+    send_out_of_a_box(&rt, rt.alloc(), Way::List)
 }
 
 #[test]
 fn packets_out_of_a_box_in_a_buffer(rt: HostRuntime) -> Result<(), Fail> {
-    let plain = PlainPacketizer::new(rt.alloc());
-    let mut packetizer = CodecPacketizer::Boxed(Box::new(rt.alloc(), plain)?);
-    appends_steps(&rt, rt.alloc(), &mut packetizer, 12, &STEPS)
+    send_out_of_a_box(&rt, rt.alloc(), Way::Buffer(12))
 }
 
 const TOLD: CodecExtra = CodecExtra::H265(H265CodecExtra { is_keyframe: true });

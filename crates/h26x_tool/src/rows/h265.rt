@@ -1,16 +1,46 @@
 //! Rows of H.265.
 
-use h26x_core::{CodecExtra, H265CodecExtra};
+use super::lines::receiving::Receiver;
+use super::lines::sending::{Sender, Way};
+use super::lines::walk;
+use receiving::RECEIVING;
+use sending::{LONG, SENDING};
+use std::test::Fail;
 
-mod depacketizer;
-mod detect;
-mod packetizer;
 mod packets;
+mod receiving;
+mod sending;
 mod shown;
 mod words;
 
-/// What is told where a unit is one of a keyframe.
-const KEY: CodecExtra = CodecExtra::H265(H265CodecExtra { is_keyframe: true });
+#[test]
+fn packets_in_a_list(rt: HostRuntime) -> Result<(), Fail> {
+    let mut sender = Sender::new(rt.alloc(), Way::List);
+    walk(&rt, rt.alloc(), &mut sender, SENDING)?;
+    walk(&rt, rt.alloc(), &mut sender, LONG)
+}
 
-/// What is told where none is.
-const NOT_KEY: CodecExtra = CodecExtra::H265(H265CodecExtra { is_keyframe: false });
+#[test]
+fn packets_in_a_buffer(rt: HostRuntime) -> Result<(), Fail> {
+    walk(
+        &rt,
+        rt.alloc(),
+        &mut Sender::new(rt.alloc(), Way::Buffer(0)),
+        SENDING,
+    )
+}
+
+#[test]
+fn packets_behind_headroom(rt: HostRuntime) -> Result<(), Fail> {
+    walk(
+        &rt,
+        rt.alloc(),
+        &mut Sender::new(rt.alloc(), Way::Buffer(12)),
+        SENDING,
+    )
+}
+
+#[test]
+fn units_out_of_packets(rt: HostRuntime) -> Result<(), Fail> {
+    walk(&rt, rt.alloc(), &mut Receiver::new(rt.alloc()), RECEIVING)
+}

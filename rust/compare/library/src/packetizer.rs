@@ -160,9 +160,10 @@ macro_rules! packetizer {
             /// So whoever has units need not join them, and may send parameter sets himself: several
             /// of a kind, again every second, or longer than a packet. Sets that wait stay.
             ///
-            /// There are no packets where no fragment has room for data, as
-            /// [`Packetizer::packetize`] says, or the unit has no whole header: one byte of H.264, two
-            /// of the others. `OutOfMemory` is the only error, and leaves the packetizer as it is.
+            /// There are no packets where the unit has no whole header (one byte of H.264, two of the
+            /// others), under an `mtu` of 1 (H.264) or 4, and of a unit longer than a packet where no
+            /// fragment has room for data. `OutOfMemory` is the only error, and leaves the packetizer
+            /// as it is.
             pub fn packetize_unit(
                 &mut self,
                 mtu: usize,

@@ -1,6 +1,5 @@
 //! The packet that a depacketizer has accepted last.
 
-use super::depacketizer::fresh;
 use crate::rows::ends::{refuses_plainly, taken};
 use h26x_codec::{Codec, CodecDepacketizer};
 use h26x_core::{H265TSCI, PacketError};
@@ -8,6 +7,13 @@ use h265_packets::H265Payload;
 use h265_payload::H265Depacketizer;
 use std::alloc::Global;
 use std::test::Fail;
+
+/// A fresh depacketizer of packets with numbers, or without.
+fn fresh(alloc: Global, has_donl: bool) -> H265Depacketizer {
+    let mut depacketizer = H265Depacketizer::new(alloc);
+    depacketizer.with_donl(has_donl);
+    depacketizer
+}
 
 /// A depacketizer that has taken packets with numbers, or without.
 fn take(alloc: Global, has_donl: bool, packets: &str) -> Result<H265Depacketizer, Fail> {

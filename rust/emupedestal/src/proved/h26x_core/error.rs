@@ -30,7 +30,7 @@ pub enum PacketError {
     /// (RFC 9328, 1.1.4 and 4.3.2).
     ErrH266CorruptedPacket,
 
-    /// H.264: the unit's length doesn't fit the four bytes of an AVC length (ISO/IEC 14496-15).
+    /// Behind lengths, of every codec: the unit's length doesn't fit four bytes (ISO/IEC 14496-15).
     AvcUnitTooLong,
 
     /// The allocator had no memory.

@@ -1,0 +1,588 @@
+/* What library/arguments.c hands on to the proved calls, in whose places stubs stand here: buffers that
+ * are there for as many bytes as their lengths say, outputs that are there and don't overlap, and else
+ * what the caller gave. NULL is handed on as a buffer of length 0, whatever length the caller says.
+ *
+ * As a program it goes through all combinations of NULL and of what is there, with lengths of 0 and of
+ * as much as there can be. Under cbmc, a model checker, nondet_bool and nondet_size are any value. */
+#include "h26x.h"
+#include <stdio.h>
+#include <stdlib.h>
+#include <string.h>
+
+bool nondet_bool(void);
+size_t nondet_size(void);
+
+#ifdef __CPROVER__
+#define expect(what) __CPROVER_assert(what, #what)
+#define in_each_case(check) check()
+#else
+
+/* Bits, each of which is one choice of the case that is tried. */
+static unsigned long choices;
+static size_t cases;
+
+bool nondet_bool(void)
+{
+    bool chosen = choices & 1;
+    choices >>= 1;
+    return chosen;
+}
+
+size_t nondet_size(void)
+{
+    return nondet_bool() ? SIZE_MAX : 0;
+}
+
+static void expect_at(bool holds, const char *what, int line)
+{
+    if (!holds) {
+        fprintf(stderr, "handed_on.c:%d: does not hold: %s\n", line, what);
+        exit(1);
+    }
+}
+#define expect(what) expect_at(what, #what, __LINE__)
+
+/* Makes a check in case 0, 1, .. until there is one more than it has choices for. */
+static void in_each_case(void (*check)(void))
+{
+    for (unsigned long i = 0; choices = i, check(), choices == 0; i++)
+        cases++;
+}
+#endif
+
+/* ---- What a caller gives ---- */
+
+enum { ROOM = 3, TOLD = 2 };
+
+struct bytes {
+    uint8_t *at;
+    size_t len;
+};
+
+static h26x_packetizer packetizer;
+static h26x_depacketizer depacketizer;
+static h26x_receiver receiver;
+
+/* Where there is something, what there is. */
+static struct {
+    uint8_t in[ROOM], extension[ROOM], to[ROOM];
+    size_t ends[ROOM], first, second;
+    uint8_t small, small_too;
+    uint16_t missing;
+    uint32_t number;
+    h26x_refusal why;
+} there;
+
+/* What a call is given, and what it is to answer. */
+static struct {
+    struct bytes in, extension, to;
+    size_t *ends, ends_room;
+    size_t *first, *second;
+    uint8_t *small, *small_too;
+    uint16_t *missing;
+    uint32_t *number;
+    h26x_refusal *why;
+    size_t value, other_value;
+    uint32_t answer;
+} given;
+
+/* Which of these it may be given. */
+enum {
+    IN = 1,
+    EXTENSION = 2,
+    TO = 4,
+    ENDS = 8,
+    FIRST = 16,
+    SECOND = 32,
+    SMALL = 64,
+    SMALL_TOO = 128,
+    MISSING = 256,
+    NUMBER = 512,
+    WHY = 1024
+};
+
+static size_t handed_on;
+
+/* A length of something that is there, or of NULL. */
+static size_t any_len(const void *at)
+{
+    size_t len = nondet_size();
+    return at != NULL && len > ROOM ? ROOM : len;
+}
+
+#define ANY(which, at) (which) != 0 && nondet_bool() ? (at) : NULL
+
+static void give(unsigned which)
+{
+    given.in.at = ANY(which & IN, there.in);
+    given.extension.at = ANY(which & EXTENSION, there.extension);
+    given.to.at = ANY(which & TO, there.to);
+    given.ends = ANY(which & ENDS, there.ends);
+    given.first = ANY(which & FIRST, &there.first);
+    given.second = ANY(which & SECOND, &there.second);
+    given.small = ANY(which & SMALL, &there.small);
+    given.small_too = ANY(which & SMALL_TOO, &there.small_too);
+    given.missing = ANY(which & MISSING, &there.missing);
+    given.number = ANY(which & NUMBER, &there.number);
+    given.why = ANY(which & WHY, &there.why);
+    if ((which & IN) != 0)
+        given.in.len = any_len(given.in.at);
+    if ((which & EXTENSION) != 0)
+        given.extension.len = any_len(given.extension.at);
+    if ((which & TO) != 0)
+        given.to.len = any_len(given.to.at);
+    if ((which & ENDS) != 0)
+        given.ends_room = any_len(given.ends);
+    given.value = nondet_size();
+    given.other_value = given.value / 2;
+    given.answer = (uint32_t)given.value;
+    there.small = TOLD;
+    handed_on = 0;
+}
+
+/* ---- What the stubs expect ---- */
+
+/* The outputs of a call. Each byte of the n-th is set to n. */
+static struct {
+    uint8_t *at;
+    size_t size;
+} outputs[5];
+static size_t outputs_len;
+
+/* A buffer of this length, or one of length 0 in the place of NULL. */
+static void is_buffer(const void *at, size_t len, const void *given_at, size_t given_len)
+{
+    expect(at != NULL);
+    expect(given_at != NULL ? at == given_at && len == given_len : len == 0);
+}
+
+static void reads(const uint8_t *at, size_t len, struct bytes of)
+{
+    is_buffer(at, len, of.at, of.len);
+    expect(len == 0 || at[0] + at[len - 1] == 0);
+}
+
+static void writes_to(uint8_t *at, size_t len)
+{
+    is_buffer(at, len, given.to.at, given.to.len);
+    if (len != 0)
+        at[0] = at[len - 1] = 1;
+}
+
+static void writes_ends(size_t *at, size_t len)
+{
+    is_buffer(at, len, given.ends, given.ends_room);
+    if (len != 0)
+        at[0] = at[len - 1] = 1;
+}
+
+/* An output, or a place for it. */
+static void output(void *at, size_t size, const void *given_at)
+{
+    expect(at != NULL && (given_at == NULL || at == given_at));
+    outputs[outputs_len].at = at;
+    outputs[outputs_len].size = size;
+    outputs_len++;
+    memset(at, (int)outputs_len, size);
+}
+#define is_output(at, given_at) output(at, sizeof *(at), given_at)
+
+/* What a stub answers. The outputs are still as they were set, so no two overlap. */
+static uint32_t answer(void)
+{
+    while (outputs_len > 0) {
+        for (size_t i = 0; i < outputs[outputs_len - 1].size; i++)
+            expect(outputs[outputs_len - 1].at[i] == outputs_len);
+        outputs_len--;
+    }
+    handed_on++;
+    return given.answer;
+}
+
+/* The call answers what the proved one does, which is made once. */
+#define hands_on(call) expect((call) == given.answer && handed_on == 1)
+#define hands_on_bool(call) expect((call) == (given.answer != 0) && handed_on == 1)
+
+/* ---- Sending ---- */
+
+#define STUB(name) __typeof__(h26x_##name) proved_##name
+
+STUB(packetizer_free);
+void proved_packetizer_free(h26x_packetizer p)
+{
+    expect(p.at == &there);
+    handed_on++;
+}
+
+static void check_packetizer_free(void)
+{
+    h26x_packetizer p = {nondet_bool() ? &there : NULL};
+    handed_on = 0;
+    h26x_packetizer_free(p);
+    expect(handed_on == (p.at != NULL));
+}
+
+STUB(packetize);
+uint32_t proved_packetize(h26x_packetizer *p, size_t mtu, const uint8_t *payload, size_t payload_len,
+                          size_t *count)
+{
+    expect(p == &packetizer && mtu == given.value);
+    reads(payload, payload_len, given.in);
+    is_output(count, given.first);
+    return answer();
+}
+
+static void check_packetize(void)
+{
+    give(IN | FIRST);
+    hands_on(h26x_packetize(&packetizer, given.value, given.in.at, given.in.len, given.first));
+}
+
+STUB(packetize_unit);
+uint32_t proved_packetize_unit(h26x_packetizer *p, size_t mtu, const uint8_t *unit, size_t unit_len,
+                               size_t *count)
+{
+    return proved_packetize(p, mtu, unit, unit_len, count);
+}
+
+static void check_packetize_unit(void)
+{
+    give(IN | FIRST);
+    hands_on(h26x_packetize_unit(&packetizer, given.value, given.in.at, given.in.len, given.first));
+}
+
+STUB(packetize_into);
+uint32_t proved_packetize_into(h26x_packetizer *p, size_t mtu, const uint8_t *payload,
+                               size_t payload_len, size_t headroom, uint8_t *to, size_t room,
+                               size_t *ends, size_t ends_room, size_t *count, size_t *size)
+{
+    expect(p == &packetizer && mtu == given.value && headroom == given.other_value);
+    reads(payload, payload_len, given.in);
+    writes_to(to, room);
+    writes_ends(ends, ends_room);
+    is_output(count, given.first);
+    is_output(size, given.second);
+    return answer();
+}
+
+static void check_packetize_into(void)
+{
+    give(IN | TO | ENDS | FIRST | SECOND);
+    hands_on(h26x_packetize_into(&packetizer, given.value, given.in.at, given.in.len,
+                                 given.other_value, given.to.at, given.to.len, given.ends,
+                                 given.ends_room, given.first, given.second));
+}
+
+STUB(packetize_unit_into);
+uint32_t proved_packetize_unit_into(h26x_packetizer *p, size_t mtu, const uint8_t *unit,
+                                    size_t unit_len, size_t headroom, uint8_t *to, size_t room,
+                                    size_t *ends, size_t ends_room, size_t *count, size_t *size)
+{
+    return proved_packetize_into(p, mtu, unit, unit_len, headroom, to, room, ends, ends_room, count,
+                                 size);
+}
+
+static void check_packetize_unit_into(void)
+{
+    give(IN | TO | ENDS | FIRST | SECOND);
+    hands_on(h26x_packetize_unit_into(&packetizer, given.value, given.in.at, given.in.len,
+                                      given.other_value, given.to.at, given.to.len, given.ends,
+                                      given.ends_room, given.first, given.second));
+}
+
+STUB(packets_size);
+uint32_t proved_packets_size(const h26x_packetizer *p, size_t mtu, const uint8_t *payload,
+                             size_t payload_len, size_t headroom, size_t *count, size_t *size)
+{
+    expect(p == &packetizer && mtu == given.value && headroom == given.other_value);
+    reads(payload, payload_len, given.in);
+    is_output(count, given.first);
+    is_output(size, given.second);
+    return answer();
+}
+
+static void check_packets_size(void)
+{
+    give(IN | FIRST | SECOND);
+    hands_on(h26x_packets_size(&packetizer, given.value, given.in.at, given.in.len,
+                               given.other_value, given.first, given.second));
+}
+
+STUB(packet_copy);
+size_t proved_packet_copy(const h26x_packetizer *p, size_t i, uint8_t *to, size_t room)
+{
+    expect(p == &packetizer && i == given.value);
+    writes_to(to, room);
+    return answer();
+}
+
+static void check_packet_copy(void)
+{
+    give(TO);
+    hands_on(h26x_packet_copy(&packetizer, given.value, given.to.at, given.to.len));
+}
+
+STUB(packets_copy);
+size_t proved_packets_copy(const h26x_packetizer *p, size_t first, uint8_t *to, size_t room,
+                           size_t *ends, size_t ends_room)
+{
+    expect(p == &packetizer && first == given.value);
+    writes_to(to, room);
+    writes_ends(ends, ends_room);
+    return answer();
+}
+
+static void check_packets_copy(void)
+{
+    give(TO | ENDS);
+    hands_on(h26x_packets_copy(&packetizer, given.value, given.to.at, given.to.len, given.ends,
+                               given.ends_room));
+}
+
+/* ---- Receiving ---- */
+
+STUB(depacketizer_free);
+void proved_depacketizer_free(h26x_depacketizer d)
+{
+    expect(d.at == &there);
+    handed_on++;
+}
+
+static void check_depacketizer_free(void)
+{
+    h26x_depacketizer d = {nondet_bool() ? &there : NULL};
+    handed_on = 0;
+    h26x_depacketizer_free(d);
+    expect(handed_on == (d.at != NULL));
+}
+
+STUB(depacketize);
+uint32_t proved_depacketize(h26x_depacketizer *d, bool avc, const uint8_t *packet, size_t packet_len,
+                            uint8_t *to, size_t room, size_t *written, uint8_t *extra,
+                            h26x_refusal *why)
+{
+    expect(d == &depacketizer && avc == (given.value != 0));
+    reads(packet, packet_len, given.in);
+    writes_to(to, room);
+    expect(*extra == (given.small != NULL ? TOLD : 0));
+    is_output(written, given.first);
+    is_output(extra, given.small);
+    is_output(why, given.why);
+    return answer();
+}
+
+static void check_depacketize(void)
+{
+    give(IN | TO | FIRST | SMALL | WHY);
+    hands_on(h26x_depacketize(&depacketizer, given.value != 0, given.in.at, given.in.len, given.to.at,
+                              given.to.len, given.first, given.small, given.why));
+}
+
+STUB(written_copy);
+size_t proved_written_copy(const h26x_depacketizer *d, uint8_t *to, size_t room)
+{
+    expect(d == &depacketizer);
+    writes_to(to, room);
+    return answer();
+}
+
+static void check_written_copy(void)
+{
+    give(TO);
+    hands_on(h26x_written_copy(&depacketizer, given.to.at, given.to.len));
+}
+
+STUB(receiver_free);
+void proved_receiver_free(h26x_receiver r)
+{
+    expect(r.at.at == &there);
+    handed_on++;
+}
+
+static void check_receiver_free(void)
+{
+    h26x_receiver r = {{nondet_bool() ? &there : NULL}};
+    handed_on = 0;
+    h26x_receiver_free(r);
+    expect(handed_on == (r.at.at != NULL));
+}
+
+STUB(receive);
+uint32_t proved_receive(h26x_receiver *r, uint16_t sequence, const uint8_t *packet, size_t packet_len,
+                        uint8_t *to, size_t room, size_t *written, uint8_t *extra, uint32_t *received,
+                        uint16_t *count, h26x_refusal *why)
+{
+    expect(r == &receiver && sequence == (uint16_t)given.value);
+    reads(packet, packet_len, given.in);
+    writes_to(to, room);
+    expect(*extra == (given.small != NULL ? TOLD : 0));
+    is_output(written, given.first);
+    is_output(extra, given.small);
+    is_output(received, given.number);
+    is_output(count, given.missing);
+    is_output(why, given.why);
+    return answer();
+}
+
+static void check_receive(void)
+{
+    give(IN | TO | FIRST | SMALL | NUMBER | MISSING | WHY);
+    hands_on(h26x_receive(&receiver, (uint16_t)given.value, given.in.at, given.in.len, given.to.at,
+                          given.to.len, given.first, given.small, given.number, given.missing,
+                          given.why));
+}
+
+/* ---- The packets that H.265 shows ---- */
+
+STUB(h265_part_copy);
+size_t proved_h265_part_copy(const h26x_depacketizer *d, size_t i, uint8_t *to, size_t room,
+                             uint32_t *number)
+{
+    expect(d == &depacketizer && i == given.value);
+    writes_to(to, room);
+    is_output(number, given.number);
+    return answer();
+}
+
+static void check_h265_part_copy(void)
+{
+    give(TO | NUMBER);
+    hands_on(h26x_h265_part_copy(&depacketizer, given.value, given.to.at, given.to.len,
+                                 given.number));
+}
+
+STUB(h265_paci_packet);
+uint32_t proved_h265_paci_packet(const uint8_t *unit, size_t unit_len, const uint8_t *extension,
+                                 size_t extension_len, uint8_t *to, size_t room, size_t *len)
+{
+    reads(unit, unit_len, given.in);
+    reads(extension, extension_len, given.extension);
+    writes_to(to, room);
+    is_output(len, given.first);
+    return answer();
+}
+
+static void check_h265_paci_packet(void)
+{
+    give(IN | EXTENSION | TO | FIRST);
+    hands_on(h26x_h265_paci_packet(given.in.at, given.in.len, given.extension.at,
+                                   given.extension.len, given.to.at, given.to.len, given.first));
+}
+
+/* ---- Packets and payloads ---- */
+
+STUB(is_partition_head);
+bool proved_is_partition_head(uint32_t codec, const uint8_t *packet, size_t packet_len)
+{
+    expect(codec == (uint32_t)given.value);
+    reads(packet, packet_len, given.in);
+    return answer() != 0;
+}
+
+static void check_is_partition_head(void)
+{
+    give(IN);
+    hands_on_bool(h26x_is_partition_head((uint32_t)given.value, given.in.at, given.in.len));
+}
+
+STUB(is_partition_tail);
+bool proved_is_partition_tail(uint32_t codec, bool marker, const uint8_t *packet, size_t packet_len)
+{
+    expect(marker == (given.other_value != 0));
+    return proved_is_partition_head(codec, packet, packet_len);
+}
+
+static void check_is_partition_tail(void)
+{
+    give(IN);
+    hands_on_bool(h26x_is_partition_tail((uint32_t)given.value, given.other_value != 0, given.in.at,
+                                         given.in.len));
+}
+
+STUB(detect_keyframe);
+bool proved_detect_keyframe(uint32_t codec, const uint8_t *packet, size_t packet_len)
+{
+    return proved_is_partition_head(codec, packet, packet_len);
+}
+
+static void check_detect_keyframe(void)
+{
+    give(IN);
+    hands_on_bool(h26x_detect_keyframe((uint32_t)given.value, given.in.at, given.in.len));
+}
+
+STUB(detect_h264_nalu);
+bool proved_detect_h264_nalu(const uint8_t *packet, size_t packet_len, uint8_t type)
+{
+    expect(type == (uint8_t)given.value);
+    reads(packet, packet_len, given.in);
+    return answer() != 0;
+}
+
+static void check_detect_h264_nalu(void)
+{
+    give(IN);
+    hands_on_bool(h26x_detect_h264_nalu(given.in.at, given.in.len, (uint8_t)given.value));
+}
+
+STUB(next_unit);
+bool proved_next_unit(uint32_t codec, const uint8_t *payload, size_t payload_len, size_t from,
+                      size_t *begin, size_t *end)
+{
+    expect(codec == (uint32_t)given.value && from == given.other_value);
+    reads(payload, payload_len, given.in);
+    is_output(begin, given.first);
+    is_output(end, given.second);
+    return answer() != 0;
+}
+
+static void check_next_unit(void)
+{
+    give(IN | FIRST | SECOND);
+    hands_on_bool(h26x_next_unit((uint32_t)given.value, given.in.at, given.in.len, given.other_value,
+                                 given.first, given.second));
+}
+
+STUB(h264_profile_level);
+bool proved_h264_profile_level(uint32_t profile_level_id, uint8_t *profile, uint8_t *level)
+{
+    expect(profile_level_id == (uint32_t)given.value);
+    is_output(profile, given.small);
+    is_output(level, given.small_too);
+    return answer() != 0;
+}
+
+static void check_h264_profile_level(void)
+{
+    give(SMALL | SMALL_TOO);
+    hands_on_bool(h26x_h264_profile_level((uint32_t)given.value, given.small, given.small_too));
+}
+
+int main(void)
+{
+    in_each_case(check_packetizer_free);
+    in_each_case(check_packetize);
+    in_each_case(check_packetize_unit);
+    in_each_case(check_packetize_into);
+    in_each_case(check_packetize_unit_into);
+    in_each_case(check_packets_size);
+    in_each_case(check_packet_copy);
+    in_each_case(check_packets_copy);
+    in_each_case(check_depacketizer_free);
+    in_each_case(check_depacketize);
+    in_each_case(check_written_copy);
+    in_each_case(check_receiver_free);
+    in_each_case(check_receive);
+    in_each_case(check_h265_part_copy);
+    in_each_case(check_h265_paci_packet);
+    in_each_case(check_is_partition_head);
+    in_each_case(check_is_partition_tail);
+    in_each_case(check_detect_keyframe);
+    in_each_case(check_detect_h264_nalu);
+    in_each_case(check_next_unit);
+    in_each_case(check_h264_profile_level);
+#ifndef __CPROVER__
+    printf("%zu cases\n", cases);
+#endif
+    return 0;
+}

@@ -1,0 +1,51 @@
+//! How an end is made, and what stands behind that in a line.
+
+use h26x_codec::Codec;
+use std::test::Fail;
+
+/// A codec, and the settings of an end.
+#[derive(Clone, Copy)]
+pub(crate) struct Settings {
+    pub codec: Codec,
+    pub numbers: bool,
+    pub avc: bool,
+}
+
+impl Settings {
+    /// Those that words name.
+    pub(crate) fn of_words(words: &[&str]) -> Result<Self, Fail> {
+        let (name, rest) = words.split_first().ok_or("no codec")?;
+        Ok(Settings {
+            codec: codec_of(name).ok_or("an unknown codec")?,
+            numbers: has(rest, "numbers"),
+            avc: has(rest, "avc"),
+        })
+    }
+}
+
+fn codec_of(name: &str) -> Option<Codec> {
+    match name {
+        "h264" => Some(Codec::H264),
+        "h265" => Some(Codec::H265),
+        "h266" => Some(Codec::H266),
+        _ => None,
+    }
+}
+
+fn has(words: &[&str], wanted: &str) -> bool {
+    for word in words {
+        if *word == wanted {
+            return true;
+        }
+    }
+    false
+}
+
+/// A codec's name in lines.
+pub(crate) fn name_of(codec: Codec) -> &'static str {
+    match codec {
+        Codec::H264 => "h264",
+        Codec::H265 => "h265",
+        Codec::H266 => "h266",
+    }
+}
