@@ -1,3 +1,5 @@
+ghost use Rattle.std.specs.Prelude.{◌<◌};
+
 use super::*;
 use std::alloc::{AllocError, Global};
 use std::test::Fail;
@@ -95,7 +97,9 @@ static LENGTHS: [usize; 12] = [17, 65, 66, 67, 68, 128, 129, 130, 131, 193, 194,
 
 /// How many payloads of a length, with a byte 01 in so many and a start code at one place each, have
 /// the units of the plain scan.
-fn count_same_places(alloc: Global, len: usize, apart: usize) -> Result<usize, AllocError> {
+fn count_same_places(alloc: Global, len: usize, apart: usize) -> Result<usize, AllocError>
+    requires { 0 < apart }
+{
     let mut same: usize = 0;
     for place in 0..len {
         let mut payload = vec![in alloc; 0x41u8; len]?;
@@ -113,9 +117,8 @@ fn count_same_places(alloc: Global, len: usize, apart: usize) -> Result<usize, A
 #[test]
 fn a_code_at_each_place_as_by_the_plain_scan(rt: HostRuntime) -> Result<(), Fail> {
     for len in &LENGTHS {
-        for apart in [1, 16] {
-            assert!(rt; count_same_places(rt.alloc(), *len, apart)? == *len);
-        }
+        assert!(rt; count_same_places(rt.alloc(), *len, 1)? == *len);
+        assert!(rt; count_same_places(rt.alloc(), *len, 16)? == *len);
     }
     Ok(())
 }
