@@ -9,20 +9,21 @@ ghost use Rattle.h26x_model.specs.Receive.DepacketizerState.{after_packets, IsPa
 ghost use Rattle.h26x_model.specs.Receive.RunLimit.{run_len};
 ghost use Rattle.h265_packets.specs.Payload.{empty_single};
 ghost use Rattle.h26x_payload.specs.AccessUnit.{may_begin, is_last};
+ghost use Rattle.h26x_payload.specs.OpenText.{IsSameText, text_depacketization, met_depacketization};
 ghost use Rattle.h26x_payload.specs.UnitSink.{grown_to};
 ghost use Rattle.h26x_model.specs.Payload.TwoBytes.{is_two_byte_fragment};
 ghost use Rattle.h265_payload.specs.H265.{h265_header};
 ghost use Rattle.h265_payload.specs.Setting.{setting, setting_format};
 ghost use Rattle.h265_payload.specs.Shown.{shown, is_aggregate, units_of_aggregate};
-ghost use Rattle.h265_payload.specs.DepacketizerView.{h265_depacketization};
+ghost use Rattle.h265_payload.specs.DepacketizerView.{h265_state, h265_depacketization};
 
 use crate::packetizer::H265;
 use crate::show::{prepare, show};
 use crate::spare::Spare;
 use h26x_core::{CodecExtra, Depacketizer, PacketError};
 use h26x_payload::{
-    DonlFormat, OpenRun, PacketReader, PayloadFormat, UnitSink, check_lengths, out_size_hint,
-    take_packet,
+    DonlFormat, OpenRun, OpenText, PacketReader, PayloadFormat, RunRule, UnitSink, check_lengths,
+    out_size_hint, take_in_text, take_packet,
 };
 use h265_packets::H265Payload;
 use std::alloc::Global;
@@ -170,10 +171,46 @@ impl H265Depacketizer {
         let codec = self.codec;
         let parts = codec.read(packet)?;
         let is_avc = self.is_avc;
-        check_lengths(codec, is_avc, packet, parts, &self.run)?;
+        check_lengths(codec, is_avc, packet, parts, self.run.open_len())?;
         prepare(codec.has_donl, packet, parts, &mut self.spare)?;
         let run = &mut self.run;
         take_packet(codec, is_avc, packet, parts, run, out, codec_extra)?;
+        let (payload, spare) = (&mut self.payload, &mut self.spare);
+        show(codec.has_donl, packet, parts, payload, spare);
+        Ok(())
+    }
+
+    /// Takes a packet as `depacketize_into` does, where the run that is open stands in the text that
+    /// is written to, and not here: the data of its fragments are copied once. By the rule the packet
+    /// goes on with that run, or has it given up. A refusal leaves everything.
+    #[inline]
+    pub fn depacketize_in_text(
+        &mut self,
+        rule: RunRule,
+        packet: &[u8],
+        text: &mut OpenText,
+        codec_extra: &mut CodecExtra,
+    ) -> Result<(), PacketError>
+        ensures outcome { IsPacketOutcome (met_depacketization rule.is_next (h265_state self.old)
+            text.old codec_extra.old) packet.now result }
+        ensures taken { OnOk result (text_depacketization (h265_state self.new) text.new
+            codec_extra.new ≡ after_packets (met_depacketization rule.is_next
+            (h265_state self.old) text.old codec_extra.old) (packet.now ∷ [])) }
+        ensures setting { self.new ≡ record self.old { payload = self.new.payload } }
+        ensures shows { OnOk result (self.new.payload
+            ≡ shown self.old.codec.has_donl packet.now) }
+        ensures aside { rule.may_be_inside ≡ false → OnOk result (text.new.inside ≡ None) }
+        ensures kept { OnErr result (self.new ≡ self.old) }
+        ensures kept_text { OnErr result (IsSameText text.new text.old) }
+        ensures kept_extra { OnErr result (codec_extra.new ≡ codec_extra.old) }
+    {
+        let codec = self.codec;
+        let parts = codec.read(packet)?;
+        let is_avc = self.is_avc;
+        let run_len = text.met_run_len(rule.is_next);
+        check_lengths(codec, is_avc, packet, parts, run_len)?;
+        prepare(codec.has_donl, packet, parts, &mut self.spare)?;
+        take_in_text(codec, is_avc, rule, packet, parts, text, codec_extra)?;
         let (payload, spare) = (&mut self.payload, &mut self.spare);
         show(codec.has_donl, packet, parts, payload, spare);
         Ok(())

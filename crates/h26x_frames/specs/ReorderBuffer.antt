@@ -7,6 +7,8 @@ use Rattle.h26x_frames.specs.Rtp.{RtpBody, rtp_body}
 use Rattle.h26x_frames.specs.declared.buffer.HeldPacket.{HeldPacket}
 use Rattle.h26x_frames.specs.declared.buffer.Pushed.{Pushed}
 use Rattle.h26x_frames.specs.declared.buffer.Pushed.TheVariants as pushes
+use Rattle.h26x_frames.specs.declared.buffer.NotHeldReason.{NotHeldReason}
+use Rattle.h26x_frames.specs.declared.buffer.NotHeldReason.TheVariants as reasons
 
 -- what a buffer is to contracts: its window, the number that is due, if a packet came, and the packets
 -- that it holds, with their numbers
@@ -50,6 +52,12 @@ push_answer b number =
     if is_late (Some (due_at b.window b.due number)) number
     then pushes.Late (distance_behind (Some (due_at b.window b.due number)) number)
     else (if is_number_held number b.held then pushes.Twice else pushes.Held)
+
+-- why a packet isn't held for which this is answered: where it would be held, memory lacks
+abbrev pub reason_of : Pushed → NotHeldReason
+reason_of pushes.Held = reasons.OutOfMemory
+reason_of (pushes.Late n) = reasons.Late n
+reason_of pushes.Twice = reasons.Twice
 
 -- the buffer after a packet came: one that is late changes nothing
 abbrev pub after_push : {A : Type 0} → BufferState A → ℕ × A → BufferState A

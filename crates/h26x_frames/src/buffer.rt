@@ -1,16 +1,17 @@
 //! A buffer for packets that come before earlier ones.
 
-ghost use Rattle.std.specs.Prelude.{◌≡◌, ◌+◌, ◌^◌, ◌<◌, ◌≤◌, ◌==◌, if◌then◌else◌, ℕ, Ok, None, IfOk, OnOk, OnErr, is_some, length, slice_get};
+ghost use Rattle.std.specs.Prelude.{◌≡◌, ◌+◌, ◌^◌, ◌<◌, ◌≤◌, ◌==◌, if◌then◌else◌, ℕ, Ok, None, IfOk, IfErr, OnOk, OnErr, is_some, length, slice_get};
 ghost use Rattle.std.specs.Option.{option_map};
 ghost use Rattle.h26x_frames.specs.Rtp.{RtpBody};
 ghost use Rattle.h26x_frames.specs.ReorderBuffer.{BufferState, numbered_packet, fresh_buffer, push_answer, after_push, next_packet, without_first};
+ghost use Rattle.h26x_frames.specs.ReorderBuffer as spec;
 
 use crate::order::NumberOrder;
 use crate::packet::RtpPacket;
 use std::alloc::{AllocError, Global};
 use std::marker::Model;
 
-/// A packet that a buffer gave out.
+/// A packet with memory of its own: one that a buffer holds, or gave out.
 #[derive(Debug, Drop)]
 pub struct HeldPacket {
     /// Its sequence number.
@@ -24,6 +25,30 @@ pub struct HeldPacket {
 }
 
 impl HeldPacket {
+    /// A packet in the caller's own memory, which is not copied.
+    pub fn new(sequence: u16, timestamp: u32, marker: bool, payload: Vec<u8>) -> Self
+        ensures { result ≡ record {
+          sequence = sequence;
+          timestamp = timestamp;
+          marker = marker;
+          payload = payload;
+        } }
+    {
+        HeldPacket {
+            sequence,
+            timestamp,
+            marker,
+            payload,
+        }
+    }
+
+    /// The memory of its payload, for another packet.
+    pub fn into_payload(self) -> Vec<u8>
+        ensures { result ≡ self.payload }
+    {
+        self.payload
+    }
+
     /// A copy of a packet, with this sequence number.
     pub(crate) fn copy(
         alloc: Global,
@@ -66,6 +91,39 @@ pub enum Pushed {
     Twice,
 }
 
+/// Why a packet that was given to a buffer by value isn't held.
+#[derive(Debug, Clone, Copy, PartialEq, Eq)]
+pub enum NotHeldReason {
+    /// Its number is so far behind the one that is due.
+    Late(u16),
+
+    /// A packet with its number is held.
+    Twice,
+
+    /// There is no memory for one more place. It can be given again.
+    OutOfMemory,
+}
+
+/// Why a packet isn't held for which this is answered: where it would be held, memory lacks.
+fn reason_of(answer: Pushed) -> NotHeldReason
+    ensures { result ≡ spec.reason_of answer }
+{
+    match answer {
+        Pushed::Held => NotHeldReason::OutOfMemory,
+        Pushed::Late(count) => NotHeldReason::Late(count),
+        Pushed::Twice => NotHeldReason::Twice,
+    }
+}
+
+/// A packet that was given to a buffer by value and isn't held, as it was given.
+#[derive(Debug, Drop)]
+pub struct NotHeld {
+    /// The packet.
+    pub packet: HeldPacket,
+    /// Why it isn't held.
+    pub reason: NotHeldReason,
+}
+
 /// Holds packets that came before earlier ones until those have come, or until a window of packets
 /// has passed (a jitter buffer), and gives them out in the order of their sequence numbers of RTP
 /// (RFC 3550, 5.1), each once.
@@ -75,6 +133,21 @@ pub enum Pushed {
 /// buffer.push(&packet)?;
 /// while let Some(held) = buffer.pop() {
 ///     receiver.receive(&held.packet(), &mut units)?;
+/// }
+/// ```
+///
+/// A packet in memory of its own is taken by value, and copied nowhere; its memory comes back with
+/// it, for the next datagram:
+///
+/// ```rust
+/// let len = socket.recv(&mut memory)?;
+/// let packet = HeldPacket::new(sequence, timestamp, marker, memory);
+/// if let Err(not_held) = buffer.push_held(packet) {
+///     memories.push(not_held.packet.into_payload())?;
+/// }
+/// while let Some(held) = buffer.pop() {
+///     receiver.receive(&held.packet(), &mut units)?;
+///     memories.push(held.into_payload())?;
 /// }
 /// ```
 #[derive(Debug, Drop)]
@@ -149,6 +222,32 @@ impl ReorderBuffer {
                 Ok(Pushed::Held)
             }
             Err(answer) => Ok(answer),
+        }
+    }
+
+    /// Takes a packet that has memory of its own, and copies nothing of it. One that isn't held comes
+    /// back as it was given, with the reason, and the buffer stays as it was.
+    pub fn push_held(&mut self, packet: HeldPacket) -> Result<(), NotHeld>
+        ensures held { OnOk result (push_answer self.old packet.sequence ≡ Pushed.Held) }
+        ensures after { OnOk result (self.new ≡ after_push self.old (numbered_packet packet)) }
+        ensures back { IfErr result (λ it. it.packet ≡ packet) }
+        ensures reason { IfErr result (λ it. it.reason
+            ≡ spec.reason_of (push_answer self.old packet.sequence)) }
+        ensures kept { OnErr result (self.new ≡ self.old) }
+        ensures one_more { length self.new.held ≤ length self.old.held + 1 }
+    {
+        match self.held.place_of(packet.sequence) {
+            Ok((due, place)) => match self.held.put(due, place, packet) {
+                Ok(()) => Ok(()),
+                Err(refused) => Err(NotHeld {
+                    packet: refused.value,
+                    reason: NotHeldReason::OutOfMemory,
+                }),
+            },
+            Err(answer) => Err(NotHeld {
+                packet,
+                reason: reason_of(answer),
+            }),
         }
     }
 

@@ -10,7 +10,7 @@ ghost use Rattle.h26x_frames.specs.ReorderBuffer.{fresh_buffer, is_number_held, 
 use crate::buffer::Pushed;
 use crate::numbered::Numbered;
 use crate::parted::Parted;
-use std::alloc::{AllocError, Global};
+use std::alloc::{AllocFailed, Global};
 use std::marker::Model;
 
 /// How far ahead of the number that is due a number is taken as behind it: half of the circle (RFC
@@ -135,12 +135,13 @@ impl<T: Numbered> NumberOrder<T> {
         }
     }
 
-    /// Puts a packet at its place. Without memory all stays as it was.
+    /// Puts a packet at its place. Without memory all stays as it was, and the packet comes back.
     #[inline]
-    pub(crate) fn put(&mut self, due: u16, place: usize, packet: T) -> Result<(), AllocError>
+    pub(crate) fn put(&mut self, due: u16, place: usize, packet: T) -> Result<(), AllocFailed<T>>
         requires { IsPlaceOf self.old (T.numbered packet).0 due place }
         ensures after { OnOk result (self.new ≡ after_push self.old (T.numbered packet)) }
         ensures kept { OnErr result (self.new ≡ self.old) }
+        ensures back { IfErr result (λ it. it.value ≡ packet) }
     {
         self.held.insert(place, packet)?;
         self.due = Some(due);

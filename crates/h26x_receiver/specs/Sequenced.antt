@@ -4,6 +4,7 @@ use Rattle.h26x_core.specs.declared.extra.CodecExtra.{CodecExtra}
 use Rattle.h26x_core.specs.declared.error.PacketError.{PacketError}
 use Rattle.h26x_model.specs.Receive.DepacketizerState.{DepacketizerState, Depacketization, depacketization, after_packets, IsPacketOutcome}
 use Rattle.h26x_model.specs.Receive.RunLimit.{run_len, with_open_run, with_run_within}
+use Rattle.h26x_payload.specs.OpenText.{OpenTextView, text_depacketization}
 use Rattle.h26x_receiver.specs.declared.received.Received.{Received}
 use Rattle.h26x_receiver.specs.declared.received.Received.TheVariants.{InOrder, Gap, TooLong, Late}
 use Rattle.h26x_receiver.specs.Sequence.{next_sequence_number, missing_count, distance_behind, is_late, is_expected}
@@ -21,6 +22,11 @@ with_expected w expected = record { at_work = w; expected = expected }
 abbrev pub sequenced_depacketization : DepacketizerState → Option ℕ → List ℕ → CodecExtra →
     SequencedDepacketization
 sequenced_depacketization r expected out extra = with_expected (depacketization r out extra) expected
+
+-- the same where the open run stands in the text
+abbrev pub sequenced_in_text : DepacketizerState → Option ℕ → OpenTextView → CodecExtra →
+    SequencedDepacketization
+sequenced_in_text r expected text extra = with_expected (text_depacketization r text extra) expected
 
 -- what a packet is taken by: the open run is given up, but where the packet is the one expected
 abbrev pub with_run_if : Bool → Depacketization → Depacketization

@@ -25,7 +25,7 @@ ghost use Rattle.h26x_receiver.specs.declared.any.AnyDepacketizer.TheVariants as
 use crate::run::RunDepacketizer;
 use h26x_codec::Codec;
 use h26x_core::{CodecExtra, Depacketizer, PacketError};
-use h26x_payload::{OpenRun, UnitSink};
+use h26x_payload::{OpenRun, OpenText, RunRule, UnitSink};
 use h264_payload::H264Depacketizer;
 use h265_packets::H265Payload;
 use h265_payload::H265Depacketizer;
@@ -325,5 +325,20 @@ impl RunDepacketizer for AnyDepacketizer {
         codec_extra: &mut CodecExtra,
     ) -> Result<(), PacketError> {
         self.depacketize_into(packet, out, codec_extra)
+    }
+
+    #[inline]
+    fn take_in_text(
+        &mut self,
+        rule: RunRule,
+        packet: &[u8],
+        text: &mut OpenText,
+        codec_extra: &mut CodecExtra,
+    ) -> Result<(), PacketError> {
+        match self {
+            AnyDepacketizer::H264(it) => it.depacketize_in_text(rule, packet, text, codec_extra),
+            AnyDepacketizer::H265(it) => it.depacketize_in_text(rule, packet, text, codec_extra),
+            AnyDepacketizer::H266(it) => it.depacketize_in_text(rule, packet, text, codec_extra),
+        }
     }
 }

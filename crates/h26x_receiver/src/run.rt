@@ -1,18 +1,19 @@
 //! What a receiver of packets with their sequence numbers asks of a depacketizer.
 
-ghost use Rattle.std.specs.Prelude.{◌≡◌, [], ◌∷◌, ℕ, List, Option, None, OnOk, OnErr, refl};
+ghost use Rattle.std.specs.Prelude.{◌≡◌, false, [], ◌∷◌, ℕ, List, Option, None, OnOk, OnErr, refl};
 ghost use Rattle.h26x_model.specs.Payload.Facts.{IsPayloadFormat};
 ghost use Rattle.h26x_model.specs.Receive.DepacketizerState.{DepacketizerState, depacketization, after_packets, IsPacketOutcome};
 ghost use Rattle.h26x_model.specs.Receive.RunLimit.{run_len, state_with_run};
 ghost use Rattle.h26x_payload.specs.DepacketizerView.{depacketizer_state};
+ghost use Rattle.h26x_payload.specs.OpenText.{IsSameText, text_depacketization, met_depacketization};
 ghost use Rattle.h26x_payload.specs.UnitSink.{grown_to};
 ghost use Rattle.h265_payload.specs.DepacketizerView.{h265_state};
 ghost use Rattle.h265_payload.specs.Shown.{shown};
 
 use h26x_core::{CodecExtra, Depacketizer, PacketError};
-use h26x_payload::{OpenRun, PacketReader, PayloadDepacketizer, UnitSink};
+use h26x_payload::{OpenRun, OpenText, PacketReader, PayloadDepacketizer, RunRule, UnitSink};
 use h264_payload::H264;
-use h265_payload::H265Depacketizer;
+use h265_payload::{H265, H265Depacketizer};
 use h266_payload::H266;
 use std::alloc::Global;
 
@@ -66,6 +67,27 @@ pub trait RunDepacketizer: Depacketizer {
         ensures kept_sink { OnErr result (W.sink out.new ≡ W.sink out.old) }
         ensures kept_extra { OnErr result (codec_extra.new ≡ codec_extra.old) };
 
+    /// Takes a packet where the run that is open stands in the text that is written to, so that the
+    /// data of its fragments are copied once. Its own run it neither uses nor changes. By the rule the
+    /// packet goes on with the run of the text, or has it given up.
+    fn take_in_text(
+        &mut self,
+        rule: RunRule,
+        packet: &[u8],
+        text: &mut OpenText,
+        codec_extra: &mut CodecExtra,
+    ) -> Result<(), PacketError>
+        ensures outcome { IsPacketOutcome (met_depacketization rule.is_next (state self.old)
+            text.old codec_extra.old) packet.now result }
+        ensures taken { OnOk result (text_depacketization (state self.new) text.new
+            codec_extra.new ≡ after_packets (met_depacketization rule.is_next (state self.old)
+            text.old codec_extra.old) (packet.now ∷ [])) }
+        ensures rest { OnOk result (self.new ≡ having_taken packet.now self.old) }
+        ensures aside { rule.may_be_inside ≡ false → OnOk result (text.new.inside ≡ None) }
+        ensures kept { OnErr result (self.new ≡ self.old) }
+        ensures kept_text { OnErr result (IsSameText text.new text.old) }
+        ensures kept_extra { OnErr result (codec_extra.new ≡ codec_extra.old) };
+
     // With another run all else is the same, and with its own run it is itself.
     ghost other_run: { (run : Option (List ℕ)) (it : Self) →
         state (with_run run it) ≡ state_with_run (state it) run };
@@ -106,6 +128,12 @@ pub trait LawfulReader: PacketReader {
 impl LawfulReader for H264 {
     fn format_meets_the_facts() {
         h264_payload::laws::meets_the_facts();
+    }
+}
+
+impl LawfulReader for H265 {
+    fn format_meets_the_facts() {
+        h265_payload::laws::meets_the_facts();
     }
 }
 
@@ -155,6 +183,17 @@ impl<C: LawfulReader> RunDepacketizer for PayloadDepacketizer<C> {
     ) -> Result<(), PacketError> {
         self.depacketize_into(packet, out, codec_extra)
     }
+
+    #[inline]
+    fn take_in_text(
+        &mut self,
+        rule: RunRule,
+        packet: &[u8],
+        text: &mut OpenText,
+        codec_extra: &mut CodecExtra,
+    ) -> Result<(), PacketError> {
+        self.depacketize_in_text(rule, packet, text, codec_extra)
+    }
 }
 
 impl RunDepacketizer for H265Depacketizer {
@@ -196,5 +235,16 @@ impl RunDepacketizer for H265Depacketizer {
         codec_extra: &mut CodecExtra,
     ) -> Result<(), PacketError> {
         self.depacketize_into(packet, out, codec_extra)
+    }
+
+    #[inline]
+    fn take_in_text(
+        &mut self,
+        rule: RunRule,
+        packet: &[u8],
+        text: &mut OpenText,
+        codec_extra: &mut CodecExtra,
+    ) -> Result<(), PacketError> {
+        self.depacketize_in_text(rule, packet, text, codec_extra)
     }
 }

@@ -1,18 +1,19 @@
 //! A depacketizer that is given packets with their sequence numbers.
 
-ghost use Rattle.std.specs.Prelude.{◌≡◌, ◌+◌, ◌≤◌, nat_lt, [], ◌∷◌, ℕ, List, Option, Some, None, Ok, OnOk, OnErr, length, true};
+ghost use Rattle.std.specs.Prelude.{◌≡◌, ◌+◌, ◌≤◌, nat_lt, [], ◌∷◌, ℕ, List, Option, Some, None, Ok, OnOk, OnErr, length, true, false};
 ghost use Rattle.h26x_core.specs.Front.{IsFrontOf};
 ghost use Rattle.h26x_model.specs.Receive.DepacketizerState.{depacketization, after_packets, IsPacketOutcome};
 ghost use Rattle.h26x_model.specs.Receive.RunLimit.{run_len, run_within, state_with_run, without_open_run};
+ghost use Rattle.h26x_payload.specs.OpenText.{IsSameText};
 ghost use Rattle.h26x_payload.specs.UnitSink.{grown_to};
 ghost use Rattle.h26x_receiver.specs.Sequence.{missing_count, is_expected};
-ghost use Rattle.h26x_receiver.specs.Sequenced.{sequenced_depacketization, with_run_if, after_sequenced_packet, IsSequencedAnswer, after_answer, is_taken};
+ghost use Rattle.h26x_receiver.specs.Sequenced.{sequenced_depacketization, sequenced_in_text, with_run_if, after_sequenced_packet, IsSequencedAnswer, after_answer, is_taken};
 
 use crate::received::Received;
 use crate::run::{RunDepacketizer, take_run};
 use h26x_core::{CodecExtra, PacketError};
 use h26x_model::laws;
-use h26x_payload::UnitSink;
+use h26x_payload::{OpenText, RunRule, UnitSink};
 use std::alloc::Global;
 
 /// How far ahead of the expected number a number is taken as behind it: half of the circle (RFC
@@ -99,6 +100,21 @@ fn limit_run<D: RunDepacketizer>(depacketizer: &mut D, most: usize) -> bool
 {
     if depacketizer.run_len() > most {
         depacketizer.give_up_run();
+        true
+    } else {
+        false
+    }
+}
+
+/// Gives up the run of a text that holds more bytes than this, and tells whether it did.
+fn limit_run_in_text(text: &mut OpenText, most: usize) -> bool
+    ensures long { result ≡ nat_lt most (run_len text.old.run) }
+    ensures limited { text.new.run ≡ run_within most text.old.run }
+    ensures text { text.new.text ≡ text.old.text }
+    ensures aside { text.old.inside ≡ None → text.new.inside ≡ None }
+{
+    if text.run_len() > most {
+        text.give_up_run();
         true
     } else {
         false
@@ -206,6 +222,53 @@ impl<D: RunDepacketizer> SequencedDepacketizer<D> {
         take(self.alloc, is_next, depacketizer, packet, out, codec_extra)?;
         self.expected = Some(sequence.wrapping_add(1));
         let is_long = limit_run(&mut self.depacketizer, self.run_limit);
+        Ok(Received::taken(missing, is_long))
+    }
+
+    /// Takes a packet as `receive` does, where the run that is open stands in the text that is written
+    /// to, so that the data of its fragments are copied once. The depacketizer's own run is neither
+    /// used nor changed. A run that stays open may stand inside, or is put aside.
+    pub fn receive_in_text(
+        &mut self,
+        sequence: u16,
+        packet: &[u8],
+        may_be_inside: bool,
+        text: &mut OpenText,
+        codec_extra: &mut CodecExtra,
+    ) -> Result<Received, PacketError>
+        // What is answered, and what stands afterwards.
+        ensures answer { IsSequencedAnswer self.old.run_limit (sequenced_in_text
+            (D.state self.old.depacketizer) self.old.expected text.old codec_extra.old)
+            sequence packet.now result }
+        ensures after { sequenced_in_text (D.state self.new.depacketizer) self.new.expected text.new
+            codec_extra.new ≡ after_answer self.old.run_limit (sequenced_in_text
+            (D.state self.old.depacketizer) self.old.expected text.old codec_extra.old)
+            sequence packet.now result }
+        ensures rest { is_taken result ≡ true →
+            self.new.depacketizer ≡ D.having_taken packet.now self.old.depacketizer }
+        ensures limit { self.new.run_limit ≡ self.old.run_limit }
+        ensures bounded { run_len text.old.run ≤ self.old.run_limit →
+            run_len text.new.run ≤ self.old.run_limit }
+        ensures aside { may_be_inside ≡ false → is_taken result ≡ true → text.new.inside ≡ None }
+
+        // A late packet and a refusal leave everything.
+        ensures late { (n : ℕ) → result ≡ Ok (Received.Late n) → self.new ≡ self.old }
+        ensures kept { OnErr result (self.new ≡ self.old) }
+        ensures kept_text { is_taken result ≡ false → IsSameText text.new text.old }
+        ensures kept_extra { is_taken result ≡ false → codec_extra.new ≡ codec_extra.old }
+    {
+        let (missing, is_next) = place_of(self.expected, sequence);
+        if missing >= HALF {
+            return Ok(Received::Late(u16::MAX - missing + 1));
+        }
+        let rule = RunRule {
+            is_next,
+            may_be_inside,
+        };
+        self.depacketizer
+            .take_in_text(rule, packet, text, codec_extra)?;
+        self.expected = Some(sequence.wrapping_add(1));
+        let is_long = limit_run_in_text(text, self.run_limit);
         Ok(Received::taken(missing, is_long))
     }
 }

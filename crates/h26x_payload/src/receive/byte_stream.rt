@@ -15,6 +15,19 @@ use h26x_core::{ANNEXB_NALUSTART_CODE, PacketError};
 /// length (ISO/IEC 14496-15).
 pub const PREFIX_SIZE: usize = 4;
 
+/// What stands before a unit of this length.
+#[inline(always)]
+pub(crate) fn prefix_of(is_avc: bool, len: usize) -> [u8; 4]
+    requires { (is_avc && nat_le (2 ^ 32) len) ≡ false }
+    ensures { result ≡ (if is_avc then long_word len else 0 ∷ 0 ∷ 0 ∷ 1 ∷ []) }
+{
+    if is_avc {
+        (len as u32).to_be_bytes()
+    } else {
+        ANNEXB_NALUSTART_CODE
+    }
+}
+
 /// Writes what stands before a unit of this length, where there is room for it.
 #[inline(always)]
 fn put_prefix<W: UnitSink>(is_avc: bool, len: usize, out: &mut W)
@@ -24,12 +37,7 @@ fn put_prefix<W: UnitSink>(is_avc: bool, len: usize, out: &mut W)
         (if is_avc then long_word len else 0 ∷ 0 ∷ 0 ∷ 1 ∷ []) }
     ensures room { W.room out.old ≤ W.room out.new + 4 }
 {
-    let prefix = if is_avc {
-        (len as u32).to_be_bytes()
-    } else {
-        ANNEXB_NALUSTART_CODE
-    };
-    out.put(&prefix);
+    out.put(&prefix_of(is_avc, len));
 }
 
 /// Whether four bytes don't hold a unit's length.

@@ -6,11 +6,14 @@ ghost use Rattle.h26x_core.specs.Hint.{size_hint};
 ghost use Rattle.h26x_model.specs.Receive.Outcome.{is_startless};
 ghost use Rattle.h26x_model.specs.Receive.DepacketizerState.{after_packets, IsPacketOutcome};
 ghost use Rattle.h26x_model.specs.Receive.RunLimit.{run_len};
-ghost use Rattle.h26x_payload.specs.DepacketizerView.{view_depacketization};
+ghost use Rattle.h26x_payload.specs.DepacketizerView.{depacketizer_state, view_depacketization};
+ghost use Rattle.h26x_payload.specs.OpenText.{IsSameText, text_depacketization, met_depacketization};
 ghost use Rattle.h26x_payload.specs.UnitSink.{grown_to};
 
 use crate::format::DonlFormat;
 use crate::receive::extra::out_size_hint;
+use crate::receive::in_text::{RunRule, take_in_text};
+use crate::receive::open_text::OpenText;
 use crate::receive::reader::PacketReader;
 use crate::receive::run::OpenRun;
 use crate::receive::sink::UnitSink;
@@ -128,6 +131,34 @@ impl<C: PacketReader> PayloadDepacketizer<C> {
         let is_avc = self.is_avc;
         let run = &mut self.run;
         take_packet(codec, is_avc, packet, parts, run, out, codec_extra)
+    }
+
+    /// Takes a packet as `depacketize_into` does, where the run that is open stands in the text that
+    /// is written to, and not here: the data of its fragments are copied once. By the rule the packet
+    /// goes on with that run, or has it given up. A refusal leaves everything.
+    #[inline]
+    pub fn depacketize_in_text(
+        &self,
+        rule: RunRule,
+        packet: &[u8],
+        text: &mut OpenText,
+        codec_extra: &mut CodecExtra,
+    ) -> Result<(), PacketError>
+        ensures outcome { IsPacketOutcome (met_depacketization rule.is_next
+            (depacketizer_state (C.format self.now.codec) self.now) text.old codec_extra.old)
+            packet.now result }
+        ensures taken { OnOk result (text_depacketization
+            (depacketizer_state (C.format self.now.codec) self.now) text.new codec_extra.new
+            ≡ after_packets (met_depacketization rule.is_next
+            (depacketizer_state (C.format self.now.codec) self.now) text.old codec_extra.old)
+            (packet.now ∷ [])) }
+        ensures aside { rule.may_be_inside ≡ false → OnOk result (text.new.inside ≡ None) }
+        ensures kept { OnErr result (IsSameText text.new text.old) }
+        ensures kept_extra { OnErr result (codec_extra.new ≡ codec_extra.old) }
+    {
+        let codec = self.codec;
+        let parts = codec.read(packet)?;
+        take_in_text(codec, self.is_avc, rule, packet, parts, text, codec_extra)
     }
 }
 

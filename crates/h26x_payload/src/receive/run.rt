@@ -1,7 +1,8 @@
 //! The data of the fragments since the latest start (RFC 6184, 5.8; RFC 7798, 4.4.3; RFC 9328,
 //! 4.3.3).
 
-ghost use Rattle.std.specs.Prelude.{◌≡◌, ◌⊎◌, ◌++◌, OnOk, OnErr, IfOk, IsOk, Some, None, Ok, Err, is_some, true};
+ghost use Rattle.std.specs.Prelude.{◌≡◌, ◌⊎◌, ◌++◌, length, OnOk, OnErr, IfOk, IsOk, Some, None, Ok, Err, is_some, true};
+ghost use Rattle.std.specs.Option.{option_map};
 ghost use Rattle.h26x_model.specs.Receive.RunLimit.{run_len};
 ghost use Rattle.h26x_payload.specs.Run.{run_bytes};
 
@@ -71,6 +72,14 @@ impl OpenRun {
         ensures { result ≡ run_len self.now }
     {
         self.bytes.len()
+    }
+
+    /// The same, if a run is open.
+    #[inline]
+    pub fn open_len(&self) -> Option<usize>
+        ensures { result ≡ option_map length self.now }
+    {
+        if self.is_open { Some(self.bytes.len()) } else { None }
     }
 
     /// Adds these data to the open run.

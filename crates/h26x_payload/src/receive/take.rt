@@ -1,7 +1,8 @@
 //! What a packet brings to a depacketizer, for every codec (RFC 6184, 7; RFC 7798, 6; RFC 9328, 6).
 
-ghost use Rattle.std.specs.Prelude.{◌≡◌, ◌⊎◌, ◌&&◌, ◌++◌, ◌^◌, nat_le, true, false, length, Ok, Err, OnOk, OnErr, IsOk};
+ghost use Rattle.std.specs.Prelude.{◌≡◌, ◌⊎◌, ◌&&◌, ◌++◌, ◌^◌, nat_le, true, false, ℕ, List, Option, length, Ok, Err, OnOk, OnErr, IsOk};
 ghost use Rattle.std.specs.List.{list_any};
+ghost use Rattle.std.specs.Option.{option_map};
 ghost use Rattle.h26x_core.specs.ByteStream.{byte_stream};
 ghost use Rattle.h26x_model.specs.Payload.Extra.{extra_after};
 ghost use Rattle.h26x_model.specs.Receive.Received.{reading_units, run_after};
@@ -22,74 +23,91 @@ use crate::receive::sink::UnitSink;
 use h26x_core::{CodecExtra, PacketError};
 
 /// The bytes of the unit that a fragment completes, at most `usize::MAX`; 0 where it completes none.
-fn fragment_completes<C: PayloadFormat>(codec: C, fragment: Fragment<'_>, run: &OpenRun) -> usize
+fn fragment_completes<C: PayloadFormat>(
+    codec: C,
+    fragment: Fragment<'_>,
+    run_len: Option<usize>,
+) -> usize
     requires { length (header_bytes (C.format codec) fragment.head) ≡ (C.format codec).header_len }
-    ensures { nat_le (2 ^ 32) result ≡ list_any is_too_long (reading_units run.now
+    ensures { (run : Option (List ℕ)) → run_len ≡ option_map length run →
+        nat_le (2 ^ 32) result ≡ list_any is_too_long (reading_units run
         (fragment_reading (C.format codec) fragment.entry)) }
 {
-    if !fragment.end || !fragment.start && !run.is_open() {
+    if !fragment.end {
         return 0;
     }
-    let data = if fragment.start { &[] } else { run.bytes() };
-    data.len()
-        .saturating_add(fragment.body.len())
+    let data = match run_len {
+        _ if fragment.start => 0,
+        Some(len) => len,
+        None => return 0,
+    };
+    data.saturating_add(fragment.body.len())
         .saturating_add(codec.header_len())
 }
 
 /// The bytes of the unit that a packet completes, at most `usize::MAX`; 0 where it completes none,
 /// and for an aggregate, whose lengths have two bytes.
-fn completed_len<C: PacketReader>(codec: C, packet: &[u8], parts: Parts<'_>, run: &OpenRun) -> usize
+fn completed_len<C: PacketReader>(
+    codec: C,
+    packet: &[u8],
+    parts: Parts<'_>,
+    run_len: Option<usize>,
+) -> usize
     requires { AreChecked (C.format codec) (C.units codec) packet.now parts }
-    ensures { nat_le (2 ^ 32) result ≡ list_any is_too_long (reading_units run.now
+    ensures { (run : Option (List ℕ)) → run_len ≡ option_map length run →
+        nat_le (2 ^ 32) result ≡ list_any is_too_long (reading_units run
         (parts_reading (C.format codec) (C.units codec) packet.now parts.entry)) }
 {
     match parts {
         Parts::Whole => packet.len(),
         Parts::Unit { body, .. } => body.len().saturating_add(codec.header_len()),
         Parts::Aggregate { .. } => 0,
-        Parts::Fragment(fragment) => fragment_completes(codec, fragment, run),
+        Parts::Fragment(fragment) => fragment_completes(codec, fragment, run_len),
     }
 }
 
 /// Whether a packet completes a unit of over `u32::MAX` bytes, where units are written behind
-/// lengths.
+/// lengths. The open run, if there is one, holds so many bytes.
 #[inline]
-fn completes_long_unit<C: PacketReader>(
+pub(crate) fn completes_long_unit<C: PacketReader>(
     codec: C,
     is_avc: bool,
     packet: &[u8],
     parts: Parts<'_>,
-    run: &OpenRun,
+    run_len: Option<usize>,
 ) -> bool
-    requires { IsReadAs (C.format codec) (C.units codec) packet.now parts }
-    ensures { result ≡ (is_avc && list_any is_too_long
-        (reading_units run.now ((C.format codec).read packet.now))) }
+    requires { AreChecked (C.format codec) (C.units codec) packet.now parts }
+    ensures { (run : Option (List ℕ)) → run_len ≡ option_map length run →
+        result ≡ (is_avc && list_any is_too_long (reading_units run
+        (parts_reading (C.format codec) (C.units codec) packet.now parts.entry))) }
 {
-    is_avc && is_too_long(completed_len(codec, packet, parts, run))
+    is_avc && is_too_long(completed_len(codec, packet, parts, run_len))
 }
 
 /// Refuses a packet that completes a unit of over `u32::MAX` bytes, where units are written behind
-/// lengths of four bytes (ISO/IEC 14496-15). It takes no memory.
+/// lengths of four bytes (ISO/IEC 14496-15). The open run, if there is one, holds so many bytes. It
+/// takes no memory.
 #[inline]
 pub fn check_lengths<C: PacketReader>(
     codec: C,
     is_avc: bool,
     packet: &[u8],
     parts: Parts<'_>,
-    run: &OpenRun,
+    run_len: Option<usize>,
 ) -> Result<(), PacketError>
     requires { IsReadAs (C.format codec) (C.units codec) packet.now parts }
-    ensures refused { OnErr result (IsReadingOutcome is_avc run.now
-        ((C.format codec).read packet.now) result) }
+    ensures refused { (run : Option (List ℕ)) → run_len ≡ option_map length run →
+        OnErr result (IsReadingOutcome is_avc run ((C.format codec).read packet.now) result) }
 
     // Behind lengths that fit, want of memory is an outcome; a fragment that doesn't start while no
     // run is open completes nothing.
-    ensures memory { OnOk result (IsReadingOutcome is_avc run.now ((C.format codec).read packet.now)
+    ensures memory { (run : Option (List ℕ)) → run_len ≡ option_map length run →
+        OnOk result (IsReadingOutcome is_avc run ((C.format codec).read packet.now)
         (Err PacketError.OutOfMemory)) }
-    ensures startless { is_startless run.now ((C.format codec).read packet.now) ≡ true →
-        IsOk result }
+    ensures startless { (run : Option (List ℕ)) → run_len ≡ option_map length run →
+        is_startless run ((C.format codec).read packet.now) ≡ true → IsOk result }
 {
-    if completes_long_unit(codec, is_avc, packet, parts, run) {
+    if completes_long_unit(codec, is_avc, packet, parts, run_len) {
         return Err(PacketError::AvcUnitTooLong);
     }
     Ok(())
@@ -98,7 +116,7 @@ pub fn check_lengths<C: PacketReader>(
 /// Takes the parts of a packet: writes the units that it completes, tells of them, and keeps its
 /// run.
 #[inline]
-fn take_parts<C: PacketReader, W: UnitSink>(
+pub(crate) fn take_parts<C: PacketReader, W: UnitSink>(
     codec: C,
     is_avc: bool,
     packet: &[u8],

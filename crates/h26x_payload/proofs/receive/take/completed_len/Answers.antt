@@ -5,7 +5,7 @@ use Rattle.h26x_payload.proofs.AggregateLemmas.{units_only}
 use Rattle.h26x_payload.proofs.receive.take.completed_len.Goals as goal
 
 pub returns-in-Aggregate : goal.returns-in-Aggregate
-returns-in-Aggregate g c =
+returns-in-Aggregate g c = λ run same.
     let units = g.C.Aggregate.units c.args.codec c.in-Aggregate.bytes.now in
     let short : list_any is_too_long units ≡ false = (rw c.in-Aggregate.is at c.requires).0 in
     rw (c.in-Aggregate.is, units_only units) (sym short)

@@ -1,0 +1,47 @@
+-- The text of an access unit that is open, with the run that is open in it, as contracts see them.
+use Rattle.std.specs.Prelude.{◌≡◌, ℕ, ◌-◌, Bool, true, false, if◌then◌else◌, List, take, drop, Option, Some, None}
+use Rattle.h26x_core.specs.declared.extra.CodecExtra.{CodecExtra}
+use Rattle.h26x_model.specs.Receive.DepacketizerState.{DepacketizerState, Depacketization, depacketization}
+use Rattle.h26x_payload.specs.declared.receive.parts.Parts.{Parts}
+use Rattle.h26x_payload.specs.declared.receive.parts.Parts.TheVariants as p
+use Rattle.h26x_model.specs.Receive.RunLimit.{state_with_run}
+
+-- What was written, and the open run. Where the run's data stand in the memory of the text they are
+-- inside: the header that its unit will have has so many bytes.
+pub record OpenTextView : Type 0 where
+  pub text : List ℕ
+  pub run : Option (List ℕ)
+  pub inside : Option ℕ
+
+-- bytes of which those before the first place are text, where a run is inside, and those from the
+-- second on its data; else all are text, and the run is aside
+abbrev pub open_text_view : Bool → ℕ → ℕ → List ℕ → Option (List ℕ) → OpenTextView
+open_text_view is_inside at from bytes aside = record {
+  text = if is_inside then take at bytes else bytes;
+  run = if is_inside then Some (drop from bytes) else aside;
+  inside = if is_inside then Some (from - at - 4) else None;
+}
+
+-- the same text, with the same run
+pub record IsSameText (a b : OpenTextView) : Type 0 where
+  pub text : a.text ≡ b.text
+  pub run : a.run ≡ b.run
+
+-- whether a packet is a fragment
+abbrev pub is_fragment : Parts → Bool
+is_fragment (p.Fragment fragment) = true
+is_fragment parts = false
+
+-- the run that a packet meets: the open one is given up, but where the packet is the next one
+abbrev pub run_if : Bool → Option (List ℕ) → Option (List ℕ)
+run_if is_next run = if is_next then run else None
+
+-- a depacketizer at work on a text, with the run that is open there
+abbrev pub text_depacketization : DepacketizerState → OpenTextView → CodecExtra → Depacketization
+text_depacketization r text extra = depacketization (state_with_run r text.run) text.text extra
+
+-- the same as a packet meets it
+abbrev pub met_depacketization : Bool → DepacketizerState → OpenTextView → CodecExtra →
+    Depacketization
+met_depacketization is_next r text extra = depacketization
+    (state_with_run r (run_if is_next text.run)) text.text extra
