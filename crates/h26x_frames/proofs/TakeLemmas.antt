@@ -1,6 +1,7 @@
 -- What one packet that was taken leaves.
 use Rattle.std.proofs.Common.{◌≡◌, ℕ, Bool, true, false, cond, List, [], ◌∷◌, ◌++◌, Option, Some, None, Result, Ok, Err, refl, sym, ap, ◌∙◌}
-use Rattle.std.specs.Prelude.{◌==◌, nat_lt, MatchBool, IfOk}
+use Rattle.std.specs.Prelude.{◌==◌, nat_lt, unwrap_or, MatchBool, IfOk}
+use Rattle.std.proofs.lemmas.List.{append-nil}
 use Rattle.h26x_core.specs.declared.error.PacketError.{PacketError}
 use Rattle.h26x_core.specs.declared.extra.CodecExtra.TheVariants as extras
 use Rattle.h26x_model.specs.Receive.DepacketizerState.{DepacketizerState}
@@ -10,8 +11,8 @@ use Rattle.h26x_receiver.specs.declared.received.Received.TheVariants.{InOrder, 
 use Rattle.h26x_receiver.specs.Sequence.{missing_count, distance_behind, is_late, is_expected}
 use Rattle.h26x_receiver.specs.Sequenced.{SequencedDepacketization, sequenced_depacketization, after_sequenced_packet, after_taken_packet, answer_by_missing, is_taken, IsSequencedAnswer, after_answer}
 use Rattle.h26x_receiver.proofs.AnswerLemmas.{accepted}
-use Rattle.h26x_frames.specs.Rtp.{RtpBody}
-use Rattle.h26x_frames.specs.AccessUnit.{AccessUnitValue, empty_unit, whole_if, UnitDepacketization, unit_depacketization, is_unit_at, given_out, is_run_too_long, after_taken_rtp}
+use Rattle.h26x_frames.specs.Rtp.{RtpBody, rtp_body}
+use Rattle.h26x_frames.specs.AccessUnit.{AccessUnitValue, OpenUnitView, empty_unit, whole_if, UnitDepacketization, unit_depacketization, open_depacketization, is_unit_at, taken_by, unit_with, given_out, is_run_too_long, after_taken_rtp}
 
 -- an answer says whether the run was too long
 long_of : (lost : ℕ) (long : Bool) → is_run_too_long (accepted (answer_by_missing lost long)) ≡ long
@@ -31,7 +32,7 @@ answer_long most s number packet r taken is =
     long_at (is_late s.expected number) r _ (distance_behind s.expected number) (missing_count s.expected number) (nat_lt most (run_len (after_sequenced_packet s number packet).state.run)) taken is
 
 -- what stands after an answer that says so
-taken_work : (most : ℕ) (s : SequencedDepacketization) (number : ℕ) (packet : List ℕ) (r : Result Received PacketError) → is_taken r ≡ true →
+pub taken_work : (most : ℕ) (s : SequencedDepacketization) (number : ℕ) (packet : List ℕ) (r : Result Received PacketError) → is_taken r ≡ true →
     after_answer most s number packet r ≡ after_taken_packet most s number packet
 taken_work most s number packet (Err e) taken = absurd (let bad = taken in cc)
 taken_work most s number packet (Ok InOrder) taken = refl
@@ -81,15 +82,35 @@ begins_taken most state expected unit ended p r sound work other taken answer wo
     ∙ ap (λ (b : Bool). with_unit (after_taken_packet most s p.0 p.1.payload) before p.1.marker (whole_if b (filled (empty_unit p.1.timestamp) (after_taken_packet most s p.0 p.1.payload)))) (sound_at most s p r sound work it)
     ∙ first_taken most state expected unit ended p other
 
+-- one that ends the access unit to which it belongs leaves what it would without its marker, and appends that
+pub ends_taken : (most : ℕ) (state new : DepacketizerState) (expected next : Option ℕ) (unit left : AccessUnitValue) (ended : List AccessUnitValue) (p : ℕ × RtpBody) → p.1.marker ≡ true → is_unit_at (Some unit) p.1.timestamp ≡ true →
+    unit_depacketization new next (Some left) [] ≡ after_taken_rtp most (unit_depacketization state expected (Some unit) []) (p.0, rtp_body p.1.timestamp false p.1.payload) →
+    unit_depacketization new next None (ended ++ left ∷ []) ≡ after_taken_rtp most (unit_depacketization state expected (Some unit) ended) p
+ends_taken most state new expected next unit left ended p marker at is =
+    let s = unit_depacketization state expected (Some unit) [] in
+    let work = after_taken_packet most (taken_by s p.1.timestamp) p.0 p.1.payload in
+    let one = unit_with most s p in
+    let others = given_out (is_expected expected p.0) (Some unit) in
+    let same : left ≡ one = ap (λ (o : UnitDepacketization). unwrap_or o.unit left) is in
+    ap (λ (r : DepacketizerState). unit_depacketization r next None (ended ++ left ∷ [])) (ap (λ (o : UnitDepacketization). o.state) is)
+    ∙ ap (λ (e : Option ℕ). unit_depacketization work.at_work.state e None (ended ++ left ∷ [])) (ap (λ (o : UnitDepacketization). o.expected) is)
+    ∙ ap (λ (v : AccessUnitValue). unit_depacketization work.at_work.state work.expected None (ended ++ v ∷ [])) same
+    ∙ ap (λ (l : List AccessUnitValue). unit_depacketization work.at_work.state work.expected None (l ++ one ∷ [])) (sym (append-nil ended))
+    ∙ ap (λ (b : Bool). unit_depacketization work.at_work.state work.expected None ((ended ++ cond b [] others) ++ one ∷ [])) (sym at)
+    ∙ ap (λ (m : Bool). unit_depacketization work.at_work.state work.expected (cond m None (Some one)) ((ended ++ cond (is_unit_at (Some unit) p.1.timestamp) [] others) ++ cond m (one ∷ []) [])) (sym marker)
+
 -- the first of two, where the test holds
 pub when_true : (b : Bool) (P Q : Type 0) → b ≡ true → MatchBool b P Q → P
 when_true true P Q is h = h
 when_true false P Q is h = absurd (let bad = is in cc)
 
 -- of equal parts
-pub same_parts : (state : DepacketizerState) (expected : Option ℕ) (a b : Option AccessUnitValue) (x y : List AccessUnitValue) → a ≡ b → x ≡ y →
-    unit_depacketization state expected a x ≡ unit_depacketization state expected b y
-same_parts state expected a b x y one two = ap (λ (u : Option AccessUnitValue). unit_depacketization state expected u x) one ∙ ap (λ (l : List AccessUnitValue). unit_depacketization state expected b l) two
+pub same_open : (state : DepacketizerState) (expected : Option ℕ) (it : OpenUnitView) (run : Option (List ℕ)) (unit : Option AccessUnitValue) (x y : List AccessUnitValue) → it.run ≡ run → it.unit ≡ unit → x ≡ y →
+    open_depacketization state expected it x ≡ unit_depacketization (state_with_run state run) expected unit y
+same_open state expected it run unit x y one two three =
+    ap (λ (r : Option (List ℕ)). unit_depacketization (state_with_run state r) expected it.unit x) one
+    ∙ ap (λ (u : Option AccessUnitValue). unit_depacketization (state_with_run state run) expected u x) two
+    ∙ ap (λ (l : List AccessUnitValue). unit_depacketization (state_with_run state run) expected unit l) three
 
 -- an access unit of these parts
 pub same_unit : (unit : AccessUnitValue) (t : ℕ) → unit.timestamp ≡ t → unit.is_whole ≡ true →

@@ -13,6 +13,7 @@ use Rattle.h26x_receiver.specs.Sequence.{is_expected}
 use Rattle.h26x_receiver.specs.Sequenced.{SequencedDepacketization, sequenced_depacketization, after_sequenced_packet, after_taken_packet, IsSequencedAnswer}
 use Rattle.h26x_frames.specs.Rtp.{RtpBody}
 use Rattle.h26x_frames.specs.declared.access_unit.AccessUnit.{AccessUnit}
+use Rattle.h26x_frames.specs.declared.access_unit.OpenUnit.{OpenUnit}
 
 -- an access unit as a receiver gives it out: its timestamp, the text of its units, what is told of
 -- them, and whether it is known that nothing of it is missing
@@ -30,6 +31,29 @@ access_unit_value unit = record {
   extra = unit.extra;
   is_whole = unit.is_whole;
 }
+
+-- one that is open, as far as it came
+abbrev pub open_unit_value : OpenUnit → AccessUnitValue
+open_unit_value unit = record {
+  timestamp = unit.timestamp;
+  bytes = unit.text.text;
+  extra = unit.extra;
+  is_whole = unit.is_whole;
+}
+
+-- the access unit that is open, if one is, and the run that is open
+pub record OpenUnitView : Type 0 where
+  pub unit : Option AccessUnitValue
+  pub run : Option (List ℕ)
+
+-- the run stands in the text of the one that is open, or else it is what the last one left
+abbrev pub open_unit_view : Option OpenUnit → Option (List ℕ) → OpenUnitView
+open_unit_view None left = record { unit = None; run = left }
+open_unit_view (Some unit) left = record { unit = Some (open_unit_value unit); run = unit.text.run }
+
+-- neither is open
+abbrev pub none_open : OpenUnitView
+none_open = record { unit = None; run = None }
 
 -- one to which no packet came yet
 abbrev pub empty_unit : ℕ → AccessUnitValue
@@ -61,6 +85,12 @@ unit_depacketization state expected unit ended = record {
   unit = unit;
   ended = ended;
 }
+
+-- the same by what is open, where the depacketizer's own run is not used
+abbrev pub open_depacketization : DepacketizerState → Option ℕ → OpenUnitView →
+    List AccessUnitValue → UnitDepacketization
+open_depacketization state expected it ended =
+    unit_depacketization (state_with_run state it.run) expected it.unit ended
 
 -- before any packet came
 abbrev pub fresh_units : DepacketizerState → UnitDepacketization

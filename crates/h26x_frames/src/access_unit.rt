@@ -4,11 +4,12 @@ ghost use Rattle.std.specs.Prelude.{◌≡◌, ◌+◌, ◌≤◌, ◌++◌, ◌
 ghost use Rattle.h26x_model.specs.Receive.RunLimit.{run_len};
 ghost use Rattle.h26x_receiver.specs.Sequenced.{is_taken};
 ghost use Rattle.h26x_frames.specs.Rtp.{rtp_body};
-ghost use Rattle.h26x_frames.specs.AccessUnit.{AccessUnitValue, access_unit_value, empty_unit, whole_if, unit_len, unit_within, is_unit_at, given_out, unit_depacketization, IsTakenAnswer, after_taken_rtp};
+ghost use Rattle.h26x_frames.specs.AccessUnit.{access_unit_value, open_unit_value, open_unit_view, empty_unit, whole_if, none_open, unit_len, unit_within, is_unit_at, given_out, open_depacketization, IsTakenAnswer, after_taken_rtp};
 
 use crate::answers::{is_next, is_sound, was_taken};
 use crate::packet::RtpPacket;
 use h26x_core::{CodecExtra, PacketError};
+use h26x_payload::{OpenRun, OpenText};
 use h26x_receiver::{Received, RunDepacketizer, SequencedDepacketizer};
 use std::alloc::Global;
 use std::marker::Model;
@@ -31,68 +32,146 @@ pub struct AccessUnit {
     pub is_whole: bool,
 }
 
-impl AccessUnit {
-    /// One to which no packet came yet.
-    pub(crate) fn empty(alloc: Global, timestamp: u32) -> Self
-        ensures { access_unit_value result ≡ empty_unit timestamp }
+/// An access unit of which packets came. The open run stands in its text.
+#[derive(Debug, Drop)]
+pub(crate) struct OpenUnit {
+    pub timestamp: u32,
+    pub text: OpenText,
+    pub extra: CodecExtra,
+    pub is_whole: bool,
+}
+
+impl OpenUnit {
+    /// One to which no packet came yet, in memory that was another's.
+    pub(crate) fn new(memory: Vec<u8>, timestamp: u32) -> Self
+        ensures unit { open_unit_value result ≡ empty_unit timestamp }
+        ensures run { result.text.run ≡ None }
     {
-        AccessUnit {
+        OpenUnit {
             timestamp,
-            bytes: Vec::new(alloc),
+            text: OpenText::new(memory),
             extra: CodecExtra::None,
             is_whole: true,
         }
     }
+
+    /// Takes a packet with its timestamp. A marker does not end it yet.
+    #[inline]
+    fn take<D: RunDepacketizer>(
+        &mut self,
+        packets: &mut SequencedDepacketizer<D>,
+        packet: &RtpPacket<'_>,
+        may_be_inside: bool,
+    ) -> Result<Received, PacketError>
+        requires { self.old.timestamp ≡ packet.now.1.timestamp }
+        ensures answer { IsTakenAnswer packets.old.run_limit (open_depacketization
+            (D.state packets.old.depacketizer) packets.old.expected
+            (open_unit_view (Some self.old) None) []) packet.now result }
+        ensures after { is_taken result ≡ true →
+            open_depacketization (D.state packets.new.depacketizer) packets.new.expected
+            (open_unit_view (Some self.new) None) []
+            ≡ after_taken_rtp packets.old.run_limit (open_depacketization
+            (D.state packets.old.depacketizer) packets.old.expected
+            (open_unit_view (Some self.old) None) [])
+            (packet.now.0, rtp_body packet.now.1.timestamp false packet.now.1.payload) }
+        ensures rest { is_taken result ≡ true → packets.new.depacketizer
+            ≡ D.having_taken packet.now.1.payload packets.old.depacketizer }
+        ensures limit { packets.new.run_limit ≡ packets.old.run_limit }
+        ensures bounded { run_len self.old.text.run ≤ packets.old.run_limit →
+            run_len self.new.text.run ≤ packets.old.run_limit }
+        ensures aside { may_be_inside ≡ false → is_taken result ≡ true →
+            self.new.text.inside ≡ None }
+        ensures kept { MatchBool (is_taken result) (Unit {0}) ((packets.new ≡ packets.old)
+            × (open_unit_view (Some self.new) None ≡ open_unit_view (Some self.old) None)) }
+    {
+        let follows = is_next(packets.expected, packet.sequence);
+        let received = packets.receive_in_text(
+            packet.sequence,
+            packet.payload,
+            may_be_inside,
+            &mut self.text,
+            &mut self.extra,
+        );
+        if was_taken(&received) {
+            self.is_whole = self.is_whole && is_sound(follows, &received);
+        }
+        received
+    }
+
+    /// The access unit, known to be whole only if this holds too. A run that is open goes.
+    fn end(self, holds: bool) -> AccessUnit
+        ensures { access_unit_value result ≡ whole_if holds (open_unit_value self) }
+    {
+        AccessUnit {
+            timestamp: self.timestamp,
+            bytes: self.text.into_text(),
+            extra: self.extra,
+            is_whole: self.is_whole && holds,
+        }
+    }
 }
 
-/// The access unit that is open, if one is: the next packet may belong to it.
+/// The access unit that is open, if one is: the next packet may belong to it. And the run that is
+/// open, in its text, or left by the last one.
 #[derive(Debug, Drop)]
 pub struct OpenAccessUnit {
-    unit: Option<AccessUnit>,
+    unit: Option<OpenUnit>,
+    left: OpenRun,
 }
 
 impl Model for OpenAccessUnit {
-    ghost use Rattle.std.specs.Prelude.{Option};
-    ghost use Rattle.std.specs.Option.{option_map};
-    ghost use Rattle.h26x_frames.specs.AccessUnit.{AccessUnitValue, access_unit_value};
+    ghost use Rattle.h26x_frames.specs.AccessUnit.{OpenUnitView, open_unit_view};
 
-    ghost Value = { Option AccessUnitValue };
+    ghost Value = { OpenUnitView };
 
-    ghost view = { λ a. option_map access_unit_value a.unit };
+    ghost view = { λ a. open_unit_view a.unit a.left };
 }
 
 impl OpenAccessUnit {
     /// None is open.
-    pub(crate) fn none() -> Self
-        ensures { result ≡ None }
+    pub(crate) fn none(alloc: Global) -> Self
+        ensures { result ≡ none_open }
     {
-        OpenAccessUnit { unit: None }
+        OpenAccessUnit {
+            unit: None,
+            left: OpenRun::none(alloc),
+        }
     }
 
     /// Whether one is open.
     pub fn is_open(&self) -> bool
-        ensures { result ≡ is_some self.now }
+        ensures { result ≡ is_some self.now.unit }
     {
         self.unit.is_some()
     }
 
-    /// How many bytes it holds; none where none is open.
+    /// How many bytes of whole units it holds; none where none is open.
     pub fn bytes_len(&self) -> usize
-        ensures { result ≡ unit_len self.now }
+        ensures { result ≡ unit_len self.now.unit }
     {
         match &self.unit {
-            Some(unit) => unit.bytes.len(),
+            Some(unit) => unit.text.len(),
             None => 0,
         }
     }
 
+    /// How many bytes the run holds that is open; none where none is.
+    pub fn run_len(&self) -> usize
+        ensures { result ≡ run_len self.now.run }
+    {
+        match &self.unit {
+            Some(unit) => unit.text.run_len(),
+            None => self.left.len(),
+        }
+    }
+
     /// Gives up its text where that has more bytes than this, and gives its memory back.
-    pub(crate) fn limit(&mut self, alloc: Global, most: usize)
-        ensures { self.new ≡ unit_within most self.old }
+    pub(crate) fn limit(&mut self, most: usize)
+        ensures { self.new ≡ record self.old { unit = unit_within most self.old.unit } }
     {
         if let Some(unit) = &mut self.unit {
-            if unit.bytes.len() > most {
-                unit.bytes = Vec::new(alloc);
+            if unit.text.len() > most {
+                unit.text.give_up_text();
                 unit.extra = CodecExtra::None;
                 unit.is_whole = false;
             }
@@ -102,7 +181,7 @@ impl OpenAccessUnit {
     /// Whether one is open that has this timestamp.
     #[inline]
     pub(crate) fn is_at(&self, timestamp: u32) -> bool
-        ensures { result ≡ is_unit_at self.now timestamp }
+        ensures { result ≡ is_unit_at self.now.unit timestamp }
     {
         match &self.unit {
             Some(unit) => unit.timestamp == timestamp,
@@ -110,82 +189,115 @@ impl OpenAccessUnit {
         }
     }
 
-    /// Takes a packet into the one that is open, where it stands. A marker does not end it yet.
+    /// Takes a packet without a marker into the one that is open, where it stands.
     #[inline]
     pub(crate) fn go_on<D: RunDepacketizer>(
         &mut self,
         packets: &mut SequencedDepacketizer<D>,
         packet: &RtpPacket<'_>,
     ) -> Result<Received, PacketError>
-        requires { is_unit_at self.old packet.now.1.timestamp ≡ true }
-        ensures answer { IsTakenAnswer packets.old.run_limit (unit_depacketization
+        requires { is_unit_at self.old.unit packet.now.1.timestamp ≡ true }
+        ensures answer { IsTakenAnswer packets.old.run_limit (open_depacketization
             (D.state packets.old.depacketizer) packets.old.expected self.old []) packet.now result }
         ensures after { is_taken result ≡ true →
-            unit_depacketization (D.state packets.new.depacketizer) packets.new.expected
-            self.new [] ≡ after_taken_rtp packets.old.run_limit (unit_depacketization
+            open_depacketization (D.state packets.new.depacketizer) packets.new.expected
+            self.new [] ≡ after_taken_rtp packets.old.run_limit (open_depacketization
             (D.state packets.old.depacketizer) packets.old.expected self.old [])
             (packet.now.0, rtp_body packet.now.1.timestamp false packet.now.1.payload) }
-        ensures rest { is_taken result ≡ true → D.with_run None packets.new.depacketizer
-            ≡ D.with_run None (D.having_taken packet.now.1.payload packets.old.depacketizer) }
+        ensures rest { is_taken result ≡ true → packets.new.depacketizer
+            ≡ D.having_taken packet.now.1.payload packets.old.depacketizer }
         ensures limit { packets.new.run_limit ≡ packets.old.run_limit }
-        ensures bounded { run_len (D.state packets.old.depacketizer).run ≤ packets.old.run_limit →
-            run_len (D.state packets.new.depacketizer).run ≤ packets.old.run_limit }
+        ensures bounded { run_len self.old.run ≤ packets.old.run_limit →
+            run_len self.new.run ≤ packets.old.run_limit }
         ensures kept { MatchBool (is_taken result) (Unit {0}) ((packets.new ≡ packets.old)
             × (self.new ≡ self.old)) }
     {
-        let follows = is_next(packets.expected, packet.sequence);
         match &mut self.unit {
-            Some(unit) => {
-                let received = packets.receive(
-                    packet.sequence,
-                    packet.payload,
-                    &mut unit.bytes,
-                    &mut unit.extra,
-                );
-                if was_taken(&received) {
-                    unit.is_whole = unit.is_whole && is_sound(follows, &received);
+            Some(unit) => unit.take(packets, packet, true),
+            None => unreachable!(),
+        }
+    }
+
+    /// Takes a packet with a marker into the one that is open, and appends that.
+    pub(crate) fn go_on_to_end<D: RunDepacketizer>(
+        &mut self,
+        packets: &mut SequencedDepacketizer<D>,
+        packet: &RtpPacket<'_>,
+        out: &mut Vec<AccessUnit>,
+    ) -> Result<Received, PacketError>
+        requires at { is_unit_at self.old.unit packet.now.1.timestamp ≡ true }
+        requires marker { packet.now.1.marker ≡ true }
+        requires room { vec_len out.old + 1 ≤ vec_capacity out.old }
+        ensures answer { IsTakenAnswer packets.old.run_limit (open_depacketization
+            (D.state packets.old.depacketizer) packets.old.expected self.old
+            (map access_unit_value out.old.items)) packet.now result }
+        ensures after { is_taken result ≡ true →
+            open_depacketization (D.state packets.new.depacketizer) packets.new.expected
+            self.new (map access_unit_value out.new.items)
+            ≡ after_taken_rtp packets.old.run_limit (open_depacketization
+            (D.state packets.old.depacketizer) packets.old.expected self.old
+            (map access_unit_value out.old.items)) packet.now }
+        ensures rest { is_taken result ≡ true → packets.new.depacketizer
+            ≡ D.having_taken packet.now.1.payload packets.old.depacketizer }
+        ensures limit { packets.new.run_limit ≡ packets.old.run_limit }
+        ensures bounded { run_len self.old.run ≤ packets.old.run_limit →
+            run_len self.new.run ≤ packets.old.run_limit }
+        ensures kept { MatchBool (is_taken result) (Unit {0}) ((packets.new ≡ packets.old)
+            × (self.new ≡ self.old) × (out.new.items ≡ out.old.items)) }
+    {
+        match self.unit.take() {
+            Some(mut unit) => {
+                let received = unit.take(packets, packet, false);
+                if !was_taken(&received) {
+                    self.unit = Some(unit);
+                    return received;
                 }
+                self.left = unit.text.take_run();
+                out.push(unit.end(true)).unwrap();
                 received
             }
             None => unreachable!(),
         }
     }
 
-    /// Puts one in its place, or appends it where it has ended.
+    /// Puts one in its place, or appends it where it has ended: then its run stands aside.
     pub(crate) fn put(
         &mut self,
-        mut unit: AccessUnit,
+        mut unit: OpenUnit,
         is_sound: bool,
         is_over: bool,
         out: &mut Vec<AccessUnit>,
     )
-        requires { vec_len out.old + 1 ≤ vec_capacity out.old }
-        ensures unit { self.new ≡ (if is_over then None
-            else Some (whole_if is_sound (access_unit_value unit))) }
+        requires room { vec_len out.old + 1 ≤ vec_capacity out.old }
+        requires aside { is_over ≡ true → unit.text.inside ≡ None }
+        ensures unit { self.new.unit ≡ (if is_over then None
+            else Some (whole_if is_sound (open_unit_value unit))) }
+        ensures run { self.new.run ≡ unit.text.run }
         ensures out { map access_unit_value out.new.items ≡ map access_unit_value out.old.items
-            ++ (if is_over then whole_if is_sound (access_unit_value unit) ∷ [] else []) }
+            ++ (if is_over then whole_if is_sound (open_unit_value unit) ∷ [] else []) }
     {
-        unit.is_whole = unit.is_whole && is_sound;
         if is_over {
             self.unit = None;
-            out.push(unit).unwrap();
+            self.left = unit.text.take_run();
+            out.push(unit.end(is_sound)).unwrap();
         } else {
+            unit.is_whole = unit.is_whole && is_sound;
             self.unit = Some(unit);
         }
     }
 
-    /// Appends it, if one is open.
+    /// Appends it, if one is open, and gives up the run.
     pub(crate) fn end(&mut self, follows: bool, out: &mut Vec<AccessUnit>)
         requires { vec_len out.old + 1 ≤ vec_capacity out.old }
-        ensures unit { self.new ≡ None }
+        ensures none { self.new ≡ none_open }
         ensures out { map access_unit_value out.new.items ≡ map access_unit_value out.old.items
-            ++ given_out follows self.old }
+            ++ given_out follows self.old.unit }
         ensures len { vec_len out.new ≤ vec_len out.old + 1 }
         ensures capacity { vec_capacity out.old ≤ vec_capacity out.new }
     {
-        if let Some(mut unit) = self.unit.take() {
-            unit.is_whole = unit.is_whole && follows;
-            out.push(unit).unwrap();
+        self.left.close();
+        if let Some(unit) = self.unit.take() {
+            out.push(unit.end(follows)).unwrap();
         }
     }
 }

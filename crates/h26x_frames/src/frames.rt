@@ -5,7 +5,7 @@ ghost use Rattle.h26x_model.specs.Receive.RunLimit.{run_len};
 ghost use Rattle.h26x_receiver.specs.Delivery.{NoneIsRefused};
 ghost use Rattle.h26x_receiver.specs.Sequenced.{having_taken_all};
 ghost use Rattle.h26x_frames.specs.ReorderBuffer.{reordered};
-ghost use Rattle.h26x_frames.specs.AccessUnit.{access_unit_value, unit_depacketization, unit_len, given_out, AreUnitsReceived};
+ghost use Rattle.h26x_frames.specs.AccessUnit.{access_unit_value, open_depacketization, unit_len, given_out, AreUnitsReceived};
 ghost use Rattle.h26x_frames.specs.StampedCalls.{AreAccessUnitsBrought, NoneBroughtIsRefused};
 
 use crate::access_unit::AccessUnit;
@@ -43,25 +43,25 @@ pub fn receive_frames<D: RunDepacketizer>(
     // Any packets whatever: the answer for each that the buffer gave out by what those before it
     // left, and what stands after them.
     ensures received { IfOk result (λ answers. AreUnitsReceived receiver.old.packets.run_limit
-        receiver.old.unit_limit (unit_depacketization (D.state receiver.old.packets.depacketizer)
+        receiver.old.unit_limit (open_depacketization (D.state receiver.old.packets.depacketizer)
         receiver.old.packets.expected receiver.old.unit (map access_unit_value out.old.items))
         (reordered window packets.now) answers.items
-        (unit_depacketization (D.state receiver.new.packets.depacketizer)
+        (open_depacketization (D.state receiver.new.packets.depacketizer)
         receiver.new.packets.expected receiver.new.unit (map access_unit_value out.new.items))) }
 
     // Where they are what a network brings of the packets of calls with timestamps, with losses, in
     // another order and twice, and none is refused: the access units, with the one that is open, are
     // what the packets that came leave of the calls, in order.
-    ensures in_order { receiver.old.unit ≡ None →
+    ensures in_order { receiver.old.unit.unit ≡ None →
         IfOk result (λ answers. NoneIsRefused answers.items →
         AreAccessUnitsBrought window receiver.old.packets.run_limit receiver.old.unit_limit
-        (unit_depacketization (D.state receiver.old.packets.depacketizer)
+        (open_depacketization (D.state receiver.old.packets.depacketizer)
         receiver.old.packets.expected receiver.old.unit (map access_unit_value out.old.items))
-        packets.now (map access_unit_value out.new.items ++ given_out false receiver.new.unit)) }
+        packets.now (map access_unit_value out.new.items ++ given_out false receiver.new.unit.unit)) }
 
     // None of these is refused for what it is: memory lacks or, in AVC form, a unit is too long.
     ensures refusals { IfOk result (λ answers. NoneBroughtIsRefused window
-        (unit_depacketization (D.state receiver.old.packets.depacketizer)
+        (open_depacketization (D.state receiver.old.packets.depacketizer)
         receiver.old.packets.expected receiver.old.unit (map access_unit_value out.old.items))
         packets.now answers.items) }
 
@@ -72,11 +72,10 @@ pub fn receive_frames<D: RunDepacketizer>(
         receiver.old.packets.depacketizer)) }
 
     // The run that is open is within its limit, and the open access unit within its own.
-    ensures bounded { run_len (D.state receiver.old.packets.depacketizer).run
-        ≤ receiver.old.packets.run_limit →
-        run_len (D.state receiver.new.packets.depacketizer).run ≤ receiver.old.packets.run_limit }
-    ensures bounded_unit { unit_len receiver.old.unit ≤ receiver.old.unit_limit →
-        unit_len receiver.new.unit ≤ receiver.old.unit_limit }
+    ensures bounded { run_len receiver.old.unit.run ≤ receiver.old.packets.run_limit →
+        run_len receiver.new.unit.run ≤ receiver.old.packets.run_limit }
+    ensures bounded_unit { unit_len receiver.old.unit.unit ≤ receiver.old.unit_limit →
+        unit_len receiver.new.unit.unit ≤ receiver.old.unit_limit }
     ensures limit { receiver.new.packets.run_limit ≡ receiver.old.packets.run_limit }
     ensures unit_limit { receiver.new.unit_limit ≡ receiver.old.unit_limit }
 

@@ -14,6 +14,7 @@ mod packet;
 mod parted;
 mod receiver;
 mod reorder;
+mod spare;
 
 pub use access_unit::{AccessUnit, OpenAccessUnit};
 pub use buffer::{HeldPacket, NotHeld, NotHeldReason, Pushed, ReorderBuffer};

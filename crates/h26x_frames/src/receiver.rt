@@ -1,54 +1,17 @@
 //! A receiver that gives out access units.
 
 ghost use Rattle.std.specs.Prelude.{◌≡◌, ◌+◌, ◌≤◌, ℕ, true, false, None, Ok, Err, OnOk, OnErr, map, vec_len, vec_capacity, if◌then◌else◌, MatchBool};
-ghost use Rattle.h26x_model.specs.Receive.RunLimit.{run_len, state_with_run};
-ghost use Rattle.h26x_receiver.specs.Sequenced.{sequenced_depacketization, IsSequencedAnswer, after_taken_packet, is_taken};
-ghost use Rattle.h26x_frames.specs.AccessUnit.{access_unit_value, is_unit_at, unit_depacketization, IsTakenAnswer, IsUnitAnswer, after_taken_rtp, after_rtp, after_end, unit_len};
+ghost use Rattle.h26x_model.specs.Receive.RunLimit.{run_len};
+ghost use Rattle.h26x_receiver.specs.Sequenced.{is_taken};
+ghost use Rattle.h26x_frames.specs.AccessUnit.{access_unit_value, none_open, is_unit_at, open_depacketization, IsTakenAnswer, IsUnitAnswer, after_taken_rtp, after_rtp, after_end, unit_len};
 
-use crate::access_unit::{AccessUnit, OpenAccessUnit};
+use crate::access_unit::{AccessUnit, OpenAccessUnit, OpenUnit};
 use crate::answers::{is_next, is_sound, was_taken};
 use crate::packet::RtpPacket;
+use crate::spare::SpareMemory;
 use h26x_core::PacketError;
-use h26x_receiver::{Received, RunDepacketizer, SequencedDepacketizer, take_run};
+use h26x_receiver::{Received, RunDepacketizer, SequencedDepacketizer};
 use std::alloc::Global;
-
-/// Takes a packet where no run is open: the one that was is given up once the packet is taken.
-fn receive_anew<D: RunDepacketizer>(
-    alloc: Global,
-    packets: &mut SequencedDepacketizer<D>,
-    packet: &RtpPacket<'_>,
-    unit: &mut AccessUnit,
-) -> Result<Received, PacketError>
-    ensures answer { IsSequencedAnswer packets.old.run_limit (sequenced_depacketization
-        (state_with_run (D.state packets.old.depacketizer) None) packets.old.expected
-        unit.old.bytes.items unit.old.extra) packet.now.0 packet.now.1.payload result }
-    ensures after { MatchBool (is_taken result)
-        (sequenced_depacketization (D.state packets.new.depacketizer) packets.new.expected
-        unit.new.bytes.items unit.new.extra
-        ≡ after_taken_packet packets.old.run_limit (sequenced_depacketization
-        (state_with_run (D.state packets.old.depacketizer) None) packets.old.expected
-        unit.old.bytes.items unit.old.extra) packet.now.0 packet.now.1.payload)
-        (packets.new ≡ packets.old) }
-    ensures rest { is_taken result ≡ true → D.with_run None packets.new.depacketizer
-        ≡ D.with_run None (D.having_taken packet.now.1.payload packets.old.depacketizer) }
-    ensures limit { packets.new.run_limit ≡ packets.old.run_limit }
-    ensures bounded { run_len (D.state packets.old.depacketizer).run ≤ packets.old.run_limit →
-        run_len (D.state packets.new.depacketizer).run ≤ packets.old.run_limit }
-    ensures same { (unit.new.timestamp ≡ unit.old.timestamp)
-        × (unit.new.is_whole ≡ unit.old.is_whole) }
-{
-    let mut run = take_run(alloc, &mut packets.depacketizer);
-    let received = packets.receive(
-        packet.sequence,
-        packet.payload,
-        &mut unit.bytes,
-        &mut unit.extra,
-    );
-    if !was_taken(&received) {
-        packets.depacketizer.swap_run(&mut run);
-    }
-    received
-}
 
 /// Takes a packet into the access unit that was open.
 fn go_on<D: RunDepacketizer>(
@@ -57,67 +20,74 @@ fn go_on<D: RunDepacketizer>(
     packet: &RtpPacket<'_>,
     out: &mut Vec<AccessUnit>,
 ) -> Result<Received, PacketError>
-    requires same { is_unit_at place.old packet.now.1.timestamp ≡ true }
+    requires same { is_unit_at place.old.unit packet.now.1.timestamp ≡ true }
     requires room { vec_len out.old + 2 ≤ vec_capacity out.old }
-    ensures answer { IsTakenAnswer packets.old.run_limit (unit_depacketization
+    ensures answer { IsTakenAnswer packets.old.run_limit (open_depacketization
         (D.state packets.old.depacketizer) packets.old.expected place.old
         (map access_unit_value out.old.items))
         packet.now result }
     ensures after { is_taken result ≡ true →
-        unit_depacketization (D.state packets.new.depacketizer) packets.new.expected
+        open_depacketization (D.state packets.new.depacketizer) packets.new.expected
         place.new (map access_unit_value out.new.items)
-        ≡ after_taken_rtp packets.old.run_limit (unit_depacketization
+        ≡ after_taken_rtp packets.old.run_limit (open_depacketization
         (D.state packets.old.depacketizer) packets.old.expected place.old
         (map access_unit_value out.old.items))
         packet.now }
-    ensures rest { is_taken result ≡ true → D.with_run None packets.new.depacketizer
-        ≡ D.with_run None (D.having_taken packet.now.1.payload packets.old.depacketizer) }
+    ensures rest { is_taken result ≡ true → packets.new.depacketizer
+        ≡ D.having_taken packet.now.1.payload packets.old.depacketizer }
     ensures limit { packets.new.run_limit ≡ packets.old.run_limit }
-    ensures bounded { run_len (D.state packets.old.depacketizer).run ≤ packets.old.run_limit →
-        run_len (D.state packets.new.depacketizer).run ≤ packets.old.run_limit }
+    ensures bounded { run_len place.old.run ≤ packets.old.run_limit →
+        run_len place.new.run ≤ packets.old.run_limit }
     ensures kept { MatchBool (is_taken result) (Unit {0}) ((packets.new ≡ packets.old)
         × (place.new ≡ place.old) × (out.new.items ≡ out.old.items)) }
 {
-    let received = place.go_on(packets, packet);
-    if packet.marker && was_taken(&received) {
-        place.end(true, out);
+    if packet.marker {
+        place.go_on_to_end(packets, packet, out)
+    } else {
+        place.go_on(packets, packet)
     }
-    received
 }
 
 /// Takes a packet as the first of an access unit: the one that is open ends.
 fn begin<D: RunDepacketizer>(
-    alloc: Global,
     packets: &mut SequencedDepacketizer<D>,
     place: &mut OpenAccessUnit,
+    spare: &mut SpareMemory,
     packet: &RtpPacket<'_>,
     out: &mut Vec<AccessUnit>,
 ) -> Result<Received, PacketError>
-    requires other { is_unit_at place.old packet.now.1.timestamp ≡ false }
+    requires other { is_unit_at place.old.unit packet.now.1.timestamp ≡ false }
     requires room { vec_len out.old + 2 ≤ vec_capacity out.old }
-    ensures answer { IsTakenAnswer packets.old.run_limit (unit_depacketization
+    ensures answer { IsTakenAnswer packets.old.run_limit (open_depacketization
         (D.state packets.old.depacketizer) packets.old.expected place.old
         (map access_unit_value out.old.items))
         packet.now result }
     ensures after { is_taken result ≡ true →
-        unit_depacketization (D.state packets.new.depacketizer) packets.new.expected
+        open_depacketization (D.state packets.new.depacketizer) packets.new.expected
         place.new (map access_unit_value out.new.items)
-        ≡ after_taken_rtp packets.old.run_limit (unit_depacketization
+        ≡ after_taken_rtp packets.old.run_limit (open_depacketization
         (D.state packets.old.depacketizer) packets.old.expected place.old
         (map access_unit_value out.old.items))
         packet.now }
-    ensures rest { is_taken result ≡ true → D.with_run None packets.new.depacketizer
-        ≡ D.with_run None (D.having_taken packet.now.1.payload packets.old.depacketizer) }
+    ensures rest { is_taken result ≡ true → packets.new.depacketizer
+        ≡ D.having_taken packet.now.1.payload packets.old.depacketizer }
     ensures limit { packets.new.run_limit ≡ packets.old.run_limit }
-    ensures bounded { run_len (D.state packets.old.depacketizer).run ≤ packets.old.run_limit →
-        run_len (D.state packets.new.depacketizer).run ≤ packets.old.run_limit }
+    ensures bounded { run_len place.old.run ≤ packets.old.run_limit →
+        run_len place.new.run ≤ packets.old.run_limit }
     ensures kept { MatchBool (is_taken result) (Unit {0}) ((packets.new ≡ packets.old)
         × (place.new ≡ place.old) × (out.new.items ≡ out.old.items)) }
 {
     let follows = is_next(packets.expected, packet.sequence);
-    let mut unit = AccessUnit::empty(alloc, packet.timestamp);
-    let received = receive_anew(alloc, packets, packet, &mut unit);
+    let mut unit = OpenUnit::new(spare.take(), packet.timestamp);
+    let received = packets.receive_in_text(
+        packet.sequence,
+        packet.payload,
+        !packet.marker,
+        &mut unit.text,
+        &mut unit.extra,
+    );
     if !was_taken(&received) {
+        spare.keep(unit.text.into_text(), usize::MAX);
         return received;
     }
     let is_sound = is_sound(follows, &received);
@@ -128,36 +98,36 @@ fn begin<D: RunDepacketizer>(
 
 /// Takes a packet, and appends the access units that it ends.
 fn take<D: RunDepacketizer>(
-    alloc: Global,
     packets: &mut SequencedDepacketizer<D>,
     place: &mut OpenAccessUnit,
+    spare: &mut SpareMemory,
     packet: &RtpPacket<'_>,
     out: &mut Vec<AccessUnit>,
 ) -> Result<Received, PacketError>
     requires room { vec_len out.old + 2 ≤ vec_capacity out.old }
-    ensures answer { IsTakenAnswer packets.old.run_limit (unit_depacketization
+    ensures answer { IsTakenAnswer packets.old.run_limit (open_depacketization
         (D.state packets.old.depacketizer) packets.old.expected place.old
         (map access_unit_value out.old.items))
         packet.now result }
     ensures after { is_taken result ≡ true →
-        unit_depacketization (D.state packets.new.depacketizer) packets.new.expected
+        open_depacketization (D.state packets.new.depacketizer) packets.new.expected
         place.new (map access_unit_value out.new.items)
-        ≡ after_taken_rtp packets.old.run_limit (unit_depacketization
+        ≡ after_taken_rtp packets.old.run_limit (open_depacketization
         (D.state packets.old.depacketizer) packets.old.expected place.old
         (map access_unit_value out.old.items))
         packet.now }
-    ensures rest { is_taken result ≡ true → D.with_run None packets.new.depacketizer
-        ≡ D.with_run None (D.having_taken packet.now.1.payload packets.old.depacketizer) }
+    ensures rest { is_taken result ≡ true → packets.new.depacketizer
+        ≡ D.having_taken packet.now.1.payload packets.old.depacketizer }
     ensures limit { packets.new.run_limit ≡ packets.old.run_limit }
-    ensures bounded { run_len (D.state packets.old.depacketizer).run ≤ packets.old.run_limit →
-        run_len (D.state packets.new.depacketizer).run ≤ packets.old.run_limit }
+    ensures bounded { run_len place.old.run ≤ packets.old.run_limit →
+        run_len place.new.run ≤ packets.old.run_limit }
     ensures kept { MatchBool (is_taken result) (Unit {0}) ((packets.new ≡ packets.old)
         × (place.new ≡ place.old) × (out.new.items ≡ out.old.items)) }
 {
     if place.is_at(packet.timestamp) {
         go_on(packets, place, packet, out)
     } else {
-        begin(alloc, packets, place, packet, out)
+        begin(packets, place, spare, packet, out)
     }
 }
 
@@ -181,27 +151,27 @@ pub struct FrameReceiver<D: RunDepacketizer> {
     /// run. Where the peer tells the number of its first packet, as in the RTP-Info of RTSP (RFC
     /// 2326, 12.33), set `expected` to it: the first access unit can then be known to be whole too.
     pub packets: SequencedDepacketizer<D>,
-    /// The access unit that is open.
+    /// The access unit that is open, with the open run in its text.
     pub unit: OpenAccessUnit,
     /// How many bytes the text of an open access unit may hold from a packet to the next.
     pub unit_limit: usize,
-    alloc: Global,
+    spare: SpareMemory,
 }
 
 impl<D: RunDepacketizer> FrameReceiver<D> {
     /// A receiver for which no access unit is open; from a packet to the next the text of one that is
-    /// may hold `unit_limit` bytes. A run that is open in the depacketizer is given up with the first
-    /// packet. It takes no memory.
+    /// may hold `unit_limit` bytes. The open run stands in the access unit; one that is open in the
+    /// depacketizer itself stays there, and is not used. It takes no memory.
     pub fn new(alloc: Global, packets: SequencedDepacketizer<D>, unit_limit: usize) -> Self
         ensures packets { result.packets ≡ packets }
-        ensures unit { result.unit ≡ None }
+        ensures unit { result.unit ≡ none_open }
         ensures limit { result.unit_limit ≡ unit_limit }
     {
         FrameReceiver {
             packets,
-            unit: OpenAccessUnit::none(),
+            unit: OpenAccessUnit::none(alloc),
             unit_limit,
-            alloc,
+            spare: SpareMemory::none(alloc),
         }
     }
 
@@ -222,26 +192,24 @@ impl<D: RunDepacketizer> FrameReceiver<D> {
         out: &mut Vec<AccessUnit>,
     ) -> Result<Received, PacketError>
         // What is answered, and what stands afterwards.
-        ensures answer { IsUnitAnswer self.old.packets.run_limit (unit_depacketization
+        ensures answer { IsUnitAnswer self.old.packets.run_limit (open_depacketization
             (D.state self.old.packets.depacketizer) self.old.packets.expected self.old.unit
             (map access_unit_value out.old.items)) packet.now result }
-        ensures after { unit_depacketization (D.state self.new.packets.depacketizer)
+        ensures after { open_depacketization (D.state self.new.packets.depacketizer)
             self.new.packets.expected self.new.unit (map access_unit_value out.new.items)
-            ≡ after_rtp self.old.packets.run_limit self.old.unit_limit (unit_depacketization
+            ≡ after_rtp self.old.packets.run_limit self.old.unit_limit (open_depacketization
             (D.state self.old.packets.depacketizer) self.old.packets.expected self.old.unit
             (map access_unit_value out.old.items)) packet.now result }
-        ensures rest { is_taken result ≡ true → D.with_run None self.new.packets.depacketizer
-            ≡ D.with_run None (D.having_taken packet.now.1.payload
-            self.old.packets.depacketizer) }
+        ensures rest { is_taken result ≡ true → self.new.packets.depacketizer
+            ≡ D.having_taken packet.now.1.payload self.old.packets.depacketizer }
         ensures limit { self.new.packets.run_limit ≡ self.old.packets.run_limit }
         ensures unit_limit { self.new.unit_limit ≡ self.old.unit_limit }
 
         // The open run is within its limit, and the open access unit within its own.
-        ensures bounded { run_len (D.state self.old.packets.depacketizer).run
-            ≤ self.old.packets.run_limit →
-            run_len (D.state self.new.packets.depacketizer).run ≤ self.old.packets.run_limit }
-        ensures bounded_unit { unit_len self.old.unit ≤ self.old.unit_limit →
-            unit_len self.new.unit ≤ self.old.unit_limit }
+        ensures bounded { run_len self.old.unit.run ≤ self.old.packets.run_limit →
+            run_len self.new.unit.run ≤ self.old.packets.run_limit }
+        ensures bounded_unit { unit_len self.old.unit.unit ≤ self.old.unit_limit →
+            unit_len self.new.unit.unit ≤ self.old.unit_limit }
 
         // A late packet and a refusal leave everything.
         ensures late { (n : ℕ) → result ≡ Ok (Received.Late n) → self.new ≡ self.old }
@@ -251,9 +219,10 @@ impl<D: RunDepacketizer> FrameReceiver<D> {
         ensures kept_out { OnErr result (out.new.items ≡ out.old.items) }
     {
         out.reserve(2)?;
-        let received = take(self.alloc, &mut self.packets, &mut self.unit, packet, out);
+        let (packets, unit, spare) = (&mut self.packets, &mut self.unit, &mut self.spare);
+        let received = take(packets, unit, spare, packet, out);
         if was_taken(&received) {
-            self.unit.limit(self.alloc, self.unit_limit);
+            self.unit.limit(self.unit_limit);
         }
         received
     }
@@ -263,9 +232,9 @@ impl<D: RunDepacketizer> FrameReceiver<D> {
     ///
     /// Without memory the error is `OutOfMemory`, and everything is left.
     pub fn end(&mut self, out: &mut Vec<AccessUnit>) -> Result<(), PacketError>
-        ensures after { OnOk result (unit_depacketization (D.state self.new.packets.depacketizer)
+        ensures after { OnOk result (open_depacketization (D.state self.new.packets.depacketizer)
             self.new.packets.expected self.new.unit (map access_unit_value out.new.items)
-            ≡ after_end (unit_depacketization (D.state self.old.packets.depacketizer)
+            ≡ after_end (open_depacketization (D.state self.old.packets.depacketizer)
             self.old.packets.expected self.old.unit (map access_unit_value out.old.items))) }
         ensures rest { OnOk result (self.new.packets.depacketizer
             ≡ D.with_run None self.old.packets.depacketizer) }
@@ -290,9 +259,19 @@ impl<D: RunDepacketizer> FrameReceiver<D> {
         ensures expected { self.new.packets.expected ≡ None }
         ensures limit { self.new.packets.run_limit ≡ self.old.packets.run_limit }
         ensures unit_limit { self.new.unit_limit ≡ self.old.unit_limit }
-        ensures unit { self.new.unit ≡ None }
+        ensures unit { self.new.unit ≡ none_open }
     {
         self.packets.restart();
-        self.unit = OpenAccessUnit::none();
+        let alloc = self.spare.allocator();
+        self.unit = OpenAccessUnit::none(alloc);
+    }
+
+    /// Takes back an access unit that was given out, for its memory: a later one is written there. Of
+    /// those that are given back the largest that holds at most `unit_limit` bytes is kept, until one
+    /// begins.
+    pub fn give_back(&mut self, unit: AccessUnit)
+        ensures { self.new ≡ self.old }
+    {
+        self.spare.keep(unit.bytes, self.unit_limit);
     }
 }

@@ -9,7 +9,7 @@ use Rattle.h26x_receiver.proofs.AnswerLemmas.{accepted}
 use Rattle.h26x_receiver.proofs.TakenLemmas.{taken_on}
 use Rattle.h26x_frames.specs.Rtp.{RtpBody}
 use Rattle.h26x_frames.specs.ReorderBuffer.{reordered}
-use Rattle.h26x_frames.specs.AccessUnit.{access_unit_value, unit_depacketization, unit_len, IsUnitAnswer, after_rtp, AreUnitsReceived}
+use Rattle.h26x_frames.specs.AccessUnit.{access_unit_value, open_depacketization, unit_len, IsUnitAnswer, after_rtp, AreUnitsReceived}
 use Rattle.h26x_frames.proofs.ReceivedLemmas.{units_more, units_to_end, units_brought_by}
 use Rattle.h26x_frames.proofs.RefusedLemmas.{brought_want}
 use Rattle.h26x_frames.proofs.frames.receive_frames.Goals as goal
@@ -34,8 +34,8 @@ loop-packet-preserved g c =
     let now = c.loop-packet.receiver.packets in
     let then = c.receive-answer.new.self.packets in
     let most = c.args.receiver.now.packets.run_limit in
-    let old = unit_depacketization (state now.depacketizer) now.expected c.loop-packet.receiver.unit (map access_unit_value c.loop-packet.out.items) in
-    let new = unit_depacketization (state then.depacketizer) then.expected c.receive-answer.new.self.unit (map access_unit_value c.receive-answer.new.out.items) in
+    let old = open_depacketization (state now.depacketizer) now.expected c.loop-packet.receiver.unit (map access_unit_value c.loop-packet.out.items) in
+    let new = open_depacketization (state then.depacketizer) then.expected c.receive-answer.new.self.unit (map access_unit_value c.receive-answer.new.out.items) in
     let limit = c.args.receiver.now.unit_limit in
     let same_unit_limit = c.loop-packet.invariant.unit_limit in
     let payloads = map (λ (q : ℕ × RtpBody). q.1.payload) packets in
@@ -44,7 +44,7 @@ loop-packet-preserved g c =
     let with_run = g.D.RunDepacketizer.with_run in
     let having = g.D.RunDepacketizer.having_taken in
     let took : is_taken o ≡ true → with_run None then.depacketizer ≡ with_run None (having p.1.payload now.depacketizer) =
-    λ yes. c.receive-answer.ensures.rest yes in
+    λ yes. ap (with_run None) (c.receive-answer.ensures.rest yes) in
     let late : (n : ℕ) → o ≡ accepted (Late n) → then.depacketizer ≡ now.depacketizer = λ n is. ap (λ s. s.packets.depacketizer) (c.receive-answer.ensures.late n is) in
     let kept : OnErr o (then.depacketizer ≡ now.depacketizer) = search rules in
     record {
@@ -52,12 +52,12 @@ loop-packet-preserved g c =
       room = grind (arith, common_steps);
       limit = c.receive-answer.ensures.limit ∙ same_limit;
       bounded = λ short.
-          subst (λ (m : ℕ). run_len (state then.depacketizer).run ≤ m) same_limit
-          (c.receive-answer.ensures.bounded (subst (λ (m : ℕ). run_len (state now.depacketizer).run ≤ m) (sym same_limit) (c.loop-packet.invariant.bounded short)));
+          subst (λ (m : ℕ). run_len c.receive-answer.new.self.unit.run ≤ m) same_limit
+          (c.receive-answer.ensures.bounded (subst (λ (m : ℕ). run_len c.loop-packet.receiver.unit.run ≤ m) (sym same_limit) (c.loop-packet.invariant.bounded short)));
       unit_limit = c.receive-answer.ensures.unit_limit ∙ same_unit_limit;
       bounded_unit = λ short.
-          subst (λ (m : ℕ). unit_len c.receive-answer.new.self.unit ≤ m) same_unit_limit
-          (c.receive-answer.ensures.bounded_unit (subst (λ (m : ℕ). unit_len c.loop-packet.receiver.unit ≤ m) (sym same_unit_limit) (c.loop-packet.invariant.bounded_unit short)));
+          subst (λ (m : ℕ). unit_len c.receive-answer.new.self.unit.unit ≤ m) same_unit_limit
+          (c.receive-answer.ensures.bounded_unit (subst (λ (m : ℕ). unit_len c.loop-packet.receiver.unit.unit ≤ m) (sym same_unit_limit) (c.loop-packet.invariant.bounded_unit short)));
       rest = rw pushed (taken_on with_run having payloads i p.1.payload c.loop-packet.answers.items o c.args.receiver.now.packets.depacketizer now.depacketizer then.depacketizer
           (rw length-map within) payload count (g.met.D.RunDepacketizer.taken_beside p.1.payload) c.loop-packet.invariant.rest took late kept);
       received = rw pushed (units_more most limit _ packets i c.loop-packet.answers.items o p old new within here c.loop-packet.invariant.received
@@ -73,8 +73,8 @@ returns-clause-received g c =
     let most = first.packets.run_limit in
     let held = c.deref-packet-items.result.now in
     let last = c.loop-packet.receiver in
-    let old = unit_depacketization (state first.packets.depacketizer) first.packets.expected first.unit (map access_unit_value c.args.out.now.items) in
-    let new = unit_depacketization (state last.packets.depacketizer) last.packets.expected last.unit (map access_unit_value c.loop-packet.out.items) in
+    let old = open_depacketization (state first.packets.depacketizer) first.packets.expected first.unit (map access_unit_value c.args.out.now.items) in
+    let new = open_depacketization (state last.packets.depacketizer) last.packets.expected last.unit (map access_unit_value c.loop-packet.out.items) in
     let given : map seen held ≡ reordered c.args.window c.args.packets.now = ap (map seen) c.deref-packet-items.ensures.value ∙ c.in_ok-ordered.ensures in
     subst (λ (l : List (ℕ × RtpBody)). AreUnitsReceived most first.unit_limit old l c.loop-packet.answers.items new) given
     (units_to_end most first.unit_limit old (map seen held) c.loop-packet.packet-index c.loop-packet.answers.items new (rw length-map c.loop-packet-test.false) c.loop-packet.invariant.received)
@@ -84,15 +84,15 @@ returns-clause-in_order g c = λ none_open fine.
     let state = g.D.RunDepacketizer.state in
     let first = c.args.receiver.now in
     let last = c.loop-packet.receiver in
-    let old = unit_depacketization (state first.packets.depacketizer) first.packets.expected first.unit (map access_unit_value c.args.out.now.items) in
-    let new = unit_depacketization (state last.packets.depacketizer) last.packets.expected last.unit (map access_unit_value c.loop-packet.out.items) in
+    let old = open_depacketization (state first.packets.depacketizer) first.packets.expected first.unit (map access_unit_value c.args.out.now.items) in
+    let new = open_depacketization (state last.packets.depacketizer) last.packets.expected last.unit (map access_unit_value c.loop-packet.out.items) in
     units_brought_by c.args.window first.packets.run_limit first.unit_limit old c.args.packets.now c.loop-packet.answers.items new
     c.nothing_is_damaged.ensures (λ s ok is. c.packetizers_go_on.ensures.goes_on s ok.limits ok.dons is) c.requires.some c.requires.half c.meets_the_facts.ensures none_open (returns-clause-received g c) fine
 
 pub returns-clause-refusals : goal.returns-clause-refusals
 returns-clause-refusals g c =
     let first = c.args.receiver.now in
-    let old = unit_depacketization (g.D.RunDepacketizer.state first.packets.depacketizer) first.packets.expected first.unit (map access_unit_value c.args.out.now.items) in
+    let old = open_depacketization (g.D.RunDepacketizer.state first.packets.depacketizer) first.packets.expected first.unit (map access_unit_value c.args.out.now.items) in
     brought_want c.args.window first.packets.run_limit first.unit_limit old c.args.packets.now c.loop-packet.answers.items
     (λ s ok is. c.packetizers_go_on.ensures.goes_on s ok.limits ok.dons is) c.what_calls_send_is_carried.ensures c.requires.some c.requires.half c.meets_the_facts.ensures (returns-clause-received g c).each
 

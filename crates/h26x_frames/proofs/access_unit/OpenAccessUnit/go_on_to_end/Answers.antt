@@ -1,0 +1,31 @@
+use Rattle.std.proofs.Common.{rules, ◌≡◌, ◌∙◌, ap, sym, subst, map, Bool, true, ℕ, List, [], ◌∷◌, ◌++◌, Option, None, Some, refl}
+use Rattle.std.proofs.lemmas.List.{map-append}
+use Rattle.h26x_model.specs.Receive.RunLimit.{state_with_run}
+use Rattle.h26x_frames.specs.Rtp.{RtpBody}
+use Rattle.h26x_frames.specs.AccessUnit.{AccessUnitValue, OpenUnitView, access_unit_value, open_unit_value, open_unit_view, open_depacketization, is_unit_at, after_taken_rtp}
+
+use Rattle.h26x_frames.proofs.TakeLemmas.{ends_taken, same_open}
+use Rattle.h26x_frames.proofs.access_unit.OpenAccessUnit.go_on_to_end.Goals as goal
+
+pub returns-clause-after : goal.returns-clause-after
+returns-clause-after g c = λ taken.
+    let old = c.args.packets.now in
+    let heard = c.take-received in
+    let new = heard.new.packets in
+    let state = g.D.RunDepacketizer.state in
+    let unit = c.in-Some.unit in
+    let left = heard.new.self in
+    let p = c.args.packet.now in
+    let ended = map access_unit_value c.args.out.now.items in
+    let view : open_unit_view (Some unit) None ≡ c.args.self.now = search rules in
+    let at : is_unit_at (Some (open_unit_value unit)) p.1.timestamp ≡ true = subst (λ (it : OpenUnitView). is_unit_at it.unit p.1.timestamp ≡ true) (sym view) c.requires.at in
+    let none : c.take.new.self ≡ None = search rules in
+    let value : access_unit_value c.end.result ≡ open_unit_value left = search rules in
+    let pushed : c.push.new.self.items ≡ c.args.out.now.items ++ c.end.result ∷ [] = search rules in
+    let items : map access_unit_value c.push.new.self.items ≡ ended ++ open_unit_value left ∷ [] =
+    ap (map access_unit_value) pushed ∙ map-append access_unit_value c.args.out.now.items (c.end.result ∷ []) ∙ ap (λ (v : AccessUnitValue). ended ++ v ∷ []) value in
+    let run : c.take_run.result ≡ left.text.run = c.take_run.ensures.run in
+    rw none (same_open (state new.depacketizer) new.expected (open_unit_view None c.take_run.result) left.text.run None _ (ended ++ open_unit_value left ∷ []) run refl items)
+    ∙ ends_taken old.run_limit (state_with_run (state old.depacketizer) unit.text.run) (state_with_run (state new.depacketizer) left.text.run) old.expected new.expected (open_unit_value unit) (open_unit_value left) ended p
+    c.requires.marker at (heard.ensures.after taken)
+    ∙ ap (λ (it : OpenUnitView). after_taken_rtp old.run_limit (open_depacketization (state old.depacketizer) old.expected it ended) p) view
