@@ -31,7 +31,7 @@ impl PacketReader for H264 {
     ghost ends = { λ codec marker packet. marker };
 
     // Types 1 to 23 are units, 24 a STAP-A, 28 an FU-A, and no other is handled.
-    #[inline]
+    #[inline(always)]
     fn read(self, packet: &[u8]) -> Result<Parts<'_>, PacketError> {
         if packet.is_empty() {
             return Err(PacketError::ErrShortPacket);

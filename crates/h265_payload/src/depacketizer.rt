@@ -204,9 +204,8 @@ impl H265Depacketizer {
         ensures kept_text { OnErr result (IsSameText text.new text.old) }
         ensures kept_extra { OnErr result (codec_extra.new ≡ codec_extra.old) }
     {
-        let codec = self.codec;
-        let parts = codec.read(packet)?;
-        let is_avc = self.is_avc;
+        let (codec, is_avc) = (self.codec, self.is_avc);
+        let parts = self.codec.read(packet)?;
         let run_len = text.met_run_len(rule.is_next);
         check_lengths(codec, is_avc, packet, parts, run_len)?;
         prepare(codec.has_donl, packet, parts, &mut self.spare)?;

@@ -37,7 +37,7 @@ impl PacketReader for H265 {
 
     // Two bytes or fewer are too short, and F is clear in every other; types 48, 49 and 50 are an
     // aggregate, a fragment and a PACI packet, and all others are units.
-    #[inline]
+    #[inline(always)]
     fn read(self, packet: &[u8]) -> Result<Parts<'_>, PacketError>
         ensures accepted { IfOk result (λ parts. IsReadAs (h265 self.has_donl)
             (units_in self.has_donl) packet.now parts) }

@@ -58,7 +58,7 @@ impl PacketReader for H266 {
         (is_two_byte_fragment h266_header packet) marker packet };
 
     // A type that is neither an aggregate's nor a fragment's is a unit's own.
-    #[inline]
+    #[inline(always)]
     fn read(self, packet: &[u8]) -> Result<Parts<'_>, PacketError> {
         if packet.len() <= PACKET_HEADER_SIZE {
             return Err(PacketError::ErrShortPacket);

@@ -7,7 +7,7 @@ ghost use Rattle.h26x_payload.specs.DepacketizerView.{depacketizer_state};
 ghost use Rattle.h264_payload.specs.H264.{h264};
 
 use h26x_core::{CodecExtra, Depacketizer, PacketError};
-use h26x_payload::{OpenRun, UnitSink};
+use h26x_payload::{OpenRun, OpenText, RunRule, UnitSink};
 use h26x_receiver::{RunDepacketizer, SequencedDepacketizer};
 use h264_payload::H264Depacketizer;
 use std::alloc::Global;
@@ -83,6 +83,19 @@ impl RunDepacketizer for CountingDepacketizer {
     ) -> Result<(), PacketError> {
         self.depacketizer
             .depacketize_into(packet, out, codec_extra)?;
+        self.taken = self.taken.saturating_add(1);
+        Ok(())
+    }
+
+    fn take_in_text(
+        &mut self,
+        rule: RunRule,
+        packet: &[u8],
+        text: &mut OpenText,
+        codec_extra: &mut CodecExtra,
+    ) -> Result<(), PacketError> {
+        self.depacketizer
+            .depacketize_in_text(rule, packet, text, codec_extra)?;
         self.taken = self.taken.saturating_add(1);
         Ok(())
     }

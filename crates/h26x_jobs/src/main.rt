@@ -1,9 +1,9 @@
 //! The jobs that a user of the library waits for, on inputs that it makes, for timing: `bench/run`
 //! runs them in two checkouts by turns.
 //!
-//! `h26x_jobs JOB SEED ROUNDS PICTURES` does a job, `send`, `receive`, `record`, `small`, `lines` or
-//! `awkward`, so many times over pictures that the seed makes, each time on other bytes, and prints a
-//! digest of all that was answered. `all` does each of them.
+//! `h26x_jobs JOB SEED ROUNDS PICTURES` does a job, `send`, `receive`, `receive_owned`, `record`,
+//! `small`, `lines` or `awkward`, so many times over pictures that the seed makes, each time on other
+//! bytes, and prints a digest of all that was answered. `all` does each of them.
 #![tactic(auto)]
 
 mod aggregates;
@@ -14,6 +14,7 @@ mod lines;
 mod network;
 mod packets;
 mod receive;
+mod receive_owned;
 mod record;
 mod send;
 mod setting;
@@ -41,6 +42,7 @@ fn digest_of(alloc: Global, job: &str, work: Work) -> Result<Option<Digest>> {
     let digest = match job {
         "send" => send::run(alloc, work)?,
         "receive" => receive::run(alloc, work)?,
+        "receive_owned" => receive_owned::run(alloc, work)?,
         "record" => record::run(alloc, work)?,
         "small" => small::run(alloc, work)?,
         "lines" => lines::run(alloc, work)?,
@@ -72,7 +74,15 @@ fn main(rt: HostRuntime) -> Result<()> {
             .context("the pictures are a number")?,
     };
     if job.as_str() == "all" {
-        for job in ["send", "receive", "record", "small", "lines", "awkward"] {
+        for job in [
+            "send",
+            "receive",
+            "receive_owned",
+            "record",
+            "small",
+            "lines",
+            "awkward",
+        ] {
             print_job(&rt, job, work)?;
         }
         return Ok(());

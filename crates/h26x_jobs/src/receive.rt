@@ -16,19 +16,21 @@ use h26x_receiver::{AnyDepacketizer, Received, SequencedDepacketizer};
 use std::alloc::Global;
 
 /// How many bytes an open run may hold.
-const RUN_LIMIT: usize = 1_000_000;
+pub const RUN_LIMIT: usize = 1_000_000;
 
 /// How many bytes an open access unit may hold.
-const UNIT_LIMIT: usize = 4_000_000;
+pub const UNIT_LIMIT: usize = 4_000_000;
 
 /// How far timestamps of pictures lie apart, at 30 a second.
 const TICKS: u32 = 3_000;
 
 /// What packets of a round bear: the number of the first, and its timestamp.
 #[derive(Debug, Clone, Copy)]
-struct First {
-    sequence: u16,
-    timestamp: u32,
+pub struct First {
+    /// The number.
+    pub sequence: u16,
+    /// The timestamp.
+    pub timestamp: u32,
 }
 
 /// A depacketizer of a setting.
@@ -40,7 +42,7 @@ fn depacketizer_of(alloc: Global, setting: Setting) -> AnyDepacketizer {
 
 /// Adds what became of a packet.
 #[inline]
-fn add_received(digest: &mut Digest, received: Result<Received, PacketError>) {
+pub fn add_received(digest: &mut Digest, received: Result<Received, PacketError>) {
     let number = match received {
         Ok(Received::InOrder) => 1,
         Ok(Received::Gap(missing)) => 0x1_0000 + u64::from(missing),
@@ -62,7 +64,7 @@ fn add_units(digest: &mut Digest, units: &mut Vec<AccessUnit>) {
 }
 
 /// The packets of a round with their numbers and timestamps.
-fn numbered<'a>(
+pub fn numbered<'a>(
     alloc: Global,
     packets: &'a [Packet],
     first: First,
@@ -181,6 +183,24 @@ fn receive_sequenced(
     Ok(())
 }
 
+impl First {
+    /// That of the first round.
+    pub fn new() -> Self {
+        First {
+            sequence: 65_000,
+            timestamp: 4_294_000_000,
+        }
+    }
+
+    /// That of the next round.
+    pub fn next(self) -> Self {
+        First {
+            sequence: self.sequence.wrapping_add(7_919),
+            timestamp: self.timestamp.wrapping_add(1_000_003),
+        }
+    }
+}
+
 /// Receives the packets of a setting in each round: each time with other numbers, and others of them
 /// lost, repeated and late.
 fn receive_setting(
@@ -191,10 +211,7 @@ fn receive_setting(
     draws: &mut Draws,
     digest: &mut Digest,
 ) -> Result<(), PacketError> {
-    let mut first = First {
-        sequence: 65_000,
-        timestamp: 4_294_000_000,
-    };
+    let mut first = First::new();
     for round in 0..rounds {
         let sent = numbered(alloc, packets, first)?;
         let order = arrivals(alloc, draws, sent.len())?;
@@ -204,10 +221,7 @@ fn receive_setting(
             1 => receive_list(alloc, setting, window, &sent, &order, digest)?,
             _ => receive_sequenced(alloc, setting, &sent, &order, digest)?,
         }
-        first = First {
-            sequence: first.sequence.wrapping_add(7_919),
-            timestamp: first.timestamp.wrapping_add(1_000_003),
-        };
+        first = first.next();
     }
     Ok(())
 }

@@ -161,6 +161,55 @@ fn access_units_at_once(rt: HostRuntime) -> Result<(), PacketError> {
     receive_units(&rt, rt.alloc(), Tries::Once, &UNITS[1])
 }
 
+/// Receives an access unit in which a unit comes between the fragments of another, whose run is put
+/// aside, and one whose last packet, a middle fragment, leaves a run; the memory of the first is given
+/// back before the second begins.
+fn receive_between(rt: &impl Abort, alloc: Global, tries: Tries) -> Result<(), PacketError> {
+    let row = |sequence, timestamp, marker, payload| Row {
+        sequence,
+        timestamp,
+        marker,
+        payload,
+        want: Received::InOrder,
+    };
+    let rows: [Row<'_>; 6] = [
+        row(0, 3000, false, &[0x7c, 0x85, 1]),
+        row(1, 3000, false, &[0x61, 5]),
+        row(2, 3000, true, &[0x7c, 0x45, 3]),
+        row(3, 6000, false, &[0x7c, 0x85, 1, 2]),
+        row(4, 6000, true, &[0x7c, 0x05, 4]),
+        row(5, 9000, true, &[0x7c, 0x45, 6]),
+    ];
+    let mut it = Receiver::new(alloc, Codec::H264);
+    let mut texts: [usize; 3] = [0; 3];
+    let mut count = 0;
+    for row in &rows {
+        it.receive(rt, tries, row)?;
+        if let Some(unit) = it.out.pop() {
+            assert!(rt; unit.timestamp == row.timestamp && count < texts.len());
+            if count == 0 {
+                let text = [0, 0, 0, 1, 0x61, 5, 0, 0, 0, 1, 0x65, 1, 3];
+                assert!(rt; unit.bytes.as_slice() == text.as_slice());
+            }
+            texts[count] = unit.bytes.len();
+            count += 1;
+            it.it.give_back(unit);
+        }
+    }
+    assert!(rt; texts == [13, 0, 0] && it.it.unit.run_len() == 0);
+    it.end(rt, tries)
+}
+
+#[test]
+fn access_units_with_a_unit_between_again(rt: HostRuntime) -> Result<(), PacketError> {
+    receive_between(&rt, rt.alloc(), Tries::Twice)
+}
+
+#[test]
+fn access_units_with_a_unit_between_at_once(rt: HostRuntime) -> Result<(), PacketError> {
+    receive_between(&rt, rt.alloc(), Tries::Once)
+}
+
 /// A list in another order, of which one packet comes twice. Without room nothing is taken, and the
 /// list can be given again; so can the packets where memory lacks for one.
 fn receive_list(

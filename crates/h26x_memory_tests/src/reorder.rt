@@ -3,7 +3,7 @@
 
 use crate::tries::Tries;
 use h26x_core::PacketError;
-use h26x_frames::{HeldPacket, Pushed, ReorderBuffer, RtpPacket, reorder_all};
+use h26x_frames::{HeldPacket, NotHeldReason, Pushed, ReorderBuffer, RtpPacket, reorder_all};
 use std::alloc::Global;
 use std::process::Abort;
 
@@ -138,6 +138,79 @@ fn packets_behind_a_full_back_again(rt: HostRuntime) -> Result<(), PacketError> 
     }
     assert!(&rt; buffer.is_empty());
     Ok(())
+}
+
+/// Gives a packet to a buffer by value; one that isn't held comes back as it was given, with the
+/// reason. The answer is its memory, where it isn't held.
+fn push_held(
+    rt: &impl Abort,
+    tries: Tries,
+    buffer: &mut ReorderBuffer,
+    packet: HeldPacket,
+    want: Option<NotHeldReason>,
+) -> Option<Vec<u8>> {
+    let (count, sequence) = (buffer.len(), packet.sequence);
+    let pushed = match buffer.push_held(packet) {
+        Err(not_held)
+            if tries == Tries::Twice && not_held.reason == NotHeldReason::OutOfMemory =>
+        {
+            assert!(rt; buffer.len() == count && not_held.packet.sequence == sequence);
+            buffer.push_held(not_held.packet)
+        }
+        answer => answer,
+    };
+    match pushed {
+        Ok(()) => {
+            assert!(rt; want.is_none() && buffer.len() == count + 1);
+            None
+        }
+        Err(not_held) => {
+            assert!(rt; Some(not_held.reason) == want && buffer.len() == count);
+            assert!(rt; not_held.packet.sequence == sequence);
+            Some(not_held.packet.into_payload())
+        }
+    }
+}
+
+/// Packets in memory of their own, which come out of order, twice and late: the bytes are those that
+/// were given, and the memory comes back.
+fn reorder_held(rt: &impl Abort, alloc: Global, tries: Tries) -> Result<(), PacketError> {
+    let mut buffer = ReorderBuffer::new(alloc, 3);
+    let rows = [
+        (65535, None),
+        (1, None),
+        (1, Some(NotHeldReason::Twice)),
+        (0, None),
+    ];
+    for (sequence, want) in rows {
+        let payload = match Vec::from_slice(alloc, &[0x61, 5]) {
+            Err(_) if tries == Tries::Twice => Vec::from_slice(alloc, &[0x61, 5])?,
+            payload => payload?,
+        };
+        let packet = HeldPacket::new(sequence, 3000, true, payload);
+        if let Some(memory) = push_held(rt, tries, &mut buffer, packet, want) {
+            assert!(rt; memory.as_slice() == [0x61, 5].as_slice());
+        }
+    }
+    pop(rt, &mut buffer, Some(65535));
+    let late = HeldPacket::new(65534, 3000, true, Vec::new(alloc));
+    let reason = Some(NotHeldReason::Late(2));
+    assert!(rt; push_held(rt, tries, &mut buffer, late, reason).is_some());
+    pop(rt, &mut buffer, Some(0));
+    let memory = buffer.pop().map(|held| held.into_payload());
+    assert!(rt; memory.as_deref() == Some([0x61, 5].as_slice()));
+    assert!(rt; buffer.is_empty());
+    Ok(())
+}
+
+#[test]
+fn packets_held_by_value_again(rt: HostRuntime) -> Result<(), PacketError> {
+    reorder_held(&rt, rt.alloc(), Tries::Twice)
+}
+
+#[test]
+fn packets_held_by_value_at_once(rt: HostRuntime) -> Result<(), PacketError> {
+    reorder_held(&rt, rt.alloc(), Tries::Once)
 }
 
 /// A list in another order, with a loss and one that comes twice.

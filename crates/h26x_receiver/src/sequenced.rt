@@ -1,6 +1,6 @@
 //! A depacketizer that is given packets with their sequence numbers.
 
-ghost use Rattle.std.specs.Prelude.{◌≡◌, ◌+◌, ◌≤◌, nat_lt, [], ◌∷◌, ℕ, List, Option, Some, None, Ok, OnOk, OnErr, length, true, false};
+ghost use Rattle.std.specs.Prelude.{◌≡◌, ◌+◌, ◌-◌, ◌^◌, ◌<◌, ◌≤◌, nat_lt, [], ◌∷◌, ℕ, List, Option, Some, None, Ok, IfSome, OnOk, OnErr, length, true, false};
 ghost use Rattle.h26x_core.specs.Front.{IsFrontOf};
 ghost use Rattle.h26x_model.specs.Receive.DepacketizerState.{depacketization, after_packets, IsPacketOutcome};
 ghost use Rattle.h26x_model.specs.Receive.RunLimit.{run_len, run_within, state_with_run, without_open_run};
@@ -28,6 +28,20 @@ fn place_of(expected: Option<u16>, sequence: u16) -> (u16, bool)
     match expected {
         Some(expected) => (sequence.wrapping_sub(expected), sequence == expected),
         None => (0, false),
+    }
+}
+
+/// What is answered for a packet that comes late, before which so many seem to be missing.
+#[inline]
+fn late_by(missing: u16) -> Option<Received>
+    ensures early { result ≡ None → missing < 2 ^ 15 }
+    ensures late { IfSome result (λ answer. (2 ^ 15 ≤ missing)
+        × (answer ≡ Received.Late (2 ^ 16 - missing))) }
+{
+    if missing >= HALF {
+        Some(Received::Late(u16::MAX - missing + 1))
+    } else {
+        None
     }
 }
 
@@ -215,8 +229,8 @@ impl<D: RunDepacketizer> SequencedDepacketizer<D> {
         self.depacketizer.meets_the_facts();
         laws::runs_grow_by_their_packets();
         let (missing, is_next) = place_of(self.expected, sequence);
-        if missing >= HALF {
-            return Ok(Received::Late(u16::MAX - missing + 1));
+        if let Some(late) = late_by(missing) {
+            return Ok(late);
         }
         let depacketizer = &mut self.depacketizer;
         take(self.alloc, is_next, depacketizer, packet, out, codec_extra)?;
@@ -258,8 +272,8 @@ impl<D: RunDepacketizer> SequencedDepacketizer<D> {
         ensures kept_extra { is_taken result ≡ false → codec_extra.new ≡ codec_extra.old }
     {
         let (missing, is_next) = place_of(self.expected, sequence);
-        if missing >= HALF {
-            return Ok(Received::Late(u16::MAX - missing + 1));
+        if let Some(answer) = late_by(missing) {
+            return Ok(answer);
         }
         let rule = RunRule {
             is_next,

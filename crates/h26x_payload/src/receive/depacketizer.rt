@@ -156,9 +156,8 @@ impl<C: PacketReader> PayloadDepacketizer<C> {
         ensures kept { OnErr result (IsSameText text.new text.old) }
         ensures kept_extra { OnErr result (codec_extra.new ≡ codec_extra.old) }
     {
-        let codec = self.codec;
-        let parts = codec.read(packet)?;
-        take_in_text(codec, self.is_avc, rule, packet, parts, text, codec_extra)
+        let parts = self.codec.read(packet)?;
+        take_in_text(self.codec, self.is_avc, rule, packet, parts, text, codec_extra)
     }
 }
 

@@ -39,7 +39,7 @@ pub struct OpenText {
 }
 
 impl Model for OpenText {
-    ghost use Rattle.std.specs.Prelude.{◌≡◌, ◌≤◌, ◌+◌, true, length};
+    ghost use Rattle.std.specs.Prelude.{◌≡◌, ◌≤◌, ◌+◌, true, None, length};
     ghost use Rattle.h26x_payload.specs.OpenText.{OpenTextView, open_text_view};
 
     ghost Value = { OpenTextView };
@@ -47,7 +47,7 @@ impl Model for OpenText {
     ghost view = { λ a. open_text_view a.is_inside a.at a.from a.bytes.items a.aside };
 
     ghost invariant = { λ a. a.is_inside ≡ true →
-        (a.at + 4 ≤ a.from) × (a.from ≤ length a.bytes.items) };
+        (a.at + 4 ≤ a.from) × (a.from ≤ length a.bytes.items) × (a.aside ≡ None) };
 }
 
 impl OpenText {
@@ -187,7 +187,6 @@ impl OpenText {
         let prefix = prefix_of(is_avc, behind + body.len());
         put_before(&mut self.bytes, self.at, &prefix, head);
         self.is_inside = false;
-        self.aside.close();
         Ok(())
     }
 
@@ -244,10 +243,9 @@ impl OpenText {
         ensures run { self.new.run ≡ None }
         ensures inside { self.new.inside ≡ None }
     {
-        if self.is_inside {
-            self.bytes.truncate(self.at);
-            self.is_inside = false;
-        }
+        let text_len = self.len();
+        self.bytes.truncate(text_len);
+        self.is_inside = false;
         self.aside.close();
     }
 
@@ -298,9 +296,8 @@ impl OpenText {
     pub fn into_text(mut self) -> Vec<u8>
         ensures { result.items ≡ self.text }
     {
-        if self.is_inside {
-            self.bytes.truncate(self.at);
-        }
+        let len = self.len();
+        self.bytes.truncate(len);
         self.bytes
     }
 }

@@ -115,7 +115,7 @@ pub fn check_lengths<C: PacketReader>(
 
 /// Takes the parts of a packet: writes the units that it completes, tells of them, and keeps its
 /// run.
-#[inline]
+#[inline(always)]
 pub(crate) fn take_parts<C: PacketReader, W: UnitSink>(
     codec: C,
     is_avc: bool,
