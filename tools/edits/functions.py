@@ -74,7 +74,8 @@ def name_of_impl(head):
     first = re.compile(r"[&\s]*(?:mut )?(?:\w+::)*(\w+)")
     if not has_trait:
         return first.match(head)[1]
-    return first.match(type_of)[1] + words_of(trait)
+    its = first.match(type_of)[1]
+    return its[0].upper() + its[1:] + words_of(trait)
 
 
 def closing(text):

@@ -8,7 +8,7 @@
 | a function that takes a `HashMap`, and imports of it | behind the feature `std` | it is std's alone |
 | `Vec`, `String`, `Box` | imported | they aren't in core's prelude |
 | a module beside `portable`, which has the same functions by the same contracts | `portable` | `std::simd` isn't stable |
-| the functions of `RENAMED` | by another name, `pub(crate)` | their callers owe something, or they want memory: the layer has checked ones |
+| the functions of `RENAMED` | by another name, `pub(crate)` | they want memory: the layer has ones that panic |
 | `fn fmt<W: fmt::Write>(.., f: &mut Formatter<W>)` | `fn fmt(.., f: &mut Formatter<'_>)` | a formatter of Rust has no parameter |
 | parameters that only contracts read | with an underscore | rustc has a warning for them |
 | examples of docs | nothing | the layer has its own, over what callers have |
@@ -20,8 +20,7 @@ from .laws import erase_modules
 from .tree import (Function, Refused, Token, add_use, after, at, bare, bare_words, before, deep, functions, is_among,
                    is_function, is_group, is_pub, is_sign, is_word, parse, words_of)
 
-RENAMED = {("H265NALUHeader", "new_with_type"): "of_parts", ("H265PACIPacket", "packetize"): "pack",
-           ("H265AggregationPacket", "nal_units"): "try_nal_units"}
+RENAMED = {("H265AggregationPacket", "nal_units"): "try_nal_units"}
 # Words of Rattle that no output may have, and of a Rust that isn't stable.
 RATTLE = {"ghost", "requires", "ensures", "prove", "prove_eq", "prove_ne", "Model", "Global", "AllocFailed",
           "HostRuntime", "allocator", "thiserror", "simd"}

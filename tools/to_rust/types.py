@@ -15,12 +15,14 @@ from .tree import (Refused, after, at, bare, commas, generics_end, is_attribute,
                    is_word, parse)
 
 SERDE = ("Serialize", "Deserialize")
-WORD = "Hash Serialize Deserialize"
+STORED = "Serialize Deserialize"
+WORD = f"Hash {STORED}"
 ADDED = {
     "Codec": WORD, "CodecExtra": WORD, "H264CodecExtra": WORD, "H265CodecExtra": WORD, "H266CodecExtra": WORD,
     "H265NALUHeader": WORD, "H265FragmentationUnitHeader": WORD, "H265TSCI": WORD,
     "H266NALUHeader": WORD, "H266FragmentationUnitHeader": WORD,
     "PacketError": "Hash", "Received": "Hash", "Pushed": "Hash",
+    "H264Profile": STORED, "H264ProfileIdc": STORED, "H264LevelIdc": STORED, "H264ProfileLevel": STORED,
     "RtpPacket": "Clone Copy PartialEq Eq Hash", "HeldPacket": "Clone PartialEq Eq Hash",
     "AccessUnit": "Clone PartialEq Eq Hash", "OpenAccessUnit": "Clone PartialEq Eq", "ReorderBuffer": "Clone",
     "NumberOrder": "Clone", "Parted": "Clone",

@@ -11,7 +11,7 @@ use std::alloc::{AllocError, Global};
 const PACI_TYPE: u8 = 50;
 
 /// How many bytes a unit's header has (RFC 7798, 1.1.4).
-const HEADER_SIZE: usize = 2;
+pub(crate) const HEADER_SIZE: usize = 2;
 
 /// How many bytes the word of the fields has (RFC 7798, 4.4.4).
 const FIELDS_SIZE: usize = 2;

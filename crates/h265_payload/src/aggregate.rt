@@ -85,6 +85,7 @@ impl Aggregate for H265 {
     // have DOND.
     ghost units = { λ codec. units_in codec.has_donl };
 
+    #[inline]
     fn first_unit(self, bytes: &[u8]) -> Option<(&[u8], &[u8])> {
         match first_other(self.has_donl, bytes) {
             Some(it) => Some((it.unit, it.behind)),

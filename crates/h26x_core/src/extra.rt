@@ -25,9 +25,10 @@ pub struct H266CodecExtra {
 
 /// What a depacketizer tells of the units that it has written: the codec, and whether a keyframe
 /// is among them.
-#[derive(Debug, Clone, Copy, PartialEq, Eq)]
+#[derive(Debug, Clone, Copy, Default, PartialEq, Eq)]
 pub enum CodecExtra {
     /// No unit was written.
+    #[default]
     None,
     /// Units of H.264 (RFC 6184).
     H264(H264CodecExtra),

@@ -23,18 +23,19 @@ impl H265NALUHeader {
         H265NALUHeader(u16::from(high_byte) << 8 | u16::from(low_byte))
     }
 
-    /// The header with this type, layer and temporal id, and F clear (RFC 7798, 1.1.4).
+    /// The header with the low six bits of the type and of the layer and three of the temporal id;
+    /// F is clear (RFC 7798, 1.1.4).
     pub fn new_with_type(nalu_type: u8, layer_id: u8, tid: u8) -> Self
-        requires type_in { nalu_type < 64 }
-        requires layer_in { layer_id < 64 }
-        requires tid_in { tid < 8 }
-        ensures word { result.0 ≡ nalu_type * 512 + layer_id * 8 + tid }
+        ensures word { result.0
+            ≡ field nalu_type 5 0 * 512 + field layer_id 5 0 * 8 + field tid 2 0 }
         ensures f { is_set result.0 15 ≡ false }
-        ensures nalu_type { field result.0 14 9 ≡ nalu_type }
-        ensures layer_id { field result.0 8 3 ≡ layer_id }
-        ensures tid { field result.0 2 0 ≡ tid }
+        ensures nalu_type { field result.0 14 9 ≡ field nalu_type 5 0 }
+        ensures layer_id { field result.0 8 3 ≡ field layer_id 5 0 }
+        ensures tid { field result.0 2 0 ≡ field tid 2 0 }
     {
-        H265NALUHeader((u16::from(nalu_type) << 9) + (u16::from(layer_id) << 3) + u16::from(tid))
+        let typ = u16::from(nalu_type & 0x3f) << 9;
+        let layer = u16::from(layer_id & 0x3f) << 3;
+        H265NALUHeader(typ + layer + u16::from(tid & 0x07))
     }
 
     /// F, the forbidden bit; where it is set, the syntax is violated (RFC 7798, 1.1.4).

@@ -6,6 +6,7 @@ ghost use Rattle.h26x_core.specs.Pieces.{pieces_of, with_piece};
 
 /// The first piece of bytes and what stands behind it, or its length where that passes the end
 /// (RFC 6184, 5.7.1; RFC 7798, 4.4.2; RFC 9328, 4.3.2).
+#[inline]
 pub fn first_piece(bytes: &[u8]) -> Result<(&[u8], &[u8]), usize>
     requires { 2 ≤ length bytes.now }
     ensures whole { IfOk result (λ it. pieces_of bytes.now ≡ with_piece it.0.now

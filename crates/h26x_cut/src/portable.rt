@@ -1,4 +1,5 @@
-//! The search of [`crate::behind`] by memchr alone, for compilers without `std::simd`.
+//! The search for start codes behind a byte 01 that ends none, by memchr alone: it stands in the
+//! place of `behind` for compilers without `std::simd`.
 
 ghost use Rattle.std.specs.Prelude.{◌+◌, ◌<◌, length};
 ghost use Rattle.h26x_cut.specs.Slices.{IsFirstCode};

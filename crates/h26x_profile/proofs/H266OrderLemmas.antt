@@ -2,7 +2,7 @@
 use Rattle.std.proofs.Common.{◌≡◌, Bool, true, refl}
 use Rattle.std.specs.List.{list_all}
 use Rattle.h26x_profile.specs.H266.{levels}
-use Rattle.h26x_profile.proofs.TableLemmas.{passes_at}
+use Rattle.h26x_profile.specs.OrderLaws.{passes_at}
 use Rattle.h26x_profile.specs.declared.h266.H266Level.{H266Level}
 use Rattle.h26x_profile.specs.declared.h266.H266Level.TheVariants as level
 

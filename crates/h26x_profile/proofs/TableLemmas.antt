@@ -1,18 +1,8 @@
 -- Tests of whole tables.
-use Rattle.std.proofs.Common.{◌≡◌, ℕ, ltb, Bool, true, false, List, length, get_or, refl}
+use Rattle.std.proofs.Common.{◌≡◌, Bool, true, false, List, refl}
 use Rattle.std.specs.List.{list_all}
-use Rattle.std.proofs.lemmas.Bool.{ltb-true}
-use Rattle.std.proofs.lemmas.List.Folds.{list_all_at}
 use Rattle.std.specs.declared.cmp.Ordering.{Ordering}
 use Rattle.std.specs.declared.cmp.Ordering.TheVariants.{Less, Equal, Greater}
-
--- what passes at each value of a list passes at the value at a place
-pub passes_at : {A : Type 0} (test : A → Bool) (values : List A) (i : ℕ) (value : A) → ltb i (length values) ≡ true → get_or values i value ≡ value → list_all test values ≡ true → test value ≡ true
-passes_at test values i value within here all =
-    elim (test value) as (λ t. test value ≡ t → t ≡ true) [
-      | true ↦ λ _. refl
-      | false ↦ λ fails. let no = list_all_at test values i value (ltb-true i (length values) within) (rw here fails) in cc
-    ] refl
 
 -- whether two orderings are the same
 abbrev pub same : Ordering → Ordering → Bool

@@ -6,3 +6,4 @@ pub mod ProfileLevel
 pub mod H264
 pub mod H265
 pub mod H266
+pub mod OrderLaws

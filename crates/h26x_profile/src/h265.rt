@@ -7,29 +7,31 @@ use crate::profile_tier_level::ProfileTierLevel;
 use serde::{Deserialize, Serialize};
 
 /// A profile of H.265, as `profile-id` names it (RFC 7798, section 7.1; Rec. ITU-T H.265, Annex A).
-#[derive(Debug, Clone, Copy, PartialEq, Eq, Serialize, Deserialize)]
+///
+/// What `as` gives is its place in this list, from 0, and not its `profile-id`, which `to_id` is.
+#[derive(Debug, Clone, Copy, PartialEq, Eq, Hash, Serialize, Deserialize)]
 pub enum H265Profile {
-    /// Id 1.
+    /// Main, id 1.
     Main,
-    /// Id 2.
+    /// Main 10, id 2.
     Main10,
-    /// Id 3.
+    /// Main Still Picture, id 3.
     MainStillPicture,
-    /// Id 4.
+    /// Format range extensions, id 4.
     FormatRangeExtensions,
-    /// Id 5.
+    /// High throughput, id 5.
     HighThroughput,
-    /// Id 6.
+    /// Multiview Main, id 6.
     MultiviewMain,
-    /// Id 7.
+    /// Scalable Main, id 7.
     ScalableMain,
-    /// Id 8.
+    /// 3D Main, id 8.
     ThreeDMain,
-    /// Id 9.
+    /// Screen content coding, id 9.
     ScreenContentCoding,
-    /// Id 10.
+    /// Screen content coding extensions, id 10.
     ScreenContentCodingExtensions,
-    /// Id 11.
+    /// High throughput screen content coding, id 11.
     HighThroughputScreenContentCoding,
 }
 
@@ -92,12 +94,13 @@ impl Numbered for H265Profile {
     }
 }
 
-/// A tier of H.265, as `tier-flag` names it (RFC 7798, section 7.1).
-#[derive(Debug, Clone, Copy, PartialEq, Eq, Serialize, Deserialize)]
+/// A tier of H.265, as `tier-flag` names it (RFC 7798, section 7.1). What `as` gives is the
+/// flag.
+#[derive(Debug, Clone, Copy, PartialEq, Eq, Hash, Serialize, Deserialize)]
 pub enum H265Tier {
-    /// Flag 0.
+    /// Main, flag 0.
     Main,
-    /// Flag 1.
+    /// High, flag 1.
     High,
 }
 
@@ -143,35 +146,35 @@ impl Numbered for H265Tier {
 }
 
 /// A level of H.265, as `level-id` names it (RFC 7798, section 7.1; Rec. ITU-T H.265, Annex A).
-/// Levels are ordered by `ordinal`, and so by their ids.
-#[derive(Debug, Clone, Copy, PartialEq, Eq, PartialOrd, Ord, Serialize, Deserialize)]
+/// Levels are ordered by `ordinal`, and so by their ids. What `as` gives is the id.
+#[derive(Debug, Clone, Copy, PartialEq, Eq, PartialOrd, Ord, Hash, Serialize, Deserialize)]
 pub enum H265Level {
-    /// Level 1, id 30.
-    Level1,
-    /// Level 2, id 60.
-    Level2,
-    /// Level 2.1, id 63.
-    Level2_1,
-    /// Level 3, id 90.
-    Level3,
-    /// Level 3.1, id 93.
-    Level3_1,
-    /// Level 4, id 120.
-    Level4,
-    /// Level 4.1, id 123.
-    Level4_1,
-    /// Level 5, id 150.
-    Level5,
-    /// Level 5.1, id 153.
-    Level5_1,
-    /// Level 5.2, id 156.
-    Level5_2,
-    /// Level 6, id 180.
-    Level6,
-    /// Level 6.1, id 183.
-    Level6_1,
-    /// Level 6.2, id 186.
-    Level6_2,
+    /// Level 1.
+    Level1 = 30,
+    /// Level 2.
+    Level2 = 60,
+    /// Level 2.1.
+    Level2_1 = 63,
+    /// Level 3.
+    Level3 = 90,
+    /// Level 3.1.
+    Level3_1 = 93,
+    /// Level 4.
+    Level4 = 120,
+    /// Level 4.1.
+    Level4_1 = 123,
+    /// Level 5.
+    Level5 = 150,
+    /// Level 5.1.
+    Level5_1 = 153,
+    /// Level 5.2.
+    Level5_2 = 156,
+    /// Level 6.
+    Level6 = 180,
+    /// Level 6.1.
+    Level6_1 = 183,
+    /// Level 6.2.
+    Level6_2 = 186,
 }
 
 impl H265Level {
@@ -203,28 +206,28 @@ impl H265Level {
     pub fn to_id(self) -> u8
         ensures { result ≡ level_id self }
     {
-        match self {
-            H265Level::Level1 => 30,
-            H265Level::Level2 => 60,
-            H265Level::Level2_1 => 63,
-            H265Level::Level3 => 90,
-            H265Level::Level3_1 => 93,
-            H265Level::Level4 => 120,
-            H265Level::Level4_1 => 123,
-            H265Level::Level5 => 150,
-            H265Level::Level5_1 => 153,
-            H265Level::Level5_2 => 156,
-            H265Level::Level6 => 180,
-            H265Level::Level6_1 => 183,
-            H265Level::Level6_2 => 186,
-        }
+        self as u8
     }
 
     /// The level's place among all levels, from 0.
     pub fn ordinal(self) -> usize
         ensures { result ≡ ordinal self }
     {
-        self as usize
+        match self {
+            H265Level::Level1 => 0,
+            H265Level::Level2 => 1,
+            H265Level::Level2_1 => 2,
+            H265Level::Level3 => 3,
+            H265Level::Level3_1 => 4,
+            H265Level::Level4 => 5,
+            H265Level::Level4_1 => 6,
+            H265Level::Level5 => 7,
+            H265Level::Level5_1 => 8,
+            H265Level::Level5_2 => 9,
+            H265Level::Level6 => 10,
+            H265Level::Level6_1 => 11,
+            H265Level::Level6_2 => 12,
+        }
     }
 }
 
@@ -266,5 +269,16 @@ impl From<(u8, u8, u8)> for H265ProfileTierLevel {
     fn from(numbers: (u8, u8, u8)) -> Self {
         let (profile_id, tier_flag, level_id) = numbers;
         Self::new(profile_id, tier_flag, level_id).unwrap_or(Self::FALLBACK)
+    }
+}
+
+/// `FALLBACK`: what stands where a format says nothing (RFC 7798, section 7.1).
+impl Default for H265ProfileTierLevel {
+    ghost use Rattle.h26x_profile.specs.H265.{fallback};
+
+    ghost is_default = { λ it. it ≡ fallback };
+
+    fn default() -> Self {
+        Self::FALLBACK
     }
 }

@@ -7,23 +7,25 @@ use crate::profile_tier_level::ProfileTierLevel;
 use serde::{Deserialize, Serialize};
 
 /// A profile of H.266, as `profile-id` names it (RFC 9328, section 7.2; Rec. ITU-T H.266, Annex A).
-#[derive(Debug, Clone, Copy, PartialEq, Eq, Serialize, Deserialize)]
+///
+/// What `as` gives is its place in this list, from 0, and not its `profile-id`, which `to_id` is.
+#[derive(Debug, Clone, Copy, PartialEq, Eq, Hash, Serialize, Deserialize)]
 pub enum H266Profile {
-    /// Id 1.
+    /// Main 10, id 1.
     Main10,
-    /// Id 17.
+    /// Multilayer Main 10, id 17.
     MultilayerMain10,
-    /// Id 33.
+    /// Main 10 4:4:4, id 33.
     Main10_444,
-    /// Id 49.
+    /// Multilayer Main 10 4:4:4, id 49.
     MultilayerMain10_444,
-    /// Id 65.
+    /// Main 10 Still Picture, id 65.
     Main10StillPicture,
-    /// Id 81.
+    /// Multilayer Main 10 Still Picture, id 81.
     MultilayerMain10StillPicture,
-    /// Id 97.
+    /// Main 10 4:4:4 Still Picture, id 97.
     Main10_444StillPicture,
-    /// Id 113.
+    /// Multilayer Main 10 4:4:4 Still Picture, id 113.
     MultilayerMain10_444StillPicture,
 }
 
@@ -80,12 +82,13 @@ impl Numbered for H266Profile {
     }
 }
 
-/// A tier of H.266, as `tier-flag` names it (RFC 9328, section 7.2).
-#[derive(Debug, Clone, Copy, PartialEq, Eq, Serialize, Deserialize)]
+/// A tier of H.266, as `tier-flag` names it (RFC 9328, section 7.2). What `as` gives is the
+/// flag.
+#[derive(Debug, Clone, Copy, PartialEq, Eq, Hash, Serialize, Deserialize)]
 pub enum H266Tier {
-    /// Flag 0.
+    /// Main, flag 0.
     Main,
-    /// Flag 1.
+    /// High, flag 1.
     High,
 }
 
@@ -131,39 +134,39 @@ impl Numbered for H266Tier {
 }
 
 /// A level of H.266, as `level-id` names it (RFC 9328, section 7.2; Rec. ITU-T H.266, Annex A).
-/// Levels are ordered by `ordinal`, and so by their ids.
-#[derive(Debug, Clone, Copy, PartialEq, Eq, PartialOrd, Ord, Serialize, Deserialize)]
+/// Levels are ordered by `ordinal`, and so by their ids. What `as` gives is the id.
+#[derive(Debug, Clone, Copy, PartialEq, Eq, PartialOrd, Ord, Hash, Serialize, Deserialize)]
 pub enum H266Level {
-    /// Level 1, id 16.
-    Level1,
-    /// Level 2, id 32.
-    Level2,
-    /// Level 2.1, id 35.
-    Level2_1,
-    /// Level 3, id 48.
-    Level3,
-    /// Level 3.1, id 51.
-    Level3_1,
-    /// Level 4, id 64.
-    Level4,
-    /// Level 4.1, id 67.
-    Level4_1,
-    /// Level 5, id 80.
-    Level5,
-    /// Level 5.1, id 83.
-    Level5_1,
-    /// Level 5.2, id 86.
-    Level5_2,
-    /// Level 6, id 96.
-    Level6,
-    /// Level 6.1, id 99.
-    Level6_1,
-    /// Level 6.2, id 102.
-    Level6_2,
-    /// Level 6.3, id 105.
-    Level6_3,
-    /// Level 15.5, id 255.
-    Level15_5,
+    /// Level 1.
+    Level1 = 16,
+    /// Level 2.
+    Level2 = 32,
+    /// Level 2.1.
+    Level2_1 = 35,
+    /// Level 3.
+    Level3 = 48,
+    /// Level 3.1.
+    Level3_1 = 51,
+    /// Level 4.
+    Level4 = 64,
+    /// Level 4.1.
+    Level4_1 = 67,
+    /// Level 5.
+    Level5 = 80,
+    /// Level 5.1.
+    Level5_1 = 83,
+    /// Level 5.2.
+    Level5_2 = 86,
+    /// Level 6.
+    Level6 = 96,
+    /// Level 6.1.
+    Level6_1 = 99,
+    /// Level 6.2.
+    Level6_2 = 102,
+    /// Level 6.3.
+    Level6_3 = 105,
+    /// Level 15.5.
+    Level15_5 = 255,
 }
 
 impl H266Level {
@@ -197,30 +200,30 @@ impl H266Level {
     pub fn to_id(self) -> u8
         ensures { result ≡ level_id self }
     {
-        match self {
-            H266Level::Level1 => 16,
-            H266Level::Level2 => 32,
-            H266Level::Level2_1 => 35,
-            H266Level::Level3 => 48,
-            H266Level::Level3_1 => 51,
-            H266Level::Level4 => 64,
-            H266Level::Level4_1 => 67,
-            H266Level::Level5 => 80,
-            H266Level::Level5_1 => 83,
-            H266Level::Level5_2 => 86,
-            H266Level::Level6 => 96,
-            H266Level::Level6_1 => 99,
-            H266Level::Level6_2 => 102,
-            H266Level::Level6_3 => 105,
-            H266Level::Level15_5 => 255,
-        }
+        self as u8
     }
 
     /// The level's place among all levels, from 0.
     pub fn ordinal(self) -> usize
         ensures { result ≡ ordinal self }
     {
-        self as usize
+        match self {
+            H266Level::Level1 => 0,
+            H266Level::Level2 => 1,
+            H266Level::Level2_1 => 2,
+            H266Level::Level3 => 3,
+            H266Level::Level3_1 => 4,
+            H266Level::Level4 => 5,
+            H266Level::Level4_1 => 6,
+            H266Level::Level5 => 7,
+            H266Level::Level5_1 => 8,
+            H266Level::Level5_2 => 9,
+            H266Level::Level6 => 10,
+            H266Level::Level6_1 => 11,
+            H266Level::Level6_2 => 12,
+            H266Level::Level6_3 => 13,
+            H266Level::Level15_5 => 14,
+        }
     }
 }
 
@@ -262,5 +265,16 @@ impl From<(u8, u8, u8)> for H266ProfileTierLevel {
     fn from(numbers: (u8, u8, u8)) -> Self {
         let (profile_id, tier_flag, level_id) = numbers;
         Self::new(profile_id, tier_flag, level_id).unwrap_or(Self::FALLBACK)
+    }
+}
+
+/// `FALLBACK`: what stands where a format says nothing (RFC 9328, section 7.2).
+impl Default for H266ProfileTierLevel {
+    ghost use Rattle.h26x_profile.specs.H266.{fallback};
+
+    ghost is_default = { λ it. it ≡ fallback };
+
+    fn default() -> Self {
+        Self::FALLBACK
     }
 }

@@ -1,5 +1,4 @@
-//! Laws of the tables and of the orders. Each is the contract of a function without a result, but
-//! for those that answer a constant, of which no other clause can speak.
+//! Laws of the tables and of the orders. Each is the contract of a function without a result.
 
 ghost use Rattle.std.specs.Prelude.{◌≡◌, ℕ, ◌<◌, ◌≤◌, Some, count_by};
 ghost use Rattle.std.specs.Ordering.{nat_cmp};
@@ -12,30 +11,9 @@ ghost use Rattle.h26x_profile.specs.declared.h265.H265Tier.{H265Tier};
 ghost use Rattle.h26x_profile.specs.declared.h266.H266Profile.{H266Profile};
 ghost use Rattle.h26x_profile.specs.declared.h266.H266Tier.{H266Tier};
 
-use crate::h264::{H264LevelIdc, H264ProfileLevel};
-use crate::h265::{H265Level, H265ProfileTierLevel};
-use crate::h266::{H266Level, H266ProfileTierLevel};
-
-/// What stands where an H.264 format says nothing: Baseline at level 3.1.
-pub fn fallback_of_h264() -> H264ProfileLevel
-    ensures { result ≡ h264_spec.fallback }
-{
-    H264ProfileLevel::FALLBACK
-}
-
-/// What stands where an H.265 format says nothing: Main, the main tier, level 3.1.
-pub fn fallback_of_h265() -> H265ProfileTierLevel
-    ensures { result ≡ h265_spec.fallback }
-{
-    H265ProfileTierLevel::FALLBACK
-}
-
-/// What stands where an H.266 format says nothing: Main 10, the main tier, level 3.1.
-pub fn fallback_of_h266() -> H266ProfileTierLevel
-    ensures { result ≡ h266_spec.fallback }
-{
-    H266ProfileTierLevel::FALLBACK
-}
+use crate::h264::H264LevelIdc;
+use crate::h265::H265Level;
+use crate::h266::H266Level;
 
 /// At most one row of the table of H.264 profiles has a profile_idc and a byte of flags.
 pub fn one_profile_at_most()

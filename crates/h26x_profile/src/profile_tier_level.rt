@@ -16,7 +16,7 @@ use std::marker::Model;
 /// let main = H265ProfileTierLevel::new(1, 0, 93).unwrap_or(H265ProfileTierLevel::FALLBACK);
 /// assert_eq!(rt; main.level(), H265Level::Level3_1);
 /// ```
-#[derive(Debug, Clone, Copy, PartialEq, Eq, Serialize, Deserialize)]
+#[derive(Debug, Clone, Copy, PartialEq, Eq, Hash, Serialize, Deserialize)]
 pub struct ProfileTierLevel<P, T, L> {
     pub(crate) profile: P,
     pub(crate) tier: T,

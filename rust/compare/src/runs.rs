@@ -340,6 +340,13 @@ macro_rules! program {
 program!(our_run, plain);
 program!(library_run, proved);
 
+/// The profile, the tier and the level of what may be there, as they are shown.
+macro_rules! parts {
+    ($it:expr) => {
+        $it.map(|it| format!("{:?}", (it.profile(), it.tier(), it.level())))
+    };
+}
+
 /// All numbers of profiles, tiers and levels, and all that two bytes can be.
 pub fn numbers() {
     for id in 0..1 << 24 {
@@ -352,12 +359,12 @@ pub fn numbers() {
     for id in 0..=u16::MAX {
         let [a, b] = id.to_be_bytes();
         for flag in [0, 1, 2, 255] {
-            let ours = plain::H265ProfileTierLevel::new(a, flag, b).map(|it| format!("{it:?}"));
-            let theirs = proved::H265ProfileTierLevel::new(a, flag, b).map(|it| format!("{it:?}"));
-            assert_eq!(ours, theirs);
-            let ours = plain::H266ProfileTierLevel::new(a, flag, b).map(|it| format!("{it:?}"));
-            let theirs = proved::H266ProfileTierLevel::new(a, flag, b).map(|it| format!("{it:?}"));
-            assert_eq!(ours, theirs);
+            let ours = plain::H265ProfileTierLevel::new(a, flag, b);
+            let theirs = proved::H265ProfileTierLevel::new(a, flag, b);
+            assert_eq!(parts!(ours), parts!(theirs));
+            let ours = plain::H266ProfileTierLevel::new(a, flag, b);
+            let theirs = proved::H266ProfileTierLevel::new(a, flag, b);
+            assert_eq!(parts!(ours), parts!(theirs));
         }
     }
 }

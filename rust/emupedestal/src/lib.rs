@@ -111,7 +111,6 @@ mod depacketizer;
 mod frames;
 pub mod h265_types;
 pub mod h266_types;
-mod known;
 mod look;
 mod packet;
 mod packetizer;
@@ -126,7 +125,6 @@ mod sequenced;
 mod shown;
 mod support;
 mod take_all;
-mod words;
 
 #[cfg(all(test, feature = "std"))]
 mod tests;
@@ -142,6 +140,7 @@ pub use packets::{PacketIter, Packets};
 pub use profile::{H264LevelIdc, H264Profile, H264ProfileIdc, H264ProfileLevel};
 pub use profile::{H265Level, H265Profile, H265ProfileTierLevel, H265Tier};
 pub use profile::{H266Level, H266Profile, H266ProfileTierLevel, H266Tier};
+pub use profile::{Numbered, ProfileTierLevel};
 pub use proved::h26x_codec::Codec;
 pub use proved::h26x_core::{
     ANNEXB_NALUSTART_CODE, AUD_NALU_TYPE, FILLER_NALU_TYPE, FU_END_BITMASK, FU_START_BITMASK,

@@ -1,111 +1,65 @@
-//! Profiles and levels out of SDP. Which numbers are known, the proved modules say.
+//! Profiles and levels out of SDP: the proved types, with their numbers by Rust's own traits too.
 
-mod h264;
-mod h265;
-mod h266;
-mod tier;
+pub use crate::proved::h26x_profile::{H264LevelIdc, H264Profile, H264ProfileIdc};
+pub use crate::proved::h26x_profile::{H265Level, H265Profile, H265Tier};
+pub use crate::proved::h26x_profile::{H266Level, H266Profile, H266Tier};
+pub use crate::proved::h26x_profile::{Numbered, ProfileTierLevel};
 
-pub use h264::{H264LevelIdc, H264Profile, H264ProfileIdc, H264ProfileLevel};
-pub use h265::{H265Level, H265Profile, H265ProfileTierLevel, H265Tier};
-pub use h266::{H266Level, H266Profile, H266ProfileTierLevel, H266Tier};
+/// ```
+/// use emupedestal::{H264LevelIdc, H264Profile, H264ProfileIdc, H264ProfileLevel};
+///
+/// let high = H264ProfileLevel::try_from(0x64001f)?;
+/// assert_eq!((high.profile(), high.level()), (H264Profile::High, H264LevelIdc::Level3_1));
+/// let it = H264ProfileLevel::new(H264ProfileIdc::X42, 0xe0, H264LevelIdc::Level4).unwrap();
+/// assert_eq!(it.profile(), H264Profile::ConstrainedBaseline);
+/// # Ok::<(), ()>(())
+/// ```
+pub use crate::proved::h26x_profile::H264ProfileLevel;
 
-/// An enum whose values SDP names by the numbers that stand beside them. What `as` gives is their
-/// place, from 0.
-macro_rules! numbered {
-    ($(#[$of_all:meta])* $name:ident { $($(#[$of_one:meta])* $value:ident: $number:literal,)* }) => {
-        $(#[$of_all])*
-        #[derive(Debug, Clone, Copy, PartialEq, Eq, Hash)]
-        #[cfg_attr(feature = "serde", derive(serde::Serialize, serde::Deserialize))]
-        pub enum $name {
-            $($(#[$of_one])* $value,)*
-        }
+/// The profile, tier and level of an H.265 format in SDP (RFC 7798, 7.1).
+///
+/// ```
+/// use emupedestal::{H265Level, H265ProfileTierLevel};
+/// use std::collections::HashMap;
+///
+/// let params = [("profile-id", "1"), ("tier-flag", "0"), ("level-id", "93")];
+/// let params = params.map(|(name, value)| (name.to_string(), value.to_string()));
+/// let main = H265ProfileTierLevel::from_fmtp(&HashMap::from(params));
+/// assert_eq!(main, H265ProfileTierLevel::new(1, 0, 93));
+/// assert_eq!(main.unwrap_or(H265ProfileTierLevel::FALLBACK).level(), H265Level::Level3_1);
+/// ```
+pub type H265ProfileTierLevel = ProfileTierLevel<H265Profile, H265Tier, H265Level>;
 
-        $crate::profile::from_number!($name { $($value: $number,)* });
+/// The profile, tier and level of an H.266 format in SDP (RFC 9328, 7.2).
+///
+/// ```
+/// use emupedestal::{H266Level, H266ProfileTierLevel};
+///
+/// let main = H266ProfileTierLevel::from((1, 0, 51));
+/// assert!(main.level() < H266Level::Level4);
+/// assert_eq!(H266ProfileTierLevel::new(1, 0, 93), None); // no level of H.266
+/// ```
+pub type H266ProfileTierLevel = ProfileTierLevel<H266Profile, H266Tier, H266Level>;
 
-        /// The number in SDP.
-        impl From<$name> for u8 {
-            fn from(it: $name) -> u8 {
-                match it {
-                    $($name::$value => $number,)*
-                }
-            }
-        }
-    };
-}
-use numbered;
-
-/// An enum whose values have the ids that stand beside them, which `as` gives too.
-macro_rules! with_ids {
-    ($(#[$of_all:meta])* $name:ident { $($(#[$of_one:meta])* $value:ident: $id:literal,)* }) => {
-        $(#[$of_all])*
-        #[derive(Debug, Clone, Copy, PartialEq, Eq, Hash)]
-        #[cfg_attr(feature = "serde", derive(serde::Serialize, serde::Deserialize))]
-        #[repr(u8)]
-        pub enum $name {
-            $($(#[$of_one])* $value = $id,)*
-        }
-
-        $crate::profile::from_number!($name { $($value: $id,)* });
-
-        /// The id.
-        impl From<$name> for u8 {
-            fn from(it: $name) -> u8 {
-                it as u8
-            }
-        }
-    };
-}
-use with_ids;
-
-/// The levels of a codec with their ids, from the lowest to the highest.
-macro_rules! levels {
-    ($(#[$of_all:meta])* $name:ident { $($(#[$of_one:meta])* $value:ident: $id:literal,)* }) => {
-        $crate::profile::with_ids! {
-            $(#[$of_all])*
-            #[allow(non_camel_case_types)]
-            $name { $($(#[$of_one])* $value: $id,)* }
-        }
-
-        impl $name {
-            const ALL: &[Self] = &[$($name::$value,)*];
-
-            /// The level's place among all levels, from 0 for the lowest.
-            pub fn ordinal(self) -> usize {
-                let place = Self::ALL.iter().position(|level| *level == self);
-                place.expect("it is one of all levels")
-            }
-        }
-
-        impl PartialOrd for $name {
-            fn partial_cmp(&self, other: &Self) -> Option<Ordering> {
-                Some(self.cmp(other))
-            }
-        }
-
-        /// By `ordinal`.
-        impl Ord for $name {
-            fn cmp(&self, other: &Self) -> Ordering {
-                self.ordinal().cmp(&other.ordinal())
-            }
-        }
-    };
-}
-use levels;
-
-/// The value of an enum that a number names.
-macro_rules! from_number {
-    ($name:ident { $($value:ident: $number:literal,)* }) => {
+/// The numbers of values by `TryFrom` and `From`.
+macro_rules! by_number {
+    ($($name:ident),*) => {$(
         /// The value with this number. The error says that none has it.
         impl TryFrom<u8> for $name {
             type Error = ();
 
             fn try_from(number: u8) -> Result<Self, ()> {
-                match number {
-                    $($number => Ok($name::$value),)*
-                    _ => Err(()),
-                }
+                Self::from_number(number).ok_or(())
             }
         }
-    };
+
+        /// The number in SDP.
+        impl From<$name> for u8 {
+            fn from(it: $name) -> u8 {
+                it.to_number()
+            }
+        }
+    )*};
 }
-use from_number;
+
+by_number!(H265Profile, H265Tier, H265Level, H266Profile, H266Tier, H266Level);

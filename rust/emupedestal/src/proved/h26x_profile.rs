@@ -13,7 +13,6 @@ mod fmtp;
 mod h264;
 mod h265;
 mod h266;
-pub mod laws;
 mod numbered;
 mod profile_tier_level;
 mod table;

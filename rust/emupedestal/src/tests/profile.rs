@@ -1,7 +1,6 @@
 //! Profiles and levels out of SDP. What is wanted was taken from the tables of the RFCs and of the
 //! standards' Annex A.
 
-use crate::known::{h265_is_known, h266_is_known};
 use crate::{
     H264LevelIdc, H264Profile, H264ProfileIdc, H264ProfileLevel, H265Level, H265Profile,
     H265ProfileTierLevel, H265Tier, H266Level, H266Profile, H266ProfileTierLevel, H266Tier,
@@ -184,6 +183,7 @@ fn what_stands_where_a_format_says_nothing() {
     assert_eq!(H265ProfileTierLevel::new(1, 0, 93), Some(h265));
     let h266 = H266ProfileTierLevel::FALLBACK;
     assert_eq!(H266ProfileTierLevel::new(1, 0, 51), Some(h266));
+    assert_eq!((h264, h265, h266), Default::default());
 }
 
 #[test]
@@ -272,9 +272,11 @@ fn parameters_of_a_format() {
     }
 }
 
-/// The crate names just the numbers that the proved modules know, and gives each back.
+/// A number is one of the three's just where a value has it, which gives it back.
 #[test]
-fn the_proved_modules_know_the_same_numbers() {
+fn known_numbers() {
+    let h265_is_known = |a, b, c| H265ProfileTierLevel::new(a, b, c).is_some();
+    let h266_is_known = |a, b, c| H266ProfileTierLevel::new(a, b, c).is_some();
     for n in 0..=u8::MAX {
         let profile = H265Profile::from_id(n).map(H265Profile::to_id);
         assert_eq!(profile, h265_is_known(n, 0, 93).then_some(n));

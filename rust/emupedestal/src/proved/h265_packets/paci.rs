@@ -4,7 +4,7 @@
 
 use crate::proved::h26x_core::{H265NALUHeader, H265TSCI, PacketError};
 use crate::proved::h265_packets::header::{paci_size, paci_type};
-use crate::proved::h265_packets::paci_packing::packet_of;
+use crate::proved::h265_packets::paci_packing::{HEADER_SIZE, packet_of};
 use crate::support::{AppendBytes, TrySlice};
 use alloc::vec::Vec;
 use core::mem;
@@ -58,14 +58,18 @@ impl H265PACIPacket {
     /// and F0 set where the extension has three bytes or more, which are then TSCI (4.5); the
     /// extension; the unit without its header. `buf` then holds the same bytes and nothing else.
     ///
-    /// The unit has two bytes or more. A refusal leaves `buf`:
-    /// - `ErrH265PACIPHESTooLong`: the extension has over 31 bytes;
+    /// A refusal leaves `buf`:
+    /// - `ErrShortPacket`: the unit has under two bytes;
+    /// - `ErrH265PACIPHESTooLong`: else, the extension has over 31 bytes;
     /// - `OutOfMemory`.
-    pub(crate) fn pack(
+    pub fn packetize(
         inner_nalu: &[u8],
         phes: &[u8],
         buf: &mut Vec<u8>,
     ) -> Result<Vec<u8>, PacketError> {
+        if inner_nalu.len() < HEADER_SIZE {
+            return Err(PacketError::ErrShortPacket);
+        }
         if phes.len() > MAX_PHES_SIZE {
             return Err(PacketError::ErrH265PACIPHESTooLong);
         }

@@ -57,6 +57,7 @@ pub fn first_other(has_donl: bool, bytes: &[u8]) -> Option<Other<'_>> {
 }
 
 impl Aggregate for H265 {
+    #[inline]
     fn first_unit(self, bytes: &[u8]) -> Option<(&[u8], &[u8])> {
         match first_other(self.has_donl, bytes) {
             Some(it) => Some((it.unit, it.behind)),

@@ -12,7 +12,7 @@ fn begins_key(rest: &[u8]) -> bool {
         return false;
     }
     let marks = H265FragmentationUnitHeader(rest[0]);
-    marks.s() && H265NALUHeader::of_parts(marks.fu_type(), 0, 0).is_irap()
+    marks.s() && H265NALUHeader::new_with_type(marks.fu_type(), 0, 0).is_irap()
 }
 
 /// Whether a packet is known to hold a slice of an IRAP picture, or to be the first fragment of one

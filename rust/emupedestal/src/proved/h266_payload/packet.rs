@@ -73,6 +73,7 @@ impl PacketReader for H266 {
 /// |F|Z|   layer   |  type   | TID |             DONL              | the unit's rest
 /// +-+-+-+-+-+-+-+-+-+-+-+-+-+-+-+-+-+-+-+-+-+-+-+-+-+-+-+-+-+-+-+-+- - - - - - - -
 /// ```
+#[inline]
 fn read_single(has_donl: bool, packet: &[u8]) -> Result<Parts<'_>, PacketError> {
     if !has_donl {
         return Ok(Parts::Whole);

@@ -32,9 +32,10 @@ pub struct H266CodecExtra {
 /// is among them.
 #[non_exhaustive]
 #[cfg_attr(feature = "serde", derive(serde::Serialize, serde::Deserialize))]
-#[derive(Debug, Clone, Copy, PartialEq, Eq, Hash)]
+#[derive(Debug, Clone, Copy, Default, PartialEq, Eq, Hash)]
 pub enum CodecExtra {
     /// No unit was written.
+    #[default]
     None,
     /// Units of H.264 (RFC 6184).
     H264(H264CodecExtra),

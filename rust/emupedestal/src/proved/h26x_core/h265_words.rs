@@ -18,9 +18,12 @@ impl H265NALUHeader {
         H265NALUHeader(u16::from(high_byte) << 8 | u16::from(low_byte))
     }
 
-    /// The header with this type, layer and temporal id, and F clear (RFC 7798, 1.1.4).
-    pub(crate) fn of_parts(nalu_type: u8, layer_id: u8, tid: u8) -> Self {
-        H265NALUHeader((u16::from(nalu_type) << 9) + (u16::from(layer_id) << 3) + u16::from(tid))
+    /// The header with the low six bits of the type and of the layer and three of the temporal id;
+    /// F is clear (RFC 7798, 1.1.4).
+    pub fn new_with_type(nalu_type: u8, layer_id: u8, tid: u8) -> Self {
+        let typ = u16::from(nalu_type & 0x3f) << 9;
+        let layer = u16::from(layer_id & 0x3f) << 3;
+        H265NALUHeader(typ + layer + u16::from(tid & 0x07))
     }
 
     /// F, the forbidden bit; where it is set, the syntax is violated (RFC 7798, 1.1.4).

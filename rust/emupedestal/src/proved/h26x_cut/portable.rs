@@ -1,6 +1,7 @@
 // Made from crates/h26x_cut/src/portable.rt by tools/to-rust.
 
-//! The search of [`crate::proved::h26x_cut::behind`] by memchr alone, for compilers without `std::simd`.
+//! The search for start codes behind a byte 01 that ends none, by memchr alone: it stands in the
+//! place of `behind` for compilers without `std::simd`.
 
 use crate::proved::h26x_cut::marks::{CODE, is_behind_zeros, next_mark};
 use memchr::memmem;

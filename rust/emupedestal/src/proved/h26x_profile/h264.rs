@@ -3,9 +3,14 @@
 //! Profiles and levels of H.264.
 
 use crate::proved::h26x_profile::table;
+use core::cmp::Ordering;
 
 /// A profile of H.264 (RFC 6184, section 8.1, table 5; Rec. ITU-T H.264, Annex A).
-#[derive(Debug, Clone, Copy, PartialEq, Eq)]
+///
+/// What `as` gives is its place in this list, from 0. No number in SDP names it: a profile_idc and
+/// the flags behind it do.
+#[cfg_attr(feature = "serde", derive(serde::Serialize, serde::Deserialize))]
+#[derive(Debug, Clone, Copy, PartialEq, Eq, Hash)]
 pub enum H264Profile {
     /// Baseline.
     Baseline,
@@ -35,27 +40,30 @@ pub enum H264Profile {
     CAVLC444Intra,
 }
 
-/// A profile_idc of H.264 (Rec. ITU-T H.264, Annex A), named by its hexadecimal digits.
-#[derive(Debug, Clone, Copy, PartialEq, Eq)]
+/// A profile_idc of H.264 (Rec. ITU-T H.264, Annex A), named by its hexadecimal digits. What `as`
+/// gives is the number.
+#[cfg_attr(feature = "serde", derive(serde::Serialize, serde::Deserialize))]
+#[derive(Debug, Clone, Copy, PartialEq, Eq, Hash)]
 pub enum H264ProfileIdc {
-    /// 44.
-    X2C,
-    /// 66.
-    X42,
-    /// 77.
-    X4D,
-    /// 88.
-    X58,
-    /// 100.
-    X64,
-    /// 110.
-    X6E,
-    /// 122.
-    X7A,
-    /// 244.
-    XF4,
+    /// 44: CAVLC 4:4:4 Intra.
+    X2C = 44,
+    /// 66: Baseline.
+    X42 = 66,
+    /// 77: Main.
+    X4D = 77,
+    /// 88: Extended.
+    X58 = 88,
+    /// 100: High.
+    X64 = 100,
+    /// 110: High 10.
+    X6E = 110,
+    /// 122: High 4:2:2.
+    X7A = 122,
+    /// 244: High 4:4:4 Predictive.
+    XF4 = 244,
 }
 
+/// The profile_idc with this number. The error says that none has it.
 impl TryFrom<u8> for H264ProfileIdc {
     type Error = ();
 
@@ -74,52 +82,97 @@ impl TryFrom<u8> for H264ProfileIdc {
     }
 }
 
-/// A level of H.264 (Rec. ITU-T H.264, Annex A). Levels are ordered by `ordinal`.
-#[derive(Debug, Clone, Copy, PartialEq, Eq, PartialOrd, Ord)]
+/// The number.
+impl From<H264ProfileIdc> for u8 {
+    fn from(idc: H264ProfileIdc) -> Self {
+        idc as u8
+    }
+}
+
+/// A level of H.264 (Rec. ITU-T H.264, Annex A). Levels are ordered by `ordinal`: level 1b is
+/// between 1 and 1.1.
+///
+/// What `as` gives is the level_idc: ten times the level, and of level 1b 0, as str0m has it. A
+/// `profile-level-id` names level 1b by 11 and a flag too, which [`H264ProfileLevel`] reads.
+#[cfg_attr(feature = "serde", derive(serde::Serialize, serde::Deserialize))]
+#[derive(Debug, Clone, Copy, PartialEq, Eq, Hash)]
 pub enum H264LevelIdc {
-    /// Level 1, id 10.
-    Level1,
-    /// Level 1b, id 0 in this port; a `profile-level-id` names it by id 11 and a flag.
-    Level1B,
-    /// Level 1.1, id 11.
-    Level1_1,
-    /// Level 1.2, id 12.
-    Level1_2,
-    /// Level 1.3, id 13.
-    Level1_3,
-    /// Level 2, id 20.
-    Level2,
-    /// Level 2.1, id 21.
-    Level2_1,
-    /// Level 2.2, id 22.
-    Level2_2,
-    /// Level 3, id 30.
-    Level3,
-    /// Level 3.1, id 31.
-    Level3_1,
-    /// Level 3.2, id 32.
-    Level3_2,
-    /// Level 4, id 40.
-    Level4,
-    /// Level 4.1, id 41.
-    Level4_1,
-    /// Level 4.2, id 42.
-    Level4_2,
-    /// Level 5, id 50.
-    Level5,
-    /// Level 5.1, id 51.
-    Level5_1,
-    /// Level 5.2, id 52.
-    Level5_2,
+    /// Level 1.
+    Level1 = 10,
+    /// Level 1b.
+    Level1B = 0,
+    /// Level 1.1.
+    Level1_1 = 11,
+    /// Level 1.2.
+    Level1_2 = 12,
+    /// Level 1.3.
+    Level1_3 = 13,
+    /// Level 2.
+    Level2 = 20,
+    /// Level 2.1.
+    Level2_1 = 21,
+    /// Level 2.2.
+    Level2_2 = 22,
+    /// Level 3.
+    Level3 = 30,
+    /// Level 3.1.
+    Level3_1 = 31,
+    /// Level 3.2.
+    Level3_2 = 32,
+    /// Level 4.
+    Level4 = 40,
+    /// Level 4.1.
+    Level4_1 = 41,
+    /// Level 4.2.
+    Level4_2 = 42,
+    /// Level 5.
+    Level5 = 50,
+    /// Level 5.1.
+    Level5_1 = 51,
+    /// Level 5.2.
+    Level5_2 = 52,
 }
 
 impl H264LevelIdc {
     /// The level's place among all levels, from 0 (Rec. ITU-T H.264, Annex A).
     pub fn ordinal(self) -> usize {
-        self as usize
+        match self {
+            H264LevelIdc::Level1 => 0,
+            H264LevelIdc::Level1B => 1,
+            H264LevelIdc::Level1_1 => 2,
+            H264LevelIdc::Level1_2 => 3,
+            H264LevelIdc::Level1_3 => 4,
+            H264LevelIdc::Level2 => 5,
+            H264LevelIdc::Level2_1 => 6,
+            H264LevelIdc::Level2_2 => 7,
+            H264LevelIdc::Level3 => 8,
+            H264LevelIdc::Level3_1 => 9,
+            H264LevelIdc::Level3_2 => 10,
+            H264LevelIdc::Level4 => 11,
+            H264LevelIdc::Level4_1 => 12,
+            H264LevelIdc::Level4_2 => 13,
+            H264LevelIdc::Level5 => 14,
+            H264LevelIdc::Level5_1 => 15,
+            H264LevelIdc::Level5_2 => 16,
+        }
     }
 }
 
+/// By `ordinal`.
+impl Ord for H264LevelIdc {
+    fn cmp(&self, other: &Self) -> Ordering {
+        self.ordinal().cmp(&other.ordinal())
+    }
+}
+
+/// By `ordinal`.
+impl PartialOrd for H264LevelIdc {
+    fn partial_cmp(&self, other: &Self) -> Option<Ordering> {
+        Some(self.cmp(other))
+    }
+}
+
+/// The level with this id. The error says that none has it.
 impl TryFrom<u8> for H264LevelIdc {
     type Error = ();
 
@@ -147,8 +200,16 @@ impl TryFrom<u8> for H264LevelIdc {
     }
 }
 
+/// The level_idc, and of level 1b 0.
+impl From<H264LevelIdc> for u8 {
+    fn from(level: H264LevelIdc) -> Self {
+        level as u8
+    }
+}
+
 /// The profile and level of an H.264 format in SDP (RFC 6184, section 8.1).
-#[derive(Debug, Clone, Copy, PartialEq, Eq)]
+#[cfg_attr(feature = "serde", derive(serde::Serialize, serde::Deserialize))]
+#[derive(Debug, Clone, Copy, PartialEq, Eq, Hash)]
 pub struct H264ProfileLevel {
     profile: H264Profile,
     level: H264LevelIdc,
@@ -197,6 +258,13 @@ impl TryFrom<u32> for H264ProfileLevel {
         let profile_iop = (value >> 8 & 0xff) as u8;
         let level_id = (value & 0xff) as u8;
         from_bytes(profile_idc, profile_iop, level_id).ok_or(())
+    }
+}
+
+/// `FALLBACK`: what stands where a format says nothing.
+impl Default for H264ProfileLevel {
+    fn default() -> Self {
+        Self::FALLBACK
     }
 }
 

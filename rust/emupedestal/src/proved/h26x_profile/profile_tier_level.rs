@@ -11,7 +11,7 @@ use std::collections::HashMap;
 
 /// The profile, tier and level of a format in SDP (RFC 7798, section 7.1; RFC 9328, section 7.2).
 #[cfg_attr(feature = "serde", derive(serde::Serialize, serde::Deserialize))]
-#[derive(Debug, Clone, Copy, PartialEq, Eq)]
+#[derive(Debug, Clone, Copy, PartialEq, Eq, Hash)]
 pub struct ProfileTierLevel<P, T, L> {
     pub(crate) profile: P,
     pub(crate) tier: T,
