@@ -1,5 +1,5 @@
 /* Payloads, any whatever, through packetizers: copied out, and straight in the caller's memory; and units as they are
- * through a depacketizer and, with one packet lost, a receiver.
+ * through a depacketizer and, with one packet lost, a receiver; and what is told of bytes without a handle.
  *
  * A byte of settings, whose further bits choose the packet that gets lost; the largest packet size in two bytes, which
  * stays as it is where that is under 4; the headroom in a byte; and then, for each call, a byte whose lowest bit says
@@ -183,6 +183,56 @@ static void cut(uint32_t codec, struct input payload)
     saw(6, codec, about(count), about(payload.len));
 }
 
+/* A unit with an extension in a PACI packet, which is read back as the unit (RFC 7798, 4.4.4). */
+static void pack(struct input unit)
+{
+    const struct input extension = {unit.at, unit.len > 0 && unit.at[0] % 40u < unit.len ? unit.at[0] % 40u : 0};
+    const size_t wanted = unit.len + 2 + extension.len;
+    const uint8_t *read = copied(PACKET, unit), *more = copied(ENDS, extension);
+    size_t len = NOT_SAID;
+    uint8_t *to = room_for(OUTPUT, wanted), told = 0;
+    uint32_t code = h26x_h265_paci_packet(read, unit.len, more, extension.len, to, wanted, &len);
+    saw(7, code, about(unit.len), extension.len);
+    if (code != H26X_OK) {
+        expect(code == (unit.len < 2 ? H26X_SHORT_PACKET : H26X_H265_PACI_PHES_TOO_LONG));
+        expect(is_untouched(to, wanted) && (unit.len < 2 || extension.len > 31));
+        return;
+    }
+    expect(len == wanted && extension.len <= 31 && memcmp(to + 4, extension.at, extension.len) == 0);
+    if (unit.len < 3)
+        return;
+    h26x_depacketizer d;
+    h26x_h265_packet shown;
+    uint8_t *written = room_for(OTHER, unit.len + 4);
+    expect(h26x_depacketizer_new(H26X_H265, false, &d) == H26X_OK);
+    expect(h26x_depacketize(&d, false, to, len, written, unit.len + 4, &len, &told, NULL) == H26X_OK);
+    expect(len == unit.len + 4 && memcmp(written + 4, unit.at, unit.len) == 0);
+    expect(h26x_h265_shown(&d, &shown) == H26X_OK && shown.kind == H26X_H265_PACI && shown.parts == 2);
+    expect(h26x_h265_part_copy(&d, 0, NULL, 0, NULL) == extension.len);
+    h26x_depacketizer_free(d);
+    to = room_for(OUTPUT, wanted - 1);
+    expect(h26x_h265_paci_packet(read, unit.len, more, extension.len, to, wanted - 1, &len) == H26X_OK);
+    expect(len == wanted && is_untouched(to, wanted - 1));
+}
+
+/* What SDP names, by numbers (RFC 6184, 8.1; RFC 7798, 7.1; RFC 9328, 7.2). */
+static void name(struct input numbers)
+{
+    const uint32_t id = (uint32_t)take_word(&numbers) << 16 | take_word(&numbers);
+    uint8_t profile = NOT_SAID, level = NOT_SAID, same_profile = NOT_SAID, same_level = NOT_SAID;
+    const bool is_known = h26x_h264_profile_level(id, &profile, &level);
+    expect(is_known == h26x_h264_profile_level(id & 0xffffff, &same_profile, &same_level));
+    expect(profile == same_profile && level == same_level);
+    expect(is_known ? profile <= H26X_H264_CAVLC_444_INTRA && level <= H26X_H264_LEVEL_5_2
+                    : profile == NOT_SAID && level == NOT_SAID);
+    const uint8_t profile_id = id >> 16 & 255, tier = id >> 8 & 255, level_id = id & 255;
+    const bool h265 = h26x_h265_is_known(profile_id, tier, level_id);
+    const bool h266 = h26x_h266_is_known(profile_id, tier, level_id);
+    expect((!h265 && !h266) || tier <= 1);
+    expect(!(h265 && h266));
+    saw(8, is_known << 2 | h265 << 1 | h266, profile, level);
+}
+
 int LLVMFuzzerTestOneInput(const uint8_t *at, size_t len)
 {
     struct input in = {at, len < LONGEST ? len : LONGEST};
@@ -208,6 +258,8 @@ int LLVMFuzzerTestOneInput(const uint8_t *at, size_t len)
             c.limit = c.mtu < it.max_size ? c.mtu : it.max_size;
         send_call(&it, &c);
         cut(it.set.codec, c.bytes);
+        pack(c.bytes);
+        name(c.bytes);
     }
     h26x_packetizer_free(it.p);
     return 0;
