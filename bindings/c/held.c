@@ -1,0 +1,174 @@
+/* How much memory a peer can make a receiver hold, by packets that no packetizer sends: aggregates in which each unit
+ * is long once, of many units and of empty ones, units that never end, and whatever has no room in the caller's
+ * memory. Says the most that was held; past the limits it ends with status 1.
+ * Link with -Wl,--wrap=malloc,--wrap=realloc,--wrap=free. */
+#include "h26x.h"
+#include <malloc.h>
+#include <stdio.h>
+#include <stdlib.h>
+#include <string.h>
+
+enum {
+    /* The longest packet that UDP brings, and the limit on an open unit. */
+    PACKET = 65507,
+    RUN_LIMIT = 1000,
+    /* How many bytes a receiver of H.265 may hold for what it shows of packets. */
+    SHOWN_MOST = 48 * 1024 * 1024,
+    /* An open unit and the packet that is taken, and what was completed and had no room, twice; each in a buffer that
+     * grew to twice its length. An empty unit of an aggregate is written in twice its bytes. */
+    RUN_MOST = 2 * (RUN_LIMIT + PACKET),
+    WRITTEN_MOST = 2 * 2 * (2 * PACKET),
+    SMALL = 16 * 1024
+};
+
+static uint8_t packet[PACKET];
+
+void *__real_malloc(size_t size);
+void *__real_realloc(void *block, size_t size);
+void __real_free(void *block);
+void *__wrap_malloc(size_t size);
+void *__wrap_realloc(void *block, size_t size);
+void __wrap_free(void *block);
+
+/* How many bytes the blocks have that weren't given back. */
+static size_t held;
+
+void *__wrap_malloc(size_t size)
+{
+    void *block = __real_malloc(size);
+    held += malloc_usable_size(block);
+    return block;
+}
+
+void *__wrap_realloc(void *block, size_t size)
+{
+    const size_t before = malloc_usable_size(block);
+    void *moved = __real_realloc(block, size);
+    if (moved != NULL)
+        held += malloc_usable_size(moved) - before;
+    return moved;
+}
+
+void __wrap_free(void *block)
+{
+    held -= malloc_usable_size(block);
+    __real_free(block);
+}
+
+/* A receiver, and how many bytes it held at most. */
+struct receiving {
+    uint32_t codec;
+    h26x_receiver r;
+    uint16_t sequence;
+    size_t most;
+};
+
+static void give(struct receiving *it, size_t len)
+{
+    uint32_t received;
+    uint8_t told = 0;
+    if (h26x_receive(&it->r, it->sequence++, packet, len, NULL, 0, NULL, &told, &received, NULL, NULL) != H26X_OK
+        || received == H26X_LATE) {
+        fprintf(stderr, "held.c: a packet of %zu bytes is not taken\n", len);
+        exit(1);
+    }
+    it->most = held > it->most ? held : it->most;
+}
+
+/* What stands before the units of an aggregate (RFC 6184, 5.7.1; RFC 7798, 4.4.2; RFC 9328, 4.3.2). */
+static size_t aggregate_header(uint32_t codec)
+{
+    packet[0] = codec == H26X_H264 ? 0x78 : codec == H26X_H265 ? 0x60 : 0x00;
+    packet[1] = codec == H26X_H265 ? 0x01 : 0xe1;
+    return codec == H26X_H264 ? 1 : 2;
+}
+
+/* An aggregate of so many units, in as many bytes as a packet has: that at one place takes all that is left, the
+ * others so many. Of H.266 a unit has two bytes or more. */
+static size_t aggregate(uint32_t codec, size_t units, size_t at, size_t others)
+{
+    size_t n = aggregate_header(codec);
+    const size_t len = PACKET - n - 2 * units - others * (units - 1);
+    for (size_t i = 0; i < units; i++) {
+        const size_t unit = i == at ? len : others;
+        packet[n++] = (uint8_t)(unit >> 8);
+        packet[n++] = (uint8_t)unit;
+        memset(packet + n, 0x0a, unit);
+        n += unit;
+    }
+    return n;
+}
+
+/* An aggregate of units as short as they may be, as many as a packet has room for. */
+static size_t shortest(uint32_t codec)
+{
+    const size_t unit = codec == H26X_H266 ? 2 : 0, units = (PACKET - 2) / (2 + unit) - 1;
+    return aggregate(codec, units, 0, unit);
+}
+
+/* A fragment with data up to a packet's end, which starts a unit or goes on with one (RFC 6184, 5.8; RFC 7798, 4.4.3;
+ * RFC 9328, 4.3.3). */
+static size_t fragment(uint32_t codec, bool starts)
+{
+    const uint8_t headers[3][3] = {{0x7c, 0x05, 0xaa}, {0x62, 0x01, 0x13}, {0x00, 0xe9, 0x07}};
+    memset(packet, 0xaa, PACKET);
+    memcpy(packet, headers[codec - H26X_H264], 3);
+    packet[codec == H26X_H264 ? 1 : 2] |= starts ? 0x80 : 0;
+    return PACKET;
+}
+
+static size_t single(uint32_t codec, size_t len)
+{
+    memset(packet, 0x0a, len);
+    packet[0] = codec == H26X_H264 ? 0x65 : codec == H26X_H265 ? 0x26 : 0x00;
+    return len;
+}
+
+static void give_all(struct receiving *it)
+{
+    const uint32_t codec = it->codec;
+    const size_t other = codec == H26X_H266 ? 2 : 0;
+    for (int round = 0; round < 2; round++) {
+        /* Each place is long in both lists that are shown by turns; then they get short, and long again. */
+        for (size_t at = 1; at <= 256; at++)
+            for (int i = 0; i < 2; i++)
+                give(it, aggregate(codec, 257, at, other));
+        for (int i = 0; i < 2; i++)
+            give(it, aggregate(codec, 3, 1, other));
+        for (int i = 0; i < 2; i++)
+            give(it, shortest(codec));
+        for (int i = 0; i < 4; i++)
+            give(it, fragment(codec, i == 0));
+        give(it, single(codec, PACKET));
+    }
+}
+
+static void check(uint32_t codec)
+{
+    struct receiving it = {.codec = codec};
+    const size_t most = RUN_MOST + WRITTEN_MOST + SMALL + (codec == H26X_H265 ? SHOWN_MOST : 0);
+    if (h26x_receiver_new(codec, false, false, RUN_LIMIT, &it.r) != H26X_OK)
+        exit(1);
+    give_all(&it);
+    for (int i = 0; i < 100; i++)
+        give(&it, single(codec, 3));
+    if (h26x_receiver_restart(&it.r) != H26X_OK)
+        exit(1);
+    const size_t left = held;
+    h26x_receiver_free(it.r);
+    printf("%s: %zu bytes at most, %zu after a restart; %zu may be\n", h26x_codec_name(codec), it.most, left, most);
+    if (it.most > most || held != 0) {
+        fprintf(stderr, "held.c: that is too much, or not given back: %zu bytes\n", held);
+        exit(1);
+    }
+}
+
+int main(void)
+{
+    /* Its own memory is the system's, and none of it is counted. */
+    setvbuf(stdout, NULL, _IONBF, 0);
+    check(H26X_H264);
+    check(H26X_H266);
+    check(H26X_H265);
+    return 0;
+}

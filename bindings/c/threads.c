@@ -1,0 +1,216 @@
+/* Handles in threads, as the header allows: each thread has ends of its own, and makes calls of the others' only with
+ * a lock, the const ones too; copies that were made with the lock it uses without. Run under a tool that finds
+ * data races. Says how many units came through; the first that doesn't ends it with status 1. */
+#define _POSIX_C_SOURCE 200809L
+#include "h26x.h"
+#include <pthread.h>
+#include <stdio.h>
+#include <stdlib.h>
+#include <string.h>
+
+/* Whether the header allows const calls of one handle side by side. It doesn't yet: where it does, make it 1, and
+ * they are made without the lock. */
+enum { CONST_CALLS_MAY_BE_SHARED = 0 };
+
+enum { THREADS = 4, ROUNDS = 30, UNIT = 5000, PACKETS = 60 };
+
+static void expect_at(bool holds, const char *what, int line)
+{
+    if (!holds) {
+        fprintf(stderr, "threads.c:%d: does not hold: %s\n", line, what);
+        exit(1);
+    }
+}
+#define expect(what) expect_at(what, #what, __LINE__)
+
+/* A codec, and the header of a unit of a keyframe (RFC 6184, 1.3; RFC 7798, 1.1.4; RFC 9328, 1.1.4). */
+struct codec {
+    uint32_t number;
+    uint8_t header[2];
+    size_t header_len;
+};
+
+static const struct codec codecs[] = {
+    {H26X_H264, {0x65, 0}, 1},
+    {H26X_H265, {0x26, 0x01}, 2},
+    {H26X_H266, {0x00, 0x39}, 2},
+};
+
+/* What all threads have: ends of a codec, which the lock is for; a packetizer and a depacketizer that stay as they
+ * are while threads run. */
+struct shared {
+    pthread_mutex_t lock;
+    h26x_packetizer packetizer;
+    h26x_receiver receiver;
+    uint16_t sequence;
+    h26x_packetizer packets;
+    h26x_depacketizer open;
+};
+
+static struct shared shared[3];
+
+struct work {
+    uint8_t byte;
+    size_t units;
+};
+
+static size_t make_unit(const struct codec *c, uint8_t byte, uint8_t *unit)
+{
+    memcpy(unit, c->header, c->header_len);
+    memset(unit + c->header_len, byte, UNIT);
+    return c->header_len + UNIT;
+}
+
+/* Sends a unit in packets, and receives it again. */
+static void carry(h26x_packetizer *p, h26x_receiver *r, uint16_t *sequence, const struct codec *c, struct work *work)
+{
+    uint8_t unit[UNIT + 2], to[UNIT + 6], packet[100], told = 0;
+    const size_t len = make_unit(c, work->byte, unit);
+    size_t count, written = 0;
+    expect(h26x_packetize(p, sizeof packet, unit, len, &count) == H26X_OK && count <= PACKETS && count > 1);
+    for (size_t i = 0; i < count; i++) {
+        const size_t packet_len = h26x_packet_copy(p, i, packet, sizeof packet);
+        uint32_t received;
+        expect(h26x_receive(r, (*sequence)++, packet, packet_len, to, sizeof to, &written, &told, &received, NULL,
+                            NULL) == H26X_OK);
+        expect(received == H26X_IN_ORDER);
+    }
+    expect(written == len + 4 && told == 2 && memcmp(to + 4, unit, len) == 0);
+    work->units++;
+}
+
+static void with_own_ends(const struct codec *c, struct work *work)
+{
+    h26x_packetizer p;
+    h26x_receiver r;
+    uint16_t sequence = 65500;
+    expect(h26x_packetizer_new(c->number, false, &p) == H26X_OK);
+    expect(h26x_receiver_new(c->number, false, false, UNIT, &r) == H26X_OK);
+    for (int i = 0; i < 3; i++)
+        carry(&p, &r, &sequence, c, work);
+    h26x_packetizer_free(p);
+    h26x_receiver_free(r);
+}
+
+/* The ends that all have, with the lock; copies of them without. */
+static void with_shared_ends(struct shared *s, const struct codec *c, struct work *work)
+{
+    h26x_packetizer p;
+    h26x_receiver r;
+    uint16_t sequence;
+    pthread_mutex_lock(&s->lock);
+    carry(&s->packetizer, &s->receiver, &s->sequence, c, work);
+    expect(h26x_packetizer_clone(&s->packetizer, &p) == H26X_OK);
+    expect(h26x_receiver_clone(&s->receiver, &r) == H26X_OK);
+    sequence = s->sequence;
+    pthread_mutex_unlock(&s->lock);
+    carry(&p, &r, &sequence, c, work);
+    h26x_packetizer_free(p);
+    h26x_receiver_free(r);
+}
+
+/* Every call that takes a handle as a const one, of handles that no other call changes. */
+static void ask_shared_ends(struct shared *s, const struct codec *c)
+{
+    const bool is_shown = c->number == H26X_H265;
+    uint8_t packet[100];
+    size_t ends[2], count, size;
+    h26x_packetizer p;
+    h26x_depacketizer d;
+    h26x_receiver r;
+    h26x_h265_packet shown;
+    if (!CONST_CALLS_MAY_BE_SHARED)
+        pthread_mutex_lock(&s->lock);
+    expect(h26x_packet_count(&s->packets) > 2 && h26x_packets_len(&s->packets) > UNIT);
+    expect(h26x_packet_len(&s->packets, 1) == sizeof packet);
+    expect(h26x_packet_copy(&s->packets, 1, packet, sizeof packet) == sizeof packet);
+    expect(h26x_packets_copy(&s->packets, 1, packet, sizeof packet, ends, 2) == 1 && ends[0] == sizeof packet);
+    expect(h26x_packets_size(&s->packets, 100, packet, sizeof packet, 12, &count, &size) == H26X_OK);
+    expect(h26x_packetizer_clone(&s->packets, &p) == H26X_OK);
+    expect(h26x_depacketizer_clone(&s->open, &d) == H26X_OK);
+    expect(h26x_depacketizer_same(&s->open, &d) && h26x_depacketizer_same(&d, &s->open));
+    expect(h26x_written_copy(&s->open, packet, sizeof packet) == 0);
+    expect(h26x_h265_shown(&s->open, &shown) == (is_shown ? H26X_OK : H26X_NOT_OF_THIS_CODEC));
+    expect(h26x_h265_part_copy(&s->open, 0, packet, sizeof packet, NULL) == (is_shown ? sizeof packet - 3 : 0));
+    if (!CONST_CALLS_MAY_BE_SHARED)
+        pthread_mutex_unlock(&s->lock);
+    pthread_mutex_lock(&s->lock);
+    expect(h26x_receiver_run_len(&s->receiver) == 0);
+    expect(h26x_receiver_clone(&s->receiver, &r) == H26X_OK);
+    pthread_mutex_unlock(&s->lock);
+    h26x_packetizer_free(p);
+    h26x_depacketizer_free(d);
+    h26x_receiver_free(r);
+}
+
+/* Calls without a handle. */
+static void ask(const struct codec *c)
+{
+    static const uint8_t payload[] = {0, 0, 1, 0x65, 1, 2, 0, 0, 1, 0x41, 3};
+    size_t begin, end;
+    expect(h26x_next_unit(c->number, payload, sizeof payload, 0, &begin, &end) && begin == 3 && end == 6);
+    expect(h26x_detect_keyframe(c->number, c->header, 2));
+    expect(h26x_is_partition_head(c->number, c->header, 2));
+    expect(h26x_is_partition_tail(c->number, true, c->header, 2));
+    expect(h26x_h265_is_known(1, 0, 93) && h26x_h266_is_known(1, 0, 51));
+    expect(strcmp(h26x_strerror(H26X_OUT_OF_MEMORY), "") != 0 && h26x_codec_name(c->number) != NULL);
+}
+
+static void *run(void *at)
+{
+    struct work *work = at;
+    for (int round = 0; round < ROUNDS; round++)
+        for (size_t i = 0; i < 3; i++) {
+            with_own_ends(&codecs[i], work);
+            with_shared_ends(&shared[i], &codecs[i], work);
+            ask_shared_ends(&shared[i], &codecs[i]);
+            ask(&codecs[i]);
+        }
+    return NULL;
+}
+
+static void begin(struct shared *s, const struct codec *c)
+{
+    uint8_t unit[UNIT + 2], packet[100], told = 0;
+    const size_t len = make_unit(c, 9, unit);
+    size_t count;
+    expect(pthread_mutex_init(&s->lock, NULL) == 0);
+    expect(h26x_packetizer_new(c->number, false, &s->packetizer) == H26X_OK);
+    expect(h26x_packetizer_new(c->number, false, &s->packets) == H26X_OK);
+    expect(h26x_depacketizer_new(c->number, false, &s->open) == H26X_OK);
+    expect(h26x_receiver_new(c->number, false, false, UNIT, &s->receiver) == H26X_OK);
+    expect(h26x_packetize_unit(&s->packets, sizeof packet, unit, len, &count) == H26X_OK);
+    expect(h26x_packet_copy(&s->packets, 0, packet, sizeof packet) == sizeof packet);
+    expect(h26x_depacketize(&s->open, false, packet, sizeof packet, NULL, 0, NULL, &told, NULL) == H26X_OK);
+}
+
+static void end(struct shared *s)
+{
+    h26x_packetizer_free(s->packetizer);
+    h26x_packetizer_free(s->packets);
+    h26x_depacketizer_free(s->open);
+    h26x_receiver_free(s->receiver);
+    expect(pthread_mutex_destroy(&s->lock) == 0);
+}
+
+int main(void)
+{
+    struct work work[THREADS] = {{0, 0}};
+    pthread_t threads[THREADS];
+    size_t units = 0;
+    for (size_t i = 0; i < 3; i++)
+        begin(&shared[i], &codecs[i]);
+    for (int i = 0; i < THREADS; i++) {
+        work[i].byte = (uint8_t)(i + 1);
+        expect(pthread_create(&threads[i], NULL, run, &work[i]) == 0);
+    }
+    for (int i = 0; i < THREADS; i++) {
+        expect(pthread_join(threads[i], NULL) == 0);
+        units += work[i].units;
+    }
+    for (size_t i = 0; i < 3; i++)
+        end(&shared[i]);
+    expect(units == THREADS * ROUNDS * 3 * 5);
+    printf("%zu units came through, in %d threads\n", units, (int)THREADS);
+    return 0;
+}

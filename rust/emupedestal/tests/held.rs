@@ -1,0 +1,168 @@
+//! How much memory a peer can make receivers hold, by packets that no packetizer sends: aggregates in which
+//! each unit is long once, of many units and of empty ones, and units that never end.
+
+use emupedestal::{Codec, CodecExtra, SequencedDepacketizer};
+use std::alloc::{GlobalAlloc, Layout, System};
+use std::cell::Cell;
+
+/// The longest packet that UDP brings, and the limit on an open unit.
+const PACKET: usize = 65507;
+const RUN_LIMIT: usize = 1000;
+/// How many bytes a receiver of H.265 may hold for what it shows of packets.
+const SHOWN_MOST: usize = 48 << 20;
+/// An open unit and the packet that is taken, in a buffer that grew to twice its length.
+const RUN_MOST: usize = 2 * (RUN_LIMIT + PACKET);
+const SMALL: usize = 4096;
+
+thread_local! {
+    static HELD: Cell<isize> = const { Cell::new(0) };
+}
+
+struct Counting;
+
+fn count(bytes: usize, sign: isize) {
+    HELD.set(HELD.get() + sign * bytes as isize);
+}
+
+// SAFETY: memory is the system's.
+unsafe impl GlobalAlloc for Counting {
+    unsafe fn alloc(&self, layout: Layout) -> *mut u8 {
+        count(layout.size(), 1);
+        // SAFETY: the caller's.
+        unsafe { System.alloc(layout) }
+    }
+
+    unsafe fn dealloc(&self, at: *mut u8, layout: Layout) {
+        count(layout.size(), -1);
+        // SAFETY: the caller's.
+        unsafe { System.dealloc(at, layout) }
+    }
+
+    unsafe fn realloc(&self, at: *mut u8, layout: Layout, size: usize) -> *mut u8 {
+        count(layout.size(), -1);
+        count(size, 1);
+        // SAFETY: the caller's.
+        unsafe { System.realloc(at, layout, size) }
+    }
+}
+
+#[global_allocator]
+static COUNTING: Counting = Counting;
+
+/// An aggregate of so many units, as long as a packet may be: that at one place takes all that is left, the
+/// others so many bytes (RFC 6184, 5.7.1; RFC 7798, 4.4.2; RFC 9328, 4.3.2).
+fn aggregate(codec: Codec, units: usize, at: usize, others: usize) -> Vec<u8> {
+    let header: &[u8] = match codec {
+        Codec::H264 => &[0x78],
+        Codec::H265 => &[0x60, 1],
+        Codec::H266 => &[0, 0xe1],
+    };
+    let mut packet = header.to_vec();
+    let len = PACKET - header.len() - 2 * units - others * (units - 1);
+    for i in 0..units {
+        let unit = if i == at { len } else { others };
+        packet.extend((unit as u16).to_be_bytes());
+        packet.resize(packet.len() + unit, 0x0a);
+    }
+    packet
+}
+
+/// A fragment as long as a packet may be, which starts a unit or goes on with one (RFC 6184, 5.8; RFC 7798,
+/// 4.4.3; RFC 9328, 4.3.3).
+fn fragment(codec: Codec, starts: bool) -> Vec<u8> {
+    let s = if starts { 0x80 } else { 0 };
+    let mut packet = match codec {
+        Codec::H264 => vec![0x7c, 5 | s],
+        Codec::H265 => vec![0x62, 1, 0x13 | s],
+        Codec::H266 => vec![0, 0xe9, 7 | s],
+    };
+    packet.resize(PACKET, 0xaa);
+    packet
+}
+
+fn single(codec: Codec, len: usize) -> Vec<u8> {
+    let first = match codec {
+        Codec::H264 => 0x65,
+        Codec::H265 => 0x26,
+        Codec::H266 => 0,
+    };
+    let mut packet = vec![first];
+    packet.resize(len, 0x0a);
+    packet
+}
+
+/// A receiver, and how many bytes it holds and held at most.
+struct Receiving {
+    codec: Codec,
+    receiver: SequencedDepacketizer,
+    sequence: u16,
+    out: Vec<u8>,
+    held: isize,
+    most: isize,
+}
+
+impl Receiving {
+    fn give(&mut self, packet: &[u8]) {
+        self.out.clear();
+        let before = HELD.get();
+        let answer =
+            self.receiver
+                .receive(self.sequence, packet, &mut self.out, &mut CodecExtra::None);
+        self.held += HELD.get() - before;
+        self.most = self.most.max(self.held);
+        assert!(answer.is_ok_and(|it| it.is_taken()), "{answer:?}");
+        self.sequence = self.sequence.wrapping_add(1);
+    }
+
+    fn give_all(&mut self) {
+        let codec = self.codec;
+        let shortest = if codec == Codec::H266 { 2 } else { 0 };
+        // Each place is long in both lists that are shown by turns; then they get short, and long again.
+        for _ in 0..2 {
+            for at in 1..=256 {
+                for _ in 0..2 {
+                    self.give(&aggregate(codec, 257, at, shortest));
+                }
+            }
+            for units in [3, (PACKET - 2) / (2 + shortest) - 1] {
+                for _ in 0..2 {
+                    self.give(&aggregate(codec, units, 1, shortest));
+                }
+            }
+            for i in 0..4 {
+                self.give(&fragment(codec, i == 0));
+            }
+            self.give(&single(codec, PACKET));
+        }
+        for _ in 0..100 {
+            self.give(&single(codec, 3));
+        }
+    }
+}
+
+#[test]
+fn no_peer_makes_a_receiver_hold_more() {
+    for codec in [Codec::H264, Codec::H265, Codec::H266] {
+        let shown = if codec == Codec::H265 { SHOWN_MOST } else { 0 };
+        let mut it = Receiving {
+            codec,
+            receiver: SequencedDepacketizer::new(codec, RUN_LIMIT),
+            sequence: 0,
+            // Twice as long as a packet is what it writes at most, so that this memory stays.
+            out: Vec::with_capacity(2 * PACKET + RUN_LIMIT),
+            held: 0,
+            most: 0,
+        };
+        it.give_all();
+        let most = (RUN_MOST + shown + SMALL) as isize;
+        assert!(it.most <= most, "{codec:?}: {} of {most}", it.most);
+        let before = HELD.get();
+        it.receiver.restart();
+        it.held += HELD.get() - before;
+        assert!(
+            it.held <= (shown + SMALL) as isize,
+            "{codec:?}: {}",
+            it.held
+        );
+    }
+}
