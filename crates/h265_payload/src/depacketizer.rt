@@ -114,7 +114,8 @@ impl H265Depacketizer {
         mem::swap(&mut self.run, run);
     }
 
-    /// Gives up the open run, if there is one, and gives its buffer back. It takes no memory.
+    /// Gives up the open run, if there is one, and gives its buffer back, and the memory that is kept
+    /// for what `payload` will show. It takes no memory.
     ///
     /// A run grows by every fragment until one ends it, and its buffer is kept for later runs: a
     /// caller that will not hold so much asks `run_len` and calls this. Fragments that follow
@@ -123,6 +124,7 @@ impl H265Depacketizer {
         ensures { self.new ≡ record self.old { run = None } }
     {
         self.run.give_up();
+        self.spare.free();
     }
 
     /// The packet that was accepted last; before any, the empty single NAL unit packet.

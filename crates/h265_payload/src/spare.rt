@@ -1,14 +1,21 @@
 //! The memory that the next packet is shown by.
 
-ghost use Rattle.std.specs.Prelude.{◌≡◌, ◌+◌, ◌<◌, ◌≤◌, ◌++◌, ◌∷◌, [], length, take, OnOk};
+ghost use Rattle.std.specs.Prelude.{◌≡◌, ◌+◌, ◌<◌, ◌≤◌, ◌++◌, ◌∷◌, [], nat_le, length, take, vec_capacity, OnOk};
+ghost use Rattle.std.specs.List.{list_all};
+ghost use Rattle.h265_payload.specs.Spare.{AreFew};
 
 use h265_packets::{H265AggregationUnit, H265Payload};
 use std::alloc::{AllocError, Global};
 use std::mem;
 
-/// How many units of a list keep their memory for later ones, so that no sender has a depacketizer
-/// keep a long list, in each place of which a long unit stood once.
-const MOST_KEPT: usize = 256;
+/// How many units of a list keep their memory for later ones, how many bytes each of them may have,
+/// and for how many units the list itself may have room. A unit that was longer is never used again,
+/// so no sender has a depacketizer keep a long list, in each place of which a long unit stood once.
+const MOST_UNITS: usize = 32;
+
+const MOST_BYTES: usize = 1500;
+
+const MOST_ROOM: usize = 256;
 
 /// Memory of packets that were shown before. What the next packet is shown by is put there first,
 /// and changes places with what is shown when nothing can fail any more.
@@ -23,11 +30,38 @@ pub struct Spare {
     /// Units behind the last of a shorter aggregate. The next longer one takes from the end, and so
     /// finds what stood behind its own last.
     surplus: Vec<H265AggregationUnit>,
+    ghost second_kept: { AreFew second.items },
+    ghost second_room: { vec_capacity second ≤ 256 },
+    ghost surplus_kept: { AreFew surplus.items },
+}
+
+/// Whether none of these units is too long to be kept.
+fn are_short(units: &[H265AggregationUnit]) -> bool
+    ensures { result ≡ list_all (λ unit. nat_le (length unit.nal_unit) 1500) units.now }
+{
+    units.iter().all(|unit| unit.nal_unit().len() <= MOST_BYTES)
+}
+
+/// Keeps the memory of a few units; none where one is too long, or where so many stood there once
+/// that the list is.
+fn keep_few(units: &mut Vec<H265AggregationUnit>)
+    ensures kept { AreFew units.new.items }
+    ensures room { vec_capacity units.new ≤ 256 }
+{
+    units.truncate(MOST_UNITS);
+    if units.capacity() > MOST_ROOM || !are_short(units) {
+        *units = Vec::new(*units.allocator());
+    }
 }
 
 impl Spare {
     /// No memory.
-    pub fn new(alloc: Global) -> Self {
+    pub fn new(alloc: Global) -> Self
+        ensures data { vec_capacity result.data ≡ 0 }
+        ensures others { vec_capacity result.others ≡ 0 }
+        ensures second { vec_capacity result.second ≡ 0 }
+        ensures surplus { vec_capacity result.surplus ≡ 0 }
+    {
         Spare {
             data: Vec::new(alloc),
             others: Vec::new(alloc),
@@ -39,6 +73,16 @@ impl Spare {
     /// Where its memory comes from.
     pub fn allocator(&self) -> Global {
         *self.data.allocator()
+    }
+
+    /// Frees all of it.
+    pub fn free(&mut self)
+        ensures data { vec_capacity self.new.data ≡ 0 }
+        ensures others { vec_capacity self.new.others ≡ 0 }
+        ensures second { vec_capacity self.new.second ≡ 0 }
+        ensures surplus { vec_capacity self.new.surplus ≡ 0 }
+    {
+        *self = Spare::new(self.allocator());
     }
 
     /// Puts the next packet's data in place.
@@ -58,12 +102,13 @@ impl Spare {
         mem::replace(&mut self.data, Vec::new(alloc))
     }
 
-    /// Begins the further units of the next aggregate.
-    pub fn begin_others(&mut self)
+    /// Keeps the memory of a few of the further units, for the next aggregate.
+    pub fn keep_others(&mut self)
+        ensures kept { AreFew self.new.others.items }
+        ensures room { vec_capacity self.new.others ≤ 256 }
         ensures data { self.new.data.items ≡ self.old.data.items }
-        ensures others { self.new.others.items ≡ take 256 self.old.others.items }
     {
-        self.others.truncate(MOST_KEPT);
+        keep_few(&mut self.others);
     }
 
     /// Puts a further unit of the next aggregate behind so many others.
@@ -93,8 +138,8 @@ impl Spare {
         Ok(())
     }
 
-    /// Leaves so many further units, and keeps the memory of those behind them where there is room
-    /// for it.
+    /// Leaves so many further units, and keeps the memory of a few of those behind them where there
+    /// is room for it.
     pub fn limit_others(&mut self, count: usize)
         requires { count ≤ length self.old.others.items }
         ensures others { self.new.others.items ≡ take count self.old.others.items }
@@ -104,7 +149,7 @@ impl Spare {
             let Some(unit) = self.others.pop() else {
                 return;
             };
-            if self.surplus.len() < MOST_KEPT {
+            if self.surplus.len() < MOST_UNITS && unit.nal_unit().len() <= MOST_BYTES {
                 let _ = self.surplus.push(unit);
             }
         }
@@ -113,6 +158,8 @@ impl Spare {
     /// Takes the further units out.
     pub fn take_others(&mut self) -> Vec<H265AggregationUnit>
         ensures others { result.items ≡ self.old.others.items }
+        ensures kept { AreFew self.new.others.items }
+        ensures room { vec_capacity self.new.others ≤ 256 }
     {
         let alloc = self.allocator();
         let second = mem::replace(&mut self.second, Vec::new(alloc));
@@ -120,10 +167,13 @@ impl Spare {
     }
 
     /// Keeps the memory of what was shown before.
-    pub fn keep(&mut self, before: H265Payload) {
+    pub fn keep(&mut self, before: H265Payload)
+        ensures others { self.new.others ≡ self.old.others }
+    {
         match before {
             H265Payload::H265AggregationPacket(packet) => {
-                let (first, others) = packet.into_units();
+                let (first, mut others) = packet.into_units();
+                keep_few(&mut others);
                 self.second = others;
                 if let Some(unit) = first {
                     self.data = unit.into_buffer();

@@ -1,10 +1,11 @@
 -- Packets behind each other in one buffer.
-use Rattle.std.specs.Prelude.{◌≡◌, ℕ, ◌+◌, ◌≤◌, List, [], ◌∷◌, ◌++◌, length, take, drop}
+use Rattle.std.specs.Prelude.{◌≡◌, ℕ, zero, suc, ◌+◌, ◌-◌, ◌≤◌, List, [], ◌∷◌, ◌++◌, length, map, replicate, take, drop}
 use Rattle.std.specs.List.{between}
 
--- what a buffer holds: packets, and how many bytes are free before each
+-- what a buffer holds: packets, what stands in the headroom before each, and how many bytes that is
 pub record PacketBufferView : Type 0 where
   pub packets : List (List ℕ)
+  pub headrooms : List (List ℕ)
   pub headroom : ℕ
 
 -- the packets that end at these places of bytes, each behind its headroom, from this place on
@@ -12,6 +13,20 @@ abbrev pub packets_from : ℕ → ℕ → List ℕ → List ℕ → List (List �
 packets_from headroom start bytes [] = []
 packets_from headroom start bytes (end ∷ ends) = between (start + headroom) end bytes
     ∷ packets_from headroom end bytes ends
+
+-- the headrooms of these packets
+abbrev pub headrooms_from : ℕ → ℕ → List ℕ → List ℕ → List (List ℕ)
+headrooms_from headroom start bytes [] = []
+headrooms_from headroom start bytes (end ∷ ends) = between start (start + headroom) bytes
+    ∷ headrooms_from headroom end bytes ends
+
+-- the packets that end at these places of bytes, and their headrooms
+abbrev pub buffer_of : ℕ → List ℕ → List ℕ → PacketBufferView
+buffer_of headroom bytes ends = record {
+  packets = packets_from headroom 0 bytes ends;
+  headrooms = headrooms_from headroom 0 bytes ends;
+  headroom = headroom;
+}
 
 -- the last of these ends
 abbrev pub last_end : ℕ → List ℕ → ℕ
@@ -34,6 +49,11 @@ ends_of headroom start [] = []
 ends_of headroom start (packet ∷ packets) = (start + headroom + length packet)
     ∷ ends_of headroom (start + headroom + length packet) packets
 
+-- bytes in which these headrooms stand, each before one of these packets
+abbrev pub HoldHeadrooms : ℕ → List (List ℕ) → List (List ℕ) → List ℕ → Type 0
+HoldHeadrooms headroom packets headrooms bytes =
+    headrooms_from headroom 0 bytes (ends_of headroom 0 packets) ≡ headrooms
+
 -- bytes in which these packets stand behind each other, each behind its headroom, and nothing else
 pub record HoldPackets (headroom : ℕ) (packets : List (List ℕ)) (bytes : List ℕ) : Type 0 where
   pub there : packets_from headroom 0 bytes (ends_of headroom 0 packets) ≡ packets
@@ -44,20 +64,51 @@ pub record AppendedView : Type 0 where
   pub before : PacketBufferView
   pub after : List (List ℕ)
 
+-- so many packets of a buffer, from its first on, with their headrooms
+abbrev pub first_packets : ℕ → PacketBufferView → PacketBufferView
+first_packets count buffer = record buffer {
+  packets = take count buffer.packets;
+  headrooms = take count buffer.headrooms;
+}
+
 -- a buffer, of which so many packets were there before
 abbrev pub appended_view : PacketBufferView → ℕ → AppendedView
 appended_view buffer first = record {
-  before = record buffer { packets = take first buffer.packets };
+  before = first_packets first buffer;
   after = drop first buffer.packets;
 }
 
 -- nothing was there before
 abbrev pub no_buffer : PacketBufferView
-no_buffer = record { packets = []; headroom = 0 }
+no_buffer = record { packets = []; headrooms = []; headroom = 0 }
 
--- a buffer with these packets behind its own
+-- headrooms of zeros, one for each of these packets
+abbrev pub empty_headrooms : ℕ → List (List ℕ) → List (List ℕ)
+empty_headrooms headroom packets = map (λ packet. replicate headroom 0) packets
+
+-- a buffer with these packets behind its own, each behind a headroom of zeros
 abbrev pub with_packets : PacketBufferView → List (List ℕ) → PacketBufferView
-with_packets buffer packets = record buffer { packets = buffer.packets ++ packets }
+with_packets buffer packets = record buffer {
+  packets = buffer.packets ++ packets;
+  headrooms = buffer.headrooms ++ empty_headrooms buffer.headroom packets;
+}
+
+-- in a buffer, the headrooms behind so many packets are of zeros
+pub record IsAppending (buffer : PacketBufferView) (first : ℕ) : Type 0 where
+  pub packets : first ≤ length buffer.packets
+  pub headrooms : length buffer.headrooms ≡ length buffer.packets
+  pub fresh : drop first buffer.headrooms
+      ≡ empty_headrooms buffer.headroom (drop first buffer.packets)
+
+-- a headroom whose last bytes are a header
+abbrev pub headed : List ℕ → List ℕ → List ℕ
+headed header room = take (length room - length header) room ++ header
+
+-- headrooms, of which that at a place has a header
+abbrev pub headed_at : ℕ → List ℕ → List (List ℕ) → List (List ℕ)
+headed_at place header [] = []
+headed_at zero header (room ∷ rooms) = headed header room ∷ rooms
+headed_at (suc place) header (room ∷ rooms) = room ∷ headed_at place header rooms
 
 -- a buffer has its own packets and headroom still, and perhaps packets behind them
 abbrev pub IsAppended : PacketBufferView → PacketBufferView → Type 0

@@ -16,10 +16,18 @@ packets_under headroom start bytes (packet ∷ packets) =
     part_under packet (drop (start + headroom) bytes)
     ∷ packets_under headroom (start + headroom + length packet) bytes packets
 
+-- their headrooms, under these bytes too
+abbrev pub headrooms_under : ℕ → ℕ → List ℕ → List (List ℕ) → List (List ℕ) → List (List ℕ)
+headrooms_under headroom start bytes (packet ∷ packets) (room ∷ rooms) =
+    part_under room (drop start bytes)
+    ∷ headrooms_under headroom (start + headroom + length packet) bytes packets rooms
+headrooms_under headroom start bytes packets rooms = []
+
 -- a buffer with these bytes over its own
 abbrev pub buffer_under : PacketBufferView → List ℕ → PacketBufferView
 buffer_under buffer bytes = record buffer {
   packets = packets_under buffer.headroom 0 bytes buffer.packets;
+  headrooms = headrooms_under buffer.headroom 0 bytes buffer.packets buffer.headrooms;
 }
 
 -- the buffer ends with the last bytes of what was lent

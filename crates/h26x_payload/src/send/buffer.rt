@@ -1,8 +1,8 @@
 //! Packets behind each other in one buffer.
 
-ghost use Rattle.std.specs.Prelude.{◌≡◌, ◌≤◌, ◌<◌, ◌+◌, ◌++◌, nat_eq, replicate, vec_len, vec_capacity, ◌∷◌, [], take, drop, length, get_or, OnOk, OnErr};
+ghost use Rattle.std.specs.Prelude.{◌≡◌, ◌≤◌, ◌<◌, ◌+◌, ◌-◌, ◌++◌, nat_eq, replicate, vec_len, vec_capacity, ◌∷◌, [], take, length, get_or, OnOk, OnErr};
 ghost use Rattle.std.specs.List.{between};
-ghost use Rattle.h26x_payload.specs.Buffer.{IsBuffer, HoldPackets, ends_of, last_end, packets_from, with_packets};
+ghost use Rattle.h26x_payload.specs.Buffer.{IsBuffer, HoldPackets, HoldHeadrooms, ends_of, last_end, packets_from, headrooms_from, first_packets, with_packets, headed_at};
 ghost use Rattle.h26x_payload.specs.Sending.{body_bytes, contents};
 
 mod loan;
@@ -25,14 +25,11 @@ pub struct PacketBuffer {
 }
 
 impl Model for PacketBuffer {
-    ghost use Rattle.h26x_payload.specs.Buffer.{PacketBufferView, IsBuffer, packets_from};
+    ghost use Rattle.h26x_payload.specs.Buffer.{PacketBufferView, IsBuffer, buffer_of};
 
     ghost Value = { PacketBufferView };
 
-    ghost view = { λ a. record {
-      packets = packets_from a.headroom 0 a.bytes.items a.ends.items;
-      headroom = a.headroom;
-    } };
+    ghost view = { λ a. buffer_of a.headroom a.bytes.items a.ends.items };
 
     ghost invariant = { λ a. IsBuffer a.headroom a.bytes.items a.ends.items };
 }
@@ -54,6 +51,8 @@ fn bounds_of(headroom: usize, bytes: &[u8], ends: &[usize], place: usize) -> (us
     ensures within { result.1 ≤ length bytes.now }
     ensures packet { get_or (packets_from headroom 0 bytes.now ends.now) place []
         ≡ between result.0 result.1 bytes.now }
+    ensures headroom { get_or (headrooms_from headroom 0 bytes.now ends.now) place []
+        ≡ between (result.0 - headroom) result.0 bytes.now }
 {
     let end = ends[place];
     let start = end_of_first(ends, place) + headroom;
@@ -100,6 +99,7 @@ impl PacketBuffer {
     /// `alloc`.
     pub fn new(alloc: Global, headroom: usize) -> Self
         ensures packets { result.packets ≡ [] }
+        ensures headrooms { result.headrooms ≡ [] }
         ensures headroom { result.headroom ≡ headroom }
     {
         PacketBuffer {
@@ -118,7 +118,8 @@ impl PacketBuffer {
 
     /// How many packets it holds.
     pub fn len(&self) -> usize
-        ensures { result ≡ length self.now.packets }
+        ensures packets { result ≡ length self.now.packets }
+        ensures headrooms { result ≡ length self.now.headrooms }
     {
         self.ends.len()
     }
@@ -142,7 +143,8 @@ impl PacketBuffer {
     /// The packet at a place behind its headroom.
     pub fn with_headroom(&self, place: usize) -> &[u8]
         requires { place < length self.now.packets }
-        ensures { drop self.now.headroom result.now ≡ get_or self.now.packets place [] }
+        ensures { result.now ≡ get_or self.now.headrooms place []
+            ++ get_or self.now.packets place [] }
     {
         let (start, end) = bounds_of(self.headroom, &self.bytes, &self.ends, place);
         &self.bytes[start - self.headroom..end]
@@ -157,7 +159,9 @@ impl PacketBuffer {
 
     /// All bytes as they lie: the packets behind each other, each behind its headroom.
     pub fn bytes(&self) -> &[u8]
-        ensures { HoldPackets self.now.headroom self.now.packets result.now }
+        ensures packets { HoldPackets self.now.headroom self.now.packets result.now }
+        ensures headrooms { HoldHeadrooms self.now.headroom self.now.packets self.now.headrooms
+            result.now }
     {
         &self.bytes
     }
@@ -170,19 +174,22 @@ impl PacketBuffer {
         &self.ends
     }
 
-    /// Writes a header right before the packet at a place, into its headroom.
+    /// Writes a header right before the packet at a place, over the last bytes of its headroom; all
+    /// else stays, and the headrooms of the other packets.
     pub fn write_header(&mut self, place: usize, header: &[u8])
         requires place { place < length self.old.packets }
         requires room { length header.now ≤ self.old.headroom }
-        ensures { self.new ≡ self.old }
+        ensures { self.new ≡ record self.old {
+          headrooms = headed_at place header.now self.old.headrooms;
+        } }
     {
         let (start, _) = bounds_of(self.headroom, &self.bytes, &self.ends, place);
         self.bytes[start - header.len()..start].copy_from_slice(header);
     }
 
-    /// Keeps the first so many packets, in the same memory.
+    /// Keeps the first so many packets with their headrooms, in the same memory.
     pub fn truncate(&mut self, count: usize)
-        ensures { self.new ≡ record self.old { packets = take count self.old.packets } }
+        ensures { self.new ≡ first_packets count self.old }
     {
         if count < self.ends.len() {
             self.bytes.truncate(end_of_first(&self.ends, count));
@@ -192,13 +199,13 @@ impl PacketBuffer {
 
     /// Drops every packet, and keeps the memory.
     pub fn clear(&mut self)
-        ensures { self.new ≡ record self.old { packets = [] } }
+        ensures { self.new ≡ record self.old { packets = []; headrooms = [] } }
     {
         self.bytes.clear();
         self.ends.clear();
     }
 
-    /// Appends a packet of these parts, one behind the other.
+    /// Appends a packet of these parts, one behind the other, behind a headroom of zeros.
     #[inline(always)]
     pub(crate) fn push_parts(
         &mut self,
@@ -206,9 +213,8 @@ impl PacketBuffer {
         donl: &[u8],
         body: Body<'_>,
     ) -> Result<(), AllocError>
-        ensures pushed { OnOk result (self.new ≡ record self.old {
-          packets = self.old.packets ++ (header.now ++ (donl.now ++ body_bytes body.entry)) ∷ [];
-        }) }
+        ensures pushed { OnOk result (self.new ≡ with_packets self.old
+            ((header.now ++ (donl.now ++ body_bytes body.entry)) ∷ [])) }
         ensures kept { OnErr result (self.new ≡ self.old) }
     {
         let len = header
@@ -222,17 +228,16 @@ impl PacketBuffer {
         Ok(())
     }
 
-    /// Appends a packet behind its headroom. Only want of memory refuses it, and leaves everything.
+    /// Appends a packet behind its headroom, which is of zeros. Only want of memory refuses it, and
+    /// leaves everything.
     pub fn push(&mut self, packet: &[u8]) -> Result<(), AllocError>
-        ensures pushed { OnOk result (self.new ≡ record self.old {
-          packets = self.old.packets ++ packet.now ∷ [];
-        }) }
+        ensures pushed { OnOk result (self.new ≡ with_packets self.old (packet.now ∷ [])) }
         ensures kept { OnErr result (self.new ≡ self.old) }
     {
         self.push_parts(&[], &[], Body::Data(packet))
     }
 
-    /// Appends packets, each behind its headroom: all of them, or none where memory lacks.
+    /// Appends packets, each behind its headroom of zeros: all of them, or none where memory lacks.
     pub fn push_all(&mut self, packets: &[Vec<u8>]) -> Result<(), AllocError>
         ensures pushed { OnOk result (self.new ≡ with_packets self.old (contents packets.now)) }
         ensures kept { OnErr result (self.new ≡ self.old) }
@@ -263,14 +268,13 @@ pub(crate) struct Appending {
 }
 
 impl Model for Appending {
-    ghost use Rattle.std.specs.Prelude.{◌≤◌, length};
-    ghost use Rattle.h26x_payload.specs.Buffer.{AppendedView, appended_view};
+    ghost use Rattle.h26x_payload.specs.Buffer.{AppendedView, IsAppending, appended_view};
 
     ghost Value = { AppendedView };
 
     ghost view = { λ a. appended_view a.buffer a.first };
 
-    ghost invariant = { λ a. a.first ≤ length a.buffer.packets };
+    ghost invariant = { λ a. IsAppending a.buffer a.first };
 }
 
 impl Appending {

@@ -1,7 +1,7 @@
-use Rattle.std.proofs.Common.{rules, ◌≡◌, ap, sym, ◌∙◌, ◌+◌, take, get_or, arith}
+use Rattle.std.proofs.Common.{rules, ◌≡◌, ap, sym, ◌∙◌, ◌+◌, ◌-◌, take, get_or, arith}
 use Rattle.std.specs.List.{between}
 use Rattle.h26x_payload.specs.Buffer.{last_end}
-use Rattle.h26x_payload.proofs.BufferLemmas.{packet_at, packet_within}
+use Rattle.h26x_payload.proofs.BufferLemmas.{packet_at, headroom_at, packet_within}
 use Rattle.h26x_payload.proofs.send.buffer.bounds_of.Goals as goal
 
 pub overflow_add-start : goal.overflow_add-start
@@ -27,3 +27,12 @@ returns-clause-packet c =
     let start : c.end_of_first.result ≡ last_end 0 (take c.args.place c.args.ends.now) = search rules in
     packet_at c.args.headroom 0 c.args.bytes.now c.args.ends.now c.args.place c.requires.place
     ∙ ap (λ k. between (k + c.args.headroom) (get_or c.args.ends.now c.args.place 0) c.args.bytes.now) (sym start)
+
+pub returns-clause-headroom : goal.returns-clause-headroom
+returns-clause-headroom c =
+    let h = c.args.headroom in
+    let start : c.end_of_first.result ≡ last_end 0 (take c.args.place c.args.ends.now) = search rules in
+    let before : (c.end_of_first.result + h) - h ≡ c.end_of_first.result = omega arith in
+    headroom_at h 0 c.args.bytes.now c.args.ends.now c.args.place c.requires.place
+    ∙ ap (λ k. between k (k + h) c.args.bytes.now) (sym start)
+    ∙ ap (λ k. between k (c.end_of_first.result + h) c.args.bytes.now) (sym before)

@@ -2,8 +2,8 @@ use Rattle.std.proofs.Common.{rules, ◌≡◌, ap, ◌∙◌, ◌+◌, ◌-◌,
 use Rattle.std.specs.Vec.{with_items}
 use Rattle.std.proofs.lemmas.List.{with_items_is}
 use borrow.Rule.Slice.PartMut.{put_mid}
-use Rattle.h26x_payload.specs.Buffer.{PacketBufferView, last_end, packets_from}
-use Rattle.h26x_payload.proofs.BufferLemmas.{packets_count, packets_headed, length_put}
+use Rattle.h26x_payload.specs.Buffer.{PacketBufferView, last_end, packets_from, headrooms_from, buffer_of, headed_at}
+use Rattle.h26x_payload.proofs.BufferLemmas.{packets_count, packets_headed, headrooms_headed, length_put}
 use Rattle.h26x_payload.proofs.send.buffer.PacketBuffer.write_header.Goals as goal
 
 pub bounds_of-start-requires-clause-place : goal.bounds_of-start-requires-clause-place
@@ -38,7 +38,12 @@ returns c =
     let put = length_put a k c.deref_mut.result.now header long (rw same_bytes (omega (arith, at, room, start_within))) in
     let wrote : (with_items c.self.inside.bytes (put_mid a k c.deref_mut.result.now header)).items ≡ put_mid a k c.deref_mut.result.now header =
     with_items_is c.self.inside.bytes _ (put ∙ ap length same_bytes ∙ len) in
-    ap (λ (l : List (List ℕ)). record { packets = l; headroom = h })
-    (ap (λ (b : List ℕ). packets_from h 0 b ends) wrote ∙ ap (λ (b : List ℕ). packets_from h 0 (put_mid a k b header) ends) same_bytes
-    ∙ packets_headed h 0 bytes ends header a k c.args.place c.self.invariant.in_order place (omega (arith, at, room)) (omega (arith, at, room)) long within)
-    ∙ c.self.view_is
+    let copied : header ≡ c.args.header.now = search rules in
+    let last = c.self.invariant.to_the_end in
+    let packets = packets_headed h 0 bytes ends header a k c.args.place c.self.invariant.in_order place (omega (arith, at, room)) (omega (arith, at, room)) long within in
+    let headrooms = headrooms_headed h 0 bytes ends header a k c.args.place c.self.invariant.in_order place (omega (arith, at, room)) (omega (arith, at, room)) long (omega (arith, last)) in
+    ap (λ (b : List ℕ). buffer_of h b ends) wrote ∙ ap (λ (b : List ℕ). buffer_of h (put_mid a k b header) ends) same_bytes
+    ∙ ap (λ (l : List (List ℕ)). record { packets = l; headrooms = headrooms_from h 0 (put_mid a k bytes header) ends; headroom = h }) packets
+    ∙ ap (λ (l : List (List ℕ)). record { packets = packets_from h 0 bytes ends; headrooms = l; headroom = h }) headrooms
+    ∙ ap (λ (b : PacketBufferView). record b { headrooms = headed_at c.args.place header b.headrooms }) c.self.view_is
+    ∙ ap (λ (l : List ℕ). record c.args.self.now { headrooms = headed_at c.args.place l c.args.self.now.headrooms }) copied
