@@ -43,6 +43,7 @@ pub(crate) struct OpenUnit {
 
 impl OpenUnit {
     /// One to which no packet came yet, in memory that was another's.
+    #[inline]
     pub(crate) fn new(memory: Vec<u8>, timestamp: u32) -> Self
         ensures unit { open_unit_value result ≡ empty_unit timestamp }
         ensures run { result.text.run ≡ None }
@@ -99,6 +100,7 @@ impl OpenUnit {
     }
 
     /// The access unit, known to be whole only if this holds too. A run that is open goes.
+    #[inline]
     fn end(self, holds: bool) -> AccessUnit
         ensures { access_unit_value result ≡ whole_if holds (open_unit_value self) }
     {
@@ -120,11 +122,14 @@ pub struct OpenAccessUnit {
 }
 
 impl Model for OpenAccessUnit {
+    ghost use Rattle.std.specs.Prelude.{◌≡◌, true, None, is_some};
     ghost use Rattle.h26x_frames.specs.AccessUnit.{OpenUnitView, open_unit_view};
 
     ghost Value = { OpenUnitView };
 
     ghost view = { λ a. open_unit_view a.unit a.left };
+
+    ghost invariant = { λ a. is_some a.unit ≡ true → a.left ≡ None };
 }
 
 impl OpenAccessUnit {
@@ -166,6 +171,7 @@ impl OpenAccessUnit {
     }
 
     /// Gives up its text where that has more bytes than this, and gives its memory back.
+    #[inline]
     pub(crate) fn limit(&mut self, most: usize)
         ensures { self.new ≡ record self.old { unit = unit_within most self.old.unit } }
     {
@@ -252,7 +258,7 @@ impl OpenAccessUnit {
                     self.unit = Some(unit);
                     return received;
                 }
-                self.left = unit.text.take_run();
+                unit.text.move_run(&mut self.left);
                 out.push(unit.end(true)).unwrap();
                 received
             }
@@ -260,7 +266,9 @@ impl OpenAccessUnit {
         }
     }
 
-    /// Puts one in its place, or appends it where it has ended: then its run stands aside.
+    /// Puts one in its place, where none is open, or appends it where it has ended: then its run stands
+    /// aside.
+    #[inline]
     pub(crate) fn put(
         &mut self,
         mut unit: OpenUnit,
@@ -268,6 +276,7 @@ impl OpenAccessUnit {
         is_over: bool,
         out: &mut Vec<AccessUnit>,
     )
+        requires none { self.old ≡ none_open }
         requires room { vec_len out.old + 1 ≤ vec_capacity out.old }
         requires aside { is_over ≡ true → unit.text.inside ≡ None }
         ensures unit { self.new.unit ≡ (if is_over then None
@@ -277,8 +286,7 @@ impl OpenAccessUnit {
             ++ (if is_over then whole_if is_sound (open_unit_value unit) ∷ [] else []) }
     {
         if is_over {
-            self.unit = None;
-            self.left = unit.text.take_run();
+            unit.text.move_run(&mut self.left);
             out.push(unit.end(is_sound)).unwrap();
         } else {
             unit.is_whole = unit.is_whole && is_sound;
@@ -287,6 +295,7 @@ impl OpenAccessUnit {
     }
 
     /// Appends it, if one is open, and gives up the run.
+    #[inline]
     pub(crate) fn end(&mut self, follows: bool, out: &mut Vec<AccessUnit>)
         requires { vec_len out.old + 1 ≤ vec_capacity out.old }
         ensures none { self.new ≡ none_open }

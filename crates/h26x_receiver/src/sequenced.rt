@@ -121,6 +121,7 @@ fn limit_run<D: RunDepacketizer>(depacketizer: &mut D, most: usize) -> bool
 }
 
 /// Gives up the run of a text that holds more bytes than this, and tells whether it did.
+#[inline]
 fn limit_run_in_text(text: &mut OpenText, most: usize) -> bool
     ensures long { result ≡ nat_lt most (run_len text.old.run) }
     ensures limited { text.new.run ≡ run_within most text.old.run }

@@ -52,6 +52,7 @@ impl Model for OpenText {
 
 impl OpenText {
     /// An empty text without a run, in memory that was another's: what stands there goes.
+    #[inline]
     pub fn new(mut memory: Vec<u8>) -> Self
         ensures text { result.text ≡ [] }
         ensures run { result.run ≡ None }
@@ -280,19 +281,23 @@ impl OpenText {
         }
     }
 
-    /// Takes out a run that is not inside, or none.
-    pub fn take_run(&mut self) -> OpenRun
-        requires { self.old.inside ≡ None }
-        ensures run { result ≡ self.old.run }
+    /// Moves a run that is not inside, or none, to where none is.
+    #[inline]
+    pub fn move_run(&mut self, to: &mut OpenRun)
+        requires aside { self.old.inside ≡ None }
+        requires none { to.old ≡ None }
+        ensures moved { to.new ≡ self.old.run }
         ensures text { self.new.text ≡ self.old.text }
-        ensures none { self.new.run ≡ None }
+        ensures run { self.new.run ≡ None }
         ensures inside { self.new.inside ≡ None }
     {
-        let alloc = *self.bytes.allocator();
-        mem::replace(&mut self.aside, OpenRun::none(alloc))
+        if self.aside.is_open() {
+            mem::swap(&mut self.aside, to);
+        }
     }
 
     /// The text alone: an open run goes.
+    #[inline]
     pub fn into_text(mut self) -> Vec<u8>
         ensures { result.items ≡ self.text }
     {

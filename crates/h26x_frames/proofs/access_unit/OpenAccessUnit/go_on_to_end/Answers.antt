@@ -24,8 +24,8 @@ returns-clause-after g c = λ taken.
     let pushed : c.push.new.self.items ≡ c.args.out.now.items ++ c.end.result ∷ [] = search rules in
     let items : map access_unit_value c.push.new.self.items ≡ ended ++ open_unit_value left ∷ [] =
     ap (map access_unit_value) pushed ∙ map-append access_unit_value c.args.out.now.items (c.end.result ∷ []) ∙ ap (λ (v : AccessUnitValue). ended ++ v ∷ []) value in
-    let run : c.take_run.result ≡ left.text.run = c.take_run.ensures.run in
-    rw none (same_open (state new.depacketizer) new.expected (open_unit_view None c.take_run.result) left.text.run None _ (ended ++ open_unit_value left ∷ []) run refl items)
+    let run : c.move_run.new.to ≡ left.text.run = c.move_run.ensures.moved in
+    rw none (same_open (state new.depacketizer) new.expected (open_unit_view None c.move_run.new.to) left.text.run None _ (ended ++ open_unit_value left ∷ []) run refl items)
     ∙ ends_taken old.run_limit (state_with_run (state old.depacketizer) unit.text.run) (state_with_run (state new.depacketizer) left.text.run) old.expected new.expected (open_unit_value unit) (open_unit_value left) ended p
     c.requires.marker at (heard.ensures.after taken)
     ∙ ap (λ (it : OpenUnitView). after_taken_rtp old.run_limit (open_depacketization (state old.depacketizer) old.expected it ended) p) view
