@@ -10,6 +10,13 @@ use library as proved;
 use std::collections::HashMap;
 use std::fmt::{Debug, Write};
 
+/// The profile, the tier and the level of what may be there: what has them is shown by other names.
+macro_rules! parts {
+    ($it:expr) => {
+        $it.map(|it| (it.profile(), it.tier(), it.level()))
+    };
+}
+
 /// What calls answered.
 #[derive(Debug, Default, PartialEq, Eq)]
 pub struct Log {
@@ -317,13 +324,13 @@ macro_rules! program {
                         let it = H264ProfileLevel::try_from(id).map(|it| (it.profile(), it.level()));
                         log.say("h264", it);
                         let numbers = (m.random.of(&[1, 2, 17, 33, 65]), m.random.of(&[0, 1, 2]), m.random.byte());
-                        log.say("h265", H265ProfileTierLevel::from(numbers));
-                        log.say("h266", H266ProfileTierLevel::from(numbers));
+                        log.say("h265", parts!(Some(H265ProfileTierLevel::from(numbers))));
+                        log.say("h266", parts!(Some(H266ProfileTierLevel::from(numbers))));
                         let text = m.random.of(&["1", "+1", "01", "300", "", " 1", "-0"]).to_string();
                         let params = [("profile-id", "1".to_string()), ("tier-flag", text), ("level-id", numbers.2.to_string())];
                         let params: HashMap<String, String> = params.map(|(name, it)| (name.to_string(), it)).into();
-                        log.say("fmtp", H265ProfileTierLevel::from_fmtp(&params));
-                        log.say("fmtp", H266ProfileTierLevel::from_fmtp(&params));
+                        log.say("fmtp", parts!(H265ProfileTierLevel::from_fmtp(&params)));
+                        log.say("fmtp", parts!(H266ProfileTierLevel::from_fmtp(&params)));
                         let len = m.random.below(100_000);
                         let most = receives.out_size_hint(usize::MAX) == Some(usize::MAX);
                         log.say("hint", (receives.out_size_hint(len), most));
@@ -340,13 +347,6 @@ macro_rules! program {
 program!(our_run, plain);
 program!(library_run, proved);
 
-/// The profile, the tier and the level of what may be there, as they are shown.
-macro_rules! parts {
-    ($it:expr) => {
-        $it.map(|it| format!("{:?}", (it.profile(), it.tier(), it.level())))
-    };
-}
-
 /// All numbers of profiles, tiers and levels, and all that two bytes can be.
 pub fn numbers() {
     for id in 0..1 << 24 {
@@ -361,10 +361,16 @@ pub fn numbers() {
         for flag in [0, 1, 2, 255] {
             let ours = plain::H265ProfileTierLevel::new(a, flag, b);
             let theirs = proved::H265ProfileTierLevel::new(a, flag, b);
-            assert_eq!(parts!(ours), parts!(theirs));
+            assert_eq!(
+                format!("{:?}", parts!(ours)),
+                format!("{:?}", parts!(theirs))
+            );
             let ours = plain::H266ProfileTierLevel::new(a, flag, b);
             let theirs = proved::H266ProfileTierLevel::new(a, flag, b);
-            assert_eq!(parts!(ours), parts!(theirs));
+            assert_eq!(
+                format!("{:?}", parts!(ours)),
+                format!("{:?}", parts!(theirs))
+            );
         }
     }
 }
