@@ -11,12 +11,17 @@ pub trait Taking: Depacketizer + Clone + PartialEq + Default {
     const CODEC: Codec;
 
     fn set_avc(&mut self, value: bool);
-    fn set_donl(&mut self, value: bool);
+
+    /// Of H.264 it does nothing.
+    fn set_donl(&mut self, _value: bool) {}
+
     fn run(&self) -> usize;
     fn give_up(&mut self);
 
     /// The packet that is shown, of H.265.
-    fn shown(&self) -> Option<&H265Payload>;
+    fn shown(&self) -> Option<&H265Payload> {
+        None
+    }
 
     /// Whether a packet is known to hold or to begin a unit of a keyframe.
     fn detects(packet: &[u8]) -> bool;
@@ -34,8 +39,8 @@ pub trait Taking: Depacketizer + Clone + PartialEq + Default {
 pub trait Sending: Packetizer + Clone + Default {
     const CODEC: Codec;
 
-    fn set_donl(&mut self, value: bool);
-    fn set_max_size(&mut self, bytes: u16);
+    fn set_donl(&mut self, _value: bool) {}
+    fn set_max_size(&mut self, _bytes: u16) {}
     fn make_into(
         &mut self,
         mtu: usize,
@@ -51,20 +56,31 @@ pub trait Sending: Packetizer + Clone + Default {
     ) -> Result<(), PacketError>;
 }
 
+/// What an end of H.265 or H.266 has beside the other calls.
+macro_rules! numbered {
+    (taking) => {
+        fn set_donl(&mut self, value: bool) {
+            self.with_donl(value);
+        }
+    };
+    (sending) => {
+        fn set_donl(&mut self, value: bool) {
+            self.with_donl(value);
+        }
+
+        fn set_max_size(&mut self, bytes: u16) {
+            self.with_max_packet_size(bytes);
+        }
+    };
+}
+
 macro_rules! ends {
-    ($codec:expr, $depacketizer:ident, $packetizer:ident, $detects:ident,
-     |$end:ident, $value:ident| $set:expr, |$shows:ident| $shown:expr,
-     |$sends:ident, $donl:ident| $number:expr, |$sized:ident, $bytes:ident| $size:expr) => {
+    ($codec:expr, $depacketizer:ident { $($taking:tt)* }, $packetizer:ident { $($sending:tt)* }, $detects:ident) => {
         impl Taking for $depacketizer {
             const CODEC: Codec = $codec;
 
             fn set_avc(&mut self, value: bool) {
                 self.is_avc = value;
-            }
-
-            fn set_donl(&mut self, value: bool) {
-                let ($end, $value) = (self, value);
-                $set;
             }
 
             fn run(&self) -> usize {
@@ -75,28 +91,15 @@ macro_rules! ends {
                 self.give_up_run();
             }
 
-            fn shown(&self) -> Option<&H265Payload> {
-                let $shows = self;
-                $shown
-            }
-
             fn detects(packet: &[u8]) -> bool {
                 $detects(packet)
             }
+
+            $($taking)*
         }
 
         impl Sending for $packetizer {
             const CODEC: Codec = $codec;
-
-            fn set_donl(&mut self, value: bool) {
-                let ($sends, $donl) = (self, value);
-                $number;
-            }
-
-            fn set_max_size(&mut self, bytes: u16) {
-                let ($sized, $bytes) = (self, bytes);
-                $size;
-            }
 
             fn make_into(
                 &mut self,
@@ -119,37 +122,39 @@ macro_rules! ends {
             ) -> Result<(), PacketError> {
                 self.packetize_unit_into(mtu, unit, packets)
             }
+
+            $($sending)*
         }
     };
 }
 
 ends!(
     Codec::H264,
-    H264Depacketizer,
-    H264Packetizer,
-    detect_h264_keyframe,
-    |_end, _value| (),
-    |_it| None,
-    |_end, _value| (),
-    |_end, _bytes| ()
+    H264Depacketizer {},
+    H264Packetizer {},
+    detect_h264_keyframe
 );
 ends!(
     Codec::H265,
-    H265Depacketizer,
-    H265Packetizer,
-    detect_h265_keyframe,
-    |end, value| end.with_donl(value),
-    |it| Some(it.payload()),
-    |end, value| end.with_donl(value),
-    |end, bytes| end.with_max_packet_size(bytes)
+    H265Depacketizer {
+        numbered!(taking);
+
+        fn shown(&self) -> Option<&H265Payload> {
+            Some(self.payload())
+        }
+    },
+    H265Packetizer {
+        numbered!(sending);
+    },
+    detect_h265_keyframe
 );
 ends!(
     Codec::H266,
-    H266Depacketizer,
-    H266Packetizer,
-    detect_h266_keyframe,
-    |end, value| end.with_donl(value),
-    |_it| None,
-    |end, value| end.with_donl(value),
-    |end, bytes| end.with_max_packet_size(bytes)
+    H266Depacketizer {
+        numbered!(taking);
+    },
+    H266Packetizer {
+        numbered!(sending);
+    },
+    detect_h266_keyframe
 );

@@ -199,11 +199,8 @@ pub fn check_lengths(mut input: Input) {
         0
     };
     assert!(zeros.len() <= most && without_zeros(zeros).is_empty());
-    if refusal.is_some() {
-        assert_eq!(
-            reader.read(&mut room).map_err(|it| it.kind()),
-            Err(refusal.unwrap()),
-            "it stays"
-        );
+    if let Some(kind) = refusal {
+        let again = reader.read(&mut room).map_err(|it| it.kind());
+        assert_eq!(again, Err(kind), "it stays");
     }
 }
