@@ -6,6 +6,7 @@ use h26x_codec::Codec;
 use h26x_core::{CodecExtra, Depacketizer, PacketError};
 use h26x_handles::receiving::ReceivingEndpoint;
 use h26x_handles::sending::SendingEndpoint;
+use h26x_handles::sequenced::SequencedEndpoint;
 use h26x_receiver::{RunDepacketizer, SequencedDepacketizer};
 use h264_payload::H264Depacketizer;
 use h265_payload::H265Depacketizer;
@@ -87,6 +88,50 @@ fn aggregates_of_h265_between_others_into_kept_buffers(rt: HostRuntime) {
     );
 }
 
+/// Takes a packet twice, and where that was accepted once more: what is kept since doesn't do.
+fn take_with_new_memory<D: Depacketizer + Drop>(
+    it: &mut Receiver<D>,
+    packet: &[u8],
+) -> Result<(), PacketError> {
+    if accepts(it, &[packet]) && accepts(it, &[packet]) && !accepts(it, &[packet]) {
+        return Err(PacketError::OutOfMemory);
+    }
+    Ok(())
+}
+
+/// Two units of three bytes and one of 1600: too long to be kept.
+#[test]
+fn an_aggregate_with_a_long_unit_at_once(rt: HostRuntime) -> Result<(), PacketError> {
+    let mut it = Receiver::new(rt.alloc(), H265Depacketizer::new(rt.alloc()));
+    let mut packet = [7; 1614];
+    packet[..14].copy_from_slice(&[0x60, 1, 0, 3, 2, 1, 7, 0, 3, 2, 1, 7, 6, 0x40]);
+    take_with_new_memory(&mut it, &packet)
+}
+
+/// Forty units of three bytes: more than are kept.
+#[test]
+fn an_aggregate_of_many_units_at_once(rt: HostRuntime) -> Result<(), PacketError> {
+    let mut it = Receiver::new(rt.alloc(), H265Depacketizer::new(rt.alloc()));
+    let mut packet = [0; 202];
+    packet[..2].copy_from_slice(&[0x60, 1]);
+    for unit in 0..40 {
+        packet[3 + unit * 5] = 3;
+    }
+    take_with_new_memory(&mut it, &packet)
+}
+
+/// An aggregate behind a run that is given up, with which the memory of those before it goes.
+#[test]
+fn an_aggregate_behind_a_run_given_up_at_once(rt: HostRuntime) -> Result<(), PacketError> {
+    let mut it = Receiver::new(rt.alloc(), H265Depacketizer::new(rt.alloc()));
+    if accepts(&mut it, &[&THREE]) && accepts(&mut it, &[&THREE]) {
+        it.depacketizer.give_up_run();
+        it.out.clear();
+        return it.take_once(&THREE);
+    }
+    Ok(())
+}
+
 #[test]
 fn fragments_of_h266_into_kept_buffers(rt: HostRuntime) {
     let it = Receiver::new(rt.alloc(), H266Depacketizer::new(rt.alloc()));
@@ -118,6 +163,26 @@ fn units_with_room_that_take_no_memory(rt: HostRuntime) {
     let (mut to, mut written) = ([0; 64], 0);
     let answer = it.depacketize(false, &UNIT, &mut to, &mut written, &mut CodecExtra::None);
     assert!(rt; answer.is_ok() && written == 64 && to[4] == 0x61);
+}
+
+/// The start of a unit, with room for all that it could complete: memory for its run is all that can
+/// lack, and the packet isn't taken once more, as one for which there is no room.
+#[test]
+fn a_start_with_room_at_once(rt: HostRuntime) -> Result<(), PacketError> {
+    let mut it = ReceivingEndpoint::new(rt.alloc(), Codec::H264, false);
+    let start = fragment(&[0x7c, 0x85, 1], 9);
+    let mut to = [0; 64];
+    it.depacketize(false, &start, &mut to, &mut 0, &mut CodecExtra::None)
+}
+
+/// The same of a packet with its sequence number.
+#[test]
+fn a_numbered_start_with_room_at_once(rt: HostRuntime) -> Result<(), PacketError> {
+    let mut it = SequencedEndpoint::new(rt.alloc(), Codec::H264, false, false, 1000);
+    let start = fragment(&[0x7c, 0x85, 1], 9);
+    let mut to = [0; 64];
+    it.receive(7, &start, &mut to, &mut 0, &mut CodecExtra::None)?;
+    Ok(())
 }
 
 #[test]

@@ -5,6 +5,7 @@ ghost use Rattle.std.specs.List.{between};
 ghost use Rattle.h26x_payload.specs.Buffer.{IsBuffer, HoldPackets, HoldHeadrooms, ends_of, last_end, packets_from, headrooms_from, first_packets, with_packets, headed_at};
 ghost use Rattle.h26x_payload.specs.Sending.{body_bytes, contents};
 
+mod cases;
 mod loan;
 
 use crate::send::body::Body;

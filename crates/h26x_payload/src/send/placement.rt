@@ -69,7 +69,7 @@ pub(crate) fn place(
     ensures { IsPlacement headroom packets.now to.old to.new ends.old ends.new result }
 {
     let size = size_of(packets, headroom);
-    if size.bytes == usize::MAX || size.bytes > to.len() || size.packets > ends.len() {
+    if size.bytes > to.len() || size.packets > ends.len() {
         return Placement::NoRoom(size);
     }
     lay(packets, headroom, to, ends);
