@@ -22,7 +22,7 @@ from .tree import (Function, Refused, Token, add_use, after, at, bare, bare_word
 
 RENAMED = {("H265AggregationPacket", "nal_units"): "try_nal_units"}
 # Words of Rattle that no output may have, and of a Rust that isn't stable.
-RATTLE = {"ghost", "requires", "ensures", "prove", "prove_eq", "prove_ne", "Model", "Global", "AllocFailed",
+RATTLE = {"ghost", "requires", "ensures", "prove", "prove_eq", "prove_ne", "Model", "Global",
           "HostRuntime", "allocator", "thiserror", "simd"}
 # What std's prelude has and core's has not.
 PRELUDE = {"Vec": "vec::Vec", "Box": "boxed::Box", "String": "string::String"}

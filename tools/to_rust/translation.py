@@ -79,7 +79,7 @@ class Translation:
     def file(self, crate, place, items):
         # What only contracts and laws named is not imported.
         unnamed = crate.words[place] - words_of(items)
-        gone = self.laws | unnamed | {"Model", "Global", "AllocFailed", "Serialize", "Deserialize", "Error"}
+        gone = self.laws | unnamed | {"Model", "Global", "Serialize", "Deserialize", "Error"}
         items = laws.erase_uses(items, gone, crate.gone | self.without)
         items = idiom.mark_unread(self.owed.lower_uses(items))
         fallible = memory.Fallible(items)

@@ -24,8 +24,9 @@ ADDED = {
     "PacketError": "Hash", "Received": "Hash", "Pushed": "Hash",
     "H264Profile": STORED, "H264ProfileIdc": STORED, "H264LevelIdc": STORED, "H264ProfileLevel": STORED,
     "RtpPacket": "Clone Copy PartialEq Eq Hash", "HeldPacket": "Clone PartialEq Eq Hash",
-    "AccessUnit": "Clone PartialEq Eq Hash", "OpenAccessUnit": "Clone PartialEq Eq", "ReorderBuffer": "Clone",
-    "NumberOrder": "Clone", "Parted": "Clone",
+    "AccessUnit": "Clone PartialEq Eq Hash", "OpenAccessUnit": "Clone PartialEq Eq", "OpenUnit": "Clone PartialEq Eq",
+    "OpenText": "Clone", "OpenRun": "Clone", "ReorderBuffer": "Clone", "NumberOrder": "Clone", "Parted": "Clone",
+    "NotHeld": "Clone PartialEq Eq Hash", "NotHeldReason": "Hash",
 }
 GROWING = {"CodecExtra"}
 

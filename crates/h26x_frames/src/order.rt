@@ -115,7 +115,7 @@ impl<T: Numbered> NumberOrder<T> {
 
     /// The number that is due once a packet comes, and the place where that packet is put; or what
     /// is answered for one that isn't held.
-    #[inline]
+    #[inline(always)]
     pub(crate) fn place_of(&self, sequence: u16) -> Result<(u16, usize), Pushed>
         ensures held { IfOk result (λ at. IsPlaceOf self.now sequence at.0 at.1) }
         ensures answer { IfOk result (λ _. push_answer self.now sequence ≡ Pushed.Held) }
@@ -136,7 +136,7 @@ impl<T: Numbered> NumberOrder<T> {
     }
 
     /// Puts a packet at its place. Without memory all stays as it was, and the packet comes back.
-    #[inline]
+    #[inline(always)]
     pub(crate) fn put(&mut self, due: u16, place: usize, packet: T) -> Result<(), AllocFailed<T>>
         requires { IsPlaceOf self.old (T.numbered packet).0 due place }
         ensures after { OnOk result (self.new ≡ after_push self.old (T.numbered packet)) }

@@ -1,12 +1,15 @@
 //! Access units from packets that a network loses, repeats and reorders.
 
 use crate::proved::h26x_frames::FrameReceiver as Frames;
-use crate::proved::h26x_receiver::{AnyDepacketizer, RunDepacketizer, SequencedDepacketizer};
+use crate::proved::h26x_payload::OpenText;
+use crate::proved::h26x_receiver::{AnyDepacketizer, SequencedDepacketizer};
 use crate::sequenced::{are_same, copied};
 use crate::{
-    AccessUnit, Codec, H265Payload, PacketError, Pushed, Received, ReorderBuffer, RtpPacket,
+    AccessUnit, Codec, H265Payload, NotHeld, NotHeldReason, PacketError, Pushed, Received, ReorderBuffer,
+    RtpPacket,
 };
 use alloc::vec::Vec;
+use core::fmt;
 
 impl ReorderBuffer {
     /// Takes a packet, and copies it. Without memory the buffer stays as it was, and the packet can be
@@ -15,6 +18,27 @@ impl ReorderBuffer {
         Ok(self.try_push(packet)?)
     }
 }
+
+impl fmt::Display for NotHeld {
+    fn fmt(&self, f: &mut fmt::Formatter<'_>) -> fmt::Result {
+        match self.reason {
+            NotHeldReason::Late(behind) => write!(f, "the packet is {behind} behind the one that is due"),
+            NotHeldReason::Twice => f.write_str("a packet with its number is held"),
+            NotHeldReason::OutOfMemory => f.write_str("out of memory"),
+        }
+    }
+}
+
+impl core::error::Error for NotHeld {}
+
+/// Where the run stands makes no difference.
+impl PartialEq for OpenText {
+    fn eq(&self, other: &Self) -> bool {
+        self.text() == other.text() && self.run() == other.run()
+    }
+}
+
+impl Eq for OpenText {}
 
 /// A receiver of any codec that gives out access units, by the timestamps and markers of their packets
 /// (RFC 6184, 5.1; RFC 7798, 4.1; RFC 9328, 4.1), and tells of each whether it is known to be whole.
@@ -125,9 +149,15 @@ impl FrameReceiver {
         self.inner.restart();
     }
 
+    /// Takes an access unit's memory back, for a later one: of those that are given back the largest of at
+    /// most `unit_limit` bytes is kept.
+    pub fn give_back(&mut self, unit: AccessUnit) {
+        self.inner.give_back(unit);
+    }
+
     /// How many bytes of data the open unit holds.
     pub fn run_len(&self) -> usize {
-        self.inner.packets.depacketizer.run_len()
+        self.inner.unit.run_len()
     }
 
     /// How many bytes the open access unit holds.

@@ -17,6 +17,20 @@ impl From<TryReserveError> for AllocError {
     }
 }
 
+/// There was no memory for a value, which comes back.
+#[derive(Debug)]
+pub struct AllocFailed<T> {
+    /// The value.
+    pub value: T,
+}
+
+impl<T> From<AllocFailed<T>> for AllocError {
+    #[inline]
+    fn from(_: AllocFailed<T>) -> Self {
+        AllocError
+    }
+}
+
 impl From<TryReserveError> for crate::PacketError {
     #[inline]
     fn from(_: TryReserveError) -> Self {
@@ -135,10 +149,10 @@ impl<T: Copy> TrySlice<T> for [T] {
 /// The calls of `VecDeque` that want memory.
 pub trait TryDeque<T> {
     /// Puts an item behind the others.
-    fn try_push_back(&mut self, item: T) -> Result<(), AllocError>;
+    fn try_push_back(&mut self, item: T) -> Result<(), AllocFailed<T>>;
 
     /// Puts an item at a place.
-    fn try_insert(&mut self, place: usize, item: T) -> Result<(), AllocError>;
+    fn try_insert(&mut self, place: usize, item: T) -> Result<(), AllocFailed<T>>;
 
     /// Moves the items of another queue to the end of this one.
     fn try_append(&mut self, other: &mut VecDeque<T>) -> Result<(), AllocError>;
@@ -146,15 +160,19 @@ pub trait TryDeque<T> {
 
 impl<T> TryDeque<T> for VecDeque<T> {
     #[inline]
-    fn try_push_back(&mut self, item: T) -> Result<(), AllocError> {
-        self.try_reserve(1)?;
+    fn try_push_back(&mut self, item: T) -> Result<(), AllocFailed<T>> {
+        if self.try_reserve(1).is_err() {
+            return Err(AllocFailed { value: item });
+        }
         self.push_back(item);
         Ok(())
     }
 
     #[inline]
-    fn try_insert(&mut self, place: usize, item: T) -> Result<(), AllocError> {
-        self.try_reserve(1)?;
+    fn try_insert(&mut self, place: usize, item: T) -> Result<(), AllocFailed<T>> {
+        if self.try_reserve(1).is_err() {
+            return Err(AllocFailed { value: item });
+        }
         self.insert(place, item);
         Ok(())
     }

@@ -69,6 +69,26 @@ impl OpenText {
         }
     }
 
+    /// The text.
+    pub fn text(&self) -> &[u8]
+        ensures { result.now ≡ self.now.text }
+    {
+        &self.bytes[..self.len()]
+    }
+
+    /// The data of the open run, if there is one.
+    pub fn run(&self) -> Option<&[u8]>
+        ensures { option_map (λ run. run.now) result ≡ self.now.run }
+    {
+        if self.is_inside {
+            Some(&self.bytes[self.from..])
+        } else if self.aside.is_open() {
+            Some(self.aside.bytes())
+        } else {
+            None
+        }
+    }
+
     /// How many bytes the text has.
     #[inline]
     pub fn len(&self) -> usize
