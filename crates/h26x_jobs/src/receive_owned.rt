@@ -121,17 +121,41 @@ fn receive_by_codec(
     match setting.codec {
         Codec::H264 => {
             let depacketizer = PayloadDepacketizer::<H264>::new(alloc);
-            receive_each(alloc, depacketizer, window, packets, order, memories, digest)
+            receive_each(
+                alloc,
+                depacketizer,
+                window,
+                packets,
+                order,
+                memories,
+                digest,
+            )
         }
         Codec::H265 => {
             let mut depacketizer = PayloadDepacketizer::<H265>::new(alloc);
             depacketizer.with_donl(setting.has_donl);
-            receive_each(alloc, depacketizer, window, packets, order, memories, digest)
+            receive_each(
+                alloc,
+                depacketizer,
+                window,
+                packets,
+                order,
+                memories,
+                digest,
+            )
         }
         Codec::H266 => {
             let mut depacketizer = PayloadDepacketizer::<H266>::new(alloc);
             depacketizer.with_donl(setting.has_donl);
-            receive_each(alloc, depacketizer, window, packets, order, memories, digest)
+            receive_each(
+                alloc,
+                depacketizer,
+                window,
+                packets,
+                order,
+                memories,
+                digest,
+            )
         }
     }
 }
@@ -165,11 +189,25 @@ pub fn run(alloc: Global, work: Work) -> Result<Digest, PacketError> {
     for setting in &SETTINGS {
         let stream = pictures(alloc, &mut draws, *setting, work.pictures)?;
         let packets = packets_of(alloc, *setting, &stream)?;
-        receive_setting(alloc, work.rounds, *setting, &packets, &mut draws, &mut digest)?;
+        receive_setting(
+            alloc,
+            work.rounds,
+            *setting,
+            &packets,
+            &mut draws,
+            &mut digest,
+        )?;
         let count = work.pictures.saturating_mul(40);
         let stream = small_pictures(alloc, &mut draws, *setting, count)?;
         let packets = packets_of(alloc, *setting, &stream)?;
-        receive_setting(alloc, work.rounds, *setting, &packets, &mut draws, &mut digest)?;
+        receive_setting(
+            alloc,
+            work.rounds,
+            *setting,
+            &packets,
+            &mut draws,
+            &mut digest,
+        )?;
     }
     Ok(digest)
 }

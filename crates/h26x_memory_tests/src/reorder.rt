@@ -151,9 +151,7 @@ fn push_held(
 ) -> Option<Vec<u8>> {
     let (count, sequence) = (buffer.len(), packet.sequence);
     let pushed = match buffer.push_held(packet) {
-        Err(not_held)
-            if tries == Tries::Twice && not_held.reason == NotHeldReason::OutOfMemory =>
-        {
+        Err(not_held) if tries == Tries::Twice && not_held.reason == NotHeldReason::OutOfMemory => {
             assert!(rt; buffer.len() == count && not_held.packet.sequence == sequence);
             buffer.push_held(not_held.packet)
         }

@@ -157,7 +157,15 @@ impl<C: PacketReader> PayloadDepacketizer<C> {
         ensures kept_extra { OnErr result (codec_extra.new ≡ codec_extra.old) }
     {
         let parts = self.codec.read(packet)?;
-        take_in_text(self.codec, self.is_avc, rule, packet, parts, text, codec_extra)
+        take_in_text(
+            self.codec,
+            self.is_avc,
+            rule,
+            packet,
+            parts,
+            text,
+            codec_extra,
+        )
     }
 }
 

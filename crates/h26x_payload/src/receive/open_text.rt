@@ -94,7 +94,11 @@ impl OpenText {
     pub fn len(&self) -> usize
         ensures { result ≡ length self.now.text }
     {
-        if self.is_inside { self.at } else { self.bytes.len() }
+        if self.is_inside {
+            self.at
+        } else {
+            self.bytes.len()
+        }
     }
 
     /// How many bytes the open run holds; none where none is open.
@@ -158,7 +162,9 @@ impl OpenText {
         self.bytes.reserve(size.saturating_add(body.len()))?;
         let at = self.len();
         self.bytes.truncate(at);
-        self.bytes.extend_from_slice(&ANNEXB_NALUSTART_CODE).unwrap();
+        self.bytes
+            .extend_from_slice(&ANNEXB_NALUSTART_CODE)
+            .unwrap();
         self.bytes.extend_from_slice(head).unwrap();
         self.from = self.bytes.len();
         self.bytes.extend_from_slice(body).unwrap();

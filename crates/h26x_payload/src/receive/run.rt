@@ -79,7 +79,11 @@ impl OpenRun {
     pub fn open_len(&self) -> Option<usize>
         ensures { result ≡ option_map length self.now }
     {
-        if self.is_open { Some(self.bytes.len()) } else { None }
+        if self.is_open {
+            Some(self.bytes.len())
+        } else {
+            None
+        }
     }
 
     /// Adds these data to the open run.

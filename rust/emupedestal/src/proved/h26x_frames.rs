@@ -12,9 +12,10 @@ mod packet;
 mod parted;
 mod receiver;
 mod reorder;
+mod spare;
 
 pub use access_unit::{AccessUnit, OpenAccessUnit};
-pub use buffer::{HeldPacket, Pushed, ReorderBuffer};
+pub use buffer::{HeldPacket, NotHeld, NotHeldReason, Pushed, ReorderBuffer};
 pub use frames::receive_frames;
 pub use packet::RtpPacket;
 pub use receiver::FrameReceiver;

@@ -18,7 +18,7 @@ fn unit_header(indicator: u8, header: u8) -> u8 {
 
 impl PacketReader for H264 {
     // Types 1 to 23 are units, 24 a STAP-A, 28 an FU-A, and no other is handled.
-    #[inline]
+    #[inline(always)]
     fn read(self, packet: &[u8]) -> Result<Parts<'_>, PacketError> {
         if packet.is_empty() {
             return Err(PacketError::ErrShortPacket);

@@ -4,8 +4,8 @@
 
 use crate::proved::h26x_core::{CodecExtra, Depacketizer, PacketError};
 use crate::proved::h26x_payload::{
-    DonlFormat, OpenRun, PacketReader, PayloadFormat, UnitSink, check_lengths, out_size_hint,
-    take_packet,
+    DonlFormat, OpenRun, OpenText, PacketReader, PayloadFormat, RunRule, UnitSink, check_lengths,
+    out_size_hint, take_in_text, take_packet,
 };
 use crate::proved::h265_packets::H265Payload;
 use crate::proved::h265_payload::packetizer::H265;
@@ -62,13 +62,15 @@ impl H265Depacketizer {
         mem::swap(&mut self.run, run);
     }
 
-    /// Gives up the open run, if there is one, and gives its buffer back. It takes no memory.
+    /// Gives up the open run, if there is one, and gives its buffer back, and the memory that is kept
+    /// for what `payload` will show. It takes no memory.
     ///
     /// A run grows by every fragment until one ends it, and its buffer is kept for later runs: a
     /// caller that will not hold so much asks `run_len` and calls this. Fragments that follow
     /// without a start are accepted and complete nothing.
     pub fn give_up_run(&mut self) {
         self.run.give_up();
+        self.spare.free();
     }
 
     /// The packet that was accepted last; before any, the empty single NAL unit packet.
@@ -89,10 +91,32 @@ impl H265Depacketizer {
         let codec = self.codec;
         let parts = codec.read(packet)?;
         let is_avc = self.is_avc;
-        check_lengths(codec, is_avc, packet, parts, &self.run)?;
+        check_lengths(codec, is_avc, packet, parts, self.run.open_len())?;
         prepare(codec.has_donl, packet, parts, &mut self.spare)?;
         let run = &mut self.run;
         take_packet(codec, is_avc, packet, parts, run, out, codec_extra)?;
+        let (payload, spare) = (&mut self.payload, &mut self.spare);
+        show(codec.has_donl, packet, parts, payload, spare);
+        Ok(())
+    }
+
+    /// Takes a packet as `depacketize_into` does, where the run that is open stands in the text that
+    /// is written to, and not here: the data of its fragments are copied once. By the rule the packet
+    /// goes on with that run, or has it given up. A refusal leaves everything.
+    #[inline]
+    pub fn depacketize_in_text(
+        &mut self,
+        rule: RunRule,
+        packet: &[u8],
+        text: &mut OpenText,
+        codec_extra: &mut CodecExtra,
+    ) -> Result<(), PacketError> {
+        let (codec, is_avc) = (self.codec, self.is_avc);
+        let parts = self.codec.read(packet)?;
+        let run_len = text.met_run_len(rule.is_next);
+        check_lengths(codec, is_avc, packet, parts, run_len)?;
+        prepare(codec.has_donl, packet, parts, &mut self.spare)?;
+        take_in_text(codec, is_avc, rule, packet, parts, text, codec_extra)?;
         let (payload, spare) = (&mut self.payload, &mut self.spare);
         show(codec.has_donl, packet, parts, payload, spare);
         Ok(())

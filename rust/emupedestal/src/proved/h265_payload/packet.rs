@@ -18,7 +18,7 @@ fn is_fragment(packet: &[u8]) -> bool {
 impl PacketReader for H265 {
     // Two bytes or fewer are too short, and F is clear in every other; types 48, 49 and 50 are an
     // aggregate, a fragment and a PACI packet, and all others are units.
-    #[inline]
+    #[inline(always)]
     fn read(self, packet: &[u8]) -> Result<Parts<'_>, PacketError> {
         if packet.len() < 3 {
             return Err(PacketError::ErrShortPacket);

@@ -74,7 +74,7 @@ fn prepare_aggregate(has_donl: bool, bytes: &[u8], spare: &mut Spare) -> Result<
 
 /// Gets the units of an aggregate behind the first ready.
 fn prepare_others(has_donl: bool, bytes: &[u8], spare: &mut Spare) -> Result<(), AllocError> {
-    spare.begin_others();
+    spare.keep_others();
     let mut count = 0;
     let mut rest = bytes;
     while let Some(other) = first_other(has_donl, rest) {
@@ -111,10 +111,11 @@ fn put(shown: H265Payload, payload: &mut H265Payload, spare: &mut Spare) {
     spare.keep(mem::replace(payload, shown));
 }
 
-/// Shows an aggregate whose units are ready.
+/// Shows an aggregate whose units are ready, and keeps the memory of a few of those from before.
 fn show_aggregate(donl: Option<u16>, has_donl: bool, payload: &mut H265Payload, spare: &mut Spare) {
     if let H265Payload::H265AggregationPacket(it) = payload {
         it.set(donl, &mut spare.data, &mut spare.others, has_donl);
+        spare.keep_others();
         return;
     }
     let first = H265AggregationUnitFirst::of(donl, spare.take_data());

@@ -8,9 +8,14 @@ use crate::support::{AppendBytes, TryVec};
 use alloc::vec::Vec;
 use core::mem;
 
-/// How many units of a list keep their memory for later ones, so that no sender has a depacketizer
-/// keep a long list, in each place of which a long unit stood once.
-const MOST_KEPT: usize = 256;
+/// How many units of a list keep their memory for later ones, how many bytes each of them may have,
+/// and for how many units the list itself may have room. A unit that was longer is never used again,
+/// so no sender has a depacketizer keep a long list, in each place of which a long unit stood once.
+const MOST_UNITS: usize = 32;
+
+const MOST_BYTES: usize = 1500;
+
+const MOST_ROOM: usize = 256;
 
 /// Memory of packets that were shown before. What the next packet is shown by is put there first,
 /// and changes places with what is shown when nothing can fail any more.
@@ -39,6 +44,20 @@ impl core::fmt::Debug for Spare {
     }
 }
 
+/// Whether none of these units is too long to be kept.
+fn are_short(units: &[H265AggregationUnit]) -> bool {
+    units.iter().all(|unit| unit.nal_unit().len() <= MOST_BYTES)
+}
+
+/// Keeps the memory of a few units; none where one is too long, or where so many stood there once
+/// that the list is.
+fn keep_few(units: &mut Vec<H265AggregationUnit>) {
+    units.truncate(MOST_UNITS);
+    if units.capacity() > MOST_ROOM || !are_short(units) {
+        *units = Vec::new();
+    }
+}
+
 impl Spare {
     /// No memory.
     pub fn new() -> Self {
@@ -48,6 +67,11 @@ impl Spare {
             second: Vec::new(),
             surplus: Vec::new(),
         }
+    }
+
+    /// Frees all of it.
+    pub fn free(&mut self) {
+        *self = Spare::new();
     }
 
     /// Puts the next packet's data in place.
@@ -61,9 +85,9 @@ impl Spare {
         mem::take(&mut self.data)
     }
 
-    /// Begins the further units of the next aggregate.
-    pub fn begin_others(&mut self) {
-        self.others.truncate(MOST_KEPT);
+    /// Keeps the memory of a few of the further units, for the next aggregate.
+    pub fn keep_others(&mut self) {
+        keep_few(&mut self.others);
     }
 
     /// Puts a further unit of the next aggregate behind so many others.
@@ -85,14 +109,14 @@ impl Spare {
         Ok(())
     }
 
-    /// Leaves so many further units, and keeps the memory of those behind them where there is room
-    /// for it.
+    /// Leaves so many further units, and keeps the memory of a few of those behind them where there
+    /// is room for it.
     pub(crate) fn limit_others(&mut self, count: usize) {
         while self.others.len() > count {
             let Some(unit) = self.others.pop() else {
                 return;
             };
-            if self.surplus.len() < MOST_KEPT {
+            if self.surplus.len() < MOST_UNITS && unit.nal_unit().len() <= MOST_BYTES {
                 let _ = self.surplus.try_push(unit);
             }
         }
@@ -108,7 +132,8 @@ impl Spare {
     pub fn keep(&mut self, before: H265Payload) {
         match before {
             H265Payload::H265AggregationPacket(packet) => {
-                let (first, others) = packet.into_units();
+                let (first, mut others) = packet.into_units();
+                keep_few(&mut others);
                 self.second = others;
                 if let Some(unit) = first {
                     self.data = unit.into_buffer();

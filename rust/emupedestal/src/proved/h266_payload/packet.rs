@@ -37,7 +37,7 @@ fn is_fragment(packet: &[u8]) -> bool {
 
 impl PacketReader for H266 {
     // A type that is neither an aggregate's nor a fragment's is a unit's own.
-    #[inline]
+    #[inline(always)]
     fn read(self, packet: &[u8]) -> Result<Parts<'_>, PacketError> {
         if packet.len() <= PACKET_HEADER_SIZE {
             return Err(PacketError::ErrShortPacket);

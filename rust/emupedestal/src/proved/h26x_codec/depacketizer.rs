@@ -47,8 +47,9 @@ impl CodecDepacketizer {
         }
     }
 
-    /// Gives up the open run of a codec, if there is one, and gives its buffer back; one in a box
-    /// stays as it is. It takes no memory.
+    /// Gives up the open run of a codec, if there is one, and gives its buffer back, and of H.265 the
+    /// memory that is kept for what `payload` will show; one in a box stays as it is. It takes no
+    /// memory.
     ///
     /// A run grows by every fragment until one ends it, and its buffer is kept for later runs: a
     /// caller that will not hold so much calls this. Fragments that follow without a start are

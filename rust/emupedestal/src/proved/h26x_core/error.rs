@@ -4,7 +4,9 @@
 
 use crate::support::AllocError;
 
-/// Why a call is refused. A refused call changes nothing.
+/// Why a call is refused. A refused call changes nothing, but for a packetizer of a caller's own in
+/// the box of a `CodecPacketizer`: where memory lacks for the copy of its packets into a buffer, it
+/// has gone on, and they are lost.
 ///
 /// The packets are those of RFC 6184 (H.264), RFC 7798 (H.265) and RFC 9328 (H.266).
 #[derive(Debug, Clone, Copy, PartialEq, Eq, Hash)]

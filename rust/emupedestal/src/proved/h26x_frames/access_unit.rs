@@ -5,6 +5,7 @@
 use crate::proved::h26x_core::{CodecExtra, PacketError};
 use crate::proved::h26x_frames::answers::{is_next, is_sound, was_taken};
 use crate::proved::h26x_frames::packet::RtpPacket;
+use crate::proved::h26x_payload::{OpenRun, OpenText};
 use crate::proved::h26x_receiver::{Received, RunDepacketizer, SequencedDepacketizer};
 use alloc::vec::Vec;
 
@@ -39,28 +40,76 @@ impl core::fmt::Debug for AccessUnit {
     }
 }
 
-impl AccessUnit {
-    /// One to which no packet came yet.
-    pub(crate) fn empty(timestamp: u32) -> Self {
-        AccessUnit {
+/// An access unit of which packets came. The open run stands in its text.
+#[derive(Debug, Clone, PartialEq, Eq)]
+pub(crate) struct OpenUnit {
+    pub timestamp: u32,
+    pub text: OpenText,
+    pub extra: CodecExtra,
+    pub is_whole: bool,
+}
+
+impl OpenUnit {
+    /// One to which no packet came yet, in memory that was another's.
+    #[inline]
+    pub(crate) fn new(memory: Vec<u8>, timestamp: u32) -> Self {
+        OpenUnit {
             timestamp,
-            bytes: Vec::new(),
+            text: OpenText::new(memory),
             extra: CodecExtra::None,
             is_whole: true,
         }
     }
+
+    /// Takes a packet with its timestamp. A marker does not end it yet.
+    #[inline]
+    fn take<D: RunDepacketizer>(
+        &mut self,
+        packets: &mut SequencedDepacketizer<D>,
+        packet: &RtpPacket<'_>,
+        may_be_inside: bool,
+    ) -> Result<Received, PacketError> {
+        let follows = is_next(packets.expected, packet.sequence);
+        let received = packets.receive_in_text(
+            packet.sequence,
+            packet.payload,
+            may_be_inside,
+            &mut self.text,
+            &mut self.extra,
+        );
+        if was_taken(&received) {
+            self.is_whole = self.is_whole && is_sound(follows, &received);
+        }
+        received
+    }
+
+    /// The access unit, known to be whole only if this holds too. A run that is open goes.
+    #[inline]
+    fn end(self, holds: bool) -> AccessUnit {
+        AccessUnit {
+            timestamp: self.timestamp,
+            bytes: self.text.into_text(),
+            extra: self.extra,
+            is_whole: self.is_whole && holds,
+        }
+    }
 }
 
-/// The access unit that is open, if one is: the next packet may belong to it.
+/// The access unit that is open, if one is: the next packet may belong to it. And the run that is
+/// open, in its text, or left by the last one.
 #[derive(Debug, Clone, PartialEq, Eq)]
 pub struct OpenAccessUnit {
-    unit: Option<AccessUnit>,
+    unit: Option<OpenUnit>,
+    left: OpenRun,
 }
 
 impl OpenAccessUnit {
     /// None is open.
     pub(crate) fn none() -> Self {
-        OpenAccessUnit { unit: None }
+        OpenAccessUnit {
+            unit: None,
+            left: OpenRun::none(),
+        }
     }
 
     /// Whether one is open.
@@ -68,19 +117,28 @@ impl OpenAccessUnit {
         self.unit.is_some()
     }
 
-    /// How many bytes it holds; none where none is open.
+    /// How many bytes of whole units it holds; none where none is open.
     pub fn bytes_len(&self) -> usize {
         match &self.unit {
-            Some(unit) => unit.bytes.len(),
+            Some(unit) => unit.text.len(),
             None => 0,
         }
     }
 
+    /// How many bytes the run holds that is open; none where none is.
+    pub fn run_len(&self) -> usize {
+        match &self.unit {
+            Some(unit) => unit.text.run_len(),
+            None => self.left.len(),
+        }
+    }
+
     /// Gives up its text where that has more bytes than this, and gives its memory back.
+    #[inline]
     pub(crate) fn limit(&mut self, most: usize) {
         if let Some(unit) = &mut self.unit {
-            if unit.bytes.len() > most {
-                unit.bytes = Vec::new();
+            if unit.text.len() > most {
+                unit.text.give_up_text();
                 unit.extra = CodecExtra::None;
                 unit.is_whole = false;
             }
@@ -96,53 +154,66 @@ impl OpenAccessUnit {
         }
     }
 
-    /// Takes a packet into the one that is open, where it stands. A marker does not end it yet.
+    /// Takes a packet without a marker into the one that is open, where it stands.
     #[inline]
     pub(crate) fn go_on<D: RunDepacketizer>(
         &mut self,
         packets: &mut SequencedDepacketizer<D>,
         packet: &RtpPacket<'_>,
     ) -> Result<Received, PacketError> {
-        let follows = is_next(packets.expected, packet.sequence);
         match &mut self.unit {
-            Some(unit) => {
-                let received = packets.receive(
-                    packet.sequence,
-                    packet.payload,
-                    &mut unit.bytes,
-                    &mut unit.extra,
-                );
-                if was_taken(&received) {
-                    unit.is_whole = unit.is_whole && is_sound(follows, &received);
+            Some(unit) => unit.take(packets, packet, true),
+            None => unreachable!(),
+        }
+    }
+
+    /// Takes a packet with a marker into the one that is open, and appends that.
+    pub(crate) fn go_on_to_end<D: RunDepacketizer>(
+        &mut self,
+        packets: &mut SequencedDepacketizer<D>,
+        packet: &RtpPacket<'_>,
+        out: &mut Vec<AccessUnit>,
+    ) -> Result<Received, PacketError> {
+        match self.unit.take() {
+            Some(mut unit) => {
+                let received = unit.take(packets, packet, false);
+                if !was_taken(&received) {
+                    self.unit = Some(unit);
+                    return received;
                 }
+                unit.text.move_run(&mut self.left);
+                out.push(unit.end(true));
                 received
             }
             None => unreachable!(),
         }
     }
 
-    /// Puts one in its place, or appends it where it has ended.
+    /// Puts one in its place, where none is open, or appends it where it has ended: then its run stands
+    /// aside.
+    #[inline]
     pub(crate) fn put(
         &mut self,
-        mut unit: AccessUnit,
+        mut unit: OpenUnit,
         is_sound: bool,
         is_over: bool,
         out: &mut Vec<AccessUnit>,
     ) {
-        unit.is_whole = unit.is_whole && is_sound;
         if is_over {
-            self.unit = None;
-            out.push(unit);
+            unit.text.move_run(&mut self.left);
+            out.push(unit.end(is_sound));
         } else {
+            unit.is_whole = unit.is_whole && is_sound;
             self.unit = Some(unit);
         }
     }
 
-    /// Appends it, if one is open.
+    /// Appends it, if one is open, and gives up the run.
+    #[inline]
     pub(crate) fn end(&mut self, follows: bool, out: &mut Vec<AccessUnit>) {
-        if let Some(mut unit) = self.unit.take() {
-            unit.is_whole = unit.is_whole && follows;
-            out.push(unit);
+        self.left.close();
+        if let Some(unit) = self.unit.take() {
+            out.push(unit.end(follows));
         }
     }
 }

@@ -8,7 +8,7 @@ use crate::support::AllocError;
 use crate::support::TryVec;
 use alloc::vec::Vec;
 
-/// A packet that a buffer gave out.
+/// A packet with memory of its own: one that a buffer holds, or gave out.
 #[derive(Clone, PartialEq, Eq, Hash)]
 pub struct HeldPacket {
     /// Its sequence number.
@@ -35,6 +35,21 @@ impl core::fmt::Debug for HeldPacket {
 }
 
 impl HeldPacket {
+    /// A packet in the caller's own memory, which is not copied.
+    pub fn new(sequence: u16, timestamp: u32, marker: bool, payload: Vec<u8>) -> Self {
+        HeldPacket {
+            sequence,
+            timestamp,
+            marker,
+            payload,
+        }
+    }
+
+    /// The memory of its payload, for another packet.
+    pub fn into_payload(self) -> Vec<u8> {
+        self.payload
+    }
+
     /// A copy of a packet, with this sequence number.
     pub(crate) fn copy(sequence: u16, packet: &RtpPacket<'_>) -> Result<Self, AllocError> {
         Ok(HeldPacket {
@@ -69,9 +84,43 @@ pub enum Pushed {
     Twice,
 }
 
+/// Why a packet that was given to a buffer by value isn't held.
+#[derive(Debug, Clone, Copy, PartialEq, Eq, Hash)]
+pub enum NotHeldReason {
+    /// Its number is so far behind the one that is due.
+    Late(u16),
+
+    /// A packet with its number is held.
+    Twice,
+
+    /// There is no memory for one more place. It can be given again.
+    OutOfMemory,
+}
+
+/// Why a packet isn't held for which this is answered: where it would be held, memory lacks.
+fn reason_of(answer: Pushed) -> NotHeldReason {
+    match answer {
+        Pushed::Held => NotHeldReason::OutOfMemory,
+        Pushed::Late(count) => NotHeldReason::Late(count),
+        Pushed::Twice => NotHeldReason::Twice,
+    }
+}
+
+/// A packet that was given to a buffer by value and isn't held, as it was given.
+#[derive(Debug, Clone, PartialEq, Eq, Hash)]
+pub struct NotHeld {
+    /// The packet.
+    pub packet: HeldPacket,
+    /// Why it isn't held.
+    pub reason: NotHeldReason,
+}
+
 /// Holds packets that came before earlier ones until those have come, or until a window of packets
 /// has passed (a jitter buffer), and gives them out in the order of their sequence numbers of RTP
 /// (RFC 3550, 5.1), each once.
+///
+/// A packet in memory of its own is taken by value, and copied nowhere; its memory comes back with
+/// it, for the next datagram:
 #[derive(Debug, Clone)]
 pub struct ReorderBuffer {
     held: NumberOrder<HeldPacket>,
@@ -120,6 +169,24 @@ impl ReorderBuffer {
                 Ok(Pushed::Held)
             }
             Err(answer) => Ok(answer),
+        }
+    }
+
+    /// Takes a packet that has memory of its own, and copies nothing of it. One that isn't held comes
+    /// back as it was given, with the reason, and the buffer stays as it was.
+    pub fn push_held(&mut self, packet: HeldPacket) -> Result<(), NotHeld> {
+        match self.held.place_of(packet.sequence) {
+            Ok((due, place)) => match self.held.put(due, place, packet) {
+                Ok(()) => Ok(()),
+                Err(refused) => Err(NotHeld {
+                    packet: refused.value,
+                    reason: NotHeldReason::OutOfMemory,
+                }),
+            },
+            Err(answer) => Err(NotHeld {
+                packet,
+                reason: reason_of(answer),
+            }),
         }
     }
 

@@ -5,7 +5,7 @@
 use crate::proved::h26x_frames::buffer::Pushed;
 use crate::proved::h26x_frames::numbered::Numbered;
 use crate::proved::h26x_frames::parted::Parted;
-use crate::support::AllocError;
+use crate::support::AllocFailed;
 
 /// How far ahead of the number that is due a number is taken as behind it: half of the circle (RFC
 /// 3550, A.1).
@@ -77,7 +77,7 @@ impl<T: Numbered> NumberOrder<T> {
 
     /// The number that is due once a packet comes, and the place where that packet is put; or what
     /// is answered for one that isn't held.
-    #[inline]
+    #[inline(always)]
     pub(crate) fn place_of(&self, sequence: u16) -> Result<(u16, usize), Pushed> {
         let first_due = sequence.wrapping_add(1).wrapping_sub(self.window);
         let due = self.due.unwrap_or(first_due);
@@ -91,9 +91,9 @@ impl<T: Numbered> NumberOrder<T> {
         }
     }
 
-    /// Puts a packet at its place. Without memory all stays as it was.
-    #[inline]
-    pub(crate) fn put(&mut self, due: u16, place: usize, packet: T) -> Result<(), AllocError> {
+    /// Puts a packet at its place. Without memory all stays as it was, and the packet comes back.
+    #[inline(always)]
+    pub(crate) fn put(&mut self, due: u16, place: usize, packet: T) -> Result<(), AllocFailed<T>> {
         self.held.try_insert(place, packet)?;
         self.due = Some(due);
         Ok(())

@@ -2,7 +2,7 @@
 
 //! A list in two parts, which is parted where values come again and again.
 
-use crate::support::AllocError;
+use crate::support::AllocFailed;
 use crate::support::TryDeque;
 use alloc::collections::VecDeque;
 use core::mem;
@@ -92,22 +92,20 @@ impl<T> Parted<T> {
     }
 
     /// Puts a value at a place. One that comes last of all where there is no back, as most do, leaves
-    /// what is known of the latest. Without memory all stays as it was.
-    pub(crate) fn try_insert(&mut self, place: usize, value: T) -> Result<(), AllocError> {
+    /// what is known of the latest. Without memory all stays as it was, and the value comes back.
+    pub(crate) fn try_insert(&mut self, place: usize, value: T) -> Result<(), AllocFailed<T>> {
         // Most come last of all, and mostly there is no back.
         if self.back.is_empty() && place == self.front.len() {
-            self.front.try_push_back(value)?;
-            return Ok(());
+            return self.front.try_push_back(value);
         }
         self.part_for(place);
         self.join_for_room(place);
         let len = self.front.len();
         if place <= len {
-            self.front.try_insert(place, value)?;
+            self.front.try_insert(place, value)
         } else {
-            self.back.try_insert(place - len, value)?;
+            self.back.try_insert(place - len, value)
         }
-        Ok(())
     }
 
     /// Drops the values. Both parts keep their memory.

@@ -3,30 +3,12 @@
 //! A receiver that gives out access units.
 
 use crate::proved::h26x_core::PacketError;
-use crate::proved::h26x_frames::access_unit::{AccessUnit, OpenAccessUnit};
+use crate::proved::h26x_frames::access_unit::{AccessUnit, OpenAccessUnit, OpenUnit};
 use crate::proved::h26x_frames::answers::{is_next, is_sound, was_taken};
 use crate::proved::h26x_frames::packet::RtpPacket;
-use crate::proved::h26x_receiver::{Received, RunDepacketizer, SequencedDepacketizer, take_run};
+use crate::proved::h26x_frames::spare::SpareMemory;
+use crate::proved::h26x_receiver::{Received, RunDepacketizer, SequencedDepacketizer};
 use alloc::vec::Vec;
-
-/// Takes a packet where no run is open: the one that was is given up once the packet is taken.
-fn receive_anew<D: RunDepacketizer>(
-    packets: &mut SequencedDepacketizer<D>,
-    packet: &RtpPacket<'_>,
-    unit: &mut AccessUnit,
-) -> Result<Received, PacketError> {
-    let mut run = take_run(&mut packets.depacketizer);
-    let received = packets.receive(
-        packet.sequence,
-        packet.payload,
-        &mut unit.bytes,
-        &mut unit.extra,
-    );
-    if !was_taken(&received) {
-        packets.depacketizer.swap_run(&mut run);
-    }
-    received
-}
 
 /// Takes a packet into the access unit that was open.
 fn go_on<D: RunDepacketizer>(
@@ -35,24 +17,32 @@ fn go_on<D: RunDepacketizer>(
     packet: &RtpPacket<'_>,
     out: &mut Vec<AccessUnit>,
 ) -> Result<Received, PacketError> {
-    let received = place.go_on(packets, packet);
-    if packet.marker && was_taken(&received) {
-        place.end(true, out);
+    if packet.marker {
+        place.go_on_to_end(packets, packet, out)
+    } else {
+        place.go_on(packets, packet)
     }
-    received
 }
 
 /// Takes a packet as the first of an access unit: the one that is open ends.
 fn begin<D: RunDepacketizer>(
     packets: &mut SequencedDepacketizer<D>,
     place: &mut OpenAccessUnit,
+    spare: &mut SpareMemory,
     packet: &RtpPacket<'_>,
     out: &mut Vec<AccessUnit>,
 ) -> Result<Received, PacketError> {
     let follows = is_next(packets.expected, packet.sequence);
-    let mut unit = AccessUnit::empty(packet.timestamp);
-    let received = receive_anew(packets, packet, &mut unit);
+    let mut unit = OpenUnit::new(spare.take(), packet.timestamp);
+    let received = packets.receive_in_text(
+        packet.sequence,
+        packet.payload,
+        !packet.marker,
+        &mut unit.text,
+        &mut unit.extra,
+    );
     if !was_taken(&received) {
+        spare.keep(unit.text.into_text(), usize::MAX);
         return received;
     }
     let is_sound = is_sound(follows, &received);
@@ -65,13 +55,14 @@ fn begin<D: RunDepacketizer>(
 fn take<D: RunDepacketizer>(
     packets: &mut SequencedDepacketizer<D>,
     place: &mut OpenAccessUnit,
+    spare: &mut SpareMemory,
     packet: &RtpPacket<'_>,
     out: &mut Vec<AccessUnit>,
 ) -> Result<Received, PacketError> {
     if place.is_at(packet.timestamp) {
         go_on(packets, place, packet, out)
     } else {
-        begin(packets, place, packet, out)
+        begin(packets, place, spare, packet, out)
     }
 }
 
@@ -84,21 +75,23 @@ pub struct FrameReceiver<D: RunDepacketizer> {
     /// run. Where the peer tells the number of its first packet, as in the RTP-Info of RTSP (RFC
     /// 2326, 12.33), set `expected` to it: the first access unit can then be known to be whole too.
     pub packets: SequencedDepacketizer<D>,
-    /// The access unit that is open.
+    /// The access unit that is open, with the open run in its text.
     pub unit: OpenAccessUnit,
     /// How many bytes the text of an open access unit may hold from a packet to the next.
     pub unit_limit: usize,
+    spare: SpareMemory,
 }
 
 impl<D: RunDepacketizer> FrameReceiver<D> {
     /// A receiver for which no access unit is open; from a packet to the next the text of one that is
-    /// may hold `unit_limit` bytes. A run that is open in the depacketizer is given up with the first
-    /// packet. It takes no memory.
+    /// may hold `unit_limit` bytes. The open run stands in the access unit; one that is open in the
+    /// depacketizer itself stays there, and is not used. It takes no memory.
     pub fn new(packets: SequencedDepacketizer<D>, unit_limit: usize) -> Self {
         FrameReceiver {
             packets,
             unit: OpenAccessUnit::none(),
             unit_limit,
+            spare: SpareMemory::none(),
         }
     }
 
@@ -119,7 +112,8 @@ impl<D: RunDepacketizer> FrameReceiver<D> {
         out: &mut Vec<AccessUnit>,
     ) -> Result<Received, PacketError> {
         out.try_reserve(2)?;
-        let received = take(&mut self.packets, &mut self.unit, packet, out);
+        let (packets, unit, spare) = (&mut self.packets, &mut self.unit, &mut self.spare);
+        let received = take(packets, unit, spare, packet, out);
         if was_taken(&received) {
             self.unit.limit(self.unit_limit);
         }
@@ -143,5 +137,12 @@ impl<D: RunDepacketizer> FrameReceiver<D> {
     pub fn restart(&mut self) {
         self.packets.restart();
         self.unit = OpenAccessUnit::none();
+    }
+
+    /// Takes back an access unit that was given out, for its memory: a later one is written there. Of
+    /// those that are given back the largest that holds at most `unit_limit` bytes is kept, until one
+    /// begins.
+    pub fn give_back(&mut self, unit: AccessUnit) {
+        self.spare.keep(unit.bytes, self.unit_limit);
     }
 }

@@ -4,7 +4,7 @@
 
 use crate::proved::h26x_codec::Codec;
 use crate::proved::h26x_core::{CodecExtra, Depacketizer, PacketError};
-use crate::proved::h26x_payload::{OpenRun, UnitSink};
+use crate::proved::h26x_payload::{OpenRun, OpenText, RunRule, UnitSink};
 use crate::proved::h26x_receiver::run::RunDepacketizer;
 use crate::proved::h264_payload::H264Depacketizer;
 use crate::proved::h265_packets::H265Payload;
@@ -190,5 +190,20 @@ impl RunDepacketizer for AnyDepacketizer {
         codec_extra: &mut CodecExtra,
     ) -> Result<(), PacketError> {
         self.depacketize_into(packet, out, codec_extra)
+    }
+
+    #[inline]
+    fn take_in_text(
+        &mut self,
+        rule: RunRule,
+        packet: &[u8],
+        text: &mut OpenText,
+        codec_extra: &mut CodecExtra,
+    ) -> Result<(), PacketError> {
+        match self {
+            AnyDepacketizer::H264(it) => it.depacketize_in_text(rule, packet, text, codec_extra),
+            AnyDepacketizer::H265(it) => it.depacketize_in_text(rule, packet, text, codec_extra),
+            AnyDepacketizer::H266(it) => it.depacketize_in_text(rule, packet, text, codec_extra),
+        }
     }
 }

@@ -3,9 +3,11 @@
 //! What a receiver of packets with their sequence numbers asks of a depacketizer.
 
 use crate::proved::h26x_core::{CodecExtra, Depacketizer, PacketError};
-use crate::proved::h26x_payload::{OpenRun, PacketReader, PayloadDepacketizer, UnitSink};
+use crate::proved::h26x_payload::{
+    OpenRun, OpenText, PacketReader, PayloadDepacketizer, RunRule, UnitSink,
+};
 use crate::proved::h264_payload::H264;
-use crate::proved::h265_payload::H265Depacketizer;
+use crate::proved::h265_payload::{H265, H265Depacketizer};
 use crate::proved::h266_payload::H266;
 
 /// A depacketizer whose open run may be measured, exchanged and given up: those of the codecs, and a
@@ -30,6 +32,17 @@ pub trait RunDepacketizer: Depacketizer {
         out: &mut W,
         codec_extra: &mut CodecExtra,
     ) -> Result<(), PacketError>;
+
+    /// Takes a packet where the run that is open stands in the text that is written to, so that the
+    /// data of its fragments are copied once. Its own run it neither uses nor changes. By the rule the
+    /// packet goes on with the run of the text, or has it given up.
+    fn take_in_text(
+        &mut self,
+        rule: RunRule,
+        packet: &[u8],
+        text: &mut OpenText,
+        codec_extra: &mut CodecExtra,
+    ) -> Result<(), PacketError>;
 }
 
 /// Takes out the open run, for a packet that is to be taken without it. Where none is open a
@@ -48,6 +61,8 @@ pub fn take_run<D: RunDepacketizer>(depacketizer: &mut D) -> OpenRun {
 pub trait LawfulReader: PacketReader {}
 
 impl LawfulReader for H264 {}
+
+impl LawfulReader for H265 {}
 
 impl LawfulReader for H266 {}
 
@@ -73,6 +88,17 @@ impl<C: LawfulReader> RunDepacketizer for PayloadDepacketizer<C> {
     ) -> Result<(), PacketError> {
         self.depacketize_into(packet, out, codec_extra)
     }
+
+    #[inline]
+    fn take_in_text(
+        &mut self,
+        rule: RunRule,
+        packet: &[u8],
+        text: &mut OpenText,
+        codec_extra: &mut CodecExtra,
+    ) -> Result<(), PacketError> {
+        self.depacketize_in_text(rule, packet, text, codec_extra)
+    }
 }
 
 impl RunDepacketizer for H265Depacketizer {
@@ -96,5 +122,16 @@ impl RunDepacketizer for H265Depacketizer {
         codec_extra: &mut CodecExtra,
     ) -> Result<(), PacketError> {
         self.depacketize_into(packet, out, codec_extra)
+    }
+
+    #[inline]
+    fn take_in_text(
+        &mut self,
+        rule: RunRule,
+        packet: &[u8],
+        text: &mut OpenText,
+        codec_extra: &mut CodecExtra,
+    ) -> Result<(), PacketError> {
+        self.depacketize_in_text(rule, packet, text, codec_extra)
     }
 }

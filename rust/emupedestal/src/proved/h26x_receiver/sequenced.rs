@@ -3,7 +3,7 @@
 //! A depacketizer that is given packets with their sequence numbers.
 
 use crate::proved::h26x_core::{CodecExtra, PacketError};
-use crate::proved::h26x_payload::UnitSink;
+use crate::proved::h26x_payload::{OpenText, RunRule, UnitSink};
 use crate::proved::h26x_receiver::received::Received;
 use crate::proved::h26x_receiver::run::{RunDepacketizer, take_run};
 
@@ -16,6 +16,16 @@ fn place_of(expected: Option<u16>, sequence: u16) -> (u16, bool) {
     match expected {
         Some(expected) => (sequence.wrapping_sub(expected), sequence == expected),
         None => (0, false),
+    }
+}
+
+/// What is answered for a packet that comes late, before which so many seem to be missing.
+#[inline]
+fn late_by(missing: u16) -> Option<Received> {
+    if missing >= HALF {
+        Some(Received::Late(u16::MAX - missing + 1))
+    } else {
+        None
     }
 }
 
@@ -55,6 +65,17 @@ fn take<D: RunDepacketizer, W: UnitSink>(
 fn limit_run<D: RunDepacketizer>(depacketizer: &mut D, most: usize) -> bool {
     if depacketizer.run_len() > most {
         depacketizer.give_up_run();
+        true
+    } else {
+        false
+    }
+}
+
+/// Gives up the run of a text that holds more bytes than this, and tells whether it did.
+#[inline]
+fn limit_run_in_text(text: &mut OpenText, most: usize) -> bool {
+    if text.run_len() > most {
+        text.give_up_run();
         true
     } else {
         false
@@ -106,13 +127,39 @@ impl<D: RunDepacketizer> SequencedDepacketizer<D> {
         codec_extra: &mut CodecExtra,
     ) -> Result<Received, PacketError> {
         let (missing, is_next) = place_of(self.expected, sequence);
-        if missing >= HALF {
-            return Ok(Received::Late(u16::MAX - missing + 1));
+        if let Some(late) = late_by(missing) {
+            return Ok(late);
         }
         let depacketizer = &mut self.depacketizer;
         take(is_next, depacketizer, packet, out, codec_extra)?;
         self.expected = Some(sequence.wrapping_add(1));
         let is_long = limit_run(&mut self.depacketizer, self.run_limit);
+        Ok(Received::taken(missing, is_long))
+    }
+
+    /// Takes a packet as `receive` does, where the run that is open stands in the text that is written
+    /// to, so that the data of its fragments are copied once. The depacketizer's own run is neither
+    /// used nor changed. A run that stays open may stand inside, or is put aside.
+    pub fn receive_in_text(
+        &mut self,
+        sequence: u16,
+        packet: &[u8],
+        may_be_inside: bool,
+        text: &mut OpenText,
+        codec_extra: &mut CodecExtra,
+    ) -> Result<Received, PacketError> {
+        let (missing, is_next) = place_of(self.expected, sequence);
+        if let Some(answer) = late_by(missing) {
+            return Ok(answer);
+        }
+        let rule = RunRule {
+            is_next,
+            may_be_inside,
+        };
+        self.depacketizer
+            .take_in_text(rule, packet, text, codec_extra)?;
+        self.expected = Some(sequence.wrapping_add(1));
+        let is_long = limit_run_in_text(text, self.run_limit);
         Ok(Received::taken(missing, is_long))
     }
 }

@@ -10,15 +10,20 @@ use crate::proved::h26x_payload::receive::sink::UnitSink;
 /// length (ISO/IEC 14496-15).
 pub const PREFIX_SIZE: usize = 4;
 
-/// Writes what stands before a unit of this length, where there is room for it.
+/// What stands before a unit of this length.
 #[inline(always)]
-fn put_prefix<W: UnitSink>(is_avc: bool, len: usize, out: &mut W) {
-    let prefix = if is_avc {
+pub(crate) fn prefix_of(is_avc: bool, len: usize) -> [u8; 4] {
+    if is_avc {
         (len as u32).to_be_bytes()
     } else {
         ANNEXB_NALUSTART_CODE
-    };
-    out.put(&prefix);
+    }
+}
+
+/// Writes what stands before a unit of this length, where there is room for it.
+#[inline(always)]
+fn put_prefix<W: UnitSink>(is_avc: bool, len: usize, out: &mut W) {
+    out.put(&prefix_of(is_avc, len));
 }
 
 /// Whether four bytes don't hold a unit's length.

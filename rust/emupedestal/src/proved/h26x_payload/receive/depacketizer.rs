@@ -5,6 +5,8 @@
 use crate::proved::h26x_core::{CodecExtra, Depacketizer, PacketError};
 use crate::proved::h26x_payload::format::DonlFormat;
 use crate::proved::h26x_payload::receive::extra::out_size_hint;
+use crate::proved::h26x_payload::receive::in_text::{RunRule, take_in_text};
+use crate::proved::h26x_payload::receive::open_text::OpenText;
 use crate::proved::h26x_payload::receive::reader::PacketReader;
 use crate::proved::h26x_payload::receive::run::OpenRun;
 use crate::proved::h26x_payload::receive::sink::UnitSink;
@@ -81,6 +83,29 @@ impl<C: PacketReader> PayloadDepacketizer<C> {
         let is_avc = self.is_avc;
         let run = &mut self.run;
         take_packet(codec, is_avc, packet, parts, run, out, codec_extra)
+    }
+
+    /// Takes a packet as `depacketize_into` does, where the run that is open stands in the text that
+    /// is written to, and not here: the data of its fragments are copied once. By the rule the packet
+    /// goes on with that run, or has it given up. A refusal leaves everything.
+    #[inline]
+    pub fn depacketize_in_text(
+        &self,
+        rule: RunRule,
+        packet: &[u8],
+        text: &mut OpenText,
+        codec_extra: &mut CodecExtra,
+    ) -> Result<(), PacketError> {
+        let parts = self.codec.read(packet)?;
+        take_in_text(
+            self.codec,
+            self.is_avc,
+            rule,
+            packet,
+            parts,
+            text,
+            codec_extra,
+        )
     }
 }
 

@@ -25,6 +25,7 @@ pub struct Fragment<'a> {
 /// Takes a fragment: a start begins a run anew, another is added to the open run, an end closes it
 /// and writes its unit (RFC 6184, 5.8; RFC 7798, 4.4.3; RFC 9328, 4.3.3). One that doesn't start
 /// while no run is open does nothing, and takes no memory.
+#[inline(always)]
 pub(crate) fn take_fragment<C: PayloadFormat, W: UnitSink>(
     codec: C,
     is_avc: bool,

@@ -8,6 +8,7 @@ use crate::support::{AppendBytes, TryVec};
 use alloc::vec::Vec;
 
 /// The data of an open run, in a buffer that a closed one keeps.
+#[derive(Clone)]
 pub struct OpenRun {
     bytes: Vec<u8>,
     is_open: bool,
@@ -56,6 +57,16 @@ impl OpenRun {
     /// How many bytes the run holds; none where none is open.
     pub fn len(&self) -> usize {
         self.bytes.len()
+    }
+
+    /// The same, if a run is open.
+    #[inline]
+    pub fn open_len(&self) -> Option<usize> {
+        if self.is_open {
+            Some(self.bytes.len())
+        } else {
+            None
+        }
     }
 
     /// Adds these data to the open run.

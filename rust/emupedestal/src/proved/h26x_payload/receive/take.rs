@@ -14,13 +14,20 @@ use crate::proved::h26x_payload::receive::run::OpenRun;
 use crate::proved::h26x_payload::receive::sink::UnitSink;
 
 /// The bytes of the unit that a fragment completes, at most `usize::MAX`; 0 where it completes none.
-fn fragment_completes<C: PayloadFormat>(codec: C, fragment: Fragment<'_>, run: &OpenRun) -> usize {
-    if !fragment.end || !fragment.start && !run.is_open() {
+fn fragment_completes<C: PayloadFormat>(
+    codec: C,
+    fragment: Fragment<'_>,
+    run_len: Option<usize>,
+) -> usize {
+    if !fragment.end {
         return 0;
     }
-    let data = if fragment.start { &[] } else { run.bytes() };
-    data.len()
-        .saturating_add(fragment.body.len())
+    let data = match run_len {
+        _ if fragment.start => 0,
+        Some(len) => len,
+        None => return 0,
+    };
+    data.saturating_add(fragment.body.len())
         .saturating_add(codec.header_len())
 }
 
@@ -30,40 +37,41 @@ fn completed_len<C: PacketReader>(
     codec: C,
     packet: &[u8],
     parts: Parts<'_>,
-    run: &OpenRun,
+    run_len: Option<usize>,
 ) -> usize {
     match parts {
         Parts::Whole => packet.len(),
         Parts::Unit { body, .. } => body.len().saturating_add(codec.header_len()),
         Parts::Aggregate { .. } => 0,
-        Parts::Fragment(fragment) => fragment_completes(codec, fragment, run),
+        Parts::Fragment(fragment) => fragment_completes(codec, fragment, run_len),
     }
 }
 
 /// Whether a packet completes a unit of over `u32::MAX` bytes, where units are written behind
-/// lengths.
+/// lengths. The open run, if there is one, holds so many bytes.
 #[inline]
-fn completes_long_unit<C: PacketReader>(
+pub(crate) fn completes_long_unit<C: PacketReader>(
     codec: C,
     is_avc: bool,
     packet: &[u8],
     parts: Parts<'_>,
-    run: &OpenRun,
+    run_len: Option<usize>,
 ) -> bool {
-    is_avc && is_too_long(completed_len(codec, packet, parts, run))
+    is_avc && is_too_long(completed_len(codec, packet, parts, run_len))
 }
 
 /// Refuses a packet that completes a unit of over `u32::MAX` bytes, where units are written behind
-/// lengths of four bytes (ISO/IEC 14496-15). It takes no memory.
+/// lengths of four bytes (ISO/IEC 14496-15). The open run, if there is one, holds so many bytes. It
+/// takes no memory.
 #[inline]
 pub(crate) fn check_lengths<C: PacketReader>(
     codec: C,
     is_avc: bool,
     packet: &[u8],
     parts: Parts<'_>,
-    run: &OpenRun,
+    run_len: Option<usize>,
 ) -> Result<(), PacketError> {
-    if completes_long_unit(codec, is_avc, packet, parts, run) {
+    if completes_long_unit(codec, is_avc, packet, parts, run_len) {
         return Err(PacketError::AvcUnitTooLong);
     }
     Ok(())
@@ -71,8 +79,8 @@ pub(crate) fn check_lengths<C: PacketReader>(
 
 /// Takes the parts of a packet: writes the units that it completes, tells of them, and keeps its
 /// run.
-#[inline]
-fn take_parts<C: PacketReader, W: UnitSink>(
+#[inline(always)]
+pub(crate) fn take_parts<C: PacketReader, W: UnitSink>(
     codec: C,
     is_avc: bool,
     packet: &[u8],

@@ -123,13 +123,14 @@ impl PacketBuffer {
         &self.ends
     }
 
-    /// Writes a header right before the packet at a place, into its headroom.
+    /// Writes a header right before the packet at a place, over the last bytes of its headroom; all
+    /// else stays, and the headrooms of the other packets.
     pub(crate) fn write_header(&mut self, place: usize, header: &[u8]) {
         let (start, _) = bounds_of(self.headroom, &self.bytes, &self.ends, place);
         self.bytes[start - header.len()..start].copy_from_slice(header);
     }
 
-    /// Keeps the first so many packets, in the same memory.
+    /// Keeps the first so many packets with their headrooms, in the same memory.
     pub fn truncate(&mut self, count: usize) {
         if count < self.ends.len() {
             self.bytes.truncate(end_of_first(&self.ends, count));
@@ -143,7 +144,7 @@ impl PacketBuffer {
         self.ends.clear();
     }
 
-    /// Appends a packet of these parts, one behind the other.
+    /// Appends a packet of these parts, one behind the other, behind a headroom of zeros.
     #[inline(always)]
     pub(crate) fn push_parts(
         &mut self,
@@ -162,12 +163,13 @@ impl PacketBuffer {
         Ok(())
     }
 
-    /// Appends a packet behind its headroom. Only want of memory refuses it, and leaves everything.
+    /// Appends a packet behind its headroom, which is of zeros. Only want of memory refuses it, and
+    /// leaves everything.
     pub(crate) fn try_push(&mut self, packet: &[u8]) -> Result<(), AllocError> {
         self.push_parts(&[], &[], Body::Data(packet))
     }
 
-    /// Appends packets, each behind its headroom: all of them, or none where memory lacks.
+    /// Appends packets, each behind its headroom of zeros: all of them, or none where memory lacks.
     pub(crate) fn push_all(&mut self, packets: &[Vec<u8>]) -> Result<(), AllocError> {
         let before = self.len();
         for packet in packets {

@@ -57,7 +57,7 @@ pub(crate) fn place(
     ends: &mut [usize],
 ) -> Placement {
     let size = size_of(packets, headroom);
-    if size.bytes == usize::MAX || size.bytes > to.len() || size.packets > ends.len() {
+    if size.bytes > to.len() || size.packets > ends.len() {
         return Placement::NoRoom(size);
     }
     lay(packets, headroom, to, ends);
