@@ -5,8 +5,8 @@ use crate::proved::h26x_payload::OpenText;
 use crate::proved::h26x_receiver::{AnyDepacketizer, SequencedDepacketizer};
 use crate::sequenced::{are_same, copied};
 use crate::{
-    AccessUnit, Codec, H265Payload, NotHeld, NotHeldReason, PacketError, Pushed, Received, ReorderBuffer,
-    RtpPacket,
+    AccessUnit, Codec, H265Payload, NotHeld, NotHeldReason, PacketError, Pushed, Received,
+    ReorderBuffer, RtpPacket,
 };
 use alloc::vec::Vec;
 use core::fmt;
@@ -22,7 +22,9 @@ impl ReorderBuffer {
 impl fmt::Display for NotHeld {
     fn fmt(&self, f: &mut fmt::Formatter<'_>) -> fmt::Result {
         match self.reason {
-            NotHeldReason::Late(behind) => write!(f, "the packet is {behind} behind the one that is due"),
+            NotHeldReason::Late(behind) => {
+                write!(f, "the packet is {behind} behind the one that is due")
+            }
             NotHeldReason::Twice => f.write_str("a packet with its number is held"),
             NotHeldReason::OutOfMemory => f.write_str("out of memory"),
         }

@@ -4,7 +4,7 @@
 use super::bytes;
 use crate::{
     AccessUnit, Codec, CodecExtra, FrameReceiver, H264CodecExtra, H265Payload, HeldPacket,
-    PacketError, Pushed, Received, ReorderBuffer, RtpPacket,
+    NotHeldReason, PacketError, Pushed, Received, ReorderBuffer, RtpPacket,
 };
 
 fn packet(sequence: u16, timestamp: u32, marker: bool, payload: &[u8]) -> RtpPacket<'_> {
@@ -100,6 +100,52 @@ fn a_held_packet_is_the_one_pushed() {
 }
 
 /// What packets with these numbers, timestamps, markers and payloads bring, and what became of the last.
+#[test]
+fn a_packet_by_value_is_held_or_comes_back() {
+    let mut buffer = ReorderBuffer::new(4);
+    let memory = vec![0x61, 1, 2];
+    let place = memory.as_ptr();
+    buffer
+        .push_held(HeldPacket::new(9, 3000, true, memory))
+        .unwrap();
+    let twice = buffer
+        .push_held(HeldPacket::new(9, 3000, true, vec![5]))
+        .unwrap_err();
+    assert_eq!(twice.reason, NotHeldReason::Twice);
+    assert_eq!(twice.to_string(), "a packet with its number is held");
+    assert_eq!(twice.packet.into_payload(), [5]);
+    let held = buffer.pop_first().unwrap();
+    assert_eq!(held.packet(), packet(9, 3000, true, &[0x61, 1, 2]));
+    // Nothing was copied.
+    let memory = held.into_payload();
+    assert_eq!(memory.as_ptr(), place);
+    let late = buffer
+        .push_held(HeldPacket::new(7, 0, false, Vec::new()))
+        .unwrap_err();
+    assert_eq!(late.reason, NotHeldReason::Late(3));
+    assert_eq!(
+        late.to_string(),
+        "the packet is 3 behind the one that is due"
+    );
+}
+
+#[test]
+fn memory_that_is_given_back_is_written_again() {
+    let mut receiver = FrameReceiver::new(Codec::H264, 100, 100);
+    let mut units = Vec::new();
+    receiver
+        .receive(&packet(1, 0, true, &[0x61, 1, 2, 3]), &mut units)
+        .unwrap();
+    let unit = units.pop().unwrap();
+    let place = unit.bytes.as_ptr();
+    receiver.give_back(unit);
+    receiver
+        .receive(&packet(2, 3000, true, &[0x61, 4]), &mut units)
+        .unwrap();
+    assert_eq!(units[0].bytes, [0, 0, 0, 1, 0x61, 4]);
+    assert_eq!(units[0].bytes.as_ptr(), place);
+}
+
 fn received(
     receiver: &mut FrameReceiver,
     packets: &[(u16, u32, bool, &str)],
