@@ -8,15 +8,20 @@ use Rattle.h26x_profile.specs.declared.h264.H264LevelIdc.{H264LevelIdc}
 use Rattle.h26x_profile.specs.declared.h264.H264LevelIdc.TheVariants as level
 
 -- what passes at each value of a list passes at the value at a place
-pub passes_at : {A : Type 0} (test : A → Bool) (values : List A) (i : ℕ) (value : A) → ltb i (length values) ≡ true → get_or values i value ≡ value → list_all test values ≡ true → test value ≡ true
+pub passes_at : {A : Type 0} (test : A → Bool) (values : List A) (i : ℕ) (value : A) →
+    ltb i (length values) ≡ true → get_or values i value ≡ value → list_all test values ≡ true →
+    test value ≡ true
 passes_at test values i value within here all =
     elim (test value) as (λ t. test value ≡ t → t ≡ true) [
       | true ↦ λ _. refl
-      | false ↦ λ fails. let no = list_all_at test values i value (ltb-true i (length values) within) (rw here fails) in cc
+      | false ↦ λ fails.
+          let no = list_all_at test values i value (ltb-true i (length values) within)
+          (rw here fails) in cc
     ] refl
 
 -- what passes at each level of the list passes at every level
-pub every_h264_level : (test : H264LevelIdc → Bool) → list_all test levels ≡ true → (it : H264LevelIdc) → test it ≡ true
+pub every_h264_level : (test : H264LevelIdc → Bool) → list_all test levels ≡ true →
+    (it : H264LevelIdc) → test it ≡ true
 every_h264_level test all level.Level1 = passes_at test levels 0 level.Level1 refl refl all
 every_h264_level test all level.Level1B = passes_at test levels 1 level.Level1B refl refl all
 every_h264_level test all level.Level1_1 = passes_at test levels 2 level.Level1_1 refl refl all
@@ -50,7 +55,8 @@ agree_is false true h = absurd cc
 
 -- two tests of pairs of levels are the same where they are at each two levels of the list
 pub same_test : (one other : H264LevelIdc → H264LevelIdc → Bool) →
-    list_all (λ a. list_all (λ b. agree (one a b) (other a b)) levels) levels ≡ true → (a b : H264LevelIdc) → one a b ≡ other a b
+    list_all (λ a. list_all (λ b. agree (one a b) (other a b)) levels) levels ≡ true →
+    (a b : H264LevelIdc) → one a b ≡ other a b
 same_test one other all a b =
     agree_is (one a b) (other a b) (every_h264_level (λ y. agree (one a y) (other a y))
     (every_h264_level (λ x. list_all (λ y. agree (one x y) (other x y)) levels) all a) b)
