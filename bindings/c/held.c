@@ -13,7 +13,7 @@ enum {
     PACKET = 65507,
     RUN_LIMIT = 1000,
     /* How many bytes a receiver of H.265 may hold for what it shows of packets. */
-    SHOWN_MOST = 48 * 1024 * 1024,
+    SHOWN_MOST = 3 * 1024 * 1024,
     /* An open unit and the packet that is taken, and what was completed and had no room, twice; each in a buffer that
      * grew to twice its length. An empty unit of an aggregate is written in twice its bytes. */
     RUN_MOST = 2 * (RUN_LIMIT + PACKET),

@@ -13,7 +13,7 @@ const (
 	longestPacket = 65507
 	smallRunLimit = 1000
 	// How many bytes a receiver of H.265 may hold for what it shows of packets.
-	shownMost = 48 << 20
+	shownMost = 3 << 20
 	// What it may hold beside that, with what is completed; and the test.
 	besideShown, besideReceivers = 1 << 20, 32 << 20
 	hostileReceivers             = 4

@@ -229,8 +229,9 @@ H26X_API uint32_t h26x_depacketizer_set_numbers(h26x_depacketizer *d, bool numbe
  * - *extra tells of IDR pictures (H.264), IRAP pictures (H.265), IDR and CRA pictures (H.266), and not of a recovery
  *   point without one (intra refresh, gradual decoding refresh): who begins there looks into the units.
  * - A peer that never ends a unit makes the open unit as long as all it sends: h26x_receive has a limit; else add up
- *   the lengths of the fragments since one had its S bit, and call h26x_give_up_run. What was written, and of H.265
- *   the packet shown, are held too, each as large as the longest so far. */
+ *   the lengths of the fragments since one had its S bit, and call h26x_give_up_run. What was written is held too, as
+ *   large as the longest so far; and of H.265 the packet shown, a buffer as large, and under half a megabyte for units
+ *   of aggregates, which h26x_give_up_run and h26x_receiver_restart free. */
 H26X_API uint32_t h26x_depacketize(h26x_depacketizer *d, bool avc, const uint8_t *packet, size_t packet_len,
                                    uint8_t *to, size_t room, size_t *written, uint8_t *extra,
                                    h26x_refusal *why) H26X_MUST_USE;

@@ -10,7 +10,7 @@ from h26x import Codec, Receiver
 PACKET = 65507
 RUN_LIMIT = 1000
 #: How many bytes a receiver of H.265 may hold for what it shows of packets.
-SHOWN_MOST = 48 << 20
+SHOWN_MOST = 3 << 20
 #: What it may hold beside that, with the memory that it writes units to; and the test.
 BESIDE_SHOWN = 1 << 20
 BESIDE_RECEIVERS = 32 << 20

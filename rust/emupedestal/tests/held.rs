@@ -9,7 +9,7 @@ use std::cell::Cell;
 const PACKET: usize = 65507;
 const RUN_LIMIT: usize = 1000;
 /// How many bytes a receiver of H.265 may hold for what it shows of packets.
-const SHOWN_MOST: usize = 48 << 20;
+const SHOWN_MOST: usize = 3 << 20;
 /// An open unit and the packet that is taken, in a buffer that grew to twice its length.
 const RUN_MOST: usize = 2 * (RUN_LIMIT + PACKET);
 const SMALL: usize = 4096;
