@@ -6,13 +6,12 @@ use crate::held::held_by;
 use crate::packets::FRONT;
 use emupedestal::{Codec, CodecExtra, Received, SequencedDepacketizer};
 
-/// How many bytes a receiver of H.265 may hold for what it shows, for each byte of its longest packet: up to four
-/// lists, each of up to 256 units as long as a packet, or of one packet's empty units, in buffers that are twice
-/// as long.
-const SHOWN_FOR_EACH_BYTE: usize = 2 * (4 * 256) + 4 * 64;
+/// How many bytes a receiver of H.265 may hold for what it shows, for each byte of its longest packet: two of it, and
+/// an aggregate's empty units, in buffers that are twice as long.
+const SHOWN_FOR_EACH_BYTE: usize = 2 * 2 + 4 * 64;
 
-/// What a receiver holds whatever came.
-const SMALL: usize = 1 << 16;
+/// What a receiver holds whatever came: of H.265 three lists of 32 units of up to 1500 bytes, in buffers of twice that.
+const SMALL: usize = (1 << 16) + 2 * 3 * 32 * 1500;
 
 /// A receiver, and what must be.
 pub struct Receiver<D> {
