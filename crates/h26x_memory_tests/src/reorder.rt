@@ -159,7 +159,7 @@ fn push_held(
     };
     match pushed {
         Ok(()) => {
-            assert!(rt; want.is_none() && buffer.len() == count + 1);
+            assert!(rt; want.is_none() && count.checked_add(1) == Some(buffer.len()));
             None
         }
         Err(not_held) => {
