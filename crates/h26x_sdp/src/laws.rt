@@ -1,0 +1,27 @@
+//! Laws of the grammar. Each is the contract of a function without a result.
+
+ghost use Rattle.std.specs.Prelude.{◌≡◌, ℕ, true, List, [], ◌∷◌, ◌++◌};
+ghost use Rattle.std.specs.List.{AllByRecursion, join_with_byte};
+ghost use Rattle.h26x_sdp.specs.Pairs.{Pair, parts, pairs, closes};
+ghost use Rattle.h26x_sdp.specs.Written.{written, with_pair, IsWritable};
+
+/// A text is its parts with `;` between them.
+pub fn parts_are_the_text()
+    ensures { (text : List ℕ) → join_with_byte 59 (parts text) ≡ text }
+{}
+
+/// What is written is read as the same parameters, and leaves no brace open.
+pub fn what_is_written_is_read()
+    ensures same { (all : List Pair) → AllByRecursion IsWritable all → pairs (written all) ≡ all }
+    ensures closes { (all : List Pair) → AllByRecursion IsWritable all → closes (written all) ≡ true }
+    ensures more { (all : List Pair) (pair : Pair) →
+        written (all ++ pair ∷ []) ≡ with_pair (written all) pair }
+{}
+
+/// What is read from a text that leaves no brace open can be written, and is read again as the same.
+pub fn what_is_read_can_be_written()
+    ensures writable { (text : List ℕ) → closes text ≡ true →
+        AllByRecursion IsWritable (pairs text) }
+    ensures again { (text : List ℕ) → closes text ≡ true →
+        pairs (written (pairs text)) ≡ pairs text }
+{}
