@@ -1,3 +1,5 @@
 pub mod PartLemmas
 pub mod TrimLemmas
 pub mod WrittenLemmas
+pub mod NumberLemmas
+pub mod NameLemmas
