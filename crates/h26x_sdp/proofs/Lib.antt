@@ -3,3 +3,6 @@ pub mod TrimLemmas
 pub mod WrittenLemmas
 pub mod NumberLemmas
 pub mod NameLemmas
+pub mod ReadingLemmas
+pub mod AgainLemmas
+pub mod H264Lemmas

@@ -11,7 +11,7 @@ use Rattle.std.proofs.lemmas.Str.{IsUtf8-from_ascii}
 use Rattle.std.proofs.lemmas.Str.Ascii.{IsAscii-nil, IsAscii-cons}
 use Rattle.std.proofs.lemmas.Str.Parse.{IsNumeralModel, numerals_by_value, tells_digits, parse_digits, digit_from_value}
 use Rattle.h26x_sdp.specs.Kinds.{are_digits, number_in}
-use Rattle.h26x_sdp.specs.declared.fault.Fault.TheVariants.{OutOfRange}
+use Rattle.h26x_sdp.specs.declared.error.Fault.TheVariants.{OutOfRange}
 
 -- what passes the test of digits are digits
 pub digits_from_test : (text : List ℕ) → are_digits 10 text ≡ true → AllDigits 10 text

@@ -1,6 +1,6 @@
 -- White space at the ends of a text.
-use Rattle.std.proofs.Common.{◌≡◌, ℕ, suc, ◌+◌, ◌-◌, ◌<◌, ◌≤◌, Bool, true, false, ◌||◌, List, [], ◌∷◌, ◌++◌, length, take, drop, get_or, refl, sym, ap, ◌∙◌, arith, ⊎_elim}
-use Rattle.std.specs.Prelude.{filter, ◌==◌}
+use Rattle.std.proofs.Common.{◌≡◌, ℕ, suc, ◌+◌, ◌-◌, ◌<◌, ◌≤◌, true, false, List, [], ◌∷◌, ◌++◌, length, take, drop, get_or, refl, sym, ap, ◌∙◌, arith, ⊎_elim}
+use Rattle.std.specs.Prelude.{filter}
 use mathlib.Core.List.{reverse}
 use Rattle.std.specs.List.{prefix_len, suffix_len}
 use Rattle.std.specs.Char.{is_ascii_whitespace}
@@ -12,6 +12,7 @@ use Rattle.std.proofs.lemmas.List.Elements.{filter-append}
 use Rattle.std.proofs.lemmas.Str.Ascii.{trim_ascii_is}
 use Rattle.h26x_sdp.specs.Pairs.{trimmed}
 use Rattle.h26x_sdp.specs.Written.{IsTrimmed}
+use Rattle.h26x_sdp.specs.Parameters.{is_mark}
 
 -- a text without white space at its ends stays
 pub trimmed_same : (text : List ℕ) → IsTrimmed text → trimmed text ≡ text
@@ -58,10 +59,6 @@ trimmed_is text =
     let first : 0 < m → is_ascii_whitespace (get_or rest 0 0) ≡ false = λ some.
     ap is_ascii_whitespace (get_or-drop n text 0 0 ∙ ap (λ k. get_or text k 0) (omega arith)) ∙ prefix_len_stops is_ascii_whitespace text 0 (omega arith) in
     front_is_trimmed rest m (omega arith) first (λ some. none_before rest m refl some)
-
--- a byte that opens or closes a brace, or `;`
-abbrev pub is_mark : ℕ → Bool
-is_mark byte = (byte == 59 || byte == 123) || byte == 125
 
 space_no_mark : (byte : ℕ) → is_ascii_whitespace byte ≡ true → is_mark byte ≡ false
 space_no_mark byte space = grind (arith, nat_tests, space)

@@ -11,7 +11,8 @@ use Rattle.std.proofs.lemmas.Bool.Decides.{nat_tests}
 use Rattle.h26x_sdp.specs.Pairs.{Pair, ends_part, is_inside, parts_from, parts, closes_from, closes, is_equals, pair_in, pair_of, pair_unless_empty, pairs, trimmed}
 use Rattle.h26x_sdp.specs.Written.{text_of, written, separated, with_pair, is_one_part, IsTrimmed, IsWritable}
 use Rattle.h26x_sdp.proofs.PartLemmas.{by_test, parts_on, parts_end}
-use Rattle.h26x_sdp.proofs.TrimLemmas.{trimmed_same, trimmed_is, is_mark, marks_trimmed}
+use Rattle.h26x_sdp.proofs.TrimLemmas.{trimmed_same, trimmed_is, marks_trimmed}
+use Rattle.h26x_sdp.specs.Parameters.{is_mark}
 
 -- the parts of a text, joined
 join_first : (byte : ℕ) (ps : List (List ℕ)) → join_with_byte 59 (onto_first byte ps) ≡ byte ∷ join_with_byte 59 ps
@@ -189,7 +190,7 @@ closed_parts s (byte ∷ rest) h = by_test (ends_part s byte)
     (λ on. rw (parts_on s byte rest on) (part_more s byte (parts_from (is_inside s byte) rest) on (some_parts (is_inside s byte) rest) (closed_parts (is_inside s byte) rest h)))
 
 -- whether a text is one part is seen by its marks
-by_marks : (s : Bool) (text : List ℕ) → is_one_part s text ≡ is_one_part s (filter is_mark text)
+pub by_marks : (s : Bool) (text : List ℕ) → is_one_part s text ≡ is_one_part s (filter is_mark text)
 by_marks s [] = refl
 by_marks s (byte ∷ rest) = by_test (is_mark byte)
     (λ mark. rw mark (ap (λ t. not (ends_part s byte) && t) (by_marks (is_inside s byte) rest)))

@@ -5,8 +5,8 @@ use Rattle.std.specs.Char.{digit_value}
 use Rattle.std.specs.Str.Parse.{digits_value}
 use Rattle.h26x_sdp.specs.declared.kind.Kind.{Kind}
 use Rattle.h26x_sdp.specs.declared.kind.Kind.TheVariants.{Number, Hexadecimal, Text}
-use Rattle.h26x_sdp.specs.declared.fault.Fault.{Fault}
-use Rattle.h26x_sdp.specs.declared.fault.Fault.TheVariants.{NotANumber, OutOfRange, NotHexadecimal}
+use Rattle.h26x_sdp.specs.declared.error.Fault.{Fault}
+use Rattle.h26x_sdp.specs.declared.error.Fault.TheVariants.{NotANumber, OutOfRange, NotHexadecimal}
 
 -- whether each byte of a text is a digit
 abbrev pub are_digits : ℕ → List ℕ → Bool

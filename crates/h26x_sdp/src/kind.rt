@@ -3,7 +3,7 @@
 ghost use Rattle.std.specs.Prelude.{◌≡◌, ◌≤◌};
 ghost use Rattle.h26x_sdp.specs.Kinds as spec;
 
-use crate::fault::Fault;
+use crate::error::Fault;
 use std::str;
 
 /// What the value of a parameter is.

@@ -1,6 +1,8 @@
 //! Values of real lines, their parameters as they are written, and what is wrong with values.
 
-use crate::{Fault, Kind, closes, pairs_of, push_pair};
+use crate::{
+    Fault, H264Parameter, H264Parameters, Kind, ParametersError, closes, pairs_of, push_pair,
+};
 use std::alloc::{AllocError, Global};
 use std::process::Abort;
 use std::test::Fail;
@@ -70,6 +72,38 @@ const VALUES: [(Kind, &str, Option<Fault>); 12] = [
     (Kind::Text, "", None),
 ];
 
+/// What ends send for H.264, and the same in RFC 6184's order.
+const IN_ORDER: [(&str, &str); 5] = [
+    (
+        "level-asymmetry-allowed=1;packetization-mode=1;profile-level-id=42e01f",
+        "profile-level-id=42e01f;level-asymmetry-allowed=1;packetization-mode=1",
+    ),
+    (
+        "packetization-mode=1; sprop-parameter-sets=Z0IACpZTBYmI,aMljiA==; profile-level-id=42000A",
+        "profile-level-id=42000A;sprop-parameter-sets=Z0IACpZTBYmI,aMljiA==;packetization-mode=1",
+    ),
+    // what isn't known, in its order, and a name in another case
+    (
+        "x-google-start-bitrate=800; MAX-FS=3600;; B; x-google-max-bitrate=2000;",
+        "max-fs=3600;x-google-start-bitrate=800;B=;x-google-max-bitrate=2000",
+    ),
+    (
+        "cap={w:8;max-fs=1}; max-fs=2",
+        "max-fs=2;cap={w:8;max-fs=1}",
+    ),
+    ("", ""),
+];
+
+/// What is refused for H.264, with its place and its fault.
+const REFUSED: [(&str, usize, Fault); 6] = [
+    ("packetization-mode=3", 0, Fault::OutOfRange),
+    ("a=1;;packetization-mode=one", 1, Fault::NotANumber),
+    ("max-fs=4294967296", 0, Fault::OutOfRange),
+    ("redundant-pic-cap=2", 0, Fault::OutOfRange),
+    ("x=1;profile-level-id=42e0", 1, Fault::NotHexadecimal),
+    ("max-fs=1;a=2;Max-FS=1", 2, Fault::Twice),
+];
+
 const MODE: Kind = Kind::Number { least: 0, most: 2 };
 
 const ID: Kind = Kind::Hexadecimal { bytes: 3 };
@@ -111,4 +145,37 @@ fn lines_of_real_ends(rt: HostRuntime) -> Result<(), Fail> {
 #[test]
 fn values_of_each_kind(rt: HostRuntime) {
     all_told(&rt, &VALUES);
+}
+
+/// Each line of H.264 is written in order.
+fn all_in_order(
+    rt: &impl Abort,
+    alloc: Global,
+    lines: &[(&str, &str)],
+) -> Result<(), ParametersError> {
+    for (line, want) in lines {
+        let text = H264Parameters::read(alloc, line.as_bytes())?.write(alloc)?;
+        assert!(rt; text.as_slice() == want.as_bytes());
+    }
+    Ok(())
+}
+
+/// Each line of H.264 is refused.
+fn all_refused(rt: &impl Abort, alloc: Global, lines: &[(&str, usize, Fault)]) {
+    for (line, place, fault) in lines {
+        let (place, fault) = (*place, *fault);
+        let want = Some(ParametersError::Refused { place, fault });
+        assert!(rt; H264Parameters::read(alloc, line.as_bytes()).err() == want);
+    }
+}
+
+#[test]
+fn lines_of_h264(rt: HostRuntime) -> Result<(), Fail> {
+    all_in_order(&rt, rt.alloc(), &IN_ORDER)?;
+    all_refused(&rt, rt.alloc(), &REFUSED);
+    let format = H264Parameters::read(rt.alloc(), b"packetization-mode=1;x=2")?;
+    let mode = format.number(H264Parameter::PacketizationMode);
+    let largest = format.number(H264Parameter::MaxFs);
+    assert!(rt; (mode, largest, format.others().len()) == (Some(1), None, 1));
+    Ok(())
 }
