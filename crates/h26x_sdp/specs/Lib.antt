@@ -1,0 +1,11 @@
+pub mod Pairs
+pub mod PairViews
+pub mod Written
+pub mod Kinds
+pub mod Tables
+pub mod TableViews
+pub mod Reading
+pub mod ParametersViews
+pub mod Parameters
+pub mod H264Rows
+pub mod H264Views

@@ -1,0 +1,55 @@
+//! Why parameters are refused.
+
+use std::alloc::{AllocError, AllocFailed};
+use thiserror::Error;
+
+/// What is wrong with a parameter.
+#[derive(Debug, Clone, Copy, PartialEq, Eq)]
+pub enum Fault {
+    /// The value is no decimal number.
+    NotANumber,
+    /// The value is a number, but none that the parameter may have.
+    OutOfRange,
+    /// The value isn't as many bytes, by two hexadecimal digits each, as the parameter has.
+    NotHexadecimal,
+    /// A parameter of this name stands before it.
+    Twice,
+}
+
+/// Why a text is no format parameters. A refused call changes nothing.
+#[derive(Debug, Clone, Copy, PartialEq, Eq, Error)]
+pub enum ParametersError {
+    /// A `{` of the text isn't closed.
+    #[error("a brace is left open")]
+    OpenBrace,
+
+    /// The parameter at this place, counted from 0, has this fault. Blank parts don't count.
+    #[error("parameter {place} is refused")]
+    Refused { place: usize, fault: Fault },
+
+    /// The allocator had no memory.
+    #[error("out of memory")]
+    OutOfMemory,
+}
+
+impl From<AllocError> for ParametersError {
+    ghost use Rattle.std.specs.Prelude.{◌≡◌};
+    ghost use Rattle.h26x_sdp.specs.declared.error.ParametersError.TheVariants.{OutOfMemory};
+
+    ghost from_gives = { λ _ e. e ≡ OutOfMemory };
+
+    fn from(_e: AllocError) -> ParametersError {
+        ParametersError::OutOfMemory
+    }
+}
+
+impl<T: Drop> From<AllocFailed<T>> for ParametersError {
+    ghost use Rattle.std.specs.Prelude.{◌≡◌};
+    ghost use Rattle.h26x_sdp.specs.declared.error.ParametersError.TheVariants.{OutOfMemory};
+
+    ghost from_gives = { λ _ e. e ≡ OutOfMemory };
+
+    fn from(_e: AllocFailed<T>) -> ParametersError {
+        ParametersError::OutOfMemory
+    }
+}

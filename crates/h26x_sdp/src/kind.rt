@@ -1,0 +1,71 @@
+//! What the value of a parameter is.
+
+ghost use Rattle.std.specs.Prelude.{◌≡◌, ◌≤◌};
+ghost use Rattle.h26x_sdp.specs.Kinds as spec;
+
+use crate::error::Fault;
+use std::str;
+
+/// What the value of a parameter is.
+#[derive(Debug, Clone, Copy, PartialEq, Eq)]
+pub enum Kind {
+    /// A decimal number from `least` to `most`.
+    Number { least: u64, most: u64 },
+    /// So many bytes, each by two hexadecimal digits in either case.
+    Hexadecimal { bytes: u8 },
+    /// A text that no rule of this crate looks into.
+    Text,
+}
+
+impl Kind {
+    /// What is wrong with a value of this kind, if anything is. It takes no memory.
+    pub fn fault_in(self, value: &[u8]) -> Option<Fault>
+        ensures { result ≡ spec.fault_in self value.now }
+    {
+        match self {
+            Kind::Number { least, most } => match number_in(value) {
+                Err(fault) => Some(fault),
+                Ok(number) if least <= number && number <= most => None,
+                Ok(_) => Some(Fault::OutOfRange),
+            },
+            Kind::Hexadecimal { bytes } => {
+                if value.len() == 2 * usize::from(bytes) && are_digits(value, 16) {
+                    None
+                } else {
+                    Some(Fault::NotHexadecimal)
+                }
+            }
+            Kind::Text => None,
+        }
+    }
+}
+
+/// Whether each byte of a text is a digit, in either case.
+fn are_digits(text: &[u8], radix: u32) -> bool
+    requires low { 2 ≤ radix }
+    requires high { radix ≤ 36 }
+    ensures { result ≡ spec.are_digits radix text.now }
+{
+    for byte in text {
+        if !char::from(*byte).is_digit(radix) {
+            return false;
+        }
+    }
+    true
+}
+
+/// The number that a text of decimal digits says: digits alone, without a sign.
+pub fn number_in(text: &[u8]) -> Result<u64, Fault>
+    ensures { result ≡ spec.number_in text.now }
+{
+    if text.is_empty() || !are_digits(text, 10) {
+        return Err(Fault::NotANumber);
+    }
+    match str::from_utf8(text) {
+        Ok(digits) => match digits.parse::<u64>() {
+            Ok(number) => Ok(number),
+            Err(_) => Err(Fault::OutOfRange),
+        },
+        Err(_) => Err(Fault::NotANumber),
+    }
+}

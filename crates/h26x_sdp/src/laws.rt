@@ -1,0 +1,37 @@
+//! Laws of the grammar. Each is the contract of a function without a result.
+
+ghost use Rattle.std.specs.Prelude.{◌≡◌, ℕ, true, Ok, List, [], ◌∷◌, ◌++◌};
+ghost use Rattle.std.specs.List.{AllByRecursion, join_with_byte};
+ghost use Rattle.h26x_sdp.specs.Pairs.{Pair, parts, pairs, closes};
+ghost use Rattle.h26x_sdp.specs.Written.{written, with_pair, IsWritable};
+ghost use Rattle.h26x_sdp.specs.Parameters.{AreParameters};
+ghost use Rattle.h26x_sdp.specs.Reading.{Parameters, read_of, all_of};
+ghost use Rattle.h26x_sdp.specs.H264Rows as h264;
+
+/// A text is its parts with `;` between them.
+pub fn parts_are_the_text()
+    ensures { (text : List ℕ) → join_with_byte 59 (parts text) ≡ text }
+{}
+
+/// What is written is read as the same parameters, and leaves no brace open.
+pub fn what_is_written_is_read()
+    ensures same { (all : List Pair) → AllByRecursion IsWritable all → pairs (written all) ≡ all }
+    ensures closes { (all : List Pair) → AllByRecursion IsWritable all → closes (written all) ≡ true }
+    ensures more { (all : List Pair) (pair : Pair) →
+        written (all ++ pair ∷ []) ≡ with_pair (written all) pair }
+{}
+
+/// What is read from a text that leaves no brace open can be written, and is read again as the same.
+pub fn what_is_read_can_be_written()
+    ensures writable { (text : List ℕ) → closes text ≡ true →
+        AllByRecursion IsWritable (pairs text) }
+    ensures again { (text : List ℕ) → closes text ≡ true →
+        pairs (written (pairs text)) ≡ pairs text }
+{}
+
+/// What is written of H.264's parameters is read as the same, for all parameters: each value one of
+/// its kind, and the others none of the table.
+pub fn what_is_written_of_h264_is_read()
+    ensures { (it : Parameters) → AreParameters h264.rows it →
+        read_of h264.rows (written (all_of h264.rows it)) ≡ Ok it }
+{}
