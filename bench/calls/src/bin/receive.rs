@@ -9,7 +9,8 @@
 //! late; the window is 300. How the packets come into memory of their own isn't in the times.
 
 use emupedestal::{
-    AccessUnit, Codec, CodecPacketizer, FrameReceiver, HeldPacket, Packetizer, ReorderBuffer, RtpPacket,
+    AccessUnit, Codec, CodecPacketizer, FrameReceiver, HeldPacket, Packetizer, ReorderBuffer,
+    RtpPacket,
 };
 use std::env;
 use std::hint::black_box;
@@ -75,12 +76,21 @@ fn packets_of(codec: Codec, is_large: bool, random: &mut Random) -> Vec<Sent> {
         let mut picture = Vec::new();
         let slices = if is_large { 1 + random.below(8) } else { 1 };
         for _ in 0..slices {
-            let len = if is_large { 2_000 + random.below(18_000) } else { 60 + random.below(300) };
+            let len = if is_large {
+                2_000 + random.below(18_000)
+            } else {
+                60 + random.below(300)
+            };
             random.push_unit(slice_header(codec), len as usize, &mut picture);
         }
         for payload in packetizer.packetize(1200, &picture).unwrap() {
             let sequence = sent.len() as u16;
-            sent.push(Sent { sequence, timestamp, marker: false, payload });
+            sent.push(Sent {
+                sequence,
+                timestamp,
+                marker: false,
+                payload,
+            });
         }
         sent.last_mut().unwrap().marker = true;
         timestamp = timestamp.wrapping_add(3_000);
