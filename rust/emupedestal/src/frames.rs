@@ -13,7 +13,7 @@ use core::fmt;
 
 impl ReorderBuffer {
     /// Takes a packet, and copies it. Without memory the buffer stays as it was, and the packet can be
-    /// given again.
+    /// given again. [`push_held`](Self::push_held) takes one that has memory of its own, and copies nothing.
     pub fn push(&mut self, packet: &RtpPacket<'_>) -> Result<Pushed, PacketError> {
         Ok(self.try_push(packet)?)
     }
