@@ -62,4 +62,11 @@ macro_rules! by_number {
     )*};
 }
 
-by_number!(H265Profile, H265Tier, H265Level, H266Profile, H266Tier, H266Level);
+by_number!(
+    H265Profile,
+    H265Tier,
+    H265Level,
+    H266Profile,
+    H266Tier,
+    H266Level
+);
