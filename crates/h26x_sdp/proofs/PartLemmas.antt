@@ -6,7 +6,7 @@ use Rattle.std.proofs.lemmas.List.{append-nil, append_assoc, drop_more, drop_all
 use Rattle.std.proofs.lemmas.List.Sums.{prefix_len_is}
 use Rattle.std.proofs.lemmas.Bool.{not_from_true, not_from_false, false_from_ne_true}
 use Rattle.memchr.specs.Find.{IsFirstByte, is_byte}
-use Rattle.h26x_sdp.specs.Pairs.{Pair, ends_part, is_inside, parts_from, parts, closes_from, is_equals, pair_in, pair_of, pairs, trimmed}
+use Rattle.h26x_sdp.specs.Pairs.{Pair, ends_part, is_inside, parts_from, parts, closes_from, is_equals, pair_in, pair_of, pairs, trim_ascii}
 
 -- by what a test says
 pub by_test : {P : Type 0} (b : Bool) → (b ≡ true → P) → (b ≡ false → P) → P
@@ -99,17 +99,17 @@ equals_at part (Some k) (before, here) =
 
 -- the name and the value round an `=`, and a name alone
 pub pair_at : (part : List ℕ) (k : ℕ) → IsFirstByte (is_byte 61) part (Some k)
-    → ◌≡◌ {A = Pair} (record { name = trimmed (take k part); value = trimmed (drop (k + 1) part) }) (pair_of part)
+    → ◌≡◌ {A = Pair} (record { name = trim_ascii (take k part); value = trim_ascii (drop (k + 1) part) }) (pair_of part)
 pair_at part k first =
     let place = equals_at part (Some k) first in
-    ap (λ (n : ℕ). record { name = trimmed (take n part); value = trimmed (drop (n + 1) part) }) place
+    ap (λ (n : ℕ). record { name = trim_ascii (take n part); value = trim_ascii (drop (n + 1) part) }) place
 
 pub pair_alone : (part : List ℕ) → IsFirstByte (is_byte 61) part None
-    → ◌≡◌ {A = Pair} (record { name = trimmed part; value = [] }) (pair_of part)
+    → ◌≡◌ {A = Pair} (record { name = trim_ascii part; value = [] }) (pair_of part)
 pair_alone part first =
     let place = equals_at part None first in
     let name : take (length part) part ≡ part = take_all (length part) part (omega arith) in
     let value : drop (length part + 1) part ≡ [] = drop_all (length part + 1) part (omega arith) in
-    ap (λ (l : List ℕ). record { name = trimmed l; value = trimmed [] }) (sym name)
-    ∙ ap (λ (l : List ℕ). record { name = trimmed (take (length part) part); value = trimmed l }) (sym value)
-    ∙ ap (λ (n : ℕ). record { name = trimmed (take n part); value = trimmed (drop (n + 1) part) }) place
+    ap (λ (l : List ℕ). record { name = trim_ascii l; value = trim_ascii [] }) (sym name)
+    ∙ ap (λ (l : List ℕ). record { name = trim_ascii (take (length part) part); value = trim_ascii l }) (sym value)
+    ∙ ap (λ (n : ℕ). record { name = trim_ascii (take n part); value = trim_ascii (drop (n + 1) part) }) place

@@ -10,12 +10,12 @@ use Rattle.std.proofs.lemmas.List.{get_or-take, get_or-drop, get_or-reverse, len
 use Rattle.std.proofs.lemmas.List.Sums.{prefix_len_passes, prefix_len_stops, prefix_len-le-length, suffix_len-le-length}
 use Rattle.std.proofs.lemmas.List.Elements.{filter-append}
 use Rattle.std.proofs.lemmas.Str.Ascii.{trim_ascii_is}
-use Rattle.h26x_sdp.specs.Pairs.{trimmed}
+use Rattle.h26x_sdp.specs.Pairs.{trim_ascii}
 use Rattle.h26x_sdp.specs.Written.{IsTrimmed}
 use Rattle.h26x_sdp.specs.Parameters.{is_mark}
 
 -- a text without white space at its ends stays
-pub trimmed_same : (text : List ℕ) → IsTrimmed text → trimmed text ≡ text
+pub trimmed_same : (text : List ℕ) → IsTrimmed text → trim_ascii text ≡ text
 trimmed_same text h =
     sym (trim_ascii_is text text (drop (prefix_len is_ascii_whitespace text) text) refl
     (0, sym (take_all (length text) text (omega arith)), (λ i l. absurd (omega arith)), (λ l. h.start), (λ i a b. absurd (omega arith)), (λ l. h.end)))
@@ -50,7 +50,7 @@ front_is_trimmed xs m within first last = ⊎_elim (λ some. record {
     empty (y ∷ ys) h = absurd (omega arith)
 
 -- what is left is trimmed
-pub trimmed_is : (text : List ℕ) → IsTrimmed (trimmed text)
+pub trimmed_is : (text : List ℕ) → IsTrimmed (trim_ascii text)
 trimmed_is text =
     let n : ℕ = prefix_len is_ascii_whitespace text in
     let rest : List ℕ = drop n text in
@@ -71,7 +71,7 @@ no_marks (x ∷ xs) h =
     rw first (no_marks xs (λ k l. h (suc k) (omega arith)))
 
 -- trimming leaves the marks
-pub marks_trimmed : (text : List ℕ) → filter is_mark (trimmed text) ≡ filter is_mark text
+pub marks_trimmed : (text : List ℕ) → filter is_mark (trim_ascii text) ≡ filter is_mark text
 marks_trimmed text =
     let n : ℕ = prefix_len is_ascii_whitespace text in
     let rest : List ℕ = drop n text in

@@ -8,7 +8,7 @@ use Rattle.std.proofs.lemmas.List.Folds.{list_all-append}
 use Rattle.std.proofs.lemmas.List.Elements.{filter-append}
 use Rattle.std.proofs.lemmas.Bool.{and_parts, and_from, or_parts, not-true}
 use Rattle.std.proofs.lemmas.Bool.Decides.{nat_tests}
-use Rattle.h26x_sdp.specs.Pairs.{Pair, ends_part, is_inside, parts_from, parts, closes_from, closes, is_equals, pair_in, pair_of, pair_unless_empty, pairs, trimmed}
+use Rattle.h26x_sdp.specs.Pairs.{Pair, ends_part, is_inside, parts_from, parts, closes_from, closes, is_equals, pair_in, pair_of, pair_unless_empty, pairs, trim_ascii}
 use Rattle.h26x_sdp.specs.Written.{text_of, written, separated, with_pair, is_one_part, IsTrimmed, IsWritable}
 use Rattle.h26x_sdp.proofs.PartLemmas.{by_test, parts_on, parts_end}
 use Rattle.h26x_sdp.proofs.TrimLemmas.{trimmed_same, trimmed_is, marks_trimmed}
@@ -102,9 +102,9 @@ pair_back pair w =
     let behind : after_first is_equals (text_of pair) ≡ value = ap (λ k. drop (k + 1) (text_of pair)) equals ∙ behind_equals name value in
     ap pair_unless_empty (trimmed_same (text_of pair) (record { start = text_start name value w.name; end = text_end name value w.value }))
     ∙ not_empty name value
-    ∙ ap (λ (l : List ℕ). Some (record { name = trimmed l; value = trimmed (after_first is_equals (text_of pair)) })) front
-    ∙ ap (λ (l : List ℕ). Some (record { name = trimmed name; value = trimmed l })) behind
-    ∙ ap (λ (l : List ℕ). Some (record { name = l; value = trimmed value })) (trimmed_same name w.name)
+    ∙ ap (λ (l : List ℕ). Some (record { name = trim_ascii l; value = trim_ascii (after_first is_equals (text_of pair)) })) front
+    ∙ ap (λ (l : List ℕ). Some (record { name = trim_ascii name; value = trim_ascii l })) behind
+    ∙ ap (λ (l : List ℕ). Some (record { name = l; value = trim_ascii value })) (trimmed_same name w.name)
     ∙ ap (λ (l : List ℕ). Some (record { name = name; value = l })) (trimmed_same value w.value)
 
 pairs_back : (all : List Pair) → AllByRecursion IsWritable all → filter_map pair_in (map text_of all) ≡ all
@@ -221,8 +221,8 @@ marks_at (x ∷ xs) = by_test (is_equals x) (from_equals x (position_or_len is_e
 marks_of_pair : (part : List ℕ) → filter is_mark (text_of (pair_of part)) ≡ filter is_mark part
 marks_of_pair part =
     let k : ℕ = position_or_len is_equals part in
-    filter-append is_mark (trimmed (take k part)) (61 ∷ trimmed (drop (k + 1) part))
-    ∙ ap (λ l. l ++ filter is_mark (trimmed (drop (k + 1) part))) (marks_trimmed (take k part))
+    filter-append is_mark (trim_ascii (take k part)) (61 ∷ trim_ascii (drop (k + 1) part))
+    ∙ ap (λ l. l ++ filter is_mark (trim_ascii (drop (k + 1) part))) (marks_trimmed (take k part))
     ∙ ap (λ l. filter is_mark (take k part) ++ l) (marks_trimmed (drop (k + 1) part))
     ∙ ap (λ l. filter is_mark (take k part) ++ l) (sym (marks_at part))
     ∙ sym (filter-append is_mark (take k part) (drop k part))
@@ -265,7 +265,7 @@ writable_in [] one = tt
 writable_in (byte ∷ rest) one = writable_pair (byte ∷ rest) one
 
 writable_trimmed : (part : List ℕ) → is_one_part false part ≡ true → IfSome (pair_in part) IsWritable
-writable_trimmed part one = writable_in (trimmed part) (by_marks false (trimmed part) ∙ ap (is_one_part false) (marks_trimmed part) ∙ sym (by_marks false part) ∙ one)
+writable_trimmed part one = writable_in (trim_ascii part) (by_marks false (trim_ascii part) ∙ ap (is_one_part false) (marks_trimmed part) ∙ sym (by_marks false part) ∙ one)
 
 with_option : (o : Option Pair) (all : List Pair) → IfSome o IsWritable → AllByRecursion IsWritable all → AllByRecursion IsWritable (cons_option o all)
 with_option None all h w = w

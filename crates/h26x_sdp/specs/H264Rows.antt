@@ -3,35 +3,35 @@ use Rattle.std.specs.Prelude.{ℕ, List, [], ◌∷◌, codes}
 use Rattle.h26x_sdp.specs.declared.kind.Kind.TheVariants.{Number, Hexadecimal, Text}
 use Rattle.h26x_sdp.specs.declared.h264.H264Parameter.{H264Parameter}
 use Rattle.h26x_sdp.specs.declared.h264.H264Parameter.TheVariants as p
-use Rattle.h26x_sdp.specs.Tables.{Row}
+use Rattle.h26x_sdp.specs.Tables.{ParameterRow}
 
-abbrev pub place_of : H264Parameter → ℕ
-place_of p.ProfileLevelId = 0
-place_of p.MaxRecvLevel = 1
-place_of p.MaxMbps = 2
-place_of p.MaxSmbps = 3
-place_of p.MaxFs = 4
-place_of p.MaxCpb = 5
-place_of p.MaxDpb = 6
-place_of p.MaxBr = 7
-place_of p.RedundantPicCap = 8
-place_of p.SpropParameterSets = 9
-place_of p.SpropLevelParameterSets = 10
-place_of p.UseLevelSrcParameterSets = 11
-place_of p.InBandParameterSets = 12
-place_of p.LevelAsymmetryAllowed = 13
-place_of p.PacketizationMode = 14
-place_of p.SpropInterleavingDepth = 15
-place_of p.SpropDeintBufReq = 16
-place_of p.DeintBufCap = 17
-place_of p.SpropInitBufTime = 18
-place_of p.SpropMaxDonDiff = 19
-place_of p.MaxRcmdNaluSize = 20
-place_of p.SarUnderstood = 21
-place_of p.SarSupported = 22
+abbrev pub row_place : H264Parameter → ℕ
+row_place p.ProfileLevelId = 0
+row_place p.MaxRecvLevel = 1
+row_place p.MaxMbps = 2
+row_place p.MaxSmbps = 3
+row_place p.MaxFs = 4
+row_place p.MaxCpb = 5
+row_place p.MaxDpb = 6
+row_place p.MaxBr = 7
+row_place p.RedundantPicCap = 8
+row_place p.SpropParameterSets = 9
+row_place p.SpropLevelParameterSets = 10
+row_place p.UseLevelSrcParameterSets = 11
+row_place p.InBandParameterSets = 12
+row_place p.LevelAsymmetryAllowed = 13
+row_place p.PacketizationMode = 14
+row_place p.SpropInterleavingDepth = 15
+row_place p.SpropDeintBufReq = 16
+row_place p.DeintBufCap = 17
+row_place p.SpropInitBufTime = 18
+row_place p.SpropMaxDonDiff = 19
+row_place p.MaxRcmdNaluSize = 20
+row_place p.SarUnderstood = 21
+row_place p.SarSupported = 22
 
 -- each parameter, and what its value is, in the order in which the RFC registers them
-abbrev pub rows : List Row
+abbrev pub rows : List ParameterRow
 rows =
     record { name = codes "profile-level-id"; kind = Hexadecimal 3 } ∷
     record { name = codes "max-recv-level"; kind = Hexadecimal 2 } ∷
@@ -54,6 +54,6 @@ rows =
     record { name = codes "sprop-init-buf-time"; kind = Number 0 4294967295 } ∷
     record { name = codes "sprop-max-don-diff"; kind = Number 0 32767 } ∷
     record { name = codes "max-rcmd-nalu-size"; kind = Number 0 4294967295 } ∷
-    record { name = codes "sar-understood"; kind = Number 0 255 } ∷
+    record { name = codes "sar-understood"; kind = Number 0 254 } ∷
     record { name = codes "sar-supported"; kind = Number 0 255 } ∷
     []

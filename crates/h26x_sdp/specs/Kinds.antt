@@ -1,6 +1,7 @@
 -- What the values of parameters are.
 use Rattle.std.specs.Prelude.{ℕ, ◌*◌, ◌^◌, ◌==◌, ◌&&◌, nat_le, nat_lt, Bool, if◌then◌else◌, List, length, Option, Some, None, Result, Ok, Err}
 use Rattle.std.specs.List.{list_all}
+use Rattle.std.specs.Result.{result_ok}
 use Rattle.std.specs.Char.{digit_value}
 use Rattle.std.specs.Str.Parse.{digits_value}
 use Rattle.h26x_sdp.specs.declared.kind.Kind.{Kind}
@@ -9,13 +10,13 @@ use Rattle.h26x_sdp.specs.declared.error.Fault.{Fault}
 use Rattle.h26x_sdp.specs.declared.error.Fault.TheVariants.{NotANumber, OutOfRange, NotHexadecimal}
 
 -- whether each byte of a text is a digit
-abbrev pub are_digits : ℕ → List ℕ → Bool
-are_digits radix text = list_all (λ c. nat_lt (digit_value c) radix) text
+abbrev pub are_digits_of : ℕ → List ℕ → Bool
+are_digits_of radix text = list_all (λ c. nat_lt (digit_value c) radix) text
 
 -- the number of a text of decimal digits, of 64 bits at most
 abbrev pub number_in : List ℕ → Result ℕ Fault
 number_in text =
-    if nat_lt 0 (length text) && are_digits 10 text then
+    if nat_lt 0 (length text) && are_digits_of 10 text then
     (if nat_lt (digits_value 10 text) (2 ^ 64) then Ok (digits_value 10 text) else Err OutOfRange)
     else Err NotANumber
 
@@ -28,5 +29,11 @@ range_fault least most (Ok number) =
 abbrev pub fault_in : Kind → List ℕ → Option Fault
 fault_in (Number least most) value = range_fault least most (number_in value)
 fault_in (Hexadecimal bytes) value =
-    if length value == 2 * bytes && are_digits 16 value then None else Some NotHexadecimal
+    if length value == 2 * bytes && are_digits_of 16 value then None else Some NotHexadecimal
 fault_in Text value = None
+
+-- the number that a value of a kind says, if the kind is a number's
+abbrev pub number_of : Kind → List ℕ → Option ℕ
+number_of (Number least most) value = result_ok (number_in value)
+number_of (Hexadecimal bytes) value = None
+number_of Text value = None

@@ -10,8 +10,8 @@ pub record Pair : Type 0 where
   pub value : List ℕ
 
 -- a text without the white space at its ends
-abbrev pub trimmed : List ℕ → List ℕ
-trimmed text =
+abbrev pub trim_ascii : List ℕ → List ℕ
+trim_ascii text =
     let rest = drop (prefix_len is_ascii_whitespace text) text in
     take (length rest - suffix_len is_ascii_whitespace rest) rest
 
@@ -40,8 +40,8 @@ is_equals byte = byte == 61
 -- the name before the first `=` of a part, and the value behind it
 abbrev pub pair_of : List ℕ → Pair
 pair_of part = record {
-  name = trimmed (before_first is_equals part);
-  value = trimmed (after_first is_equals part);
+  name = trim_ascii (before_first is_equals part);
+  value = trim_ascii (after_first is_equals part);
 }
 
 -- the parameter of a part, if the part isn't blank
@@ -50,7 +50,7 @@ pair_unless_empty [] = None
 pair_unless_empty (byte ∷ rest) = Some (pair_of (byte ∷ rest))
 
 abbrev pub pair_in : List ℕ → Option Pair
-pair_in part = pair_unless_empty (trimmed part)
+pair_in part = pair_unless_empty (trim_ascii part)
 
 -- the parameters of a text
 abbrev pub pairs : List ℕ → List Pair

@@ -5,11 +5,11 @@ use Rattle.std.specs.Char.{is_ascii_whitespace}
 use Rattle.h26x_sdp.specs.Pairs.{Pair, is_equals}
 use Rattle.h26x_sdp.specs.Written.{with_pair, is_one_part, IsTrimmed, IsWritable}
 use Rattle.h26x_sdp.specs.Kinds.{fault_in}
-use Rattle.h26x_sdp.specs.Tables.{Row, row_of}
-use Rattle.h26x_sdp.specs.Reading.{Parameters}
+use Rattle.h26x_sdp.specs.Tables.{ParameterRow, row_of}
+use Rattle.h26x_sdp.specs.Reading.{FormatParameters}
 
 -- a text with a row's value behind it, if it's given
-abbrev pub with_given : List ℕ → Row → Option (List ℕ) → List ℕ
+abbrev pub with_given : List ℕ → ParameterRow → Option (List ℕ) → List ℕ
 with_given text row None = text
 with_given text row (Some value) = with_pair text (record { name = row.name; value = value })
 
@@ -22,37 +22,37 @@ abbrev pub is_plain : ℕ → Bool
 is_plain byte = (not (is_ascii_whitespace byte) && not (is_mark byte)) && not (is_equals byte)
 
 -- rows of a table, the first of them at a place: each is found by its name, which is plain
-abbrev pub AreRows : List Row → ℕ → List Row → Type 0
+abbrev pub AreRows : List ParameterRow → ℕ → List ParameterRow → Type 0
 AreRows all place [] = Unit {0}
 AreRows all place (row ∷ rest) = (row_of all row.name ≡ Some (place, row.kind))
     × (list_all is_plain row.name ≡ true) × AreRows all (place + 1) rest
 
-abbrev pub IsTable : List Row → Type 0
+abbrev pub IsTable : List ParameterRow → Type 0
 IsTable rows = AreRows rows 0 rows
 
 -- what may stand as a value of a kind
-pub record IsValue (row : Row) (value : List ℕ) : Type 0 where
+pub record IsValue (row : ParameterRow) (value : List ℕ) : Type 0 where
   pub fits : fault_in row.kind value ≡ None
   pub trimmed : IsTrimmed value
   pub one_part : is_one_part false value ≡ true
 
-abbrev pub IsValueIfGiven : Row → Option (List ℕ) → Type 0
+abbrev pub IsValueIfGiven : ParameterRow → Option (List ℕ) → Type 0
 IsValueIfGiven row None = Unit {0}
 IsValueIfGiven row (Some value) = IsValue row value
 
 -- each row's value is one of its kind, if it's given
-abbrev pub AreValues : List Row → List (Option (List ℕ)) → Type 0
+abbrev pub AreValues : List ParameterRow → List (Option (List ℕ)) → Type 0
 AreValues [] [] = Unit {0}
 AreValues [] (value ∷ values) = ⊥
 AreValues (row ∷ rows) [] = ⊥
 AreValues (row ∷ rows) (value ∷ values) = IsValueIfGiven row value × AreValues rows values
 
 -- a parameter that the table doesn't have
-pub record IsOther (rows : List Row) (pair : Pair) : Type 0 where
+pub record IsOther (rows : List ParameterRow) (pair : Pair) : Type 0 where
   pub unknown : row_of rows pair.name ≡ None
   pub writable : IsWritable pair
 
 -- parameters of a table
-pub record AreParameters (rows : List Row) (parameters : Parameters) : Type 0 where
+pub record AreParameters (rows : List ParameterRow) (parameters : FormatParameters) : Type 0 where
   pub values : AreValues rows parameters.values
   pub others : AllByRecursion (IsOther rows) parameters.others

@@ -5,7 +5,7 @@ use Rattle.std.specs.declared.alloc.Global.{Global}
 use Rattle.h26x_sdp.specs.Pairs.{Pair}
 use Rattle.h26x_sdp.specs.Reading as text
 use Rattle.h26x_sdp.specs.declared.parameters.OtherParameter.{OtherParameter}
-use Rattle.h26x_sdp.specs.declared.parameters.Parameters.{Parameters}
+use Rattle.h26x_sdp.specs.declared.parameters.FormatParameters.{FormatParameters}
 use Rattle.h26x_sdp.specs.declared.error.ParametersError.{ParametersError}
 use Rattle.h26x_sdp.specs.declared.error.ParametersError.TheVariants.{OpenBrace, Refused, OutOfMemory}
 
@@ -21,16 +21,17 @@ other_view other = record { name = other.name.items; value = other.value.items }
 abbrev pub others_view : Vec OtherParameter Global → List Pair
 others_view others = map other_view others.items
 
-abbrev pub view : Parameters → text.Parameters
+abbrev pub view : FormatParameters → text.FormatParameters
 view it = record { values = values_view it.values; others = others_view it.others }
 
 -- an error is that of the definition, or want of memory
-abbrev pub Fails : ParametersError → Result text.Parameters ParametersError → Type 0
+abbrev pub Fails : ParametersError → Result text.FormatParameters ParametersError → Type 0
 Fails OutOfMemory read = Unit {0}
 Fails OpenBrace read = read ≡ Err OpenBrace
 Fails (Refused place fault) read = read ≡ Err (Refused place fault)
 
 -- what a call answers is what the definition gives
-abbrev pub Gives : Result Parameters ParametersError → Result text.Parameters ParametersError → Type 0
+abbrev pub Gives : Result FormatParameters ParametersError →
+    Result text.FormatParameters ParametersError → Type 0
 Gives (Ok it) read = read ≡ Ok (view it)
 Gives (Err error) read = Fails error read

@@ -1,6 +1,6 @@
 -- What a row of the code says.
 use Rattle.h26x_sdp.specs.Tables as table
-use Rattle.h26x_sdp.specs.declared.table.Row.{Row}
+use Rattle.h26x_sdp.specs.declared.table.ParameterRow.{ParameterRow}
 
-abbrev pub row_view : Row → table.Row
+abbrev pub row_view : ParameterRow → table.ParameterRow
 row_view row = record { name = row.name.now; kind = row.kind }

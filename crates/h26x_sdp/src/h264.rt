@@ -1,12 +1,12 @@
 //! The format parameters of H.264 (RFC 6184, section 8.1).
 
-ghost use Rattle.std.specs.Prelude.{◌≡◌, Ok, IfOk, MatchResult, map, vec_len};
+ghost use Rattle.std.specs.Prelude.{◌≡◌, Ok, Some, None, IfOk, MatchResult, MatchOption, map, vec_len};
 
 use crate::error::ParametersError;
-use crate::kind::{Kind, number_in};
+use crate::kind::Kind;
 use crate::parameters;
-use crate::parameters::{OtherParameter, Parameters};
-use crate::table::Row;
+use crate::parameters::{FormatParameters, OtherParameter};
+use crate::table::ParameterRow;
 use std::alloc::{AllocError, Global};
 
 /// A format parameter of H.264, in the order in which they are written (RFC 6184, section 8.1).
@@ -80,142 +80,121 @@ impl H264Parameter {
 
     /// The parameter's place in the table, from 0.
     fn place(self) -> usize
-        ensures { result ≡ spec.place_of self }
+        ensures { result ≡ spec.row_place self }
     {
         self as usize
     }
 }
 
+/// The kind of a parameter that says yes or no.
+const FLAG: Kind = Kind::Number { least: 0, most: 1 };
+
+/// The kind of a number that is of 15 bits.
+const BITS_15: Kind = Kind::Number {
+    least: 0,
+    most: 32767,
+};
+
+/// The kind of a number that is of 32 bits.
+const BITS_32: Kind = Kind::Number {
+    least: 0,
+    most: 4294967295,
+};
+
 /// The parameters of the table.
-const ROWS: [Row; 23] = [
-    Row {
+const ROWS: [ParameterRow; 23] = [
+    ParameterRow {
         name: b"profile-level-id",
         kind: Kind::Hexadecimal { bytes: 3 },
     },
-    Row {
+    ParameterRow {
         name: b"max-recv-level",
         kind: Kind::Hexadecimal { bytes: 2 },
     },
-    Row {
+    ParameterRow {
         name: b"max-mbps",
-        kind: Kind::Number {
-            least: 0,
-            most: 4294967295,
-        },
+        kind: BITS_32,
     },
-    Row {
+    ParameterRow {
         name: b"max-smbps",
-        kind: Kind::Number {
-            least: 0,
-            most: 4294967295,
-        },
+        kind: BITS_32,
     },
-    Row {
+    ParameterRow {
         name: b"max-fs",
-        kind: Kind::Number {
-            least: 0,
-            most: 4294967295,
-        },
+        kind: BITS_32,
     },
-    Row {
+    ParameterRow {
         name: b"max-cpb",
-        kind: Kind::Number {
-            least: 0,
-            most: 4294967295,
-        },
+        kind: BITS_32,
     },
-    Row {
+    ParameterRow {
         name: b"max-dpb",
-        kind: Kind::Number {
-            least: 0,
-            most: 4294967295,
-        },
+        kind: BITS_32,
     },
-    Row {
+    ParameterRow {
         name: b"max-br",
-        kind: Kind::Number {
-            least: 0,
-            most: 4294967295,
-        },
+        kind: BITS_32,
     },
-    Row {
+    ParameterRow {
         name: b"redundant-pic-cap",
-        kind: Kind::Number { least: 0, most: 1 },
+        kind: FLAG,
     },
-    Row {
+    ParameterRow {
         name: b"sprop-parameter-sets",
         kind: Kind::Text,
     },
-    Row {
+    ParameterRow {
         name: b"sprop-level-parameter-sets",
         kind: Kind::Text,
     },
-    Row {
+    ParameterRow {
         name: b"use-level-src-parameter-sets",
-        kind: Kind::Number { least: 0, most: 1 },
+        kind: FLAG,
     },
-    Row {
+    ParameterRow {
         name: b"in-band-parameter-sets",
-        kind: Kind::Number { least: 0, most: 1 },
+        kind: FLAG,
     },
-    Row {
+    ParameterRow {
         name: b"level-asymmetry-allowed",
-        kind: Kind::Number { least: 0, most: 1 },
+        kind: FLAG,
     },
-    Row {
+    ParameterRow {
         name: b"packetization-mode",
         kind: Kind::Number { least: 0, most: 2 },
     },
-    Row {
+    ParameterRow {
         name: b"sprop-interleaving-depth",
-        kind: Kind::Number {
-            least: 0,
-            most: 32767,
-        },
+        kind: BITS_15,
     },
-    Row {
+    ParameterRow {
         name: b"sprop-deint-buf-req",
-        kind: Kind::Number {
-            least: 0,
-            most: 4294967295,
-        },
+        kind: BITS_32,
     },
-    Row {
+    ParameterRow {
         name: b"deint-buf-cap",
-        kind: Kind::Number {
-            least: 0,
-            most: 4294967295,
-        },
+        kind: BITS_32,
     },
-    Row {
+    ParameterRow {
         name: b"sprop-init-buf-time",
-        kind: Kind::Number {
-            least: 0,
-            most: 4294967295,
-        },
+        kind: BITS_32,
     },
-    Row {
+    ParameterRow {
         name: b"sprop-max-don-diff",
-        kind: Kind::Number {
-            least: 0,
-            most: 32767,
-        },
+        kind: BITS_15,
     },
-    Row {
+    ParameterRow {
         name: b"max-rcmd-nalu-size",
-        kind: Kind::Number {
-            least: 0,
-            most: 4294967295,
-        },
+        kind: BITS_32,
     },
-    Row {
+    ParameterRow {
         name: b"sar-understood",
         kind: Kind::Number {
             least: 0,
-            most: 255,
+            most: 254,
         },
     },
-    Row {
+    ParameterRow {
         name: b"sar-supported",
         kind: Kind::Number {
             least: 0,
@@ -233,14 +212,14 @@ const ROWS: [Row; 23] = [
 /// ```
 #[derive(Debug, Drop)]
 pub struct H264Parameters {
-    pub(crate) parameters: Parameters,
+    pub(crate) parameters: FormatParameters,
     ghost long: { vec_len parameters.values ≡ 23 },
 }
 
 impl H264Parameters {
     ghost use Rattle.h26x_sdp.specs.H264Rows as spec;
     ghost use Rattle.h26x_sdp.specs.H264Views.{h264_view, number_of};
-    ghost use Rattle.h26x_sdp.specs.Reading.{read_of, all_of};
+    ghost use Rattle.h26x_sdp.specs.Reading.{read_of, all_of, value_at};
     ghost use Rattle.h26x_sdp.specs.ParametersViews.{Fails, other_view};
     ghost use Rattle.h26x_sdp.specs.Written.{written};
 
@@ -268,12 +247,24 @@ impl H264Parameters {
         parameters::write(alloc, &ROWS, &self.parameters)
     }
 
-    /// The number of a parameter; `None` where it's absent or no number.
-    pub fn number(&self, parameter: H264Parameter) -> Option<u64>
-        ensures { result ≡ number_of (h264_view self.now) (spec.place_of parameter) }
+    /// The value of a parameter, as it came; `None` where it's absent.
+    pub fn value(&self, parameter: H264Parameter) -> Option<&[u8]>
+        ensures { MatchOption result
+            (value_at (h264_view self.now).values (spec.row_place parameter) ≡ None)
+            (λ value. value_at (h264_view self.now).values (spec.row_place parameter)
+            ≡ Some value.now) }
     {
         let value = self.parameters.values.get(parameter.place())?.as_ref()?;
-        number_in(value).ok()
+        Some(value.as_slice())
+    }
+
+    /// The number of a parameter; `None` where it's absent, and for those that are no numbers:
+    /// `profile-level-id`, `max-recv-level` and the parameter sets.
+    pub fn number(&self, parameter: H264Parameter) -> Option<u64>
+        ensures { result ≡ number_of (h264_view self.now) parameter }
+    {
+        let value = self.value(parameter)?;
+        ROWS[parameter.place()].kind.number_of(value)
     }
 
     /// The parameters that RFC 6184 doesn't have, in their order.

@@ -38,13 +38,23 @@ impl Kind {
             Kind::Text => None,
         }
     }
+
+    /// The number that a value says, if the kind is a number's.
+    pub(crate) fn number_of(self, value: &[u8]) -> Option<u64>
+        ensures { result ≡ spec.number_of self value.now }
+    {
+        match self {
+            Kind::Number { .. } => number_in(value).ok(),
+            Kind::Hexadecimal { .. } | Kind::Text => None,
+        }
+    }
 }
 
 /// Whether each byte of a text is a digit, in either case.
 fn are_digits(text: &[u8], radix: u32) -> bool
     requires low { 2 ≤ radix }
     requires high { radix ≤ 36 }
-    ensures { result ≡ spec.are_digits radix text.now }
+    ensures { result ≡ spec.are_digits_of radix text.now }
 {
     for byte in text {
         if !char::from(*byte).is_digit(radix) {

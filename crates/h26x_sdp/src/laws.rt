@@ -5,7 +5,7 @@ ghost use Rattle.std.specs.List.{AllByRecursion, join_with_byte};
 ghost use Rattle.h26x_sdp.specs.Pairs.{Pair, parts, pairs, closes};
 ghost use Rattle.h26x_sdp.specs.Written.{written, with_pair, IsWritable};
 ghost use Rattle.h26x_sdp.specs.Parameters.{AreParameters};
-ghost use Rattle.h26x_sdp.specs.Reading.{Parameters, read_of, all_of};
+ghost use Rattle.h26x_sdp.specs.Reading.{FormatParameters, read_of, all_of};
 ghost use Rattle.h26x_sdp.specs.H264Rows as h264;
 
 /// A text is its parts with `;` between them.
@@ -32,6 +32,6 @@ pub fn what_is_read_can_be_written()
 /// What is written of H.264's parameters is read as the same, for all parameters: each value one of
 /// its kind, and the others none of the table.
 pub fn what_is_written_of_h264_is_read()
-    ensures { (it : Parameters) → AreParameters h264.rows it →
+    ensures { (it : FormatParameters) → AreParameters h264.rows it →
         read_of h264.rows (written (all_of h264.rows it)) ≡ Ok it }
 {}

@@ -18,7 +18,7 @@ pub use h264::{H264Parameter, H264Parameters};
 pub use kind::{Kind, number_in};
 pub use pairs::{Pair, Pairs, closes, pairs_of, push_pair};
 pub use parameters::OtherParameter;
-pub use table::{Row, row_of, same_name};
+pub use table::{ParameterRow, row_of, same_name};
 
 #[cfg(test)]
 mod tests;

@@ -109,7 +109,7 @@ fn split_part(text: &[u8]) -> (&[u8], &[u8])
 
 /// A text without the white space at its ends.
 fn trimmed(text: &[u8]) -> &[u8]
-    ensures { result.now ≡ spec.trimmed text.now }
+    ensures { result.now ≡ spec.trim_ascii text.now }
 {
     text.trim_ascii()
 }

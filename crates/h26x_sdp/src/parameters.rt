@@ -10,7 +10,7 @@ ghost use Rattle.h26x_sdp.specs.Parameters.{with_given};
 
 use crate::error::{Fault, ParametersError};
 use crate::pairs::{Pair, closes, pairs_of, push_pair};
-use crate::table::{Row, row_of};
+use crate::table::{ParameterRow, row_of};
 use std::alloc::{AllocError, Global};
 
 /// A parameter that a format doesn't have.
@@ -24,13 +24,13 @@ pub struct OtherParameter {
 
 /// The values of a table's parameters, and the parameters that it doesn't have, in their order.
 #[derive(Debug, Drop)]
-pub(crate) struct Parameters {
+pub(crate) struct FormatParameters {
     pub(crate) values: Vec<Option<Vec<u8>>>,
     pub(crate) others: Vec<OtherParameter>,
 }
 
 /// No parameters, of a table of so many rows.
-pub(crate) fn none_of(alloc: Global, rows: usize) -> Result<Parameters, AllocError>
+pub(crate) fn none_of(alloc: Global, rows: usize) -> Result<FormatParameters, AllocError>
     ensures none { IfOk result (λ it. view it ≡ spec.none_of rows) }
     ensures long { IfOk result (λ it. vec_len it.values ≡ rows) }
 {
@@ -38,7 +38,7 @@ pub(crate) fn none_of(alloc: Global, rows: usize) -> Result<Parameters, AllocErr
     while values.len() < rows {
         values.push(None)?;
     }
-    Ok(Parameters {
+    Ok(FormatParameters {
         values,
         others: Vec::new(alloc),
     })
@@ -71,8 +71,8 @@ fn push_other(
 /// Takes the parameter at a place. Where it is refused, or memory lacks, nothing changes.
 fn take(
     alloc: Global,
-    rows: &[Row],
-    it: &mut Parameters,
+    rows: &[ParameterRow],
+    it: &mut FormatParameters,
     place: usize,
     pair: Pair<'_>,
 ) -> Result<(), ParametersError>
@@ -103,7 +103,11 @@ fn take(
 }
 
 /// The parameters of a text, by a table.
-pub(crate) fn read(alloc: Global, rows: &[Row], text: &[u8]) -> Result<Parameters, ParametersError>
+pub(crate) fn read(
+    alloc: Global,
+    rows: &[ParameterRow],
+    text: &[u8],
+) -> Result<FormatParameters, ParametersError>
     ensures read { Gives result (spec.read_of (map row_view rows.now) text.now) }
     ensures long { IfOk result (λ it. vec_len it.values ≡ length rows.now) }
 {
@@ -120,7 +124,7 @@ pub(crate) fn read(alloc: Global, rows: &[Row], text: &[u8]) -> Result<Parameter
 }
 
 /// The row at a place.
-fn row_at(rows: &[Row], place: usize) -> &Row
+fn row_at(rows: &[ParameterRow], place: usize) -> &ParameterRow
     requires { place < length rows.now }
     ensures { result.now ≡ slice_index_or rows.now place result.now }
 {
@@ -128,7 +132,11 @@ fn row_at(rows: &[Row], place: usize) -> &Row
 }
 
 /// Writes a row's value, if it's given.
-fn push_value(text: &mut Vec<u8>, row: &Row, value: &Option<Vec<u8>>) -> Result<(), AllocError>
+fn push_value(
+    text: &mut Vec<u8>,
+    row: &ParameterRow,
+    value: &Option<Vec<u8>>,
+) -> Result<(), AllocError>
     ensures { OnOk result (text.new.items
         ≡ with_given text.old.items (row_view row.now) (value_view value.now)) }
 {
@@ -140,7 +148,11 @@ fn push_value(text: &mut Vec<u8>, row: &Row, value: &Option<Vec<u8>>) -> Result<
 }
 
 /// The text of parameters: those of the table in its order, and the others behind them.
-pub(crate) fn write(alloc: Global, rows: &[Row], it: &Parameters) -> Result<Vec<u8>, AllocError>
+pub(crate) fn write(
+    alloc: Global,
+    rows: &[ParameterRow],
+    it: &FormatParameters,
+) -> Result<Vec<u8>, AllocError>
     requires { length rows.now ≡ vec_len it.now.values }
     ensures { IfOk result (λ text. text.items
         ≡ written (spec.all_of (map row_view rows.now) (view it.now))) }

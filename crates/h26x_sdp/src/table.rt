@@ -8,7 +8,7 @@ use crate::kind::Kind;
 
 /// A parameter of a format: its name, in lower case, and what its value is.
 #[derive(Debug, Clone, Copy)]
-pub struct Row {
+pub struct ParameterRow {
     /// The name.
     pub name: &'static [u8],
     /// What the value is.
@@ -24,7 +24,7 @@ pub fn same_name(a: &[u8], b: &[u8]) -> bool
 
 /// The place of the first row with a name, without regard to case, and its kind; `None` where no row
 /// has it. It takes no memory.
-pub fn row_of(rows: &[Row], name: &[u8]) -> Option<(usize, Kind)>
+pub fn row_of(rows: &[ParameterRow], name: &[u8]) -> Option<(usize, Kind)>
     ensures row { result ≡ spec.row_of (map row_view rows.now) name.now }
     ensures within { IfSome result (λ found. found.0 < length rows.now) }
 {

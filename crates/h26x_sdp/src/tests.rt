@@ -1,4 +1,4 @@
-//! Values of real lines, their parameters as they are written, and what is wrong with values.
+//! Values of lines, their parameters as they are written, and what is wrong with values.
 
 use crate::{
     Fault, H264Parameter, H264Parameters, Kind, ParametersError, closes, pairs_of, push_pair,
@@ -7,9 +7,10 @@ use std::alloc::{AllocError, Global};
 use std::process::Abort;
 use std::test::Fail;
 
-/// What ends send behind the payload type, and the same without white space and blank parts.
+/// Values as ends write them, and the same without white space and blank parts. The comments say whose
+/// form a value has; none was taken down from a run of theirs.
 const LINES: [(&str, &str); 12] = [
-    // Chromium, H.264
+    // as Chromium's, of H.264
     (
         "level-asymmetry-allowed=1;packetization-mode=1;profile-level-id=42e01f",
         "level-asymmetry-allowed=1;packetization-mode=1;profile-level-id=42e01f",
@@ -18,22 +19,22 @@ const LINES: [(&str, &str); 12] = [
         "level-asymmetry-allowed=1;packetization-mode=0;profile-level-id=f4001f",
         "level-asymmetry-allowed=1;packetization-mode=0;profile-level-id=f4001f",
     ),
-    // Chromium, H.265
+    // as Chromium's, of H.265
     (
         "level-id=93;profile-id=1;tier-flag=0;tx-mode=SRST",
         "level-id=93;profile-id=1;tier-flag=0;tx-mode=SRST",
     ),
-    // Firefox
+    // as Firefox's
     (
         "profile-level-id=42e01f;level-asymmetry-allowed=1",
         "profile-level-id=42e01f;level-asymmetry-allowed=1",
     ),
-    // Safari
+    // as Safari's
     (
         "level-asymmetry-allowed=1;packetization-mode=1;profile-level-id=640c1f",
         "level-asymmetry-allowed=1;packetization-mode=1;profile-level-id=640c1f",
     ),
-    // FFmpeg, with its blanks; the values end in `=`
+    // as FFmpeg's, with its blanks; the values end in `=`
     (
         "packetization-mode=1; sprop-parameter-sets=Z0IACpZTBYmI,aMljiA==; profile-level-id=42000A",
         "packetization-mode=1;sprop-parameter-sets=Z0IACpZTBYmI,aMljiA==;profile-level-id=42000A",
@@ -72,7 +73,7 @@ const VALUES: [(Kind, &str, Option<Fault>); 12] = [
     (Kind::Text, "", None),
 ];
 
-/// What ends send for H.264, and the same in RFC 6184's order.
+/// Values of H.264, and the same in RFC 6184's order.
 const IN_ORDER: [(&str, &str); 5] = [
     (
         "level-asymmetry-allowed=1;packetization-mode=1;profile-level-id=42e01f",
@@ -95,11 +96,12 @@ const IN_ORDER: [(&str, &str); 5] = [
 ];
 
 /// What is refused for H.264, with its place and its fault.
-const REFUSED: [(&str, usize, Fault); 6] = [
+const REFUSED: [(&str, usize, Fault); 7] = [
     ("packetization-mode=3", 0, Fault::OutOfRange),
     ("a=1;;packetization-mode=one", 1, Fault::NotANumber),
     ("max-fs=4294967296", 0, Fault::OutOfRange),
     ("redundant-pic-cap=2", 0, Fault::OutOfRange),
+    ("sar-supported=255;sar-understood=255", 1, Fault::OutOfRange),
     ("x=1;profile-level-id=42e0", 1, Fault::NotHexadecimal),
     ("max-fs=1;a=2;Max-FS=1", 2, Fault::Twice),
 ];
@@ -136,7 +138,7 @@ fn all_told(rt: &impl Abort, values: &[(Kind, &str, Option<Fault>)]) {
 }
 
 #[test]
-fn lines_of_real_ends(rt: HostRuntime) -> Result<(), Fail> {
+fn lines_of_ends(rt: HostRuntime) -> Result<(), Fail> {
     all_written(&rt, rt.alloc(), &LINES)?;
     assert!(rt; !closes(b"a={b"));
     Ok(())
@@ -173,9 +175,14 @@ fn all_refused(rt: &impl Abort, alloc: Global, lines: &[(&str, usize, Fault)]) {
 fn lines_of_h264(rt: HostRuntime) -> Result<(), Fail> {
     all_in_order(&rt, rt.alloc(), &IN_ORDER)?;
     all_refused(&rt, rt.alloc(), &REFUSED);
-    let format = H264Parameters::read(rt.alloc(), b"packetization-mode=1;x=2")?;
+    let line = b"packetization-mode=1;x=2;profile-level-id=640032";
+    let format = H264Parameters::read(rt.alloc(), line)?;
     let mode = format.number(H264Parameter::PacketizationMode);
     let largest = format.number(H264Parameter::MaxFs);
     assert!(rt; (mode, largest, format.others().len()) == (Some(1), None, 1));
+    // six digits, which are no number
+    let id = H264Parameter::ProfileLevelId;
+    assert!(rt; format.value(id) == Some(b"640032") && format.number(id) == None);
+    assert!(rt; format.value(H264Parameter::MaxFs) == None);
     Ok(())
 }

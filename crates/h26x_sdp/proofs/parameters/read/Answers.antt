@@ -5,7 +5,7 @@ use Rattle.std.proofs.lemmas.Result.{err_from_is_err_and}
 use Rattle.h26x_sdp.specs.declared.error.ParametersError.TheVariants.{OpenBrace}
 use Rattle.h26x_sdp.specs.Pairs.{pairs, closes}
 use Rattle.h26x_sdp.specs.PairViews.{pair_view}
-use Rattle.h26x_sdp.specs.Reading.{Parameters, reading, none_of, read_of}
+use Rattle.h26x_sdp.specs.Reading.{FormatParameters, reading, none_of, read_of}
 use Rattle.h26x_sdp.specs.ParametersViews.{view}
 use Rattle.h26x_sdp.specs.TableViews.{row_view}
 use Rattle.h26x_sdp.proofs.ReadingLemmas.{pairs_bound, goes_on, stops_at, reads_none}
@@ -16,7 +16,7 @@ loop-pair-init c =
     let rows = map row_view c.args.rows.now in
     let list : c.into_iter-pair-iterator.result ≡ pairs c.args.text.now = search rules in
     record {
-      same = ap (λ (it : Parameters). reading rows 0 it c.into_iter-pair-iterator.result) c.in_ok-it.ensures.none ∙ ap (reading rows 0 (none_of (length c.args.rows.now))) list;
+      same = ap (λ (it : FormatParameters). reading rows 0 it c.into_iter-pair-iterator.result) c.in_ok-it.ensures.none ∙ ap (reading rows 0 (none_of (length c.args.rows.now))) list;
       long = omega (arith, c.in_ok-it.ensures.long);
       place = omega (arith, ap length list, pairs_bound c.args.text.now);
     }

@@ -1,5 +1,5 @@
 use Rattle.std.proofs.Common.{◌≡◌, ◌++◌, map, drop}
-use Rattle.h26x_sdp.specs.Reading.{given, all_of}
+use Rattle.h26x_sdp.specs.Reading.{given_pairs, all_of}
 use Rattle.h26x_sdp.specs.Written.{written}
 use Rattle.h26x_sdp.specs.TableViews.{row_view}
 use Rattle.h26x_sdp.specs.ParametersViews.{view, value_view, other_view, others_view}
@@ -8,7 +8,7 @@ use Rattle.h26x_sdp.proofs.parameters.write.Given as goal
 
 abbrev pub invariant-loop-place : goal.invariant-loop-place
 invariant-loop-place l =
-    written_on l.text.items (given (map row_view (drop l.place l.rows)) (map value_view (drop l.place l.it.values.items)) ++ others_view l.it.others)
+    written_on l.text.items (given_pairs (map row_view (drop l.place l.rows)) (map value_view (drop l.place l.it.values.items)) ++ others_view l.it.others)
     ≡ written (all_of (map row_view l.rows) (view l.it))
 
 abbrev pub invariant-loop-other : goal.invariant-loop-other
