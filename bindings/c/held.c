@@ -141,34 +141,41 @@ static void give_all(struct receiving *it)
             give(it, fragment(codec, i == 0));
         give(it, single(codec, PACKET));
     }
+    /* What is kept at most for later aggregates, and then none come. */
+    for (int i = 0; i < 5; i++)
+        give(it, aggregate(codec, i == 2 ? 3 : 34, 0, 1400));
+    for (int i = 0; i < 100; i++)
+        give(it, single(codec, 3));
 }
 
-static void check(uint32_t codec)
+/* Returns what is left after a restart, which may be this much. */
+static size_t check(uint32_t codec, size_t left_most)
 {
     struct receiving it = {.codec = codec};
     const size_t most = RUN_MOST + WRITTEN_MOST + SMALL + (codec == H26X_H265 ? SHOWN_MOST : 0);
     if (h26x_receiver_new(codec, false, false, RUN_LIMIT, &it.r) != H26X_OK)
         exit(1);
     give_all(&it);
-    for (int i = 0; i < 100; i++)
-        give(&it, single(codec, 3));
     if (h26x_receiver_restart(&it.r) != H26X_OK)
         exit(1);
     const size_t left = held;
     h26x_receiver_free(it.r);
-    printf("%s: %zu bytes at most, %zu after a restart; %zu may be\n", h26x_codec_name(codec), it.most, left, most);
-    if (it.most > most || held != 0) {
+    printf("%s: %zu bytes at most, %zu after a restart; %zu and %zu may be\n", h26x_codec_name(codec), it.most, left,
+           most, left_most);
+    if (it.most > most || left > left_most || held != 0) {
         fprintf(stderr, "held.c: that is too much, or not given back: %zu bytes\n", held);
         exit(1);
     }
+    return left;
 }
 
 int main(void)
 {
     /* Its own memory is the system's, and none of it is counted. */
     setvbuf(stdout, NULL, _IONBF, 0);
-    check(H26X_H264);
-    check(H26X_H266);
-    check(H26X_H265);
+    const size_t written = check(H26X_H264, WRITTEN_MOST + SMALL);
+    check(H26X_H266, WRITTEN_MOST + SMALL);
+    /* The same for what had no room, and a buffer for what is shown. */
+    check(H26X_H265, written + 2 * PACKET + SMALL);
     return 0;
 }

@@ -8,10 +8,6 @@
 #include <stdlib.h>
 #include <string.h>
 
-/* Whether the header allows const calls of one handle side by side. It doesn't yet: where it does, make it 1, and
- * they are made without the lock. */
-enum { CONST_CALLS_MAY_BE_SHARED = 0 };
-
 enum { THREADS = 4, ROUNDS = 30, UNIT = 5000, PACKETS = 60 };
 
 static void expect_at(bool holds, const char *what, int line)
@@ -119,8 +115,7 @@ static void ask_shared_ends(struct shared *s, const struct codec *c)
     h26x_depacketizer d;
     h26x_receiver r;
     h26x_h265_packet shown;
-    if (!CONST_CALLS_MAY_BE_SHARED)
-        pthread_mutex_lock(&s->lock);
+    pthread_mutex_lock(&s->lock);
     expect(h26x_packet_count(&s->packets) > 2 && h26x_packets_len(&s->packets) > UNIT);
     expect(h26x_packet_len(&s->packets, 1) == sizeof packet);
     expect(h26x_packet_copy(&s->packets, 1, packet, sizeof packet) == sizeof packet);
@@ -132,9 +127,6 @@ static void ask_shared_ends(struct shared *s, const struct codec *c)
     expect(h26x_written_copy(&s->open, packet, sizeof packet) == 0);
     expect(h26x_h265_shown(&s->open, &shown) == (is_shown ? H26X_OK : H26X_NOT_OF_THIS_CODEC));
     expect(h26x_h265_part_copy(&s->open, 0, packet, sizeof packet, NULL) == (is_shown ? sizeof packet - 3 : 0));
-    if (!CONST_CALLS_MAY_BE_SHARED)
-        pthread_mutex_unlock(&s->lock);
-    pthread_mutex_lock(&s->lock);
     expect(h26x_receiver_run_len(&s->receiver) == 0);
     expect(h26x_receiver_clone(&s->receiver, &r) == H26X_OK);
     pthread_mutex_unlock(&s->lock);

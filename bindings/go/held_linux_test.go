@@ -39,10 +39,11 @@ func aggregate(units, at int) []byte {
 func TestWhatAPeerMakesAReceiverHold(t *testing.T) {
 	var sequence uint16
 	start := append(some("620193"), make([]byte, longestPacket-3)...)
-	packets := [][]byte{aggregate(3, 1), aggregate(3, 1), aggregate(32700, 0), aggregate(32700, 0), start, start}
+	var packets [][]byte
 	for place := 1; place <= 256; place++ {
 		packets = append(packets, aggregate(257, place))
 	}
+	packets = append(packets, aggregate(3, 1), aggregate(32700, 0), start)
 	var receivers [hostileReceivers]*h26x.Receiver
 	for i := range receivers {
 		receivers[i] = newReceiver(t, h26x.H265, smallRunLimit, false, false)

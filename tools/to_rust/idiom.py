@@ -11,6 +11,7 @@
 | the functions of `RENAMED` | by another name, `pub(crate)` | they want memory: the layer has ones that panic |
 | `fn fmt<W: fmt::Write>(.., f: &mut Formatter<W>)` | `fn fmt(.., f: &mut Formatter<'_>)` | a formatter of Rust has no parameter |
 | parameters that only contracts read | with an underscore | rustc has a warning for them |
+| `inline(always)` of the functions of `UNHINTED` | nothing | the proved build gains by it, and rustc's loses |
 | examples of docs | nothing | the layer has its own, over what callers have |
 """
 
@@ -21,6 +22,8 @@ from .tree import (Function, Refused, Token, add_use, after, at, bare, bare_word
                    is_function, is_group, is_pub, is_sign, is_word, parse, words_of)
 
 RENAMED = {("H265AggregationPacket", "nal_units"): "try_nal_units"}
+# By crate.
+UNHINTED = {"h26x_payload": "write_units", "h265_payload": "prepare"}
 # Words of Rattle that no output may have, and of a Rust that isn't stable.
 RATTLE = {"ghost", "requires", "ensures", "prove", "prove_eq", "prove_ne", "Model", "Global",
           "HostRuntime", "allocator", "thiserror", "simd"}
@@ -133,6 +136,23 @@ def mark_unread(items):
                     and not is_word(at(inner, before(inner, i)), "mut")):
                 it.text = "_" + it.text
     return items
+
+
+def erase_hints(crate):
+    """Drops `inline(always)` where rustc's code gets dearer by it."""
+
+    def change(items):
+        for function in functions(items):
+            if function.items is items and function.name == UNHINTED.get(crate):
+                j = before(items, function.keyword)
+                while is_group(at(items, j), "(") or is_pub(at(items, j)):
+                    j = before(items, j)
+                if not is_group(at(items, j), "[") or bare(items[j].items) != "inline (always)":
+                    raise Refused(f"{crate}: {function.name} has no `inline(always)`, which `UNHINTED` drops")
+                return items[:before(items, j)] + items[after(items, j):]
+        return items
+
+    return change
 
 
 def rewrite_paths(module, crate, crates):

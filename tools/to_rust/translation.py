@@ -86,6 +86,7 @@ class Translation:
         items = memory.convert_ends(deep(items, fallible.change), fallible.lists | fallible.queues)
         items = deep(deep(items, idiom.write_formatters), memory.write_takes)
         items = deep(items, idiom.rename)
+        items = deep(items, idiom.erase_hints(crate.name))
         items = deep(items, idiom.erase_examples)
         items = deep(items, idiom.put_behind_std(self.of_std))
         items = deep(items, idiom.rewrite_paths(self.module, crate.name, self.names))

@@ -48,8 +48,8 @@ macro_rules! depacketizer {
                 self.inner.run_len()
             }
 
-            /// Gives up the open unit and frees its buffer (the reassembly buffer). It takes no
-            /// memory.
+            /// Gives up the open unit and frees its buffer (the reassembly buffer), and of H.265 what
+            /// is kept for what it shows. It takes no memory.
             ///
             /// A fragment that starts a unit opens it, each later one adds its data, and it stays open
             /// until a fragment ends it or another starts one. There is no limit, so a peer that never
@@ -176,8 +176,8 @@ impl H265Depacketizer {
     /// header of 0 and no bytes. A refused packet isn't shown.
     ///
     /// It keeps a copy of each packet for this, in memory of those before: a buffer as large as the
-    /// longest, and for the units of aggregates three lists, in which up to 256 units each stay as large
-    /// as the longest that stood in their place.
+    /// longest, and of aggregates' units at most 32 in each of three lists, none of which had over 1500
+    /// bytes. `give_up_run` frees it.
     ///
     /// ```
     /// use emupedestal::{CodecExtra, Depacketizer, H265Depacketizer, H265Payload};

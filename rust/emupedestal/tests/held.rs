@@ -1,7 +1,7 @@
 //! How much memory a peer can make receivers hold, by packets that no packetizer sends: aggregates in which
 //! each unit is long once, of many units and of empty ones, and units that never end.
 
-use emupedestal::{Codec, CodecExtra, SequencedDepacketizer};
+use emupedestal::{AccessUnit, Codec, CodecExtra, FrameReceiver, RtpPacket, SequencedDepacketizer};
 use std::alloc::{GlobalAlloc, Layout, System};
 use std::cell::Cell;
 
@@ -134,6 +134,10 @@ impl Receiving {
             }
             self.give(&single(codec, PACKET));
         }
+        // What is kept at most for later aggregates, and then none come.
+        for units in [34, 34, 3, 34, 34] {
+            self.give(&aggregate(codec, units, 0, 1400));
+        }
         for _ in 0..100 {
             self.give(&single(codec, 3));
         }
@@ -159,10 +163,38 @@ fn no_peer_makes_a_receiver_hold_more() {
         let before = HELD.get();
         it.receiver.restart();
         it.held += HELD.get() - before;
-        assert!(
-            it.held <= (shown + SMALL) as isize,
-            "{codec:?}: {}",
-            it.held
-        );
+        // What is shown is of three bytes, in a buffer that had the longest packet.
+        let last = if codec == Codec::H265 { 2 * PACKET } else { 0 };
+        let most = (last + SMALL) as isize;
+        assert!(it.held <= most, "{codec:?}: {} of {most}", it.held);
+    }
+}
+
+/// Of the memory that is given back the largest within the limit is kept, and the next access unit is
+/// written there.
+#[test]
+fn one_access_unit_that_was_given_back_is_kept() {
+    for codec in [Codec::H264, Codec::H265, Codec::H266] {
+        let limit = 5000;
+        let mut receiver = FrameReceiver::new(codec, RUN_LIMIT, limit);
+        let before = HELD.get();
+        for room in [100, limit, 4000, limit + 1, 200] {
+            receiver.give_back(AccessUnit {
+                timestamp: 0,
+                bytes: Vec::with_capacity(room),
+                extra: CodecExtra::None,
+                is_whole: true,
+            });
+        }
+        assert_eq!(HELD.get() - before, limit as isize, "{codec:?}");
+        let packet = RtpPacket {
+            sequence: 0,
+            timestamp: 0,
+            marker: true,
+            payload: &single(codec, 100),
+        };
+        let mut units = Vec::new();
+        receiver.receive(&packet, &mut units).unwrap();
+        assert_eq!(units[0].bytes.capacity(), limit, "{codec:?}");
     }
 }

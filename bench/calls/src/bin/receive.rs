@@ -5,7 +5,7 @@
 //! receive [TURNS]
 //! ```
 //!
-//! It prints the medians in nanoseconds a packet. 1 % of the packets are lost, 1 % come twice, 5 % up to 16 places
+//! It prints the medians in nanoseconds a packet. 1 % of the packets are lost, 1 % come twice, 5 % up to 15 places
 //! late; the window is 300. How the packets come into memory of their own isn't in the times.
 
 use emupedestal::{

@@ -1,11 +1,12 @@
 //! Packets with their timestamps and markers, through a buffer that puts them in order and a receiver of access
-//! units.
+//! units; by reference, and by value with the memory of access units given back.
 
 use crate::input::Settings;
 use crate::packets::LIMITS;
 use crate::text::{told_after, units_behind_lengths};
 use emupedestal::{
-    AccessUnit, CodecExtra, FrameReceiver, HeldPacket, Pushed, ReorderBuffer, RtpPacket,
+    AccessUnit, CodecExtra, FrameReceiver, HeldPacket, NotHeldReason, PacketError, Pushed,
+    Received, ReorderBuffer, RtpPacket,
 };
 use std::collections::HashMap;
 
@@ -17,6 +18,9 @@ pub struct Frames {
     window: usize,
     buffer: ReorderBuffer,
     receiver: FrameReceiver,
+    /// The same by value.
+    owned_buffer: ReorderBuffer,
+    owned_receiver: FrameReceiver,
     held: HashMap<u16, (u32, bool, Vec<u8>)>,
     /// The number that was given out last.
     last: Option<u16>,
@@ -38,6 +42,8 @@ impl Frames {
             unit_limit,
             window: usize::from(window),
             buffer: ReorderBuffer::new(window),
+            owned_buffer: ReorderBuffer::new(window),
+            owned_receiver: receiver.clone(),
             receiver,
             held: HashMap::new(),
             last: None,
@@ -46,11 +52,14 @@ impl Frames {
 
     pub fn set_donl(&mut self, value: bool) {
         self.receiver.with_donl(value);
+        self.owned_receiver.with_donl(value);
     }
 
     pub fn restart(&mut self) {
         self.buffer.restart();
         self.receiver.restart();
+        self.owned_buffer.restart();
+        self.owned_receiver.restart();
         self.held.clear();
         self.last = None;
         assert_eq!(
@@ -71,7 +80,9 @@ impl Frames {
             marker,
             payload,
         };
-        match self.buffer.push(&packet).expect("memory") {
+        let pushed = self.buffer.push(&packet).expect("memory");
+        assert_eq!(self.push_owned(&packet), pushed);
+        match pushed {
             Pushed::Held => {
                 let before = self
                     .held
@@ -82,9 +93,11 @@ impl Frames {
             Pushed::Late(behind) => assert!((1..=0x8000).contains(&behind)),
         }
         while let Some(packet) = self.buffer.pop() {
-            self.take(packet);
+            let owned = self.owned_buffer.pop().expect("the same by value");
+            self.take(packet, owned);
         }
         assert_eq!(self.buffer.len(), self.held.len());
+        assert_eq!(self.owned_buffer.len(), self.held.len());
         assert!(
             self.buffer.len() < self.window,
             "fewer are held than the window has"
@@ -94,7 +107,8 @@ impl Frames {
     /// Gives out all that is left.
     pub fn end(&mut self) {
         while let Some(packet) = self.buffer.pop_first() {
-            self.take(packet);
+            let owned = self.owned_buffer.pop_first().expect("the same by value");
+            self.take(packet, owned);
         }
         assert!(self.held.is_empty());
         let is_open = self.receiver.unit_len() > 0;
@@ -102,13 +116,51 @@ impl Frames {
         self.receiver.end(&mut units).expect("memory");
         assert!(units.len() <= 1 && (!is_open || units.len() == 1));
         self.check(&units);
+        let mut owned = Vec::new();
+        self.owned_receiver.end(&mut owned).expect("memory");
+        assert_eq!(owned, units);
         assert!(
             units.iter().all(|unit| !unit.is_whole),
             "nothing tells that it is over"
         );
     }
 
-    fn take(&mut self, packet: HeldPacket) {
+    /// Gives a packet to the buffer that takes it by value; one that isn't held comes back as it was.
+    fn push_owned(&mut self, packet: &RtpPacket<'_>) -> Pushed {
+        let (sequence, timestamp, marker) = (packet.sequence, packet.timestamp, packet.marker);
+        let owned = HeldPacket::new(sequence, timestamp, marker, packet.payload.to_vec());
+        let Err(not_held) = self.owned_buffer.push_held(owned) else {
+            return Pushed::Held;
+        };
+        assert_eq!(not_held.packet.packet(), *packet);
+        match not_held.reason {
+            NotHeldReason::Late(behind) => Pushed::Late(behind),
+            NotHeldReason::Twice => Pushed::Twice,
+            NotHeldReason::OutOfMemory => panic!("memory"),
+        }
+    }
+
+    /// Takes a packet by value, whose access units are the same; and gives their memory back.
+    fn take_owned(
+        &mut self,
+        packet: HeldPacket,
+        answer: Result<Received, PacketError>,
+        units: &[AccessUnit],
+    ) {
+        let mut owned = Vec::new();
+        assert_eq!(
+            self.owned_receiver.receive(&packet.packet(), &mut owned),
+            answer
+        );
+        assert_eq!(owned, units);
+        assert_eq!(self.owned_receiver, self.receiver);
+        for unit in owned {
+            self.owned_receiver.give_back(unit);
+        }
+        assert_eq!(self.owned_receiver, self.receiver);
+    }
+
+    fn take(&mut self, packet: HeldPacket, owned: HeldPacket) {
         let wanted = self
             .held
             .remove(&packet.sequence)
@@ -123,6 +175,7 @@ impl Frames {
             (packet.timestamp, packet.marker, packet.payload.clone()),
             wanted
         );
+        assert_eq!(owned.packet(), packet.packet());
 
         let before = self.receiver.clone();
         let mut units = Vec::new();
@@ -139,6 +192,7 @@ impl Frames {
         assert!(self.receiver.run_len() <= self.run_limit);
         assert!(self.receiver.unit_len() <= self.unit_limit);
         self.check(&units);
+        self.take_owned(owned, answer, &units);
     }
 
     /// The text of each is units, of which it tells.

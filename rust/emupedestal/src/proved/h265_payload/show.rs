@@ -49,7 +49,6 @@ fn data_of(has_donl: bool, packet: &[u8]) -> &[u8] {
 
 /// Gets ready in the spare memory all that a packet is shown by: the units of an aggregate, or the
 /// data of another packet.
-#[inline(always)]
 pub(crate) fn prepare(
     has_donl: bool,
     packet: &[u8],

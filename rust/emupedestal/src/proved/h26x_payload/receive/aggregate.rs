@@ -29,7 +29,6 @@ pub fn written_size<A: Aggregate>(codec: A, bytes: &[u8]) -> usize {
 
 /// Writes the units of an aggregate, which take `size` bytes, and tells of them (RFC 6184, 5.7.1;
 /// RFC 7798, 4.4.2; RFC 9328, 4.3.2).
-#[inline(always)]
 pub(crate) fn write_units<A: Aggregate, W: UnitSink>(
     codec: A,
     is_avc: bool,
