@@ -1,10 +1,10 @@
 -- Packets behind each other in one buffer, as one more comes or the last ones go.
 use Rattle.std.proofs.Common.{◌≡◌, ℕ, zero, suc, ◌+◌, ◌-◌, ◌<◌, ◌≤◌, List, [], ◌∷◌, ◌++◌, length, length-append, get_or, map, replicate, take, drop, refl, sym, ap, ◌∙◌, arith, append_assoc}
 use Rattle.std.specs.List.{between}
-use Rattle.std.proofs.lemmas.List.{length-drop, length-map, map-append, take-take, drop-take, drop-drop, length-take-le, take-append-drop, take-append-le, drop-append-le, drop_all, drop_at, take_all}
+use Rattle.std.proofs.lemmas.List.{length-drop, map-append, take-take, length-take-le, take-append-drop, take-append-le, drop-append-le, drop_at, take_all}
 use borrow.Rule.Slice.PartMut.{put_mid}
 use Rattle.std.proofs.lemmas.Slice.{drop-put_mid, take-put_mid, take-put_mid_below, between_is}
-use Rattle.h26x_payload.specs.Buffer.{packets_from, headrooms_from, last_end, ends_of, AreEnds, IsBuffer, HoldPackets, HoldHeadrooms, PacketBufferView, AppendedView, IsAppending, appended_view, with_packets, empty_headrooms, headed, headed_at}
+use Rattle.h26x_payload.specs.Buffer.{packets_from, headrooms_from, last_end, ends_of, AreEnds, IsBuffer, HoldPackets, HoldHeadrooms, PacketBufferView, with_packets, headed, headed_at}
 
 -- ends are in order
 pub start_le_last : (h s : ℕ) (ends : List ℕ) → AreEnds h s ends → s ≤ last_end s ends
@@ -156,48 +156,6 @@ with_more b packets packet =
     ap (λ (l : List (List ℕ)). record b { packets = l; headrooms = (b.headrooms ++ map f packets) ++ map f (packet ∷ []) }) (append_assoc b.packets packets (packet ∷ []))
     ∙ ap (λ (l : List (List ℕ)). record b { packets = b.packets ++ (packets ++ packet ∷ []); headrooms = l }) rooms
 
--- to have taken the first packets and then the others is to have all
-pub appended_all : (b : PacketBufferView) (first : ℕ) → IsAppending b first → with_packets (appended_view b first).before (appended_view b first).after ≡ b
-appended_all b first is =
-    let rooms : take first b.headrooms ++ empty_headrooms b.headroom (drop first b.packets) ≡ b.headrooms =
-    ap (λ (l : List (List ℕ)). take first b.headrooms ++ l) (sym is.fresh) ∙ take-append-drop first b.headrooms in
-    ap (λ (l : List (List ℕ)). record b { packets = l; headrooms = take first b.headrooms ++ empty_headrooms b.headroom (drop first b.packets) }) (take-append-drop first b.packets)
-    ∙ ap (λ (l : List (List ℕ)). record b { headrooms = l }) rooms
-
--- one packet more comes behind those since
-pub appended_more : (b : PacketBufferView) (first : ℕ) (packet : List ℕ) → IsAppending b first →
-    appended_view (with_packets b (packet ∷ [])) first ≡ record { before = (appended_view b first).before; after = (appended_view b first).after ++ packet ∷ [] }
-appended_more b first packet is =
-    let le = is.packets in
-    let same = is.headrooms in
-    rw (take-append-le first b.packets (packet ∷ []) le, drop-append-le first b.packets (packet ∷ []) le, take-append-le first b.headrooms (replicate b.headroom 0 ∷ []) (omega (arith, le, same))) refl
-
-pub appending_more : (b : PacketBufferView) (first : ℕ) (packet : List ℕ) → IsAppending b first → IsAppending (with_packets b (packet ∷ [])) first
-appending_more b first packet is =
-    let le = is.packets in
-    let same = is.headrooms in
-    let packets = length-append b.packets (packet ∷ []) in
-    let rooms = length-append b.headrooms (replicate b.headroom 0 ∷ []) in
-    record {
-      packets = omega (arith, le, packets);
-      headrooms = omega (arith, same, packets, rooms);
-      fresh = drop-append-le first b.headrooms (replicate b.headroom 0 ∷ []) (omega (arith, le, same))
-          ∙ ap (λ (l : List (List ℕ)). l ++ replicate b.headroom 0 ∷ []) is.fresh
-          ∙ sym (map-append (λ (p : List ℕ). replicate b.headroom 0) (drop first b.packets) (packet ∷ []))
-          ∙ ap (empty_headrooms b.headroom) (sym (drop-append-le first b.packets (packet ∷ []) le));
-    }
-
--- where nothing is since
-pub appended_none : (b : PacketBufferView) → length b.headrooms ≡ length b.packets → appended_view b (length b.packets) ≡ record { before = b; after = [] }
-appended_none b same = rw (take_all (length b.packets) b.packets (omega arith), drop_all (length b.packets) b.packets (omega arith), take_all (length b.packets) b.headrooms (omega (arith, same))) refl
-
-pub appending_none : (b : PacketBufferView) → length b.headrooms ≡ length b.packets → IsAppending b (length b.packets)
-appending_none b same = record {
-  packets = omega arith;
-  headrooms = same;
-  fresh = drop_all (length b.packets) b.headrooms (omega (arith, same)) ∙ ap (empty_headrooms b.headroom) (sym (drop_all (length b.packets) b.packets (omega arith)));
-}
-
 -- what is written below a place leaves the packets that begin behind it
 packets_behind : (h s : ℕ) (bytes ends ys : List ℕ) (a k : ℕ) → AreEnds h s ends → a + k ≤ s → length ys ≡ k → a ≤ length bytes → packets_from h s (put_mid a k bytes ys) ends ≡ packets_from h s bytes ends
 packets_behind h s bytes [] ys a k are le long within = refl
@@ -256,19 +214,6 @@ headrooms_headed h s bytes (e ∷ ends) ys a k (suc i) (here, are) lt at room lo
     between_is (put_mid a k bytes ys) s (s + h)
     ∙ ap (drop s) (take-put_mid_below a k bytes ys (s + h) (omega (arith, below, at, room, here)) (omega (arith, at, room, more.0, last, within))) ∙ sym (between_is bytes s (s + h)) in
     rw (first, headrooms_headed h e bytes ends ys a k i are (omega arith) at room long within) refl
-
--- a packet stands behind its headroom
-pub behind_headroom : (h start end : ℕ) (bytes : List ℕ) → h ≤ start → start ≤ end → drop h (between (start - h) end bytes) ≡ between start end bytes
-behind_headroom h start end bytes low order =
-    ap (λ k. drop h (take k (drop (start - h) bytes))) (omega (arith, low, order)) ∙ drop-take h (end - start) (drop (start - h) bytes)
-    ∙ ap (take (end - start)) (drop-drop h (start - h) bytes ∙ ap (λ k. drop k bytes) (omega (arith, low)))
-
--- with its headroom it is the part from there on
-pub room_and_packet : (h start end : ℕ) (bytes : List ℕ) → h ≤ start → start ≤ end → between (start - h) end bytes ≡ between (start - h) start bytes ++ between start end bytes
-room_and_packet h start end bytes low order =
-    sym (take-append-drop h (between (start - h) end bytes))
-    ∙ ap (λ (l : List ℕ). l ++ drop h (between (start - h) end bytes)) (front_of_between (start - h) start end h bytes (omega (arith, low)) order)
-    ∙ ap (λ (l : List ℕ). between (start - h) start bytes ++ l) (behind_headroom h start end bytes low order)
 
 -- what is written into a part leaves the length
 pub length_put : (a k : ℕ) (xs ys : List ℕ) → length ys ≡ k → a + k ≤ length xs → length (put_mid a k xs ys) ≡ length xs

@@ -93,7 +93,8 @@ with_packets buffer packets = record buffer {
   headrooms = buffer.headrooms ++ empty_headrooms buffer.headroom packets;
 }
 
--- in a buffer, the headrooms behind so many packets are of zeros
+-- so many packets of a buffer were there before: each packet has its headroom, and those of the others
+-- are of zeros
 pub record IsAppending (buffer : PacketBufferView) (first : ℕ) : Type 0 where
   pub packets : first ≤ length buffer.packets
   pub headrooms : length buffer.headrooms ≡ length buffer.packets

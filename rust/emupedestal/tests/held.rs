@@ -16,6 +16,8 @@ const SMALL: usize = 4096;
 
 thread_local! {
     static HELD: Cell<isize> = const { Cell::new(0) };
+    /// The bytes of blocks that were made larger or smaller, and so may have been copied.
+    static RESIZED: Cell<usize> = const { Cell::new(0) };
 }
 
 struct Counting;
@@ -41,6 +43,7 @@ unsafe impl GlobalAlloc for Counting {
     unsafe fn realloc(&self, at: *mut u8, layout: Layout, size: usize) -> *mut u8 {
         count(layout.size(), -1);
         count(size, 1);
+        RESIZED.set(RESIZED.get() + layout.size());
         // SAFETY: the caller's.
         unsafe { System.realloc(at, layout, size) }
     }
@@ -196,5 +199,37 @@ fn one_access_unit_that_was_given_back_is_kept() {
         let mut units = Vec::new();
         receiver.receive(&packet, &mut units).unwrap();
         assert_eq!(units[0].bytes.capacity(), limit, "{codec:?}");
+    }
+}
+
+/// A run that is too long goes, and the text before it stays where it is, with its memory: else each such
+/// packet would have all of the text copied.
+#[test]
+fn a_run_that_is_too_long_leaves_the_text_in_place() {
+    for codec in [Codec::H264, Codec::H265, Codec::H266] {
+        let mut receiver = FrameReceiver::new(codec, RUN_LIMIT, 1 << 20);
+        let mut units = Vec::new();
+        let mut sequence = 0;
+        let mut resized_by = |payload: &[u8]| {
+            let before = RESIZED.get();
+            let packet = RtpPacket {
+                sequence,
+                timestamp: 0,
+                marker: false,
+                payload,
+            };
+            receiver.receive(&packet, &mut units).unwrap();
+            sequence = sequence.wrapping_add(1);
+            RESIZED.get() - before
+        };
+        for _ in 0..20 {
+            resized_by(&single(codec, PACKET));
+        }
+        let long = &fragment(codec, true)[..2 * RUN_LIMIT];
+        // The first may find no room behind the text.
+        resized_by(long);
+        for _ in 0..100 {
+            assert_eq!(resized_by(long), 0, "{codec:?}");
+        }
     }
 }

@@ -159,8 +159,10 @@ impl OpenText {
         ensures kept { OnErr result (self.new ≡ self.old) }
     {
         let size = head.len().saturating_add(PREFIX_SIZE);
-        self.bytes.reserve(size.saturating_add(body.len()))?;
         let at = self.len();
+        let given_up = self.bytes.len() - at;
+        let more = size.saturating_add(body.len()).saturating_sub(given_up);
+        self.bytes.reserve(more)?;
         self.bytes.truncate(at);
         self.bytes
             .extend_from_slice(&ANNEXB_NALUSTART_CODE)
@@ -276,15 +278,19 @@ impl OpenText {
         self.aside.close();
     }
 
-    /// Gives up the open run, and gives its memory back.
+    /// Gives up the open run, and gives its memory back. The text moves only behind a run that was as
+    /// long, and so never more than was taken.
     pub fn give_up_run(&mut self)
         ensures text { self.new.text ≡ self.old.text }
         ensures run { self.new.run ≡ None }
         ensures inside { self.new.inside ≡ None }
     {
         if self.is_inside {
+            let is_long = self.bytes.len() - self.at >= self.at;
             self.bytes.truncate(self.at);
-            self.bytes.shrink_to_fit();
+            if is_long {
+                self.bytes.shrink_to_fit();
+            }
             self.is_inside = false;
         }
         self.aside.give_up();

@@ -8,13 +8,14 @@ use crate::support::{AppendBytes, TryVec};
 use alloc::vec::Vec;
 use core::mem;
 
-/// How many units of a list keep their memory for later ones, how many bytes each of them may have,
-/// and for how many units the list itself may have room. A unit that was longer is never used again,
-/// so no sender has a depacketizer keep a long list, in each place of which a long unit stood once.
+/// How many units of a list keep their memory for later ones.
 const MOST_UNITS: usize = 32;
 
+/// How many bytes each of them may have. A unit that was longer is never used again, so no sender has
+/// a depacketizer keep a long list, in each place of which a long unit stood once.
 const MOST_BYTES: usize = 1500;
 
+/// For how many units a list that is kept may have room.
 const MOST_ROOM: usize = 256;
 
 /// Memory of packets that were shown before. What the next packet is shown by is put there first,

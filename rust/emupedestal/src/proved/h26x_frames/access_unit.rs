@@ -133,7 +133,8 @@ impl OpenAccessUnit {
         }
     }
 
-    /// Gives up its text where that has more bytes than this, and gives its memory back.
+    /// Gives up its text where that has more bytes than this, with what it tells; it isn't whole then.
+    /// A run that is open stays. The memory goes back where the run doesn't stand in it.
     #[inline]
     pub(crate) fn limit(&mut self, most: usize) {
         if let Some(unit) = &mut self.unit {

@@ -140,8 +140,8 @@ impl<D: RunDepacketizer> FrameReceiver<D> {
     }
 
     /// Takes back an access unit that was given out, for its memory: a later one is written there. Of
-    /// those that are given back the largest that holds at most `unit_limit` bytes is kept, until one
-    /// begins.
+    /// those that are given back the one with the most room is kept, until one begins; none with room
+    /// for more than `unit_limit` bytes.
     pub fn give_back(&mut self, unit: AccessUnit) {
         self.spare.keep(unit.bytes, self.unit_limit);
     }

@@ -125,8 +125,10 @@ impl OpenText {
     #[inline]
     pub(crate) fn begin_run(&mut self, head: &[u8], body: &[u8]) -> Result<(), PacketError> {
         let size = head.len().saturating_add(PREFIX_SIZE);
-        self.bytes.try_reserve(size.saturating_add(body.len()))?;
         let at = self.len();
+        let given_up = self.bytes.len() - at;
+        let more = size.saturating_add(body.len()).saturating_sub(given_up);
+        self.bytes.try_reserve(more)?;
         self.bytes.truncate(at);
         self.bytes.append_bytes(&ANNEXB_NALUSTART_CODE);
         self.bytes.append_bytes(head);
@@ -198,11 +200,15 @@ impl OpenText {
         self.aside.close();
     }
 
-    /// Gives up the open run, and gives its memory back.
+    /// Gives up the open run, and gives its memory back. The text moves only behind a run that was as
+    /// long, and so never more than was taken.
     pub fn give_up_run(&mut self) {
         if self.is_inside {
+            let is_long = self.bytes.len() - self.at >= self.at;
             self.bytes.truncate(self.at);
-            self.bytes.shrink_to_fit();
+            if is_long {
+                self.bytes.shrink_to_fit();
+            }
             self.is_inside = false;
         }
         self.aside.give_up();
