@@ -10,7 +10,7 @@ ghost use Rattle.h26x_model.specs.Receive.RunLimit.{run_len};
 ghost use Rattle.h265_packets.specs.Payload.{empty_single};
 ghost use Rattle.h26x_payload.specs.AccessUnit.{may_begin, is_last};
 ghost use Rattle.h26x_payload.specs.OpenText.{IsSameText, text_depacketization, met_depacketization};
-ghost use Rattle.h26x_payload.specs.UnitSink.{grown_to};
+ghost use Rattle.h26x_payload.specs.UnitSink.{bytes_brought, grown_to, IsRoomTold};
 ghost use Rattle.h26x_model.specs.Payload.TwoBytes.{is_two_byte_fragment};
 ghost use Rattle.h265_payload.specs.H265.{h265_header};
 ghost use Rattle.h265_payload.specs.Setting.{setting, setting_format};
@@ -169,6 +169,8 @@ impl H265Depacketizer {
         ensures kept { OnErr result (self.new ≡ self.old) }
         ensures kept_sink { OnErr result (W.sink out.new ≡ W.sink out.old) }
         ensures kept_extra { OnErr result (codec_extra.new ≡ codec_extra.old) }
+        ensures told_room { IsRoomTold result (bytes_brought (h265_state self.old) packet.now)
+            (W.room out.old) (W.lacks out.old) (W.lacks out.new) }
     {
         let codec = self.codec;
         let parts = codec.read(packet)?;

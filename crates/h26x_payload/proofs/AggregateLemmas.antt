@@ -1,10 +1,12 @@
 -- Units of an aggregate, one after the other, and what they bring to a depacketizer.
-use Rattle.std.proofs.Common.{◌≡◌, ℕ, Bool, true, false, List, [], ◌∷◌, map, Option, refl, sym, ap, ◌∙◌}
+use Rattle.std.proofs.Common.{◌≡◌, ℕ, ◌+◌, Bool, true, false, List, [], ◌∷◌, ◌++◌, length, length-append, map, Option, refl, sym, ap, ◌∙◌, arith}
 use Rattle.std.specs.Prelude.{take_while}
 use Rattle.std.specs.List.{list_any}
-use Rattle.std.proofs.lemmas.List.Sums.{take_while-cons}
+use Rattle.std.proofs.lemmas.List.Sums.{take_while-cons, sum_by-cons}
 use Rattle.h26x_model.specs.Payload.Reading.{without_don}
+use Rattle.h26x_core.specs.ByteStream.{unit_prefix, byte_stream}
 use Rattle.h26x_core.specs.Pieces.{Pieces, with_piece}
+use Rattle.h26x_payload.specs.Run.{written_len}
 
 -- a long unit is the first that is looked at
 first_kept : (long : List ℕ → Bool) (unit : List ℕ) (pieces behind : Pieces) → pieces ≡ with_piece unit behind → long unit ≡ true →
@@ -29,3 +31,18 @@ found_first has long unit pieces behind answer same is this h =
 pub units_only : (units : List (List ℕ)) → map (λ (u : List ℕ × Option ℕ). u.0) (map without_don units) ≡ units
 units_only [] = refl
 units_only (unit ∷ units) = ap (λ (x : List (List ℕ)). unit ∷ x) (units_only units)
+
+-- what stands before a unit has four bytes
+prefix_long : (avc : Bool) (unit : List ℕ) → length (unit_prefix avc unit) ≡ 4
+prefix_long true unit = refl
+prefix_long false unit = refl
+
+-- units take as many bytes as are written
+pub length_written : (avc : Bool) (units : List (List ℕ)) → length (byte_stream avc units) ≡ written_len units
+length_written avc [] = refl
+length_written avc (unit ∷ units) =
+    let this = length-append (unit_prefix avc unit) unit in
+    let four = prefix_long avc unit in
+    let more = length_written avc units in
+    let sum : length (unit_prefix avc unit ++ unit) + length (byte_stream avc units) ≡ (4 + length unit) + written_len units = omega (arith, this, four, more) in
+    length-append (unit_prefix avc unit ++ unit) (byte_stream avc units) ∙ sum ∙ sym (sum_by-cons (λ (u : List ℕ). 4 + length u) unit units)

@@ -1,6 +1,10 @@
 -- Where units are written, as contracts see it.
-use Rattle.std.specs.Prelude.{ℕ, ◌-◌, List, [], ◌∷◌, ◌++◌, length, take, drop}
+use Rattle.std.specs.Prelude.{◌≡◌, ◌⊎◌, ℕ, ◌-◌, ◌<◌, Bool, true, List, [], ◌∷◌, ◌++◌, length, take, drop, Result, Err}
 use Rattle.std.specs.Borrow.{GName}
+use Rattle.h26x_core.specs.ByteStream.{byte_stream}
+use Rattle.h26x_core.specs.declared.error.PacketError.{PacketError}
+use Rattle.h26x_core.specs.declared.error.PacketError.TheVariants.{OutOfMemory}
+use Rattle.h26x_model.specs.Receive.DepacketizerState.{DepacketizerState, units_brought}
 
 -- What was written, what stands behind it where that is memory of a caller, and which memory it is.
 pub record Sink : Type 0 where
@@ -35,3 +39,13 @@ grown_to bytes s = record {
   behind = drop (length bytes - length s.bytes) s.behind;
   memory = s.memory;
 }
+
+-- the bytes that a packet brings, where a depacketizer is in this state
+abbrev pub bytes_brought : DepacketizerState → List ℕ → List ℕ
+bytes_brought state packet = byte_stream state.is_avc (units_brought state (packet ∷ []))
+
+-- what a sink of so much room tells once a call was to write these bytes: that room lacks, where the
+-- call was refused for it; else what it told before
+abbrev pub IsRoomTold : {A : Type 0} → Result A PacketError → List ℕ → ℕ → Bool → Bool → Type 0
+IsRoomTold result bytes room before after = (after ≡ before)
+    ⊎ ((after ≡ true) × ((result ≡ Err OutOfMemory) × (room < length bytes)))

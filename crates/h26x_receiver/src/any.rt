@@ -10,7 +10,7 @@ ghost use Rattle.h26x_model.specs.Receive.Outcome.{is_startless};
 ghost use Rattle.h26x_model.specs.Receive.DepacketizerState.{after_packets, IsPacketOutcome};
 ghost use Rattle.h26x_payload.specs.AccessUnit.{may_begin, is_last};
 ghost use Rattle.h26x_payload.specs.DepacketizerView.{DepacketizerView};
-ghost use Rattle.h26x_payload.specs.UnitSink.{grown_to};
+ghost use Rattle.h26x_payload.specs.UnitSink.{bytes_brought, grown_to, IsRoomTold};
 ghost use Rattle.h264_payload.specs.declared.packetizer.H264.{H264};
 ghost use Rattle.h264_payload.specs.H264.{h264};
 ghost use Rattle.h265_payload.specs.DepacketizerView.{H265DepacketizerView};
@@ -170,6 +170,8 @@ impl AnyDepacketizer {
         ensures kept { OnErr result (self.new ≡ self.old) }
         ensures kept_sink { OnErr result (W.sink out.new ≡ W.sink out.old) }
         ensures kept_extra { OnErr result (codec_extra.new ≡ codec_extra.old) }
+        ensures told_room { IsRoomTold result (bytes_brought (any_depacketizer_state self.old)
+            packet.now) (W.room out.old) (W.lacks out.old) (W.lacks out.new) }
     {
         match self {
             AnyDepacketizer::H264(it) => it.depacketize_into(packet, out, codec_extra),

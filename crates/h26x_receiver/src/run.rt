@@ -6,7 +6,7 @@ ghost use Rattle.h26x_model.specs.Receive.DepacketizerState.{DepacketizerState, 
 ghost use Rattle.h26x_model.specs.Receive.RunLimit.{run_len, state_with_run};
 ghost use Rattle.h26x_payload.specs.DepacketizerView.{depacketizer_state};
 ghost use Rattle.h26x_payload.specs.OpenText.{IsSameText, text_depacketization, met_depacketization};
-ghost use Rattle.h26x_payload.specs.UnitSink.{grown_to};
+ghost use Rattle.h26x_payload.specs.UnitSink.{bytes_brought, grown_to, IsRoomTold};
 ghost use Rattle.h265_payload.specs.DepacketizerView.{h265_state};
 ghost use Rattle.h265_payload.specs.Shown.{shown};
 
@@ -65,7 +65,11 @@ pub trait RunDepacketizer: Depacketizer {
             ≡ with_run None (having_taken packet.now self.old)) }
         ensures kept { OnErr result (self.new ≡ self.old) }
         ensures kept_sink { OnErr result (W.sink out.new ≡ W.sink out.old) }
-        ensures kept_extra { OnErr result (codec_extra.new ≡ codec_extra.old) };
+        ensures kept_extra { OnErr result (codec_extra.new ≡ codec_extra.old) }
+
+        // A sink that tells that room lacks tells it only where it does.
+        ensures told_room { IsRoomTold result (bytes_brought (state self.old) packet.now)
+            (W.room out.old) (W.lacks out.old) (W.lacks out.new) };
 
     /// Takes a packet where the run that is open stands in the text that is written to, so that the
     /// data of its fragments are copied once. Its own run it neither uses nor changes. By the rule the

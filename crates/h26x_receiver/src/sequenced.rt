@@ -5,7 +5,7 @@ ghost use Rattle.h26x_core.specs.Front.{IsFrontOf};
 ghost use Rattle.h26x_model.specs.Receive.DepacketizerState.{depacketization, after_packets, IsPacketOutcome};
 ghost use Rattle.h26x_model.specs.Receive.RunLimit.{run_len, run_within, state_with_run, without_open_run};
 ghost use Rattle.h26x_payload.specs.OpenText.{IsSameText};
-ghost use Rattle.h26x_payload.specs.UnitSink.{grown_to};
+ghost use Rattle.h26x_payload.specs.UnitSink.{bytes_brought, grown_to, IsRoomTold};
 ghost use Rattle.h26x_receiver.specs.Sequence.{missing_count, is_expected};
 ghost use Rattle.h26x_receiver.specs.Sequenced.{sequenced_depacketization, sequenced_in_text, with_run_if, after_sequenced_packet, IsSequencedAnswer, after_answer, is_taken};
 
@@ -65,6 +65,9 @@ fn take_anew<D: RunDepacketizer, W: UnitSink>(
     ensures kept { OnErr result (depacketizer.new ≡ depacketizer.old) }
     ensures kept_sink { OnErr result (W.sink out.new ≡ W.sink out.old) }
     ensures kept_extra { OnErr result (codec_extra.new ≡ codec_extra.old) }
+    ensures told_room { IsRoomTold result (bytes_brought
+        (state_with_run (D.state depacketizer.old) None) packet.now)
+        (W.room out.old) (W.lacks out.old) (W.lacks out.new) }
 {
     let mut run = take_run(alloc, depacketizer);
     match depacketizer.take(packet, out, codec_extra) {
@@ -97,6 +100,9 @@ fn take<D: RunDepacketizer, W: UnitSink>(
     ensures kept { OnErr result (depacketizer.new ≡ depacketizer.old) }
     ensures kept_sink { OnErr result (W.sink out.new ≡ W.sink out.old) }
     ensures kept_extra { OnErr result (codec_extra.new ≡ codec_extra.old) }
+    ensures told_room { IsRoomTold result (bytes_brought (with_run_if is_next (depacketization
+        (D.state depacketizer.old) (W.sink out.old).bytes codec_extra.old)).state packet.now)
+        (W.room out.old) (W.lacks out.old) (W.lacks out.new) }
 {
     if is_next {
         depacketizer.take(packet, out, codec_extra)
@@ -226,6 +232,12 @@ impl<D: RunDepacketizer> SequencedDepacketizer<D> {
         ensures kept { OnErr result (self.new ≡ self.old) }
         ensures kept_sink { OnErr result (W.sink out.new ≡ W.sink out.old) }
         ensures kept_extra { OnErr result (codec_extra.new ≡ codec_extra.old) }
+
+        // A sink that tells that room lacks tells it only where it does.
+        ensures told_room { IsRoomTold result (bytes_brought (with_run_if
+            (is_expected self.old.expected sequence) (depacketization
+            (D.state self.old.depacketizer) (W.sink out.old).bytes codec_extra.old)).state
+            packet.now) (W.room out.old) (W.lacks out.old) (W.lacks out.new) }
     {
         self.depacketizer.meets_the_facts();
         laws::runs_grow_by_their_packets();
@@ -262,6 +274,9 @@ impl<D: RunDepacketizer> SequencedDepacketizer<D> {
         ensures rest { is_taken result ≡ true →
             self.new.depacketizer ≡ D.having_taken packet.now self.old.depacketizer }
         ensures limit { self.new.run_limit ≡ self.old.run_limit }
+        ensures while_taken { run_len (after_sequenced_packet (sequenced_in_text
+            (D.state self.old.depacketizer) self.old.expected text.old codec_extra.old)
+            sequence packet.now).state.run ≤ run_len text.old.run + length packet.now }
         ensures bounded { run_len text.old.run ≤ self.old.run_limit →
             run_len text.new.run ≤ self.old.run_limit }
         ensures aside { may_be_inside ≡ false → is_taken result ≡ true → text.new.inside ≡ None }
@@ -272,6 +287,8 @@ impl<D: RunDepacketizer> SequencedDepacketizer<D> {
         ensures kept_text { is_taken result ≡ false → IsSameText text.new text.old }
         ensures kept_extra { is_taken result ≡ false → codec_extra.new ≡ codec_extra.old }
     {
+        self.depacketizer.meets_the_facts();
+        laws::runs_grow_by_their_packets();
         let (missing, is_next) = place_of(self.expected, sequence);
         if let Some(answer) = late_by(missing) {
             return Ok(answer);

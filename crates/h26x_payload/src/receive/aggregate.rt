@@ -1,13 +1,13 @@
 //! The units of an aggregate, as slices of it (RFC 6184, 5.7.1; RFC 7798, 4.4.2; RFC 9328, 4.3.2).
 
-ghost use Rattle.std.specs.Prelude.{◌≡◌, ◌⊎◌, ◌++◌, ◌-◌, ◌^◌, ◌<◌, ◌&&◌, nat_le, min, false, ℕ, List, [], ◌∷◌, length, take_while, None, Ok, Err, OnOk, OnErr, IfSome};
+ghost use Rattle.std.specs.Prelude.{◌≡◌, ◌⊎◌, ◌++◌, ◌-◌, ◌^◌, ◌<◌, ◌&&◌, nat_le, min, true, false, ℕ, List, [], ◌∷◌, length, take_while, None, Ok, Err, OnOk, OnErr, IfSome};
 ghost use Rattle.std.specs.List.{list_any};
 ghost use Rattle.h26x_core.specs.ByteStream.{byte_stream};
 ghost use Rattle.h26x_model.specs.Payload.Extra.{extra_after};
 ghost use Rattle.h26x_model.specs.Receive.Outcome.{is_too_long};
 ghost use Rattle.h26x_core.specs.Pieces.{pieces_of};
 ghost use Rattle.h26x_payload.specs.Run.{AreOfSize};
-ghost use Rattle.h26x_payload.specs.UnitSink.{with_written};
+ghost use Rattle.h26x_payload.specs.UnitSink.{with_written, IsRoomTold};
 
 use crate::format::PayloadFormat;
 use crate::receive::byte_stream::{PREFIX_SIZE, put_unit};
@@ -62,6 +62,9 @@ pub fn write_units<A: Aggregate, W: UnitSink>(
         (A.units codec bytes.now)) }
     ensures kept { OnErr result (W.sink out.new ≡ W.sink out.old) }
     ensures kept_extra { OnErr result (codec_extra.new ≡ codec_extra.old) }
+    ensures told_room { IsRoomTold result (byte_stream is_avc (A.units codec bytes.now))
+        (W.room out.old) (W.lacks out.old) (W.lacks out.new) }
+    ensures lacks { result ≡ Err PacketError.OutOfMemory → W.lacks out.new ≡ true }
 {
     out.reserve(size)?;
     let mut counts = false;

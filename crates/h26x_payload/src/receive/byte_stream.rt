@@ -6,7 +6,7 @@ ghost use Rattle.h26x_core.specs.ByteStream.{unit_prefix, byte_stream};
 ghost use Rattle.h26x_core.specs.Word.{long_word};
 ghost use Rattle.h26x_model.specs.Receive.Outcome.{is_too_long};
 ghost use Rattle.h26x_payload.specs.Run.{IsWriteOutcome};
-ghost use Rattle.h26x_payload.specs.UnitSink.{with_written};
+ghost use Rattle.h26x_payload.specs.UnitSink.{with_written, IsRoomTold};
 
 use crate::receive::sink::UnitSink;
 use h26x_core::{ANNEXB_NALUSTART_CODE, PacketError};
@@ -36,6 +36,7 @@ fn put_prefix<W: UnitSink>(is_avc: bool, len: usize, out: &mut W)
     ensures written { W.sink out.new ≡ with_written (W.sink out.old)
         (if is_avc then long_word len else 0 ∷ 0 ∷ 0 ∷ 1 ∷ []) }
     ensures room { W.room out.old ≤ W.room out.new + 4 }
+    ensures kept_lacks { W.lacks out.new ≡ W.lacks out.old }
 {
     out.put(&prefix_of(is_avc, len));
 }
@@ -56,6 +57,7 @@ pub(crate) fn put_unit<W: UnitSink>(is_avc: bool, unit: &[u8], out: &mut W)
     ensures written { W.sink out.new ≡ with_written (W.sink out.old)
         (unit_prefix is_avc unit.now ++ unit.now) }
     ensures room { W.room out.old ≤ W.room out.new + (4 + length unit.now) }
+    ensures kept_lacks { W.lacks out.new ≡ W.lacks out.old }
 {
     put_prefix(is_avc, unit.len(), out);
     out.put(unit);
@@ -68,6 +70,9 @@ fn write_behind_length<W: UnitSink>(unit: &[u8], out: &mut W) -> Result<(), Pack
     ensures written { OnOk result (W.sink out.new ≡ with_written (W.sink out.old)
         (byte_stream true (unit.now ∷ []))) }
     ensures kept { OnErr result (W.sink out.new ≡ W.sink out.old) }
+    ensures told_room { IsRoomTold result (byte_stream true (unit.now ∷ []))
+        (W.room out.old) (W.lacks out.old) (W.lacks out.new) }
+    ensures lacks { result ≡ Err PacketError.OutOfMemory → W.lacks out.new ≡ true }
 {
     if is_too_long(unit.len()) {
         return Err(PacketError::AvcUnitTooLong);
@@ -84,6 +89,9 @@ fn write_behind_start_code<W: UnitSink>(unit: &[u8], out: &mut W) -> Result<(), 
     ensures written { OnOk result (W.sink out.new ≡ with_written (W.sink out.old)
         (byte_stream false (unit.now ∷ []))) }
     ensures kept { OnErr result (W.sink out.new ≡ W.sink out.old) }
+    ensures told_room { IsRoomTold result (byte_stream false (unit.now ∷ []))
+        (W.room out.old) (W.lacks out.old) (W.lacks out.new) }
+    ensures lacks { result ≡ Err PacketError.OutOfMemory → W.lacks out.new ≡ true }
 {
     out.reserve(unit.len().saturating_add(PREFIX_SIZE))?;
     put_unit(false, unit, out);
@@ -100,6 +108,9 @@ pub fn write_unit<W: UnitSink>(is_avc: bool, unit: &[u8], out: &mut W) -> Result
     ensures written { OnOk result (W.sink out.new ≡ with_written (W.sink out.old)
         (byte_stream is_avc (unit.now ∷ []))) }
     ensures kept { OnErr result (W.sink out.new ≡ W.sink out.old) }
+    ensures told_room { IsRoomTold result (byte_stream is_avc (unit.now ∷ []))
+        (W.room out.old) (W.lacks out.old) (W.lacks out.new) }
+    ensures lacks { result ≡ Err PacketError.OutOfMemory → W.lacks out.new ≡ true }
 {
     if is_avc {
         write_behind_length(unit, out)
@@ -116,6 +127,7 @@ fn put_parts<W: UnitSink>(is_avc: bool, head: &[u8], run: &[u8], body: &[u8], ou
     ensures written { W.sink out.new ≡ with_written (W.sink out.old)
         (unit_prefix is_avc (head.now ++ (run.now ++ body.now))
         ++ (head.now ++ (run.now ++ body.now))) }
+    ensures kept_lacks { W.lacks out.new ≡ W.lacks out.old }
 {
     put_prefix(is_avc, head.len() + run.len() + body.len(), out);
     out.put(head);
@@ -139,6 +151,9 @@ pub fn write_parts<W: UnitSink>(
     ensures written { OnOk result (W.sink out.new ≡ with_written (W.sink out.old)
         (byte_stream is_avc ((head.now ++ (run.now ++ body.now)) ∷ []))) }
     ensures kept { OnErr result (W.sink out.new ≡ W.sink out.old) }
+    ensures told_room { IsRoomTold result (byte_stream is_avc ((head.now ++ (run.now ++ body.now)) ∷ []))
+        (W.room out.old) (W.lacks out.old) (W.lacks out.new) }
+    ensures lacks { result ≡ Err PacketError.OutOfMemory → W.lacks out.new ≡ true }
 {
     let len = head
         .len()

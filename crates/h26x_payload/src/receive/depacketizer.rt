@@ -1,6 +1,6 @@
 //! NAL units from packets, for every codec.
 
-ghost use Rattle.std.specs.Prelude.{◌≡◌, true, false, [], ◌∷◌, Some, None, Err, IfOk, OnOk, OnErr, IsOk};
+ghost use Rattle.std.specs.Prelude.{◌≡◌, ◌<◌, length, true, false, [], ◌∷◌, Some, None, Err, IfOk, OnOk, OnErr, IsOk};
 ghost use Rattle.h26x_core.specs.Front.{IsFrontOf};
 ghost use Rattle.h26x_core.specs.Hint.{size_hint};
 ghost use Rattle.h26x_model.specs.Receive.Outcome.{is_startless};
@@ -8,7 +8,7 @@ ghost use Rattle.h26x_model.specs.Receive.DepacketizerState.{after_packets, IsPa
 ghost use Rattle.h26x_model.specs.Receive.RunLimit.{run_len};
 ghost use Rattle.h26x_payload.specs.DepacketizerView.{depacketizer_state, view_depacketization};
 ghost use Rattle.h26x_payload.specs.OpenText.{IsSameText, text_depacketization, met_depacketization};
-ghost use Rattle.h26x_payload.specs.UnitSink.{grown_to};
+ghost use Rattle.h26x_payload.specs.UnitSink.{bytes_brought, grown_to, IsRoomTold};
 
 use crate::format::DonlFormat;
 use crate::receive::extra::out_size_hint;
@@ -125,6 +125,15 @@ impl<C: PacketReader> PayloadDepacketizer<C> {
         ensures kept { OnErr result (self.new ≡ self.old) }
         ensures kept_sink { OnErr result (W.sink out.new ≡ W.sink out.old) }
         ensures kept_extra { OnErr result (codec_extra.new ≡ codec_extra.old) }
+
+        // A sink that tells that room lacks tells it only where it does; and where a packet brings
+        // bytes, want of memory is want of room.
+        ensures told_room { IsRoomTold result (bytes_brought
+            (depacketizer_state (C.format self.old.codec) self.old) packet.now)
+            (W.room out.old) (W.lacks out.old) (W.lacks out.new) }
+        ensures lacks { result ≡ Err PacketError.OutOfMemory → 0 < length (bytes_brought
+            (depacketizer_state (C.format self.old.codec) self.old) packet.now) →
+            W.lacks out.new ≡ true }
     {
         let codec = self.codec;
         let parts = codec.read(packet)?;

@@ -1,6 +1,6 @@
 //! Memory of a caller that units are written to.
 
-ghost use Rattle.std.specs.Prelude.{◌≡◌, ◌≤◌, ◌<◌, ◌-◌, ◌^◌, true, false, length, OnOk, OnErr};
+ghost use Rattle.std.specs.Prelude.{◌≡◌, ◌≤◌, ◌-◌, false, length};
 ghost use Rattle.h26x_payload.specs.UnitSink.{memory_sink};
 
 use crate::receive::sink::UnitSink;
@@ -56,18 +56,10 @@ impl<'a> UnitSink for MemorySink<'a> {
 
     ghost room = { λ it. length it.to.now - it.len };
 
-    #[inline(always)]
-    fn reserve(&mut self, count: usize) -> Result<(), AllocError>
-        ensures same { memory_sink self.new.len self.new.to.now self.new.to.ghost_name
-            ≡ memory_sink self.old.len self.old.to.now self.old.to.ghost_name }
-        ensures room { OnOk result (count ≤ length self.new.to.now - self.new.len) }
-        ensures small { OnOk result (count < 2 ^ 64 - 1) }
+    ghost lacks = { λ it. it.lacks };
 
-        // It fails only where it lacks room, and then says so.
-        ensures refused { OnErr result (length self.old.to.now - self.old.len < count) }
-        ensures lacks { OnErr result (self.new.lacks ≡ true) }
-        ensures kept_lacks { OnOk result (self.new.lacks ≡ self.old.lacks) }
-    {
+    #[inline(always)]
+    fn reserve(&mut self, count: usize) -> Result<(), AllocError> {
         if count > self.to.len() - self.len {
             self.lacks = true;
             return Err(AllocError);

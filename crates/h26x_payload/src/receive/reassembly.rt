@@ -1,13 +1,13 @@
 //! Fragments as a depacketizer takes them (RFC 6184, 5.8; RFC 7798, 4.4.3; RFC 9328, 4.3.3).
 
-ghost use Rattle.std.specs.Prelude.{◌≡◌, ◌&&◌, ◌++◌, ℕ, List, length, false, None, OnOk, OnErr, IsOk};
+ghost use Rattle.std.specs.Prelude.{◌≡◌, ◌&&◌, ◌++◌, ◌<◌, ℕ, List, length, true, false, None, Err, OnOk, OnErr, IsOk};
 ghost use Rattle.std.specs.List.{list_any};
 ghost use Rattle.h26x_core.specs.ByteStream.{byte_stream};
 ghost use Rattle.h26x_model.specs.Payload.Extra.{extra_after};
 ghost use Rattle.h26x_model.specs.Receive.Received.{reading_units, run_after};
 ghost use Rattle.h26x_model.specs.Receive.Outcome.{is_too_long};
 ghost use Rattle.h26x_payload.specs.Run.{header_bytes, fragment_reading, IsWriteOutcome};
-ghost use Rattle.h26x_payload.specs.UnitSink.{with_written};
+ghost use Rattle.h26x_payload.specs.UnitSink.{with_written, IsRoomTold};
 
 use crate::format::PayloadFormat;
 use crate::receive::byte_stream::write_parts;
@@ -56,6 +56,12 @@ pub fn take_fragment<C: PayloadFormat, W: UnitSink>(
     ensures kept_extra { OnErr result (codec_extra.new ≡ codec_extra.old) }
     ensures kept_run { OnErr result (run.new ≡ run.old) }
     ensures startless { fragment.entry.start ≡ false → run.old ≡ None → IsOk result }
+    ensures told_room { IsRoomTold result (byte_stream is_avc (reading_units run.old
+        (fragment_reading (C.format codec) fragment.entry)))
+        (W.room out.old) (W.lacks out.old) (W.lacks out.new) }
+    ensures lacks { result ≡ Err PacketError.OutOfMemory → 0 < length (reading_units run.old
+        (fragment_reading (C.format codec) fragment.entry)) →
+        W.lacks out.new ≡ true }
 {
     if !fragment.start && !run.is_open() {
         return Ok(());

@@ -1,6 +1,6 @@
 //! What a packet brings to a depacketizer, for every codec (RFC 6184, 7; RFC 7798, 6; RFC 9328, 6).
 
-ghost use Rattle.std.specs.Prelude.{◌≡◌, ◌⊎◌, ◌&&◌, ◌++◌, ◌^◌, nat_le, true, false, ℕ, List, Option, length, Ok, Err, OnOk, OnErr, IsOk};
+ghost use Rattle.std.specs.Prelude.{◌≡◌, ◌⊎◌, ◌&&◌, ◌++◌, ◌^◌, ◌<◌, nat_le, true, false, ℕ, List, Option, length, Ok, Err, OnOk, OnErr, IsOk};
 ghost use Rattle.std.specs.List.{list_any};
 ghost use Rattle.std.specs.Option.{option_map};
 ghost use Rattle.h26x_core.specs.ByteStream.{byte_stream};
@@ -9,7 +9,7 @@ ghost use Rattle.h26x_model.specs.Receive.Received.{reading_units, run_after};
 ghost use Rattle.h26x_model.specs.Receive.Outcome.{IsReadingOutcome, is_startless, is_too_long};
 ghost use Rattle.h26x_payload.specs.Run.{header_bytes, fragment_reading, IsWriteOutcome};
 ghost use Rattle.h26x_payload.specs.DepacketizerView.{parts_reading, AreChecked, IsReadAs};
-ghost use Rattle.h26x_payload.specs.UnitSink.{with_written};
+ghost use Rattle.h26x_payload.specs.UnitSink.{with_written, IsRoomTold};
 
 use crate::format::PayloadFormat;
 use crate::receive::aggregate::write_units;
@@ -141,6 +141,12 @@ pub(crate) fn take_parts<C: PacketReader, W: UnitSink>(
     ensures kept_run { OnErr result (run.new ≡ run.old) }
     ensures startless { is_startless run.old
         (parts_reading (C.format codec) (C.units codec) packet.now parts.entry) ≡ true → IsOk result }
+    ensures told_room { IsRoomTold result (byte_stream is_avc (reading_units run.old
+        (parts_reading (C.format codec) (C.units codec) packet.now parts.entry)))
+        (W.room out.old) (W.lacks out.old) (W.lacks out.new) }
+    ensures lacks { result ≡ Err PacketError.OutOfMemory → 0 < length (reading_units run.old
+        (parts_reading (C.format codec) (C.units codec) packet.now parts.entry)) →
+        W.lacks out.new ≡ true }
 {
     match parts {
         Parts::Whole => {
@@ -190,6 +196,11 @@ pub fn take_packet<C: PacketReader, W: UnitSink>(
     ensures kept_run { OnErr result (run.new ≡ run.old) }
     ensures startless { is_startless run.old ((C.format codec).read packet.now) ≡ true →
         IsOk result }
+    ensures told_room { IsRoomTold result (byte_stream is_avc
+        (reading_units run.old ((C.format codec).read packet.now)))
+        (W.room out.old) (W.lacks out.old) (W.lacks out.new) }
+    ensures lacks { result ≡ Err PacketError.OutOfMemory →
+        0 < length (reading_units run.old ((C.format codec).read packet.now)) → W.lacks out.new ≡ true }
 {
     take_parts(codec, is_avc, packet, parts, run, out, codec_extra)
 }

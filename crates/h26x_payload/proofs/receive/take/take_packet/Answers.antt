@@ -21,3 +21,9 @@ returns-clause-told g c =
     let f = g.C.PayloadFormat.format c.args.codec in
     let other = parts_reading f (g.C.Aggregate.units c.args.codec) c.args.packet.now c.args.parts in
     rw (taken_brings c.args.run.now (f.read c.args.packet.now) other c.requires.reading) c.take_parts.ensures.told
+
+pub returns-clause-told_room : goal.returns-clause-told_room
+returns-clause-told_room g c =
+    let f = g.C.PayloadFormat.format c.args.codec in
+    let other = parts_reading f (g.C.Aggregate.units c.args.codec) c.args.packet.now c.args.parts in
+    rw (taken_brings c.args.run.now (f.read c.args.packet.now) other c.requires.reading) c.take_parts.ensures.told_room

@@ -23,3 +23,6 @@ returns-in-Aggregate-clause-written g c = rw (brings g c) c.write_units.ensures.
 
 pub returns-in-Aggregate-clause-told : goal.returns-in-Aggregate-clause-told
 returns-in-Aggregate-clause-told g c = rw (brings g c) c.write_units.ensures.told
+
+pub returns-in-Aggregate-clause-told_room : goal.returns-in-Aggregate-clause-told_room
+returns-in-Aggregate-clause-told_room g c = rw (brings g c) c.write_units.ensures.told_room
