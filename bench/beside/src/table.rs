@@ -11,8 +11,6 @@ use std::fmt::Write;
 struct Part {
     call: &'static str,
     title: &'static str,
-    /// What is done to a payload.
-    verb: &'static str,
     /// Our ways, and what they are called here.
     ours: &'static [(&'static str, &'static str)],
     pieces: &'static str,
@@ -22,7 +20,6 @@ const PARTS: [Part; 2] = [
     Part {
         call: "packetize",
         title: "Packetizing",
-        verb: "packetizing",
         ours: &[
             (LIBRARY, "library, `h26x_packetize`"),
             (LIBRARY_INTO, "library, `h26x_packetize_into`"),
@@ -35,7 +32,6 @@ const PARTS: [Part; 2] = [
     Part {
         call: "take",
         title: "Taking the packets",
-        verb: "taking the packets of",
         ours: &[
             (LIBRARY, "library, `h26x_depacketize`"),
             (CRATE, "crate, `depacketize`"),
@@ -118,26 +114,29 @@ pub fn table(builds: &[Vec<Line>]) -> String {
     text
 }
 
-/// A short table: the ratios of the Rust crate, without DONL and without whole megabytes.
+/// The payloads of the short table.
+const COMMON: [&str; 3] = [
+    "a frame of 8 kB",
+    "a unit of 200 kB",
+    "fifty units of 20 bytes",
+];
+
+/// A short table: the ratios of the Rust crate for a few payloads, one for each call, without DONL.
 pub fn summary(builds: &[Vec<Line>]) -> String {
     let builds = Builds(builds);
     let formats = Format::ALL.iter().filter(|format| !format.has_donl);
     let formats: Vec<&str> = formats.map(|format| format.name).collect();
     let mut text = format!("| | {} |\n|---|", formats.join(" | "));
     text += &"---|".repeat(formats.len());
-    for part in &PARTS {
-        let payloads = distinct(builds.cases(part).iter().map(|case| case.0));
-        let short = payloads
-            .iter()
-            .filter(|name| !name.starts_with("a megabyte"));
-        for payload in short {
-            let cell = |format: &&str| {
-                let ratio = builds.ratio(part, (payload, format), CRATE);
-                ratio.map_or(" |".into(), |ratio| format!(" {ratio:.2} |"))
-            };
-            let ratios: String = formats.iter().map(cell).collect();
-            write!(text, "\n| {} {payload} |{ratios}", part.verb).expect("a string");
-        }
+    for payload in COMMON {
+        let cell = |format: &&str| {
+            let ratio = |part: &Part| builds.ratio(part, (payload, format), CRATE);
+            let ratios = PARTS.iter().filter_map(ratio);
+            let ratios: Vec<String> = ratios.map(|ratio| format!("{ratio:.2}")).collect();
+            format!(" {} |", ratios.join(", "))
+        };
+        let cells: String = formats.iter().map(cell).collect();
+        write!(text, "\n| {payload} |{cells}").expect("a string");
     }
     text
 }
