@@ -2,7 +2,7 @@
 use Rattle.std.proofs.Common.{◌≡◌, ℕ, zero, suc, ◌+◌, ◌-◌, ◌*◌, ◌<◌, ◌≤◌, Bool, true, false, cond, eqb, List, [], ◌∷◌, ◌++◌, length, length-append, map, take, drop, Option, Some, None, refl, sym, ap, ◌∙◌, subst, append_assoc, arith, eq-eqb}
 use Rattle.std.specs.Prelude.{IsTrue, nat_lt, nat_le, ◌&&◌, ◌||◌}
 use Rattle.std.proofs.Math.Nat.{mul-le-mul_right}
-use Rattle.std.specs.List.{flat_map, range_with_len, list_all, AllByRecursion}
+use Rattle.std.specs.List.{flat_map, list_all, AllByRecursion}
 use Rattle.std.proofs.lemmas.List.{append-nil, length-take, length-drop}
 use Rattle.std.proofs.lemmas.List.Concat.{flat_map-append}
 use Rattle.std.proofs.lemmas.List.FromFn.{length-map-range_with_len}
@@ -27,7 +27,7 @@ use Rattle.h26x_model.proofs.ReadBackLemmas.{Bounds, later_read, first_read, pla
 use Rattle.h26x_model.proofs.LossLemmas.{fragments_at, numbered_back}
 
 -- what the kept readings bring, where the run is given up at each that is missing, and where it is too long
-abbrev kept_units : ℕ → Option (List ℕ) → List Bool → List Reading → List (List ℕ)
+abbrev pub kept_units : ℕ → Option (List ℕ) → List Bool → List Reading → List (List ℕ)
 kept_units most run (true ∷ mask) (r ∷ readings) = reading_units run r ++ kept_units most (run_within most (run_after run r)) mask readings
 kept_units most run (false ∷ mask) (r ∷ readings) = kept_units most None mask readings
 kept_units most run mask readings = []
@@ -39,7 +39,7 @@ run_after_kept most run (false ∷ mask) (r ∷ readings) = run_after_kept most 
 run_after_kept most run mask readings = run
 
 -- what is written and told of units behind others
-abbrev AreBehind : Depacketization → Depacketization → List (List ℕ) → Type 0
+abbrev pub AreBehind : Depacketization → Depacketization → List (List ℕ) → Type 0
 AreBehind w new units = (new.out ≡ w.out ++ byte_stream w.state.is_avc units) × (new.extra ≡ extra_after w.state.format w.extra units)
 
 -- no units
@@ -47,7 +47,7 @@ none_behind : (w : Depacketization) → AreBehind w w []
 none_behind w = (sym (append-nil w.out), refl)
 
 -- what is written and told are these units
-written_is : (most : ℕ) (w : Depacketization) (mask : List Bool) (packets : List (List ℕ)) → ExtraTells w.state.format →
+pub written_is : (most : ℕ) (w : Depacketization) (mask : List Bool) (packets : List (List ℕ)) → ExtraTells w.state.format →
     AreBehind w (after_kept_packets most w mask packets) (kept_units most w.state.run mask (map w.state.format.read packets))
 written_is most w [] packets tells = none_behind w
 written_is most w (true ∷ mask) [] tells = none_behind w

@@ -29,3 +29,4 @@ pub mod SourceLemmas
 pub mod CodecLawLemmas
 pub mod OneUnitLemmas
 pub mod GapLemmas
+pub mod AnySenderLemmas

@@ -3,3 +3,4 @@ pub mod Loss
 pub mod Detection
 pub mod Laws
 pub mod Gaps
+pub mod AnySender

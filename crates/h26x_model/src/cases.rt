@@ -14,6 +14,7 @@ ghost use Rattle.h26x_model.specs.Send.Limit.{AreWithinLimit};
 ghost use Rattle.h26x_model.specs.Receive.Received.{IsOpenRun};
 ghost use Rattle.h26x_model.specs.Receive.Run.{IsRun, AreReceived};
 ghost use Rattle.h26x_model.specs.Receive.RunLimit.{run_len, run_within};
+ghost use Rattle.h26x_model.specs.Carry.AnySender.{units_came};
 ghost use Rattle.h26x_model.specs.Receive.Outcome.{is_startless, IsReadingOutcome};
 ghost use Rattle.h26x_core.specs.declared.error.PacketError.TheVariants.{AvcUnitTooLong, ErrShortPacket, OutOfMemory};
 
@@ -138,4 +139,35 @@ pub fn packets_of_calls()
 pub fn skipped_kinds()
     ensures { map is_skipped (Skipped ∷ Vps ∷ Sps ∷ Pps ∷ Other ∷ [])
         ≡ true ∷ false ∷ false ∷ false ∷ false ∷ [] }
+{}
+
+/// Of a unit in three fragments each packet has to come, one of another unit between them too, and its
+/// run may hold no more than the limit before the last; an aggregate comes as a whole.
+pub fn units_that_came()
+    ensures all { units_came 2 None true (true ∷ true ∷ true ∷ []) (
+        Fragment true false (0x65 ∷ []) None (0x01 ∷ []) ∷
+        Fragment false false (0x65 ∷ []) None (0x02 ∷ []) ∷
+        Fragment false true (0x65 ∷ []) None (0x03 ∷ []) ∷ []) ≡ true ∷ [] }
+    ensures too_long { units_came 1 None true (true ∷ true ∷ true ∷ []) (
+        Fragment true false (0x65 ∷ []) None (0x01 ∷ []) ∷
+        Fragment false false (0x65 ∷ []) None (0x02 ∷ []) ∷
+        Fragment false true (0x65 ∷ []) None (0x03 ∷ []) ∷ []) ≡ false ∷ [] }
+    ensures middle { units_came 2 None true (true ∷ false ∷ true ∷ []) (
+        Fragment true false (0x65 ∷ []) None (0x01 ∷ []) ∷
+        Fragment false false (0x65 ∷ []) None (0x02 ∷ []) ∷
+        Fragment false true (0x65 ∷ []) None (0x03 ∷ []) ∷ []) ≡ false ∷ [] }
+    ensures between { units_came 2 None true (true ∷ false ∷ true ∷ []) (
+        Fragment true false (0x65 ∷ []) None (0x01 ∷ []) ∷
+        Single (0x61 ∷ []) None ∷
+        Fragment false true (0x65 ∷ []) None (0x03 ∷ []) ∷ []) ≡ false ∷ false ∷ [] }
+    ensures again { units_came 2 None true (true ∷ false ∷ true ∷ true ∷ []) (
+        Fragment true false (0x65 ∷ []) None (0x01 ∷ []) ∷
+        Aggregate ((0x67 ∷ [], None) ∷ (0x68 ∷ [], None) ∷ []) ∷
+        Fragment true false (0x65 ∷ []) None (0x02 ∷ []) ∷
+        Fragment false true (0x65 ∷ []) None (0x03 ∷ []) ∷ [])
+        ≡ false ∷ false ∷ true ∷ [] }
+    ensures open { units_came 2 (Some (0x01 ∷ [])) true (true ∷ [])
+        (Fragment false true (0x65 ∷ []) None (0x03 ∷ []) ∷ []) ≡ true ∷ [] }
+    ensures given_up { units_came 2 (Some (0x01 ∷ [])) false (true ∷ [])
+        (Fragment false true (0x65 ∷ []) None (0x03 ∷ []) ∷ []) ≡ false ∷ [] }
 {}

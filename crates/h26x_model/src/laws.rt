@@ -26,6 +26,7 @@ ghost use Rattle.h26x_model.specs.Send.PacketizerState.{PacketizerState, IsPacke
 ghost use Rattle.h26x_model.specs.Receive.DepacketizerState.{DepacketizerState, Depacketization, readings_units, run_after_readings, depacketizer_meaning};
 ghost use Rattle.h26x_model.specs.Receive.RunLimit.{run_len};
 ghost use Rattle.h26x_model.specs.Carry.Gaps.{WritesWholeUnits};
+ghost use Rattle.h26x_model.specs.Carry.AnySender.{WritesWhatCame};
 ghost use Rattle.h26x_model.specs.Carry.Laws.{PacketizerGoesOn, DepacketizerGoesOn, CarriesWhole, LosesLittle, SendsAgain};
 
 /// A list of units is groups and a rest in one way, and `split` finds it.
@@ -270,6 +271,14 @@ pub fn nothing_is_damaged()
         AreCarried s.format (state_units s (all_entries s.format calls)) → (mask : List Bool) →
         length mask ≡ length (state_packets s (all_entries s.format calls)) →
         WritesWholeUnits most s w calls mask }
+{}
+
+/// Whoever sent packets, and whatever they are: where some are missing, and the open run is given up at
+/// each that is and where it is longer than a limit, what is written is that part of what all of them
+/// would bring of which each packet came.
+pub fn what_came_is_written()
+    ensures { (most : ℕ) (w : Depacketization) (mask : List Bool) (packets : List (List ℕ)) →
+        IsPayloadFormat w.state.format → WritesWhatCame most w mask packets }
 {}
 
 /// A packet adds no more to a run than its own length.

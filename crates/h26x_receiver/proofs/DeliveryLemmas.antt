@@ -12,12 +12,13 @@ use Rattle.h26x_model.specs.Send.PacketizerState.{PacketizerState, IsPacketizerS
 use Rattle.h26x_model.specs.Receive.DepacketizerState.{Depacketization, after_packets}
 use Rattle.h26x_model.specs.Receive.RunLimit.{without_open_run, with_run_within}
 use Rattle.h26x_model.specs.Carry.Gaps.{after_kept_packets, WritesWholeUnits}
+use Rattle.h26x_model.specs.Carry.AnySender.{WritesWhatCame}
 use Rattle.h26x_model.specs.Payload.Format.{Format}
 use Rattle.h26x_receiver.specs.declared.received.Received.{Received}
 use Rattle.h26x_receiver.specs.declared.received.Received.TheVariants.{InOrder, Gap, TooLong, Late}
 use Rattle.h26x_receiver.specs.Sequence.{next_sequence_number, distance_behind, is_late, is_expected}
 use Rattle.h26x_receiver.specs.Sequenced.{SequencedDepacketization, with_expected, with_run_if, after_sequenced_packet, is_taken, IsSequencedAnswer, after_answers, HaveSequencedAnswers, AreAllReceived}
-use Rattle.h26x_receiver.specs.Delivery.{packet_of_place, taken_places, IsNearPlace, AreNearPlaces, taken_mask, WholeUnitsAreWritten}
+use Rattle.h26x_receiver.specs.Delivery.{packet_of_place, taken_places, IsNearPlace, AreNearPlaces, taken_mask, WholeUnitsAreWritten, WhatWasTakenIsWritten}
 use Rattle.h26x_receiver.proofs.AnswerLemmas.{accepted}
 use Rattle.h26x_receiver.proofs.PlaceLemmas.{number_at, expected_at, is_place, IsOn, next_number, on_place}
 
@@ -212,3 +213,22 @@ whole_written most w packets answers new law ok all = λ s calls first places sa
     let over = then_alike (alike stood) (then_alike (from_none most sent w took)
     (at_is_over most sent (without_open_run w) 0 (length sent) took (omega arith) (up_from_first None took by_places.1) (taken_within (length sent) places answers it.brought.sent))) in
     (over.out ∙ whole.written, over.extra ∙ whole.told)
+
+-- the law of what came, as it stands in `laws`
+abbrev pub WritesIt : Type 0
+WritesIt = (most : ℕ) (w : Depacketization) (mask : List Bool) (packets : List (List ℕ)) → IsPayloadFormat w.state.format → WritesWhatCame most w mask packets
+
+-- so what was taken is written and told, whoever sent it
+pub taken_written : (most : ℕ) (w : Depacketization) (packets : List (ℕ × List ℕ)) (answers : List (Result Received PacketError)) (new : SequencedDepacketization) → WritesIt →
+    IsPayloadFormat w.state.format → AreAllReceived most (with_expected w None) packets answers new → WhatWasTakenIsWritten most w packets answers new.at_work.out new.at_work.extra
+taken_written most w packets answers new law ok all = λ sent first places it.
+    let by_places = delivered most first sent (with_expected w None) None places answers refl it.near
+    (subst (λ (x : List (ℕ × List ℕ)). HaveSequencedAnswers most (with_expected w None) x answers) it.each all.each) in
+    let took = taken_places places answers in
+    let mask = map (is_among took) (range_with_len 0 (length sent)) in
+    let came = law most (without_open_run w) mask sent ok in
+    let stood : new.at_work ≡ after_places most sent w None took =
+    ap (λ (x : SequencedDepacketization). x.at_work) all.stands ∙ ap (λ (x : List (ℕ × List ℕ)). (after_answers most (with_expected w None) x answers).at_work) it.each ∙ by_places.0 in
+    let over = then_alike (alike stood) (then_alike (from_none most sent w took)
+    (at_is_over most sent (without_open_run w) 0 (length sent) took (omega arith) (up_from_first None took by_places.1) (taken_within (length sent) places answers it.within))) in
+    (over.out ∙ came.written, over.extra ∙ came.told)

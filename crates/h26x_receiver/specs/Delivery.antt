@@ -9,8 +9,10 @@ use Rattle.h26x_core.specs.declared.error.PacketError.TheVariants.{AvcUnitTooLon
 use Rattle.h26x_model.specs.Send.Calls.{Call, AreCalls, all_entries}
 use Rattle.h26x_model.specs.Payload.Facts.{AreCarried}
 use Rattle.h26x_model.specs.Send.PacketizerState.{PacketizerState, IsPacketizerState, state_units, state_packets}
-use Rattle.h26x_model.specs.Receive.DepacketizerState.{Depacketization}
+use Rattle.h26x_model.specs.Receive.DepacketizerState.{Depacketization, readings_units}
+use Rattle.h26x_model.specs.Carry.Loss.{keep}
 use Rattle.h26x_model.specs.Carry.Gaps.{whole_units}
+use Rattle.h26x_model.specs.Carry.AnySender.{units_came}
 use Rattle.h26x_codec.specs.Runs.{AreWritten}
 use Rattle.h26x_receiver.specs.declared.received.Received.{Received}
 use Rattle.h26x_receiver.specs.Sequenced.{is_taken}
@@ -79,6 +81,29 @@ WholeUnitsAreWritten most w packets answers out told =
     (s : PacketizerState) (calls : List Call) (first : ℕ) (places : List ℕ) →
     w.state.format ≡ s.format → IsDelivery s calls first places packets answers →
     AreWritten w (whole_units most s calls (taken_mask s calls places answers)) out told
+
+-- A delivery of packets of any sender, whatever they are: each is one of those sent, with the number of
+-- its place; a gap or a delay is shorter than half of the numbers' circle.
+pub record IsAnyDelivery (sent : List (List ℕ)) (first : ℕ) (places : List ℕ)
+    (packets : List (ℕ × List ℕ)) (answers : List (Result Received PacketError)) : Type 0 where
+  pub each : packets ≡ map (packet_of_place sent first) places
+  pub within : AllByRecursion (λ place. place < length sent) places
+  pub near : AreNearPlaces None places answers
+
+-- of the units that packets would bring where all of them came, those of which each packet was taken
+abbrev pub units_taken : ℕ → Depacketization → List (List ℕ) → List ℕ →
+    List (Result Received PacketError) → List (List ℕ)
+units_taken most w sent places answers = keep
+    (units_came most None true (mask_of_places (taken_places places answers) (length sent))
+    (map w.state.format.read sent)) (readings_units None (map w.state.format.read sent))
+
+-- Whoever sent the packets, and whatever they are: what is written and told is that part of what all
+-- of them would bring of which each packet was taken, and that a run may hold.
+abbrev pub WhatWasTakenIsWritten : ℕ → Depacketization → List (ℕ × List ℕ) →
+    List (Result Received PacketError) → List ℕ → CodecExtra → Type 0
+WhatWasTakenIsWritten most w packets answers out told = (sent : List (List ℕ)) (first : ℕ)
+    (places : List ℕ) → IsAnyDelivery sent first places packets answers →
+    AreWritten w (units_taken most w sent places answers) out told
 
 -- a place at the one expected or less than half of the circle ahead of it
 abbrev pub IsNextPlace : Option ℕ → ℕ → Type 0

@@ -12,7 +12,7 @@ ghost use Rattle.h264_payload.specs.H264.{h264};
 ghost use Rattle.h26x_codec.specs.Codec.{fresh_packetizer_state, fresh_depacketizer_state};
 ghost use Rattle.h26x_receiver.specs.Sequence.{next_sequence_number, missing_count, distance_behind, is_late, is_expected};
 ghost use Rattle.h26x_receiver.specs.Sequenced.{sequenced_depacketization, answer_by_missing, HaveSequencedAnswers};
-ghost use Rattle.h26x_receiver.specs.Delivery.{IsDelivery, IsOrderedDelivery, IsNearPlace, IsNextPlace, ThoseThatCameAreWritten, IsWantOrTooLong, taken_mask};
+ghost use Rattle.h26x_receiver.specs.Delivery.{IsDelivery, IsAnyDelivery, IsOrderedDelivery, IsNearPlace, IsNextPlace, ThoseThatCameAreWritten, WhatWasTakenIsWritten, IsWantOrTooLong, taken_mask};
 
 use crate::received::Received;
 use h26x_core::PacketError;
@@ -113,6 +113,25 @@ pub fn an_ordered_delivery()
         ((65535, 0x7c ∷ 0x85 ∷ 0x01 ∷ []) ∷ (1, 0x7c ∷ 0x45 ∷ 0x03 ∷ []) ∷
         (2, 0x61 ∷ 0x05 ∷ []) ∷ []) out told →
         out ≡ 0x00 ∷ 0x00 ∷ 0x00 ∷ 0x01 ∷ 0x61 ∷ 0x05 ∷ [] }
+{}
+
+/// A delivery of a sender that sends another unit between the fragments of one, of which the middle is
+/// missing: both others are written, and nothing of the fragmented one.
+pub fn a_delivery_of_any_sender()
+    ensures is { IsAnyDelivery
+        ((0x7c ∷ 0x85 ∷ 0x01 ∷ []) ∷ (0x61 ∷ 0x05 ∷ []) ∷ (0x7c ∷ 0x05 ∷ 0x02 ∷ []) ∷
+        (0x7c ∷ 0x45 ∷ 0x03 ∷ []) ∷ (0x41 ∷ 0x06 ∷ []) ∷ [])
+        65535 (0 ∷ 1 ∷ 3 ∷ 4 ∷ [])
+        ((65535, 0x7c ∷ 0x85 ∷ 0x01 ∷ []) ∷ (0, 0x61 ∷ 0x05 ∷ []) ∷
+        (2, 0x7c ∷ 0x45 ∷ 0x03 ∷ []) ∷ (3, 0x41 ∷ 0x06 ∷ []) ∷ [])
+        (Ok Received.InOrder ∷ Ok Received.InOrder ∷ Ok (Received.Gap 1) ∷ Ok Received.InOrder ∷ []) }
+    ensures written { (out : List ℕ) (told : CodecExtra) → WhatWasTakenIsWritten 4
+        (depacketization (fresh_depacketizer_state h264) [] extras.None)
+        ((65535, 0x7c ∷ 0x85 ∷ 0x01 ∷ []) ∷ (0, 0x61 ∷ 0x05 ∷ []) ∷
+        (2, 0x7c ∷ 0x45 ∷ 0x03 ∷ []) ∷ (3, 0x41 ∷ 0x06 ∷ []) ∷ [])
+        (Ok Received.InOrder ∷ Ok Received.InOrder ∷ Ok (Received.Gap 1) ∷ Ok Received.InOrder ∷ [])
+        out told →
+        out ≡ 0x00 ∷ 0x00 ∷ 0x00 ∷ 0x01 ∷ 0x61 ∷ 0x05 ∷ 0x00 ∷ 0x00 ∷ 0x00 ∷ 0x01 ∷ 0x41 ∷ 0x06 ∷ [] }
 {}
 
 /// Up to half of the circle ahead is next, and up to half of it behind is near.

@@ -4,7 +4,7 @@ ghost use Rattle.std.specs.Prelude.{◌≡◌, ◌≤◌, IfOk, OnErr, Err, leng
 ghost use Rattle.h26x_core.specs.Front.{IsFrontOf};
 ghost use Rattle.h26x_model.specs.Receive.DepacketizerState.{depacketization};
 ghost use Rattle.h26x_model.specs.Receive.RunLimit.{run_len};
-ghost use Rattle.h26x_receiver.specs.Delivery.{sequenced_packets, NoneIsRefused, NoneIsRefusedForWhatItIs, WholeUnitsAreWritten, ThoseThatCameAreWritten};
+ghost use Rattle.h26x_receiver.specs.Delivery.{sequenced_packets, NoneIsRefused, NoneIsRefusedForWhatItIs, WholeUnitsAreWritten, ThoseThatCameAreWritten, WhatWasTakenIsWritten};
 ghost use Rattle.h26x_receiver.specs.Sequenced.{sequenced_depacketization, AreAllReceived, having_taken_all};
 
 use crate::received::Received;
@@ -44,7 +44,14 @@ pub fn receive_all<D: RunDepacketizer>(
         (depacketization (D.state receiver.old.depacketizer) out.old.items codec_extra.old)
         (sequenced_packets packets.now) answers.items out.new.items codec_extra.new) }
 
-    // So where they come in order and none is refused: the items of which each packet came.
+    // Whoever sent them, and whatever they are: exactly that part of what all of them would bring of
+    // which each packet was taken, and that a run may hold.
+    ensures came { receiver.old.expected ≡ None →
+        IfOk result (λ answers. WhatWasTakenIsWritten receiver.old.run_limit
+        (depacketization (D.state receiver.old.depacketizer) out.old.items codec_extra.old)
+        (sequenced_packets packets.now) answers.items out.new.items codec_extra.new) }
+
+    // Where those of calls come in order and none is refused: the items of which each packet came.
     ensures in_order { receiver.old.expected ≡ None →
         IfOk result (λ answers. NoneIsRefused answers.items →
         ThoseThatCameAreWritten receiver.old.run_limit
@@ -78,6 +85,7 @@ pub fn receive_all<D: RunDepacketizer>(
 {
     receiver.depacketizer.meets_the_facts();
     laws::nothing_is_damaged();
+    laws::what_came_is_written();
     laws::what_calls_send_is_carried();
     let mut answers = Vec::with_capacity(alloc, packets.len())?;
     for (sequence, packet) in packets {

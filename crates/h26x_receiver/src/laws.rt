@@ -7,7 +7,7 @@ ghost use Rattle.h26x_model.specs.Payload.Facts.{IsPayloadFormat};
 ghost use Rattle.h26x_model.specs.Receive.RunLimit.{run_len};
 ghost use Rattle.h26x_model.specs.Receive.DepacketizerState.{Depacketization};
 ghost use Rattle.h26x_receiver.specs.declared.received.Received.{Received};
-ghost use Rattle.h26x_receiver.specs.Delivery.{NoneIsRefused, WholeUnitsAreWritten, ThoseThatCameAreWritten};
+ghost use Rattle.h26x_receiver.specs.Delivery.{NoneIsRefused, WholeUnitsAreWritten, ThoseThatCameAreWritten, WhatWasTakenIsWritten};
 ghost use Rattle.h26x_receiver.specs.Sequenced.{SequencedDepacketization, with_expected, after_answers, HaveSequencedAnswers};
 
 use h26x_model::laws;
@@ -36,6 +36,19 @@ pub fn those_that_came_are_written()
         (after_answers most (with_expected w None) packets answers).at_work.extra }
 {
     laws::nothing_is_damaged();
+}
+
+/// Whoever sent the packets, and whatever they are: what is written is that part of what all of them
+/// would bring of which each packet was taken.
+pub fn what_was_taken_is_written()
+    ensures { (most : ℕ) (w : Depacketization) (packets : List (ℕ × List ℕ))
+        (answers : List (Result Received PacketError)) → IsPayloadFormat w.state.format →
+        HaveSequencedAnswers most (with_expected w None) packets answers →
+        WhatWasTakenIsWritten most w packets answers
+        (after_answers most (with_expected w None) packets answers).at_work.out
+        (after_answers most (with_expected w None) packets answers).at_work.extra }
+{
+    laws::what_came_is_written();
 }
 
 /// Whatever packets come, a run that is within the limit stays within it.

@@ -9,7 +9,7 @@ use Rattle.h26x_receiver.specs.Sequenced.{with_expected, sequenced_depacketizati
 use Rattle.h26x_receiver.specs.declared.received.Received.TheVariants.{Late}
 use Rattle.h26x_receiver.proofs.AnswerLemmas.{accepted, received_more, received_to_end, pair_at, still_front}
 use Rattle.h26x_receiver.proofs.TakenLemmas.{taken_on}
-use Rattle.h26x_receiver.proofs.DeliveryLemmas.{whole_written}
+use Rattle.h26x_receiver.proofs.DeliveryLemmas.{whole_written, taken_written}
 use Rattle.h26x_receiver.proofs.OrderLemmas.{came_written}
 use Rattle.h26x_receiver.proofs.RefusalLemmas.{refusals_are_want}
 use Rattle.h26x_receiver.proofs.delivery.receive_all.Goals as goal
@@ -61,6 +61,14 @@ returns-clause-whole g c = λ none.
     let w = depacketization (state c.args.receiver.now.depacketizer) c.args.out.now.items c.args.codec_extra.now in
     let new = sequenced_depacketization (state c.loop-sequence.receiver.depacketizer) c.loop-sequence.receiver.expected c.loop-sequence.out.items c.loop-sequence.codec_extra in
     whole_written c.args.receiver.now.run_limit w (sequenced_packets c.args.packets.now) c.loop-sequence.answers.items new c.nothing_is_damaged.ensures c.meets_the_facts.ensures
+    (subst (λ (x : Option ℕ). AreAllReceived c.args.receiver.now.run_limit (with_expected w x) (sequenced_packets c.args.packets.now) c.loop-sequence.answers.items new) none (returns-clause-received g c))
+
+pub returns-clause-came : goal.returns-clause-came
+returns-clause-came g c = λ none.
+    let state = g.D.RunDepacketizer.state in
+    let w = depacketization (state c.args.receiver.now.depacketizer) c.args.out.now.items c.args.codec_extra.now in
+    let new = sequenced_depacketization (state c.loop-sequence.receiver.depacketizer) c.loop-sequence.receiver.expected c.loop-sequence.out.items c.loop-sequence.codec_extra in
+    taken_written c.args.receiver.now.run_limit w (sequenced_packets c.args.packets.now) c.loop-sequence.answers.items new c.what_came_is_written.ensures c.meets_the_facts.ensures
     (subst (λ (x : Option ℕ). AreAllReceived c.args.receiver.now.run_limit (with_expected w x) (sequenced_packets c.args.packets.now) c.loop-sequence.answers.items new) none (returns-clause-received g c))
 
 pub returns-clause-in_order : goal.returns-clause-in_order
