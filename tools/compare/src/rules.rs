@@ -82,7 +82,7 @@ rules! {
         "the first three bytes at bits 31 to 8, and 0 below";
     PaciShortUnit:
         "PACI `packetize` indexes a unit under two bytes",
-        "a condition on the caller; from C and Rust `ErrShortPacket`";
+        "`ErrShortPacket`";
     RunsNeverClosed:
         "runs of H.265 and H.266 are never closed: later fragments are added to a run that was \
          written",
