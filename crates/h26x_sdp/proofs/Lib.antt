@@ -5,4 +5,4 @@ pub mod NumberLemmas
 pub mod NameLemmas
 pub mod ReadingLemmas
 pub mod AgainLemmas
-pub mod H264Lemmas
+pub mod RowLemmas

@@ -12,6 +12,8 @@ pub enum Fault {
     OutOfRange,
     /// The value isn't as many bytes, by two hexadecimal digits each, as the parameter has.
     NotHexadecimal,
+    /// The value is none of `SRST`, `MRST` and `MRMT`.
+    NotTxMode,
     /// A parameter of this name stands before it.
     Twice,
 }

@@ -1,7 +1,9 @@
 //! Values of lines, their parameters as they are written, and what is wrong with values.
 
 use crate::{
-    Fault, H264Parameter, H264Parameters, Kind, ParametersError, closes, pairs_of, push_pair,
+    CodecParameter, CodecParameters, Fault, H264Parameter, H264Parameters, H265Parameter,
+    H265Parameters, H266Parameter, H266Parameters, Kind, ParametersError, closes, pairs_of,
+    push_pair,
 };
 use std::alloc::{AllocError, Global};
 use std::process::Abort;
@@ -58,7 +60,7 @@ const LINES: [(&str, &str); 12] = [
 ];
 
 /// What is wrong with values of each kind.
-const VALUES: [(Kind, &str, Option<Fault>); 12] = [
+const VALUES: [(Kind, &str, Option<Fault>); 16] = [
     (MODE, "0", None),
     (MODE, "2", None),
     (MODE, "02", None),
@@ -70,6 +72,10 @@ const VALUES: [(Kind, &str, Option<Fault>); 12] = [
     (ID, "42e01F", None),
     (ID, "42e01", Some(Fault::NotHexadecimal)),
     (ID, "42e01g", Some(Fault::NotHexadecimal)),
+    (Kind::TxMode, "SRST", None),
+    (Kind::TxMode, "MRMT", None),
+    (Kind::TxMode, "srst", Some(Fault::NotTxMode)),
+    (Kind::TxMode, "", Some(Fault::NotTxMode)),
     (Kind::Text, "", None),
 ];
 
@@ -95,6 +101,42 @@ const IN_ORDER: [(&str, &str); 5] = [
     ("", ""),
 ];
 
+/// Values of H.265, and the same in RFC 7798's order.
+const H265_IN_ORDER: [(&str, &str); 4] = [
+    // as Chromium's
+    (
+        "level-id=93;profile-id=1;tier-flag=0;tx-mode=SRST",
+        "profile-id=1;tier-flag=0;level-id=93;tx-mode=SRST",
+    ),
+    // as FFmpeg's, without its sets
+    (
+        "sprop-sps=QgEBAWAAAAMAAAMAAAMAAAMAXaAB; sprop-vps=QAEMAf//; x=1",
+        "sprop-vps=QAEMAf//;sprop-sps=QgEBAWAAAAMAAAMAAAMAAAMAXaAB;x=1",
+    ),
+    // RFC 7798, section 7.1: the braces hold a `level-id` of their own
+    (
+        "Level-ID=120; dec-parallel-cap={w:8;level-id=93,t:4;level-id=90}",
+        "level-id=120;dec-parallel-cap={w:8;level-id=93,t:4;level-id=90}",
+    ),
+    (
+        "profile-compatibility-indicator=60000000;interop-constraints=B00000000000;max-lsr=68451041280",
+        "interop-constraints=B00000000000;profile-compatibility-indicator=60000000;max-lsr=68451041280",
+    ),
+];
+
+/// Values of H.266, and the same in RFC 9328's order.
+const H266_IN_ORDER: [(&str, &str); 2] = [
+    (
+        "sprop-dci=AGk=;level-id=83;tier-flag=1;profile-id=17",
+        "profile-id=17;tier-flag=1;level-id=83;sprop-dci=AGk=",
+    ),
+    // H.265's name, which H.266 doesn't have
+    (
+        "sprop-sub-layer-id=7; sprop-sublayer-id=6; recv-ols-id=257",
+        "sprop-sublayer-id=6;recv-ols-id=257;sprop-sub-layer-id=7",
+    ),
+];
+
 /// What is refused for H.264, with its place and its fault.
 const REFUSED: [(&str, usize, Fault); 7] = [
     ("packetization-mode=3", 0, Fault::OutOfRange),
@@ -104,6 +146,27 @@ const REFUSED: [(&str, usize, Fault); 7] = [
     ("sar-supported=255;sar-understood=255", 1, Fault::OutOfRange),
     ("x=1;profile-level-id=42e0", 1, Fault::NotHexadecimal),
     ("max-fs=1;a=2;Max-FS=1", 2, Fault::Twice),
+];
+
+/// What is refused for H.265.
+const H265_REFUSED: [(&str, usize, Fault); 8] = [
+    ("profile-space=4", 0, Fault::OutOfRange),
+    ("level-id=93;profile-id=32", 1, Fault::OutOfRange),
+    ("level-id=256", 0, Fault::OutOfRange),
+    ("interop-constraints=B0000000000", 0, Fault::NotHexadecimal),
+    ("x=1;;tx-mode=MRTM", 1, Fault::NotTxMode),
+    ("max-dpb=0", 0, Fault::OutOfRange),
+    ("sprop-spatial-segmentation-idc=4096", 0, Fault::OutOfRange),
+    ("level-id=93;LEVEL-ID=93", 1, Fault::Twice),
+];
+
+/// What is refused for H.266.
+const H266_REFUSED: [(&str, usize, Fault); 5] = [
+    ("profile-id=128", 0, Fault::OutOfRange),
+    ("tx-mode=x;sprop-sublayer-id=7", 1, Fault::OutOfRange),
+    ("sprop-ols-id=258", 0, Fault::OutOfRange),
+    ("depack-buf-cap=0", 0, Fault::OutOfRange),
+    ("sprop-max-don-diff=32768", 0, Fault::OutOfRange),
 ];
 
 const MODE: Kind = Kind::Number { least: 0, most: 2 };
@@ -149,32 +212,36 @@ fn values_of_each_kind(rt: HostRuntime) {
     all_told(&rt, &VALUES);
 }
 
-/// Each line of H.264 is written in order.
-fn all_in_order(
+/// Each line of a codec is written in order.
+fn all_in_order<P: CodecParameter>(
     rt: &impl Abort,
     alloc: Global,
     lines: &[(&str, &str)],
 ) -> Result<(), ParametersError> {
     for (line, want) in lines {
-        let text = H264Parameters::read(alloc, line.as_bytes())?.write(alloc)?;
+        let text = CodecParameters::<P>::read(alloc, line.as_bytes())?.write(alloc)?;
         assert!(rt; text.as_slice() == want.as_bytes());
     }
     Ok(())
 }
 
-/// Each line of H.264 is refused.
-fn all_refused(rt: &impl Abort, alloc: Global, lines: &[(&str, usize, Fault)]) {
+/// Each line of a codec is refused.
+fn all_refused<P: CodecParameter>(
+    rt: &impl Abort,
+    alloc: Global,
+    lines: &[(&str, usize, Fault)],
+) {
     for (line, place, fault) in lines {
         let (place, fault) = (*place, *fault);
         let want = Some(ParametersError::Refused { place, fault });
-        assert!(rt; H264Parameters::read(alloc, line.as_bytes()).err() == want);
+        assert!(rt; CodecParameters::<P>::read(alloc, line.as_bytes()).err() == want);
     }
 }
 
 #[test]
 fn lines_of_h264(rt: HostRuntime) -> Result<(), Fail> {
-    all_in_order(&rt, rt.alloc(), &IN_ORDER)?;
-    all_refused(&rt, rt.alloc(), &REFUSED);
+    all_in_order::<H264Parameter>(&rt, rt.alloc(), &IN_ORDER)?;
+    all_refused::<H264Parameter>(&rt, rt.alloc(), &REFUSED);
     let line = b"packetization-mode=1;x=2;profile-level-id=640032";
     let format = H264Parameters::read(rt.alloc(), line)?;
     let mode = format.number(H264Parameter::PacketizationMode);
@@ -184,5 +251,27 @@ fn lines_of_h264(rt: HostRuntime) -> Result<(), Fail> {
     let id = H264Parameter::ProfileLevelId;
     assert!(rt; format.value(id) == Some(b"640032") && format.number(id) == None);
     assert!(rt; format.value(H264Parameter::MaxFs) == None);
+    Ok(())
+}
+
+#[test]
+fn lines_of_h265(rt: HostRuntime) -> Result<(), Fail> {
+    all_in_order::<H265Parameter>(&rt, rt.alloc(), &H265_IN_ORDER)?;
+    all_refused::<H265Parameter>(&rt, rt.alloc(), &H265_REFUSED);
+    let format = H265Parameters::read(rt.alloc(), b"include-dph=1,2;level-id=150")?;
+    let level = format.number(H265Parameter::LevelId);
+    let tier = format.number(H265Parameter::TierFlag);
+    let hashes = format.value(H265Parameter::IncludeDph);
+    assert!(rt; (level, tier) == (Some(150), None) && hashes == Some(b"1,2"));
+    Ok(())
+}
+
+#[test]
+fn lines_of_h266(rt: HostRuntime) -> Result<(), Fail> {
+    all_in_order::<H266Parameter>(&rt, rt.alloc(), &H266_IN_ORDER)?;
+    all_refused::<H266Parameter>(&rt, rt.alloc(), &H266_REFUSED);
+    let format = H266Parameters::read(rt.alloc(), b"depack-buf-cap=4294967295")?;
+    let room = format.number(H266Parameter::DepackBufCap);
+    assert!(rt; (room, format.number(H266Parameter::MaxLsr)) == (Some(4294967295), None));
     Ok(())
 }
