@@ -6,3 +6,5 @@ pub mod NameLemmas
 pub mod ReadingLemmas
 pub mod AgainLemmas
 pub mod RowLemmas
+pub mod FixedLemmas
+pub mod UnitsLemmas

@@ -1,6 +1,6 @@
 -- The parts of a text, from the front on.
 use Rattle.std.proofs.Common.{◌≡◌, ℕ, ◌+◌, ◌<◌, ◌≤◌, Bool, true, false, not, cond, List, [], ◌∷◌, ◌++◌, length, take, drop, get_or, Option, Some, None, refl, sym, ap, ◌∙◌, arith}
-use Rattle.std.specs.Prelude.{unwrap_or}
+use Rattle.std.specs.Prelude.{unwrap_or, ◌==◌}
 use Rattle.std.specs.List.{onto_first, position_or_len, filter_map, cons_option}
 use Rattle.std.proofs.lemmas.List.{append-nil, append_assoc, drop_more, drop_all, take_all, take_more}
 use Rattle.std.proofs.lemmas.List.Sums.{prefix_len_is}
@@ -86,16 +86,20 @@ pairs_of_one text e = ap (filter_map pair_in) e
 pub pairs_of_first : (text part rest : List ℕ) → parts text ≡ part ∷ parts rest → pairs text ≡ cons_option (pair_in part) (pairs rest)
 pairs_of_first text part rest e = ap (filter_map pair_in) e
 
--- where `memchr` finds the first `=`
-pub equals_at : (part : List ℕ) (r : Option ℕ) → IsFirstByte (is_byte 61) part r → unwrap_or r (length part) ≡ position_or_len is_equals part
-equals_at part None none =
-    sym (prefix_len_is (λ b. not (is_equals b)) part (length part) 0 (omega arith)
-    (λ k l. not_from_false (is_equals (get_or part k 0)) (false_from_ne_true _ (none k (omega arith) l)))
+-- where `memchr` finds the first byte of a value
+pub first_at : (c : ℕ) (part : List ℕ) (r : Option ℕ) → IsFirstByte (is_byte c) part r → unwrap_or r (length part) ≡ position_or_len (λ b. b == c) part
+first_at c part None none =
+    sym (prefix_len_is (λ b. not (b == c)) part (length part) 0 (omega arith)
+    (λ k l. not_from_false (get_or part k 0 == c) (false_from_ne_true _ (none k (omega arith) l)))
     (λ l. absurd (omega arith)))
-equals_at part (Some k) (before, here) =
-    sym (prefix_len_is (λ b. not (is_equals b)) part k 0 (omega (arith, before.high))
-    (λ j l. not_from_false (is_equals (get_or part j 0)) (false_from_ne_true _ (before.before j (omega arith) l)))
-    (λ l. not_from_true (is_equals (get_or part k 0)) here))
+first_at c part (Some k) (before, here) =
+    sym (prefix_len_is (λ b. not (b == c)) part k 0 (omega (arith, before.high))
+    (λ j l. not_from_false (get_or part j 0 == c) (false_from_ne_true _ (before.before j (omega arith) l)))
+    (λ l. not_from_true (get_or part k 0 == c) here))
+
+-- where it finds the first `=`
+equals_at : (part : List ℕ) (r : Option ℕ) → IsFirstByte (is_byte 61) part r → unwrap_or r (length part) ≡ position_or_len is_equals part
+equals_at = first_at 61
 
 -- the name and the value round an `=`, and a name alone
 pub pair_at : (part : List ℕ) (k : ℕ) → IsFirstByte (is_byte 61) part (Some k)

@@ -1,6 +1,6 @@
 -- The format parameters of H.265 (RFC 7798, section 7.1).
-use Rattle.std.specs.Prelude.{ℕ, List, [], ◌∷◌, codes}
-use Rattle.h26x_sdp.specs.declared.kind.Kind.TheVariants.{Number, Hexadecimal, Text, TxMode}
+use Rattle.std.specs.Prelude.{ℕ, List, [], ◌∷◌, codes, Some, None}
+use Rattle.h26x_sdp.specs.declared.kind.Kind.TheVariants.{Number, Hexadecimal, TxMode, Units, Text}
 use Rattle.h26x_sdp.specs.declared.h265.H265Parameter.{H265Parameter}
 use Rattle.h26x_sdp.specs.declared.h265.H265Parameter.TheVariants as p
 use Rattle.h26x_sdp.specs.Tables.{ParameterRow}
@@ -37,37 +37,45 @@ row_place p.SpropSpatialSegmentationIdc = 27
 row_place p.DecParallelCap = 28
 row_place p.IncludeDph = 29
 
--- each parameter, and what its value is, in the order in which the RFC registers them
+-- each parameter, what its value is, and the value where it is absent, if the RFC gives one, in the
+-- order in which the RFC registers them
 abbrev pub rows : List ParameterRow
 rows =
-    record { name = codes "profile-space"; kind = Number 0 3 } ∷
-    record { name = codes "profile-id"; kind = Number 0 31 } ∷
-    record { name = codes "tier-flag"; kind = Number 0 1 } ∷
-    record { name = codes "level-id"; kind = Number 0 255 } ∷
-    record { name = codes "interop-constraints"; kind = Hexadecimal 6 } ∷
-    record { name = codes "profile-compatibility-indicator"; kind = Hexadecimal 4 } ∷
-    record { name = codes "sprop-sub-layer-id"; kind = Number 0 6 } ∷
-    record { name = codes "recv-sub-layer-id"; kind = Number 0 6 } ∷
-    record { name = codes "max-recv-level-id"; kind = Number 0 255 } ∷
-    record { name = codes "tx-mode"; kind = TxMode } ∷
-    record { name = codes "sprop-vps"; kind = Text } ∷
-    record { name = codes "sprop-sps"; kind = Text } ∷
-    record { name = codes "sprop-pps"; kind = Text } ∷
-    record { name = codes "sprop-sei"; kind = Text } ∷
-    record { name = codes "max-lsr"; kind = Number 0 18446744073709551615 } ∷
-    record { name = codes "max-lps"; kind = Number 0 4294967295 } ∷
-    record { name = codes "max-cpb"; kind = Number 0 4294967295 } ∷
-    record { name = codes "max-dpb"; kind = Number 1 16 } ∷
-    record { name = codes "max-br"; kind = Number 0 4294967295 } ∷
-    record { name = codes "max-tr"; kind = Number 0 4294967295 } ∷
-    record { name = codes "max-tc"; kind = Number 0 4294967295 } ∷
-    record { name = codes "max-fps"; kind = Number 0 4294967295 } ∷
-    record { name = codes "sprop-max-don-diff"; kind = Number 0 32767 } ∷
-    record { name = codes "sprop-depack-buf-nalus"; kind = Number 0 32767 } ∷
-    record { name = codes "sprop-depack-buf-bytes"; kind = Number 0 4294967295 } ∷
-    record { name = codes "depack-buf-cap"; kind = Number 1 4294967295 } ∷
-    record { name = codes "sprop-segmentation-id"; kind = Number 0 3 } ∷
-    record { name = codes "sprop-spatial-segmentation-idc"; kind = Number 0 4095 } ∷
-    record { name = codes "dec-parallel-cap"; kind = Text } ∷
-    record { name = codes "include-dph"; kind = Text } ∷
+    record { name = codes "profile-space"; kind = Number 0 3; default = Some (codes "0") } ∷
+    record { name = codes "profile-id"; kind = Number 0 31; default = Some (codes "1") } ∷
+    record { name = codes "tier-flag"; kind = Number 0 1; default = Some (codes "0") } ∷
+    record { name = codes "level-id"; kind = Number 0 255; default = Some (codes "93") } ∷
+    record { name = codes "interop-constraints";
+        kind = Hexadecimal 6; default = Some (codes "B00000000000") } ∷
+    record { name = codes "profile-compatibility-indicator";
+        kind = Hexadecimal 4; default = None } ∷
+    record { name = codes "sprop-sub-layer-id"; kind = Number 0 6; default = Some (codes "6") } ∷
+    record { name = codes "recv-sub-layer-id"; kind = Number 0 6; default = None } ∷
+    record { name = codes "max-recv-level-id"; kind = Number 0 255; default = None } ∷
+    record { name = codes "tx-mode"; kind = TxMode; default = Some (codes "SRST") } ∷
+    record { name = codes "sprop-vps"; kind = Units; default = None } ∷
+    record { name = codes "sprop-sps"; kind = Units; default = None } ∷
+    record { name = codes "sprop-pps"; kind = Units; default = None } ∷
+    record { name = codes "sprop-sei"; kind = Units; default = None } ∷
+    record { name = codes "max-lsr"; kind = Number 0 18446744073709551615; default = None } ∷
+    record { name = codes "max-lps"; kind = Number 0 4294967295; default = None } ∷
+    record { name = codes "max-cpb"; kind = Number 0 4294967295; default = None } ∷
+    record { name = codes "max-dpb"; kind = Number 1 16; default = None } ∷
+    record { name = codes "max-br"; kind = Number 0 4294967295; default = None } ∷
+    record { name = codes "max-tr"; kind = Number 0 4294967295; default = None } ∷
+    record { name = codes "max-tc"; kind = Number 0 4294967295; default = None } ∷
+    record { name = codes "max-fps"; kind = Number 0 4294967295; default = None } ∷
+    record { name = codes "sprop-max-don-diff";
+        kind = Number 0 32767; default = Some (codes "0") } ∷
+    record { name = codes "sprop-depack-buf-nalus";
+        kind = Number 0 32767; default = Some (codes "0") } ∷
+    record { name = codes "sprop-depack-buf-bytes";
+        kind = Number 0 4294967295; default = Some (codes "0") } ∷
+    record { name = codes "depack-buf-cap";
+        kind = Number 1 4294967295; default = Some (codes "4294967295") } ∷
+    record { name = codes "sprop-segmentation-id"; kind = Number 0 3; default = Some (codes "0") } ∷
+    record { name = codes "sprop-spatial-segmentation-idc";
+        kind = Number 0 4095; default = Some (codes "0") } ∷
+    record { name = codes "dec-parallel-cap"; kind = Text; default = None } ∷
+    record { name = codes "include-dph"; kind = Text; default = None } ∷
     []

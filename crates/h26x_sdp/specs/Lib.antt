@@ -10,3 +10,5 @@ pub mod Parameters
 pub mod H264Rows
 pub mod H265Rows
 pub mod H266Rows
+pub mod Units
+pub mod UnitsViews

@@ -3,14 +3,17 @@
 ghost use Rattle.std.specs.Prelude.{◌≡◌, ℕ, List, Ok, Some, None, IfOk, MatchResult, MatchOption, map};
 ghost use Rattle.h26x_sdp.specs.Tables.{ParameterRow};
 ghost use Rattle.h26x_sdp.specs.TableViews.{row_view};
-ghost use Rattle.h26x_sdp.specs.Reading.{read_of, all_of, value_at, number_at};
+ghost use Rattle.h26x_sdp.specs.Reading.{read_of, all_of, value_at, number_at, value_or_default, number_or_default};
 ghost use Rattle.h26x_sdp.specs.ParametersViews.{Fails, other_view};
 ghost use Rattle.h26x_sdp.specs.Written.{written};
+ghost use Rattle.h26x_sdp.specs.Units.{units_at};
+ghost use Rattle.h26x_sdp.specs.UnitsViews.{SaysUnits};
 
-use crate::error::ParametersError;
+use crate::error::{ParametersError, UnitsError};
 use crate::parameters;
 use crate::parameters::{FormatParameters, OtherParameter};
 use crate::table::ParameterRow;
+use crate::units::read_units;
 use std::alloc::{AllocError, Global};
 use std::marker::{Model, PhantomData};
 
@@ -91,6 +94,42 @@ impl<P: CodecParameter> CodecParameters<P> {
     {
         let row = P::rows().get(parameter.place())?;
         row.kind.number_of(self.value(parameter)?)
+    }
+
+    /// The value of a parameter, or where it's absent the one that the RFC gives for it; `None` where
+    /// it gives none, as where the level says it or another parameter does.
+    pub fn value_or_default(&self, parameter: P) -> Option<&[u8]>
+        ensures { MatchOption result
+            (value_or_default P.rows self.now (P.place parameter) ≡ None)
+            (λ value. value_or_default P.rows self.now (P.place parameter) ≡ Some value.now) }
+    {
+        match self.value(parameter) {
+            Some(value) => Some(value),
+            None => P::rows().get(parameter.place())?.default,
+        }
+    }
+
+    /// The number of a parameter, or where it's absent the one that the RFC gives for it; `None` where
+    /// it gives none, and for those that are no numbers.
+    pub fn number_or_default(&self, parameter: P) -> Option<u64>
+        ensures { result ≡ number_or_default P.rows self.now (P.place parameter) }
+    {
+        let row = P::rows().get(parameter.place())?;
+        row.kind.number_of(self.value_or_default(parameter)?)
+    }
+
+    /// The NAL units of a parameter, out of base64; `None` where it's absent, and for those that aren't
+    /// units. What is refused first is told, with its place among the units.
+    pub fn units(&self, alloc: Global, parameter: P) -> Result<Option<Vec<Vec<u8>>>, UnitsError>
+        ensures { SaysUnits result (units_at P.rows self.now (P.place parameter)) }
+    {
+        let (Some(row), Some(value)) = (P::rows().get(parameter.place()), self.value(parameter)) else {
+            return Ok(None);
+        };
+        if !row.kind.is_units() {
+            return Ok(None);
+        }
+        Ok(Some(read_units(alloc, value)?))
     }
 
     /// The parameters that the RFC doesn't have, in their order.

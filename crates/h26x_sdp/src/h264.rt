@@ -76,90 +76,111 @@ pub enum H264Parameter {
 }
 
 /// The parameters of the table.
-const ROWS: [ParameterRow; 23] = [
+static ROWS: [ParameterRow; 23] = [
     ParameterRow {
         name: b"profile-level-id",
         kind: Kind::Hexadecimal { bytes: 3 },
+        default: Some(b"42000a"),
     },
     ParameterRow {
         name: b"max-recv-level",
         kind: Kind::Hexadecimal { bytes: 2 },
+        default: None,
     },
     ParameterRow {
         name: b"max-mbps",
         kind: BITS_32,
+        default: None,
     },
     ParameterRow {
         name: b"max-smbps",
         kind: BITS_32,
+        default: None,
     },
     ParameterRow {
         name: b"max-fs",
         kind: BITS_32,
+        default: None,
     },
     ParameterRow {
         name: b"max-cpb",
         kind: BITS_32,
+        default: None,
     },
     ParameterRow {
         name: b"max-dpb",
         kind: BITS_32,
+        default: None,
     },
     ParameterRow {
         name: b"max-br",
         kind: BITS_32,
+        default: None,
     },
     ParameterRow {
         name: b"redundant-pic-cap",
         kind: FLAG,
+        default: Some(b"0"),
     },
     ParameterRow {
         name: b"sprop-parameter-sets",
-        kind: Kind::Text,
+        kind: Kind::Units,
+        default: None,
     },
     ParameterRow {
         name: b"sprop-level-parameter-sets",
         kind: Kind::Text,
+        default: None,
     },
     ParameterRow {
         name: b"use-level-src-parameter-sets",
         kind: FLAG,
+        default: Some(b"0"),
     },
     ParameterRow {
         name: b"in-band-parameter-sets",
         kind: FLAG,
+        default: None,
     },
     ParameterRow {
         name: b"level-asymmetry-allowed",
         kind: FLAG,
+        default: Some(b"0"),
     },
     ParameterRow {
         name: b"packetization-mode",
         kind: Kind::Number { least: 0, most: 2 },
+        default: Some(b"0"),
     },
     ParameterRow {
         name: b"sprop-interleaving-depth",
         kind: BITS_15,
+        default: None,
     },
     ParameterRow {
         name: b"sprop-deint-buf-req",
         kind: BITS_32,
+        default: None,
     },
     ParameterRow {
         name: b"deint-buf-cap",
         kind: BITS_32,
+        default: Some(b"0"),
     },
     ParameterRow {
         name: b"sprop-init-buf-time",
         kind: BITS_32,
+        default: None,
     },
     ParameterRow {
         name: b"sprop-max-don-diff",
         kind: BITS_15,
+        default: None,
     },
     ParameterRow {
         name: b"max-rcmd-nalu-size",
         kind: BITS_32,
+        default: None,
     },
     ParameterRow {
         name: b"sar-understood",
@@ -167,6 +188,7 @@ const ROWS: [ParameterRow; 23] = [
             least: 0,
             most: 254,
         },
+        default: Some(b"13"),
     },
     ParameterRow {
         name: b"sar-supported",
@@ -174,6 +196,7 @@ const ROWS: [ParameterRow; 23] = [
             least: 0,
             most: 255,
         },
+        default: None,
     },
 ];
 

@@ -90,10 +90,11 @@ pub enum H265Parameter {
 }
 
 /// The parameters of the table.
-const ROWS: [ParameterRow; 30] = [
+static ROWS: [ParameterRow; 30] = [
     ParameterRow {
         name: b"profile-space",
         kind: Kind::Number { least: 0, most: 3 },
+        default: Some(b"0"),
     },
     ParameterRow {
         name: b"profile-id",
@@ -101,66 +102,82 @@ const ROWS: [ParameterRow; 30] = [
             least: 0,
             most: 31,
         },
+        default: Some(b"1"),
     },
     ParameterRow {
         name: b"tier-flag",
         kind: FLAG,
+        default: Some(b"0"),
     },
     ParameterRow {
         name: b"level-id",
         kind: BITS_8,
+        default: Some(b"93"),
     },
     ParameterRow {
         name: b"interop-constraints",
         kind: Kind::Hexadecimal { bytes: 6 },
+        default: Some(b"B00000000000"),
     },
     ParameterRow {
         name: b"profile-compatibility-indicator",
         kind: Kind::Hexadecimal { bytes: 4 },
+        default: None,
     },
     ParameterRow {
         name: b"sprop-sub-layer-id",
         kind: SUB_LAYER,
+        default: Some(b"6"),
     },
     ParameterRow {
         name: b"recv-sub-layer-id",
         kind: SUB_LAYER,
+        default: None,
     },
     ParameterRow {
         name: b"max-recv-level-id",
         kind: BITS_8,
+        default: None,
     },
     ParameterRow {
         name: b"tx-mode",
         kind: Kind::TxMode,
+        default: Some(b"SRST"),
     },
     ParameterRow {
         name: b"sprop-vps",
-        kind: Kind::Text,
+        kind: Kind::Units,
+        default: None,
     },
     ParameterRow {
         name: b"sprop-sps",
-        kind: Kind::Text,
+        kind: Kind::Units,
+        default: None,
     },
     ParameterRow {
         name: b"sprop-pps",
-        kind: Kind::Text,
+        kind: Kind::Units,
+        default: None,
     },
     ParameterRow {
         name: b"sprop-sei",
-        kind: Kind::Text,
+        kind: Kind::Units,
+        default: None,
     },
     ParameterRow {
         name: b"max-lsr",
         kind: BITS_64,
+        default: None,
     },
     ParameterRow {
         name: b"max-lps",
         kind: BITS_32,
+        default: None,
     },
     ParameterRow {
         name: b"max-cpb",
         kind: BITS_32,
+        default: None,
     },
     ParameterRow {
         name: b"max-dpb",
@@ -168,34 +185,42 @@ const ROWS: [ParameterRow; 30] = [
             least: 1,
             most: 16,
         },
+        default: None,
     },
     ParameterRow {
         name: b"max-br",
         kind: BITS_32,
+        default: None,
     },
     ParameterRow {
         name: b"max-tr",
         kind: BITS_32,
+        default: None,
     },
     ParameterRow {
         name: b"max-tc",
         kind: BITS_32,
+        default: None,
     },
     ParameterRow {
         name: b"max-fps",
         kind: BITS_32,
+        default: None,
     },
     ParameterRow {
         name: b"sprop-max-don-diff",
         kind: BITS_15,
+        default: Some(b"0"),
     },
     ParameterRow {
         name: b"sprop-depack-buf-nalus",
         kind: BITS_15,
+        default: Some(b"0"),
     },
     ParameterRow {
         name: b"sprop-depack-buf-bytes",
         kind: BITS_32,
+        default: Some(b"0"),
     },
     ParameterRow {
         name: b"depack-buf-cap",
@@ -203,10 +228,12 @@ const ROWS: [ParameterRow; 30] = [
             least: 1,
             most: 4294967295,
         },
+        default: Some(b"4294967295"),
     },
     ParameterRow {
         name: b"sprop-segmentation-id",
         kind: Kind::Number { least: 0, most: 3 },
+        default: Some(b"0"),
     },
     ParameterRow {
         name: b"sprop-spatial-segmentation-idc",
@@ -214,14 +241,17 @@ const ROWS: [ParameterRow; 30] = [
             least: 0,
             most: 4095,
         },
+        default: Some(b"0"),
     },
     ParameterRow {
         name: b"dec-parallel-cap",
         kind: Kind::Text,
+        default: None,
     },
     ParameterRow {
         name: b"include-dph",
         kind: Kind::Text,
+        default: None,
     },
 ];
 

@@ -63,33 +63,39 @@ pub enum H266Parameter {
 }
 
 /// The parameters of the table.
-const ROWS: [ParameterRow; 20] = [
+static ROWS: [ParameterRow; 20] = [
     ParameterRow {
         name: b"profile-id",
         kind: Kind::Number {
             least: 0,
             most: 127,
         },
+        default: Some(b"1"),
     },
     ParameterRow {
         name: b"tier-flag",
         kind: FLAG,
+        default: Some(b"0"),
     },
     ParameterRow {
         name: b"sub-profile-id",
         kind: Kind::Text,
+        default: None,
     },
     ParameterRow {
         name: b"interop-constraints",
         kind: Kind::Text,
+        default: None,
     },
     ParameterRow {
         name: b"level-id",
         kind: BITS_8,
+        default: Some(b"51"),
     },
     ParameterRow {
         name: b"sprop-sublayer-id",
         kind: SUB_LAYER,
+        default: Some(b"6"),
     },
     ParameterRow {
         name: b"sprop-ols-id",
@@ -97,10 +103,12 @@ const ROWS: [ParameterRow; 20] = [
             least: 0,
             most: 257,
         },
+        default: None,
     },
     ParameterRow {
         name: b"recv-sublayer-id",
         kind: SUB_LAYER,
+        default: None,
     },
     ParameterRow {
         name: b"recv-ols-id",
@@ -108,46 +116,57 @@ const ROWS: [ParameterRow; 20] = [
             least: 0,
             most: 257,
         },
+        default: None,
     },
     ParameterRow {
         name: b"max-recv-level-id",
         kind: BITS_8,
+        default: None,
     },
     ParameterRow {
         name: b"sprop-dci",
-        kind: Kind::Text,
+        kind: Kind::Units,
+        default: None,
     },
     ParameterRow {
         name: b"sprop-vps",
-        kind: Kind::Text,
+        kind: Kind::Units,
+        default: None,
     },
     ParameterRow {
         name: b"sprop-sps",
-        kind: Kind::Text,
+        kind: Kind::Units,
+        default: None,
     },
     ParameterRow {
         name: b"sprop-pps",
-        kind: Kind::Text,
+        kind: Kind::Units,
+        default: None,
     },
     ParameterRow {
         name: b"sprop-sei",
-        kind: Kind::Text,
+        kind: Kind::Units,
+        default: None,
     },
     ParameterRow {
         name: b"max-lsr",
         kind: BITS_64,
+        default: None,
     },
     ParameterRow {
         name: b"max-fps",
         kind: BITS_32,
+        default: None,
     },
     ParameterRow {
         name: b"sprop-max-don-diff",
         kind: BITS_15,
+        default: Some(b"0"),
     },
     ParameterRow {
         name: b"sprop-depack-buf-bytes",
         kind: BITS_32,
+        default: Some(b"0"),
     },
     ParameterRow {
         name: b"depack-buf-cap",
@@ -155,6 +174,7 @@ const ROWS: [ParameterRow; 20] = [
             least: 1,
             most: 4294967295,
         },
+        default: Some(b"4294967295"),
     },
 ];
 

@@ -15,6 +15,8 @@ pub enum Kind {
     Hexadecimal { bytes: u8 },
     /// `SRST`, `MRST` or `MRMT` (RFC 7798, section 7.1).
     TxMode,
+    /// NAL units in base64, with `,` between them, which `read_units` looks into.
+    Units,
     /// A text that no rule of this crate looks into.
     Text,
 }
@@ -74,8 +76,15 @@ impl Kind {
                     Some(Fault::NotTxMode)
                 }
             }
-            Kind::Text => None,
+            Kind::Units | Kind::Text => None,
         }
+    }
+
+    /// Whether the kind is units.
+    pub(crate) fn is_units(self) -> bool
+        ensures { result ≡ spec.is_units self }
+    {
+        matches!(self, Kind::Units)
     }
 
     /// The number that a value says, if the kind is a number's.
@@ -84,7 +93,7 @@ impl Kind {
     {
         match self {
             Kind::Number { .. } => number_in(value).ok(),
-            Kind::Hexadecimal { .. } | Kind::TxMode | Kind::Text => None,
+            Kind::Hexadecimal { .. } | Kind::TxMode | Kind::Units | Kind::Text => None,
         }
     }
 }

@@ -15,9 +15,10 @@ pub mod laws;
 mod pairs;
 mod parameters;
 mod table;
+mod units;
 
 pub use codec::{CodecParameter, CodecParameters};
-pub use error::{Fault, ParametersError};
+pub use error::{Fault, ParametersError, UnitsError};
 pub use h264::{H264Parameter, H264Parameters};
 pub use h265::{H265Parameter, H265Parameters};
 pub use h266::{H266Parameter, H266Parameters};
@@ -25,6 +26,7 @@ pub use kind::{Kind, number_in};
 pub use pairs::{Pair, Pairs, closes, pairs_of, push_pair};
 pub use parameters::OtherParameter;
 pub use table::{ParameterRow, row_of, same_name};
+pub use units::{read_units, write_units};
 
 #[cfg(test)]
 mod tests;

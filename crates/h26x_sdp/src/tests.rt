@@ -2,8 +2,8 @@
 
 use crate::{
     CodecParameter, CodecParameters, Fault, H264Parameter, H264Parameters, H265Parameter,
-    H265Parameters, H266Parameter, H266Parameters, Kind, ParametersError, closes, pairs_of,
-    push_pair,
+    H265Parameters, H266Parameter, H266Parameters, Kind, ParametersError, UnitsError, closes,
+    pairs_of, push_pair, read_units, write_units,
 };
 use std::alloc::{AllocError, Global};
 use std::process::Abort;
@@ -169,6 +169,60 @@ const H266_REFUSED: [(&str, usize, Fault); 5] = [
     ("sprop-max-don-diff=32768", 0, Fault::OutOfRange),
 ];
 
+/// Numbers of H.264's parameters where a line gives nothing (RFC 6184, section 8.1).
+const H264_DEFAULTS: [(H264Parameter, Option<u64>); 6] = [
+    (H264Parameter::PacketizationMode, Some(0)),
+    (H264Parameter::SarUnderstood, Some(13)),
+    (H264Parameter::DeintBufCap, Some(0)),
+    (H264Parameter::SpropMaxDonDiff, None),
+    (H264Parameter::MaxFs, None),
+    (H264Parameter::ProfileLevelId, None),
+];
+
+/// The same of H.265 (RFC 7798, section 7.1).
+const H265_DEFAULTS: [(H265Parameter, Option<u64>); 8] = [
+    (H265Parameter::ProfileId, Some(1)),
+    (H265Parameter::LevelId, Some(93)),
+    (H265Parameter::SpropSubLayerId, Some(6)),
+    (H265Parameter::RecvSubLayerId, None),
+    (H265Parameter::SpropMaxDonDiff, Some(0)),
+    (H265Parameter::DepackBufCap, Some(4294967295)),
+    (H265Parameter::TxMode, None),
+    (H265Parameter::MaxLsr, None),
+];
+
+/// The same of H.266 (RFC 9328, section 7.2).
+const H266_DEFAULTS: [(H266Parameter, Option<u64>); 5] = [
+    (H266Parameter::ProfileId, Some(1)),
+    (H266Parameter::TierFlag, Some(0)),
+    (H266Parameter::LevelId, Some(51)),
+    (H266Parameter::SpropSublayerId, Some(6)),
+    (H266Parameter::SpropOlsId, None),
+];
+
+/// Texts of units, the first unit and how many there are. The first is of RFC 6184, section 8.2.1.
+const UNITS: [(&str, &[u8], usize); 3] = [
+    (
+        "Z0IACpZTBYmI,aMljiA==",
+        b"\x67\x42\x00\x0a\x96\x53\x05\x89\x88",
+        2,
+    ),
+    ("aMljiA==", b"\x68\xc9\x63\x88", 1),
+    ("AA==,/+8=,AAAB", b"\x00", 3),
+];
+
+/// Texts that are no units.
+const NO_UNITS: [(&str, UnitsError); 7] = [
+    ("", UnitsError::Empty { place: 0 }),
+    ("aMljiA==,", UnitsError::Empty { place: 1 }),
+    ("AA==,,AA==", UnitsError::Empty { place: 1 }),
+    ("Z0I", UnitsError::NotBase64 { place: 0 }),
+    // padding left out, and bits behind the last byte
+    ("aMljiA==,aMljiA", UnitsError::NotBase64 { place: 1 }),
+    ("aMljiB==", UnitsError::NotBase64 { place: 0 }),
+    ("AA==, AA==", UnitsError::NotBase64 { place: 1 }),
+];
+
 const MODE: Kind = Kind::Number { least: 0, most: 2 };
 
 const ID: Kind = Kind::Hexadecimal { bytes: 3 };
@@ -238,6 +292,17 @@ fn all_refused<P: CodecParameter>(
     }
 }
 
+/// Each parameter has its number where the line gives none.
+fn all_defaults<P: CodecParameter>(
+    rt: &impl Abort,
+    none: &CodecParameters<P>,
+    numbers: &[(P, Option<u64>)],
+) {
+    for (parameter, want) in numbers {
+        assert!(rt; none.number_or_default(*parameter) == *want);
+    }
+}
+
 #[test]
 fn lines_of_h264(rt: HostRuntime) -> Result<(), Fail> {
     all_in_order::<H264Parameter>(&rt, rt.alloc(), &IN_ORDER)?;
@@ -247,6 +312,10 @@ fn lines_of_h264(rt: HostRuntime) -> Result<(), Fail> {
     let mode = format.number(H264Parameter::PacketizationMode);
     let largest = format.number(H264Parameter::MaxFs);
     assert!(rt; (mode, largest, format.others().len()) == (Some(1), None, 1));
+    let none = H264Parameters::read(rt.alloc(), b"")?;
+    all_defaults(&rt, &none, &H264_DEFAULTS);
+    assert!(rt; none.value_or_default(H264Parameter::ProfileLevelId) == Some(b"42000a"));
+    assert!(rt; format.number_or_default(H264Parameter::PacketizationMode) == Some(1));
     // six digits, which are no number
     let id = H264Parameter::ProfileLevelId;
     assert!(rt; format.value(id) == Some(b"640032") && format.number(id) == None);
@@ -258,6 +327,9 @@ fn lines_of_h264(rt: HostRuntime) -> Result<(), Fail> {
 fn lines_of_h265(rt: HostRuntime) -> Result<(), Fail> {
     all_in_order::<H265Parameter>(&rt, rt.alloc(), &H265_IN_ORDER)?;
     all_refused::<H265Parameter>(&rt, rt.alloc(), &H265_REFUSED);
+    let none = H265Parameters::read(rt.alloc(), b"")?;
+    all_defaults(&rt, &none, &H265_DEFAULTS);
+    assert!(rt; none.value_or_default(H265Parameter::TxMode) == Some(b"SRST"));
     let format = H265Parameters::read(rt.alloc(), b"include-dph=1,2;level-id=150")?;
     let level = format.number(H265Parameter::LevelId);
     let tier = format.number(H265Parameter::TierFlag);
@@ -270,8 +342,44 @@ fn lines_of_h265(rt: HostRuntime) -> Result<(), Fail> {
 fn lines_of_h266(rt: HostRuntime) -> Result<(), Fail> {
     all_in_order::<H266Parameter>(&rt, rt.alloc(), &H266_IN_ORDER)?;
     all_refused::<H266Parameter>(&rt, rt.alloc(), &H266_REFUSED);
+    let none = H266Parameters::read(rt.alloc(), b"")?;
+    all_defaults(&rt, &none, &H266_DEFAULTS);
     let format = H266Parameters::read(rt.alloc(), b"depack-buf-cap=4294967295")?;
     let room = format.number(H266Parameter::DepackBufCap);
     assert!(rt; (room, format.number(H266Parameter::MaxLsr)) == (Some(4294967295), None));
+    Ok(())
+}
+
+/// Each text is the units, and they the text.
+fn all_units(
+    rt: &impl Abort,
+    alloc: Global,
+    texts: &[(&str, &[u8], usize)],
+) -> Result<(), UnitsError> {
+    for (text, first, many) in texts {
+        let units = read_units(alloc, text.as_bytes())?;
+        let again = write_units(alloc, units.as_slice())?;
+        let begins = units.first().map(|unit| unit.as_slice()) == Some(*first);
+        assert!(rt; begins && units.len() == *many && again.as_slice() == text.as_bytes());
+    }
+    Ok(())
+}
+
+/// Each text is refused.
+fn no_units(rt: &impl Abort, alloc: Global, texts: &[(&str, UnitsError)]) {
+    for (text, want) in texts {
+        assert!(rt; read_units(alloc, text.as_bytes()).err() == Some(*want));
+    }
+}
+
+#[test]
+fn texts_of_units(rt: HostRuntime) -> Result<(), Fail> {
+    all_units(&rt, rt.alloc(), &UNITS)?;
+    no_units(&rt, rt.alloc(), &NO_UNITS);
+    let line = b"sprop-parameter-sets=Z0IACpZTBYmI,aMljiA==;max-fs=1";
+    let format = H264Parameters::read(rt.alloc(), line)?;
+    let sets = format.units(rt.alloc(), H264Parameter::SpropParameterSets)?;
+    let none = format.units(rt.alloc(), H264Parameter::MaxFs)?;
+    assert!(rt; sets.map(|units| units.len()) == Some(2) && none.is_none());
     Ok(())
 }
