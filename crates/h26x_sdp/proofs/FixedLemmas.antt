@@ -55,7 +55,7 @@ put_value all place (r ∷ rows) [] pair row kind table are found fits w = absur
 put_value all place (r ∷ rows) (value ∷ values) pair row kind table are found fits w = by_test (same_name r.name pair.name)
     (λ same.
     let it : ◌≡◌ {A = Option (ℕ × Kind)} (Some (place, r.kind)) (Some (row, kind)) =
-        sym (ap (λ t. cond t (Some (place, r.kind)) (row_from (place + 1) rows pair.name)) same) ∙ found in
+    sym (ap (λ t. cond t (Some (place, r.kind)) (row_from (place + 1) rows pair.name)) same) ∙ found in
     let here : place ≡ row = ap (λ (o : Option (ℕ × Kind)). (unwrap_or o (0, Text)).0) it in
     let of : r.kind ≡ kind = ap (λ (o : Option (ℕ × Kind)). (unwrap_or o (0, Text)).1) it in
     let first : row - place ≡ 0 = omega (arith, here) in
@@ -67,7 +67,7 @@ put_value all place (r ∷ rows) (value ∷ values) pair row kind table are foun
     (omega (arith, here), subst (λ n. AreValues (r ∷ rows) (set (value ∷ values) n (Some pair.value))) (sym first) (is, are.1)))
     (λ other.
     let more : row_from (place + 1) rows pair.name ≡ Some (row, kind) =
-        sym (ap (λ t. cond t (Some (place, r.kind)) (row_from (place + 1) rows pair.name)) other) ∙ found in
+    sym (ap (λ t. cond t (Some (place, r.kind)) (row_from (place + 1) rows pair.name)) other) ∙ found in
     let rest = put_value all (place + 1) rows values pair row kind table.3 are.1 more fits w in
     let next : row - place ≡ suc (row - (place + 1)) = omega (arith, rest.0) in
     (omega (arith, rest.0), subst (λ n. AreValues (r ∷ rows) (set (value ∷ values) n (Some pair.value))) (sym next) (are.0, rest.1)))

@@ -8,3 +8,4 @@ pub mod AgainLemmas
 pub mod RowLemmas
 pub mod FixedLemmas
 pub mod UnitsLemmas
+pub mod RtpMapLemmas

@@ -34,8 +34,11 @@ row_place p.SarSupported = 22
 -- order in which the RFC registers them
 abbrev pub rows : List ParameterRow
 rows =
-    record { name = codes "profile-level-id";
-        kind = Hexadecimal 3; default = Some (codes "42000a") } ∷
+    record {
+      name = codes "profile-level-id";
+      kind = Hexadecimal 3;
+      default = Some (codes "42000a");
+    } ∷
     record { name = codes "max-recv-level"; kind = Hexadecimal 2; default = None } ∷
     record { name = codes "max-mbps"; kind = Number 0 4294967295; default = None } ∷
     record { name = codes "max-smbps"; kind = Number 0 4294967295; default = None } ∷
@@ -46,16 +49,25 @@ rows =
     record { name = codes "redundant-pic-cap"; kind = Number 0 1; default = Some (codes "0") } ∷
     record { name = codes "sprop-parameter-sets"; kind = Units; default = None } ∷
     record { name = codes "sprop-level-parameter-sets"; kind = Text; default = None } ∷
-    record { name = codes "use-level-src-parameter-sets";
-        kind = Number 0 1; default = Some (codes "0") } ∷
+    record {
+      name = codes "use-level-src-parameter-sets";
+      kind = Number 0 1;
+      default = Some (codes "0");
+    } ∷
     record { name = codes "in-band-parameter-sets"; kind = Number 0 1; default = None } ∷
-    record { name = codes "level-asymmetry-allowed";
-        kind = Number 0 1; default = Some (codes "0") } ∷
+    record {
+      name = codes "level-asymmetry-allowed";
+      kind = Number 0 1;
+      default = Some (codes "0");
+    } ∷
     record { name = codes "packetization-mode"; kind = Number 0 2; default = Some (codes "0") } ∷
     record { name = codes "sprop-interleaving-depth"; kind = Number 0 32767; default = None } ∷
     record { name = codes "sprop-deint-buf-req"; kind = Number 0 4294967295; default = None } ∷
-    record { name = codes "deint-buf-cap";
-        kind = Number 0 4294967295; default = Some (codes "0") } ∷
+    record {
+      name = codes "deint-buf-cap";
+      kind = Number 0 4294967295;
+      default = Some (codes "0");
+    } ∷
     record { name = codes "sprop-init-buf-time"; kind = Number 0 4294967295; default = None } ∷
     record { name = codes "sprop-max-don-diff"; kind = Number 0 32767; default = None } ∷
     record { name = codes "max-rcmd-nalu-size"; kind = Number 0 4294967295; default = None } ∷

@@ -45,10 +45,16 @@ rows =
     record { name = codes "profile-id"; kind = Number 0 31; default = Some (codes "1") } ∷
     record { name = codes "tier-flag"; kind = Number 0 1; default = Some (codes "0") } ∷
     record { name = codes "level-id"; kind = Number 0 255; default = Some (codes "93") } ∷
-    record { name = codes "interop-constraints";
-        kind = Hexadecimal 6; default = Some (codes "B00000000000") } ∷
-    record { name = codes "profile-compatibility-indicator";
-        kind = Hexadecimal 4; default = None } ∷
+    record {
+      name = codes "interop-constraints";
+      kind = Hexadecimal 6;
+      default = Some (codes "B00000000000");
+    } ∷
+    record {
+      name = codes "profile-compatibility-indicator";
+      kind = Hexadecimal 4;
+      default = None;
+    } ∷
     record { name = codes "sprop-sub-layer-id"; kind = Number 0 6; default = Some (codes "6") } ∷
     record { name = codes "recv-sub-layer-id"; kind = Number 0 6; default = None } ∷
     record { name = codes "max-recv-level-id"; kind = Number 0 255; default = None } ∷
@@ -65,17 +71,32 @@ rows =
     record { name = codes "max-tr"; kind = Number 0 4294967295; default = None } ∷
     record { name = codes "max-tc"; kind = Number 0 4294967295; default = None } ∷
     record { name = codes "max-fps"; kind = Number 0 4294967295; default = None } ∷
-    record { name = codes "sprop-max-don-diff";
-        kind = Number 0 32767; default = Some (codes "0") } ∷
-    record { name = codes "sprop-depack-buf-nalus";
-        kind = Number 0 32767; default = Some (codes "0") } ∷
-    record { name = codes "sprop-depack-buf-bytes";
-        kind = Number 0 4294967295; default = Some (codes "0") } ∷
-    record { name = codes "depack-buf-cap";
-        kind = Number 1 4294967295; default = Some (codes "4294967295") } ∷
+    record {
+      name = codes "sprop-max-don-diff";
+      kind = Number 0 32767;
+      default = Some (codes "0");
+    } ∷
+    record {
+      name = codes "sprop-depack-buf-nalus";
+      kind = Number 0 32767;
+      default = Some (codes "0");
+    } ∷
+    record {
+      name = codes "sprop-depack-buf-bytes";
+      kind = Number 0 4294967295;
+      default = Some (codes "0");
+    } ∷
+    record {
+      name = codes "depack-buf-cap";
+      kind = Number 1 4294967295;
+      default = Some (codes "4294967295");
+    } ∷
     record { name = codes "sprop-segmentation-id"; kind = Number 0 3; default = Some (codes "0") } ∷
-    record { name = codes "sprop-spatial-segmentation-idc";
-        kind = Number 0 4095; default = Some (codes "0") } ∷
+    record {
+      name = codes "sprop-spatial-segmentation-idc";
+      kind = Number 0 4095;
+      default = Some (codes "0");
+    } ∷
     record { name = codes "dec-parallel-cap"; kind = Text; default = None } ∷
     record { name = codes "include-dph"; kind = Text; default = None } ∷
     []

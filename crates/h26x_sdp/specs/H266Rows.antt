@@ -48,10 +48,19 @@ rows =
     record { name = codes "sprop-sei"; kind = Units; default = None } ∷
     record { name = codes "max-lsr"; kind = Number 0 18446744073709551615; default = None } ∷
     record { name = codes "max-fps"; kind = Number 0 4294967295; default = None } ∷
-    record { name = codes "sprop-max-don-diff";
-        kind = Number 0 32767; default = Some (codes "0") } ∷
-    record { name = codes "sprop-depack-buf-bytes";
-        kind = Number 0 4294967295; default = Some (codes "0") } ∷
-    record { name = codes "depack-buf-cap";
-        kind = Number 1 4294967295; default = Some (codes "4294967295") } ∷
+    record {
+      name = codes "sprop-max-don-diff";
+      kind = Number 0 32767;
+      default = Some (codes "0");
+    } ∷
+    record {
+      name = codes "sprop-depack-buf-bytes";
+      kind = Number 0 4294967295;
+      default = Some (codes "0");
+    } ∷
+    record {
+      name = codes "depack-buf-cap";
+      kind = Number 1 4294967295;
+      default = Some (codes "4294967295");
+    } ∷
     []

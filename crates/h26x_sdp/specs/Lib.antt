@@ -12,3 +12,4 @@ pub mod H265Rows
 pub mod H266Rows
 pub mod Units
 pub mod UnitsViews
+pub mod RtpMaps

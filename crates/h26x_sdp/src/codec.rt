@@ -123,7 +123,8 @@ impl<P: CodecParameter> CodecParameters<P> {
     pub fn units(&self, alloc: Global, parameter: P) -> Result<Option<Vec<Vec<u8>>>, UnitsError>
         ensures { SaysUnits result (units_at P.rows self.now (P.place parameter)) }
     {
-        let (Some(row), Some(value)) = (P::rows().get(parameter.place()), self.value(parameter)) else {
+        let (Some(row), Some(value)) = (P::rows().get(parameter.place()), self.value(parameter))
+        else {
             return Ok(None);
         };
         if !row.kind.is_units() {

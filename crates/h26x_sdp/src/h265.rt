@@ -3,7 +3,7 @@
 ghost use Rattle.std.specs.Prelude.{◌≡◌};
 
 use crate::codec::{CodecParameter, CodecParameters};
-use crate::kind::{BITS_15, BITS_32, BITS_64, BITS_8, FLAG, SUB_LAYER, Kind};
+use crate::kind::{BITS_8, BITS_15, BITS_32, BITS_64, FLAG, Kind, SUB_LAYER};
 use crate::table::ParameterRow;
 
 /// A format parameter of H.265, in the order in which they are written (RFC 7798, section 7.1).
@@ -98,10 +98,7 @@ static ROWS: [ParameterRow; 30] = [
     },
     ParameterRow {
         name: b"profile-id",
-        kind: Kind::Number {
-            least: 0,
-            most: 31,
-        },
+        kind: Kind::Number { least: 0, most: 31 },
         default: Some(b"1"),
     },
     ParameterRow {
@@ -181,10 +178,7 @@ static ROWS: [ParameterRow; 30] = [
     },
     ParameterRow {
         name: b"max-dpb",
-        kind: Kind::Number {
-            least: 1,
-            most: 16,
-        },
+        kind: Kind::Number { least: 1, most: 16 },
         default: None,
     },
     ParameterRow {

@@ -3,7 +3,7 @@
 ghost use Rattle.std.specs.Prelude.{◌≡◌};
 
 use crate::codec::{CodecParameter, CodecParameters};
-use crate::kind::{BITS_15, BITS_32, BITS_64, BITS_8, FLAG, SUB_LAYER, Kind};
+use crate::kind::{BITS_8, BITS_15, BITS_32, BITS_64, FLAG, Kind, SUB_LAYER};
 use crate::table::ParameterRow;
 
 /// A format parameter of H.266, in the order in which they are written (RFC 9328, sections 7.1

@@ -1,6 +1,6 @@
 //! Laws of the grammar. Each is the contract of a function without a result.
 
-ghost use Rattle.std.specs.Prelude.{◌≡◌, ℕ, true, Ok, List, [], ◌∷◌, ◌++◌};
+ghost use Rattle.std.specs.Prelude.{◌≡◌, ◌<◌, ℕ, true, Ok, List, [], ◌∷◌, ◌++◌};
 ghost use Rattle.std.specs.List.{AllByRecursion, join_with_byte};
 ghost use Rattle.h26x_sdp.specs.Pairs.{Pair, parts, pairs, closes};
 ghost use Rattle.h26x_sdp.specs.Written.{written, with_pair, IsWritable};
@@ -9,6 +9,8 @@ ghost use Rattle.h26x_sdp.specs.Parameters.{IsTable, AreParameters};
 ghost use Rattle.h26x_sdp.specs.Reading.{FormatParameters, read_of, all_of};
 ghost use Rattle.base64.specs.GeneralPurpose.{IsBytes};
 ghost use Rattle.h26x_sdp.specs.Units.{AreUnits, units_of, units_text};
+ghost use Rattle.h26x_sdp.specs.RtpMaps.{rtp_map_of, text_of};
+ghost use Rattle.h26x_sdp.specs.declared.rtp_map.RtpMap.{RtpMap};
 ghost use Rattle.h26x_sdp.specs.H264Rows as h264;
 ghost use Rattle.h26x_sdp.specs.H265Rows as h265;
 ghost use Rattle.h26x_sdp.specs.H266Rows as h266;
@@ -60,4 +62,9 @@ pub fn units_and_their_text()
     ensures read { (units : List (List ℕ)) → AreUnits units → units_of (units_text units) ≡ Ok units }
     ensures written { (text : List ℕ) (units : List (List ℕ)) → IsBytes text →
         units_of text ≡ Ok units → units_text units ≡ text }
+{}
+
+/// What is written of a payload type and its encoding is read as the same.
+pub fn what_is_written_of_an_rtp_map_is_read()
+    ensures { (map : RtpMap) → map.payload_type < 128 → rtp_map_of (text_of map) ≡ Ok map }
 {}

@@ -14,6 +14,7 @@ mod kind;
 pub mod laws;
 mod pairs;
 mod parameters;
+mod rtp_map;
 mod table;
 mod units;
 
@@ -25,6 +26,7 @@ pub use h266::{H266Parameter, H266Parameters};
 pub use kind::{Kind, number_in};
 pub use pairs::{Pair, Pairs, closes, pairs_of, push_pair};
 pub use parameters::OtherParameter;
+pub use rtp_map::{Encoding, RtpMap, RtpMapError};
 pub use table::{ParameterRow, row_of, same_name};
 pub use units::{read_units, write_units};
 

@@ -1,9 +1,9 @@
 //! Values of lines, their parameters as they are written, and what is wrong with values.
 
 use crate::{
-    CodecParameter, CodecParameters, Fault, H264Parameter, H264Parameters, H265Parameter,
-    H265Parameters, H266Parameter, H266Parameters, Kind, ParametersError, UnitsError, closes,
-    pairs_of, push_pair, read_units, write_units,
+    CodecParameter, CodecParameters, Encoding, Fault, H264Parameter, H264Parameters, H265Parameter,
+    H265Parameters, H266Parameter, H266Parameters, Kind, ParametersError, RtpMap, RtpMapError,
+    UnitsError, closes, pairs_of, push_pair, read_units, write_units,
 };
 use std::alloc::{AllocError, Global};
 use std::process::Abort;
@@ -223,6 +223,26 @@ const NO_UNITS: [(&str, UnitsError); 7] = [
     ("AA==, AA==", UnitsError::NotBase64 { place: 1 }),
 ];
 
+/// Payload types as lines give them, and as they are written.
+const RTP_MAPS: [(&str, &str, u8, Encoding); 4] = [
+    ("96 H264/90000", "96 H264/90000", 96, Encoding::H264),
+    ("98 h265/90000", "98 H265/90000", 98, Encoding::H265),
+    (" 0  H266/90000\r\n", "0 H266/90000", 0, Encoding::H266),
+    ("127 H264/90000", "127 H264/90000", 127, Encoding::H264),
+];
+
+/// Texts that are no payload types.
+const NO_RTP_MAPS: [(&str, RtpMapError); 8] = [
+    ("", RtpMapError::PayloadType),
+    ("128 H264/90000", RtpMapError::PayloadType),
+    ("H264/90000", RtpMapError::PayloadType),
+    ("96 VP8/90000", RtpMapError::Encoding),
+    ("96 rtx/90000", RtpMapError::Encoding),
+    ("96 H264", RtpMapError::ClockRate),
+    ("96 H264/48000", RtpMapError::ClockRate),
+    ("96 H264/90000/1", RtpMapError::ClockRate),
+];
+
 const MODE: Kind = Kind::Number { least: 0, most: 2 };
 
 const ID: Kind = Kind::Hexadecimal { bytes: 3 };
@@ -280,11 +300,7 @@ fn all_in_order<P: CodecParameter>(
 }
 
 /// Each line of a codec is refused.
-fn all_refused<P: CodecParameter>(
-    rt: &impl Abort,
-    alloc: Global,
-    lines: &[(&str, usize, Fault)],
-) {
+fn all_refused<P: CodecParameter>(rt: &impl Abort, alloc: Global, lines: &[(&str, usize, Fault)]) {
     for (line, place, fault) in lines {
         let (place, fault) = (*place, *fault);
         let want = Some(ParametersError::Refused { place, fault });
@@ -381,5 +397,38 @@ fn texts_of_units(rt: HostRuntime) -> Result<(), Fail> {
     let sets = format.units(rt.alloc(), H264Parameter::SpropParameterSets)?;
     let none = format.units(rt.alloc(), H264Parameter::MaxFs)?;
     assert!(rt; sets.map(|units| units.len()) == Some(2) && none.is_none());
+    Ok(())
+}
+
+/// Each line is its payload type, and is written as it should be.
+fn all_rtp_maps(
+    rt: &impl Abort,
+    alloc: Global,
+    lines: &[(&str, &str, u8, Encoding)],
+) -> Result<(), Fail> {
+    for (line, want, payload_type, encoding) in lines {
+        let (payload_type, encoding) = (*payload_type, *encoding);
+        let map = RtpMap {
+            payload_type,
+            encoding,
+        };
+        let text = map.write(alloc)?;
+        let read = RtpMap::read(line.as_bytes());
+        assert!(rt; read == Ok(map) && text.as_slice() == want.as_bytes());
+    }
+    Ok(())
+}
+
+/// Each line is refused.
+fn no_rtp_maps(rt: &impl Abort, lines: &[(&str, RtpMapError)]) {
+    for (line, want) in lines {
+        assert!(rt; RtpMap::read(line.as_bytes()) == Err(*want));
+    }
+}
+
+#[test]
+fn payload_types(rt: HostRuntime) -> Result<(), Fail> {
+    all_rtp_maps(&rt, rt.alloc(), &RTP_MAPS)?;
+    no_rtp_maps(&rt, &NO_RTP_MAPS);
     Ok(())
 }
