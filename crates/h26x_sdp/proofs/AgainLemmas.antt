@@ -18,7 +18,7 @@ use Rattle.h26x_sdp.specs.Parameters.{is_mark, is_plain, AreRows, IsTable, IsVal
 use Rattle.h26x_sdp.proofs.WrittenLemmas.{by_marks, pairs_written, written_closes}
 
 -- a plain byte is no white space, no mark and no `=`
-plain_parts : (byte : ℕ) → is_plain byte ≡ true → (is_ascii_whitespace byte ≡ false) × (is_mark byte ≡ false) × (not (is_equals byte) ≡ true)
+pub plain_parts : (byte : ℕ) → is_plain byte ≡ true → (is_ascii_whitespace byte ≡ false) × (is_mark byte ≡ false) × (not (is_equals byte) ≡ true)
 plain_parts byte h =
     let outer = and_parts (not (is_ascii_whitespace byte) && not (is_mark byte)) (not (is_equals byte)) h in
     let inner = and_parts (not (is_ascii_whitespace byte)) (not (is_mark byte)) outer.0 in
@@ -46,7 +46,7 @@ plain_trimmed : (name : List ℕ) → list_all is_plain name ≡ true → IsTrim
 plain_trimmed name h = record { start = plain_at name h 0; end = plain_at name h (length name - 1) }
 
 -- behind a name without marks a text is one part as its value is
-behind_name : (name value : List ℕ) → filter is_mark name ≡ [] → is_one_part false (name ++ 61 ∷ value) ≡ is_one_part false value
+pub behind_name : (name value : List ℕ) → filter is_mark name ≡ [] → is_one_part false (name ++ 61 ∷ value) ≡ is_one_part false value
 behind_name name value none =
     by_marks false (name ++ 61 ∷ value)
     ∙ ap (is_one_part false) (filter-append is_mark name (61 ∷ value) ∙ ap (λ l. l ++ filter is_mark value) none)
@@ -69,9 +69,9 @@ writable_given : (all rows : List ParameterRow) (place : ℕ) (values : List (Op
 writable_given all [] place [] others table is w = w
 writable_given all [] place (value ∷ values) others table is w = absurd is
 writable_given all (row ∷ rows) place [] others table is w = absurd is
-writable_given all (row ∷ rows) place (None ∷ values) others table is w = writable_given all rows (place + 1) values others table.2 is.1 w
+writable_given all (row ∷ rows) place (None ∷ values) others table is w = writable_given all rows (place + 1) values others table.3 is.1 w
 writable_given all (row ∷ rows) place (Some value ∷ values) others table is w =
-    (writable_row row value table.1 is.0, writable_given all rows (place + 1) values others table.2 is.1 w)
+    (writable_row row value table.1 is.0, writable_given all rows (place + 1) values others table.3 is.1 w)
 
 -- a value is taken where none stands yet
 taken : (all : List ParameterRow) (place : ℕ) (before after : List (Option (List ℕ))) (row : ParameterRow) (value : List ℕ)
@@ -99,13 +99,13 @@ read_given all (row ∷ rows) before [] place others r table is rest = absurd is
 read_given all (row ∷ rows) before (None ∷ values) place others r table is rest =
     let long : length (before ++ None ∷ []) ≡ length before + 1 = omega (arith, length-append before (None ∷ [])) in
     ap (λ (l : List (Option (List ℕ))). reading all place (record { values = l; others = [] }) (given_pairs rows values ++ others)) (sym (append_assoc before (None ∷ []) (replicate (length rows) None)))
-    ∙ read_given all rows (before ++ None ∷ []) values place others r (subst (λ n. AreRows all n rows) (sym long) table.2) is.1
+    ∙ read_given all rows (before ++ None ∷ []) values place others r (subst (λ n. AreRows all n rows) (sym long) table.3) is.1
     (λ next. ap (λ (l : List (Option (List ℕ))). reading all next (record { values = l; others = [] }) others) (append_assoc before (None ∷ []) values) ∙ rest next)
 read_given all (row ∷ rows) before (Some value ∷ values) place others r table is rest =
     let long : length (before ++ Some value ∷ []) ≡ length before + 1 = omega (arith, length-append before (Some value ∷ [])) in
     ap (λ o. and_then o (λ next. reading all (place + 1) next (given_pairs rows values ++ others))) (taken all place before (replicate (length rows) None) row value table.0 is.0.fits)
     ∙ ap (λ (l : List (Option (List ℕ))). reading all (place + 1) (record { values = l; others = [] }) (given_pairs rows values ++ others)) (sym (append_assoc before (Some value ∷ []) (replicate (length rows) None)))
-    ∙ read_given all rows (before ++ Some value ∷ []) values (place + 1) others r (subst (λ n. AreRows all n rows) (sym long) table.2) is.1
+    ∙ read_given all rows (before ++ Some value ∷ []) values (place + 1) others r (subst (λ n. AreRows all n rows) (sym long) table.3) is.1
     (λ next. ap (λ (l : List (Option (List ℕ))). reading all next (record { values = l; others = [] }) others) (append_assoc before (Some value ∷ []) values) ∙ rest next)
 
 -- and the others are kept

@@ -5,4 +5,7 @@ pub mod NumberLemmas
 pub mod NameLemmas
 pub mod ReadingLemmas
 pub mod AgainLemmas
-pub mod H264Lemmas
+pub mod RowLemmas
+pub mod FixedLemmas
+pub mod UnitsLemmas
+pub mod RtpMapLemmas

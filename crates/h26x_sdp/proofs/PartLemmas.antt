@@ -1,12 +1,12 @@
 -- The parts of a text, from the front on.
 use Rattle.std.proofs.Common.{◌≡◌, ℕ, ◌+◌, ◌<◌, ◌≤◌, Bool, true, false, not, cond, List, [], ◌∷◌, ◌++◌, length, take, drop, get_or, Option, Some, None, refl, sym, ap, ◌∙◌, arith}
-use Rattle.std.specs.Prelude.{unwrap_or}
-use Rattle.std.specs.List.{onto_first, position_or_len, filter_map, cons_option}
+use Rattle.std.specs.Prelude.{unwrap_or, ◌==◌}
+use Rattle.std.specs.List.{onto_first, position_or_len, before_first, after_first, filter_map, cons_option}
 use Rattle.std.proofs.lemmas.List.{append-nil, append_assoc, drop_more, drop_all, take_all, take_more}
 use Rattle.std.proofs.lemmas.List.Sums.{prefix_len_is}
 use Rattle.std.proofs.lemmas.Bool.{not_from_true, not_from_false, false_from_ne_true}
 use Rattle.memchr.specs.Find.{IsFirstByte, is_byte}
-use Rattle.h26x_sdp.specs.Pairs.{Pair, ends_part, is_inside, parts_from, parts, closes_from, is_equals, pair_in, pair_of, pairs, trim_ascii}
+use Rattle.h26x_sdp.specs.Pairs.{ends_part, is_inside, parts_from, parts, closes_from, pair_in, pairs}
 
 -- by what a test says
 pub by_test : {P : Type 0} (b : Bool) → (b ≡ true → P) → (b ≡ false → P) → P
@@ -86,30 +86,26 @@ pairs_of_one text e = ap (filter_map pair_in) e
 pub pairs_of_first : (text part rest : List ℕ) → parts text ≡ part ∷ parts rest → pairs text ≡ cons_option (pair_in part) (pairs rest)
 pairs_of_first text part rest e = ap (filter_map pair_in) e
 
--- where `memchr` finds the first `=`
-pub equals_at : (part : List ℕ) (r : Option ℕ) → IsFirstByte (is_byte 61) part r → unwrap_or r (length part) ≡ position_or_len is_equals part
-equals_at part None none =
-    sym (prefix_len_is (λ b. not (is_equals b)) part (length part) 0 (omega arith)
-    (λ k l. not_from_false (is_equals (get_or part k 0)) (false_from_ne_true _ (none k (omega arith) l)))
+-- where `memchr` finds the first byte of a value
+pub first_at : (c : ℕ) (part : List ℕ) (r : Option ℕ) → IsFirstByte (is_byte c) part r → unwrap_or r (length part) ≡ position_or_len (λ b. b == c) part
+first_at c part None none =
+    sym (prefix_len_is (λ b. not (b == c)) part (length part) 0 (omega arith)
+    (λ k l. not_from_false (get_or part k 0 == c) (false_from_ne_true _ (none k (omega arith) l)))
     (λ l. absurd (omega arith)))
-equals_at part (Some k) (before, here) =
-    sym (prefix_len_is (λ b. not (is_equals b)) part k 0 (omega (arith, before.high))
-    (λ j l. not_from_false (is_equals (get_or part j 0)) (false_from_ne_true _ (before.before j (omega arith) l)))
-    (λ l. not_from_true (is_equals (get_or part k 0)) here))
+first_at c part (Some k) (before, here) =
+    sym (prefix_len_is (λ b. not (b == c)) part k 0 (omega (arith, before.high))
+    (λ j l. not_from_false (get_or part j 0 == c) (false_from_ne_true _ (before.before j (omega arith) l)))
+    (λ l. not_from_true (get_or part k 0 == c) here))
 
--- the name and the value round an `=`, and a name alone
-pub pair_at : (part : List ℕ) (k : ℕ) → IsFirstByte (is_byte 61) part (Some k)
-    → ◌≡◌ {A = Pair} (record { name = trim_ascii (take k part); value = trim_ascii (drop (k + 1) part) }) (pair_of part)
-pair_at part k first =
-    let place = equals_at part (Some k) first in
-    ap (λ (n : ℕ). record { name = trim_ascii (take n part); value = trim_ascii (drop (n + 1) part) }) place
+-- what stands before it and behind it, and where there is none
+pub cut_at : (c : ℕ) (text : List ℕ) (k : ℕ) → IsFirstByte (is_byte c) text (Some k) → (take k text ≡ before_first (λ b. b == c) text) × (drop (k + 1) text ≡ after_first (λ b. b == c) text)
+cut_at c text k first =
+    let place = first_at c text (Some k) first in
+    (ap (λ n. take n text) place, ap (λ n. drop (n + 1) text) place)
 
-pub pair_alone : (part : List ℕ) → IsFirstByte (is_byte 61) part None
-    → ◌≡◌ {A = Pair} (record { name = trim_ascii part; value = [] }) (pair_of part)
-pair_alone part first =
-    let place = equals_at part None first in
-    let name : take (length part) part ≡ part = take_all (length part) part (omega arith) in
-    let value : drop (length part + 1) part ≡ [] = drop_all (length part + 1) part (omega arith) in
-    ap (λ (l : List ℕ). record { name = trim_ascii l; value = trim_ascii [] }) (sym name)
-    ∙ ap (λ (l : List ℕ). record { name = trim_ascii (take (length part) part); value = trim_ascii l }) (sym value)
-    ∙ ap (λ (n : ℕ). record { name = trim_ascii (take n part); value = trim_ascii (drop (n + 1) part) }) place
+pub cut_nowhere : (c : ℕ) (text : List ℕ) → IsFirstByte (is_byte c) text None → (text ≡ before_first (λ b. b == c) text) × ([] ≡ after_first (λ b. b == c) text)
+cut_nowhere c text first =
+    let place = first_at c text None first in (
+      sym (take_all (length text) text (omega arith)) ∙ ap (λ n. take n text) place,
+      sym (drop_all (length text + 1) text (omega arith)) ∙ ap (λ n. drop (n + 1) text) place,
+    )

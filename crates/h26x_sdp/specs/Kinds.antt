@@ -1,13 +1,14 @@
 -- What the values of parameters are.
-use Rattle.std.specs.Prelude.{ℕ, ◌*◌, ◌^◌, ◌==◌, ◌&&◌, nat_le, nat_lt, Bool, if◌then◌else◌, List, length, Option, Some, None, Result, Ok, Err}
+use Rattle.std.specs.Prelude.{ℕ, ◌*◌, ◌^◌, ◌==◌, ◌&&◌, ◌||◌, codes, nat_eq, nat_le, nat_lt, Bool, true, false, if◌then◌else◌, List, length, Option, Some, None, Result, Ok, Err}
 use Rattle.std.specs.List.{list_all}
 use Rattle.std.specs.Result.{result_ok}
 use Rattle.std.specs.Char.{digit_value}
 use Rattle.std.specs.Str.Parse.{digits_value}
+use Rattle.std.specs.Cmp.Lexicographic.{pointwise}
 use Rattle.h26x_sdp.specs.declared.kind.Kind.{Kind}
-use Rattle.h26x_sdp.specs.declared.kind.Kind.TheVariants.{Number, Hexadecimal, Text}
+use Rattle.h26x_sdp.specs.declared.kind.Kind.TheVariants.{Number, Hexadecimal, TxMode, Units, Text}
 use Rattle.h26x_sdp.specs.declared.error.Fault.{Fault}
-use Rattle.h26x_sdp.specs.declared.error.Fault.TheVariants.{NotANumber, OutOfRange, NotHexadecimal}
+use Rattle.h26x_sdp.specs.declared.error.Fault.TheVariants.{NotANumber, OutOfRange, NotHexadecimal, NotTxMode}
 
 -- whether each byte of a text is a digit
 abbrev pub are_digits_of : ℕ → List ℕ → Bool
@@ -25,15 +26,31 @@ range_fault least most (Err fault) = Some fault
 range_fault least most (Ok number) =
     if nat_le least number && nat_le number most then None else Some OutOfRange
 
+-- whether a text is one of the modes of RFC 7798, section 7.1
+abbrev pub is_tx_mode : List ℕ → Bool
+is_tx_mode text = (pointwise nat_eq text (codes "SRST") || pointwise nat_eq text (codes "MRST"))
+    || pointwise nat_eq text (codes "MRMT")
+
 -- what is wrong with a value of a kind
 abbrev pub fault_in : Kind → List ℕ → Option Fault
 fault_in (Number least most) value = range_fault least most (number_in value)
 fault_in (Hexadecimal bytes) value =
     if length value == 2 * bytes && are_digits_of 16 value then None else Some NotHexadecimal
+fault_in TxMode value = if is_tx_mode value then None else Some NotTxMode
+fault_in Units value = None
 fault_in Text value = None
 
 -- the number that a value of a kind says, if the kind is a number's
 abbrev pub number_of : Kind → List ℕ → Option ℕ
 number_of (Number least most) value = result_ok (number_in value)
 number_of (Hexadecimal bytes) value = None
+number_of TxMode value = None
+number_of Units value = None
 number_of Text value = None
+
+abbrev pub is_units : Kind → Bool
+is_units (Number least most) = false
+is_units (Hexadecimal bytes) = false
+is_units TxMode = false
+is_units Units = true
+is_units Text = false

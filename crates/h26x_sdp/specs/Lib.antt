@@ -8,4 +8,8 @@ pub mod Reading
 pub mod ParametersViews
 pub mod Parameters
 pub mod H264Rows
-pub mod H264Views
+pub mod H265Rows
+pub mod H266Rows
+pub mod Units
+pub mod UnitsViews
+pub mod RtpMaps

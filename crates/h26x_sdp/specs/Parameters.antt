@@ -1,7 +1,9 @@
 -- Which parameters a table gives back.
 use Rattle.std.specs.Prelude.{◌≡◌, ℕ, ◌+◌, Bool, true, false, not, ◌&&◌, ◌||◌, ◌==◌, List, [], ◌∷◌, Option, Some, None}
 use Rattle.std.specs.List.{list_all, AllByRecursion}
+use Rattle.std.specs.Option.{option_and_then}
 use Rattle.std.specs.Char.{is_ascii_whitespace}
+use Rattle.h26x_sdp.specs.declared.error.Fault.{Fault}
 use Rattle.h26x_sdp.specs.Pairs.{Pair, is_equals}
 use Rattle.h26x_sdp.specs.Written.{with_pair, is_one_part, IsTrimmed, IsWritable}
 use Rattle.h26x_sdp.specs.Kinds.{fault_in}
@@ -21,11 +23,17 @@ is_mark byte = (byte == 59 || byte == 123) || byte == 125
 abbrev pub is_plain : ℕ → Bool
 is_plain byte = (not (is_ascii_whitespace byte) && not (is_mark byte)) && not (is_equals byte)
 
--- rows of a table, the first of them at a place: each is found by its name, which is plain
+-- what is wrong with a row's default, if anything is
+abbrev pub default_fault : ParameterRow → Option Fault
+default_fault row = option_and_then (fault_in row.kind) row.default
+
+-- rows of a table, the first of them at a place: each is found by its name, which is plain, and its
+-- default is a value of its kind
 abbrev pub AreRows : List ParameterRow → ℕ → List ParameterRow → Type 0
 AreRows all place [] = Unit {0}
 AreRows all place (row ∷ rest) = (row_of all row.name ≡ Some (place, row.kind))
-    × (list_all is_plain row.name ≡ true) × AreRows all (place + 1) rest
+    × (list_all is_plain row.name ≡ true) × (default_fault row ≡ None)
+    × AreRows all (place + 1) rest
 
 abbrev pub IsTable : List ParameterRow → Type 0
 IsTable rows = AreRows rows 0 rows

@@ -1,14 +1,15 @@
 -- Parameters by a table of what each of them is (RFC 6184, section 8.1; RFC 7798, section 7.1; RFC
 -- 9328, section 7.1).
 use Rattle.std.specs.Prelude.{ℕ, ◌+◌, if◌then◌else◌, List, [], ◌∷◌, ◌++◌, length, replicate, slice_set, slice_index_or, Option, Some, None, is_some, Result, Ok, Err}
+use Rattle.std.specs.Option.{option_and_then, option_or}
 use Rattle.h26x_sdp.specs.declared.kind.Kind.{Kind}
 use Rattle.h26x_sdp.specs.declared.error.Fault.{Fault}
 use Rattle.h26x_sdp.specs.declared.error.Fault.TheVariants.{Twice}
 use Rattle.h26x_sdp.specs.declared.error.ParametersError.{ParametersError}
 use Rattle.h26x_sdp.specs.declared.error.ParametersError.TheVariants.{OpenBrace, Refused}
 use Rattle.h26x_sdp.specs.Pairs.{Pair, pairs, closes}
-use Rattle.h26x_sdp.specs.Kinds.{fault_in}
-use Rattle.h26x_sdp.specs.Tables.{ParameterRow, row_of}
+use Rattle.h26x_sdp.specs.Kinds.{fault_in, number_of}
+use Rattle.h26x_sdp.specs.Tables.{ParameterRow, row_of, row_at}
 
 -- the value of each row of a table, where it is given, and the parameters that the table doesn't have
 pub record FormatParameters : Type 0 where
@@ -22,6 +23,18 @@ none_of rows = record { values = replicate rows None; others = [] }
 -- the value of a row, if it's given
 abbrev pub value_at : List (Option (List ℕ)) → ℕ → Option (List ℕ)
 value_at values row = slice_index_or values row None
+
+-- the number of a row, if its value is given and its kind is a number's
+abbrev pub number_at : List ParameterRow → FormatParameters → ℕ → Option ℕ
+number_at rows it row = option_and_then (number_of (row_at rows row).kind) (value_at it.values row)
+
+-- the value of a row, or where it's absent its default
+abbrev pub value_or_default : List ParameterRow → FormatParameters → ℕ → Option (List ℕ)
+value_or_default rows it row = option_or (value_at it.values row) (row_at rows row).default
+
+abbrev pub number_or_default : List ParameterRow → FormatParameters → ℕ → Option ℕ
+number_or_default rows it row =
+    option_and_then (number_of (row_at rows row).kind) (value_or_default rows it row)
 
 -- a value that is given, where nothing is wrong with it
 abbrev pub with_value : ℕ → FormatParameters → ℕ → List ℕ → Option Fault →

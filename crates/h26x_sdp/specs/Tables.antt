@@ -8,6 +8,7 @@ use Rattle.h26x_sdp.specs.declared.kind.Kind.TheVariants.{Text}
 pub record ParameterRow : Type 0 where
   pub name : List ℕ
   pub kind : Kind
+  pub default : Option (List ℕ)
 
 -- whether two names are one, without regard to case
 abbrev pub same_name : List ℕ → List ℕ → Bool
@@ -25,6 +26,6 @@ row_from place (row ∷ rows) name =
 abbrev pub row_of : List ParameterRow → List ℕ → Option (ℕ × Kind)
 row_of rows name = row_from 0 rows name
 
--- the kind of the row at a place of a table
-abbrev pub kind_at : List ParameterRow → ℕ → Kind
-kind_at rows place = (slice_index_or rows place (record { name = []; kind = Text })).kind
+-- the row at a place of a table
+abbrev pub row_at : List ParameterRow → ℕ → ParameterRow
+row_at rows place = slice_index_or rows place (record { name = []; kind = Text; default = None })

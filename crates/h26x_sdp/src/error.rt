@@ -12,6 +12,8 @@ pub enum Fault {
     OutOfRange,
     /// The value isn't as many bytes, by two hexadecimal digits each, as the parameter has.
     NotHexadecimal,
+    /// The value is none of `SRST`, `MRST` and `MRMT`.
+    NotTxMode,
     /// A parameter of this name stands before it.
     Twice,
 }
@@ -51,5 +53,43 @@ impl<T: Drop> From<AllocFailed<T>> for ParametersError {
 
     fn from(_e: AllocFailed<T>) -> ParametersError {
         ParametersError::OutOfMemory
+    }
+}
+
+/// Why a text is no NAL units. A refused call changes nothing.
+#[derive(Debug, Clone, Copy, PartialEq, Eq, Error)]
+pub enum UnitsError {
+    /// The text at this place, counted from 0, is no base64 (RFC 4648, section 4).
+    #[error("unit {place} is no base64")]
+    NotBase64 { place: usize },
+
+    /// The unit at this place, counted from 0, has no byte.
+    #[error("unit {place} is empty")]
+    Empty { place: usize },
+
+    /// The allocator had no memory.
+    #[error("out of memory")]
+    OutOfMemory,
+}
+
+impl From<AllocError> for UnitsError {
+    ghost use Rattle.std.specs.Prelude.{◌≡◌};
+    ghost use Rattle.h26x_sdp.specs.declared.error.UnitsError.TheVariants.{OutOfMemory};
+
+    ghost from_gives = { λ _ e. e ≡ OutOfMemory };
+
+    fn from(_e: AllocError) -> UnitsError {
+        UnitsError::OutOfMemory
+    }
+}
+
+impl<T: Drop> From<AllocFailed<T>> for UnitsError {
+    ghost use Rattle.std.specs.Prelude.{◌≡◌};
+    ghost use Rattle.h26x_sdp.specs.declared.error.UnitsError.TheVariants.{OutOfMemory};
+
+    ghost from_gives = { λ _ e. e ≡ OutOfMemory };
+
+    fn from(_e: AllocFailed<T>) -> UnitsError {
+        UnitsError::OutOfMemory
     }
 }

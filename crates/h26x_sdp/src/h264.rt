@@ -1,13 +1,10 @@
 //! The format parameters of H.264 (RFC 6184, section 8.1).
 
-ghost use Rattle.std.specs.Prelude.{◌≡◌, Ok, Some, None, IfOk, MatchResult, MatchOption, map, vec_len};
+ghost use Rattle.std.specs.Prelude.{◌≡◌};
 
-use crate::error::ParametersError;
-use crate::kind::Kind;
-use crate::parameters;
-use crate::parameters::{FormatParameters, OtherParameter};
+use crate::codec::{CodecParameter, CodecParameters};
+use crate::kind::{BITS_15, BITS_32, FLAG, Kind};
 use crate::table::ParameterRow;
-use std::alloc::{AllocError, Global};
 
 /// A format parameter of H.264, in the order in which they are written (RFC 6184, section 8.1).
 #[derive(Debug, Clone, Copy, PartialEq, Eq)]
@@ -54,18 +51,21 @@ pub enum H264Parameter {
     /// absent 0.
     PacketizationMode,
     /// `sprop-interleaving-depth`: how many units precede one that they follow in decoding order,
-    /// at most. Where it's absent 0.
+    /// at most. Present in mode 2 alone.
     SpropInterleavingDepth,
-    /// `sprop-deint-buf-req`: the size of the deinterleaving buffer, in bytes. Where it's absent
-    /// 0.
+    /// `sprop-deint-buf-req`: the size of the deinterleaving buffer, in bytes. Present in mode 2
+    /// alone.
     SpropDeintBufReq,
-    /// `deint-buf-cap`: the deinterleaving buffer that a receiver has, in bytes.
+    /// `deint-buf-cap`: the deinterleaving buffer that a receiver has, in bytes. Where it's
+    /// absent 0.
     DeintBufCap,
     /// `sprop-init-buf-time`: how long a receiver buffers before it decodes, in ticks of 90 kHz.
     SpropInitBufTime,
-    /// `sprop-max-don-diff`: the largest difference of decoding order numbers.
+    /// `sprop-max-don-diff`: the largest difference of decoding order numbers. Where it's absent,
+    /// it isn't said.
     SpropMaxDonDiff,
     /// `max-rcmd-nalu-size`: the largest unit that a receiver handles efficiently, in bytes.
+    /// Where it's absent, any.
     MaxRcmdNaluSize,
     /// `sar-understood`: the greatest aspect_ratio_idc below 255 that is understood. Where it's
     /// absent 13.
@@ -75,117 +75,112 @@ pub enum H264Parameter {
     SarSupported,
 }
 
-impl H264Parameter {
-    ghost use Rattle.h26x_sdp.specs.H264Rows as spec;
-
-    /// The parameter's place in the table, from 0.
-    fn place(self) -> usize
-        ensures { result ≡ spec.row_place self }
-    {
-        self as usize
-    }
-}
-
-/// The kind of a parameter that says yes or no.
-const FLAG: Kind = Kind::Number { least: 0, most: 1 };
-
-/// The kind of a number that is of 15 bits.
-const BITS_15: Kind = Kind::Number {
-    least: 0,
-    most: 32767,
-};
-
-/// The kind of a number that is of 32 bits.
-const BITS_32: Kind = Kind::Number {
-    least: 0,
-    most: 4294967295,
-};
-
 /// The parameters of the table.
-const ROWS: [ParameterRow; 23] = [
+static ROWS: [ParameterRow; 23] = [
     ParameterRow {
         name: b"profile-level-id",
         kind: Kind::Hexadecimal { bytes: 3 },
+        default: Some(b"42000a"),
     },
     ParameterRow {
         name: b"max-recv-level",
         kind: Kind::Hexadecimal { bytes: 2 },
+        default: None,
     },
     ParameterRow {
         name: b"max-mbps",
         kind: BITS_32,
+        default: None,
     },
     ParameterRow {
         name: b"max-smbps",
         kind: BITS_32,
+        default: None,
     },
     ParameterRow {
         name: b"max-fs",
         kind: BITS_32,
+        default: None,
     },
     ParameterRow {
         name: b"max-cpb",
         kind: BITS_32,
+        default: None,
     },
     ParameterRow {
         name: b"max-dpb",
         kind: BITS_32,
+        default: None,
     },
     ParameterRow {
         name: b"max-br",
         kind: BITS_32,
+        default: None,
     },
     ParameterRow {
         name: b"redundant-pic-cap",
         kind: FLAG,
+        default: Some(b"0"),
     },
     ParameterRow {
         name: b"sprop-parameter-sets",
-        kind: Kind::Text,
+        kind: Kind::Units,
+        default: None,
     },
     ParameterRow {
         name: b"sprop-level-parameter-sets",
         kind: Kind::Text,
+        default: None,
     },
     ParameterRow {
         name: b"use-level-src-parameter-sets",
         kind: FLAG,
+        default: Some(b"0"),
     },
     ParameterRow {
         name: b"in-band-parameter-sets",
         kind: FLAG,
+        default: None,
     },
     ParameterRow {
         name: b"level-asymmetry-allowed",
         kind: FLAG,
+        default: Some(b"0"),
     },
     ParameterRow {
         name: b"packetization-mode",
         kind: Kind::Number { least: 0, most: 2 },
+        default: Some(b"0"),
     },
     ParameterRow {
         name: b"sprop-interleaving-depth",
         kind: BITS_15,
+        default: None,
     },
     ParameterRow {
         name: b"sprop-deint-buf-req",
         kind: BITS_32,
+        default: None,
     },
     ParameterRow {
         name: b"deint-buf-cap",
         kind: BITS_32,
+        default: Some(b"0"),
     },
     ParameterRow {
         name: b"sprop-init-buf-time",
         kind: BITS_32,
+        default: None,
     },
     ParameterRow {
         name: b"sprop-max-don-diff",
         kind: BITS_15,
+        default: None,
     },
     ParameterRow {
         name: b"max-rcmd-nalu-size",
         kind: BITS_32,
+        default: None,
     },
     ParameterRow {
         name: b"sar-understood",
@@ -193,6 +188,7 @@ const ROWS: [ParameterRow; 23] = [
             least: 0,
             most: 254,
         },
+        default: Some(b"13"),
     },
     ParameterRow {
         name: b"sar-supported",
@@ -200,8 +196,25 @@ const ROWS: [ParameterRow; 23] = [
             least: 0,
             most: 255,
         },
+        default: None,
     },
 ];
+
+impl CodecParameter for H264Parameter {
+    ghost use Rattle.h26x_sdp.specs.H264Rows as spec;
+
+    ghost rows = { spec.rows };
+
+    ghost place = { spec.row_place };
+
+    fn rows() -> &'static [ParameterRow] {
+        &ROWS
+    }
+
+    fn place(self) -> usize {
+        self as usize
+    }
+}
 
 /// The format parameters of H.264: what an `a=fmtp` line says behind the payload type.
 ///
@@ -210,67 +223,4 @@ const ROWS: [ParameterRow; 23] = [
 /// let format = H264Parameters::read(alloc, line)?;
 /// assert_eq!(rt; format.number(H264Parameter::PacketizationMode), Some(1));
 /// ```
-#[derive(Debug, Drop)]
-pub struct H264Parameters {
-    pub(crate) parameters: FormatParameters,
-    ghost long: { vec_len parameters.values ≡ 23 },
-}
-
-impl H264Parameters {
-    ghost use Rattle.h26x_sdp.specs.H264Rows as spec;
-    ghost use Rattle.h26x_sdp.specs.H264Views.{h264_view, number_of};
-    ghost use Rattle.h26x_sdp.specs.Reading.{read_of, all_of, value_at};
-    ghost use Rattle.h26x_sdp.specs.ParametersViews.{Fails, other_view};
-    ghost use Rattle.h26x_sdp.specs.Written.{written};
-
-    /// Reads the value of an `a=fmtp` line.
-    ///
-    /// Names are read without regard to case, white space round `;` and `=` and blank parts are left
-    /// out, and parameters that RFC 6184 doesn't have are kept, in their order. What is refused first
-    /// is told, with its place: a value that is none of its parameter, or a parameter that is given
-    /// twice.
-    pub fn read(alloc: Global, text: &[u8]) -> Result<Self, ParametersError>
-        ensures { MatchResult result
-            (λ it. read_of spec.rows text.now ≡ Ok (h264_view it))
-            (λ error. Fails error (read_of spec.rows text.now)) }
-    {
-        let parameters = parameters::read(alloc, &ROWS, text)?;
-        Ok(H264Parameters { parameters })
-    }
-
-    /// Writes the value of an `a=fmtp` line: the parameters in RFC 6184's order, and the others
-    /// behind them. It is read as the same parameters.
-    pub fn write(&self, alloc: Global) -> Result<Vec<u8>, AllocError>
-        ensures { IfOk result (λ text. text.items
-            ≡ written (all_of spec.rows (h264_view self.now))) }
-    {
-        parameters::write(alloc, &ROWS, &self.parameters)
-    }
-
-    /// The value of a parameter, as it came; `None` where it's absent.
-    pub fn value(&self, parameter: H264Parameter) -> Option<&[u8]>
-        ensures { MatchOption result
-            (value_at (h264_view self.now).values (spec.row_place parameter) ≡ None)
-            (λ value. value_at (h264_view self.now).values (spec.row_place parameter)
-            ≡ Some value.now) }
-    {
-        let value = self.parameters.values.get(parameter.place())?.as_ref()?;
-        Some(value.as_slice())
-    }
-
-    /// The number of a parameter; `None` where it's absent, and for those that are no numbers:
-    /// `profile-level-id`, `max-recv-level` and the parameter sets.
-    pub fn number(&self, parameter: H264Parameter) -> Option<u64>
-        ensures { result ≡ number_of (h264_view self.now) parameter }
-    {
-        let value = self.value(parameter)?;
-        ROWS[parameter.place()].kind.number_of(value)
-    }
-
-    /// The parameters that RFC 6184 doesn't have, in their order.
-    pub fn others(&self) -> &[OtherParameter]
-        ensures { map other_view result.now ≡ (h264_view self.now).others }
-    {
-        self.parameters.others.as_slice()
-    }
-}
+pub type H264Parameters = CodecParameters<H264Parameter>;

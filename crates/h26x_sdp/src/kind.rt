@@ -13,9 +13,43 @@ pub enum Kind {
     Number { least: u64, most: u64 },
     /// So many bytes, each by two hexadecimal digits in either case.
     Hexadecimal { bytes: u8 },
+    /// `SRST`, `MRST` or `MRMT` (RFC 7798, section 7.1).
+    TxMode,
+    /// NAL units in base64, with `,` between them, which `read_units` looks into.
+    Units,
     /// A text that no rule of this crate looks into.
     Text,
 }
+
+/// The kind of a parameter that says yes or no.
+pub(crate) const FLAG: Kind = Kind::Number { least: 0, most: 1 };
+
+/// The kind of a TID.
+pub(crate) const SUB_LAYER: Kind = Kind::Number { least: 0, most: 6 };
+
+/// The kind of a number that is of 8 bits.
+pub(crate) const BITS_8: Kind = Kind::Number {
+    least: 0,
+    most: 255,
+};
+
+/// The kind of a number that is of 15 bits.
+pub(crate) const BITS_15: Kind = Kind::Number {
+    least: 0,
+    most: 32767,
+};
+
+/// The kind of a number that is of 32 bits.
+pub(crate) const BITS_32: Kind = Kind::Number {
+    least: 0,
+    most: 4294967295,
+};
+
+/// The kind of a number that is of 64 bits.
+pub(crate) const BITS_64: Kind = Kind::Number {
+    least: 0,
+    most: 18446744073709551615,
+};
 
 impl Kind {
     /// What is wrong with a value of this kind, if anything is. It takes no memory.
@@ -35,8 +69,22 @@ impl Kind {
                     Some(Fault::NotHexadecimal)
                 }
             }
-            Kind::Text => None,
+            Kind::TxMode => {
+                if is_tx_mode(value) {
+                    None
+                } else {
+                    Some(Fault::NotTxMode)
+                }
+            }
+            Kind::Units | Kind::Text => None,
         }
+    }
+
+    /// Whether the kind is units.
+    pub(crate) fn is_units(self) -> bool
+        ensures { result ≡ spec.is_units self }
+    {
+        matches!(self, Kind::Units)
     }
 
     /// The number that a value says, if the kind is a number's.
@@ -45,9 +93,17 @@ impl Kind {
     {
         match self {
             Kind::Number { .. } => number_in(value).ok(),
-            Kind::Hexadecimal { .. } | Kind::Text => None,
+            Kind::Hexadecimal { .. } | Kind::TxMode | Kind::Units | Kind::Text => None,
         }
     }
+}
+
+/// Whether a text is one of the modes of RFC 7798, section 7.1.
+fn is_tx_mode(text: &[u8]) -> bool
+    ensures { result ≡ spec.is_tx_mode text.now }
+{
+    let (single, many, many_transports) = (b"SRST", b"MRST", b"MRMT");
+    text == single.as_slice() || text == many.as_slice() || text == many_transports.as_slice()
 }
 
 /// Whether each byte of a text is a digit, in either case.

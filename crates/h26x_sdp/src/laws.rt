@@ -1,12 +1,19 @@
 //! Laws of the grammar. Each is the contract of a function without a result.
 
-ghost use Rattle.std.specs.Prelude.{◌≡◌, ℕ, true, Ok, List, [], ◌∷◌, ◌++◌};
+ghost use Rattle.std.specs.Prelude.{◌≡◌, ◌<◌, ℕ, true, Ok, List, [], ◌∷◌, ◌++◌};
 ghost use Rattle.std.specs.List.{AllByRecursion, join_with_byte};
 ghost use Rattle.h26x_sdp.specs.Pairs.{Pair, parts, pairs, closes};
 ghost use Rattle.h26x_sdp.specs.Written.{written, with_pair, IsWritable};
-ghost use Rattle.h26x_sdp.specs.Parameters.{AreParameters};
+ghost use Rattle.h26x_sdp.specs.Tables.{ParameterRow};
+ghost use Rattle.h26x_sdp.specs.Parameters.{IsTable, AreParameters};
 ghost use Rattle.h26x_sdp.specs.Reading.{FormatParameters, read_of, all_of};
+ghost use Rattle.base64.specs.GeneralPurpose.{IsBytes};
+ghost use Rattle.h26x_sdp.specs.Units.{AreUnits, units_of, units_text};
+ghost use Rattle.h26x_sdp.specs.RtpMaps.{rtp_map_of, text_of};
+ghost use Rattle.h26x_sdp.specs.declared.rtp_map.RtpMap.{RtpMap};
 ghost use Rattle.h26x_sdp.specs.H264Rows as h264;
+ghost use Rattle.h26x_sdp.specs.H265Rows as h265;
+ghost use Rattle.h26x_sdp.specs.H266Rows as h266;
 
 /// A text is its parts with `;` between them.
 pub fn parts_are_the_text()
@@ -29,9 +36,35 @@ pub fn what_is_read_can_be_written()
         pairs (written (pairs text)) ≡ pairs text }
 {}
 
-/// What is written of H.264's parameters is read as the same, for all parameters: each value one of
-/// its kind, and the others none of the table.
-pub fn what_is_written_of_h264_is_read()
-    ensures { (it : FormatParameters) → AreParameters h264.rows it →
-        read_of h264.rows (written (all_of h264.rows it)) ≡ Ok it }
+/// What is written of a table's parameters is read as the same, for all parameters: each value one of
+/// its kind, and the others none of the table. The three codecs' tables are such, and each of their
+/// defaults is a value of its kind.
+pub fn what_is_written_of_a_table_is_read()
+    ensures same { (rows : List ParameterRow) (it : FormatParameters) → IsTable rows →
+        AreParameters rows it → read_of rows (written (all_of rows it)) ≡ Ok it }
+    ensures h264 { IsTable h264.rows }
+    ensures h265 { IsTable h265.rows }
+    ensures h266 { IsTable h266.rows }
+{}
+
+/// What a table reads of a text are parameters of it, and once they are written they are read and
+/// written as the same.
+pub fn what_is_read_of_a_table_is_written()
+    ensures parameters { (rows : List ParameterRow) (text : List ℕ) (it : FormatParameters) →
+        IsTable rows → read_of rows text ≡ Ok it → AreParameters rows it }
+    ensures again { (rows : List ParameterRow) (text : List ℕ) (it : FormatParameters) →
+        IsTable rows → read_of rows text ≡ Ok it → read_of rows (written (all_of rows it)) ≡ Ok it }
+{}
+
+/// What is written of NAL units is read as the same units, and what is read is written as the same
+/// text.
+pub fn units_and_their_text()
+    ensures read { (units : List (List ℕ)) → AreUnits units → units_of (units_text units) ≡ Ok units }
+    ensures written { (text : List ℕ) (units : List (List ℕ)) → IsBytes text →
+        units_of text ≡ Ok units → units_text units ≡ text }
+{}
+
+/// What is written of a payload type and its encoding is read as the same.
+pub fn what_is_written_of_an_rtp_map_is_read()
+    ensures { (map : RtpMap) → map.payload_type < 128 → rtp_map_of (text_of map) ≡ Ok map }
 {}

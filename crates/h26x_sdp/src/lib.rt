@@ -1,24 +1,34 @@
 //! Format parameters of SDP for H.264, H.265 and H.266 (RFC 6184, section 8; RFC 7798, section 7; RFC
 //! 9328, section 7): the grammar of an `a=fmtp` value that the three share, and the parameters of
-//! H.264.
+//! each, read and written by the table of them.
 //!
 //! The definitions that contracts cite stand in `specs/`.
 #![tactic(auto)]
 
+mod codec;
 mod error;
 mod h264;
+mod h265;
+mod h266;
 mod kind;
 pub mod laws;
 mod pairs;
 mod parameters;
+mod rtp_map;
 mod table;
+mod units;
 
-pub use error::{Fault, ParametersError};
+pub use codec::{CodecParameter, CodecParameters};
+pub use error::{Fault, ParametersError, UnitsError};
 pub use h264::{H264Parameter, H264Parameters};
+pub use h265::{H265Parameter, H265Parameters};
+pub use h266::{H266Parameter, H266Parameters};
 pub use kind::{Kind, number_in};
 pub use pairs::{Pair, Pairs, closes, pairs_of, push_pair};
 pub use parameters::OtherParameter;
+pub use rtp_map::{Encoding, RtpMap, RtpMapError};
 pub use table::{ParameterRow, row_of, same_name};
+pub use units::{read_units, write_units};
 
 #[cfg(test)]
 mod tests;

@@ -1,8 +1,8 @@
 //! The parameters of an `a=fmtp` value, as they stand in its text.
 
-ghost use Rattle.std.specs.Prelude.{◌≡◌, ◌+◌, ◌<◌, []};
+ghost use Rattle.std.specs.Prelude.{◌≡◌, ◌+◌, ◌<◌, ◌==◌, []};
 ghost use Rattle.std.specs.Prelude.{◌∷◌, MatchOption, IfSome, OnOk, OnErr, length, take, drop};
-ghost use Rattle.std.specs.List.{cons_option};
+ghost use Rattle.std.specs.List.{cons_option, before_first, after_first};
 ghost use Rattle.h26x_sdp.specs.Pairs as spec;
 ghost use Rattle.h26x_sdp.specs.PairViews.{pair_view};
 ghost use Rattle.h26x_sdp.specs.Written.{with_pair};
@@ -108,25 +108,32 @@ fn split_part(text: &[u8]) -> (&[u8], &[u8])
 }
 
 /// A text without the white space at its ends.
-fn trimmed(text: &[u8]) -> &[u8]
+pub(crate) fn trimmed(text: &[u8]) -> &[u8]
     ensures { result.now ≡ spec.trim_ascii text.now }
 {
     text.trim_ascii()
+}
+
+/// What stands before the first byte of a value in a text, and behind it; all of the text and nothing
+/// where there is none.
+pub(crate) fn cut(text: &[u8], at: u8) -> (&[u8], &[u8])
+    ensures before { result.0.now ≡ before_first (λ byte. byte == at) text.now }
+    ensures behind { result.1.now ≡ after_first (λ byte. byte == at) text.now }
+{
+    match memchr(at, text) {
+        Some(place) => (&text[..place], &text[place + 1..]),
+        None => (text, &[]),
+    }
 }
 
 /// The name and the value of a part.
 fn pair_of(part: &[u8]) -> Pair<'_>
     ensures { pair_view result ≡ spec.pair_of part.now }
 {
-    match memchr(b'=', part) {
-        Some(equals) => Pair {
-            name: trimmed(&part[..equals]),
-            value: trimmed(&part[equals + 1..]),
-        },
-        None => Pair {
-            name: trimmed(part),
-            value: &[],
-        },
+    let (name, value) = cut(part, b'=');
+    Pair {
+        name: trimmed(name),
+        value: trimmed(value),
     }
 }
 

@@ -6,13 +6,16 @@ ghost use Rattle.h26x_sdp.specs.TableViews.{row_view};
 
 use crate::kind::Kind;
 
-/// A parameter of a format: its name, in lower case, and what its value is.
+/// A parameter of a format: its name, in lower case, what its value is, and what is taken for it where
+/// it's absent.
 #[derive(Debug, Clone, Copy)]
 pub struct ParameterRow {
     /// The name.
     pub name: &'static [u8],
     /// What the value is.
     pub kind: Kind,
+    /// The value where the parameter is absent, if the RFC gives one.
+    pub default: Option<&'static [u8]>,
 }
 
 /// Whether two names are one, without regard to case (RFC 4855, section 3).

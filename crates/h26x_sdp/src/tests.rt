@@ -1,7 +1,9 @@
 //! Values of lines, their parameters as they are written, and what is wrong with values.
 
 use crate::{
-    Fault, H264Parameter, H264Parameters, Kind, ParametersError, closes, pairs_of, push_pair,
+    CodecParameter, CodecParameters, Encoding, Fault, H264Parameter, H264Parameters, H265Parameter,
+    H265Parameters, H266Parameter, H266Parameters, Kind, ParametersError, RtpMap, RtpMapError,
+    UnitsError, closes, pairs_of, push_pair, read_units, write_units,
 };
 use std::alloc::{AllocError, Global};
 use std::process::Abort;
@@ -58,7 +60,7 @@ const LINES: [(&str, &str); 12] = [
 ];
 
 /// What is wrong with values of each kind.
-const VALUES: [(Kind, &str, Option<Fault>); 12] = [
+const VALUES: [(Kind, &str, Option<Fault>); 16] = [
     (MODE, "0", None),
     (MODE, "2", None),
     (MODE, "02", None),
@@ -70,6 +72,10 @@ const VALUES: [(Kind, &str, Option<Fault>); 12] = [
     (ID, "42e01F", None),
     (ID, "42e01", Some(Fault::NotHexadecimal)),
     (ID, "42e01g", Some(Fault::NotHexadecimal)),
+    (Kind::TxMode, "SRST", None),
+    (Kind::TxMode, "MRMT", None),
+    (Kind::TxMode, "srst", Some(Fault::NotTxMode)),
+    (Kind::TxMode, "", Some(Fault::NotTxMode)),
     (Kind::Text, "", None),
 ];
 
@@ -95,6 +101,42 @@ const IN_ORDER: [(&str, &str); 5] = [
     ("", ""),
 ];
 
+/// Values of H.265, and the same in RFC 7798's order.
+const H265_IN_ORDER: [(&str, &str); 4] = [
+    // as Chromium's
+    (
+        "level-id=93;profile-id=1;tier-flag=0;tx-mode=SRST",
+        "profile-id=1;tier-flag=0;level-id=93;tx-mode=SRST",
+    ),
+    // as FFmpeg's, without its sets
+    (
+        "sprop-sps=QgEBAWAAAAMAAAMAAAMAAAMAXaAB; sprop-vps=QAEMAf//; x=1",
+        "sprop-vps=QAEMAf//;sprop-sps=QgEBAWAAAAMAAAMAAAMAAAMAXaAB;x=1",
+    ),
+    // RFC 7798, section 7.1: the braces hold a `level-id` of their own
+    (
+        "Level-ID=120; dec-parallel-cap={w:8;level-id=93,t:4;level-id=90}",
+        "level-id=120;dec-parallel-cap={w:8;level-id=93,t:4;level-id=90}",
+    ),
+    (
+        "profile-compatibility-indicator=60000000;interop-constraints=B00000000000;max-lsr=68451041280",
+        "interop-constraints=B00000000000;profile-compatibility-indicator=60000000;max-lsr=68451041280",
+    ),
+];
+
+/// Values of H.266, and the same in RFC 9328's order.
+const H266_IN_ORDER: [(&str, &str); 2] = [
+    (
+        "sprop-dci=AGk=;level-id=83;tier-flag=1;profile-id=17",
+        "profile-id=17;tier-flag=1;level-id=83;sprop-dci=AGk=",
+    ),
+    // H.265's name, which H.266 doesn't have
+    (
+        "sprop-sub-layer-id=7; sprop-sublayer-id=6; recv-ols-id=257",
+        "sprop-sublayer-id=6;recv-ols-id=257;sprop-sub-layer-id=7",
+    ),
+];
+
 /// What is refused for H.264, with its place and its fault.
 const REFUSED: [(&str, usize, Fault); 7] = [
     ("packetization-mode=3", 0, Fault::OutOfRange),
@@ -104,6 +146,101 @@ const REFUSED: [(&str, usize, Fault); 7] = [
     ("sar-supported=255;sar-understood=255", 1, Fault::OutOfRange),
     ("x=1;profile-level-id=42e0", 1, Fault::NotHexadecimal),
     ("max-fs=1;a=2;Max-FS=1", 2, Fault::Twice),
+];
+
+/// What is refused for H.265.
+const H265_REFUSED: [(&str, usize, Fault); 8] = [
+    ("profile-space=4", 0, Fault::OutOfRange),
+    ("level-id=93;profile-id=32", 1, Fault::OutOfRange),
+    ("level-id=256", 0, Fault::OutOfRange),
+    ("interop-constraints=B0000000000", 0, Fault::NotHexadecimal),
+    ("x=1;;tx-mode=MRTM", 1, Fault::NotTxMode),
+    ("max-dpb=0", 0, Fault::OutOfRange),
+    ("sprop-spatial-segmentation-idc=4096", 0, Fault::OutOfRange),
+    ("level-id=93;LEVEL-ID=93", 1, Fault::Twice),
+];
+
+/// What is refused for H.266.
+const H266_REFUSED: [(&str, usize, Fault); 5] = [
+    ("profile-id=128", 0, Fault::OutOfRange),
+    ("tx-mode=x;sprop-sublayer-id=7", 1, Fault::OutOfRange),
+    ("sprop-ols-id=258", 0, Fault::OutOfRange),
+    ("depack-buf-cap=0", 0, Fault::OutOfRange),
+    ("sprop-max-don-diff=32768", 0, Fault::OutOfRange),
+];
+
+/// Numbers of H.264's parameters where a line gives nothing (RFC 6184, section 8.1).
+const H264_DEFAULTS: [(H264Parameter, Option<u64>); 6] = [
+    (H264Parameter::PacketizationMode, Some(0)),
+    (H264Parameter::SarUnderstood, Some(13)),
+    (H264Parameter::DeintBufCap, Some(0)),
+    (H264Parameter::SpropMaxDonDiff, None),
+    (H264Parameter::MaxFs, None),
+    (H264Parameter::ProfileLevelId, None),
+];
+
+/// The same of H.265 (RFC 7798, section 7.1).
+const H265_DEFAULTS: [(H265Parameter, Option<u64>); 8] = [
+    (H265Parameter::ProfileId, Some(1)),
+    (H265Parameter::LevelId, Some(93)),
+    (H265Parameter::SpropSubLayerId, Some(6)),
+    (H265Parameter::RecvSubLayerId, None),
+    (H265Parameter::SpropMaxDonDiff, Some(0)),
+    (H265Parameter::DepackBufCap, Some(4294967295)),
+    (H265Parameter::TxMode, None),
+    (H265Parameter::MaxLsr, None),
+];
+
+/// The same of H.266 (RFC 9328, section 7.2).
+const H266_DEFAULTS: [(H266Parameter, Option<u64>); 5] = [
+    (H266Parameter::ProfileId, Some(1)),
+    (H266Parameter::TierFlag, Some(0)),
+    (H266Parameter::LevelId, Some(51)),
+    (H266Parameter::SpropSublayerId, Some(6)),
+    (H266Parameter::SpropOlsId, None),
+];
+
+/// Texts of units, the first unit and how many there are. The first is of RFC 6184, section 8.2.1.
+const UNITS: [(&str, &[u8], usize); 3] = [
+    (
+        "Z0IACpZTBYmI,aMljiA==",
+        b"\x67\x42\x00\x0a\x96\x53\x05\x89\x88",
+        2,
+    ),
+    ("aMljiA==", b"\x68\xc9\x63\x88", 1),
+    ("AA==,/+8=,AAAB", b"\x00", 3),
+];
+
+/// Texts that are no units.
+const NO_UNITS: [(&str, UnitsError); 7] = [
+    ("", UnitsError::Empty { place: 0 }),
+    ("aMljiA==,", UnitsError::Empty { place: 1 }),
+    ("AA==,,AA==", UnitsError::Empty { place: 1 }),
+    ("Z0I", UnitsError::NotBase64 { place: 0 }),
+    // padding left out, and bits behind the last byte
+    ("aMljiA==,aMljiA", UnitsError::NotBase64 { place: 1 }),
+    ("aMljiB==", UnitsError::NotBase64 { place: 0 }),
+    ("AA==, AA==", UnitsError::NotBase64 { place: 1 }),
+];
+
+/// Payload types as lines give them, and as they are written.
+const RTP_MAPS: [(&str, &str, u8, Encoding); 4] = [
+    ("96 H264/90000", "96 H264/90000", 96, Encoding::H264),
+    ("98 h265/90000", "98 H265/90000", 98, Encoding::H265),
+    (" 0  H266/90000\r\n", "0 H266/90000", 0, Encoding::H266),
+    ("127 H264/90000", "127 H264/90000", 127, Encoding::H264),
+];
+
+/// Texts that are no payload types.
+const NO_RTP_MAPS: [(&str, RtpMapError); 8] = [
+    ("", RtpMapError::PayloadType),
+    ("128 H264/90000", RtpMapError::PayloadType),
+    ("H264/90000", RtpMapError::PayloadType),
+    ("96 VP8/90000", RtpMapError::Encoding),
+    ("96 rtx/90000", RtpMapError::Encoding),
+    ("96 H264", RtpMapError::ClockRate),
+    ("96 H264/48000", RtpMapError::ClockRate),
+    ("96 H264/90000/1", RtpMapError::ClockRate),
 ];
 
 const MODE: Kind = Kind::Number { least: 0, most: 2 };
@@ -149,40 +286,149 @@ fn values_of_each_kind(rt: HostRuntime) {
     all_told(&rt, &VALUES);
 }
 
-/// Each line of H.264 is written in order.
-fn all_in_order(
+/// Each line of a codec is written in order.
+fn all_in_order<P: CodecParameter>(
     rt: &impl Abort,
     alloc: Global,
     lines: &[(&str, &str)],
 ) -> Result<(), ParametersError> {
     for (line, want) in lines {
-        let text = H264Parameters::read(alloc, line.as_bytes())?.write(alloc)?;
+        let text = CodecParameters::<P>::read(alloc, line.as_bytes())?.write(alloc)?;
         assert!(rt; text.as_slice() == want.as_bytes());
     }
     Ok(())
 }
 
-/// Each line of H.264 is refused.
-fn all_refused(rt: &impl Abort, alloc: Global, lines: &[(&str, usize, Fault)]) {
+/// Each line of a codec is refused.
+fn all_refused<P: CodecParameter>(rt: &impl Abort, alloc: Global, lines: &[(&str, usize, Fault)]) {
     for (line, place, fault) in lines {
         let (place, fault) = (*place, *fault);
         let want = Some(ParametersError::Refused { place, fault });
-        assert!(rt; H264Parameters::read(alloc, line.as_bytes()).err() == want);
+        assert!(rt; CodecParameters::<P>::read(alloc, line.as_bytes()).err() == want);
+    }
+}
+
+/// Each parameter has its number where the line gives none.
+fn all_defaults<P: CodecParameter>(
+    rt: &impl Abort,
+    none: &CodecParameters<P>,
+    numbers: &[(P, Option<u64>)],
+) {
+    for (parameter, want) in numbers {
+        assert!(rt; none.number_or_default(*parameter) == *want);
     }
 }
 
 #[test]
 fn lines_of_h264(rt: HostRuntime) -> Result<(), Fail> {
-    all_in_order(&rt, rt.alloc(), &IN_ORDER)?;
-    all_refused(&rt, rt.alloc(), &REFUSED);
+    all_in_order::<H264Parameter>(&rt, rt.alloc(), &IN_ORDER)?;
+    all_refused::<H264Parameter>(&rt, rt.alloc(), &REFUSED);
     let line = b"packetization-mode=1;x=2;profile-level-id=640032";
     let format = H264Parameters::read(rt.alloc(), line)?;
     let mode = format.number(H264Parameter::PacketizationMode);
     let largest = format.number(H264Parameter::MaxFs);
     assert!(rt; (mode, largest, format.others().len()) == (Some(1), None, 1));
+    let none = H264Parameters::read(rt.alloc(), b"")?;
+    all_defaults(&rt, &none, &H264_DEFAULTS);
+    assert!(rt; none.value_or_default(H264Parameter::ProfileLevelId) == Some(b"42000a"));
+    assert!(rt; format.number_or_default(H264Parameter::PacketizationMode) == Some(1));
     // six digits, which are no number
     let id = H264Parameter::ProfileLevelId;
     assert!(rt; format.value(id) == Some(b"640032") && format.number(id) == None);
     assert!(rt; format.value(H264Parameter::MaxFs) == None);
+    Ok(())
+}
+
+#[test]
+fn lines_of_h265(rt: HostRuntime) -> Result<(), Fail> {
+    all_in_order::<H265Parameter>(&rt, rt.alloc(), &H265_IN_ORDER)?;
+    all_refused::<H265Parameter>(&rt, rt.alloc(), &H265_REFUSED);
+    let none = H265Parameters::read(rt.alloc(), b"")?;
+    all_defaults(&rt, &none, &H265_DEFAULTS);
+    assert!(rt; none.value_or_default(H265Parameter::TxMode) == Some(b"SRST"));
+    let format = H265Parameters::read(rt.alloc(), b"include-dph=1,2;level-id=150")?;
+    let level = format.number(H265Parameter::LevelId);
+    let tier = format.number(H265Parameter::TierFlag);
+    let hashes = format.value(H265Parameter::IncludeDph);
+    assert!(rt; (level, tier) == (Some(150), None) && hashes == Some(b"1,2"));
+    Ok(())
+}
+
+#[test]
+fn lines_of_h266(rt: HostRuntime) -> Result<(), Fail> {
+    all_in_order::<H266Parameter>(&rt, rt.alloc(), &H266_IN_ORDER)?;
+    all_refused::<H266Parameter>(&rt, rt.alloc(), &H266_REFUSED);
+    let none = H266Parameters::read(rt.alloc(), b"")?;
+    all_defaults(&rt, &none, &H266_DEFAULTS);
+    let format = H266Parameters::read(rt.alloc(), b"depack-buf-cap=4294967295")?;
+    let room = format.number(H266Parameter::DepackBufCap);
+    assert!(rt; (room, format.number(H266Parameter::MaxLsr)) == (Some(4294967295), None));
+    Ok(())
+}
+
+/// Each text is the units, and they the text.
+fn all_units(
+    rt: &impl Abort,
+    alloc: Global,
+    texts: &[(&str, &[u8], usize)],
+) -> Result<(), UnitsError> {
+    for (text, first, many) in texts {
+        let units = read_units(alloc, text.as_bytes())?;
+        let again = write_units(alloc, units.as_slice())?;
+        let begins = units.first().map(|unit| unit.as_slice()) == Some(*first);
+        assert!(rt; begins && units.len() == *many && again.as_slice() == text.as_bytes());
+    }
+    Ok(())
+}
+
+/// Each text is refused.
+fn no_units(rt: &impl Abort, alloc: Global, texts: &[(&str, UnitsError)]) {
+    for (text, want) in texts {
+        assert!(rt; read_units(alloc, text.as_bytes()).err() == Some(*want));
+    }
+}
+
+#[test]
+fn texts_of_units(rt: HostRuntime) -> Result<(), Fail> {
+    all_units(&rt, rt.alloc(), &UNITS)?;
+    no_units(&rt, rt.alloc(), &NO_UNITS);
+    let line = b"sprop-parameter-sets=Z0IACpZTBYmI,aMljiA==;max-fs=1";
+    let format = H264Parameters::read(rt.alloc(), line)?;
+    let sets = format.units(rt.alloc(), H264Parameter::SpropParameterSets)?;
+    let none = format.units(rt.alloc(), H264Parameter::MaxFs)?;
+    assert!(rt; sets.map(|units| units.len()) == Some(2) && none.is_none());
+    Ok(())
+}
+
+/// Each line is its payload type, and is written as it should be.
+fn all_rtp_maps(
+    rt: &impl Abort,
+    alloc: Global,
+    lines: &[(&str, &str, u8, Encoding)],
+) -> Result<(), Fail> {
+    for (line, want, payload_type, encoding) in lines {
+        let (payload_type, encoding) = (*payload_type, *encoding);
+        let map = RtpMap {
+            payload_type,
+            encoding,
+        };
+        let text = map.write(alloc)?;
+        let read = RtpMap::read(line.as_bytes());
+        assert!(rt; read == Ok(map) && text.as_slice() == want.as_bytes());
+    }
+    Ok(())
+}
+
+/// Each line is refused.
+fn no_rtp_maps(rt: &impl Abort, lines: &[(&str, RtpMapError)]) {
+    for (line, want) in lines {
+        assert!(rt; RtpMap::read(line.as_bytes()) == Err(*want));
+    }
+}
+
+#[test]
+fn payload_types(rt: HostRuntime) -> Result<(), Fail> {
+    all_rtp_maps(&rt, rt.alloc(), &RTP_MAPS)?;
+    no_rtp_maps(&rt, &NO_RTP_MAPS);
     Ok(())
 }

@@ -1,0 +1,142 @@
+//! The format parameters of a codec, by the table of them that its RFC registers.
+
+ghost use Rattle.std.specs.Prelude.{◌≡◌, ℕ, List, Ok, Some, None, IfOk, MatchResult, MatchOption, map};
+ghost use Rattle.h26x_sdp.specs.Tables.{ParameterRow};
+ghost use Rattle.h26x_sdp.specs.TableViews.{row_view};
+ghost use Rattle.h26x_sdp.specs.Reading.{read_of, all_of, value_at, number_at, value_or_default, number_or_default};
+ghost use Rattle.h26x_sdp.specs.ParametersViews.{Fails, other_view};
+ghost use Rattle.h26x_sdp.specs.Written.{written};
+ghost use Rattle.h26x_sdp.specs.Units.{units_at};
+ghost use Rattle.h26x_sdp.specs.UnitsViews.{SaysUnits};
+
+use crate::error::{ParametersError, UnitsError};
+use crate::parameters;
+use crate::parameters::{FormatParameters, OtherParameter};
+use crate::table::ParameterRow;
+use crate::units::read_units;
+use std::alloc::{AllocError, Global};
+use std::marker::{Model, PhantomData};
+
+/// A format parameter that the RFC of a codec's payload registers.
+pub trait CodecParameter: Copy {
+    ghost rows: { List ParameterRow };
+
+    ghost place: { Self → ℕ };
+
+    /// All of them, in the order in which they are written.
+    fn rows() -> &'static [ParameterRow]
+        ensures { map row_view result.now ≡ rows };
+
+    /// The parameter's place among them, from 0.
+    fn place(self) -> usize
+        ensures { result ≡ place self };
+}
+
+/// The format parameters of a codec: what an `a=fmtp` line says behind the payload type.
+#[derive(Debug, Drop)]
+pub struct CodecParameters<P: CodecParameter> {
+    parameters: FormatParameters,
+    of: PhantomData<P>,
+}
+
+impl<P: CodecParameter> Model for CodecParameters<P> {
+    ghost use Rattle.std.specs.Prelude.{◌≡◌, length, vec_len};
+    ghost use Rattle.h26x_sdp.specs.Reading as spec;
+    ghost use Rattle.h26x_sdp.specs.ParametersViews as values;
+
+    ghost Value = { spec.FormatParameters };
+
+    ghost view = { λ it. values.view it.parameters };
+
+    ghost invariant = { λ it. length P.rows ≡ vec_len it.parameters.values };
+}
+
+impl<P: CodecParameter> CodecParameters<P> {
+    /// Reads the value of an `a=fmtp` line.
+    ///
+    /// Names are read without regard to case, white space round `;` and `=` and blank parts are left
+    /// out, and parameters that the RFC doesn't have are kept, in their order. What is refused first
+    /// is told, with its place: a value that is none of its parameter, or a parameter that is given
+    /// twice.
+    pub fn read(alloc: Global, text: &[u8]) -> Result<Self, ParametersError>
+        ensures { MatchResult result
+            (λ it. read_of P.rows text.now ≡ Ok it)
+            (λ error. Fails error (read_of P.rows text.now)) }
+    {
+        let parameters = parameters::read(alloc, P::rows(), text)?;
+        Ok(CodecParameters {
+            parameters,
+            of: PhantomData,
+        })
+    }
+
+    /// Writes the value of an `a=fmtp` line: the parameters in the RFC's order, and the others behind
+    /// them. It is read as the same parameters.
+    pub fn write(&self, alloc: Global) -> Result<Vec<u8>, AllocError>
+        ensures { IfOk result (λ text. text.items ≡ written (all_of P.rows self.now)) }
+    {
+        parameters::write(alloc, P::rows(), &self.parameters)
+    }
+
+    /// The value of a parameter, as it came; `None` where it's absent.
+    pub fn value(&self, parameter: P) -> Option<&[u8]>
+        ensures { MatchOption result
+            (value_at self.now.values (P.place parameter) ≡ None)
+            (λ value. value_at self.now.values (P.place parameter) ≡ Some value.now) }
+    {
+        let value = self.parameters.values.get(parameter.place())?.as_ref()?;
+        Some(value.as_slice())
+    }
+
+    /// The number of a parameter; `None` where it's absent, and for those that are no numbers.
+    pub fn number(&self, parameter: P) -> Option<u64>
+        ensures { result ≡ number_at P.rows self.now (P.place parameter) }
+    {
+        let row = P::rows().get(parameter.place())?;
+        row.kind.number_of(self.value(parameter)?)
+    }
+
+    /// The value of a parameter, or where it's absent the one that the RFC gives for it; `None` where
+    /// it gives none, as where the level says it or another parameter does.
+    pub fn value_or_default(&self, parameter: P) -> Option<&[u8]>
+        ensures { MatchOption result
+            (value_or_default P.rows self.now (P.place parameter) ≡ None)
+            (λ value. value_or_default P.rows self.now (P.place parameter) ≡ Some value.now) }
+    {
+        match self.value(parameter) {
+            Some(value) => Some(value),
+            None => P::rows().get(parameter.place())?.default,
+        }
+    }
+
+    /// The number of a parameter, or where it's absent the one that the RFC gives for it; `None` where
+    /// it gives none, and for those that are no numbers.
+    pub fn number_or_default(&self, parameter: P) -> Option<u64>
+        ensures { result ≡ number_or_default P.rows self.now (P.place parameter) }
+    {
+        let row = P::rows().get(parameter.place())?;
+        row.kind.number_of(self.value_or_default(parameter)?)
+    }
+
+    /// The NAL units of a parameter, out of base64; `None` where it's absent, and for those that aren't
+    /// units. What is refused first is told, with its place among the units.
+    pub fn units(&self, alloc: Global, parameter: P) -> Result<Option<Vec<Vec<u8>>>, UnitsError>
+        ensures { SaysUnits result (units_at P.rows self.now (P.place parameter)) }
+    {
+        let (Some(row), Some(value)) = (P::rows().get(parameter.place()), self.value(parameter))
+        else {
+            return Ok(None);
+        };
+        if !row.kind.is_units() {
+            return Ok(None);
+        }
+        Ok(Some(read_units(alloc, value)?))
+    }
+
+    /// The parameters that the RFC doesn't have, in their order.
+    pub fn others(&self) -> &[OtherParameter]
+        ensures { map other_view result.now ≡ self.now.others }
+    {
+        self.parameters.others.as_slice()
+    }
+}
