@@ -159,9 +159,10 @@ impl Connection {
             return Ok(ControlFlow::Continue(()));
         };
         self.next = self.next.wrapping_add(bytes.len() as u32);
-        let to = self.ends.1;
+        let (from, to) = self.ends;
         self.stream.add(bytes, &mut |packet| {
             out(&Datagram {
+                from,
                 to,
                 part: Part::Whole,
                 bytes: packet,

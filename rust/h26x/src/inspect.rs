@@ -62,15 +62,19 @@ fn inspect_stream(
     };
     let printed = |error: io::Error| Failure::printing(&error);
     let beside = streams.named_beside(&known.stream);
-    inspector
-        .report
-        .front(&known.stream, &beside)
-        .map_err(printed)?;
+    let front = inspector.report.front(&known.stream, &beside);
+    front.map_err(printed)?;
+    if let Some(told) = known.two_senders() {
+        inspector
+            .report
+            .happened(Happened::TwoSenders(told))
+            .map_err(printed)?;
+    }
     let mut window = Window::new(looking.window);
     let takers = streams.takers();
     let passed = each_packet(capture, what(asked), |met| {
         match met {
-            Met::Packet(stream, packet) => {
+            Met::Packet(stream, _, packet) => {
                 let takes = takers.get(stream).is_some_and(|it| it.contains(&place));
                 if takes {
                     window.take(packet, &mut |event: Event<'_>| {

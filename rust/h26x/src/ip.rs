@@ -14,8 +14,9 @@ const FRAGMENT: u8 = 44;
 const AUTHENTICATION: u8 = 51;
 const DESTINATION: u8 = 60;
 
-/// A datagram that may hold RTP, by where it goes.
+/// A datagram that may hold RTP, by where it comes from and where it goes.
 pub struct Datagram<'a> {
+    pub from: (IpAddr, u16),
     pub to: (IpAddr, u16),
     pub part: Part,
     pub bytes: &'a [u8],
@@ -146,14 +147,16 @@ fn fragment(header: &[u8]) -> Option<Option<Fragment>> {
 /// The datagram of UDP that an IP packet holds.
 pub fn udp<'a>(payload: &Payload<'a>) -> Option<Datagram<'a>> {
     let bytes = payload.bytes;
-    let (port, len) = (half(bytes, 2)?, usize::from(half(bytes, 4)?));
+    let (from, to) = (half(bytes, 0)?, half(bytes, 2)?);
+    let len = usize::from(half(bytes, 4)?);
     let len = if len == 0 { bytes.len() } else { len };
     let part = match len > bytes.len() {
         false => Part::Whole,
         true => Part::Cut,
     };
     Some(Datagram {
-        to: (payload.to, port),
+        from: (payload.from, from),
+        to: (payload.to, to),
         part,
         bytes: bytes.get(8..len.min(bytes.len()))?,
     })

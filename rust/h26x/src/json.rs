@@ -97,6 +97,7 @@ pub fn happened(to: &mut impl Write, what: Happened) -> io::Result<()> {
         Happened::Twice(sequence) => json!({"is": "twice", "sequence": sequence}),
         Happened::Stray(sequence) => json!({"is": "stray", "sequence": sequence}),
         Happened::Anew => json!({"is": "anew"}),
+        Happened::TwoSenders(told) => json!({"is": "two senders", "told": told}),
     };
     print(to, &object)
 }

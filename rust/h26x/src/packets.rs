@@ -55,7 +55,8 @@ pub struct Captured<'a> {
 
 /// What is met in a capture.
 pub enum Met<'a> {
-    Packet(&'a Stream, &'a Captured<'a>),
+    /// A packet with its stream and where it comes from.
+    Packet(&'a Stream, (IpAddr, u16), &'a Captured<'a>),
     /// The capture comes through a pipe, and what is next has to be waited for.
     Pause,
 }
@@ -111,7 +112,8 @@ fn each_of_datagram(
             Some(_) => Part::Whole,
             None => datagram.part,
         };
-        if take(Met::Packet(&stream, &Captured { time, part, rtp }))?.is_break() {
+        let packet = Captured { time, part, rtp };
+        if take(Met::Packet(&stream, datagram.from, &packet))?.is_break() {
             return Ok(ControlFlow::Break(()));
         }
     }

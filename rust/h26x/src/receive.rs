@@ -20,7 +20,7 @@ pub fn receive(asked: &Receive) -> Result<u8, Failure> {
     let takers = streams.takers();
     let passed = each_packet(&mut capture, Some("receiving"), |met| {
         match met {
-            Met::Packet(stream, packet) => {
+            Met::Packet(stream, _, packet) => {
                 for at in takers.get(stream).into_iter().flatten() {
                     recordings[*at].take(packet)?;
                 }
@@ -40,6 +40,7 @@ fn begin(asked: &Receive, streams: &Streams) -> Result<Vec<Recording>, Failure> 
         check_codec(&asked.looking, codec, known)?;
         let recording = Recording::new(asked, codec, known)?;
         say(&format!("receiving {}", recording.named()));
+        known.two_senders().iter().for_each(|it| say(it));
         recordings.push(recording);
     }
     let others = streams.named_others();

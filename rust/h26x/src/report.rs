@@ -25,7 +25,6 @@ pub enum Form {
 }
 
 /// What happens between two packets.
-#[derive(Clone, Copy)]
 pub enum Happened {
     /// A packet came twice.
     Twice(u16),
@@ -33,6 +32,8 @@ pub enum Happened {
     Stray(u16),
     /// The sender begins anew.
     Anew,
+    /// Two senders have one SSRC, as this says.
+    TwoSenders(String),
 }
 
 pub struct Report {
@@ -133,6 +134,7 @@ impl Report {
                 Happened::Twice(sequence) => format!("{sequence} came twice"),
                 Happened::Stray(sequence) => format!("{sequence} is far from all others"),
                 Happened::Anew => "the sender begins anew with another number".into(),
+                Happened::TwoSenders(told) => told,
             }),
         }
     }

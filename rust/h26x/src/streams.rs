@@ -9,6 +9,7 @@ use crate::seen::PassedOver;
 use emupedestal::Codec;
 use std::cmp::Reverse;
 use std::collections::HashMap;
+use std::net::IpAddr;
 use std::ops::ControlFlow;
 use std::path::Path;
 
@@ -20,6 +21,8 @@ pub const MOST_TOGETHER: usize = 64;
 const NAMED: usize = 8;
 /// A sequence number that is further ahead follows none (RFC 3550, A.1).
 const MAX_DROPOUT: u16 = 3000;
+/// So many turns of two senders are no change of an address.
+const FEW_TURNS: u64 = 8;
 /// Of a pipe a stream is chosen once so many of its packets follow one another.
 const ENOUGH: u64 = 64;
 
@@ -87,11 +90,27 @@ pub struct Known {
     /// How many of its packets come behind one of the same source and another payload type, and how
     /// many of these have the next number.
     switches: (u64, u64),
+    /// Where its last packet came from, where those before that, and how many came from another place
+    /// than the one before.
+    from: (IpAddr, u16),
+    from_before: (IpAddr, u16),
+    turns: u64,
     /// The place of its first packet among those of all streams.
     place: u64,
 }
 
 impl Known {
+    /// What is to be said where two senders have its SSRC (RFC 3550, 8.2).
+    pub fn two_senders(&self) -> Option<String> {
+        let ((one, one_port), (other, other_port)) = (self.from_before, self.from);
+        (self.turns >= FEW_TURNS && self.turns * 8 >= self.packets).then(|| {
+            format!(
+                "its packets come from {one} port {one_port} and {other} port {other_port} by turns: \
+                 two senders have one SSRC, and what they send can't be told apart (RFC 3550, 8.2)"
+            )
+        })
+    }
+
     /// Whether its packets are numbered with those of another stream, and it is that one or holds
     /// something else. Packets of the same codec under another payload type may be of its units, and
     /// are missing there.
@@ -166,7 +185,7 @@ struct MetStreams {
 
 impl MetStreams {
     /// Adds a packet; answers what is known of its stream then.
-    fn add(&mut self, stream: &Stream, packet: &Rtp<'_>) -> Option<&Known> {
+    fn add(&mut self, stream: &Stream, from: (IpAddr, u16), packet: &Rtp<'_>) -> Option<&Known> {
         self.packets += 1;
         if self.known.len() >= MOST && !self.known.contains_key(stream) && !self.make_room() {
             return None;
@@ -179,8 +198,15 @@ impl MetStreams {
             following: 0,
             sequence: packet.sequence.wrapping_sub(1),
             switches: (0, 0),
+            from,
+            from_before: from,
+            turns: 0,
             place: self.packets,
         });
+        if it.from != from {
+            (it.from_before, it.from) = (it.from, from);
+            it.turns += 1;
+        }
         let ahead = packet.sequence.wrapping_sub(it.sequence);
         it.following += u64::from(matches!(ahead, 1..=MAX_DROPOUT));
         it.sequence = packet.sequence;
@@ -228,10 +254,10 @@ pub fn choose(capture: &mut Capture, choice: &Choice) -> Result<Streams, Failure
     let mut met = MetStreams::default();
     let is_soon = capture.is_pipe() && !choice.is_all;
     let passed = each_packet(capture, Some("looking for streams"), |it| {
-        let Met::Packet(stream, packet) = it else {
+        let Met::Packet(stream, from, packet) = it else {
             return Ok(ControlFlow::Continue(()));
         };
-        let known = met.add(stream, &packet.rtp);
+        let known = met.add(stream, from, &packet.rtp);
         let is_clear = |it: &Known| it.following >= ENOUGH && choice.suits(it);
         Ok(match known.is_some_and(|it| is_soon && is_clear(it)) {
             true => ControlFlow::Break(()),

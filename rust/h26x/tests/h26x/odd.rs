@@ -166,6 +166,30 @@ fn to_two_places() {
     sent.comes_back(&all, &["passing over SSRC", "to 192.0.2.77"]);
 }
 
+/// Two senders with one SSRC, each with numbers of its own: what can't be told apart is told.
+#[test]
+fn of_two_senders() {
+    let sent = Sent::new();
+    let both = |(i, packet): (usize, &Vec<u8>)| {
+        let mut other = frame(&numbered(packet.clone(), i + 20_000));
+        other[14 + 15] = 9;
+        [frame(packet), other]
+    };
+    let all: Vec<Vec<u8>> = sent.packets.iter().enumerate().flat_map(both).collect();
+    let told = "its packets come from 192.0.2.1 port 12345 and 192.0.2.9 port 12345 by turns: two \
+        senders have one SSRC";
+    sent.comes_in_part(&all, 3, &[told]);
+    sent.folder
+        .run(&["inspect", "odd.pcap", "--json"])
+        .says(3, &["\"is\":\"two senders\"", told]);
+    // One whose address changes on the way is one sender.
+    let mut moved = frames(&sent.packets);
+    let half = moved.len() / 2;
+    moved[half..].iter_mut().for_each(|it| it[14 + 15] = 9);
+    let (ran, _) = sent.receive(&moved, 0, &[]);
+    assert!(!ran.err.contains("by turns"), "{ran:#?}");
+}
+
 /// The stream goes on under another payload type, or SSRC: the longer part is taken, and the other told.
 #[test]
 fn that_change_midway() {
