@@ -139,7 +139,7 @@ pub static GROUPS: [Group; 5] = [
                 "CODEC",
                 &["h264", "h265", "h266"],
                 "h264, h265 or h266 (what the file's ending tells: .h264 .264, .h265 .265 .hevc, \
-                 .h266 .266 .vvc; or else what the stream's packets look like)",
+                 .h266 .266 .vvc; receive and inspect look at the packets where it tells nothing)",
             ),
             flag(
                 "--donl",

@@ -3,6 +3,7 @@
 use crate::capture::Capture;
 use crate::codecs::Likeness;
 use crate::errors::Failure;
+use crate::input::FRONT;
 use crate::packets::{Met, Source, Stream, each_packet};
 use crate::rtp::Rtp;
 use crate::seen::PassedOver;
@@ -11,7 +12,6 @@ use std::cmp::Reverse;
 use std::collections::HashMap;
 use std::net::IpAddr;
 use std::ops::ControlFlow;
-use std::path::Path;
 
 /// How many streams are kept in mind; where there are more, those of one packet are forgotten.
 const MOST: usize = 4096;
@@ -267,14 +267,14 @@ pub fn choose(capture: &mut Capture, choice: &Choice) -> Result<Streams, Failure
     let known = met.in_order();
     let chosen = choice.chosen(&known);
     if chosen.is_empty() {
-        return Err(none(capture.path(), choice, &known, &passed));
+        return Err(none(capture, choice, &known, &passed));
     }
     capture.rewind()?;
     Ok(Streams { known, chosen })
 }
 
 /// Says that there is no stream, and what there is.
-fn none(path: &Path, choice: &Choice, known: &[Known], passed: &PassedOver) -> Failure {
+fn none(capture: &Capture, choice: &Choice, known: &[Known], passed: &PassedOver) -> Failure {
     let is_there = |it: &&Known| it.following > 1;
     let said = if !choice.is_any() && !known.is_empty() {
         format!(
@@ -289,7 +289,14 @@ fn none(path: &Path, choice: &Choice, known: &[Known], passed: &PassedOver) -> F
     } else {
         format!("there is no RTP stream in it{}", passed.why_none())
     };
-    Failure::of(path, said)
+    let and = match capture.is_front_full() {
+        true => format!(
+            "\nOf this pipe the first {} MiB were looked at; save the capture in a file first",
+            FRONT >> 20
+        ),
+        false => String::new(),
+    };
+    Failure::of(capture.path(), said + &and)
 }
 
 /// Streams in words; nothing of none.

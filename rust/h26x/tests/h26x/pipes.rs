@@ -141,7 +141,8 @@ fn long_records_of_a_pipe() {
         if status == 0 {
             assert_eq!(folder.read("out.h264"), THREE_UNITS);
         } else {
-            ran.says(1, &["-: there is no RTP stream in it"]);
+            let why = "the first 8 MiB were looked at; save the capture in a file first";
+            ran.says(1, &["-: there is no RTP stream in it", why]);
         }
         folder
             .run(&["receive", "in.pcap", "file.h264"])

@@ -1,7 +1,7 @@
 //! Packets of RTP between the messages of RTSP, in connections of TCP (RFC 2326, 10.12).
 
 use crate::build::{Rtp, ethernet, ipv4, pcap};
-use crate::program::Folder;
+use crate::program::{Folder, cut};
 
 fn slice(number: u16) -> Rtp {
     let payload = [&[0x41, 0x9a, 1][..], &[number as u8 | 1; 60]].concat();
@@ -91,26 +91,30 @@ fn in_any_order() {
     receives(&frames, 0..50, 0);
 }
 
-/// A segment that isn't in the capture: what is whole before and behind it is taken.
+/// A segment that isn't in the capture: what is whole before and behind it is taken, and nothing that is
+/// put together of both.
 #[test]
 fn with_a_segment_missing() {
     let bytes = served(0..100);
-    let mut frames = segments(7, &bytes, 300);
-    frames.remove(10);
-    let folder = Folder::new();
-    folder.write("in.pcap", &pcap(&frames));
-    let ran = folder.run(&["receive", "in.pcap", "out.h264"]);
-    ran.says(3, &["lost: "]);
-    let back = folder.read("out.h264");
     let all = units(0..100);
-    // A unit has 4 + 63 bytes; 300 bytes have parts of five packets at most, and one more is needed to
-    // know where packets begin.
-    assert!(
-        back.len() >= all.len() - 7 * 67 && back.len() < all.len(),
-        "{}",
-        back.len()
-    );
-    assert_eq!(back[back.len() - 67..], all[all.len() - 67..]);
+    let known = cut(&all);
+    for missing in 4..20 {
+        let mut frames = segments(7, &bytes, 300);
+        frames.remove(missing);
+        let folder = Folder::new();
+        folder.write("in.pcap", &pcap(&frames));
+        let ran = folder.run(&["receive", "in.pcap", "out.h264"]);
+        ran.says(3, &["lost: "]);
+        let back = cut(&folder.read("out.h264"));
+        // 300 bytes have parts of five packets at most, and one more is needed to know where packets
+        // begin.
+        assert!(
+            (known.len() - 7..known.len()).contains(&back.len()),
+            "{ran:#?}"
+        );
+        assert!(back.iter().all(|unit| known.contains(unit)), "{ran:#?}");
+        assert_eq!(back.last(), known.last());
+    }
 }
 
 /// A connection that begins anew on the same ports, and one of which the capture has no front.
@@ -140,6 +144,11 @@ fn bytes_that_make_no_sense() {
     bytes.extend([0xff; 100]);
     bytes.extend([b'$', 0, 0xff, 0xff, 0x80]);
     bytes.extend(served(20..40));
+    receives(&segments(7, &bytes, 500), 0..40, 0);
+    // What looks as the front of a packet, behind which none follows.
+    let mut bytes = served(0..20);
+    bytes.extend([0xff, 0xff, b'$', 0, 0, 40, 0x80]);
+    bytes.extend((20..40).flat_map(|it| interleaved(0, &slice(it).bytes())));
     receives(&segments(7, &bytes, 500), 0..40, 0);
     let endless = [&b"RTSP/1.0 200 OK\r\n"[..], &[b'a'; 200_000]].concat();
     let bytes = [&served(0..20)[..], &endless, &served(20..40)].concat();
