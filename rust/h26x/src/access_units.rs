@@ -1,7 +1,9 @@
 //! The access units of a stream that is to be sent: in Annex B form, or behind lengths.
 
 use crate::arguments::Send;
+use crate::containers::{self, FRONT, TAKE_OUT};
 use crate::errors::Failure;
+use crate::input;
 use emupedestal::ANNEXB_NALUSTART_CODE;
 use emupedestal::access_units::{AccessUnitReader, FromLengths};
 use std::fs::File;
@@ -9,14 +11,12 @@ use std::io::{self, Cursor, ErrorKind, Read};
 
 /// So many access units that can be told by lengths are no chance.
 const TELLING: usize = 4;
-const FROM_MP4: &str = "ffmpeg -i IN -c copy -bsf:v h264_mp4toannexb OUT.h264, or \
-    hevc_mp4toannexb, vvc_mp4toannexb";
 
 pub struct AccessUnits<'a> {
     asked: &'a Send,
-    /// How many bytes the file has; 0 of a pipe.
-    pub len: u64,
-    /// The first four bytes, where there are so many.
+    /// How many bytes the file has; nothing of a pipe.
+    pub len: Option<u64>,
+    /// The first bytes.
     front: Vec<u8>,
     reader: AccessUnitReader<Box<dyn Read>>,
 }
@@ -24,13 +24,17 @@ pub struct AccessUnits<'a> {
 impl<'a> AccessUnits<'a> {
     pub fn open(asked: &'a Send) -> Result<Self, Failure> {
         let failed = |error: io::Error| Failure::reading(&asked.input, &error);
-        let file = File::open(&asked.input).map_err(failed)?;
+        let file = input::open(&asked.input).map_err(failed)?;
         let about = file.metadata().map_err(failed)?;
         if about.is_dir() {
             return Err(failed(ErrorKind::IsADirectory.into()));
         }
         let mut front = Vec::new();
-        (&file).take(4).read_to_end(&mut front).map_err(failed)?;
+        let first = (&file).take(FRONT as u64).read_to_end(&mut front);
+        first.map_err(failed)?;
+        if let Some(failure) = containers::failure(&asked.input, &front, asked.has_lengths) {
+            return Err(failure);
+        }
         if !asked.has_lengths && about.is_file() && is_behind_lengths(asked, &front) {
             let what = "this is no stream in Annex B form: from byte 0 on its units stand behind \
                 lengths of four bytes; say --lengths";
@@ -43,7 +47,7 @@ impl<'a> AccessUnits<'a> {
         };
         Ok(AccessUnits {
             asked,
-            len: about.len(),
+            len: about.is_file().then_some(about.len()),
             front,
             reader: AccessUnitReader::new(asked.codec, from),
         })
@@ -64,7 +68,7 @@ impl<'a> AccessUnits<'a> {
 /// Whether the first access units of a file, which doesn't begin as Annex B has it, can be told by
 /// lengths.
 fn is_behind_lengths(asked: &Send, front: &[u8]) -> bool {
-    if front.len() < 4 || front == ANNEXB_NALUSTART_CODE {
+    if front.len() < 4 || front.starts_with(&ANNEXB_NALUSTART_CODE) {
         return false;
     }
     let Ok(file) = File::open(&asked.input) else {
@@ -82,7 +86,7 @@ fn failure(asked: &Send, front: &[u8], error: &io::Error) -> Failure {
         }
         ErrorKind::InvalidData => format!(
             "this is no stream in Annex B form: {error}. Take the stream out of an MP4 or Matroska \
-             file first ({FROM_MP4}), or say --lengths where its units stand behind lengths of \
+             file first ({TAKE_OUT}), or say --lengths where its units stand behind lengths of \
              four bytes"
         ),
         _ => return Failure::reading(&asked.input, error),
@@ -93,7 +97,7 @@ fn failure(asked: &Send, front: &[u8], error: &io::Error) -> Failure {
 /// What is wrong with a stream of units behind lengths that begins so, and what to do.
 fn wrong_lengths(front: &[u8], error: &io::Error) -> String {
     match front {
-        [0, 0, 1, ..] | [0, 0, 0, 1] => format!(
+        [0, 0, 1, ..] | [0, 0, 0, 1, ..] => format!(
             "{error}; the file begins with a start code, at byte 0. If it is a stream in Annex B \
              form, leave --lengths out; if not, copy it again"
         ),
@@ -102,7 +106,7 @@ fn wrong_lengths(front: &[u8], error: &io::Error) -> String {
         }
         _ => format!(
             "{error}. Copy the file again where it is damaged; where it is an MP4 or Matroska file, \
-             take the stream out of it first ({FROM_MP4}), and leave --lengths out"
+             take the stream out of it first ({TAKE_OUT}), and leave --lengths out"
         ),
     }
 }

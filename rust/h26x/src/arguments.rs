@@ -1,14 +1,21 @@
 //! What the command line asks for.
 
+use crate::codecs::of_path;
+use crate::colors::Color;
+use crate::completion::Shell;
+use crate::containers::check_container;
 use crate::errors::Failure;
 use crate::frames::LONGEST_PAYLOAD;
+use crate::options::COMMANDS;
+use crate::report::Form;
 use crate::rtp::RTCP;
+use crate::seed::Drawn;
 use crate::streams::Choice;
 use crate::window::LONGEST;
-use crate::words::Words;
+use crate::words::{STANDARD, Words};
 use emupedestal::Codec;
 use std::ffi::OsString;
-use std::path::PathBuf;
+use std::path::{Path, PathBuf};
 
 pub enum Command {
     Send(Send),
@@ -16,6 +23,8 @@ pub enum Command {
     Inspect(Inspect),
     Help,
     Version,
+    Manual,
+    Completion(Shell),
 }
 
 pub struct Send {
@@ -33,7 +42,7 @@ pub struct Send {
     pub frames: (u32, u32),
 }
 
-/// How a stream in a capture is looked at.
+/// How streams in a capture are looked at.
 pub struct Looking {
     pub input: PathBuf,
     pub choice: Choice,
@@ -46,46 +55,54 @@ pub struct Looking {
 
 pub struct Receive {
     pub looking: Looking,
-    pub codec: Codec,
+    /// A file, or where all streams are received the folder of their files.
     pub output: PathBuf,
     pub has_lengths: bool,
 }
 
 pub struct Inspect {
     pub looking: Looking,
-    /// Nothing where it is to be found.
-    pub codec: Option<Codec>,
-    pub is_short: bool,
+    pub form: Form,
+    pub color: Color,
 }
 
 pub fn command(words: Vec<OsString>) -> Result<Command, Failure> {
     let mut words = words.into_iter();
     let first = words.next().unwrap_or_default();
-    let mut rest = Words::of(words)?;
-    if first == "--version" || first == "-V" || rest.flag("--version") {
+    let command = match first.to_str() {
+        Some("--version" | "-V") => return Ok(Command::Version),
+        Some("--help" | "-h" | "help") => return Ok(Command::Help),
+        Some("man") => return Ok(Command::Manual),
+        Some("completion") => return completion(words.next()),
+        Some("") => return Err(Failure::usage("say what to do: send, receive or inspect")),
+        other => other.and_then(|it| COMMANDS.iter().find(|command| **command == it)),
+    };
+    let Some(command) = command else {
+        let what = format!(
+            "there is no command {}: send, receive or inspect",
+            first.to_string_lossy()
+        );
+        return Err(Failure::usage(what));
+    };
+    let mut rest = Words::of(command, words)?;
+    if rest.flag("--version") {
         return Ok(Command::Version);
     }
-    if first == "--help" || first == "-h" || first == "help" || rest.flag("--help") {
+    if rest.flag("--help") {
         return Ok(Command::Help);
     }
-    let command = match first.to_str() {
-        Some("send") => Command::Send(rest.send()?),
-        Some("receive") => Command::Receive(rest.receive()?),
-        Some("inspect") => Command::Inspect(rest.inspect()?),
-        Some("") => return Err(Failure::usage("say what to do: send, receive or inspect")),
-        _ => {
-            let what = format!(
-                "there is no command {}: send, receive or inspect",
-                first.to_string_lossy()
-            );
-            return Err(Failure::usage(what));
-        }
-    };
-    match rest.options.first() {
-        Some((option, _)) => Err(Failure::usage(format!(
-            "{option} is no option of this command"
-        ))),
-        None => Ok(command),
+    match *command {
+        "send" => rest.send().map(Command::Send),
+        "receive" => rest.receive().map(Command::Receive),
+        _ => rest.inspect().map(Command::Inspect),
+    }
+}
+
+fn completion(shell: Option<OsString>) -> Result<Command, Failure> {
+    let shell = shell.and_then(|it| it.into_string().ok());
+    match shell.as_deref().and_then(Shell::named) {
+        Some(shell) => Ok(Command::Completion(shell)),
+        None => Err(Failure::usage("say which shell: bash, zsh or fish")),
     }
 }
 
@@ -93,6 +110,14 @@ impl Words {
     fn send(&mut self) -> Result<Send, Failure> {
         let [input, output] = self.files("send IN.h264 OUT.pcap")?;
         let codec = self.codec_of(&input)?;
+        let has_lengths = self.flag("--lengths");
+        let Some(codec) = codec else {
+            check_container(&input, has_lengths)?;
+            return Err(Failure::usage(format!(
+                "{}: its ending tells no codec; say it by --codec h264, h265 or h266",
+                input.display()
+            )));
+        };
         let has_donl = self.donl(Some(codec))?;
         // A fragment has a header of two or three bytes, a number in the first, and a byte of data.
         let least = match codec {
@@ -100,6 +125,7 @@ impl Words {
             _ if has_donl => 6,
             _ => 4,
         };
+        let drawn = Drawn::of(self.number("--seed", 0, u64::MAX)?);
         Ok(Send {
             codec,
             has_donl,
@@ -107,16 +133,25 @@ impl Words {
                 .number("--mtu", least, LONGEST_PAYLOAD as u64)?
                 .unwrap_or(1200) as u16,
             payload_type: self.payload_type()?.unwrap_or(96),
-            port: self.number("--port", 1, 65535)?.unwrap_or(5004) as u16,
-            ssrc: self
-                .number("--ssrc", 0, u32::MAX.into())?
-                .unwrap_or(0x6832_3658) as u32,
-            sequence: self.number("--sequence", 0, 65535)?.unwrap_or(0) as u16,
+            port: self.port()?.unwrap_or(5004),
+            ssrc: self.ssrc()?.unwrap_or(drawn.ssrc),
+            sequence: self
+                .number("--sequence", 0, 65535)?
+                .map_or(drawn.sequence, |it| it as u16),
             frames: self.frames()?,
-            has_lengths: self.flag("--lengths"),
+            has_lengths,
             input,
             output,
         })
+    }
+
+    fn port(&mut self) -> Result<Option<u16>, Failure> {
+        Ok(self.number("--port", 1, 65535)?.map(|it| it as u16))
+    }
+
+    fn ssrc(&mut self) -> Result<Option<u32>, Failure> {
+        let number = self.number("--ssrc", 0, u32::MAX.into())?;
+        Ok(number.map(|it| it as u32))
     }
 
     fn frames(&mut self) -> Result<(u32, u32), Failure> {
@@ -153,19 +188,26 @@ impl Words {
         Ok(has_donl)
     }
 
-    fn looking(&mut self, input: PathBuf, codec: Option<Codec>) -> Result<Looking, Failure> {
+    /// How streams of a codec are looked at, which is given, or told by the ending of a file.
+    fn looking(
+        &mut self,
+        input: PathBuf,
+        codec: Option<Codec>,
+        ending: Option<Codec>,
+    ) -> Result<Looking, Failure> {
+        let is_all = self.flag("--all");
         let choice = Choice {
-            port: self.number("--port", 1, 65535)?.map(|it| it as u16),
+            port: self.port()?,
             payload_type: self.payload_type()?,
-            ssrc: self
-                .number("--ssrc", 0, u32::MAX.into())?
-                .map(|it| it as u32),
+            ssrc: self.ssrc()?,
+            codec: codec.or(ending),
+            is_all,
         };
         Ok(Looking {
             input,
             choice,
-            is_codec_given: false,
-            has_donl: self.donl(codec)?,
+            is_codec_given: codec.is_some(),
+            has_donl: self.donl(choice.codec)?,
             window: self.number("--window", 0, LONGEST.into())?.unwrap_or(32) as u16,
             run_limit: self.number("--run-limit", 1, 1 << 30)?.unwrap_or(16 << 20) as usize,
         })
@@ -173,15 +215,18 @@ impl Words {
 
     fn receive(&mut self) -> Result<Receive, Failure> {
         let [input, output] = self.files("receive IN.pcap OUT.h264")?;
-        let is_codec_given = self.options.iter().any(|it| it.0 == "--codec");
-        let codec = self.codec_of(&output)?;
-        let looking = self.looking(input, Some(codec))?;
+        let codec = self.codec()?;
+        let is_all = self.has("--all");
+        let ending = match is_all {
+            true => None,
+            false => of_path(&output),
+        };
+        let looking = self.looking(input, codec, ending)?;
+        if is_all {
+            check_folder(&output)?;
+        }
         Ok(Receive {
-            looking: Looking {
-                is_codec_given,
-                ..looking
-            },
-            codec,
+            looking,
             output,
             has_lengths: self.flag("--lengths"),
         })
@@ -190,14 +235,47 @@ impl Words {
     fn inspect(&mut self) -> Result<Inspect, Failure> {
         let [input] = self.files("inspect IN.pcap")?;
         let codec = self.codec()?;
-        let looking = self.looking(input, codec)?;
+        let looking = self.looking(input, codec, None)?;
         Ok(Inspect {
-            looking: Looking {
-                is_codec_given: codec.is_some(),
-                ..looking
-            },
-            codec,
-            is_short: self.flag("--summary"),
+            looking,
+            form: self.form()?,
+            color: self.color()?,
         })
+    }
+
+    fn form(&mut self) -> Result<Form, Failure> {
+        match (self.flag("--summary"), self.flag("--json")) {
+            (false, false) => Ok(Form::Lines),
+            (true, false) => Ok(Form::Summary),
+            (false, true) => Ok(Form::Json),
+            (true, true) => Err(Failure::usage(
+                "--json and --summary are two forms; give one of them",
+            )),
+        }
+    }
+
+    fn color(&mut self) -> Result<Color, Failure> {
+        match self.value("--color").as_deref() {
+            None | Some("auto") => Ok(Color::Auto),
+            Some("always") => Ok(Color::Always),
+            Some("never") => Ok(Color::Never),
+            Some(other) => Err(Failure::usage(format!(
+                "--color {other}: give auto, always or never"
+            ))),
+        }
+    }
+}
+
+/// Refuses what is no folder, where each stream is to get a file.
+fn check_folder(output: &Path) -> Result<(), Failure> {
+    match output.is_dir() {
+        true => Ok(()),
+        false if output == Path::new(STANDARD) => Err(Failure::usage(
+            "--all writes a file for each stream; name a folder",
+        )),
+        false => Err(Failure::of(
+            output,
+            "--all writes a file for each stream, and this is no folder; make it first",
+        )),
     }
 }

@@ -25,6 +25,26 @@ enum Format {
     Pcapng(Pcapng),
 }
 
+impl Format {
+    fn open(input: &mut Input) -> Result<Self, Failure> {
+        let path = input.path().to_owned();
+        let front = input.peek(4)?.to_vec();
+        match front[..] {
+            [] => {
+                let what = "the capture is empty; capture again, and let it end by itself";
+                Err(Failure::of(&path, what))
+            }
+            [0x0a, 0x0d, 0x0d, 0x0a] => Ok(Format::Pcapng(Pcapng::default())),
+            [0x1f, 0x8b, ..] => {
+                let what = "the capture is compressed; unpack it with gunzip first, as in: \
+                    gunzip -c IN.pcap.gz | h26x inspect -";
+                Err(Failure::of(&path, what))
+            }
+            _ => Ok(Format::Pcap(Pcap::open(input)?)),
+        }
+    }
+}
+
 pub struct Capture {
     input: Input,
     format: Format,
@@ -33,28 +53,45 @@ pub struct Capture {
 }
 
 impl Capture {
+    /// Opens a file or a pipe.
     pub fn open(path: &Path) -> Result<Self, Failure> {
         let mut input = Input::open(path)?;
-        if input.len() == 0 {
-            return Err(Failure::of(
-                path,
-                "the file is empty; capture again, and let it end by itself",
-            ));
-        }
-        let front = input.peek(4)?.to_vec();
-        let format = match front[..] {
-            [0x0a, 0x0d, 0x0d, 0x0a] => Format::Pcapng(Pcapng::default()),
-            [0x1f, 0x8b, ..] => {
-                let what = "this file is compressed; unpack it with gunzip first";
-                return Err(Failure::of(path, what));
-            }
-            _ => Format::Pcap(Pcap::open(&mut input)?),
-        };
         Ok(Capture {
+            format: Format::open(&mut input)?,
             input,
-            format,
             fault: None,
         })
+    }
+
+    /// Begins again with the first frame. A pipe does so once.
+    pub fn rewind(&mut self) -> Result<(), Failure> {
+        self.input.rewind()?;
+        self.format = Format::open(&mut self.input)?;
+        self.fault = None;
+        Ok(())
+    }
+
+    pub fn path(&self) -> &Path {
+        self.input.path()
+    }
+
+    /// Whether it comes through a pipe, which can't be read twice.
+    pub fn is_pipe(&self) -> bool {
+        self.input.is_pipe()
+    }
+
+    /// Whether so much of a pipe was read as is kept, so that it can begin again.
+    pub fn is_front_full(&self) -> bool {
+        self.input.is_front_full()
+    }
+
+    /// Whether nobody has to be waited for, for the next frame.
+    pub fn is_ready(&self) -> bool {
+        !self.input.is_pipe()
+            || match &self.format {
+                Format::Pcap(it) => it.is_ready(self.input.buffered()),
+                Format::Pcapng(it) => it.is_ready(self.input.buffered()),
+            }
     }
 
     /// The next frame; nothing at the end of the file, or where it is cut off or damaged.
@@ -78,7 +115,8 @@ impl Capture {
         self.input.record()
     }
 
-    pub fn len(&self) -> u64 {
+    /// How many bytes there are; nothing of a pipe.
+    pub fn len(&self) -> Option<u64> {
         self.input.len()
     }
 

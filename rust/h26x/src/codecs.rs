@@ -96,6 +96,11 @@ impl Likeness {
         }
     }
 
+    /// How many were looked at.
+    pub fn all(&self) -> u64 {
+        self.all
+    }
+
     pub fn usual(&self, codec: Codec) -> u64 {
         let at = CODECS.iter().position(|it| *it == codec);
         at.map_or(0, |at| self.usual[at])
@@ -108,6 +113,11 @@ impl Likeness {
             .rev()
             .max_by_key(|codec| self.usual(*codec))?;
         (self.usual(best) * 4 >= self.all * 3 && self.all > 0).then_some(best)
+    }
+
+    /// Whether these may be this one's: no other is likelier, and a quarter looks usual.
+    pub fn is_likely(&self, codec: Codec) -> bool {
+        self.other_than(codec).is_none() && self.usual(codec) * 4 >= self.all && self.all > 0
     }
 
     /// The codec that these are of more likely than of this one, where less than half look usual as

@@ -1,16 +1,24 @@
-//! A file that is read front to back through one buffer.
+//! A file, or a pipe whose front can be read again, through one buffer.
 
 use crate::errors::Failure;
+use crate::words::STANDARD;
 use std::fs::File;
-use std::io::{ErrorKind, Read, Seek, SeekFrom};
+use std::io::{self, ErrorKind, Read, Seek, SeekFrom};
+use std::os::fd::AsFd;
 use std::path::{Path, PathBuf};
 
 /// How many bytes are asked for at a time.
 const PIECE: usize = 1 << 20;
+/// How many bytes of a pipe are kept at most, so that they can be read again.
+pub const FRONT: usize = 8 << 20;
 
 pub struct Input {
     path: PathBuf,
     file: File,
+    /// Where in a file its first byte is; nothing of a pipe.
+    base: Option<u64>,
+    /// Whether what is taken of a pipe stays in the buffer.
+    is_kept: bool,
     /// What was read and not yet taken stands at `begin..end`; the rest is room.
     buffer: Vec<u8>,
     begin: usize,
@@ -19,33 +27,33 @@ pub struct Input {
     position: u64,
     /// Where in the file the record begins that was begun last.
     record: u64,
-    len: u64,
+    len: Option<u64>,
 }
 
 impl Input {
-    /// Opens a regular file, which is what can be read twice.
+    /// Opens a file or a pipe; `-` is standard input.
     pub fn open(path: &Path) -> Result<Self, Failure> {
-        let file = File::open(path).map_err(|error| Failure::reading(path, &error))?;
-        let about = file
-            .metadata()
-            .map_err(|error| Failure::reading(path, &error))?;
+        let failed = |error: io::Error| Failure::reading(path, &error);
+        let mut file = open(path).map_err(failed)?;
+        let about = file.metadata().map_err(failed)?;
         if about.is_dir() {
             return Err(Failure::of(path, "this is a folder; name a file in it"));
         }
-        if !about.is_file() {
-            let what =
-                "this is no regular file, and a capture is read twice; save it in a file first";
-            return Err(Failure::of(path, what));
-        }
+        let base = match about.is_file() {
+            true => Some(file.stream_position().map_err(failed)?),
+            false => None,
+        };
         Ok(Input {
             path: path.into(),
             file,
+            base,
+            is_kept: base.is_none(),
             buffer: vec![0; 2 * PIECE],
             begin: 0,
             end: 0,
             position: 0,
             record: 0,
-            len: about.len(),
+            len: base.map(|base| about.len().saturating_sub(base)),
         })
     }
 
@@ -53,8 +61,38 @@ impl Input {
         &self.path
     }
 
-    pub fn len(&self) -> u64 {
+    /// How many bytes there are; nothing of a pipe, where nobody knows.
+    pub fn len(&self) -> Option<u64> {
         self.len
+    }
+
+    /// Begins again with the first byte. A pipe does so once, and keeps nothing from then on.
+    pub fn rewind(&mut self) -> Result<(), Failure> {
+        match self.base {
+            Some(base) => {
+                self.file
+                    .seek(SeekFrom::Start(base))
+                    .map_err(|error| Failure::reading(&self.path, &error))?;
+                self.end = 0;
+            }
+            None => self.is_kept = false,
+        }
+        (self.begin, self.position, self.record) = (0, 0, 0);
+        Ok(())
+    }
+
+    pub fn is_pipe(&self) -> bool {
+        self.base.is_none()
+    }
+
+    /// Whether no more of a pipe is kept.
+    pub fn is_front_full(&self) -> bool {
+        self.is_kept && self.begin >= FRONT
+    }
+
+    /// What was read and not yet taken.
+    pub fn buffered(&self) -> &[u8] {
+        &self.buffer[self.begin..self.end]
     }
 
     /// A record of the capture begins with the next byte.
@@ -80,8 +118,7 @@ impl Input {
             return Ok(None);
         }
         let begin = self.begin;
-        self.begin += count;
-        self.position += count as u64;
+        self.pass(count);
         Ok(Some(&self.buffer[begin..begin + count]))
     }
 
@@ -90,35 +127,66 @@ impl Input {
         Ok(self.take(N)?.and_then(|bytes| bytes.first_chunk().copied()))
     }
 
-    /// Passes over so many bytes; false where the file ends before.
+    fn pass(&mut self, count: usize) {
+        self.begin += count;
+        self.position += count as u64;
+    }
+
+    /// Passes over so many bytes; false where the file ends before, or no more of a pipe is kept.
     pub fn skip(&mut self, count: u64) -> Result<bool, Failure> {
         let buffered = (self.end - self.begin) as u64;
         if count <= buffered {
-            self.begin += count as usize;
-            self.position += count;
+            self.pass(count as usize);
             return Ok(true);
         }
-        let Some(to) = self
-            .position
-            .checked_add(count)
-            .filter(|to| *to <= self.len)
-        else {
+        match (self.base, self.len) {
+            (Some(base), Some(len)) => self.seek(base, len, count),
+            _ => self.read_over(count),
+        }
+    }
+
+    /// Passes over so many bytes of a file of this length.
+    fn seek(&mut self, base: u64, len: u64, count: u64) -> Result<bool, Failure> {
+        let to = self.position.checked_add(count).filter(|to| *to <= len);
+        let Some(to) = to else {
             return Ok(false);
         };
         self.file
-            .seek(SeekFrom::Start(to))
+            .seek(SeekFrom::Start(base + to))
             .map_err(|error| Failure::reading(&self.path, &error))?;
         (self.begin, self.end, self.position) = (0, 0, to);
+        Ok(true)
+    }
+
+    /// Passes over so many bytes of a pipe, piece by piece.
+    fn read_over(&mut self, mut count: u64) -> Result<bool, Failure> {
+        while count > 0 {
+            if self.is_front_full() {
+                return Ok(false);
+            }
+            let piece = self.peek(count.min(PIECE as u64) as usize)?.len();
+            if piece == 0 {
+                return Ok(false);
+            }
+            self.pass(piece);
+            count -= piece as u64;
+        }
         Ok(true)
     }
 
     /// Reads once; false at the end of the file. There is room for `count` bytes in all afterwards.
     fn fill(&mut self, count: usize) -> Result<bool, Failure> {
         if self.begin + count.max(PIECE) > self.buffer.len() {
-            self.buffer.copy_within(self.begin..self.end, 0);
-            (self.begin, self.end) = (0, self.end - self.begin);
-            if self.buffer.len() < count {
-                self.buffer.resize(count, 0);
+            if !self.is_kept {
+                self.buffer.copy_within(self.begin..self.end, 0);
+                (self.begin, self.end) = (0, self.end - self.begin);
+            }
+            let room = match self.is_kept {
+                true => self.begin + count.max(PIECE),
+                false => count,
+            };
+            if self.buffer.len() < room {
+                self.buffer.resize(room, 0);
             }
         }
         loop {
@@ -132,4 +200,12 @@ impl Input {
             }
         }
     }
+}
+
+/// Opens what is read; `-` is standard input, as it was given to the program.
+pub fn open(path: &Path) -> io::Result<File> {
+    if path == Path::new(STANDARD) {
+        return Ok(io::stdin().as_fd().try_clone_to_owned()?.into());
+    }
+    File::open(path)
 }

@@ -17,6 +17,7 @@ pub struct Kept {
     timestamp: u32,
     ssrc: u32,
     payload: Vec<u8>,
+    padding: u8,
 }
 
 impl Kept {
@@ -28,12 +29,13 @@ impl Kept {
             timestamp,
             ssrc,
             payload,
+            padding,
         } = packet.rtp;
         self.payload.clear();
         self.payload.extend_from_slice(payload);
         (self.time, self.part) = (packet.time, packet.part);
         (self.marker, self.payload_type, self.ssrc) = (marker, payload_type, ssrc);
-        (self.sequence, self.timestamp) = (sequence, timestamp);
+        (self.sequence, self.timestamp, self.padding) = (sequence, timestamp, padding);
         (self.is_here, self.is_moved) = (true, is_moved);
     }
 
@@ -45,6 +47,7 @@ impl Kept {
             timestamp: self.timestamp,
             ssrc: self.ssrc,
             payload: &self.payload,
+            padding: self.padding,
         };
         Captured {
             time: self.time,

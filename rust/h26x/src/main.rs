@@ -5,19 +5,31 @@ mod access_units;
 mod arguments;
 mod capture;
 mod codecs;
+mod colors;
+mod completion;
+mod connections;
+mod containers;
 mod errors;
+mod fragments;
 mod frames;
 mod help;
 mod input;
 mod inspect;
 mod interface;
+mod interleaved;
 mod ip;
+mod json;
 mod kept;
+mod layers;
 mod link;
+mod manual;
 mod names;
+mod numbers;
+mod options;
 mod order;
 mod output;
 mod packets;
+mod parts;
 mod payload;
 mod pcap;
 mod pcapng;
@@ -25,12 +37,17 @@ mod printing;
 mod progress;
 mod receive;
 mod reception;
+mod recording;
 mod refusals;
+mod report;
 mod rtp;
+mod seed;
+mod seen;
 mod segments;
 mod send;
 mod streams;
 mod tally;
+mod tunnels;
 mod window;
 mod words;
 
@@ -57,7 +74,9 @@ fn run() -> Result<u8, Failure> {
         Command::Send(asked) => send::send(&asked),
         Command::Receive(asked) => receive::receive(&asked),
         Command::Inspect(asked) => inspect::inspect(&asked),
-        Command::Help => printing::print(help::HELP).map(|()| 0),
+        Command::Help => printing::print(&help::help()).map(|()| 0),
         Command::Version => printing::print(VERSION).map(|()| 0),
+        Command::Manual => printing::print(&manual::manual()).map(|()| 0),
+        Command::Completion(shell) => printing::print(&completion::completion(shell)).map(|()| 0),
     }
 }

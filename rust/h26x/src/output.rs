@@ -1,6 +1,8 @@
 //! A file that stands under its name once it is whole, and not before.
 
 use crate::errors::Failure;
+use crate::parts;
+use crate::words::STANDARD;
 use std::fs::{self, File, OpenOptions};
 use std::io::{self, ErrorKind, Write};
 use std::path::{Path, PathBuf};
@@ -9,7 +11,7 @@ use std::process;
 /// How many bytes are gathered before they are written.
 const GATHERED: usize = 1 << 20;
 /// The names of standard output, which a shell may have opened as a file.
-const STANDARD_OUTPUT: [&str; 3] = ["/dev/stdout", "/dev/fd/1", "/proc/self/fd/1"];
+const STANDARD_OUTPUT: [&str; 4] = [STANDARD, "/dev/stdout", "/dev/fd/1", "/proc/self/fd/1"];
 
 pub struct Output {
     /// As the user names it.
@@ -27,6 +29,9 @@ impl Output {
     /// A file beside this path, unless that is standard output, a device or a pipe. `input` may not be
     /// the same file.
     pub fn create(path: &Path, input: &Path) -> Result<Self, Failure> {
+        if STANDARD_OUTPUT.iter().any(|it| path == Path::new(it)) {
+            return Ok(Output::standard(path));
+        }
         let failed = |error| Failure::writing(path, &error);
         let there = match fs::metadata(path) {
             Err(error) if error.kind() != ErrorKind::NotFound => return Err(failed(error)),
@@ -45,10 +50,6 @@ impl Output {
         // Where it is a link, what it names is replaced, and not the link.
         let target = real.clone().unwrap_or_else(|| linked(path));
         let (beside, to): (_, Box<dyn Write>) = match there {
-            // It goes on behind what is there already, as the shell opened it.
-            _ if STANDARD_OUTPUT.iter().any(|it| path == Path::new(it)) => {
-                (None, Box::new(io::stdout()))
-            }
             // Also a file that is open and has no name any more.
             Some(there) if !there.is_file() || real.is_none() => {
                 let file = OpenOptions::new().write(true).open(path);
@@ -59,14 +60,23 @@ impl Output {
                 (Some(beside), Box::new(file))
             }
         };
-        Ok(Output {
+        Ok(Output::of(path, target, beside, to))
+    }
+
+    /// Standard output, which goes on behind what is there already, as the shell opened it.
+    fn standard(path: &Path) -> Self {
+        Output::of(path, path.into(), None, Box::new(io::stdout()))
+    }
+
+    fn of(path: &Path, target: PathBuf, beside: Option<PathBuf>, to: Box<dyn Write>) -> Self {
+        Output {
             path: path.into(),
             target,
             beside,
             to,
             gathered: Vec::with_capacity(4 * GATHERED),
             written: 0,
-        })
+        }
     }
 
     /// Writes what is gathered, once it is enough.
@@ -77,7 +87,11 @@ impl Output {
         self.write_out()
     }
 
-    fn write_out(&mut self) -> Result<(), Failure> {
+    /// Writes what is gathered.
+    pub fn write_out(&mut self) -> Result<(), Failure> {
+        if self.gathered.is_empty() {
+            return Ok(());
+        }
         self.to
             .write_all(&self.gathered)
             .and_then(|()| self.to.flush())
@@ -93,6 +107,7 @@ impl Output {
         if let Some(beside) = &self.beside {
             fs::rename(beside, &self.target)
                 .map_err(|error| Failure::writing(&self.path, &error))?;
+            parts::forget(beside);
             self.beside = None;
         }
         Ok(self.written)
@@ -113,7 +128,7 @@ fn create_beside(target: &Path, path: &Path) -> Result<(PathBuf, File), Failure>
     let mut number = process::id();
     loop {
         let beside = target.with_file_name(format!(".h26x.{number}.part"));
-        match File::create_new(&beside) {
+        match parts::remember(&beside, || File::create_new(&beside)) {
             Ok(file) => return Ok((beside, file)),
             // One that was killed had this number, or one has it on another machine.
             Err(error) if error.kind() == ErrorKind::AlreadyExists => {
@@ -129,6 +144,7 @@ impl Drop for Output {
     fn drop(&mut self) {
         if let Some(beside) = &self.beside {
             let _ = fs::remove_file(beside);
+            parts::forget(beside);
         }
     }
 }

@@ -2,14 +2,15 @@
 
 use crate::capture::Capture;
 use crate::errors::Failure;
-use crate::ip::{self, Held, Part};
+use crate::ip::{Datagram, Part};
+use crate::layers::{Flow, Layers};
 use crate::progress::Progress;
 use crate::rtp::{self, Rtp};
+use crate::seen::PassedOver;
 use crate::segments;
-use crate::streams::counted;
 use std::fmt;
 use std::net::IpAddr;
-use std::path::Path;
+use std::ops::ControlFlow;
 
 /// Which stream a packet is of.
 #[derive(Clone, Copy, PartialEq, Eq, Hash)]
@@ -52,70 +53,69 @@ pub struct Captured<'a> {
     pub rtp: Rtp<'a>,
 }
 
-/// What a capture has beside the packets that are looked at.
-#[derive(Default)]
-pub struct PassedOver {
-    pub frames: u64,
-    /// Later fragments of UDP datagrams.
-    pub fragments: u64,
-    /// The link type of frames that aren't read.
-    pub unread: Option<u32>,
-    /// Why the capture ends before its end.
-    pub end: Option<String>,
+/// What is met in a capture.
+pub enum Met<'a> {
+    /// A packet with its stream and where it comes from.
+    Packet(&'a Stream, (IpAddr, u16), &'a Captured<'a>),
+    /// The capture comes through a pipe, and what is next has to be waited for.
+    Pause,
 }
 
-impl PassedOver {
-    /// What of the capture was not read, a sentence each.
-    pub fn told(&self) -> Vec<String> {
-        let fragments = (self.fragments > 0).then(|| {
-            let fragments = counted(self.fragments, "later IP fragment");
-            format!("passed over: {fragments} of UDP datagrams")
-        });
-        let unread = self.unread.map(|number| {
-            format!("passed over: frames of link type {number}, which h26x doesn't read")
-        });
-        let told = [fragments, unread, self.end.clone()];
-        told.into_iter().flatten().collect()
-    }
-}
-
-/// Gives all RTP packets of a capture to `take`. There is a bar where the work has a name.
+/// Gives what is met in a capture to `take`, until it asks to stop, or no more of a pipe is kept. There
+/// is a bar where the work has a name.
 pub fn each_packet(
-    path: &Path,
+    capture: &mut Capture,
     what: Option<&'static str>,
-    mut take: impl FnMut(&Stream, &Captured<'_>) -> Result<(), Failure>,
+    mut take: impl FnMut(Met<'_>) -> Flow,
 ) -> Result<PassedOver, Failure> {
-    let mut capture = Capture::open(path)?;
     let mut progress = Progress::new(what, capture.len());
-    let mut passed = PassedOver::default();
-    while let Some(frame) = capture.next()? {
-        passed.frames += 1;
-        let time = frame.time;
-        match frame.link.packet(frame.bytes).map(ip::held) {
-            Some(Held::Datagram(datagram)) => {
-                let mut packets = segments::packets(datagram.bytes).peekable();
-                while let Some(packet) = packets.next() {
-                    let Some(rtp) = rtp::rtp(packet) else {
-                        continue;
-                    };
-                    let stream = Stream {
-                        ssrc: rtp.ssrc,
-                        payload_type: rtp.payload_type,
-                        to: datagram.to,
-                    };
-                    // Where the end of a datagram lacks, it is the last packet's.
-                    let part = match packets.peek() {
-                        Some(_) => Part::Whole,
-                        None => datagram.part,
-                    };
-                    take(&stream, &Captured { time, part, rtp })?;
-                }
-            }
-            Some(Held::Fragment) => passed.fragments += 1,
-            Some(Held::Other) | None => {}
+    let mut layers = Layers::default();
+    let mut time = 0;
+    while !capture.is_front_full() {
+        if !capture.is_ready() && take(Met::Pause)?.is_break() {
+            break;
+        }
+        let Some(frame) = capture.next()? else {
+            break;
+        };
+        time = frame.time;
+        let mut out = |datagram: &Datagram<'_>| each_of_datagram(datagram, time, &mut take);
+        if layers.add(&frame, &mut out)?.is_break() {
+            break;
         }
         progress.at(capture.position());
     }
+    let mut out = |datagram: &Datagram<'_>| each_of_datagram(datagram, time, &mut take);
+    let mut passed = layers.finish(&mut out)?;
     (passed.unread, passed.end) = (capture.unread(), capture.fault());
     Ok(passed)
+}
+
+/// Gives the packets of a datagram to `take`.
+fn each_of_datagram(
+    datagram: &Datagram<'_>,
+    time: u64,
+    take: &mut impl FnMut(Met<'_>) -> Flow,
+) -> Flow {
+    let mut packets = segments::packets(datagram.bytes).peekable();
+    while let Some(packet) = packets.next() {
+        let Some(rtp) = rtp::rtp(packet) else {
+            continue;
+        };
+        let stream = Stream {
+            ssrc: rtp.ssrc,
+            payload_type: rtp.payload_type,
+            to: datagram.to,
+        };
+        // Where the end of a datagram lacks, it is the last packet's.
+        let part = match packets.peek() {
+            Some(_) => Part::Whole,
+            None => datagram.part,
+        };
+        let packet = Captured { time, part, rtp };
+        if take(Met::Packet(&stream, datagram.from, &packet))?.is_break() {
+            return Ok(ControlFlow::Break(()));
+        }
+    }
+    Ok(ControlFlow::Continue(()))
 }

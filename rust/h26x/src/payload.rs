@@ -3,7 +3,6 @@
 use crate::names::{is_keyframe_type, packet_name, unit_name};
 use emupedestal::Codec;
 use emupedestal::access_units::unit_type;
-use std::fmt::Write;
 
 /// A fragment's marks, and the type of its unit.
 #[derive(Clone, Copy)]
@@ -33,8 +32,8 @@ pub struct Description {
     pub kind: &'static str,
     /// A fragment's marks: `S` for the first, `E` for the last, `-` for one between.
     pub marks: &'static str,
-    /// Its units, or the one that it is a fragment of, with their lengths in bytes.
-    pub units: String,
+    /// Its units by their types, with their lengths in bytes; a fragment's unit has none.
+    pub units: Vec<(&'static str, Option<usize>)>,
     /// Whether it holds a unit of a keyframe, or begins one.
     pub is_keyframe: bool,
 }
@@ -53,15 +52,14 @@ pub fn describe(codec: Codec, has_donl: bool, packet: &[u8]) -> Description {
         return Description {
             kind,
             marks,
-            units: unit_name(codec, it.unit_type).into(),
+            units: vec![(unit_name(codec, it.unit_type), None)],
             is_keyframe: it.is_first && is_keyframe_type(codec, it.unit_type),
         };
     }
-    let mut units = String::new();
+    let mut units = Vec::new();
     let mut is_keyframe = false;
     each_unit(codec, has_donl, packet, |unit_type, len| {
-        let comma = if units.is_empty() { "" } else { ", " };
-        let _ = write!(units, "{comma}{} {len}", unit_name(codec, unit_type));
+        units.push((unit_name(codec, unit_type), Some(len)));
         is_keyframe |= is_keyframe_type(codec, unit_type);
     });
     Description {

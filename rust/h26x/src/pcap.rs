@@ -49,6 +49,12 @@ impl Pcap {
         })
     }
 
+    /// Whether what was read holds the next record whole.
+    pub fn is_ready(&self, buffered: &[u8]) -> bool {
+        let len = word(buffered, 8, self.is_big_endian) as usize;
+        buffered.len() >= RECORD_HEADER && buffered.len() - RECORD_HEADER >= len
+    }
+
     pub fn next<'a>(&mut self, input: &'a mut Input) -> Result<Next<'a>, Failure> {
         let header = loop {
             input.begin_record();

@@ -36,6 +36,17 @@ struct Place {
 }
 
 impl Pcapng {
+    /// Whether what was read holds the next block whole, behind the rest of this one.
+    pub fn is_ready(&self, buffered: &[u8]) -> bool {
+        let next = usize::try_from(self.left)
+            .ok()
+            .and_then(|left| buffered.get(left..));
+        next.is_some_and(|next| {
+            let len = word(next, 4, self.is_big_endian) as usize;
+            next.len() >= 8 && next.len() >= len
+        })
+    }
+
     pub fn next<'a>(&mut self, input: &'a mut Input) -> Result<Next<'a>, Failure> {
         let (link, place) = loop {
             if !input.skip(std::mem::take(&mut self.left))? {

@@ -11,7 +11,8 @@ const PAUSE: Duration = Duration::from_millis(250);
 
 pub struct Progress {
     what: &'static str,
-    total: u64,
+    /// Nothing where nobody knows it, as of a pipe.
+    total: Option<u64>,
     /// Where to look at the clock next; never where nobody looks.
     next: u64,
     begin: Instant,
@@ -20,7 +21,7 @@ pub struct Progress {
 
 impl Progress {
     /// A bar for the work of this name; none where it has no name.
-    pub fn new(what: Option<&'static str>, total: u64) -> Self {
+    pub fn new(what: Option<&'static str>, total: Option<u64>) -> Self {
         let is_seen = what.is_some() && io::stderr().is_terminal();
         Progress {
             what: what.unwrap_or_default(),
@@ -44,14 +45,19 @@ impl Progress {
             return;
         }
         self.drawn = Some(Instant::now());
-        let share = |of: u64| done.min(self.total) * of / self.total.max(1);
-        let full = "#".repeat(share(WIDTH) as usize);
         let rate = done as f64 / self.begin.elapsed().as_secs_f64() / 1e6;
-        let percent = share(100);
-        let line = format!(
-            "\r{} [{full:<30}] {percent:3} %, {rate:.0} MB/s ",
-            self.what
-        );
+        let line = match self.total {
+            Some(total) => {
+                let share = |of: u64| done.min(total) * of / total.max(1);
+                let full = "#".repeat(share(WIDTH) as usize);
+                let percent = share(100);
+                format!(
+                    "\r{} [{full:<30}] {percent:3} %, {rate:.0} MB/s ",
+                    self.what
+                )
+            }
+            None => format!("\r{}: {} MB, {rate:.0} MB/s ", self.what, done / 1_000_000),
+        };
         // Where it can't be drawn, the work goes on.
         let _ = io::stderr().write_all(line.as_bytes());
     }

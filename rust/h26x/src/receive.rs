@@ -1,94 +1,100 @@
-//! Writes the units of a stream in a capture.
+//! Writes the units of streams in a capture.
 
 use crate::arguments::{Looking, Receive};
+use crate::capture::Capture;
 use crate::codecs::{name, word};
 use crate::errors::{Failure, INCOMPLETE};
-use crate::output::Output;
-use crate::packets::{PassedOver, each_packet};
+use crate::packets::{Met, each_packet};
 use crate::printing::say;
-use crate::reception::{Became, Reception};
-use crate::streams::{Chosen, Known, choose, counted, named};
-use crate::tally::Tally;
-use crate::window::{Event, Window};
+use crate::recording::Recording;
+use crate::seen::PassedOver;
+use crate::streams::{Known, Streams, choose};
 use emupedestal::Codec;
+use std::ops::ControlFlow;
 
 /// Receives, and answers the status to end with.
 pub fn receive(asked: &Receive) -> Result<u8, Failure> {
-    let Looking { input, window, .. } = &asked.looking;
-    let chosen = choose(input, asked.looking.choice)?;
-    check_codec(&asked.looking, asked.codec, &chosen.known)?;
-    say_chosen(&chosen);
-    let mut output = Output::create(&asked.output, input)?;
-    let mut reception = Reception::new(
-        asked.codec,
-        chosen.known.stream.payload_type,
-        asked.looking.has_donl,
-        asked.looking.run_limit,
-    );
-    if asked.has_lengths {
-        reception.with_lengths();
-    }
-    let mut window = Window::new(*window);
-    let mut on_event = |event: Event<'_>| {
-        receive_event(&mut reception, event, &mut output.gathered);
-        output.pass_on()
-    };
-    let passed = each_packet(input, Some("receiving"), |stream, packet| {
-        if !chosen.is_numbered_with(stream) {
-            return Ok(());
-        }
-        window.take(packet, &mut on_event)
-    })?;
-    window.finish(&mut on_event)?;
-    let tally = reception.finish();
-    check_taken(&asked.looking, asked.codec, &tally)?;
-    finish(asked, output, &tally, &passed)
-}
-
-/// Gives what a window gives out to a receiver.
-fn receive_event(reception: &mut Reception, event: Event<'_>, out: &mut Vec<u8>) {
-    match event {
-        Event::Packet(packet, is_moved) => {
-            if !matches!(reception.take(&packet, out), Became::PassedOver) {
-                reception.tally.moved += u64::from(is_moved);
+    let mut capture = Capture::open(&asked.looking.input)?;
+    let streams = choose(&mut capture, &asked.looking.choice)?;
+    let mut recordings = begin(asked, &streams)?;
+    let takers = streams.takers();
+    let passed = each_packet(&mut capture, Some("receiving"), |met| {
+        match met {
+            Met::Packet(stream, _, packet) => {
+                for at in takers.get(stream).into_iter().flatten() {
+                    recordings[*at].take(packet)?;
+                }
             }
+            Met::Pause => recordings.iter_mut().try_for_each(Recording::pass_on)?,
         }
-        Event::Twice(_) => reception.tally.twice += 1,
-        Event::Stray(_) => reception.tally.strays += 1,
-        Event::Anew => reception.begin_anew(),
+        Ok(ControlFlow::Continue(()))
+    })?;
+    finish(asked, recordings, &passed)
+}
+
+/// Begins with the streams that are to be written.
+fn begin(asked: &Receive, streams: &Streams) -> Result<Vec<Recording>, Failure> {
+    let mut recordings = Vec::new();
+    for known in streams.chosen() {
+        let codec = codec_of(&asked.looking, known)?;
+        check_codec(&asked.looking, codec, known)?;
+        let recording = Recording::new(asked, codec, known)?;
+        say(&format!("receiving {}", recording.named()));
+        known.two_senders().iter().for_each(|it| say(it));
+        recordings.push(recording);
+    }
+    let others = streams.named_others();
+    if !others.is_empty() {
+        say(&format!("passing over {others}"));
+    }
+    Ok(recordings)
+}
+
+/// Ends all of them. Where one of several fails it is told, and the others stand.
+fn finish(asked: &Receive, recordings: Vec<Recording>, passed: &PassedOver) -> Result<u8, Failure> {
+    let mut status = if passed.is_whole() { 0 } else { INCOMPLETE };
+    let mut failed = Vec::new();
+    let count = recordings.len();
+    for recording in recordings {
+        match recording.finish(asked) {
+            Ok(of_it) => status = status.max(of_it),
+            Err(failure) => failed.push(failure),
+        }
+    }
+    for told in passed.told() {
+        say(&told);
+    }
+    match failed.pop() {
+        None => Ok(status),
+        Some(failure) if failed.len() + 1 == count => {
+            failed.iter().for_each(|it| say(&it.message));
+            Err(failure)
+        }
+        Some(failure) => {
+            failed.push(failure);
+            failed.iter().for_each(|it| say(&it.message));
+            Ok(INCOMPLETE)
+        }
     }
 }
 
-fn finish(
-    asked: &Receive,
-    output: Output,
-    tally: &Tally,
-    passed: &PassedOver,
-) -> Result<u8, Failure> {
-    let written = output.finish()?;
-    for oddity in tally.oddities().iter().chain(&passed.told()) {
-        say(oddity);
-    }
-    say(&format!(
-        "{}: {}; {} written",
-        asked.looking.input.display(),
-        tally.totals(),
-        counted(written, "byte")
-    ));
-    let is_whole = tally.is_whole() && passed.end.is_none();
-    Ok(if is_whole { 0 } else { INCOMPLETE })
-}
-
-fn say_chosen(chosen: &Chosen) {
-    say(&format!("receiving {}", chosen.known.stream));
-    if !chosen.others.is_empty() {
-        say(&format!("passing over {}", named(&chosen.others)));
-    }
+/// The codec that is given, or as whose most packets of a stream look.
+pub fn codec_of(looking: &Looking, known: &Known) -> Result<Codec, Failure> {
+    let asked = looking.choice.codec;
+    asked.or_else(|| known.likeness.likeliest()).ok_or_else(|| {
+        let what = format!(
+            "most packets of {} look as those of no codec here (is it audio, or encrypted?); \
+             choose another stream (--port, --payload-type, --ssrc), or say which codec by --codec",
+            known.stream
+        );
+        Failure::of(&looking.input, what)
+    })
 }
 
 /// Refuses a stream that is rather of another codec, or where the user didn't say the codec of none.
 pub fn check_codec(looking: &Looking, codec: Codec, known: &Known) -> Result<(), Failure> {
-    let (likeness, packets) = (&known.likeness, known.packets);
+    let likeness = &known.likeness;
+    let packets = likeness.all();
     let what = match likeness.other_than(codec) {
         Some(other) => format!(
             "this stream is no {}: {} of its {packets} packets look as those of {} do; say \
@@ -105,26 +111,6 @@ pub fn check_codec(looking: &Looking, codec: Codec, known: &Known) -> Result<(),
             likeness.usual(codec),
             known.stream,
             name(codec)
-        ),
-        None => return Ok(()),
-    };
-    Err(Failure::of(&looking.input, what))
-}
-
-/// Refuses a stream of which most packets were refused.
-fn check_taken(looking: &Looking, codec: Codec, tally: &Tally) -> Result<(), Failure> {
-    let what = match tally.refusal_of_most() {
-        Some(reason) => format!(
-            "{} of {} packets are refused as {}, so nothing is written; is it another codec \
-             (--codec), or do its packets bear numbers (--donl)? Most of them: {reason}",
-            tally.refused,
-            tally.packets,
-            name(codec)
-        ),
-        None if tally.parts * 2 > tally.packets => format!(
-            "of {} of {} packets the capture has only a front, so nothing is written; capture \
-             with a longer snap length (tcpdump -s 0), and send packets that need no IP fragments",
-            tally.parts, tally.packets
         ),
         None => return Ok(()),
     };

@@ -1,6 +1,7 @@
 //! A stream that is received, and what is counted of it.
 
 use crate::ip::Part;
+use crate::numbers::Numbers;
 use crate::packets::Captured;
 use crate::payload::fragment;
 use crate::refusals::reason;
@@ -18,8 +19,10 @@ pub enum Became {
     },
     Late(u16),
     Refused(String),
-    /// The capture doesn't have all of it.
-    Part(Part),
+    /// The capture has only its front.
+    Cut,
+    /// It has padding alone.
+    Padding,
     /// It is of another payload type.
     PassedOver,
 }
@@ -36,8 +39,8 @@ enum Run {
 pub struct Reception {
     receiver: SequencedDepacketizer,
     payload_type: u8,
-    /// The number of the packet that came last, and how many of another payload type came: the
-    /// receiver's numbers don't have these.
+    /// The number of the packet that came last, and how many of another payload type or of padding
+    /// alone came: the receiver's numbers don't have these.
     last: Option<u16>,
     passed_over: u16,
     extra: CodecExtra,
@@ -46,6 +49,7 @@ pub struct Reception {
     timestamp: Option<u32>,
     /// How many packets came since one was taken, and were none to be taken: they aren't lost.
     not_taken: u16,
+    numbers: Numbers,
     pub tally: Tally,
 }
 
@@ -62,6 +66,7 @@ impl Reception {
             run: Run::None,
             timestamp: None,
             not_taken: 0,
+            numbers: Numbers::new(codec, has_donl),
             tally: Tally::default(),
         }
     }
@@ -80,10 +85,15 @@ impl Reception {
         }
         self.tally.packets += 1;
         self.tally.bytes += packet.rtp.payload.len() as u64;
+        if packet.rtp.is_padding() {
+            self.passed_over = self.passed_over.wrapping_add(u16::from(is_next));
+            self.tally.padding += 1;
+            return Became::Padding;
+        }
         if packet.part != Part::Whole {
             self.tally.parts += 1;
             self.not_taken = self.not_taken.saturating_add(1);
-            return Became::Part(packet.part);
+            return Became::Cut;
         }
         let is_new = self.timestamp.is_some_and(|it| it != packet.rtp.timestamp);
         let mut extra = if is_new { CodecExtra::None } else { self.extra };
@@ -99,10 +109,12 @@ impl Reception {
                     self.end_access_unit();
                 }
                 self.extra = extra;
+                self.numbers.take(payload);
                 self.taken(packet, received)
             }
             Err(error) => {
                 let reason = reason(self.receiver.codec(), payload, error);
+                self.numbers.refuse(payload);
                 self.tally.refuse(packet.rtp.sequence, &reason);
                 self.not_taken = self.not_taken.saturating_add(1);
                 Became::Refused(reason)
@@ -171,6 +183,7 @@ impl Reception {
     }
 
     fn end_access_unit(&mut self) {
+        self.numbers.end_access_unit();
         if self.timestamp.take().is_some() {
             self.tally.access_units += 1;
             self.tally.keyframes += u64::from(is_keyframe(self.extra));
@@ -190,6 +203,7 @@ impl Reception {
     pub fn finish(mut self) -> Tally {
         self.give_up();
         self.end_access_unit();
+        self.tally.advice = self.numbers.advice();
         self.tally
     }
 }

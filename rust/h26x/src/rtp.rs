@@ -17,6 +17,15 @@ pub struct Rtp<'a> {
     pub timestamp: u32,
     pub ssrc: u32,
     pub payload: &'a [u8],
+    /// How many bytes of padding stand behind the payload.
+    pub padding: u8,
+}
+
+impl Rtp<'_> {
+    /// Whether it has padding alone, as senders put it between pictures to try how much a path carries.
+    pub fn is_padding(&self) -> bool {
+        self.padding > 0 && self.payload.is_empty()
+    }
 }
 
 /// The RTP packet of a datagram, where its header makes sense: version 2, no type of RTCP's, and
@@ -33,10 +42,11 @@ pub fn rtp(datagram: &[u8]) -> Option<Rtp<'_>> {
         let ([_, _, high, low], extension) = payload.split_first_chunk()?;
         payload = extension.get(usize::from(u16::from_be_bytes([*high, *low])) * 4..)?;
     }
+    let mut padding = 0;
     if flags & 0x20 != 0 {
-        let padding = usize::from(*payload.last()?);
-        let len = payload.len().checked_sub(padding).filter(|_| padding > 0)?;
-        payload = &payload[..len];
+        padding = *payload.last()?;
+        let len = payload.len().checked_sub(padding.into());
+        payload = &payload[..len.filter(|_| padding > 0)?];
     }
     let [_, _, high, low, t0, t1, t2, t3, s0, s1, s2, s3] = *header;
     Some(Rtp {
@@ -46,6 +56,7 @@ pub fn rtp(datagram: &[u8]) -> Option<Rtp<'_>> {
         timestamp: u32::from_be_bytes([t0, t1, t2, t3]),
         ssrc: u32::from_be_bytes([s0, s1, s2, s3]),
         payload,
+        padding,
     })
 }
 

@@ -132,6 +132,7 @@ impl<'a> Sender<'a> {
                 timestamp: at(TICKS_A_SECOND) as u32,
                 ssrc: self.asked.ssrc,
                 payload: &[],
+                padding: 0,
             };
             let record = self.packets.datagram_mut(i);
             write_headers(record, at(MICROS_A_SECOND) as u64, self.asked.port, &packet);

@@ -1,21 +1,30 @@
-//! Which streams a capture has, and which of them is looked at.
+//! Which streams a capture has, and which of them are looked at.
 
+use crate::capture::Capture;
 use crate::codecs::Likeness;
 use crate::errors::Failure;
-use crate::link::Link;
-use crate::packets::{PassedOver, Source, Stream, each_packet};
+use crate::input::FRONT;
+use crate::packets::{Met, Source, Stream, each_packet};
 use crate::rtp::Rtp;
+use crate::seen::PassedOver;
+use emupedestal::Codec;
 use std::cmp::Reverse;
 use std::collections::HashMap;
-use std::fmt::Write;
-use std::path::Path;
+use std::net::IpAddr;
+use std::ops::ControlFlow;
 
 /// How many streams are kept in mind; where there are more, those of one packet are forgotten.
 const MOST: usize = 4096;
+/// How many streams are looked at together.
+pub const MOST_TOGETHER: usize = 64;
 /// How many other streams are named.
 const NAMED: usize = 8;
 /// A sequence number that is further ahead follows none (RFC 3550, A.1).
 const MAX_DROPOUT: u16 = 3000;
+/// So many turns of two senders are no change of an address.
+const FEW_TURNS: u64 = 8;
+/// Of a pipe a stream is chosen once so many of its packets follow one another.
+const ENOUGH: u64 = 64;
 
 /// What the user asks for.
 #[derive(Default, Clone, Copy)]
@@ -23,6 +32,9 @@ pub struct Choice {
     pub port: Option<u16>,
     pub payload_type: Option<u8>,
     pub ssrc: Option<u32>,
+    pub codec: Option<Codec>,
+    /// Whether all such streams are looked at, and not the first alone.
+    pub is_all: bool,
 }
 
 impl Choice {
@@ -32,8 +44,38 @@ impl Choice {
             && self.ssrc.is_none_or(|it| it == stream.ssrc)
     }
 
+    /// Whether a stream is one that is asked for, and its packets look as those of the codec do.
+    fn suits(&self, known: &Known) -> bool {
+        let is_codec = match self.codec {
+            Some(codec) => known.likeness.is_likely(codec),
+            None => known.likeness.likeliest().is_some(),
+        };
+        is_codec && self.takes(&known.stream)
+    }
+
     fn is_any(&self) -> bool {
         self.port.is_none() && self.payload_type.is_none() && self.ssrc.is_none()
+    }
+
+    /// The places of the streams that are to be looked at: those of the codec that is asked for, or
+    /// where there is none the first.
+    fn chosen(&self, known: &[Known]) -> Vec<usize> {
+        // Where many have one packet each, none of them is RTP.
+        let is_stream =
+            |it: &Known| it.following > 1 || (!self.is_all && (known.len() == 1 || !self.is_any()));
+        let places = |takes: &dyn Fn(&Known) -> bool, most: usize| -> Vec<usize> {
+            let places = 0..known.len();
+            let is_taken = |at: &usize| is_stream(&known[*at]) && takes(&known[*at]);
+            places.filter(is_taken).take(most).collect()
+        };
+        if self.is_all {
+            return places(&|it| self.suits(it), MOST_TOGETHER);
+        }
+        let suiting = places(&|it| self.suits(it), 1);
+        match suiting[..] {
+            [] => places(&|it| self.takes(&it.stream), 1),
+            _ => suiting,
+        }
     }
 }
 
@@ -48,27 +90,39 @@ pub struct Known {
     /// How many of its packets come behind one of the same source and another payload type, and how
     /// many of these have the next number.
     switches: (u64, u64),
+    /// Where its last packet came from, where those before that, and how many came from another place
+    /// than the one before.
+    from: (IpAddr, u16),
+    from_before: (IpAddr, u16),
+    turns: u64,
     /// The place of its first packet among those of all streams.
     place: u64,
 }
 
-/// The stream that is looked at, and what the capture has beside it.
-pub struct Chosen {
-    pub known: Known,
-    pub others: Vec<Known>,
-}
-
-impl Chosen {
-    /// Whether packets of this stream are numbered with those of the one that is looked at.
-    pub fn is_numbered_with(&self, stream: &Stream) -> bool {
-        let is_it = |other: &&Known| other.stream == *stream;
-        *stream == self.known.stream
-            || (stream.source() == self.known.stream.source()
-                && self.others.iter().find(is_it).is_some_and(|it| it.joins()))
-    }
-}
-
 impl Known {
+    /// What is to be said where two senders have its SSRC (RFC 3550, 8.2).
+    pub fn two_senders(&self) -> Option<String> {
+        let ((one, one_port), (other, other_port)) = (self.from_before, self.from);
+        (self.turns >= FEW_TURNS && self.turns * 8 >= self.packets).then(|| {
+            format!(
+                "its packets come from {one} port {one_port} and {other} port {other_port} by turns: \
+                 two senders have one SSRC, and what they send can't be told apart (RFC 3550, 8.2)"
+            )
+        })
+    }
+
+    /// Whether its packets are numbered with those of another stream, and it is that one or holds
+    /// something else. Packets of the same codec under another payload type may be of its units, and
+    /// are missing there.
+    fn is_numbered_with(&self, other: &Known) -> bool {
+        let holds_the_same = || {
+            let codec = other.likeness.likeliest();
+            codec.is_some_and(|it| self.likeness.is_likely(it))
+        };
+        self.stream == other.stream
+            || (self.stream.source() == other.stream.source() && self.joins() && !holds_the_same())
+    }
+
     /// Whether its numbers go on from those of other payload types of its source.
     fn joins(&self) -> bool {
         let (switches, next) = self.switches;
@@ -76,9 +130,51 @@ impl Known {
     }
 }
 
+/// The streams of a capture, those first in which most packets follow one another.
+pub struct Streams {
+    known: Vec<Known>,
+    /// The places of those that are looked at.
+    chosen: Vec<usize>,
+}
+
+impl Streams {
+    /// Those that are looked at.
+    pub fn chosen(&self) -> impl Iterator<Item = &Known> {
+        self.chosen.iter().filter_map(|at| self.known.get(*at))
+    }
+
+    /// Those that are not looked at, in words.
+    pub fn named_others(&self) -> String {
+        let is_other = |at: &usize| !self.chosen.contains(at);
+        named(
+            (0..self.known.len())
+                .filter(is_other)
+                .map(|at| &self.known[at]),
+        )
+    }
+
+    /// All but one, in words.
+    pub fn named_beside(&self, stream: &Stream) -> String {
+        named(self.known.iter().filter(|it| it.stream != *stream))
+    }
+
+    /// Which of those that are looked at, by their places among these, packets of a stream are numbered
+    /// with.
+    pub fn takers(&self) -> HashMap<Stream, Vec<usize>> {
+        let mut takers: HashMap<Stream, Vec<usize>> = HashMap::new();
+        for (at, chosen) in self.chosen().enumerate() {
+            let numbered_with = self.known.iter().filter(|it| it.is_numbered_with(chosen));
+            for other in numbered_with {
+                takers.entry(other.stream).or_default().push(at);
+            }
+        }
+        takers
+    }
+}
+
 /// The streams that were met so far.
 #[derive(Default)]
-struct Met {
+struct MetStreams {
     known: HashMap<Stream, Known>,
     /// The payload type and the number of the last packet of each of the first `MOST` sources.
     last: HashMap<Source, (u8, u16)>,
@@ -87,11 +183,12 @@ struct Met {
     is_full: bool,
 }
 
-impl Met {
-    fn add(&mut self, stream: &Stream, packet: &Rtp<'_>) {
+impl MetStreams {
+    /// Adds a packet; answers what is known of its stream then.
+    fn add(&mut self, stream: &Stream, from: (IpAddr, u16), packet: &Rtp<'_>) -> Option<&Known> {
         self.packets += 1;
         if self.known.len() >= MOST && !self.known.contains_key(stream) && !self.make_room() {
-            return;
+            return None;
         }
         let last = self.last_of_source(stream, packet);
         let it = self.known.entry(*stream).or_insert_with(|| Known {
@@ -101,17 +198,27 @@ impl Met {
             following: 0,
             sequence: packet.sequence.wrapping_sub(1),
             switches: (0, 0),
+            from,
+            from_before: from,
+            turns: 0,
             place: self.packets,
         });
+        if it.from != from {
+            (it.from_before, it.from) = (it.from, from);
+            it.turns += 1;
+        }
         let ahead = packet.sequence.wrapping_sub(it.sequence);
         it.following += u64::from(matches!(ahead, 1..=MAX_DROPOUT));
         it.sequence = packet.sequence;
         it.packets += 1;
-        it.likeness.add(packet.payload);
+        if !packet.is_padding() {
+            it.likeness.add(packet.payload);
+        }
         if let Some((_, before)) = last.filter(|last| last.0 != packet.payload_type) {
             it.switches.0 += 1;
             it.switches.1 += u64::from(packet.sequence == before.wrapping_add(1));
         }
+        Some(it)
     }
 
     /// The payload type and the number of the packet before this one of its source.
@@ -141,60 +248,67 @@ impl Met {
     }
 }
 
-/// Reads a capture once, and chooses the stream of those asked for in which most packets follow one
-/// another.
-pub fn choose(path: &Path, choice: Choice) -> Result<Chosen, Failure> {
-    let mut met = Met::default();
-    let passed = each_packet(path, Some("looking for streams"), |stream, packet| {
-        met.add(stream, &packet.rtp);
-        Ok(())
+/// Reads a capture once, or the front of a pipe, and chooses the streams that are looked at; then the
+/// capture begins again.
+pub fn choose(capture: &mut Capture, choice: &Choice) -> Result<Streams, Failure> {
+    let mut met = MetStreams::default();
+    let is_soon = capture.is_pipe() && !choice.is_all;
+    let passed = each_packet(capture, Some("looking for streams"), |it| {
+        let Met::Packet(stream, from, packet) = it else {
+            return Ok(ControlFlow::Continue(()));
+        };
+        let known = met.add(stream, from, &packet.rtp);
+        let is_clear = |it: &Known| it.following >= ENOUGH && choice.suits(it);
+        Ok(match known.is_some_and(|it| is_soon && is_clear(it)) {
+            true => ControlFlow::Break(()),
+            false => ControlFlow::Continue(()),
+        })
     })?;
-    let mut known = met.in_order();
-    match known.iter().position(|it| choice.takes(&it.stream)) {
-        // Where many have one packet each, none of them is RTP.
-        Some(at) if known[at].following > 1 || known.len() == 1 || !choice.is_any() => Ok(Chosen {
-            known: known.remove(at),
-            others: known,
-        }),
-        _ => Err(none(path, choice, &known, &passed)),
+    let known = met.in_order();
+    let chosen = choice.chosen(&known);
+    if chosen.is_empty() {
+        return Err(none(capture, choice, &known, &passed));
     }
+    capture.rewind()?;
+    Ok(Streams { known, chosen })
 }
 
 /// Says that there is no stream, and what there is.
-fn none(path: &Path, choice: Choice, known: &[Known], passed: &PassedOver) -> Failure {
-    let mut said = String::from("there is no RTP stream in it");
-    if !choice.is_any() && !known.is_empty() {
-        said = format!(
+fn none(capture: &Capture, choice: &Choice, known: &[Known], passed: &PassedOver) -> Failure {
+    let is_there = |it: &&Known| it.following > 1;
+    let said = if !choice.is_any() && !known.is_empty() {
+        format!(
             "none of its RTP streams is the one asked for; it has {}",
             named(known)
-        );
-    } else if passed.fragments > 0 {
-        said += "; its UDP datagrams are IP fragments, which aren't put together: send packets \
-            that fit";
-    } else if let Some(number) = passed.unread {
-        let _ = write!(said, "; {}", Link::unknown(number));
+        )
+    } else if choice.is_all && known.iter().any(|it| is_there(&it)) {
+        format!(
+            "none of its RTP streams looks as one that is asked for; it has {}",
+            named(known.iter().filter(is_there))
+        )
     } else {
-        let frames = counted(passed.frames, "frame");
-        let _ = write!(
-            said,
-            ": it has {frames}, and no two RTP packets over UDP that follow one another"
-        );
-    }
-    if let Some(end) = &passed.end {
-        let _ = write!(said, "\n{end}");
-    }
-    Failure::of(path, said)
+        format!("there is no RTP stream in it{}", passed.why_none())
+    };
+    let and = match capture.is_front_full() {
+        true => format!(
+            "\nOf this pipe the first {} MiB were looked at; save the capture in a file first",
+            FRONT >> 20
+        ),
+        false => String::new(),
+    };
+    Failure::of(capture.path(), said + &and)
 }
 
-/// The streams of a list in words.
-pub fn named(known: &[Known]) -> String {
-    let mut said: Vec<String> = known
-        .iter()
-        .take(NAMED)
-        .map(|it| format!("{} ({})", it.stream, counted(it.packets, "packet")))
-        .collect();
-    if known.len() > NAMED {
-        said.push(format!("and {} more", known.len() - NAMED));
+/// Streams in words; nothing of none.
+fn named<'a>(known: impl IntoIterator<Item = &'a Known>) -> String {
+    let said = known
+        .into_iter()
+        .map(|it| format!("{} ({})", it.stream, counted(it.packets, "packet")));
+    let mut said: Vec<String> = said.collect();
+    if said.len() > NAMED {
+        let more = said.len() - NAMED;
+        said.truncate(NAMED);
+        said.push(format!("and {more} more"));
     }
     said.join("; ")
 }

@@ -4,8 +4,7 @@ use crate::streams::counted;
 
 /// How many losses, and how many kinds of refusals, are named.
 const NAMED: usize = 20;
-const CUT: &str =
-    "not taken, with only a front in the capture (use a longer snap length) or in IP fragments";
+const CUT: &str = "not taken, with only a front in the capture (use a longer snap length)";
 
 #[derive(Default)]
 pub struct Tally {
@@ -18,8 +17,11 @@ pub struct Tally {
     pub moved: u64,
     pub strays: u64,
     pub anew: u64,
-    /// Packets of which the capture doesn't have all.
+    /// Packets of which the capture has only a front, and such that have padding alone.
     pub parts: u64,
+    pub padding: u64,
+    /// What to do, where the packets look as if it were the other way with --donl.
+    pub advice: Option<&'static str>,
     pub given_up: u64,
     pub too_long: u64,
     pub access_units: u64,
@@ -55,10 +57,21 @@ impl Tally {
         }
     }
 
-    /// Whether all packets came and were taken.
+    /// How many packets never came.
+    pub fn missing(&self) -> u64 {
+        self.missing
+    }
+
+    /// Whether all packets came and were taken. Where more than half come twice or too late, some of
+    /// them came too late.
     pub fn is_whole(&self) -> bool {
-        let lost = self.missing + self.given_up + self.too_long + self.refused;
-        lost + self.strays + self.parts == 0
+        let late = if self.late * 2 > self.packets {
+            self.late
+        } else {
+            0
+        };
+        let lost = self.missing + self.given_up + self.too_long + self.refused + late;
+        lost + self.strays + self.parts == 0 && self.advice.is_none()
     }
 
     /// Why most packets were refused, where they were.
@@ -77,8 +90,10 @@ impl Tally {
             let refused = counted(*count, "packet");
             format!("refused: {refused}, the first is {first}: {reason}")
         });
-        self.losses()
+        let advice = self.advice.map(String::from);
+        advice
             .into_iter()
+            .chain(self.losses())
             .chain(counts)
             .chain(refusals)
             .collect()
@@ -97,7 +112,7 @@ impl Tally {
         (self.missing > 0).then(|| format!("lost: {lost}: {}", gaps.join(", ")))
     }
 
-    fn counts(&self) -> [(u64, &'static str, &'static str); 8] {
+    fn counts(&self) -> [(u64, &'static str, &'static str); 9] {
         [
             (self.given_up, "unit", "left out, for want of a packet"),
             (self.too_long, "unit", "left out, longer than --run-limit"),
@@ -108,6 +123,7 @@ impl Tally {
                 "not taken, come twice or too late (--window)",
             ),
             (self.twice, "packet", "passed over, come twice"),
+            (self.padding, "packet", "of padding alone (RFC 3550, 5.1)"),
             (self.moved, "packet", "put before those that came earlier"),
             (
                 self.strays,

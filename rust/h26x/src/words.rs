@@ -2,48 +2,32 @@
 
 use crate::codecs::{named, of_path};
 use crate::errors::Failure;
+use crate::options::{Opt, commands_with, of_command};
 use emupedestal::Codec;
 use std::ffi::OsString;
 use std::path::{Path, PathBuf};
 
-/// Options without a value.
-const FLAGS: [&str; 5] = ["--donl", "--lengths", "--summary", "--help", "--version"];
+/// What stands for standard input and standard output.
+pub const STANDARD: &str = "-";
 
 /// The words behind the name of the command: files, and options with their values.
 pub struct Words {
     files: Vec<PathBuf>,
-    pub options: Vec<(String, String)>,
+    options: Vec<(&'static str, String)>,
 }
 
 impl Words {
-    pub fn of(mut words: impl Iterator<Item = OsString>) -> Result<Self, Failure> {
-        let (mut files, mut options) = (Vec::new(), Vec::<(String, String)>::new());
+    pub fn of(command: &str, mut words: impl Iterator<Item = OsString>) -> Result<Self, Failure> {
+        let (mut files, mut options) = (Vec::new(), Vec::new());
         let mut are_files = false;
         while let Some(word) = words.next() {
             let option = word
                 .to_str()
-                .filter(|it| !are_files && it.starts_with('-') && it.len() > 1);
-            let Some(option) = option else {
-                files.push(word.into());
-                continue;
-            };
-            match option.split_once('=') {
-                _ if option == "--" => are_files = true,
-                _ if option == "-h" => options.push(("--help".into(), String::new())),
-                Some((name, _)) if FLAGS.contains(&name) => {
-                    return Err(Failure::usage(format!("{name} has no value; leave it out")));
-                }
-                Some((name, value)) => options.push((name.into(), value.into())),
-                None if FLAGS.contains(&option) => options.push((option.into(), String::new())),
-                None => {
-                    let value = words.next().and_then(|it| it.into_string().ok());
-                    let Some(value) = value else {
-                        return Err(Failure::usage(format!(
-                            "{option} is unknown, or lacks its value"
-                        )));
-                    };
-                    options.push((option.into(), value));
-                }
+                .filter(|it| !are_files && it.starts_with('-') && *it != STANDARD);
+            match option {
+                Some("--") => are_files = true,
+                Some(option) => options.push(read(command, option, &mut words)?),
+                None => files.push(word.into()),
             }
         }
         options.sort();
@@ -51,6 +35,11 @@ impl Words {
             Some(pair) => Err(Failure::usage(format!("{} is given twice", pair[0].0))),
             None => Ok(Words { files, options }),
         }
+    }
+
+    /// Whether an option is given; it stays to be asked for.
+    pub fn has(&self, name: &str) -> bool {
+        self.options.iter().any(|it| it.0 == name)
     }
 
     /// Whether an option without a value is given.
@@ -89,16 +78,8 @@ impl Words {
     }
 
     /// The codec that is given, or that the ending of a stream's file tells.
-    pub fn codec_of(&mut self, stream: &Path) -> Result<Codec, Failure> {
-        let unknown = || {
-            Failure::usage(format!(
-                "{}: its ending tells no codec; say it by --codec h264, h265 or h266",
-                stream.display()
-            ))
-        };
-        self.codec()?
-            .or_else(|| of_path(stream))
-            .ok_or_else(unknown)
+    pub fn codec_of(&mut self, stream: &Path) -> Result<Option<Codec>, Failure> {
+        Ok(self.codec()?.or_else(|| of_path(stream)))
     }
 
     pub fn files<const N: usize>(&mut self, form: &str) -> Result<[PathBuf; N], Failure> {
@@ -107,4 +88,45 @@ impl Words {
             .try_into()
             .map_err(|_| Failure::usage(format!("give the files as in: h26x {form}")))
     }
+}
+
+/// An option of a command, with its value, which may be the next word.
+fn read(
+    command: &str,
+    option: &str,
+    words: &mut impl Iterator<Item = OsString>,
+) -> Result<(&'static str, String), Failure> {
+    let (name, value) = match option.split_once('=') {
+        Some((name, value)) => (name, Some(value)),
+        None => (option, None),
+    };
+    let name = if name == "-h" { "--help" } else { name };
+    let known = of_command(command, name).ok_or_else(|| unknown(command, name))?;
+    let value = match (known, value) {
+        (Opt { value: None, .. }, Some(_)) => {
+            return Err(Failure::usage(format!("{name} has no value; leave it out")));
+        }
+        (Opt { value: None, .. }, None) => String::new(),
+        (_, Some(value)) => value.into(),
+        (_, None) => {
+            let next = words.next().and_then(|it| it.into_string().ok());
+            next.ok_or_else(|| Failure::usage(format!("{name} lacks its value")))?
+        }
+    };
+    Ok((known.name, value))
+}
+
+/// Says that a command hasn't this option, and which have.
+fn unknown(command: &str, name: &str) -> Failure {
+    let commands = commands_with(name);
+    Failure::usage(match commands[..] {
+        [] => format!("there is no option {name}"),
+        _ => format!(
+            "{name} is no option of {command}; {} it",
+            match commands[..] {
+                [one] => format!("{one} has"),
+                _ => format!("{} have", commands.join(" and ")),
+            }
+        ),
+    })
 }

@@ -78,7 +78,8 @@ fn what_is_sent() {
         let folder = Folder::new();
         let input = format!("in.{codec}");
         folder.write(&input, &stream);
-        let sending = ["--sequence", "65533", "--fps", "50", "--mtu", "200"];
+        let sending = "--ssrc 0x68323658 --sequence 65533 --fps 50 --mtu 200";
+        let sending: Vec<&str> = sending.split(' ').collect();
         folder
             .run(&[&["send", &input, "out.pcap"], &sending[..]].concat())
             .says(0, &[]);

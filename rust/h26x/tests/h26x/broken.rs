@@ -20,7 +20,7 @@ fn fails(capture: &[u8], words: &[&str]) -> Ran {
 
 #[test]
 fn no_captures() {
-    fails(&[], &["the file is empty"]);
+    fails(&[], &["the capture is empty"]);
     fails(&[0xd4, 0xc3, 0xb2, 0xa1], &["too short for a capture"]);
     fails(&[7; 100], &["this is no capture"]);
     fails(&[0, 0, 0, 1, 0x67].repeat(9), &["this is no capture"]);
@@ -203,7 +203,11 @@ fn no_streams() {
     ]
     .concat();
     for (name, bytes, word) in [
-        ("mp4.h264", &mp4[..], "no start code at the front"),
+        (
+            "mp4.h264",
+            &mp4[..],
+            "this is an MP4 file; take the stream out",
+        ),
         (
             "text.h265",
             b"this is no stream at all",
@@ -248,7 +252,7 @@ fn files_that_are_not_there() {
         .says(1, &["this is the input too"]);
     folder
         .run(&["receive", "/dev/null", "out.h264"])
-        .says(1, &["this is no regular file"]);
+        .says(1, &["/dev/null: the capture is empty"]);
     assert_eq!(folder.names(), ["in.pcap"]);
 }
 
@@ -374,7 +378,33 @@ fn words_that_are_unknown() {
         ),
         (
             &["send", "a.h264", "b.pcap", "--window", "3"],
-            "--window is no option of this command",
+            "--window is no option of send; receive and inspect have it",
+        ),
+        (
+            &["receive", "a.pcap", "b.h264", "--json"],
+            "--json is no option of receive; inspect has it",
+        ),
+        (
+            &["inspect", "a.pcap", "--frobnicate", "3"],
+            "there is no option --frobnicate\n",
+        ),
+        (&["inspect", "-x", "a.pcap"], "there is no option -x\n"),
+        (
+            &["inspect", "a.pcap", "--nothing=3"],
+            "there is no option --nothing\n",
+        ),
+        (
+            &["inspect", "a.pcap", "--json", "--summary"],
+            "give one of them",
+        ),
+        (
+            &["inspect", "a.pcap", "--color", "red"],
+            "--color red: give auto, always or never",
+        ),
+        (&["completion", "csh"], "say which shell: bash, zsh or fish"),
+        (
+            &["receive", "--all", "a.pcap", "-"],
+            "--all writes a file for each stream; name a folder",
         ),
         (
             &["receive", "a.pcap", "b.h265", "--donl=0"],
@@ -386,7 +416,7 @@ fn words_that_are_unknown() {
         ),
         (
             &["receive", "a.pcap", "b.h264", "--port"],
-            "--port is unknown, or lacks its value",
+            "--port lacks its value",
         ),
         (
             &["receive", "a.pcap", "b.h264", "--codec", "av1"],
@@ -412,7 +442,6 @@ fn words_that_are_unknown() {
         &[
             "h26x send IN.h264 OUT.pcap",
             "IN has its units behind lengths of four bytes",
-            "as .h26x.*.part",
             "Status: 0 all went well",
         ],
     );

@@ -2,7 +2,7 @@
 
 use crate::program::{Folder, cut, small_streams};
 
-const SEND: [&str; 4] = ["send", "--lengths", "units", "lengths.pcap"];
+const SEND: [&str; 6] = ["send", "--lengths", "units", "lengths.pcap", "--seed", "1"];
 
 fn behind_lengths(units: &[Vec<u8>]) -> Vec<u8> {
     let with_length = |unit: &Vec<u8>| [&(unit.len() as u32).to_be_bytes()[..], unit].concat();
@@ -94,11 +94,7 @@ fn streams_that_are_broken() {
     fails(
         &["--lengths", "--codec", "h265"],
         &[&boxes.concat()[..], &[1; 0x58]].concat(),
-        &[
-            "the length at byte 28 says that its unit has 1836019574 bytes",
-            "ffmpeg",
-            "leave --lengths out",
-        ],
+        &["this is an MP4 file", "ffmpeg", "leave --lengths out"],
     );
 }
 

@@ -152,6 +152,14 @@ fn numbers_that_go_back() {
     );
 }
 
+/// Where most packets come too late, the status says that some are missing.
+#[test]
+fn packets_in_reverse() {
+    let reverse = slices((100..200).rev());
+    let ran = receives(&reverse, &[], &slices(167..200));
+    ran.says(3, &["67 packets: not taken, come twice or too late"]);
+}
+
 /// A gap that is longer than the window is a gap still.
 #[test]
 fn a_long_gap() {

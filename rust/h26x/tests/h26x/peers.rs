@@ -176,7 +176,7 @@ fn captured(packets: &[Vec<u8>]) -> Vec<u8> {
 
 /// The RTP packets of a capture that the program wrote: behind the record's header of 16 bytes stand
 /// those of Ethernet, IPv4 and UDP.
-fn packets_in(capture: &[u8]) -> Vec<Vec<u8>> {
+pub fn packets_in(capture: &[u8]) -> Vec<Vec<u8>> {
     let mut packets = Vec::new();
     let mut records = &capture[24..];
     while let Some((header, rest)) = records.split_first_chunk::<16>() {

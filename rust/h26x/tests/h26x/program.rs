@@ -6,7 +6,7 @@ use std::sync::OnceLock;
 use std::sync::atomic::{AtomicU32, Ordering};
 use std::{env, fs, process};
 
-const PROGRAM: &str = env!("CARGO_BIN_EXE_h26x");
+pub const PROGRAM: &str = env!("CARGO_BIN_EXE_h26x");
 
 static FOLDERS: AtomicU32 = AtomicU32::new(0);
 

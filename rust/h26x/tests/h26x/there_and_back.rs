@@ -12,7 +12,8 @@ fn is_sent(codec: &str, unit: &[u8]) -> bool {
     }
 }
 
-fn sent(codec: &str, stream: &[u8]) -> Vec<Vec<u8>> {
+/// The units of a stream that are sent.
+pub fn sent(codec: &str, stream: &[u8]) -> Vec<Vec<u8>> {
     let mut units = cut(stream);
     units.retain(|unit| is_sent(codec, unit));
     units
@@ -25,7 +26,7 @@ fn there_and_back(codec: &str, stream: &[u8], sending: &[&str], receiving: &[&st
     let (input, back) = (format!("in.{codec}"), format!("back.{codec}"));
     folder.write(&input, stream);
     folder
-        .run(&[&["send", &input, "out.pcap"], sending].concat())
+        .run(&[&["send", &input, "out.pcap", "--seed", "1"], sending].concat())
         .says(0, &[]);
     folder
         .run(&[&["receive", "out.pcap", &back], receiving].concat())

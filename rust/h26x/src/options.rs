@@ -1,0 +1,165 @@
+//! The options of all commands, of which the help, the manual page and the completions are made.
+
+/// The commands that work on streams and captures.
+pub const COMMANDS: [&str; 3] = ["send", "receive", "inspect"];
+
+pub struct Opt {
+    pub name: &'static str,
+    /// What its value is called; a flag has none.
+    pub value: Option<&'static str>,
+    /// What its value may be, where there are few.
+    pub values: &'static [&'static str],
+    /// What it does, and in parentheses what is so without it.
+    pub about: &'static str,
+}
+
+/// Options of the same commands.
+pub struct Group {
+    pub commands: &'static [&'static str],
+    pub options: &'static [Opt],
+}
+
+const fn flag(name: &'static str, about: &'static str) -> Opt {
+    Opt {
+        name,
+        value: None,
+        values: &[],
+        about,
+    }
+}
+
+const fn with(name: &'static str, value: &'static str, about: &'static str) -> Opt {
+    Opt {
+        name,
+        value: Some(value),
+        values: &[],
+        about,
+    }
+}
+
+const fn one_of(
+    name: &'static str,
+    value: &'static str,
+    values: &'static [&'static str],
+    about: &'static str,
+) -> Opt {
+    Opt {
+        name,
+        value: Some(value),
+        values,
+        about,
+    }
+}
+
+pub static GROUPS: [Group; 5] = [
+    Group {
+        commands: &["send"],
+        options: &[
+            with("--mtu", "BYTES", "the longest RTP payload (1200)"),
+            with(
+                "--fps",
+                "RATE",
+                "pictures a second, as 25 or 30000/1001 (25); timestamps follow the order of the \
+                 stream, which is the order of decoding",
+            ),
+            with("--payload-type", "N", "0 to 63 or 96 to 127 (96)"),
+            with("--port", "N", "UDP port (5004)"),
+            with("--ssrc", "N", "as 1234 or 0x4d2 (drawn anew each time)"),
+            with(
+                "--sequence",
+                "N",
+                "the first sequence number (drawn anew each time)",
+            ),
+            with(
+                "--seed",
+                "N",
+                "what is drawn is drawn from this number: the same each time",
+            ),
+            flag(
+                "--lengths",
+                "IN has its units behind lengths of four bytes, as in MP4 files (ISO/IEC \
+                 14496-15; what receive --lengths writes), and not behind start codes",
+            ),
+        ],
+    },
+    Group {
+        commands: &["receive", "inspect"],
+        options: &[
+            with("--port", "N", "the stream that is sent to this port"),
+            with("--payload-type", "N", "the stream of this payload type"),
+            with(
+                "--ssrc",
+                "N",
+                "the stream of this SSRC (of those that are asked for, and of the codec, the one \
+                 in which most packets follow one another)",
+            ),
+            flag(
+                "--all",
+                "all streams of H.264, H.265 and H.266 that are asked for, 64 at most; of receive \
+                 OUT is a folder then, where each gets a file",
+            ),
+            with(
+                "--window",
+                "N",
+                "a packet is waited for until one comes that is more than N ahead of it, 0 to \
+                 1024 (32); one that comes later is late, and is not taken",
+            ),
+            with(
+                "--run-limit",
+                "BYTES",
+                "the longest unit in fragments (16777216); a longer one is left out",
+            ),
+        ],
+    },
+    Group {
+        commands: &["receive"],
+        options: &[flag(
+            "--lengths",
+            "units behind lengths of four bytes, as in MP4 files, and not behind start codes",
+        )],
+    },
+    Group {
+        commands: &["inspect"],
+        options: &[
+            flag("--summary", "no line for each packet"),
+            flag("--json", "an object of JSON in each line"),
+            one_of(
+                "--color",
+                "WHEN",
+                &["auto", "always", "never"],
+                "colours: auto, always or never (auto: on a terminal, where NO_COLOR isn't set)",
+            ),
+        ],
+    },
+    Group {
+        commands: &COMMANDS,
+        options: &[
+            one_of(
+                "--codec",
+                "CODEC",
+                &["h264", "h265", "h266"],
+                "h264, h265 or h266 (what the file's ending tells: .h264 .264, .h265 .265 .hevc, \
+                 .h266 .266 .vvc; receive and inspect look at the packets where it tells nothing)",
+            ),
+            flag(
+                "--donl",
+                "packets bear decoding order numbers (sprop-max-don-diff over 0; H.265, H.266)",
+            ),
+            flag("--help", "says how the program is called"),
+            flag("--version", "says which version it is"),
+        ],
+    },
+];
+
+/// The option of a command.
+pub fn of_command(command: &str, name: &str) -> Option<&'static Opt> {
+    let groups = GROUPS.iter().filter(|it| it.commands.contains(&command));
+    let mut options = groups.flat_map(|it| it.options);
+    options.find(|it| it.name == name)
+}
+
+/// The commands that have an option of this name.
+pub fn commands_with(name: &str) -> Vec<&'static str> {
+    let has = |command: &&&str| of_command(command, name).is_some();
+    COMMANDS.iter().filter(has).copied().collect()
+}

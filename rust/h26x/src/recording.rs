@@ -1,0 +1,168 @@
+//! A stream that is written into a file.
+
+use crate::arguments::{Looking, Receive};
+use crate::codecs::{name, word};
+use crate::errors::{Failure, INCOMPLETE};
+use crate::output::Output;
+use crate::packets::{Captured, Stream};
+use crate::printing::say;
+use crate::reception::{Became, Reception};
+use crate::streams::{Known, counted};
+use crate::tally::Tally;
+use crate::window::{Event, Window};
+use emupedestal::Codec;
+use std::path::PathBuf;
+
+pub struct Recording {
+    codec: Codec,
+    stream: Stream,
+    window: Window,
+    reception: Reception,
+    output: Output,
+    path: PathBuf,
+    /// Whether the name of its file isn't the user's.
+    is_of_many: bool,
+}
+
+impl Recording {
+    pub fn new(asked: &Receive, codec: Codec, known: &Known) -> Result<Self, Failure> {
+        let Looking { input, choice, .. } = &asked.looking;
+        let path = match choice.is_all {
+            true => asked.output.join(file_name(&known.stream, codec)),
+            false => asked.output.clone(),
+        };
+        let mut reception = Reception::new(
+            codec,
+            known.stream.payload_type,
+            asked.looking.has_donl,
+            asked.looking.run_limit,
+        );
+        if asked.has_lengths {
+            reception.with_lengths();
+        }
+        Ok(Recording {
+            codec,
+            stream: known.stream,
+            window: Window::new(asked.looking.window),
+            reception,
+            output: Output::create(&path, input)?,
+            path,
+            is_of_many: choice.is_all,
+        })
+    }
+
+    /// The stream, and where its name isn't the user's its file.
+    pub fn named(&self) -> String {
+        match self.is_of_many {
+            true => format!(
+                "{} as {} into {}",
+                self.stream,
+                name(self.codec),
+                self.path.display()
+            ),
+            false => format!("{} as {}", self.stream, name(self.codec)),
+        }
+    }
+
+    /// Takes a packet that is numbered with those of the stream.
+    pub fn take(&mut self, packet: &Captured<'_>) -> Result<(), Failure> {
+        let Recording {
+            window,
+            reception,
+            output,
+            ..
+        } = self;
+        window.take(packet, &mut |event: Event<'_>| {
+            receive_event(reception, event, &mut output.gathered);
+            output.pass_on()
+        })
+    }
+
+    /// Writes what is there so far.
+    pub fn pass_on(&mut self) -> Result<(), Failure> {
+        self.output.write_out()
+    }
+
+    /// Gives the file its name, says what was counted, and answers the status to end with.
+    pub fn finish(self, asked: &Receive) -> Result<u8, Failure> {
+        let Recording {
+            codec,
+            window,
+            mut reception,
+            mut output,
+            path,
+            is_of_many,
+            ..
+        } = self;
+        window.finish(&mut |event: Event<'_>| {
+            receive_event(&mut reception, event, &mut output.gathered);
+            output.pass_on()
+        })?;
+        let tally = reception.finish();
+        check_taken(&asked.looking, codec, &tally)?;
+        let written = output.finish()?;
+        for oddity in tally.oddities() {
+            say(&oddity);
+        }
+        let of = if is_of_many {
+            &path
+        } else {
+            &asked.looking.input
+        };
+        say(&format!(
+            "{}: {}; {} written",
+            of.display(),
+            tally.totals(),
+            counted(written, "byte")
+        ));
+        Ok(if tally.is_whole() { 0 } else { INCOMPLETE })
+    }
+}
+
+/// What a stream's file is called among those of other streams: by its SSRC, its payload type, where it
+/// goes, and its codec.
+fn file_name(stream: &Stream, codec: Codec) -> String {
+    let (address, port) = stream.to;
+    let address = address.to_string().replace(':', "_");
+    format!(
+        "ssrc-{:#010x}-type-{}-to-{address}-port-{port}.{}",
+        stream.ssrc,
+        stream.payload_type,
+        word(codec)
+    )
+}
+
+/// Gives what a window gives out to a receiver.
+fn receive_event(reception: &mut Reception, event: Event<'_>, out: &mut Vec<u8>) {
+    match event {
+        Event::Packet(packet, is_moved) => {
+            if !matches!(reception.take(&packet, out), Became::PassedOver) {
+                reception.tally.moved += u64::from(is_moved);
+            }
+        }
+        Event::Twice(_) => reception.tally.twice += 1,
+        Event::Stray(_) => reception.tally.strays += 1,
+        Event::Anew => reception.begin_anew(),
+    }
+}
+
+/// Refuses a stream of which most packets were refused, or that is damaged by what it was taken for.
+fn check_taken(looking: &Looking, codec: Codec, tally: &Tally) -> Result<(), Failure> {
+    let what = match (tally.advice, tally.refusal_of_most()) {
+        (Some(advice), _) => format!("{advice}; nothing is written"),
+        (None, Some(reason)) => format!(
+            "{} of {} packets are refused as {}, so nothing is written; is it another codec \
+             (--codec), or do its packets bear numbers (--donl)? Most of them: {reason}",
+            tally.refused,
+            tally.packets,
+            name(codec)
+        ),
+        _ if tally.parts * 2 > tally.packets => format!(
+            "of {} of {} packets the capture has only a front, so nothing is written; capture \
+             with a longer snap length (tcpdump -s 0)",
+            tally.parts, tally.packets
+        ),
+        _ => return Ok(()),
+    };
+    Err(Failure::of(&looking.input, what))
+}

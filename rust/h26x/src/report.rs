@@ -1,0 +1,194 @@
+//! What `inspect` prints of a stream, line by line.
+
+use crate::arguments::Inspect;
+use crate::codecs::name;
+use crate::colors::{Look, Painter};
+use crate::json;
+use crate::packets::{Captured, Stream};
+use crate::payload::{Description, describe};
+use crate::reception::Became;
+use crate::seen::PassedOver;
+use crate::streams::counted;
+use crate::tally::Tally;
+use emupedestal::Codec;
+use std::io::{self, BufWriter, StdoutLock, Write};
+
+const TITLES: &str = "  seq      seconds   timestamp M bytes  packet      units";
+
+#[derive(Clone, Copy, PartialEq, Eq)]
+pub enum Form {
+    /// A line for each packet, and the summary.
+    Lines,
+    Summary,
+    /// An object of JSON in each line.
+    Json,
+}
+
+/// What happens between two packets.
+pub enum Happened {
+    /// A packet came twice.
+    Twice(u16),
+    /// A packet's number is far from all others.
+    Stray(u16),
+    /// The sender begins anew.
+    Anew,
+    /// Two senders have one SSRC, as this says.
+    TwoSenders(String),
+}
+
+pub struct Report {
+    form: Form,
+    codec: Codec,
+    has_donl: bool,
+    painter: Painter,
+    /// When the first packet was captured.
+    begin: Option<u64>,
+    to: BufWriter<StdoutLock<'static>>,
+}
+
+impl Report {
+    pub fn new(asked: &Inspect, codec: Codec) -> Self {
+        Report {
+            form: asked.form,
+            codec,
+            has_donl: asked.looking.has_donl,
+            painter: asked.color.painter(),
+            begin: None,
+            to: BufWriter::with_capacity(1 << 16, io::stdout().lock()),
+        }
+    }
+
+    /// Says which stream it is, and which others there are, in words.
+    pub fn front(&mut self, stream: &Stream, others: &str) -> io::Result<()> {
+        if self.form == Form::Json {
+            return json::stream(&mut self.to, stream, self.codec);
+        }
+        writeln!(self.to, "stream: {stream} as {}", name(self.codec))?;
+        if !others.is_empty() {
+            writeln!(self.to, "passed over: {others}")?;
+        }
+        match self.form {
+            Form::Lines => writeln!(self.to, "{}", self.painter.paint(Look::Title, TITLES)),
+            _ => Ok(()),
+        }
+    }
+
+    pub fn packet(
+        &mut self,
+        packet: &Captured<'_>,
+        is_moved: bool,
+        became: &Became,
+    ) -> io::Result<()> {
+        if self.form == Form::Summary {
+            return Ok(());
+        }
+        let begin = *self.begin.get_or_insert(packet.time);
+        let about = describe(self.codec, self.has_donl, packet.rtp.payload);
+        if self.form == Form::Json {
+            return json::packet(&mut self.to, begin, packet, &about, is_moved, became);
+        }
+        if let Became::Taken { missing, .. } | Became::TooLong { missing } = became {
+            if *missing > 0 {
+                let lost = counted((*missing).into(), "packet");
+                self.note(&format!("lost: {lost} before {}", packet.rtp.sequence))?;
+            }
+        }
+        self.line(begin, packet, &about)?;
+        if is_moved {
+            self.note("it came behind a later packet")?;
+        }
+        note_of(became).map_or(Ok(()), |note| self.note(&note))
+    }
+
+    fn line(&mut self, begin: u64, packet: &Captured<'_>, about: &Description) -> io::Result<()> {
+        let rtp = &packet.rtp;
+        let kind = match rtp.is_padding() {
+            true => "padding".into(),
+            false => format!("{} {}", about.kind, about.marks),
+        };
+        let key = if about.is_keyframe { "  keyframe" } else { "" };
+        writeln!(
+            self.to,
+            "{:5} {:>12} {:11} {} {:5}  {kind:<10}  {}{}",
+            rtp.sequence,
+            seconds(begin, packet.time),
+            rtp.timestamp,
+            if rtp.marker { 'M' } else { ' ' },
+            rtp.payload.len(),
+            in_words(packet, about),
+            self.painter.paint(Look::Keyframe, key),
+        )
+    }
+
+    /// What is to be said of the packet above, or between two.
+    fn note(&mut self, what: &str) -> io::Result<()> {
+        let note = self.painter.paint(Look::Note, &format!("! {what}"));
+        writeln!(self.to, "      {note}")
+    }
+
+    pub fn happened(&mut self, what: Happened) -> io::Result<()> {
+        match self.form {
+            Form::Summary => Ok(()),
+            Form::Json => json::happened(&mut self.to, what),
+            Form::Lines => self.note(&match what {
+                Happened::Twice(sequence) => format!("{sequence} came twice"),
+                Happened::Stray(sequence) => format!("{sequence} is far from all others"),
+                Happened::Anew => "the sender begins anew with another number".into(),
+                Happened::TwoSenders(told) => told,
+            }),
+        }
+    }
+
+    /// Prints what is there so far.
+    pub fn pass_on(&mut self) -> io::Result<()> {
+        self.to.flush()
+    }
+
+    pub fn end(mut self, tally: &Tally, passed: &PassedOver) -> io::Result<()> {
+        let mut end = tally.oddities();
+        end.extend(passed.told());
+        match self.form {
+            Form::Json => json::end(&mut self.to, tally, &end)?,
+            _ => {
+                end.push(tally.totals());
+                writeln!(self.to, "{}", end.join("\n"))?;
+            }
+        }
+        self.to.flush()
+    }
+}
+
+/// What became of a packet, where that is to be said.
+fn note_of(became: &Became) -> Option<String> {
+    Some(match became {
+        Became::Taken { gave_up: true, .. } => {
+            "a unit is given up, of which a packet is missing".into()
+        }
+        Became::Taken { .. } | Became::PassedOver | Became::Padding => return None,
+        Became::TooLong { .. } => {
+            "its unit is given up, since it is longer than --run-limit".into()
+        }
+        Became::Late(behind) => format!("not taken: it came twice, or late, {behind} behind"),
+        Became::Refused(reason) => format!("refused: {reason}"),
+        Became::Cut => "not taken: the capture has only its front".into(),
+    })
+}
+
+/// A packet's units with their lengths, or how much padding it has alone.
+fn in_words(packet: &Captured<'_>, about: &Description) -> String {
+    if packet.rtp.is_padding() {
+        return counted(packet.rtp.padding.into(), "byte");
+    }
+    let units = about.units.iter().map(|(name, len)| match len {
+        Some(len) => format!("{name} {len}"),
+        None => (*name).into(),
+    });
+    units.collect::<Vec<String>>().join(", ")
+}
+
+/// How long after the first packet another was captured, in seconds.
+pub fn seconds(begin: u64, time: u64) -> String {
+    let micros = time.abs_diff(begin) / 1000;
+    let sign = if time < begin { "-" } else { "" };
+    format!("{sign}{}.{:06}", micros / 1_000_000, micros % 1_000_000)
+}
