@@ -6,7 +6,7 @@
 | `x: &[u8]` of an export | `x: *const u8, x_len: usize`, then `bytes(x, x_len)` | NULL has length 0 |
 | `to: &mut [u8]`, `ends: &mut [usize]` | the same, as `room` and `ends_room`, then `room(..)` | as the header names them |
 | `x: &mut usize`, and the other types of `OUTPUTS`, which nothing reads; of all functions of the crates that C reaches | `x: &mut MaybeUninit<usize>`, `*x = y` is `x.write(y)`; of an export `x: *mut usize`, then `output(x, ..)` | C leaves it uninitialised; NULL isn't wanted |
-| `x: &mut u8` of an export, which it reads | `x: *mut u8`, then `in_out(x, ..)` | NULL is read as 0 |
+| `extra: &mut u8` of an export, which it reads | `extra: *mut u8`, then `in_out(extra, ..)` | NULL is read as 0 |
 | `x: &mut Place`, `x: &mut Handle` | `x: *mut Place`, then `made(x)`; `x: *mut Handle`, then `lent(x)` | they are there |
 | `x: Handle` | by value; of NULL the call returns | it is nothing to be freed |
 | numbers and `bool` | the same | |
@@ -27,6 +27,8 @@ UNSAFE = {"h26x_c"}
 NUMBERS = {"u8", "u16", "u32", "usize"}
 # What a call writes for C. `Place` is where a handle is written.
 OUTPUTS = NUMBERS | {"Refusal", "Shown", "Place"}
+# What the header says is in and out: C gives a number there, and of no other output.
+IN_OUT = {"extra"}
 # Parameters that the header names otherwise.
 NAMES = {"is_avc": "avc"}
 HEAD = """\
@@ -210,7 +212,7 @@ class Exports:
                 taken.append(f"{name}: *mut {output[1]}")
                 first.append(f"let mut no_{name} = MaybeUninit::uninit();")
                 given.append(f"pointers::output({name}, &mut no_{name})")
-            elif output and output[2] in NUMBERS:
+            elif output and output[2] in NUMBERS and name in IN_OUT:
                 taken.append(f"{name}: *mut {output[2]}")
                 first.append(f"let mut no_{name} = 0;")
                 given.append(f"pointers::in_out({name}, &mut no_{name})")
