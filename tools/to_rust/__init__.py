@@ -1,5 +1,5 @@
 """The translation of the proved Rattle sources into ordinary Rust; `tools/to-rust` runs it.
 
-`tree` has the lexer and the tree of tokens, `contracts`, `laws`, `memory`, `types` and `idiom` the rules, each
-with its reason, and `translation` their order.
+`tree` has the lexer and the tree of tokens, `contracts`, `laws`, `memory`, `types`, `idiom` and `exports` the rules,
+each with its reason, and `translation` their order.
 """

@@ -17,10 +17,11 @@ def is_law(function):
     return not function.answers and not re.search(r"& (?:'\w+ )?mut\b|\bimpl\b|\brt\b", parameters)
 
 
-def laws_among(files):
-    """The names of laws, of all crates' files together. A name that something else has too is none."""
+def laws_among(files, exports=()):
+    """The names of laws, of all crates' files together. A name that something else has too is none, nor is an
+    export, which may end what C gives it."""
     every = [function for items in files for function in functions(items)]
-    laws = {f.name for f in every if is_law(f)} - {f.name for f in every if not is_law(f)}
+    laws = {f.name for f in every if is_law(f)} - {f.name for f in every if not is_law(f)} - set(exports)
     texts = [bare_words(items) for items in files]
     aliases = {alias for text in texts for name, alias in re.findall(r"(\w+) as (\w+)", text) if name in laws}
     methods = {f.name for f in every if re.search(r"\bself\b", bare(f.parameters.items))}

@@ -2,8 +2,8 @@
 
 from pathlib import Path
 
-from . import contracts, idiom, laws, memory, types
-from .tree import after, at, deep, is_sign, is_word, parse, words_of, written
+from . import contracts, exports, idiom, laws, memory, types
+from .tree import after, at, deep, functions, is_sign, is_word, parse, words_of, written
 
 
 class Crate:
@@ -11,13 +11,13 @@ class Crate:
 
     def __init__(self, folder, name, owed):
         self.name, self.root, self.owed = name, folder / name / "src", owed
-        self.files, self.words = {}, {}
+        self.files, self.words, self.exports = {}, {}, {}
         self.read("lib.rt", self.root / "lib.rt", self.root)
         self.files = idiom.use_portable(name, self.files)
 
     def read(self, place, path, folder):
         """Reads a file and those that its modules name; tests are left out."""
-        items = parse(path.read_text(encoding="utf-8"))
+        items, self.exports[place] = exports.take_exports(parse(path.read_text(encoding="utf-8")))
         self.words[place] = words_of(items)
         self.owed.lower(items, f"{self.name}/src/{place}")
         self.files[place] = items = contracts.without_contracts(items)
@@ -55,28 +55,47 @@ class Translation:
         self.types = types.Types()
         self.crates = [Crate(Path(folder), name, self.owed) for name in crates]
         self.owed.check()
-        self.laws = laws.laws_among([items for crate in self.crates for items in crate.files.values()])
+        called = {name for crate in self.crates for names in crate.exports.values() for name in names}
+        self.laws = laws.laws_among([items for crate in self.crates for items in crate.files.values()], called)
         for crate in self.crates:
+            every = {f.name for items in crate.files.values() for f in functions(items)}
+            crate.laws = every & self.laws
             crate.thin(self.laws)
         self.of_std = {name for crate in self.crates for items in crate.files.values()
                        for name in idiom.std_alone(items)}
         self.without = {crate.name for crate in self.crates if not crate.files}
 
-    def texts(self):
-        """The text of each file, by its path."""
-        out = {}
-        for crate in self.crates:
+    def texts(self, names, shared=(), folder=""):
+        """The text of each file of these crates, by its path. `shared` are crates whose modules stand in a folder
+        of another package."""
+        out, crates = {}, [crate for crate in self.crates if crate.name in names]
+        for crate in crates:
+            of_c = exports.Exports()
             for place, items in crate.files.items():
-                path = f"{crate.name}.rs" if place == "lib.rt" else f"{crate.name}/{place[:-3]}.rs"
-                out[f"{self.module}/{path}"] = self.file(crate, place, items)
-        kept = sorted(crate.name for crate in self.crates if crate.files)
-        out[f"{self.module}.rs"] = "\n".join([
-            "//! The proved modules, translated from the sources in `crates`. `tools/to-rust` makes them: edit none.",
-            "", *(f"pub mod {name};" for name in kept), ""])
-        out[f"{self.module}/erased.txt"] = self.erased()
+                out[self.path(crate, place)] = self.file(crate, place, items, of_c)
+            if of_c.calls:
+                out[self.path(crate, "lib.rt")] += "pub mod exports;\n"
+                out[self.path(crate, "exports.rt")] = f"// Made from crates/{crate.name} by tools/to-rust.\n\n{of_c.text()}"
+        kept = sorted(crate.name for crate in crates if crate.files)
+        out[f"{self.module}.rs"] = self.modules(kept, sorted(set(shared) - self.without), folder)
+        out[f"{self.module}/erased.txt"] = self.erased(crates)
         return out
 
-    def file(self, crate, place, items):
+    def path(self, crate, place):
+        inner = f"{crate.name}.rs" if place == "lib.rt" else f"{crate.name}/{place[:-3]}.rs"
+        return f"{self.module}/{inner}"
+
+    def modules(self, kept, shared, folder):
+        """The text of the module that has the crates'."""
+        lines = ["//! The proved modules, translated from the sources in `crates`. `tools/to-rust` makes them: edit none.", ""]
+        if shared:
+            lines += ["#[forbid(unsafe_code)]", f'#[path = "{folder}/{self.module}"]', "mod shared {",
+                      *(f"pub mod {name};" for name in shared), "}", "", "pub use shared::*;", ""]
+        for name in kept:
+            lines += ["#[forbid(unsafe_code)]"] * (bool(shared) and name not in exports.UNSAFE) + [f"pub mod {name};"]
+        return "\n".join([*lines, ""])
+
+    def file(self, crate, place, items, of_c):
         # What only contracts and laws named is not imported.
         unnamed = crate.words[place] - words_of(items)
         gone = self.laws | unnamed | {"Model", "Global", "Serialize", "Deserialize", "Error"}
@@ -86,22 +105,26 @@ class Translation:
         items = memory.convert_ends(deep(items, fallible.change), fallible.lists | fallible.queues)
         items = deep(deep(items, idiom.write_formatters), memory.write_takes)
         items = deep(items, idiom.rename)
+        if crate.name in exports.REACHED:
+            items = exports.write_outputs(deep(items, exports.write_pairs))
+        of_c.note(place, items, crate.exports[place])
         items = deep(items, idiom.erase_hints(crate.name))
         items = deep(items, idiom.erase_examples)
         items = deep(items, idiom.put_behind_std(self.of_std))
         items = deep(items, idiom.rewrite_paths(self.module, crate.name, self.names))
+        items = deep(items, exports.write_boxes)
         items = deep(items, self.types.change)
-        items = idiom.add_imports(items, fallible.traits)
+        items = exports.add_import(idiom.add_imports(items, fallible.traits))
         idiom.check_words(items, f"{crate.name}/{place}")
         text = idiom.OF_MEMORY.sub("", written(items))
         return f"// Made from crates/{crate.name}/src/{place} by tools/to-rust.\n\n{text}"
 
-    def erased(self):
+    def erased(self, crates):
         """What a reviewer looks through: what was dropped, and what was kept from callers."""
-        places = {f"{crate.name}/src/{place}" for crate in self.crates for place in crate.files}
+        places = {f"{crate.name}/src/{place}" for crate in crates for place in crate.files}
         owed = [said for name, said in self.owed.said if name not in self.laws and said.split(":")[0] in places]
         return "\n".join([
             "Functions that are dropped, with the calls of them: they do nothing, and stand there for a contract.", "",
-            *(f"    {name}" for name in sorted(self.laws)), "",
+            *(f"    {name}" for name in sorted({name for crate in crates for name in crate.laws})), "",
             "Functions that only the crate may call, since nothing checks what a caller owes.", "",
             *(f"    {said}" for said in sorted(owed)), ""])

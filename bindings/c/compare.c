@@ -1,0 +1,494 @@
+/* Gives two libraries of h26x.h the same drawn calls, and compares all that they answer and write:
+ *
+ *     compare A.so B.so SECONDS SEED
+ *     compare A.so B.so =CALLS SEED
+ *
+ * All calls are made, of handles of the right kind and of others, with what may be NULL as NULL, buffers
+ * of any length, and rooms that are too small. At the first difference the status is 1. The last line
+ * has a sum of all answers, which CALLS and SEED give on every machine of 64 bits. */
+#include "drawn.h"
+#include <dlfcn.h>
+#include <stdio.h>
+#include <stdlib.h>
+#include <string.h>
+#include <time.h>
+
+#define NAMES(X)                                                                                   \
+    X(version) X(codec_name) X(strerror) X(packetizer_new) X(depacketizer_new) X(receiver_new)     \
+    X(packetizer_free) X(depacketizer_free) X(receiver_free) X(h265_paci_packet)                   \
+    X(is_partition_head) X(is_partition_tail) X(detect_keyframe) X(detect_h264_nalu) X(next_unit)  \
+    X(out_size_hint) X(h264_profile_level) X(h265_is_known) X(h266_is_known)                       \
+    X(packetizer_clone) X(packetizer_set_numbers) X(packetizer_set_max_size) X(packetize)          \
+    X(packetize_unit) X(packetize_into) X(packets_size) X(packetize_unit_into) X(packet_count)     \
+    X(packet_len) X(packets_len) X(packet_copy) X(packets_copy) X(depacketizer_clone)              \
+    X(depacketizer_same) X(depacketizer_set_numbers) X(depacketize) X(written_copy)                \
+    X(give_up_run) X(receiver_clone) X(receiver_set_numbers) X(receiver_set_avc) X(receive)        \
+    X(receiver_restart) X(receiver_run_len) X(h265_shown) X(h265_part_copy)
+
+struct library {
+#define POINTER(name) __typeof__(h26x_##name) *name;
+    NAMES(POINTER)
+};
+
+/* From packetizer_clone on, calls of a handle that is there. */
+enum call {
+#define NUMBER(name) CALL_##name,
+    NAMES(NUMBER) CALLS
+};
+
+static const char *const names[] = {
+#define TEXT(name) #name,
+    NAMES(TEXT)};
+
+static struct library libraries[2];
+
+static struct library opened(const char *path)
+{
+    struct library it;
+    void *at = dlopen(path, RTLD_NOW | RTLD_LOCAL);
+    if (at == NULL) {
+        fprintf(stderr, "%s\n", dlerror());
+        exit(2);
+    }
+#define FIND(name) *(void **)&it.name = dlsym(at, "h26x_" #name);
+    NAMES(FIND)
+#define LOOK(name)                                                                                 \
+    if (it.name == NULL) {                                                                         \
+        fprintf(stderr, "%s has no h26x_" #name "\n", path);                                       \
+        exit(2);                                                                                   \
+    }
+    NAMES(LOOK)
+    return it;
+}
+
+/* ---- What a call is given ---- */
+
+enum kind { NONE, PACKETIZER, DEPACKETIZER, RECEIVER };
+
+/* A handle of each library, of one kind. */
+struct held {
+    enum kind kind;
+    uint32_t codec;
+    uint16_t sequence;
+    void *at[2];
+};
+
+enum { HELD = 6, ENDS = 512 };
+
+static struct held held[HELD];
+
+/* What is drawn for a call. `wants` has a bit for each output that isn't NULL. */
+struct drawn {
+    enum call call;
+    struct held *h, *other_h;
+    uint32_t codec, x, y, z, wants;
+    bool numbers, avc;
+    size_t mtu, headroom, room, ends_room, len, extension_len;
+    const uint8_t *bytes, *extension;
+    bool has_to, has_ends;
+    uint16_t sequence;
+};
+
+static struct bytes input, extension;
+
+static enum call draw_call(const struct held *h)
+{
+    static const enum call often[] = {CALL_packetize,   CALL_packetize_unit,      CALL_packetize_into,
+                                      CALL_depacketize, CALL_packetize_unit_into, CALL_receive,
+                                      CALL_depacketize, CALL_packets_copy,        CALL_receive};
+    const enum call call = one_in(2) ? (enum call)below(CALLS) : often[below(9)];
+    if (call >= CALL_packetizer_clone && h->kind == NONE)
+        return CALL_packetizer_new + below(3);
+    return call;
+}
+
+static void draw_input(enum call call, uint32_t codec)
+{
+    switch (call) {
+    case CALL_packetize:
+    case CALL_packetize_into:
+    case CALL_packets_size:
+    case CALL_next_unit:
+        draw_payload(&input, codec);
+        break;
+    case CALL_packetize_unit:
+    case CALL_packetize_unit_into:
+    case CALL_h265_paci_packet:
+        draw_unit(&input, codec);
+        break;
+    default:
+        draw_packet(&input, codec);
+    }
+}
+
+/* Draws a call. A buffer of NULL is said to have any length. */
+static struct drawn draw_all(void)
+{
+    struct held *h = &held[below(HELD)];
+    struct drawn d = {.call = draw_call(h), .h = h, .other_h = &held[below(HELD)]};
+    draw_input(d.call, h->kind != NONE ? h->codec : 264 + below(3));
+    draw_few(&extension, 40);
+    d.codec = any_codec(), d.x = draw(), d.y = draw(), d.z = draw();
+    d.wants = one_in(6) ? draw() : UINT32_MAX;
+    d.numbers = one_in(2), d.avc = one_in(2);
+    d.mtu = one_in(4) ? 1200 : one_in(3) ? below(20) : below(1500);
+    d.headroom = one_in(3) ? 12 : one_in(2) ? 0 : below(100);
+    d.room = one_in(3) ? below(300) : MOST;
+    d.ends_room = one_in(4) ? below(4) : ENDS;
+    d.has_to = !one_in(16), d.has_ends = !one_in(16);
+    d.bytes = one_in(40) ? NULL : input.at, d.len = input.len;
+    d.extension = one_in(8) ? NULL : extension.at, d.extension_len = extension.len;
+    d.sequence = (uint16_t)(h->sequence + (one_in(12) ? below(8) - 4 : 0));
+    return d;
+}
+
+/* ---- What a call answers ---- */
+
+struct answer {
+    uint64_t result, numbers[8];
+    uint8_t to[MOST];
+    size_t ends[ENDS];
+    char text[128];
+};
+
+static struct answer answers[2];
+static uint64_t sum = 14695981039346656037u;
+
+static void add(uint64_t it)
+{
+    sum = (sum ^ it) * 1099511628211u;
+    sum ^= sum >> 29;
+}
+
+/* Adds an answer to the sum. */
+static void add_answer(const struct answer *a)
+{
+    add(a->result);
+    for (size_t i = 0; i < 8; i++)
+        add(a->numbers[i]);
+    for (size_t i = 0; i < ENDS && a->ends[i] != SIZE_MAX; i++)
+        add(a->ends[i]);
+    for (size_t i = 0; i < 2000; i++)
+        add(a->to[i]);
+    for (size_t i = 0; a->text[i] != 0; i++)
+        add((uint8_t)a->text[i]);
+}
+
+static void show_difference(enum call call)
+{
+    const struct answer *a = &answers[0], *b = &answers[1];
+    printf("DIFFERENCE: h26x_%s: %llu and %llu\n", names[call], (unsigned long long)a->result,
+           (unsigned long long)b->result);
+    for (size_t i = 0; i < 8; i++)
+        if (a->numbers[i] != b->numbers[i])
+            printf("  number %zu: %llu and %llu\n", i, (unsigned long long)a->numbers[i],
+                   (unsigned long long)b->numbers[i]);
+    if (memcmp(a->to, b->to, sizeof a->to) != 0)
+        printf("  other bytes\n");
+    if (memcmp(a->ends, b->ends, sizeof a->ends) != 0)
+        printf("  other ends\n");
+}
+
+/* ---- The calls ---- */
+
+/* Outputs, with something in each before the call. */
+struct outputs {
+    size_t count, size;
+    uint8_t extra;
+    uint32_t number;
+    uint16_t gap;
+    h26x_refusal why;
+    h26x_h265_packet shown;
+    uint8_t profile, level;
+};
+
+#define WANTED(bit, output) ((d->wants >> (bit) & 1) != 0 ? (output) : NULL)
+
+/* `at` are a packetizer, a depacketizer and a receiver by one pointer, as another one is. */
+#define P &(h26x_packetizer){d->h->at[s]}
+#define D &(h26x_depacketizer){d->h->at[s]}
+#define R &(h26x_receiver){{d->h->at[s]}}
+
+static uint64_t sends(int s, const struct drawn *d, struct answer *a, struct outputs *o)
+{
+    const struct library *l = &libraries[s];
+    uint8_t *to = d->has_to ? a->to : NULL;
+    size_t *ends = d->has_ends ? a->ends : NULL;
+    size_t *count = WANTED(0, &o->count), *size = WANTED(1, &o->size);
+    switch (d->call) {
+    case CALL_packetizer_set_numbers:
+        return l->packetizer_set_numbers(P, d->numbers);
+    case CALL_packetizer_set_max_size:
+        return l->packetizer_set_max_size(P, d->x % 4 == 0 ? d->y % 9 : d->y % 3000);
+    case CALL_packetize:
+        return l->packetize(P, d->mtu, d->bytes, d->len, count);
+    case CALL_packetize_unit:
+        return l->packetize_unit(P, d->mtu, d->bytes, d->len, count);
+    case CALL_packetize_into:
+        return l->packetize_into(P, d->mtu, d->bytes, d->len, d->headroom, to, d->room, ends,
+                                 d->ends_room, count, size);
+    case CALL_packetize_unit_into:
+        return l->packetize_unit_into(P, d->mtu, d->bytes, d->len, d->headroom, to, d->room, ends,
+                                      d->ends_room, count, size);
+    case CALL_packets_size:
+        return l->packets_size(P, d->mtu, d->bytes, d->len,
+                               d->y % 100 == 0 ? SIZE_MAX / (1 + d->z % 4) : d->headroom, count, size);
+    case CALL_packet_count:
+        return l->packet_count(P);
+    case CALL_packet_len:
+        return l->packet_len(P, d->x % 8);
+    case CALL_packets_len:
+        return l->packets_len(P);
+    case CALL_packet_copy:
+        return l->packet_copy(P, d->x % 8, to, d->room);
+    default:
+        return l->packets_copy(P, d->x % 4 == 0 ? d->y % 10 : 0, to, d->room, ends, d->ends_room);
+    }
+}
+
+static uint64_t receives(int s, const struct drawn *d, struct answer *a, struct outputs *o)
+{
+    const struct library *l = &libraries[s];
+    uint8_t *to = d->has_to ? a->to : NULL, *extra = WANTED(2, &o->extra);
+    size_t *written = WANTED(0, &o->count);
+    h26x_refusal *why = WANTED(3, &o->why);
+    switch (d->call) {
+    case CALL_depacketizer_same:
+        return l->depacketizer_same(D, &(h26x_depacketizer){d->other_h->at[s]});
+    case CALL_depacketizer_set_numbers:
+        return l->depacketizer_set_numbers(D, d->numbers);
+    case CALL_depacketize:
+        return l->depacketize(D, d->avc, d->bytes, d->len, to, d->room, written, extra, why);
+    case CALL_written_copy:
+        return l->written_copy(D, to, d->room);
+    case CALL_give_up_run:
+        return l->give_up_run(D);
+    case CALL_receiver_set_numbers:
+        return l->receiver_set_numbers(R, d->numbers);
+    case CALL_receiver_set_avc:
+        return l->receiver_set_avc(R, d->avc);
+    case CALL_receive:
+        return l->receive(R, d->sequence, d->bytes, d->len, to, d->room, written, extra,
+                          WANTED(4, &o->number), WANTED(5, &o->gap), why);
+    case CALL_receiver_restart:
+        return l->receiver_restart(R);
+    case CALL_receiver_run_len:
+        return l->receiver_run_len(R);
+    case CALL_h265_shown:
+        return l->h265_shown(D, &o->shown);
+    default:
+        return l->h265_part_copy(D, d->x % 5, to, d->room, WANTED(4, &o->number));
+    }
+}
+
+/* Three bytes of which many are a profile and a level. */
+static uint32_t profile_level_id(const struct drawn *d)
+{
+    static const uint8_t first[] = {0x42, 0x4d, 0x58, 0x64, 0x6e, 0x7a, 0xf4, 0x2c};
+    if (d->x % 2 == 0)
+        return d->x;
+    return (uint32_t)first[d->x / 2 % 8] << 16 | (d->y % 2 ? d->y & 0xff00 : (d->y & 0x3c) << 10)
+        | d->z % 60;
+}
+
+static uint64_t looks(int s, const struct drawn *d, struct answer *a, struct outputs *o)
+{
+    const struct library *l = &libraries[s];
+    switch (d->call) {
+    case CALL_version:
+        return l->version();
+    case CALL_h265_paci_packet:
+        return l->h265_paci_packet(d->bytes, d->len, d->extension, d->extension_len,
+                                   d->has_to ? a->to : NULL, d->room, WANTED(0, &o->count));
+    case CALL_is_partition_head:
+        return l->is_partition_head(d->codec, d->bytes, d->len);
+    case CALL_is_partition_tail:
+        return l->is_partition_tail(d->codec, d->avc, d->bytes, d->len);
+    case CALL_detect_keyframe:
+        return l->detect_keyframe(d->codec, d->bytes, d->len);
+    case CALL_detect_h264_nalu:
+        return l->detect_h264_nalu(d->bytes, d->len, d->x % 32);
+    case CALL_next_unit:
+        return l->next_unit(d->codec, d->bytes, d->len, d->x % 3 == 0 ? 0 : d->y % (d->len + 2),
+                            WANTED(0, &o->count), WANTED(1, &o->size));
+    case CALL_out_size_hint:
+        return l->out_size_hint(d->x % 5 == 0 ? SIZE_MAX - d->y % 9000 : d->y);
+    case CALL_h264_profile_level:
+        return l->h264_profile_level(profile_level_id(d), WANTED(0, &o->profile), WANTED(1, &o->level));
+    case CALL_h265_is_known:
+        return l->h265_is_known(d->x % 16, d->y % 3, d->z & 0xff);
+    default:
+        return l->h266_is_known(d->x % 128, d->y % 3, d->z & 0xff);
+    }
+}
+
+/* Makes a handle, where that is drawn: NULL where none was made. */
+static void *makes(int s, const struct drawn *d, struct answer *a)
+{
+    const struct library *l = &libraries[s];
+    h26x_packetizer p = {NULL};
+    h26x_depacketizer e = {NULL};
+    h26x_receiver r = {{NULL}};
+    switch (d->call) {
+    case CALL_packetizer_new:
+        a->result = l->packetizer_new(d->codec, d->numbers, &p);
+        return p.at;
+    case CALL_depacketizer_new:
+        a->result = l->depacketizer_new(d->codec, d->numbers, &e);
+        return e.at;
+    case CALL_receiver_new:
+        a->result = l->receiver_new(d->codec, d->numbers, d->avc, d->x % 4 ? SIZE_MAX : d->y % 2000, &r);
+        return r.at.at;
+    case CALL_packetizer_clone:
+        a->result = l->packetizer_clone(P, &p);
+        return p.at;
+    case CALL_depacketizer_clone:
+        a->result = l->depacketizer_clone(D, &e);
+        return e.at;
+    default:
+        a->result = l->receiver_clone(R, &r);
+        return r.at.at;
+    }
+}
+
+static enum kind kind_made(enum call call)
+{
+    switch (call) {
+    case CALL_packetizer_new:
+    case CALL_packetizer_clone:
+        return PACKETIZER;
+    case CALL_depacketizer_new:
+    case CALL_depacketizer_clone:
+        return DEPACKETIZER;
+    case CALL_receiver_new:
+    case CALL_receiver_clone:
+        return RECEIVER;
+    default:
+        return NONE;
+    }
+}
+
+/* Gives one library a call; the pointer of a handle that it made. */
+static void *give(int s, const struct drawn *d)
+{
+    struct answer *a = &answers[s];
+    struct outputs o = {11, 12, d->wants >> 8 & 1 ? d->x % 3 : 0, 13, 14, {15, 16}, {17, 18, 19, 20}, 21, 22};
+    void *made = NULL;
+    *a = (struct answer){.result = 0};
+    memset(a->to, 0xee, sizeof a->to);
+    memset(a->ends, 0xff, sizeof a->ends);
+    if (d->call == CALL_codec_name || d->call == CALL_strerror) {
+        const char *text = d->call == CALL_strerror ? libraries[s].strerror(d->x % 16)
+                                                    : libraries[s].codec_name(d->codec);
+        snprintf(a->text, sizeof a->text, "%s", text != NULL ? text : "none");
+    } else if (kind_made(d->call) != NONE)
+        made = makes(s, d, a);
+    else if (d->call < CALL_packetizer_clone)
+        a->result = looks(s, d, a, &o);
+    else if (d->call < CALL_depacketizer_clone)
+        a->result = sends(s, d, a, &o);
+    else
+        a->result = receives(s, d, a, &o);
+    const uint64_t numbers[] = {
+        o.count, o.size, o.extra, o.number, (uint64_t)o.gap << 16 | (uint64_t)o.profile << 8 | o.level,
+        o.why.first ^ (uint64_t)o.why.second << 32,
+        (uint64_t)o.shown.kind << 32 | (uint64_t)o.shown.header << 16 | o.shown.word, o.shown.parts};
+    memcpy(a->numbers, numbers, sizeof numbers);
+    return made;
+}
+
+/* ---- Handles ---- */
+
+/* Frees a handle; of none, NULL. */
+static void put_down(struct held *h, enum kind kind)
+{
+    for (int s = 0; s < 2; s++) {
+        void *at = h->kind == NONE ? NULL : h->at[s];
+        if (kind == PACKETIZER)
+            libraries[s].packetizer_free((h26x_packetizer){at});
+        if (kind == DEPACKETIZER)
+            libraries[s].depacketizer_free((h26x_depacketizer){at});
+        if (kind == RECEIVER)
+            libraries[s].receiver_free((h26x_receiver){{at}});
+    }
+    h->kind = NONE;
+}
+
+/* A handle that was made takes the place of another one. */
+static void take_up(const struct drawn *d, void *const made[2])
+{
+    const bool is_copy = d->call >= CALL_packetizer_clone;
+    const uint32_t codec = is_copy ? d->h->codec : d->codec;
+    struct held *h = &held[below(HELD)];
+    put_down(h, h->kind);
+    *h = (struct held){kind_made(d->call), codec, draw() & 0xffff, {made[0], made[1]}};
+}
+
+/* Whether the call that was drawn can't be made: of two handles one is missing, or both are one. */
+static bool is_none(const struct drawn *d)
+{
+    return d->call == CALL_depacketizer_same && (d->other_h->kind == NONE || d->other_h == d->h);
+}
+
+/* Keeps the packets that were copied. */
+static void keep_packets(const struct drawn *d)
+{
+    const struct answer *a = &answers[0];
+    if (d->call != CALL_packets_copy || !d->has_to || !d->has_ends)
+        return;
+    for (size_t i = 0, begins = 0; i < a->result; begins = a->ends[i++])
+        keep(d->h->codec, a->to + begins, a->ends[i] - begins);
+}
+
+/* Gives both libraries a call; whether both answer the same. */
+static bool same(const struct drawn *d)
+{
+    void *made[2];
+    if (d->call >= CALL_packetizer_free && d->call <= CALL_receiver_free) {
+        if (d->h->kind == NONE)
+            put_down(d->h, PACKETIZER + (d->call - CALL_packetizer_free));
+        else if (one_in(3))
+            put_down(d->h, d->h->kind);
+        return true;
+    }
+    for (int s = 0; s < 2; s++)
+        made[s] = give(s, d);
+    if (memcmp(&answers[0], &answers[1], sizeof answers[0]) != 0
+        || (made[0] == NULL) != (made[1] == NULL)) {
+        show_difference(d->call);
+        return false;
+    }
+    add_answer(&answers[0]);
+    keep_packets(d);
+    if (d->call == CALL_receive && answers[0].result == H26X_OK)
+        d->h->sequence = d->sequence + 1;
+    if (made[0] != NULL)
+        take_up(d, made);
+    return true;
+}
+
+int main(int argc, char **argv)
+{
+    if (argc != 5) {
+        fprintf(stderr, "usage: compare A.so B.so SECONDS|=CALLS SEED\n");
+        return 2;
+    }
+    libraries[0] = opened(argv[1]), libraries[1] = opened(argv[2]);
+    begin(strtoull(argv[4], NULL, 10));
+    const bool is_counted = argv[3][0] == '=';
+    const unsigned long long most = strtoull(argv[3] + is_counted, NULL, 10);
+    const time_t end = time(NULL) + (time_t)most;
+    unsigned long long n;
+    for (n = 0; is_counted ? n < most : n % 1024 != 0 || time(NULL) < end; n++) {
+        struct drawn d = draw_all();
+        if (!is_none(&d) && !same(&d)) {
+            printf("call %llu of seed %s\n", n, argv[4]);
+            return 1;
+        }
+    }
+    for (size_t i = 0; i < HELD; i++)
+        put_down(&held[i], held[i].kind);
+    printf("%llu drawn calls of seed %s, no difference, sum %016llx\n", n, argv[4],
+           (unsigned long long)sum);
+    return 0;
+}

@@ -1,0 +1,22 @@
+//! The proved modules, translated from the sources in `crates`. `tools/to-rust` makes them: edit none.
+
+#[forbid(unsafe_code)]
+#[path = "../../emupedestal/src/proved"]
+mod shared {
+    pub mod h264_payload;
+    pub mod h265_packets;
+    pub mod h265_payload;
+    pub mod h266_payload;
+    pub mod h26x_codec;
+    pub mod h26x_core;
+    pub mod h26x_cut;
+    pub mod h26x_payload;
+    pub mod h26x_profile;
+    pub mod h26x_receiver;
+}
+
+pub use shared::*;
+
+pub mod h26x_c;
+#[forbid(unsafe_code)]
+pub mod h26x_handles;

@@ -1,0 +1,18 @@
+// Made from crates/h26x_c/src/lib.rt by tools/to-rust.
+
+//! The C library. `bindings/include/h26x.h` declares its calls, and says what a caller owes.
+//!
+//! A handle is a struct of one pointer to an `Endpoint` of `h26x_handles`, a packetizer, a
+//! depacketizer or a receiver of packets with their sequence numbers, of one codec. Each call states
+//! what it answers in the words of the payload formats.
+pub mod exports;
+mod handle;
+mod paci;
+mod packets;
+mod place;
+mod profiles;
+mod receiving;
+mod sending;
+mod sequenced;
+mod shown;
+mod units;

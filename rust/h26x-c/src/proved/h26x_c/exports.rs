@@ -1,0 +1,531 @@
+// Made from crates/h26x_c by tools/to-rust.
+
+//! The calls of `h26x.h`, by what C gives for them.
+//!
+//! A caller owes what the header says. So a pointer is NULL, where it may be, or that of a buffer of the length
+//! behind it, of a handle or of an output, which nothing else reads or writes while the call runs.
+
+pub use super::handle::Handle;
+pub use super::place::Place;
+pub use super::shown::Shown;
+use crate::pointers;
+pub use crate::proved::h26x_handles::code::Refusal;
+use core::mem::MaybeUninit;
+
+#[unsafe(no_mangle)]
+pub unsafe extern "C" fn h26x_h265_paci_packet(
+    unit: *const u8,
+    unit_len: usize,
+    extension: *const u8,
+    extension_len: usize,
+    to: *mut u8,
+    room: usize,
+    len: *mut usize,
+) -> u32 {
+    let mut no_len = MaybeUninit::uninit();
+    // SAFETY: a caller owes what the header says.
+    unsafe {
+        super::paci::h26x_h265_paci_packet(
+            pointers::bytes(unit, unit_len),
+            pointers::bytes(extension, extension_len),
+            pointers::room(to, room),
+            pointers::output(len, &mut no_len),
+        )
+    }
+}
+
+#[unsafe(no_mangle)]
+pub unsafe extern "C" fn h26x_is_partition_head(
+    codec: u32,
+    packet: *const u8,
+    packet_len: usize,
+) -> bool {
+    // SAFETY: a caller owes what the header says.
+    unsafe { super::packets::h26x_is_partition_head(codec, pointers::bytes(packet, packet_len)) }
+}
+
+#[unsafe(no_mangle)]
+pub unsafe extern "C" fn h26x_is_partition_tail(
+    codec: u32,
+    marker: bool,
+    packet: *const u8,
+    packet_len: usize,
+) -> bool {
+    // SAFETY: a caller owes what the header says.
+    unsafe {
+        super::packets::h26x_is_partition_tail(codec, marker, pointers::bytes(packet, packet_len))
+    }
+}
+
+#[unsafe(no_mangle)]
+pub unsafe extern "C" fn h26x_detect_keyframe(
+    codec: u32,
+    packet: *const u8,
+    packet_len: usize,
+) -> bool {
+    // SAFETY: a caller owes what the header says.
+    unsafe { super::packets::h26x_detect_keyframe(codec, pointers::bytes(packet, packet_len)) }
+}
+
+#[unsafe(no_mangle)]
+pub unsafe extern "C" fn h26x_detect_h264_nalu(
+    packet: *const u8,
+    packet_len: usize,
+    kind: u8,
+) -> bool {
+    // SAFETY: a caller owes what the header says.
+    unsafe { super::packets::h26x_detect_h264_nalu(pointers::bytes(packet, packet_len), kind) }
+}
+
+#[unsafe(no_mangle)]
+pub extern "C" fn h26x_out_size_hint(packets_size: usize) -> usize {
+    super::packets::h26x_out_size_hint(packets_size)
+}
+
+#[unsafe(no_mangle)]
+pub unsafe extern "C" fn h26x_h264_profile_level(
+    profile_level_id: u32,
+    profile: *mut u8,
+    level: *mut u8,
+) -> bool {
+    let mut no_profile = MaybeUninit::uninit();
+    let mut no_level = MaybeUninit::uninit();
+    // SAFETY: a caller owes what the header says.
+    unsafe {
+        super::profiles::h26x_h264_profile_level(
+            profile_level_id,
+            pointers::output(profile, &mut no_profile),
+            pointers::output(level, &mut no_level),
+        )
+    }
+}
+
+#[unsafe(no_mangle)]
+pub extern "C" fn h26x_h265_is_known(profile_id: u8, tier_flag: u8, level_id: u8) -> bool {
+    super::profiles::h26x_h265_is_known(profile_id, tier_flag, level_id)
+}
+
+#[unsafe(no_mangle)]
+pub extern "C" fn h26x_h266_is_known(profile_id: u8, tier_flag: u8, level_id: u8) -> bool {
+    super::profiles::h26x_h266_is_known(profile_id, tier_flag, level_id)
+}
+
+#[unsafe(no_mangle)]
+pub unsafe extern "C" fn h26x_depacketizer_new(codec: u32, numbers: bool, made: *mut Place) -> u32 {
+    // SAFETY: a caller owes what the header says.
+    unsafe { super::receiving::h26x_depacketizer_new(codec, numbers, pointers::made(made)) }
+}
+
+#[unsafe(no_mangle)]
+pub unsafe extern "C" fn h26x_depacketizer_clone(d: *mut Handle, made: *mut Place) -> u32 {
+    // SAFETY: a caller owes what the header says.
+    unsafe { super::receiving::h26x_depacketizer_clone(pointers::lent(d), pointers::made(made)) }
+}
+
+#[unsafe(no_mangle)]
+pub unsafe extern "C" fn h26x_depacketizer_free(d: Handle) {
+    if d.ptr.is_null() {
+        return;
+    }
+    super::receiving::h26x_depacketizer_free(d)
+}
+
+#[unsafe(no_mangle)]
+pub unsafe extern "C" fn h26x_depacketizer_same(a: *mut Handle, b: *mut Handle) -> bool {
+    // SAFETY: a caller owes what the header says.
+    unsafe { super::receiving::h26x_depacketizer_same(pointers::lent(a), pointers::lent(b)) }
+}
+
+#[unsafe(no_mangle)]
+pub unsafe extern "C" fn h26x_depacketizer_set_numbers(d: *mut Handle, numbers: bool) -> u32 {
+    // SAFETY: a caller owes what the header says.
+    unsafe { super::receiving::h26x_depacketizer_set_numbers(pointers::lent(d), numbers) }
+}
+
+#[unsafe(no_mangle)]
+pub unsafe extern "C" fn h26x_depacketize(
+    d: *mut Handle,
+    avc: bool,
+    packet: *const u8,
+    packet_len: usize,
+    to: *mut u8,
+    room: usize,
+    written: *mut usize,
+    extra: *mut u8,
+    why: *mut Refusal,
+) -> u32 {
+    let mut no_written = MaybeUninit::uninit();
+    let mut no_extra = 0;
+    let mut no_why = MaybeUninit::uninit();
+    // SAFETY: a caller owes what the header says.
+    unsafe {
+        super::receiving::h26x_depacketize(
+            pointers::lent(d),
+            avc,
+            pointers::bytes(packet, packet_len),
+            pointers::room(to, room),
+            pointers::output(written, &mut no_written),
+            pointers::in_out(extra, &mut no_extra),
+            pointers::output(why, &mut no_why),
+        )
+    }
+}
+
+#[unsafe(no_mangle)]
+pub unsafe extern "C" fn h26x_written_copy(d: *mut Handle, to: *mut u8, room: usize) -> usize {
+    // SAFETY: a caller owes what the header says.
+    unsafe { super::receiving::h26x_written_copy(pointers::lent(d), pointers::room(to, room)) }
+}
+
+#[unsafe(no_mangle)]
+pub unsafe extern "C" fn h26x_give_up_run(d: *mut Handle) -> u32 {
+    // SAFETY: a caller owes what the header says.
+    unsafe { super::receiving::h26x_give_up_run(pointers::lent(d)) }
+}
+
+#[unsafe(no_mangle)]
+pub unsafe extern "C" fn h26x_packetizer_new(codec: u32, numbers: bool, made: *mut Place) -> u32 {
+    // SAFETY: a caller owes what the header says.
+    unsafe { super::sending::h26x_packetizer_new(codec, numbers, pointers::made(made)) }
+}
+
+#[unsafe(no_mangle)]
+pub unsafe extern "C" fn h26x_packetizer_clone(p: *mut Handle, made: *mut Place) -> u32 {
+    // SAFETY: a caller owes what the header says.
+    unsafe { super::sending::h26x_packetizer_clone(pointers::lent(p), pointers::made(made)) }
+}
+
+#[unsafe(no_mangle)]
+pub unsafe extern "C" fn h26x_packetizer_free(p: Handle) {
+    if p.ptr.is_null() {
+        return;
+    }
+    super::sending::h26x_packetizer_free(p)
+}
+
+#[unsafe(no_mangle)]
+pub unsafe extern "C" fn h26x_packetizer_set_numbers(p: *mut Handle, numbers: bool) -> u32 {
+    // SAFETY: a caller owes what the header says.
+    unsafe { super::sending::h26x_packetizer_set_numbers(pointers::lent(p), numbers) }
+}
+
+#[unsafe(no_mangle)]
+pub unsafe extern "C" fn h26x_packetizer_set_max_size(p: *mut Handle, bytes: u16) -> u32 {
+    // SAFETY: a caller owes what the header says.
+    unsafe { super::sending::h26x_packetizer_set_max_size(pointers::lent(p), bytes) }
+}
+
+#[unsafe(no_mangle)]
+pub unsafe extern "C" fn h26x_packetize(
+    p: *mut Handle,
+    mtu: usize,
+    payload: *const u8,
+    payload_len: usize,
+    count: *mut usize,
+) -> u32 {
+    let mut no_count = MaybeUninit::uninit();
+    // SAFETY: a caller owes what the header says.
+    unsafe {
+        super::sending::h26x_packetize(
+            pointers::lent(p),
+            mtu,
+            pointers::bytes(payload, payload_len),
+            pointers::output(count, &mut no_count),
+        )
+    }
+}
+
+#[unsafe(no_mangle)]
+pub unsafe extern "C" fn h26x_packetize_unit(
+    p: *mut Handle,
+    mtu: usize,
+    unit: *const u8,
+    unit_len: usize,
+    count: *mut usize,
+) -> u32 {
+    let mut no_count = MaybeUninit::uninit();
+    // SAFETY: a caller owes what the header says.
+    unsafe {
+        super::sending::h26x_packetize_unit(
+            pointers::lent(p),
+            mtu,
+            pointers::bytes(unit, unit_len),
+            pointers::output(count, &mut no_count),
+        )
+    }
+}
+
+#[unsafe(no_mangle)]
+pub unsafe extern "C" fn h26x_packets_size(
+    p: *mut Handle,
+    mtu: usize,
+    payload: *const u8,
+    payload_len: usize,
+    headroom: usize,
+    count: *mut usize,
+    size: *mut usize,
+) -> u32 {
+    let mut no_count = MaybeUninit::uninit();
+    let mut no_size = MaybeUninit::uninit();
+    // SAFETY: a caller owes what the header says.
+    unsafe {
+        super::sending::h26x_packets_size(
+            pointers::lent(p),
+            mtu,
+            pointers::bytes(payload, payload_len),
+            headroom,
+            pointers::output(count, &mut no_count),
+            pointers::output(size, &mut no_size),
+        )
+    }
+}
+
+#[unsafe(no_mangle)]
+pub unsafe extern "C" fn h26x_packetize_into(
+    p: *mut Handle,
+    mtu: usize,
+    payload: *const u8,
+    payload_len: usize,
+    headroom: usize,
+    to: *mut u8,
+    room: usize,
+    ends: *mut usize,
+    ends_room: usize,
+    count: *mut usize,
+    size: *mut usize,
+) -> u32 {
+    let mut no_count = MaybeUninit::uninit();
+    let mut no_size = MaybeUninit::uninit();
+    // SAFETY: a caller owes what the header says.
+    unsafe {
+        super::sending::h26x_packetize_into(
+            pointers::lent(p),
+            mtu,
+            pointers::bytes(payload, payload_len),
+            headroom,
+            pointers::room(to, room),
+            pointers::room(ends, ends_room),
+            pointers::output(count, &mut no_count),
+            pointers::output(size, &mut no_size),
+        )
+    }
+}
+
+#[unsafe(no_mangle)]
+pub unsafe extern "C" fn h26x_packetize_unit_into(
+    p: *mut Handle,
+    mtu: usize,
+    unit: *const u8,
+    unit_len: usize,
+    headroom: usize,
+    to: *mut u8,
+    room: usize,
+    ends: *mut usize,
+    ends_room: usize,
+    count: *mut usize,
+    size: *mut usize,
+) -> u32 {
+    let mut no_count = MaybeUninit::uninit();
+    let mut no_size = MaybeUninit::uninit();
+    // SAFETY: a caller owes what the header says.
+    unsafe {
+        super::sending::h26x_packetize_unit_into(
+            pointers::lent(p),
+            mtu,
+            pointers::bytes(unit, unit_len),
+            headroom,
+            pointers::room(to, room),
+            pointers::room(ends, ends_room),
+            pointers::output(count, &mut no_count),
+            pointers::output(size, &mut no_size),
+        )
+    }
+}
+
+#[unsafe(no_mangle)]
+pub unsafe extern "C" fn h26x_packet_count(p: *mut Handle) -> usize {
+    // SAFETY: a caller owes what the header says.
+    unsafe { super::sending::h26x_packet_count(pointers::lent(p)) }
+}
+
+#[unsafe(no_mangle)]
+pub unsafe extern "C" fn h26x_packet_len(p: *mut Handle, i: usize) -> usize {
+    // SAFETY: a caller owes what the header says.
+    unsafe { super::sending::h26x_packet_len(pointers::lent(p), i) }
+}
+
+#[unsafe(no_mangle)]
+pub unsafe extern "C" fn h26x_packets_len(p: *mut Handle) -> usize {
+    // SAFETY: a caller owes what the header says.
+    unsafe { super::sending::h26x_packets_len(pointers::lent(p)) }
+}
+
+#[unsafe(no_mangle)]
+pub unsafe extern "C" fn h26x_packet_copy(
+    p: *mut Handle,
+    i: usize,
+    to: *mut u8,
+    room: usize,
+) -> usize {
+    // SAFETY: a caller owes what the header says.
+    unsafe { super::sending::h26x_packet_copy(pointers::lent(p), i, pointers::room(to, room)) }
+}
+
+#[unsafe(no_mangle)]
+pub unsafe extern "C" fn h26x_packets_copy(
+    p: *mut Handle,
+    first: usize,
+    to: *mut u8,
+    room: usize,
+    ends: *mut usize,
+    ends_room: usize,
+) -> usize {
+    // SAFETY: a caller owes what the header says.
+    unsafe {
+        super::sending::h26x_packets_copy(
+            pointers::lent(p),
+            first,
+            pointers::room(to, room),
+            pointers::room(ends, ends_room),
+        )
+    }
+}
+
+#[unsafe(no_mangle)]
+pub unsafe extern "C" fn h26x_receiver_new(
+    codec: u32,
+    numbers: bool,
+    avc: bool,
+    run_limit: usize,
+    made: *mut Place,
+) -> u32 {
+    // SAFETY: a caller owes what the header says.
+    unsafe {
+        super::sequenced::h26x_receiver_new(codec, numbers, avc, run_limit, pointers::made(made))
+    }
+}
+
+#[unsafe(no_mangle)]
+pub unsafe extern "C" fn h26x_receiver_clone(r: *mut Handle, made: *mut Place) -> u32 {
+    // SAFETY: a caller owes what the header says.
+    unsafe { super::sequenced::h26x_receiver_clone(pointers::lent(r), pointers::made(made)) }
+}
+
+#[unsafe(no_mangle)]
+pub unsafe extern "C" fn h26x_receiver_free(r: Handle) {
+    if r.ptr.is_null() {
+        return;
+    }
+    super::sequenced::h26x_receiver_free(r)
+}
+
+#[unsafe(no_mangle)]
+pub unsafe extern "C" fn h26x_receiver_set_numbers(r: *mut Handle, numbers: bool) -> u32 {
+    // SAFETY: a caller owes what the header says.
+    unsafe { super::sequenced::h26x_receiver_set_numbers(pointers::lent(r), numbers) }
+}
+
+#[unsafe(no_mangle)]
+pub unsafe extern "C" fn h26x_receiver_set_avc(r: *mut Handle, avc: bool) -> u32 {
+    // SAFETY: a caller owes what the header says.
+    unsafe { super::sequenced::h26x_receiver_set_avc(pointers::lent(r), avc) }
+}
+
+#[unsafe(no_mangle)]
+pub unsafe extern "C" fn h26x_receive(
+    r: *mut Handle,
+    sequence: u16,
+    packet: *const u8,
+    packet_len: usize,
+    to: *mut u8,
+    room: usize,
+    written: *mut usize,
+    extra: *mut u8,
+    received: *mut u32,
+    count: *mut u16,
+    why: *mut Refusal,
+) -> u32 {
+    let mut no_written = MaybeUninit::uninit();
+    let mut no_extra = 0;
+    let mut no_received = MaybeUninit::uninit();
+    let mut no_count = MaybeUninit::uninit();
+    let mut no_why = MaybeUninit::uninit();
+    // SAFETY: a caller owes what the header says.
+    unsafe {
+        super::sequenced::h26x_receive(
+            pointers::lent(r),
+            sequence,
+            pointers::bytes(packet, packet_len),
+            pointers::room(to, room),
+            pointers::output(written, &mut no_written),
+            pointers::in_out(extra, &mut no_extra),
+            pointers::output(received, &mut no_received),
+            pointers::output(count, &mut no_count),
+            pointers::output(why, &mut no_why),
+        )
+    }
+}
+
+#[unsafe(no_mangle)]
+pub unsafe extern "C" fn h26x_receiver_restart(r: *mut Handle) -> u32 {
+    // SAFETY: a caller owes what the header says.
+    unsafe { super::sequenced::h26x_receiver_restart(pointers::lent(r)) }
+}
+
+#[unsafe(no_mangle)]
+pub unsafe extern "C" fn h26x_receiver_run_len(r: *mut Handle) -> usize {
+    // SAFETY: a caller owes what the header says.
+    unsafe { super::sequenced::h26x_receiver_run_len(pointers::lent(r)) }
+}
+
+#[unsafe(no_mangle)]
+pub unsafe extern "C" fn h26x_h265_shown(d: *mut Handle, shown: *mut Shown) -> u32 {
+    let mut no_shown = MaybeUninit::uninit();
+    // SAFETY: a caller owes what the header says.
+    unsafe {
+        super::shown::h26x_h265_shown(pointers::lent(d), pointers::output(shown, &mut no_shown))
+    }
+}
+
+#[unsafe(no_mangle)]
+pub unsafe extern "C" fn h26x_h265_part_copy(
+    d: *mut Handle,
+    i: usize,
+    to: *mut u8,
+    room: usize,
+    number: *mut u32,
+) -> usize {
+    let mut no_number = MaybeUninit::uninit();
+    // SAFETY: a caller owes what the header says.
+    unsafe {
+        super::shown::h26x_h265_part_copy(
+            pointers::lent(d),
+            i,
+            pointers::room(to, room),
+            pointers::output(number, &mut no_number),
+        )
+    }
+}
+
+#[unsafe(no_mangle)]
+pub unsafe extern "C" fn h26x_next_unit(
+    codec: u32,
+    payload: *const u8,
+    payload_len: usize,
+    from: usize,
+    begin: *mut usize,
+    end: *mut usize,
+) -> bool {
+    let mut no_begin = MaybeUninit::uninit();
+    let mut no_end = MaybeUninit::uninit();
+    // SAFETY: a caller owes what the header says.
+    unsafe {
+        super::units::h26x_next_unit(
+            codec,
+            pointers::bytes(payload, payload_len),
+            from,
+            pointers::output(begin, &mut no_begin),
+            pointers::output(end, &mut no_end),
+        )
+    }
+}

@@ -1,0 +1,25 @@
+// Made from crates/h26x_c/src/handle.rt by tools/to-rust.
+
+//! What C holds of an end: the pointer of a box.
+
+mod lends;
+
+use crate::proved::h26x_handles::endpoint::Endpoint;
+use alloc::boxed::Box;
+
+/// A handle, which owns the endpoint behind it.
+#[repr(C)]
+pub struct Handle {
+    pub(super) ptr: *mut (),
+}
+
+// An end may go to another thread, and so may its handle.
+unsafe impl Send for Handle {}
+
+impl Handle {
+    /// The box whose pointer it is.
+    pub fn into_box(self) -> Box<Endpoint> {
+        let Handle { ptr } = self;
+        unsafe { Box::from_raw(ptr as *mut Endpoint) }
+    }
+}

@@ -1,0 +1,28 @@
+// Made from crates/h26x_c/src/units.rt by tools/to-rust.
+
+//! The units of payloads, by their places.
+
+use crate::proved::h26x_cut::next_unit;
+use crate::proved::h26x_handles::code::codec_of;
+use core::mem::MaybeUninit;
+
+/// Where the next unit of a payload stands, from a place on.
+pub fn h26x_next_unit(
+    codec: u32,
+    payload: &[u8],
+    from: usize,
+    begin: &mut MaybeUninit<usize>,
+    end: &mut MaybeUninit<usize>,
+) -> bool {
+    let Some(codec) = codec_of(codec) else {
+        return false;
+    };
+    match next_unit(payload, codec.zero_rule(), from) {
+        Some(place) => {
+            begin.write(place.start);
+            end.write(place.end);
+            true
+        }
+        None => false,
+    }
+}

@@ -1,0 +1,17 @@
+// Made from crates/h26x_handles/src/endpoint.rt by tools/to-rust.
+
+//! What stands behind a handle.
+
+use crate::proved::h26x_handles::receiving::ReceivingEndpoint;
+use crate::proved::h26x_handles::sending::SendingEndpoint;
+use crate::proved::h26x_handles::sequenced::SequencedEndpoint;
+
+/// One endpoint of a stream.
+pub enum Endpoint {
+    /// It sends.
+    Sending(SendingEndpoint),
+    /// It receives.
+    Receiving(ReceivingEndpoint),
+    /// It receives packets with their sequence numbers.
+    Sequenced(SequencedEndpoint),
+}

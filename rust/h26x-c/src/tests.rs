@@ -1,0 +1,131 @@
+//! Tests of what is written by hand, beside `h26x.h` and `words.c`: the words, the version, the structs, and NULL.
+
+use crate::proved::h26x_c::exports::*;
+use crate::words::{h26x_codec_name, h26x_strerror, h26x_version};
+use core::ffi::{CStr, c_char};
+use core::mem::offset_of;
+use core::ptr::null_mut;
+
+const HEADER: &str = include_str!("../../../bindings/include/h26x.h");
+const WORDS: &str = include_str!("../../../bindings/library/words.c");
+
+/// The number that the header gives a name.
+fn number(name: &str) -> u32 {
+    let mut words = HEADER.split(|c: char| !c.is_alphanumeric() && c != '_' && c != '=');
+    while let Some(word) = words.next() {
+        if word == name {
+            let mut rest = words
+                .clone()
+                .filter(|word| !word.is_empty() && *word != "=");
+            if let Some(Ok(it)) = rest.next().map(str::parse) {
+                return it;
+            }
+        }
+    }
+    panic!("the header has no {name}");
+}
+
+fn text(at: *const c_char) -> Option<String> {
+    // SAFETY: what stands there is a literal of `words`.
+    (!at.is_null()).then(|| unsafe { CStr::from_ptr(at) }.to_str().unwrap().to_owned())
+}
+
+/// The cases of a function of `words.c`: the name of each, and what is answered, `None` for NULL.
+fn cases(function: &str) -> Vec<(Option<&'static str>, Option<String>)> {
+    let body = WORDS.split(function).nth(1).unwrap();
+    let body = body.split("\n}").next().unwrap();
+    let (mut named, mut out) = (None, Vec::new());
+    for line in body.lines().map(str::trim) {
+        if let Some(name) = line.strip_prefix("case ") {
+            named = Some(name.trim_end_matches(':'));
+        } else if line == "default:" {
+            named = None;
+        } else if let Some(answer) = line.strip_prefix("return ") {
+            let answer = answer.trim_end_matches(';');
+            out.push((
+                named,
+                (answer != "NULL").then(|| answer.trim_matches('"').to_owned()),
+            ));
+        }
+    }
+    out
+}
+
+#[test]
+fn words_of_codes() {
+    let cases = cases("*h26x_strerror");
+    assert_eq!(cases.len(), 15);
+    for (name, answer) in cases {
+        assert_eq!(
+            text(h26x_strerror(name.map_or(14, number))),
+            answer,
+            "{name:?}"
+        );
+    }
+}
+
+#[test]
+fn words_of_codecs() {
+    let cases = cases("*h26x_codec_name");
+    assert_eq!(cases.len(), 4);
+    for (name, answer) in cases {
+        assert_eq!(
+            text(h26x_codec_name(name.map_or(0, number))),
+            answer,
+            "{name:?}"
+        );
+    }
+}
+
+#[test]
+fn version_of_the_header() {
+    let part = |name| number(&format!("H26X_VERSION_{name}"));
+    assert_eq!(
+        h26x_version(),
+        part("MAJOR") << 16 | part("MINOR") << 8 | part("PATCH")
+    );
+}
+
+#[test]
+fn structs_of_the_header() {
+    let word = size_of::<usize>();
+    assert_eq!((size_of::<Handle>(), align_of::<Handle>()), (word, word));
+    assert_eq!((size_of::<Place>(), align_of::<Place>()), (word, word));
+    assert_eq!(
+        (offset_of!(Refusal, first), offset_of!(Refusal, second)),
+        (0, word)
+    );
+    assert_eq!(size_of::<Refusal>(), 2 * word);
+    assert_eq!((offset_of!(Shown, kind), offset_of!(Shown, header)), (0, 4));
+    assert_eq!((offset_of!(Shown, word), offset_of!(Shown, parts)), (6, 8));
+    assert_eq!(size_of::<Shown>(), 8 + word);
+}
+
+/// NULL is a buffer of length 0, whatever length is said, an output that isn't wanted, and nothing to be freed.
+#[test]
+fn nothing_where_nothing_is_given() {
+    let mut p: *mut () = null_mut();
+    let handle: *mut Handle = (&raw mut p).cast();
+    let unit = [0x65, 1, 2, 3];
+    // SAFETY: what isn't NULL is there.
+    unsafe {
+        assert_eq!(h26x_packetizer_new(264, false, (&raw mut p).cast()), 0);
+        assert_eq!(
+            h26x_packetize(handle, 1200, null_mut(), usize::MAX, null_mut()),
+            0
+        );
+        assert_eq!(h26x_packet_count(handle), 0);
+        assert_eq!(
+            h26x_packetize(handle, 1200, unit.as_ptr(), unit.len(), null_mut()),
+            0
+        );
+        assert_eq!(h26x_packet_copy(handle, 0, null_mut(), usize::MAX), 4);
+        assert_eq!(
+            h26x_packets_copy(handle, 0, null_mut(), 9, null_mut(), 9),
+            0
+        );
+        h26x_packetizer_free(handle.read());
+        handle.cast::<*mut ()>().write(null_mut());
+        h26x_packetizer_free(handle.read());
+    }
+}

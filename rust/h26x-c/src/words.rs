@@ -1,0 +1,56 @@
+//! What the calls say in words, as `bindings/library/words.c` has them.
+
+use core::ffi::{CStr, c_char};
+use core::ptr::null;
+
+/// The version of the library, as `H26X_VERSION_NUMBER`.
+#[unsafe(no_mangle)]
+pub extern "C" fn h26x_version() -> u32 {
+    const fn number(text: &str) -> u32 {
+        let (bytes, mut i, mut it) = (text.as_bytes(), 0, 0);
+        while i < bytes.len() {
+            it = it * 10 + (bytes[i] - b'0') as u32;
+            i += 1;
+        }
+        it
+    }
+    const {
+        (number(env!("CARGO_PKG_VERSION_MAJOR")) << 16)
+            | (number(env!("CARGO_PKG_VERSION_MINOR")) << 8)
+            | number(env!("CARGO_PKG_VERSION_PATCH"))
+    }
+}
+
+/// A code in words.
+#[unsafe(no_mangle)]
+pub extern "C" fn h26x_strerror(code: u32) -> *const c_char {
+    let text: &CStr = match code {
+        0 => c"carried out",
+        1 => c"the packet is shorter than its type asks for",
+        2 => c"an H.264 packet of this type is not handled",
+        3 => c"a unit of the STAP-A is longer than what is left of the packet",
+        4 => c"the H.265 packet has its forbidden bit set",
+        5 => c"the extension of a PACI packet is longer than 31 bytes",
+        6 => c"the H.266 packet has its forbidden bit set, or aggregates a packet",
+        7 => c"the unit is too long for a length of four bytes",
+        8 => c"out of memory",
+        9 => c"no codec has this number",
+        10 => c"the handle is of another kind",
+        11 => c"the codec has no such setting",
+        12 => c"the number is too small",
+        13 => c"the output has no room for it",
+        _ => c"unknown code",
+    };
+    text.as_ptr()
+}
+
+/// What SDP calls a codec.
+#[unsafe(no_mangle)]
+pub extern "C" fn h26x_codec_name(codec: u32) -> *const c_char {
+    match codec {
+        264 => c"H264".as_ptr(),
+        265 => c"H265".as_ptr(),
+        266 => c"H266".as_ptr(),
+        _ => null(),
+    }
+}
