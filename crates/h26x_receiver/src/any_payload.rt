@@ -36,7 +36,9 @@ use std::mem;
 pub struct AnyPayloadDepacketizer {
     codec: Codec,
     has_donl: bool,
-    is_avc: bool,
+    /// Whether units are written behind lengths of four bytes, as MP4 files have them (ISO/IEC
+    /// 14496-15: `avc1`, `hvc1`, `vvc1`), and not behind start codes. False at first.
+    pub is_avc: bool,
     run: OpenRun,
 }
 
@@ -95,24 +97,10 @@ impl AnyPayloadDepacketizer {
     pub fn is_same(&self, other: &AnyPayloadDepacketizer) -> bool
         ensures { IsTrue result ↔ (self.now ≡ other.now) }
     {
-        self.codec == other.codec
+        self.is_avc == other.is_avc
             && self.has_donl == other.has_donl
-            && self.is_avc == other.is_avc
+            && self.codec == other.codec
             && self.run == other.run
-    }
-
-    /// Whether it writes units behind lengths of four bytes, and not behind start codes.
-    pub fn is_avc(&self) -> bool
-        ensures { result ≡ self.now.is_avc }
-    {
-        self.is_avc
-    }
-
-    /// Sets whether it writes units behind lengths or behind start codes.
-    pub fn with_avc(&mut self, is_avc: bool)
-        ensures { self.new ≡ record self.old { is_avc = is_avc } }
-    {
-        self.is_avc = is_avc;
     }
 
     /// Sets whether packets bear decoding order numbers; those of H.264 bear none.

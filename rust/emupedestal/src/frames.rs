@@ -131,7 +131,7 @@ impl FrameReceiver {
 
     /// Sets whether units are written behind lengths of four bytes.
     pub fn with_avc(&mut self, value: bool) {
-        self.inner.packets.depacketizer.with_avc(value);
+        self.inner.packets.depacketizer.is_avc = value;
     }
 
     /// Takes a packet, and appends the access units that it ends to `out`: none, one or two.

@@ -22,7 +22,9 @@ use core::mem;
 pub struct AnyPayloadDepacketizer {
     codec: Codec,
     has_donl: bool,
-    is_avc: bool,
+    /// Whether units are written behind lengths of four bytes, as MP4 files have them (ISO/IEC
+    /// 14496-15: `avc1`, `hvc1`, `vvc1`), and not behind start codes. False at first.
+    pub is_avc: bool,
     run: OpenRun,
 }
 
@@ -55,20 +57,10 @@ impl AnyPayloadDepacketizer {
 
     /// Whether both are of one codec, and the same.
     pub fn is_same(&self, other: &AnyPayloadDepacketizer) -> bool {
-        self.codec == other.codec
+        self.is_avc == other.is_avc
             && self.has_donl == other.has_donl
-            && self.is_avc == other.is_avc
+            && self.codec == other.codec
             && self.run == other.run
-    }
-
-    /// Whether it writes units behind lengths of four bytes, and not behind start codes.
-    pub fn is_avc(&self) -> bool {
-        self.is_avc
-    }
-
-    /// Sets whether it writes units behind lengths or behind start codes.
-    pub fn with_avc(&mut self, is_avc: bool) {
-        self.is_avc = is_avc;
     }
 
     /// Sets whether packets bear decoding order numbers; those of H.264 bear none.
