@@ -14,6 +14,7 @@
 #![tactic(auto)]
 
 mod any;
+mod any_payload;
 mod cases;
 mod delivery;
 pub mod laws;
@@ -22,6 +23,7 @@ mod run;
 mod sequenced;
 
 pub use any::AnyDepacketizer;
+pub use any_payload::AnyPayloadDepacketizer;
 pub use delivery::receive_all;
 pub use received::Received;
 pub use run::{LawfulReader, RunDepacketizer, take_run};

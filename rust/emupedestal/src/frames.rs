@@ -2,11 +2,11 @@
 
 use crate::proved::h26x_frames::FrameReceiver as Frames;
 use crate::proved::h26x_payload::OpenText;
-use crate::proved::h26x_receiver::{AnyDepacketizer, SequencedDepacketizer};
-use crate::sequenced::{are_same, copied};
+use crate::proved::h26x_receiver::{AnyPayloadDepacketizer, SequencedDepacketizer};
+use crate::sequenced::{copied, expect_the_same};
 use crate::{
-    AccessUnit, Codec, H265Payload, NotHeld, NotHeldReason, PacketError, Pushed, Received,
-    ReorderBuffer, RtpPacket,
+    AccessUnit, Codec, NotHeld, NotHeldReason, PacketError, Pushed, Received, ReorderBuffer,
+    RtpPacket,
 };
 use alloc::vec::Vec;
 use core::fmt;
@@ -45,7 +45,8 @@ impl Eq for OpenText {}
 /// A receiver of any codec that gives out access units, by the timestamps and markers of their packets
 /// (RFC 6184, 5.1; RFC 7798, 4.1; RFC 9328, 4.1), and tells of each whether it is known to be whole.
 ///
-/// Packets must come in the order of their sequence numbers: put a [`ReorderBuffer`] before it.
+/// Packets must come in the order of their sequence numbers: put a [`ReorderBuffer`] before it. It shows no
+/// packet, and copies none for that; a [`SequencedDepacketizer`](crate::SequencedDepacketizer) of H.265 does.
 ///
 /// `clone` copies all that is open. It panics where memory lacks.
 ///
@@ -79,21 +80,24 @@ impl Eq for OpenText {}
 /// ```
 #[derive(Debug)]
 pub struct FrameReceiver {
-    inner: Frames<AnyDepacketizer>,
+    inner: Frames<AnyPayloadDepacketizer>,
 }
 
 impl Clone for FrameReceiver {
     fn clone(&self) -> Self {
-        let mut inner = Frames::new(copied(&self.inner.packets), self.inner.unit_limit);
+        let packets = &self.inner.packets;
+        let packets = copied(packets, packets.depacketizer.try_clone());
+        let mut inner = Frames::new(packets, self.inner.unit_limit);
         inner.unit = self.inner.unit.clone();
         FrameReceiver { inner }
     }
 }
 
-/// Of H.265 what is shown counts too.
 impl PartialEq for FrameReceiver {
     fn eq(&self, other: &Self) -> bool {
-        are_same(&self.inner.packets, &other.inner.packets)
+        let (one, two) = (&self.inner.packets, &other.inner.packets);
+        one.depacketizer.is_same(&two.depacketizer)
+            && expect_the_same(one, two)
             && self.inner.unit == other.inner.unit
             && self.inner.unit_limit == other.inner.unit_limit
     }
@@ -108,7 +112,7 @@ impl FrameReceiver {
     /// `run_limit` is how many bytes of data an open unit may hold from a packet to the next, and
     /// `unit_limit` how many an open access unit may.
     pub fn new(codec: Codec, run_limit: usize, unit_limit: usize) -> Self {
-        let packets = SequencedDepacketizer::new(AnyDepacketizer::new(codec), run_limit);
+        let packets = SequencedDepacketizer::new(AnyPayloadDepacketizer::new(codec), run_limit);
         FrameReceiver {
             inner: Frames::new(packets, unit_limit),
         }
@@ -127,7 +131,7 @@ impl FrameReceiver {
 
     /// Sets whether units are written behind lengths of four bytes.
     pub fn with_avc(&mut self, value: bool) {
-        self.inner.packets.depacketizer.with_avc(value);
+        self.inner.packets.depacketizer.is_avc = value;
     }
 
     /// Takes a packet, and appends the access units that it ends to `out`: none, one or two.
@@ -165,10 +169,5 @@ impl FrameReceiver {
     /// How many bytes the open access unit holds.
     pub fn unit_len(&self) -> usize {
         self.inner.unit.bytes_len()
-    }
-
-    /// The packet that was taken last, of H.265. `None` of the other codecs.
-    pub fn payload(&self) -> Option<&H265Payload> {
-        self.inner.packets.depacketizer.shown()
     }
 }

@@ -50,27 +50,29 @@ pub struct SequencedDepacketizer {
     inner: Sequenced<AnyDepacketizer>,
 }
 
-/// A copy of a depacketizer with what it expects. It panics where memory lacks.
-pub(crate) fn copied(it: &Sequenced<AnyDepacketizer>) -> Sequenced<AnyDepacketizer> {
-    let depacketizer = it.depacketizer.try_clone().expect("memory");
-    let mut copy = Sequenced::new(depacketizer, it.run_limit);
+/// A receiver over the copy of one's depacketizer, which expects what that one does. It panics where memory
+/// lacked.
+pub(crate) fn copied<D: RunDepacketizer>(
+    it: &Sequenced<D>,
+    depacketizer: Result<D, PacketError>,
+) -> Sequenced<D> {
+    let mut copy = Sequenced::new(depacketizer.expect("memory"), it.run_limit);
     copy.expected = it.expected;
     copy
 }
 
-/// Whether two have the same settings and the same open unit, and expect the same.
-pub(crate) fn are_same(
-    one: &Sequenced<AnyDepacketizer>,
-    other: &Sequenced<AnyDepacketizer>,
+/// Whether two expect the same, and have the same limit.
+pub(crate) fn expect_the_same<D: RunDepacketizer>(
+    one: &Sequenced<D>,
+    other: &Sequenced<D>,
 ) -> bool {
-    one.depacketizer.is_same(&other.depacketizer)
-        && (one.expected, one.run_limit) == (other.expected, other.run_limit)
+    (one.expected, one.run_limit) == (other.expected, other.run_limit)
 }
 
 impl Clone for SequencedDepacketizer {
     fn clone(&self) -> Self {
         SequencedDepacketizer {
-            inner: copied(&self.inner),
+            inner: copied(&self.inner, self.inner.depacketizer.try_clone()),
         }
     }
 }
@@ -78,7 +80,8 @@ impl Clone for SequencedDepacketizer {
 /// Of H.265 what is shown counts too.
 impl PartialEq for SequencedDepacketizer {
     fn eq(&self, other: &Self) -> bool {
-        are_same(&self.inner, &other.inner)
+        self.inner.depacketizer.is_same(&other.inner.depacketizer)
+            && expect_the_same(&self.inner, &other.inner)
     }
 }
 

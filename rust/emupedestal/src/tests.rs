@@ -11,6 +11,7 @@ mod numbers;
 mod packetizer;
 mod packets;
 mod profile;
+mod quiet;
 mod refusals;
 mod sequenced;
 mod shown;

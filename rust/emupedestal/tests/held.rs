@@ -173,6 +173,34 @@ fn no_peer_makes_a_receiver_hold_more() {
     }
 }
 
+/// A receiver of access units shows no packet: once one was given out nothing is kept of its packets.
+#[test]
+fn a_receiver_of_access_units_keeps_nothing_to_show() {
+    for codec in [Codec::H264, Codec::H265, Codec::H266] {
+        let packets = [
+            single(codec, PACKET),
+            aggregate(codec, 257, 3, 2),
+            aggregate(codec, 34, 0, 1400),
+            single(codec, 3),
+        ];
+        let mut units = Vec::with_capacity(2);
+        let before = HELD.get();
+        let mut receiver = FrameReceiver::new(codec, RUN_LIMIT, usize::MAX);
+        for (sequence, payload) in (0..).zip(&packets) {
+            let packet = RtpPacket {
+                sequence,
+                timestamp: 0,
+                marker: true,
+                payload,
+            };
+            receiver.receive(&packet, &mut units).unwrap();
+            assert_eq!(units.len(), 1, "{codec:?}");
+            units.clear();
+            assert_eq!(HELD.get() - before, 0, "{codec:?}");
+        }
+    }
+}
+
 /// Of the memory that is given back the largest within the limit is kept, and the next access unit is
 /// written there.
 #[test]

@@ -3,8 +3,8 @@
 
 use super::bytes;
 use crate::{
-    AccessUnit, Codec, CodecExtra, FrameReceiver, H264CodecExtra, H265Payload, HeldPacket,
-    NotHeldReason, PacketError, Pushed, Received, ReorderBuffer, RtpPacket,
+    AccessUnit, Codec, CodecExtra, FrameReceiver, H264CodecExtra, HeldPacket, NotHeldReason,
+    PacketError, Pushed, Received, ReorderBuffer, RtpPacket, SequencedDepacketizer,
 };
 
 fn packet(sequence: u16, timestamp: u32, marker: bool, payload: &[u8]) -> RtpPacket<'_> {
@@ -238,10 +238,6 @@ fn settings_and_copies() {
     receiver.with_avc(true);
     let (units, _) = received(&mut receiver, &[(1, 10, true, "02010007aa")]);
     assert_eq!(units[0].bytes, bytes("00000003 0201aa"));
-    let Some(H265Payload::H265SingleNALUnitPacket(shown)) = receiver.payload() else {
-        panic!("a single NAL unit packet")
-    };
-    assert_eq!((shown.donl(), shown.payload()), (Some(7), &[0xaa][..]));
     received(&mut receiver, &[(2, 20, false, "620193 0008 bb")]);
     let mut copy = receiver.clone();
     assert_eq!((copy.run_len(), &copy), (1, &receiver));
@@ -249,7 +245,6 @@ fn settings_and_copies() {
     assert_eq!(received(&mut copy, &end), received(&mut receiver, &end));
     received(&mut copy, &[(4, 30, true, "02010009dd")]);
     assert_ne!(copy, receiver);
-    assert_eq!(FrameReceiver::new(Codec::H266, 1, 1).payload(), None);
 }
 
 #[test]
@@ -262,6 +257,15 @@ fn payloads_are_not_printed() {
     receiver
         .receive(&packet(1, 2, false, &bytes("620193d3d4d5")), &mut units)
         .unwrap();
+    let mut shows = SequencedDepacketizer::new(Codec::H265, 100);
+    shows
+        .receive(
+            1,
+            &bytes("620193d3d4d5"),
+            &mut Vec::new(),
+            &mut CodecExtra::None,
+        )
+        .unwrap();
     let mut packets = crate::Packets::with_headroom(0);
     let mut sends = crate::H264Packetizer::default();
     sends.packetize_into(100, &secret, &mut packets).unwrap();
@@ -271,7 +275,7 @@ fn payloads_are_not_printed() {
         format!("{:?}", packet(1, 2, true, &secret)),
         format!("{:?}", unit(1, "65d3d4d5", true, true)),
         format!("{receiver:?}"),
-        format!("{:?}", receiver.payload()),
+        format!("{:?}", shows.payload()),
         format!("{packets:?} {:?}", packets.iter()),
         format!("{sends:?}"),
         format!("{:?}", crate::units(Codec::H264, &secret)),
