@@ -18,8 +18,8 @@ abbrev pub EndsUnitAt : List ℕ → ℕ → Type 0
 EndsUnitAt text place = (before after : List ℕ) × (byte : ℕ) × (byte ≤ 1)
     × (text ≡ before ++ 0 ∷ 0 ∷ byte ∷ after) × (place ≡ length before)
 
--- bytes in which no unit ends, and that no zero makes one with the start code behind them (H.264,
--- 7.4.1; H.265 and H.266, 7.4.2)
+-- bytes within which no unit ends, and whose last one isn't taken for a zero of the start code behind
+-- them (H.264, 7.4.1; H.265 and H.266, 7.4.2)
 pub record IsPlainText (bytes : List ℕ) : Type 0 where
   pub no_code : ¬ HoldsStartCode bytes
   pub no_zeros : ¬ HoldsBehindZeros 0 bytes

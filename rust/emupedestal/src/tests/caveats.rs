@@ -131,11 +131,7 @@ fn a_unit_in_a_unit() {
     assert!(matches!(extra, CodecExtra::H264(told) if !told.is_keyframe));
     assert_eq!(units(Codec::H264, &out).nth(1), Some(&bytes("6588")[..]));
     h264.is_avc = true;
-    writes(
-        h264,
-        &["41aa 00000001 6588"],
-        "00000008 41aa 00000001 6588",
-    );
+    writes(h264, &["41aa 00000001 6588"], "00000008 41aa 00000001 6588");
     assert!(!Codec::H264.is_plain_unit(&packet));
 
     let h265 = &mut H265Depacketizer::default();
