@@ -183,6 +183,40 @@ static void cut(uint32_t codec, struct input payload)
     saw(6, codec, about(count), about(payload.len));
 }
 
+/* What is plain, byte by byte: neither 00 00 00 nor 00 00 01 stands in a unit, no zero ends it, and its header is one
+ * of the video itself (RFC 6184, 5.2, table 1; RFC 7798, 1.1.4 and 4.4; RFC 9328, 1.1.4 and 4.3). */
+static bool is_plain(uint32_t codec, struct input unit)
+{
+    const unsigned type = type_of(codec, unit.at, unit.len);
+    const unsigned last = codec == H26X_H264 ? 23 : codec == H26X_H265 ? 47 : 27;
+    if (unit.len < header_len(codec) || unit.at[unit.len - 1] == 0)
+        return false;
+    for (size_t i = 2; i < unit.len; i++)
+        if (unit.at[i - 2] == 0 && unit.at[i - 1] == 0 && unit.at[i] <= 1)
+            return false;
+    return unit.at[0] < (codec == H26X_H266 ? 64 : 128) && type <= last && (codec != H26X_H264 || type > 0);
+}
+
+/* A unit is plain where that says so; and then its Annex B text, twice, is cut into it and it again. */
+static void look(uint32_t codec, struct input unit)
+{
+    const uint8_t *at = copied(PACKET, unit);
+    const size_t len = 2 * (unit.len + 4), behind = unit.len + 4;
+    size_t begin = NOT_SAID, end = 0;
+    bool plain = h26x_unit_is_plain(codec, at, unit.len);
+    saw(9, codec, plain, about(unit.len));
+    expect(plain == is_plain(codec, unit));
+    if (!plain)
+        return;
+    uint8_t *text = room_for(OUTPUT, len);
+    for (size_t from = 0; from < len; from += behind) {
+        memcpy(text + from, (const uint8_t[]){0, 0, 0, 1}, 4);
+        memcpy(text + from + 4, unit.at, unit.len);
+    }
+    expect(h26x_next_unit(codec, text, len, 0, &begin, &end) && begin == 4 && end == behind);
+    expect(h26x_next_unit(codec, text, len, end, &begin, &end) && begin == behind + 4 && end == len);
+}
+
 /* A unit with an extension in a PACI packet, which is read back as the unit (RFC 7798, 4.4.4). */
 static void pack(struct input unit)
 {
@@ -258,6 +292,7 @@ int LLVMFuzzerTestOneInput(const uint8_t *at, size_t len)
             c.limit = c.mtu < it.max_size ? c.mtu : it.max_size;
         send_call(&it, &c);
         cut(it.set.codec, c.bytes);
+        look(it.set.codec, c.bytes);
         pack(c.bytes);
         name(c.bytes);
     }

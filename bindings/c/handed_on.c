@@ -543,6 +543,18 @@ static void check_next_unit(void)
                                  given.first, given.second));
 }
 
+STUB(unit_is_plain);
+bool proved_unit_is_plain(uint32_t codec, const uint8_t *unit, size_t unit_len)
+{
+    return proved_is_partition_head(codec, unit, unit_len);
+}
+
+static void check_unit_is_plain(void)
+{
+    give(IN);
+    hands_on_bool(h26x_unit_is_plain((uint32_t)given.value, given.in.at, given.in.len));
+}
+
 STUB(h264_profile_level);
 bool proved_h264_profile_level(uint32_t profile_level_id, uint8_t *profile, uint8_t *level)
 {
@@ -580,6 +592,7 @@ int main(void)
     in_each_case(check_detect_keyframe);
     in_each_case(check_detect_h264_nalu);
     in_each_case(check_next_unit);
+    in_each_case(check_unit_is_plain);
     in_each_case(check_h264_profile_level);
 #ifndef __CPROVER__
     printf("%zu cases\n", cases);

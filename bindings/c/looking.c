@@ -119,6 +119,72 @@ static void check_places(struct tally *t)
     expect(t, is_last(266, "aa", 2) && is_last(263, "aa", 0));
 }
 
+/* Expects that of these units, with '|' between two, each is plain, or none. */
+static void plain_at(struct tally *t, uint32_t codec, const char *units, bool wanted, int line)
+{
+    for (; *units != '\0'; units = behind_bar(units)) {
+        struct bytes in = bytes_of(units);
+        expect_at(t, h26x_unit_is_plain(codec, in.at, in.len) == wanted, units, __FILE__, line);
+    }
+}
+#define plain(t, codec, units) plain_at(t, codec, units, true, __LINE__)
+#define others(t, codec, units) plain_at(t, codec, units, false, __LINE__)
+
+static void check_plain_units(struct tally *t)
+{
+    plain(t, H26X_H264, "01|77|6588|41 0000 02|41 0000 03 01|0900aa");
+    /* F; types 0, 24, 28 and 31; a start code, three zeros, a zero at the end. */
+    others(t, H26X_H264, "81|6088|78 0001 65|7c85aa|1f");
+    others(t, H26X_H264, "41aa 000001 6588|41aa 00000001 6588|41 000001|41 000000 02|4100|41aa 0000");
+    plain(t, H26X_H265, "0001|5fff|4201aa|2801 0000 03");
+    others(t, H26X_H265, "26|8001aa|6001aa|620193aa|6401aa|7e01");
+    others(t, H26X_H265, "2601 000001 26|2601 000000 02|260100");
+    plain(t, H26X_H266, "0001|3fdf|0079aa|0009 0000 02");
+    /* Z too. */
+    others(t, H26X_H266, "00|8001aa|4001aa|00e1aa|00e987aa|00f9");
+    others(t, H26X_H266, "0041 000001 41|0041 000000 02|004100");
+    expect(t, !h26x_unit_is_plain(H26X_H264, (const uint8_t *)"a", 0));
+    expect(t, h26x_unit_is_plain(H26X_H264, (const uint8_t *)"a", 1));
+    expect(t, !h26x_unit_is_plain(0, (const uint8_t *)"a", 1));
+}
+
+/* How many units behind lengths there are, if each is plain; else 0. */
+static size_t plain_units_in(uint32_t codec, const uint8_t *text, size_t len)
+{
+    size_t count = 0, unit;
+    for (size_t at = 0; at < len; at += 4 + unit, count++) {
+        unit = (size_t)text[at] << 24 | text[at + 1] << 16 | text[at + 2] << 8 | text[at + 3];
+        if (!h26x_unit_is_plain(codec, text + at + 4, unit))
+            return 0;
+    }
+    return count;
+}
+
+/* Packets whose units hide others: of H.264 in the text, of H.265 as a fragment in an aggregate. */
+static void check_hidden_units(struct tally *t)
+{
+    static const struct {
+        uint32_t codec;
+        const char *packet;
+        size_t plain;
+    } rows[] = {
+        {H26X_H264, "41aa 00000001 6588", 0},
+        {H26X_H264, "18 0002 67aa 0002 68bb", 2},
+        {H26X_H265, "6001 0003 4201aa 0003 620193", 0},
+        {H26X_H265, "6001 0003 4201aa 0003 4401bb", 2},
+    };
+    for (size_t i = 0; i < sizeof rows / sizeof rows[0]; i++) {
+        struct bytes in = bytes_of(rows[i].packet);
+        h26x_depacketizer d;
+        uint8_t to[64], extra = 0;
+        size_t len = 0;
+        expect(t, h26x_depacketizer_new(rows[i].codec, false, &d) == H26X_OK);
+        expect(t, h26x_depacketize(&d, true, in.at, in.len, to, 64, &len, &extra, NULL) == H26X_OK);
+        expect(t, extra == 1 && plain_units_in(rows[i].codec, to, len) == rows[i].plain);
+        h26x_depacketizer_free(d);
+    }
+}
+
 static void check_hints(struct tally *t)
 {
     expect(t, h26x_out_size_hint(0) == 4);
@@ -133,5 +199,7 @@ void check_looking(struct tally *t)
     check_detection(t);
     check_units(t);
     check_places(t);
+    check_plain_units(t);
+    check_hidden_units(t);
     check_hints(t);
 }

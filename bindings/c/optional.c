@@ -27,7 +27,7 @@ static void check_empty_inputs(struct tally *t, uint32_t codec)
     expect(t, to[0] == 7);
     expect(t, !h26x_is_partition_head(codec, NULL, 0) && !h26x_detect_keyframe(codec, NULL, 0));
     expect(t, h26x_is_partition_tail(codec, true, NULL, 0) == (codec == H26X_H264));
-    expect(t, !h26x_next_unit(codec, NULL, 0, 0, NULL, NULL));
+    expect(t, !h26x_next_unit(codec, NULL, 0, 0, NULL, NULL) && !h26x_unit_is_plain(codec, NULL, 0));
     h26x_packetizer_free(p);
     h26x_depacketizer_free(d);
     h26x_receiver_free(r);
@@ -63,6 +63,7 @@ static void check_inputs_of_null(struct tally *t, uint32_t codec, size_t len)
     expect(t, h26x_is_partition_tail(codec, true, NULL, len) == (codec == H26X_H264));
     expect(t, !h26x_detect_h264_nalu(NULL, len, 0));
     expect(t, !h26x_next_unit(codec, NULL, len, 0, &begin, &end) && begin == 9 && end == 9);
+    expect(t, !h26x_unit_is_plain(codec, NULL, len));
     h26x_packetizer_free(p);
     h26x_depacketizer_free(d);
     h26x_receiver_free(r);

@@ -37,6 +37,17 @@ func OutSizeHint(packetsSize uint) uint {
 	return uint(C.h26x_out_size_hint(C.size_t(packetsSize)))
 }
 
+// IsPlainUnit tells whether a unit, its header first, is plain: one of the video itself, in whose Annex B text no
+// reader finds another. False for an unknown codec.
+//
+// Its header is whole, with F 0 (of H.266 Z too) and a type that no packets use: H.264 1 to 23, H.265 0 to 47,
+// H.266 0 to 27. It holds neither 00 00 00 nor 00 00 01, and doesn't end in a zero. A stranger's units may be
+// others, and are written as they come: where that matters, have units written behind lengths (SetAVC) and ask this
+// of each. What UnitsOf cuts out of Annex B text has lost the codes.
+func IsPlainUnit(codec Codec, unit []byte) bool {
+	return bool(C.h26x_unit_is_plain(C.uint32_t(codec), at(unit), C.size_t(len(unit))))
+}
+
 // Units goes through the units of a payload, in order: call Next, and Unit where it answers true. A payload
 // without a start code is one unit, and an empty unit is left out.
 type Units struct {

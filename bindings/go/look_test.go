@@ -108,6 +108,44 @@ func TestUnitsOfPayloads(t *testing.T) {
 	}
 }
 
+func TestPlainUnits(t *testing.T) {
+	for _, one := range []struct {
+		codec         h26x.Codec
+		plain, others string
+	}{
+		{h26x.H264, "01|77|6588|41 0000 02|41 0000 03 01|0900aa",
+			"81|6088|78 0001 65|7c85aa|1f|" +
+				"41aa 000001 6588|41aa 00000001 6588|41 000001|41 000000 02|4100|41aa 0000"},
+		{h26x.H265, "0001|5fff|4201aa|2801 0000 03",
+			"26|8001aa|6001aa|620193aa|6401aa|7e01|2601 000001 26|2601 000000 02|260100"},
+		{h26x.H266, "0001|3fdf|0079aa|0009 0000 02",
+			"00|8001aa|4001aa|00e1aa|00e987aa|00f9|0041 000001 41|0041 000000 02|004100"},
+		{0, "", "65|6588"},
+	} {
+		for _, unit := range many(one.plain) {
+			if !h26x.IsPlainUnit(one.codec, unit) {
+				t.Errorf("%v: %x", one.codec, unit)
+			}
+		}
+		for _, unit := range append(many(one.others), nil) {
+			if h26x.IsPlainUnit(one.codec, unit) {
+				t.Errorf("%v: %x is plain", one.codec, unit)
+			}
+		}
+	}
+}
+
+// A packet whose unit holds another one in Annex B text: behind lengths it is one unit, and not plain.
+func TestUnitInAUnit(t *testing.T) {
+	d := newDepacketizer(t, h26x.H264, false, true)
+	written, err := d.Unmarshal(some("41aa 00000001 6588"))
+	done(t, err)
+	same(t, written, some("00000008 41aa 00000001 6588"))
+	if h26x.IsPlainUnit(h26x.H264, written[4:]) {
+		t.Error("it is plain")
+	}
+}
+
 func TestHints(t *testing.T) {
 	for size, hint := range map[uint]uint{0: 4, 1199: 1203, 1200: 1208, 5000: 5020, ^uint(0): ^uint(0)} {
 		if got := h26x.OutSizeHint(size); got != hint {

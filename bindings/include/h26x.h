@@ -228,6 +228,8 @@ H26X_API uint32_t h26x_depacketizer_set_numbers(h26x_depacketizer *d, bool numbe
  *   is missing.
  * - *extra tells of IDR pictures (H.264), IRAP pictures (H.265), IDR and CRA pictures (H.266), and not of a recovery
  *   point without one (intra refresh, gradual decoding refresh): who begins there looks into the units.
+ * - A stranger's unit may hold a start code, so that a reader of its Annex B text finds two: 41 aa 00 00 00 01 65 88
+ *   hides an IDR picture, of which *extra doesn't tell. Take such packets with `avc`, and ask h26x_unit_is_plain.
  * - A peer that never ends a unit makes the open unit as long as all it sends: h26x_receive has a limit; else add up
  *   the lengths of the fragments since one had its S bit, and call h26x_give_up_run. What was written is held too, as
  *   large as the longest so far; and of H.265 the packet shown, a buffer as large, and under half a megabyte for units
@@ -363,6 +365,15 @@ H26X_API bool h26x_detect_h264_nalu(const uint8_t *packet, size_t packet_len, ui
  * unit is left out. False where no unit is left, or for an unknown codec. */
 H26X_API bool h26x_next_unit(uint32_t codec, const uint8_t *payload, size_t payload_len, size_t from, size_t *begin,
                              size_t *end) H26X_MUST_USE;
+
+/* Whether a unit, its header first, is plain: one of the video itself, in whose Annex B text no reader finds another.
+ * Its header is whole, with F 0 (of H.266 Z too) and a type that no packets use: H.264 1 to 23, H.265 0 to 47, H.266
+ * 0 to 27; it holds neither 00 00 00 nor 00 00 01, and doesn't end in a zero (H.264, 7.4.1 and B.2; H.265 and H.266,
+ * 7.4.2 and B.3). False for an unknown codec.
+ * A stranger's units may be others, and are written as they come. Where that matters take packets with `avc`, since
+ * lengths tell units apart whatever stands in them, and ask this of each: the text of plain units is read as these
+ * units in either form. Don't ask it of what h26x_next_unit cuts out of Annex B text, where the codes are gone. */
+H26X_API bool h26x_unit_is_plain(uint32_t codec, const uint8_t *unit, size_t unit_len);
 
 /* About how many bytes the units of packets of this many bytes take when they are written: these bytes, four more,
  * and four for each whole 1200 of them. It is no bound, since each unit of a short packet or an aggregate has four

@@ -29,6 +29,7 @@ PROVED(is_partition_tail);
 PROVED(detect_keyframe);
 PROVED(detect_h264_nalu);
 PROVED(next_unit);
+PROVED(unit_is_plain);
 PROVED(h264_profile_level);
 
 /* Keeps what is seldom needed out of a call that is made for each packet, which then goes straight on
@@ -227,6 +228,11 @@ bool h26x_next_unit(uint32_t codec, const uint8_t *payload, size_t payload_len, 
     size_t unwanted[2];
     return proved_next_unit(codec, BYTES(payload, payload_len), from, WANTED(begin, &unwanted[0]),
                             WANTED(end, &unwanted[1]));
+}
+
+bool h26x_unit_is_plain(uint32_t codec, const uint8_t *unit, size_t unit_len)
+{
+    return proved_unit_is_plain(codec, BYTES(unit, unit_len));
 }
 
 bool h26x_h264_profile_level(uint32_t profile_level_id, uint8_t *profile, uint8_t *level)

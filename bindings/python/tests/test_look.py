@@ -6,11 +6,13 @@ import pytest
 from digits import many, some
 from h26x import (
     Codec,
+    Depacketizer,
     UnknownCodec,
     detect_h264_nalu,
     detect_keyframe,
     is_partition_head,
     is_partition_tail,
+    is_plain_unit,
     out_size_hint,
     units,
 )
@@ -99,12 +101,37 @@ def test_units_are_those_of_when_they_were_asked_for() -> None:
     assert list(left) == [b"\xbb"]
 
 
+@pytest.mark.parametrize(
+    "codec, plain, others",
+    [
+        (H264, "01|77|6588|41 0000 02|41 0000 03 01|0900aa", "81|6088|78 0001 65|7c85aa|1f"),
+        (H264, "65", "41aa 000001 6588|41aa 00000001 6588|41 000001|41 000000 02|4100|41aa 0000"),
+        (H265, "0001|5fff|4201aa|2801 0000 03", "26|8001aa|6001aa|620193aa|6401aa|7e01"),
+        (H265, "2601", "2601 000001 26|2601 000000 02|260100"),
+        (H266, "0001|3fdf|0079aa|0009 0000 02", "00|8001aa|4001aa|00e1aa|00e987aa|00f9"),
+        (H266, "0041", "0041 000001 41|0041 000000 02|004100"),
+    ],
+)
+def test_plain_units(codec: Codec, plain: str, others: str) -> None:
+    assert all(is_plain_unit(codec, unit) for unit in many(plain))
+    assert not any(is_plain_unit(codec, unit) for unit in [b"", *many(others)])
+
+
+def test_a_unit_in_a_unit() -> None:
+    """Behind lengths it is one unit, and not plain."""
+    with Depacketizer(H264, avc=True) as depacketizer:
+        written = depacketizer.depacketize(some("41aa 00000001 6588")).data
+    assert written == some("00000008 41aa 00000001 6588")
+    assert not is_plain_unit(H264, written[4:])
+
+
 def test_unknown_codecs() -> None:
     calls: List[Callable[[], Any]] = [
         lambda: is_partition_head(0, b"\1\0"),
         lambda: is_partition_tail(263, True, b"\1\0"),
         lambda: detect_keyframe(2**32 + 264, b"\x65"),
         lambda: units(1, b"\x65"),
+        lambda: is_plain_unit(0, b"\x65"),
     ]
     for call in calls:
         with pytest.raises(UnknownCodec):

@@ -1,8 +1,9 @@
-//! The units of payloads, by their places.
+//! The units of payloads, by their places, and what a unit is.
 
-ghost use Rattle.std.specs.Prelude.{◌≡◌, [], true, false, None, Some, drop};
+ghost use Rattle.std.specs.Prelude.{◌≡◌, ◌↔◌, IsTrue, [], true, false, None, Some, drop};
 ghost use Rattle.h26x_cut.specs.Cutting.{IsNextUnit};
 ghost use Rattle.h26x_codec.specs.Codec.{codec_format};
+ghost use Rattle.h26x_codec.specs.Plain.{IsPlainUnit};
 ghost use Rattle.h26x_codec.specs.declared.codec.Codec.{Codec};
 ghost use Rattle.h26x_handles.specs.Codes.{codec_with_number};
 
@@ -34,6 +35,19 @@ pub extern "C" fn h26x_next_unit(
             *end = place.end;
             true
         }
+        None => false,
+    }
+}
+
+/// Whether a unit is plain: one of the video itself, in whose Annex B text no reader finds another.
+#[unsafe(no_mangle)]
+pub extern "C" fn h26x_unit_is_plain(codec: u32, unit: &[u8]) -> bool
+    ensures unknown { codec_with_number codec ≡ None → result ≡ false }
+    ensures plain { (c : Codec) → codec_with_number codec ≡ Some c →
+        (IsTrue result ↔ IsPlainUnit c unit.now) }
+{
+    match codec_of(codec) {
+        Some(codec) => codec.is_plain_unit(unit),
         None => false,
     }
 }

@@ -2,3 +2,4 @@ pub mod AgainLemmas
 pub mod RunLemmas
 pub mod StateLemmas
 pub mod TakeLemmas
+pub mod PlainLemmas

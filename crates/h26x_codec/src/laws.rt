@@ -1,7 +1,10 @@
 //! Laws of packetizers and depacketizers of any codec. Each is the contract of a function without a
 //! result.
 
-ghost use Rattle.std.specs.Prelude.{◌≡◌, ℕ, Bool, List, Some};
+ghost use Rattle.std.specs.Prelude.{◌≡◌, ℕ, ◌≤◌, Bool, true, false, List, ◌++◌, Some, length};
+ghost use Rattle.std.specs.List.{AllByRecursion};
+ghost use Rattle.h26x_core.specs.ByteStream.{byte_stream};
+ghost use Rattle.h26x_cut.specs.Cutting.{AreUnits};
 ghost use Rattle.h26x_model.specs.Payload.Facts.{IsPayloadFormat, AreCarried};
 ghost use Rattle.h26x_model.specs.Send.Again.{NothingDropped};
 ghost use Rattle.h26x_model.specs.Send.Calls.{Call, AreCalls, all_entries};
@@ -10,7 +13,10 @@ ghost use Rattle.h26x_model.specs.Send.Plan.{units_sent};
 ghost use Rattle.h26x_model.specs.Send.WaitingSets.{entries_with_limit};
 ghost use Rattle.h26x_model.specs.Carry.Detection.{AreDetected};
 ghost use Rattle.h26x_model.specs.Receive.DepacketizerState.{DepacketizerState};
+ghost use Rattle.h26x_model.specs.Receive.Outcome.{is_too_long};
 ghost use Rattle.h26x_codec.specs.Codec.{codec_format, codec_packetizer_state, codec_depacketizer_state};
+ghost use Rattle.h26x_codec.specs.Plain.{EndsUnitAt, IsPlainUnit};
+ghost use Rattle.h26x_codec.specs.Repeating.{zero_rule};
 
 use crate::codec::Codec;
 use crate::depacketizer::CodecDepacketizer;
@@ -89,3 +95,29 @@ pub fn key_units_are_detected()
     formats_meet_the_facts();
     h26x_model::laws::what_calls_send_is_in_order_and_detected();
 }
+
+/// The Annex B text of plain units is cut into exactly these units, and to a reader who ends a unit
+/// at `00 00 00` or `00 00 01` none ends before its own end.
+pub fn plain_units_are_told_apart()
+    ensures units { (codec : Codec) (units : List (List ℕ)) →
+        AllByRecursion (IsPlainUnit codec) units →
+        AreUnits (zero_rule codec) (byte_stream false units) units }
+    ensures read { (codec : Codec) (has_donl : Bool) (units : List (List ℕ)) →
+        AllByRecursion (IsPlainUnit codec) units →
+        (codec_format codec has_donl).units (byte_stream false units) ≡ units }
+    ensures ends { (codec : Codec) (unit : List ℕ) (units : List (List ℕ)) (place : ℕ) →
+        IsPlainUnit codec unit → EndsUnitAt (unit ++ byte_stream false units) place →
+        length unit ≤ place }
+{
+    h26x_cut::laws::text_is_cut_into_its_units();
+    h26x_cut::laws::one_cutting();
+}
+
+/// What is written behind lengths is so of one list of units, whatever stands in them: no text is that
+/// of two lists whose lengths four bytes hold.
+pub fn lengths_tell_units_apart()
+    ensures { (a b : List (List ℕ)) →
+        AllByRecursion (λ unit. is_too_long unit ≡ false) a →
+        AllByRecursion (λ unit. is_too_long unit ≡ false) b →
+        byte_stream true a ≡ byte_stream true b → a ≡ b }
+{}

@@ -21,6 +21,7 @@ mod codec;
 mod depacketizer;
 pub mod laws;
 mod packetizer;
+mod plain;
 mod repeated;
 mod runs;
 mod take;

@@ -199,7 +199,10 @@ macro_rules! program {
                         log.say("packetize", &made);
                         queue.extend(made.into_iter().flatten().take(40));
                         let found: Vec<&[u8]> = units(codec, &payload).collect();
+                        let plain = |unit: &&[u8]| codec.is_plain_unit(unit);
+                        log.say("plain", found.iter().map(plain).collect::<Vec<bool>>());
                         log.say("units", found);
+                        log.say("plain payload", codec.is_plain_unit(&payload));
                         log.say("any", any_sends.packetize(limit, &payload));
                     }
                     6 | 7 => {
@@ -211,6 +214,7 @@ macro_rules! program {
                     8 => {
                         let unit = m.unit();
                         let limit = m.limit(std::slice::from_ref(&unit));
+                        log.say("plain unit", codec.is_plain_unit(&unit));
                         let made = sends.unit(limit, &unit);
                         log.say("unit", &made);
                         queue.extend(made.into_iter().flatten().take(40));
@@ -238,6 +242,7 @@ macro_rules! program {
                                 detect_h266_keyframe(&packet),
                             ];
                             log.say("detect", keys);
+                            log.say("plain packet", codec.is_plain_unit(&packet));
                             // By sequence numbers: some are lost, some come late, twice or far off.
                             sequence = match m.random.below(20) {
                                 0 => sequence.wrapping_add(2),

@@ -51,6 +51,8 @@
 //! - Where a packet is lost, its unit is written damaged; a [`SequencedDepacketizer`] leaves such units
 //!   out: [`Depacketizer::depacketize`].
 //! - A refused packet is that packet's alone: pass it over ([`PacketError`]).
+//! - A stranger's unit may hold a start code, of which a reader of its Annex B text finds another unit:
+//!   [`Codec::is_plain_unit`], asked of units behind lengths (`is_avc`).
 //! - A peer that ends no unit makes a depacketizer hold all that it sends:
 //!   [`give_up_run`](H264Depacketizer::give_up_run), [`SequencedDepacketizer::new`].
 //! - The hint of a size is no bound ([`Depacketizer::out_size_hint`]), and an access unit of H.265 or

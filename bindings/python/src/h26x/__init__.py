@@ -51,6 +51,7 @@ from .look import (
     detect_keyframe,
     is_partition_head,
     is_partition_tail,
+    is_plain_unit,
     out_size_hint,
     units,
 )
@@ -119,6 +120,7 @@ __all__ = [
     "h266_is_known",
     "is_partition_head",
     "is_partition_tail",
+    "is_plain_unit",
     "out_size_hint",
     "paci_packet",
     "profile_level",

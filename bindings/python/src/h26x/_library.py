@@ -113,6 +113,7 @@ CALLS: Dict[str, Tuple[Any, List[Any]]] = {
     "detect_keyframe": (c_bool, [c_uint32, *_IN]),
     "detect_h264_nalu": (c_bool, [*_IN, c_uint8]),
     "next_unit": (c_bool, [c_uint32, *_IN, c_size_t, _SIZE, _SIZE]),
+    "unit_is_plain": (c_bool, [c_uint32, *_IN]),
     "out_size_hint": (c_size_t, [c_size_t]),
     "h264_profile_level": (c_bool, [c_uint32, _BYTE, _BYTE]),
     "h265_is_known": _IS_KNOWN,

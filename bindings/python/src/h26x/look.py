@@ -59,6 +59,23 @@ def _units(codec: Codec, data: bytes) -> Iterator[bytes]:
         yield data[begin.value : end.value]
 
 
+def is_plain_unit(codec: int, unit: Buffer) -> bool:
+    """Whether a unit, its header first, is plain: one of the video itself, in whose Annex B text no
+    reader finds another. Raises UnknownCodec.
+
+    Its header is whole, with F 0 (of H.266 Z too) and a type that no packets use: H.264 1 to 23,
+    H.265 0 to 47, H.266 0 to 27. It holds neither 00 00 00 nor 00 00 01, and doesn't end in a zero.
+    **A stranger's units may be others**, and are written as they come: where that matters, have units
+    written behind lengths (`avc`) and ask this of each. What `units` cuts out of Annex B text has lost
+    the codes.
+
+    >>> [is_plain_unit(Codec.H264, bytes.fromhex(unit)) for unit in ("6588", "41aa 000001 6588")]
+    [True, False]
+    """
+    data = as_bytes(unit)
+    return bool(library.h26x_unit_is_plain(codec_of(codec), data, len(data)))
+
+
 def out_size_hint(packets_size: int) -> int:
     """About how many bytes the units of packets of this many bytes take when they are written.
 

@@ -1,5 +1,7 @@
 //! The codecs, and what a depacketizer tells of their units.
 
+use crate::sys;
+
 /// A codec whose units are RTP payloads.
 #[derive(Debug, Clone, Copy, PartialEq, Eq, Hash)]
 pub enum Codec {
@@ -19,6 +21,12 @@ impl Codec {
             Codec::H265 => 265,
             Codec::H266 => 266,
         }
+    }
+
+    /// Whether a unit is plain: one of the video itself, in whose Annex B text no reader finds another.
+    pub fn is_plain_unit(self, unit: &[u8]) -> bool {
+        // SAFETY: `unit` is one slice.
+        unsafe { sys::h26x_unit_is_plain(self.number(), unit.as_ptr(), unit.len()) }
     }
 }
 

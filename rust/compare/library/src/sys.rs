@@ -163,6 +163,7 @@ unsafe extern "C" {
         begin: *mut usize,
         end: *mut usize,
     ) -> bool;
+    pub fn h26x_unit_is_plain(codec: u32, unit: *const u8, unit_len: usize) -> bool;
     // It takes a number and answers one, so any caller may call it.
     pub safe fn h26x_out_size_hint(packets_size: usize) -> usize;
 

@@ -7,6 +7,7 @@ mod carried;
 mod codec;
 mod depacketizer;
 mod packetizer;
+mod plain;
 mod repeated;
 mod runs;
 mod take;

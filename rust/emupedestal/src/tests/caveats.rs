@@ -2,8 +2,8 @@
 
 use super::{bytes, payload, refuses, sends, writes};
 use crate::{
-    Depacketizer, H264Depacketizer, H264Packetizer, H265Depacketizer, H265Packetizer,
-    H266Depacketizer, H266Packetizer, PacketError, Packetizer,
+    Codec, CodecExtra, Depacketizer, H264Depacketizer, H264Packetizer, H265Depacketizer,
+    H265Packetizer, H266Depacketizer, H266Packetizer, PacketError, Packetizer, units,
 };
 
 #[test]
@@ -118,4 +118,28 @@ fn more_is_written_than_the_hint_says() {
         end.depacketize(&packet, &mut out, &mut extra).unwrap();
     }
     assert_eq!((out.len(), end.out_size_hint(50 * 100)), (5200, Some(5020)));
+}
+
+/// One packet whose Annex B text is of two units, the second of a keyframe of which nothing is told;
+/// and an aggregate with a fragment in it. Behind lengths they are what came, and not plain.
+#[test]
+fn a_unit_in_a_unit() {
+    let packet = bytes("41aa 00000001 6588");
+    let (mut out, mut extra) = (Vec::new(), CodecExtra::None);
+    let h264 = &mut H264Depacketizer::default();
+    assert_eq!(h264.depacketize(&packet, &mut out, &mut extra), Ok(()));
+    assert!(matches!(extra, CodecExtra::H264(told) if !told.is_keyframe));
+    assert_eq!(units(Codec::H264, &out).nth(1), Some(&bytes("6588")[..]));
+    h264.is_avc = true;
+    writes(h264, &["41aa 00000001 6588"], "00000008 41aa 00000001 6588");
+    assert!(!Codec::H264.is_plain_unit(&packet));
+
+    let h265 = &mut H265Depacketizer::default();
+    h265.is_avc = true;
+    writes(
+        h265,
+        &["6001 0003 4201aa 0003 620193"],
+        "00000003 4201aa 00000003 620193",
+    );
+    assert!(!Codec::H265.is_plain_unit(&bytes("620193")));
 }

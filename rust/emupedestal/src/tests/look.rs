@@ -219,3 +219,48 @@ fn many_units() {
     let payload: Vec<u8> = wanted.iter().flat_map(|u| [0, 0, 1, u[0], u[1]]).collect();
     assert_eq!(cut(Codec::H264, &payload), wanted);
 }
+
+#[test]
+fn plain_units() {
+    let h264 = |unit: &[u8]| Codec::H264.is_plain_unit(unit);
+    all(
+        h264,
+        true,
+        &["01", "77", "6588", "41 0000 02", "41 0000 03 01", "0900aa"],
+    );
+    // F; types 0, 24, 28 and 31; start codes, three zeros, a zero at the end.
+    all(
+        h264,
+        false,
+        &["", "81", "6088", "78 0001 65", "7c85aa", "1f"],
+    );
+    all(
+        h264,
+        false,
+        &[
+            "41aa 000001 6588",
+            "41aa 00000001 6588",
+            "41 000001",
+            "41 000000 02",
+            "4100",
+            "41aa 0000",
+        ],
+    );
+    let h265 = |unit: &[u8]| Codec::H265.is_plain_unit(unit);
+    all(h265, true, &["0001", "5fff", "4201aa", "2801 0000 03"]);
+    all(
+        h265,
+        false,
+        &["", "26", "8001aa", "6001aa", "620193aa", "6401aa", "7e01"],
+    );
+    all(h265, false, &["2601 000001 26", "2601 000000 02", "260100"]);
+    // Z too.
+    let h266 = |unit: &[u8]| Codec::H266.is_plain_unit(unit);
+    all(h266, true, &["0001", "3fdf", "0079aa", "0009 0000 02"]);
+    all(
+        h266,
+        false,
+        &["", "00", "8001aa", "4001aa", "00e1aa", "00e987aa", "00f9"],
+    );
+    all(h266, false, &["0041 000001 41", "0041 000000 02", "004100"]);
+}
