@@ -1,8 +1,8 @@
 //! What the laws say of each codec, of lists that nothing is known of: each is called once here, by
 //! a function that has none of its premises left but those of its subject.
 
-ghost use Rattle.std.specs.Prelude.{◌≡◌, ◌≤◌, ◌++◌, ℕ, Bool, true, false, List, [], ◌∷◌, None, Result, IsTrue, length, map};
-ghost use Rattle.std.specs.List.{AllByRecursion, list_any, list_all, flat_map};
+ghost use Rattle.std.specs.Prelude.{◌≡◌, ◌≤◌, ◌<◌, ◌+◌, ◌++◌, ℕ, Bool, true, false, List, [], ◌∷◌, None, Some, Result, IsTrue, length, map};
+ghost use Rattle.std.specs.List.{AllByRecursion, Contains, list_any, list_all, flat_map, range_with_len};
 ghost use Rattle.h26x_core.specs.Mark.{IsMark};
 ghost use Rattle.h26x_core.specs.ByteStream.{is_not_empty, annex_b};
 ghost use Rattle.h26x_core.specs.declared.error.PacketError.{PacketError};
@@ -10,20 +10,23 @@ ghost use Rattle.h26x_core.specs.declared.extra.CodecExtra.TheVariants as extras
 ghost use Rattle.h26x_cut.specs.Cutting.{IsUnit, AreSeparable};
 ghost use Rattle.h26x_cut.specs.declared.ZeroRule.TheVariants.{All};
 ghost use Rattle.h26x_model.specs.Payload.Facts.{AreCarried, CanSend};
+ghost use Rattle.h26x_model.specs.Payload.Don.{dons_of, don_sent};
 ghost use Rattle.h26x_model.specs.Payload.Reading.{Reading};
 ghost use Rattle.h26x_model.specs.Send.Again.{NothingDropped};
-ghost use Rattle.h26x_model.specs.Send.Calls.{Call, AreCalls, all_entries};
+ghost use Rattle.h26x_model.specs.Send.Calls.{Call, AreCalls, all_entries, all_packets};
+ghost use Rattle.h26x_model.specs.Send.Fragments.{IsLong};
 ghost use Rattle.h26x_model.specs.Send.Group.{Entry};
 ghost use Rattle.h26x_model.specs.Send.Limit.{ItemIsWithinLimit};
-ghost use Rattle.h26x_model.specs.Send.Packets.{plan_packets};
-ghost use Rattle.h26x_model.specs.Send.PacketizerState.{PacketizerState, IsPacketizerState, state_plan, state_units, state_packets};
+ghost use Rattle.h26x_model.specs.Send.Packets.{fragment, fragment_count, plan_packets};
+ghost use Rattle.h26x_model.specs.Send.PacketizerState.{PacketizerState, IsPacketizerState, state_plan, state_units, state_packets, after_entries, has_no_effect};
 ghost use Rattle.h26x_model.specs.Send.Plan.{Item, plan, item_units, units_sent};
-ghost use Rattle.h26x_model.specs.Send.WaitingSets.{entries_with_limit};
+ghost use Rattle.h26x_model.specs.Send.WaitingSets.{entries_with_limit, sets_waiting};
 ghost use Rattle.h26x_model.specs.Receive.DepacketizerState.{Depacketization};
 ghost use Rattle.h26x_model.specs.Receive.Received.{units_after};
 ghost use Rattle.h26x_model.specs.Receive.RunLimit.{run_len};
 ghost use Rattle.h26x_model.specs.Carry.Detection.{AreDetected};
 ghost use Rattle.h26x_model.specs.Carry.Gaps.{whole_units};
+ghost use Rattle.h26x_model.specs.Carry.Laws.{calls_like};
 ghost use Rattle.h26x_model.specs.Carry.Loss.{AreMasks, AreAllUnitsLeft, packets_left};
 ghost use Rattle.h264_payload.specs.H264.{h264};
 ghost use Rattle.h26x_codec.specs.Codec.{codec_format, fresh_depacketizer_state};
@@ -34,10 +37,10 @@ ghost use Rattle.h26x_receiver.specs.Sequenced.{sequenced_depacketization, with_
 ghost use Rattle.h26x_receiver.specs.declared.received.Received.{Received};
 ghost use Rattle.h26x_frames.specs.AccessUnit.{UnitDepacketization, after_all_rtp, after_end, HaveUnitAnswers};
 ghost use Rattle.h26x_frames.specs.Network.{IsNetwork, released_packets};
-ghost use Rattle.h26x_frames.specs.ReorderBuffer.{packet_at, reordered};
+ghost use Rattle.h26x_frames.specs.ReorderBuffer.{BufferState, next_packet, packet_at, ready_packets, reordered, without_first};
 ghost use Rattle.h26x_frames.specs.Reordering.{IsReordered, in_order};
 ghost use Rattle.h26x_frames.specs.Rtp.{RtpBody};
-ghost use Rattle.h26x_frames.specs.StampedCalls.{StampedCall, AreStreamed, AreApart, AreUnitsWithin, IsBroughtStream, IsSentIfWhole, call_packets, packets_len, sent_bodies, sent_unit, sent_units, unit_left, units_left};
+ghost use Rattle.h26x_frames.specs.StampedCalls.{StampedCall, AreStreamed, AreApart, AreUnitsWithin, IsBroughtStream, IsStream, IsSentIfWhole, call_packets, packets_len, sent_bodies, sent_unit, sent_units, unit_left, units_left};
 
 use h26x_codec::laws::formats_meet_the_facts;
 
@@ -49,6 +52,64 @@ pub fn packets_within_limits()
 {
     formats_meet_the_facts();
     h26x_model::laws::packets_are_within_limits();
+}
+
+/// Each fragment of a unit that is longer than its limit is within that, and each but the last is as
+/// long.
+pub fn fragments_of_long_units()
+    ensures within { (codec : Codec) (has_donl : Bool) (n limit j : ℕ) (unit : List ℕ) →
+        IsLong (codec_format codec has_donl) limit unit →
+        length (fragment (codec_format codec has_donl) n limit unit j) ≤ limit }
+    ensures full { (codec : Codec) (has_donl : Bool) (n limit j : ℕ) (unit : List ℕ) →
+        IsLong (codec_format codec has_donl) limit unit →
+        j + 1 < fragment_count (codec_format codec has_donl) limit unit →
+        length (fragment (codec_format codec has_donl) n limit unit j) ≡ limit }
+{
+    formats_meet_the_facts();
+    h26x_model::laws::long_units_go_in_fragments();
+}
+
+/// Decoding order numbers go on by one from unit to unit.
+pub fn numbers_in_order()
+    ensures { (codec : Codec) (has_donl : Bool) (n : ℕ) (items : List Item) →
+        AllByRecursion (CanSend (codec_format codec has_donl)) items →
+        flat_map (λ packet. dons_of ((codec_format codec has_donl).read packet))
+        (plan_packets (codec_format codec has_donl) n items)
+        ≡ map (λ i. don_sent (codec_format codec has_donl) (n + i))
+        (range_with_len 0 (length (flat_map item_units items))) }
+{
+    formats_meet_the_facts();
+    h26x_model::laws::dons_in_order();
+}
+
+/// What a packetizer sends came, or waited; a call without effect may be left out; and payloads at
+/// one mtu have the packets of the text of what was sent of them.
+pub fn nothing_else_is_sent()
+    ensures came { (s : PacketizerState) (entries : List Entry) →
+        AllByRecursion (Contains (sets_waiting s.waiting ++ map (λ e. e.unit) entries))
+        (state_units s entries) }
+    ensures left_out { (codec : Codec) (has_donl : Bool) (s : PacketizerState)
+        (before later : List Call) (call : Call) → s.format ≡ codec_format codec has_donl →
+        IsPacketizerState s → has_no_effect s.format call ≡ true →
+        after_entries s (all_entries s.format (before ++ call ∷ later))
+        ≡ after_entries s (all_entries s.format (before ++ later)) }
+    ensures again { (codec : Codec) (has_donl : Bool) (call : Call) (payloads : List (List ℕ)) →
+        (codec_format codec has_donl).least_mtu ≤ call.mtu →
+        NothingDropped (codec_format codec has_donl)
+        (all_entries (codec_format codec has_donl) (calls_like call payloads)) →
+        (codec_format codec has_donl).units (annex_b (units_sent (codec_format codec has_donl)
+        (all_entries (codec_format codec has_donl) (calls_like call payloads))))
+        ≡ units_sent (codec_format codec has_donl)
+        (all_entries (codec_format codec has_donl) (calls_like call payloads)) →
+        all_packets (codec_format codec has_donl) 0 (record call {
+          payload = annex_b (units_sent (codec_format codec has_donl)
+              (all_entries (codec_format codec has_donl) (calls_like call payloads)));
+        } ∷ []) ≡ all_packets (codec_format codec has_donl) 0 (calls_like call payloads) }
+{
+    formats_meet_the_facts();
+    h26x_model::laws::what_is_sent_came();
+    h26x_model::laws::calls_without_effect();
+    h26x_model::laws::what_was_written_is_sent_again();
 }
 
 /// From all packets what is sent is received, whatever came before.
@@ -138,12 +199,19 @@ pub fn runs_within_limits()
     h26x_receiver::laws::runs_stay_within_the_limit();
 }
 
-/// Packets numbered on that come reordered within a window of 64 are put in order.
+/// Packets numbered on that come reordered within a window of 64 are put in order, and what may go of
+/// a buffer goes one by one.
 pub fn packets_in_order()
-    ensures { (sent : ℕ → RtpBody) (first : ℕ) (places : List ℕ) → IsReordered 64 places →
+    ensures step { (b : BufferState RtpBody) (p : ℕ × RtpBody) → next_packet b ≡ Some p →
+        ready_packets b.window b.due b.held ≡ p ∷ ready_packets (without_first b).window
+        (without_first b).due (without_first b).held }
+    ensures end { (b : BufferState RtpBody) → next_packet b ≡ None →
+        ready_packets b.window b.due b.held ≡ [] }
+    ensures all { (sent : ℕ → RtpBody) (first : ℕ) (places : List ℕ) → IsReordered 64 places →
         reordered 64 (map (packet_at sent first) places)
         ≡ map (packet_at sent first) (in_order places) }
 {
+    h26x_frames::laws::packets_go_one_by_one();
     h26x_frames::laws::numbered_packets_are_put_in_order();
 }
 
@@ -167,7 +235,28 @@ pub fn units_through_a_network()
     h26x_frames::laws::units_come_through_a_network();
 }
 
-/// So do access units, where the number of the first packet isn't known.
+/// Access units come that are a stream's, where the number of the first packet isn't known.
+pub fn access_units_of_a_stream()
+    ensures { (codec : Codec) (has_donl : Bool) (most limit : ℕ) (w : UnitDepacketization)
+        (s : PacketizerState) (calls : List StampedCall) (first : ℕ) (places : List ℕ)
+        (packets : List (ℕ × RtpBody)) (answers : List (Result Received PacketError)) →
+        w.state.format ≡ codec_format codec has_donl → s.format ≡ codec_format codec has_donl →
+        w.unit ≡ None → w.expected ≡ None →
+        HaveUnitAnswers most limit w packets answers → NoneIsRefused answers →
+        IsStream s calls first false places packets →
+        AreApart (units_left most s w.state.is_avc false calls
+        (mask_of_places places (length (sent_bodies s calls)))) →
+        AreUnitsWithin limit (units_left most s w.state.is_avc false calls
+        (mask_of_places places (length (sent_bodies s calls)))) →
+        (after_end (after_all_rtp most limit w packets answers)).ended
+        ≡ w.ended ++ units_left most s w.state.is_avc false calls
+        (mask_of_places places (length (sent_bodies s calls))) }
+{
+    formats_meet_the_facts();
+    h26x_frames::laws::access_units_are_those_left();
+}
+
+/// So they do through a network and a buffer.
 pub fn access_units_through_a_network()
     ensures { (codec : Codec) (has_donl : Bool) (most limit : ℕ) (w : UnitDepacketization)
         (s : PacketizerState) (calls : List StampedCall) (first : ℕ) (places : List ℕ)
