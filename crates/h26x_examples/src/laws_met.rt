@@ -54,8 +54,8 @@ pub fn packets_within_limits()
     h26x_model::laws::packets_are_within_limits();
 }
 
-/// Each fragment of a unit that is longer than its limit is within that, and each but the last is as
-/// long.
+/// Each fragment of a unit that is longer than its limit is within that, and each but the last is
+/// as long.
 pub fn fragments_of_long_units()
     ensures within { (codec : Codec) (has_donl : Bool) (n limit j : ℕ) (unit : List ℕ) →
         IsLong (codec_format codec has_donl) limit unit →
@@ -154,8 +154,8 @@ pub fn payloads_of_h264()
     h26x_payload::laws::text_is_cut_into_its_units();
 }
 
-/// What a packetizer of a codec sends is told as key units packet by packet, and what was sent at one
-/// limit, with nothing dropped, is sent again.
+/// What a packetizer of a codec sends is told as key units packet by packet, and what was sent at
+/// one limit, with nothing dropped, is sent again.
 pub fn what_calls_send()
     ensures detected { (codec : Codec) (has_donl : Bool) (s : PacketizerState)
         (calls : List Call) → s.format ≡ codec_format codec has_donl → IsPacketizerState s →
@@ -171,8 +171,8 @@ pub fn what_calls_send()
     h26x_codec::laws::what_was_sent_is_sent_again();
 }
 
-/// Of packets that a network brings of a codec's calls, a caller's own loop over `receive` writes the
-/// items of which each packet was taken, and nothing damaged.
+/// Of packets that a network brings of a codec's calls, a caller's own loop over `receive` writes
+/// the items of which each packet was taken, and nothing damaged.
 pub fn nothing_damaged()
     ensures { (codec : Codec) (has_donl : Bool) (most : ℕ) (w : Depacketization)
         (s : PacketizerState) (calls : List Call) (first : ℕ) (places : List ℕ)
@@ -199,8 +199,8 @@ pub fn runs_within_limits()
     h26x_receiver::laws::runs_stay_within_the_limit();
 }
 
-/// Packets numbered on that come reordered within a window of 64 are put in order, and what may go of
-/// a buffer goes one by one.
+/// Packets numbered on that come reordered within a window of 64 are put in order, and what may go
+/// of a buffer goes one by one.
 pub fn packets_in_order()
     ensures step { (b : BufferState RtpBody) (p : ℕ × RtpBody) → next_packet b ≡ Some p →
         ready_packets b.window b.due b.held ≡ p ∷ ready_packets (without_first b).window
@@ -277,8 +277,8 @@ pub fn access_units_through_a_network()
     h26x_frames::laws::access_units_come_through_a_network();
 }
 
-/// An access unit that is told to be whole was sent, and one of which each packet came, and the packet
-/// before them, is told to be whole.
+/// An access unit that is told to be whole was sent, and one of which each packet came, and the
+/// packet before them, is told to be whole.
 pub fn whole_access_units()
     ensures sent { (codec : Codec) (has_donl : Bool) (most : ℕ) (s : PacketizerState)
         (avc before : Bool) (calls : List StampedCall) (mask : List Bool) →
