@@ -197,14 +197,30 @@ static void check_h265(struct tally *t)
     expect(t, !h26x_detect_h264_nalu(NULL, 0, 5));
 }
 
-/* Handles of NULL are freed as often as anybody likes. */
-static void check_frees(void)
+/* Handles of NULL are freed as often as anybody likes, and so is one that was closed. */
+static void check_frees(struct tally *t)
 {
+    h26x_packetizer p;
+    h26x_depacketizer d;
+    h26x_receiver r;
+    expect(t, h26x_packetizer_new(H26X_H264, false, &p) == H26X_OK);
+    expect(t, h26x_depacketizer_new(H26X_H265, false, &d) == H26X_OK);
+    expect(t, h26x_receiver_new(H26X_H266, false, false, 9, &r) == H26X_OK);
     for (int i = 0; i < 2; i++) {
         h26x_packetizer_free((h26x_packetizer){NULL});
         h26x_depacketizer_free((h26x_depacketizer){NULL});
         h26x_receiver_free((h26x_receiver){{NULL}});
+        h26x_packetizer_close(NULL);
+        h26x_depacketizer_close(NULL);
+        h26x_receiver_close(NULL);
+        h26x_packetizer_close(&p);
+        h26x_depacketizer_close(&d);
+        h26x_receiver_close(&r);
+        expect(t, p.at == NULL && d.at == NULL && r.at.at == NULL);
     }
+    h26x_packetizer_free(p);
+    h26x_depacketizer_free(d);
+    h26x_receiver_free(r);
 }
 
 /* Each code has words of its own, and so does a number that is none. */
@@ -234,6 +250,6 @@ void check_optional(struct tally *t)
     check_null_with_lengths(t);
     check_unwanted_outputs(t);
     check_h265(t);
-    check_frees();
+    check_frees(t);
     check_words(t);
 }

@@ -1,6 +1,7 @@
-/* Handles in threads, as the header allows: each thread has ends of its own, and makes calls of the others' only with
- * a lock, the const ones too; copies that were made with the lock it uses without. Run under a tool that finds
- * data races. Says how many units came through; the first that doesn't ends it with status 1. */
+/* Handles in threads, as the header allows: each thread has ends of its own, and makes calls of those that all change
+ * only with a lock; copies that were made with the lock it uses without, and handles that nobody changes all threads
+ * look at together, without one. Run under a tool that finds data races. Says how many units came through; the first
+ * that doesn't ends it with status 1. */
 #define _POSIX_C_SOURCE 200809L
 #include "h26x.h"
 #include <pthread.h>
@@ -32,8 +33,8 @@ static const struct codec codecs[] = {
     {H26X_H266, {0x00, 0x39}, 2},
 };
 
-/* What all threads have: ends of a codec, which the lock is for; a packetizer and a depacketizer that stay as they
- * are while threads run. */
+/* What all threads have: ends of a codec, which the lock is for; and one of each kind that stays as it is while threads
+ * run, each as a const one. */
 struct shared {
     pthread_mutex_t lock;
     h26x_packetizer packetizer;
@@ -41,6 +42,7 @@ struct shared {
     uint16_t sequence;
     h26x_packetizer packets;
     h26x_depacketizer open;
+    h26x_receiver receiving;
 };
 
 static struct shared shared[3];
@@ -105,8 +107,8 @@ static void with_shared_ends(struct shared *s, const struct codec *c, struct wor
     h26x_receiver_free(r);
 }
 
-/* Every call that takes a handle as a const one, of handles that no other call changes. */
-static void ask_shared_ends(struct shared *s, const struct codec *c)
+/* Every call that takes a handle as a const one, of handles that no call changes, and without a lock. */
+static void ask_shared_ends(const struct shared *s, const struct codec *c)
 {
     const bool is_shown = c->number == H26X_H265;
     uint8_t packet[100];
@@ -115,7 +117,6 @@ static void ask_shared_ends(struct shared *s, const struct codec *c)
     h26x_depacketizer d;
     h26x_receiver r;
     h26x_h265_packet shown;
-    pthread_mutex_lock(&s->lock);
     expect(h26x_packet_count(&s->packets) > 2 && h26x_packets_len(&s->packets) > UNIT);
     expect(h26x_packet_len(&s->packets, 1) == sizeof packet);
     expect(h26x_packet_copy(&s->packets, 1, packet, sizeof packet) == sizeof packet);
@@ -124,15 +125,19 @@ static void ask_shared_ends(struct shared *s, const struct codec *c)
     expect(h26x_packetizer_clone(&s->packets, &p) == H26X_OK);
     expect(h26x_depacketizer_clone(&s->open, &d) == H26X_OK);
     expect(h26x_depacketizer_same(&s->open, &d) && h26x_depacketizer_same(&d, &s->open));
+    expect(h26x_depacketizer_same(&s->open, &s->open));
     expect(h26x_written_copy(&s->open, packet, sizeof packet) == 0);
     expect(h26x_h265_shown(&s->open, &shown) == (is_shown ? H26X_OK : H26X_NOT_OF_THIS_CODEC));
     expect(h26x_h265_part_copy(&s->open, 0, packet, sizeof packet, NULL) == (is_shown ? sizeof packet - 3 : 0));
-    expect(h26x_receiver_run_len(&s->receiver) == 0);
-    expect(h26x_receiver_clone(&s->receiver, &r) == H26X_OK);
-    pthread_mutex_unlock(&s->lock);
-    h26x_packetizer_free(p);
-    h26x_depacketizer_free(d);
-    h26x_receiver_free(r);
+    expect(h26x_receiver_run_len(&s->receiving) > 0);
+    expect(h26x_receiver_clone(&s->receiving, &r) == H26X_OK);
+    expect(h26x_receiver_run_len(&r) == h26x_receiver_run_len(&s->receiving));
+    expect(h26x_written_copy(&s->receiving.at, packet, sizeof packet) == 0);
+    expect(h26x_h265_shown(&s->receiving.at, &shown) == (is_shown ? H26X_OK : H26X_NOT_OF_THIS_CODEC));
+    h26x_packetizer_close(&p);
+    h26x_depacketizer_close(&d);
+    h26x_receiver_close(&r);
+    expect(p.at == NULL && d.at == NULL && r.at.at == NULL);
 }
 
 /* Calls without a handle. */
@@ -172,9 +177,11 @@ static void begin(struct shared *s, const struct codec *c)
     expect(h26x_packetizer_new(c->number, false, &s->packets) == H26X_OK);
     expect(h26x_depacketizer_new(c->number, false, &s->open) == H26X_OK);
     expect(h26x_receiver_new(c->number, false, false, UNIT, &s->receiver) == H26X_OK);
+    expect(h26x_receiver_new(c->number, false, false, UNIT, &s->receiving) == H26X_OK);
     expect(h26x_packetize_unit(&s->packets, sizeof packet, unit, len, &count) == H26X_OK);
     expect(h26x_packet_copy(&s->packets, 0, packet, sizeof packet) == sizeof packet);
     expect(h26x_depacketize(&s->open, false, packet, sizeof packet, NULL, 0, NULL, &told, NULL) == H26X_OK);
+    expect(h26x_receive(&s->receiving, 7, packet, sizeof packet, NULL, 0, NULL, &told, NULL, NULL, NULL) == H26X_OK);
 }
 
 static void end(struct shared *s)
@@ -183,6 +190,7 @@ static void end(struct shared *s)
     h26x_packetizer_free(s->packets);
     h26x_depacketizer_free(s->open);
     h26x_receiver_free(s->receiver);
+    h26x_receiver_free(s->receiving);
     expect(pthread_mutex_destroy(&s->lock) == 0);
 }
 

@@ -33,7 +33,7 @@ const (
 // written without that one's data. Over a network use a [Receiver]; or call GiveUpRun wherever a number is
 // missing.
 type Depacketizer struct {
-	mu    sync.Mutex
+	mu    sync.RWMutex
 	codec Codec
 	avc   bool
 	call  *taking
@@ -83,8 +83,8 @@ func (d *Depacketizer) Codec() Codec { return d.codec }
 // Clone is the same depacketizer again, with its settings and its open unit. Its errors are ErrOutOfMemory
 // and ErrClosed.
 func (d *Depacketizer) Clone() (*Depacketizer, error) {
-	d.mu.Lock()
-	defer d.mu.Unlock()
+	d.mu.RLock()
+	defer d.mu.RUnlock()
 	if d.call == nil {
 		return nil, ErrClosed
 	}
@@ -190,8 +190,8 @@ func (d *Depacketizer) GiveUpRun() error {
 // Shown is, of H.265, the packet that was accepted last. Its errors are ErrNotOfThisCodec of the other
 // codecs, and ErrClosed.
 func (d *Depacketizer) Shown() (ShownPacket, error) {
-	d.mu.Lock()
-	defer d.mu.Unlock()
+	d.mu.RLock()
+	defer d.mu.RUnlock()
 	if d.call == nil {
 		return ShownPacket{}, ErrClosed
 	}

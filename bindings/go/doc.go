@@ -18,8 +18,9 @@
 //
 // Each Packetizer, Depacketizer and Receiver holds memory of the library. Close frees it; what isn't
 // closed is freed some time after it can't be reached. Every other call that answers errors answers
-// [ErrClosed] behind Close, and so it does of a value that no New made. A lock lets one call of an
-// object at a time run, so goroutines may share it; it must not be copied.
+// [ErrClosed] behind Close, and so it does of a value that no New made. Goroutines may share an object: by
+// a lock a call that changes it runs alone, and those that only look at it (Clone, Shown, RunLen) run at
+// once. It must not be copied.
 //
 // # Bytes
 //

@@ -137,6 +137,40 @@ func TestGoroutines(t *testing.T) {
 	group.Wait()
 }
 
+// Goroutines that only look at an object do so at once, while another changes it in between.
+func TestGoroutinesThatLook(t *testing.T) {
+	d, r := newDepacketizer(t, h26x.H265, false, false), newReceiver(t, h26x.H265, 99, false, false)
+	first, unit := some("6201 93 aabbcc"), some("0201 0102")
+	for _, packet := range [][]byte{unit, first} {
+		_, err := d.Unmarshal(packet)
+		done(t, err)
+	}
+	_, err := r.Receive(7, first)
+	done(t, err)
+	var group sync.WaitGroup
+	for n := 0; n < 4; n++ {
+		group.Add(1)
+		go func() {
+			defer group.Done()
+			for i := 0; i < 100; i++ {
+				if shown, err := d.Shown(); err != nil || shown.Kind != h26x.Fragment {
+					t.Error("another packet is shown")
+				}
+				if copied, err := r.Clone(); err != nil || copied.RunLen() != 3 || copied.Close() != nil {
+					t.Error("another copy")
+				}
+				if r.RunLen() != 3 {
+					t.Error("another run")
+				}
+				if err := d.SetAVC(i%2 == 0); err != nil {
+					t.Error(err)
+				}
+			}
+		}()
+	}
+	group.Wait()
+}
+
 func TestClosingWhileAnotherCalls(t *testing.T) {
 	for n := 0; n < 50; n++ {
 		d, unit := newDepacketizer(t, h26x.H264, false, false), bytes.Repeat([]byte{0x61}, 2000)

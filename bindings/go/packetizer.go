@@ -22,7 +22,7 @@ import (
 // A Packetizer cuts encoded video into RTP payloads within a limit (RFC 6184, 5; RFC 7798, 4.4; RFC 9328,
 // 4.3). It has the method of Pion's rtp.Payloader.
 type Packetizer struct {
-	mu    sync.Mutex
+	mu    sync.RWMutex
 	codec Codec
 	call  *sending
 	// Memory in which packets are made that go into slices of their own.
@@ -69,8 +69,8 @@ func (p *Packetizer) Codec() Codec { return p.codec }
 // Clone is the same packetizer again: the sets that wait, its next number, its settings. Its errors are
 // ErrOutOfMemory and ErrClosed.
 func (p *Packetizer) Clone() (*Packetizer, error) {
-	p.mu.Lock()
-	defer p.mu.Unlock()
+	p.mu.RLock()
+	defer p.mu.RUnlock()
 	if p.call == nil {
 		return nil, ErrClosed
 	}

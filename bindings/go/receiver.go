@@ -59,7 +59,7 @@ type Received struct {
 // as gaps and delays are of fewer than 32768 packets. Packets must come in their order, since one behind a
 // later one is late: put a jitter buffer before it where a network changes the order.
 type Receiver struct {
-	mu       sync.Mutex
+	mu       sync.RWMutex
 	codec    Codec
 	runLimit int
 	call     *receiving
@@ -122,8 +122,8 @@ func (r *Receiver) RunLimit() int { return r.runLimit }
 // Clone is the same receiver again, with its settings, its open unit and the number that it expects. Its
 // errors are ErrOutOfMemory and ErrClosed.
 func (r *Receiver) Clone() (*Receiver, error) {
-	r.mu.Lock()
-	defer r.mu.Unlock()
+	r.mu.RLock()
+	defer r.mu.RUnlock()
 	if r.call == nil {
 		return nil, ErrClosed
 	}
@@ -217,8 +217,8 @@ func (r *Receiver) Restart() error {
 // RunLen is how many bytes of data the open unit holds, up to the limit; 0 where none is open, and behind
 // Close.
 func (r *Receiver) RunLen() int {
-	r.mu.Lock()
-	defer r.mu.Unlock()
+	r.mu.RLock()
+	defer r.mu.RUnlock()
 	if r.call == nil {
 		return 0
 	}
@@ -228,8 +228,8 @@ func (r *Receiver) RunLen() int {
 // Shown is, of H.265, the packet that was taken last. Its errors are ErrNotOfThisCodec of the other codecs,
 // and ErrClosed.
 func (r *Receiver) Shown() (ShownPacket, error) {
-	r.mu.Lock()
-	defer r.mu.Unlock()
+	r.mu.RLock()
+	defer r.mu.RUnlock()
 	if r.call == nil {
 		return ShownPacket{}, ErrClosed
 	}

@@ -7,17 +7,22 @@
  * A handle is a struct of one pointer. No call keeps a pointer that it is given, waits, prints, or has state beside
  * its handle; memory comes from malloc, realloc and free. A handle may go from one thread to another.
  *
+ * `const` before a handle: the call only looks at it, and any number of threads may make such calls of one handle at
+ * once while none changes it.
+ *
  * What may be NULL: a buffer, which then has length 0 whatever is said to be its length or its room; the pointer to a
  * number that isn't wanted (count, size, written, extra, received, why, number, len, begin, end, profile, level); and
- * the pointer in a handle that is freed, which is then no handle: so set it to {0} and free it in any case.
+ * the pointer in a handle that is freed, which is then no handle: so set it to {0} and free it in any case. The calls
+ * whose names end in _close free a handle and write NULL into it; they are functions of this header over _free, and no
+ * exports.
  *
  * What a caller owes, since nothing checks it:
  * - a handle is one that a _new or _clone wrote, and was not freed since;
- * - while a call runs, no other call is given the same handle, not even as a const one, and no other thread writes
- *   its buffers;
+ * - while a call runs, no other call is given the same handle, unless both take it as a const one, and no other thread
+ *   writes its buffers;
  * - a handle goes to another thread by a lock, a start or a join of a thread, or as ordered as that;
  * - a pointer that isn't NULL and its length are those of one buffer;
- * - what a call writes overlaps nothing else that it is given, and of two handles neither is the other;
+ * - what a call writes overlaps nothing else that it is given;
  * - a bool is 0 or 1;
  * - malloc and realloc align each block to every power of two up to 16 that divides its size;
  * - no call is made in a signal handler, or in the child that a program with threads forked.
@@ -112,6 +117,17 @@ H26X_API uint32_t h26x_packetizer_clone(const h26x_packetizer *p, h26x_packetize
 /* Frees it with its packets. A handle of NULL is nothing to be freed. */
 H26X_API void h26x_packetizer_free(h26x_packetizer p);
 
+/* The same, and writes NULL into the handle, so that it may be closed again. A pointer of NULL is nothing to be freed
+ * either. */
+static inline void h26x_packetizer_close(h26x_packetizer *p)
+{
+    if (p != NULL) {
+        const h26x_packetizer it = *p;
+        p->at = NULL;
+        h26x_packetizer_free(it);
+    }
+}
+
 /* Turns numbers on, from 0 again, or off. Sets that wait stay. H26X_NOT_OF_THIS_CODEC for H.264;
  * H26X_WRONG_END. */
 H26X_API uint32_t h26x_packetizer_set_numbers(h26x_packetizer *p, bool numbers);
@@ -204,6 +220,17 @@ H26X_API uint32_t h26x_depacketizer_clone(const h26x_depacketizer *d, h26x_depac
 /* Frees it with its open unit. A handle of NULL is nothing to be freed. */
 H26X_API void h26x_depacketizer_free(h26x_depacketizer d);
 
+/* The same, and writes NULL into the handle, so that it may be closed again. A pointer of NULL is nothing to be freed
+ * either. */
+static inline void h26x_depacketizer_close(h26x_depacketizer *d)
+{
+    if (d != NULL) {
+        const h26x_depacketizer it = *d;
+        d->at = NULL;
+        h26x_depacketizer_free(it);
+    }
+}
+
 /* Whether both are depacketizers, are of one codec and have the same settings and the same open unit; of H.265 they
  * must have accepted the same packet last as well. */
 H26X_API bool h26x_depacketizer_same(const h26x_depacketizer *a, const h26x_depacketizer *b);
@@ -275,6 +302,17 @@ H26X_API uint32_t h26x_receiver_clone(const h26x_receiver *r, h26x_receiver *mad
 
 /* Frees it with its open unit. A handle of NULL is nothing to be freed. */
 H26X_API void h26x_receiver_free(h26x_receiver r);
+
+/* The same, and writes NULL into the handle, so that it may be closed again. A pointer of NULL is nothing to be freed
+ * either. */
+static inline void h26x_receiver_close(h26x_receiver *r)
+{
+    if (r != NULL) {
+        const h26x_receiver it = *r;
+        r->at.at = NULL;
+        h26x_receiver_free(it);
+    }
+}
 
 /* Sets whether packets bear decoding order numbers. An open unit stays open. H26X_NOT_OF_THIS_CODEC for H.264;
  * H26X_WRONG_END. */

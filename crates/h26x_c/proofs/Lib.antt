@@ -1,1 +1,2 @@
+pub mod LoanLemmas
 pub mod Passed

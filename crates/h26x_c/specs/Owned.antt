@@ -1,8 +1,9 @@
--- What a handle owns: what a box of its end does.
-use base.Fml.{Fml, ftrue}
+-- What a handle owns: what a box of its end does, or a loan of one.
+use base.Fml.{Share, Fml, ftrue, fsep, fex, flft}
 use base.Stored.{Coded}
 use denote.RawPtr.{Ptr}
-use Rattle.std.specs.Prelude.{Option, Some, None}
+use denote.Struct.Lending.{lent_at}
+use Rattle.std.specs.Prelude.{ℕ, [], ◌∷◌, Option, Some, None}
 use Rattle.std.specs.Box.Ownership.{box_owns}
 use Rattle.std.specs.Global.{Global}
 use Rattle.std.specs.Coded.{coded_option}
@@ -11,6 +12,11 @@ use Rattle.h26x_handles.specs.contracts.endpoint.Endpoint as Endpoint
 
 abbrev pub end_owned : Global → Ptr → Endpoint.the_row.Denot → Fml
 end_owned alloc = box_owns (ghosts.dealloc_token alloc) Endpoint.the_row
+
+-- who may look at an end has it on loan for a lifetime, and a share of that one's token
+abbrev pub end_lent : ℕ → Ptr → Endpoint.the_row.Denot → Fml
+end_lent life p end = fsep (fex Share (λ share. flft (life ∷ []) share))
+    (lent_at Endpoint.the_row p end (life ∷ []))
 
 abbrev pub end_coded : Coded Endpoint.the_row.Denot
 end_coded = Endpoint.the_row.coded

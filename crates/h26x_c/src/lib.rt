@@ -5,6 +5,7 @@
 //! what it answers in the words of the payload formats.
 #![tactic(auto)]
 
+mod const_handle;
 mod handle;
 mod paci;
 mod packets;

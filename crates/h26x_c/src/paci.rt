@@ -29,14 +29,12 @@ pub extern "C" fn h26x_h265_paci_packet(
     ensures copied { result ≡ ok → to.new ≡ with_front (paci_packet unit.now extension.now) to.old }
     ensures kept { result ≢ ok → (to.new ≡ to.old) × (len.new ≡ len.old) }
 {
-    if unit.len() < 2 {
-        return SHORT_PACKET;
-    }
     match H265PACIPacket::packetize(alloc, unit, extension, &mut Vec::new(alloc)) {
         Ok(packet) => {
             *len = copy_where_room(&packet, to);
             OK
         }
+        Err(PacketError::ErrShortPacket) => SHORT_PACKET,
         Err(PacketError::ErrH265PACIPHESTooLong) => EXTENSION_TOO_LONG,
         Err(_) => OUT_OF_MEMORY,
     }

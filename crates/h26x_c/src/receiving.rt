@@ -9,6 +9,7 @@ ghost use Rattle.h26x_handles.specs.Codes.{codec_or_code, may_have_donl, extra_w
 ghost use Rattle.h26x_handles.specs.Copies.{with_front, without_room};
 ghost use Rattle.h26x_handles.specs.States.{is_receiving, endpoint_depacketizer_state, endpoint_written, endpoint_codec, fresh_receiving_endpoint, endpoint_showing, endpoint_without_output, are_same_endpoints, endpoint_without_run, endpoint_with_donl};
 
+use crate::const_handle::ConstHandle;
 use crate::handle::Handle;
 use crate::place::{Place, put};
 use h26x_codec::Codec;
@@ -51,14 +52,13 @@ pub extern "C" fn h26x_depacketizer_new(
 
 /// Makes a depacketizer again, without what its last packet completed.
 #[unsafe(no_mangle)]
-pub extern "C" fn h26x_depacketizer_clone(alloc: Global, d: &mut Handle, made: &mut Place) -> u32
-    ensures wrong { is_receiving d.old.value ≡ false → result ≡ wrong_end }
-    ensures answer { is_receiving d.old.value ≡ true → (result ≡ ok) ⊎ (result ≡ out_of_memory) }
-    ensures made { result ≡ ok → made.new.value ≡ Some (endpoint_without_output d.old.value) }
+pub extern "C" fn h26x_depacketizer_clone(alloc: Global, d: &ConstHandle, made: &mut Place) -> u32
+    ensures wrong { is_receiving d.now.value ≡ false → result ≡ wrong_end }
+    ensures answer { is_receiving d.now.value ≡ true → (result ≡ ok) ⊎ (result ≡ out_of_memory) }
+    ensures made { result ≡ ok → made.new.value ≡ Some (endpoint_without_output d.now.value) }
     ensures kept { result ≢ ok → made.new ≡ made.old }
-    ensures left { d.new.value ≡ d.old.value }
 {
-    let copy = match d.get_mut() {
+    let copy = match d.get() {
         Endpoint::Receiving(it) => it.clone(alloc),
         Endpoint::Sending(_) | Endpoint::Sequenced(_) => return WRONG_END,
     };
@@ -76,12 +76,10 @@ pub extern "C" fn h26x_depacketizer_free(d: Handle) {
 
 /// Whether two depacketizers are the same.
 #[unsafe(no_mangle)]
-pub extern "C" fn h26x_depacketizer_same(a: &mut Handle, b: &mut Handle) -> bool
-    ensures same { result ≡ are_same_endpoints a.old.value b.old.value }
-    ensures left { a.new.value ≡ a.old.value }
-    ensures right { b.new.value ≡ b.old.value }
+pub extern "C" fn h26x_depacketizer_same(a: &ConstHandle, b: &ConstHandle) -> bool
+    ensures same { result ≡ are_same_endpoints a.now.value b.now.value }
 {
-    match (a.get_mut(), b.get_mut()) {
+    match (a.get(), b.get()) {
         (Endpoint::Receiving(a), Endpoint::Receiving(b)) => a.depacketizer.is_same(&b.depacketizer),
         _ => false,
     }
@@ -173,12 +171,11 @@ pub extern "C" fn h26x_depacketize(
 /// Copies what the last packet that was taken completed and had no room for, where there is room for
 /// it now; its length.
 #[unsafe(no_mangle)]
-pub extern "C" fn h26x_written_copy(d: &mut Handle, to: &mut [u8]) -> usize
-    ensures len { result ≡ length (endpoint_written d.old.value) }
-    ensures copied { to.new ≡ with_front (endpoint_written d.old.value) to.old }
-    ensures left { d.new.value ≡ d.old.value }
+pub extern "C" fn h26x_written_copy(d: &ConstHandle, to: &mut [u8]) -> usize
+    ensures len { result ≡ length (endpoint_written d.now.value) }
+    ensures copied { to.new ≡ with_front (endpoint_written d.now.value) to.old }
 {
-    match d.get_mut() {
+    match d.get() {
         Endpoint::Receiving(it) => copy_where_room(it.written(), to),
         Endpoint::Sequenced(it) => copy_where_room(it.written(), to),
         Endpoint::Sending(_) => copy_where_room(&[], to),

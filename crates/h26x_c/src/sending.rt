@@ -10,6 +10,7 @@ ghost use Rattle.h26x_handles.specs.Copies.{with_front, nth_packet, AreCopied};
 ghost use Rattle.h26x_handles.specs.PlacementAnswer.{AreCounted, IsPlacementAnswer};
 ghost use Rattle.h26x_handles.specs.States.{endpoint_packetizer_state, endpoint_packets, endpoint_codec, place_packetizer_state, place_packets, endpoint_without_output, payload_entries};
 
+use crate::const_handle::ConstHandle;
 use crate::handle::Handle;
 use crate::place::{Place, put};
 use h26x_handles::code::{
@@ -49,15 +50,14 @@ pub extern "C" fn h26x_packetizer_new(
 
 /// Makes a packetizer again, without its packets.
 #[unsafe(no_mangle)]
-pub extern "C" fn h26x_packetizer_clone(alloc: Global, p: &mut Handle, made: &mut Place) -> u32
-    ensures wrong { endpoint_packetizer_state p.old.value ≡ None → result ≡ wrong_end }
-    ensures answer { (it : PacketizerState) → endpoint_packetizer_state p.old.value ≡ Some it →
+pub extern "C" fn h26x_packetizer_clone(alloc: Global, p: &ConstHandle, made: &mut Place) -> u32
+    ensures wrong { endpoint_packetizer_state p.now.value ≡ None → result ≡ wrong_end }
+    ensures answer { (it : PacketizerState) → endpoint_packetizer_state p.now.value ≡ Some it →
         (result ≡ ok) ⊎ (result ≡ out_of_memory) }
-    ensures made { result ≡ ok → made.new.value ≡ Some (endpoint_without_output p.old.value) }
+    ensures made { result ≡ ok → made.new.value ≡ Some (endpoint_without_output p.now.value) }
     ensures kept { result ≢ ok → made.new ≡ made.old }
-    ensures left { p.new.value ≡ p.old.value }
 {
-    let copy = match p.get_mut() {
+    let copy = match p.get() {
         Endpoint::Sending(it) => it.clone(alloc),
         Endpoint::Receiving(_) | Endpoint::Sequenced(_) => return WRONG_END,
     };
@@ -215,27 +215,26 @@ pub extern "C" fn h26x_packetize_unit(
 /// `headroom`. Nothing changes.
 #[unsafe(no_mangle)]
 pub extern "C" fn h26x_packets_size(
-    p: &mut Handle,
+    p: &ConstHandle,
     mtu: usize,
     payload: &[u8],
     headroom: usize,
     count: &mut usize,
     size: &mut usize,
 ) -> u32
-    ensures wrong { endpoint_packetizer_state p.old.value ≡ None → result ≡ wrong_end }
-    ensures answer { (it : PacketizerState) → endpoint_packetizer_state p.old.value ≡ Some it →
+    ensures wrong { endpoint_packetizer_state p.now.value ≡ None → result ≡ wrong_end }
+    ensures answer { (it : PacketizerState) → endpoint_packetizer_state p.now.value ≡ Some it →
         (result ≡ ok) ⊎ (result ≡ out_of_memory) }
-    ensures free { (it : PacketizerState) → endpoint_packetizer_state p.old.value ≡ Some it →
+    ensures free { (it : PacketizerState) → endpoint_packetizer_state p.now.value ≡ Some it →
         has_no_effect it.format (next_call it mtu payload.now) ≡ true → result ≡ ok }
-    ensures size { (it : PacketizerState) → endpoint_packetizer_state p.old.value ≡ Some it →
+    ensures size { (it : PacketizerState) → endpoint_packetizer_state p.now.value ≡ Some it →
         result ≡ ok → AreCounted headroom (state_packets it (payload_entries it mtu payload.now))
         count.new size.new }
     ensures none { result ≢ ok → (count.new ≡ 0) × (size.new ≡ 0) }
-    ensures left { p.new.value ≡ p.old.value }
 {
     *count = 0;
     *size = 0;
-    let made = match p.get_mut() {
+    let made = match p.get() {
         Endpoint::Sending(it) => it.packetizer.packets_size(mtu, payload, headroom),
         Endpoint::Receiving(_) | Endpoint::Sequenced(_) => return WRONG_END,
     };
@@ -341,11 +340,10 @@ pub extern "C" fn h26x_packetize_unit_into(
 
 /// How many packets there are.
 #[unsafe(no_mangle)]
-pub extern "C" fn h26x_packet_count(p: &mut Handle) -> usize
-    ensures count { result ≡ length (endpoint_packets p.old.value) }
-    ensures left { p.new.value ≡ p.old.value }
+pub extern "C" fn h26x_packet_count(p: &ConstHandle) -> usize
+    ensures count { result ≡ length (endpoint_packets p.now.value) }
 {
-    match p.get_mut() {
+    match p.get() {
         Endpoint::Sending(it) => it.count(),
         Endpoint::Receiving(_) | Endpoint::Sequenced(_) => 0,
     }
@@ -353,11 +351,10 @@ pub extern "C" fn h26x_packet_count(p: &mut Handle) -> usize
 
 /// The length of a packet, counted from 0; past the last one 0.
 #[unsafe(no_mangle)]
-pub extern "C" fn h26x_packet_len(p: &mut Handle, i: usize) -> usize
-    ensures len { result ≡ length (nth_packet i (endpoint_packets p.old.value)) }
-    ensures left { p.new.value ≡ p.old.value }
+pub extern "C" fn h26x_packet_len(p: &ConstHandle, i: usize) -> usize
+    ensures len { result ≡ length (nth_packet i (endpoint_packets p.now.value)) }
 {
-    match p.get_mut() {
+    match p.get() {
         Endpoint::Sending(it) => it.packet(i).len(),
         Endpoint::Receiving(_) | Endpoint::Sequenced(_) => 0,
     }
@@ -365,11 +362,10 @@ pub extern "C" fn h26x_packet_len(p: &mut Handle, i: usize) -> usize
 
 /// How many bytes the packets are together.
 #[unsafe(no_mangle)]
-pub extern "C" fn h26x_packets_len(p: &mut Handle) -> usize
-    ensures len { result ≡ length (concat (endpoint_packets p.old.value)) }
-    ensures left { p.new.value ≡ p.old.value }
+pub extern "C" fn h26x_packets_len(p: &ConstHandle) -> usize
+    ensures len { result ≡ length (concat (endpoint_packets p.now.value)) }
 {
-    match p.get_mut() {
+    match p.get() {
         Endpoint::Sending(it) => it.bytes_len(),
         Endpoint::Receiving(_) | Endpoint::Sequenced(_) => 0,
     }
@@ -377,12 +373,11 @@ pub extern "C" fn h26x_packets_len(p: &mut Handle) -> usize
 
 /// Copies a packet, counted from 0, where there is room for it; its length.
 #[unsafe(no_mangle)]
-pub extern "C" fn h26x_packet_copy(p: &mut Handle, i: usize, to: &mut [u8]) -> usize
-    ensures len { result ≡ length (nth_packet i (endpoint_packets p.old.value)) }
-    ensures copied { to.new ≡ with_front (nth_packet i (endpoint_packets p.old.value)) to.old }
-    ensures left { p.new.value ≡ p.old.value }
+pub extern "C" fn h26x_packet_copy(p: &ConstHandle, i: usize, to: &mut [u8]) -> usize
+    ensures len { result ≡ length (nth_packet i (endpoint_packets p.now.value)) }
+    ensures copied { to.new ≡ with_front (nth_packet i (endpoint_packets p.now.value)) to.old }
 {
-    match p.get_mut() {
+    match p.get() {
         Endpoint::Sending(it) => copy_where_room(it.packet(i), to),
         Endpoint::Receiving(_) | Endpoint::Sequenced(_) => copy_where_room(&[], to),
     }
@@ -392,17 +387,16 @@ pub extern "C" fn h26x_packet_copy(p: &mut Handle, i: usize, to: &mut [u8]) -> u
 /// many as there is room for, and writes where each ends; how many they are.
 #[unsafe(no_mangle)]
 pub extern "C" fn h26x_packets_copy(
-    p: &mut Handle,
+    p: &ConstHandle,
     first: usize,
     to: &mut [u8],
     ends: &mut [usize],
 ) -> usize
-    ensures copied { AreCopied (drop first (endpoint_packets p.old.value)) to.old to.new ends.old
+    ensures copied { AreCopied (drop first (endpoint_packets p.now.value)) to.old to.new ends.old
         ends.new
         result }
-    ensures left { p.new.value ≡ p.old.value }
 {
-    match p.get_mut() {
+    match p.get() {
         Endpoint::Sending(it) => it.copy_packets(first, to, ends),
         Endpoint::Receiving(_) | Endpoint::Sequenced(_) => 0,
     }

@@ -9,6 +9,7 @@ ghost use Rattle.h26x_handles.specs.Copies.{with_front, without_room};
 ghost use Rattle.h26x_handles.specs.Endpoint.{SequencedEndpoint};
 ghost use Rattle.h26x_handles.specs.States.{is_sequenced, endpoint_receiver, receiver_at_work, after_receiver_packet, receiver_run_len, endpoint_receiver_state, endpoint_expected, endpoint_run_len, endpoint_written, endpoint_codec, fresh_sequenced_endpoint, endpoint_showing, endpoint_without_output, endpoint_restarted, endpoint_with_donl, endpoint_with_avc};
 
+use crate::const_handle::ConstHandle;
 use crate::handle::Handle;
 use crate::place::{Place, put};
 use h26x_handles::code::{
@@ -51,14 +52,13 @@ pub extern "C" fn h26x_receiver_new(
 
 /// Makes a receiver again, without what its last packet completed.
 #[unsafe(no_mangle)]
-pub extern "C" fn h26x_receiver_clone(alloc: Global, r: &mut Handle, made: &mut Place) -> u32
-    ensures wrong { is_sequenced r.old.value ≡ false → result ≡ wrong_end }
-    ensures answer { is_sequenced r.old.value ≡ true → (result ≡ ok) ⊎ (result ≡ out_of_memory) }
-    ensures made { result ≡ ok → made.new.value ≡ Some (endpoint_without_output r.old.value) }
+pub extern "C" fn h26x_receiver_clone(alloc: Global, r: &ConstHandle, made: &mut Place) -> u32
+    ensures wrong { is_sequenced r.now.value ≡ false → result ≡ wrong_end }
+    ensures answer { is_sequenced r.now.value ≡ true → (result ≡ ok) ⊎ (result ≡ out_of_memory) }
+    ensures made { result ≡ ok → made.new.value ≡ Some (endpoint_without_output r.now.value) }
     ensures kept { result ≢ ok → made.new ≡ made.old }
-    ensures left { r.new.value ≡ r.old.value }
 {
-    let copy = match r.get_mut() {
+    let copy = match r.get() {
         Endpoint::Sequenced(it) => it.clone(alloc),
         Endpoint::Sending(_) | Endpoint::Receiving(_) => return WRONG_END,
     };
@@ -208,11 +208,10 @@ pub extern "C" fn h26x_receiver_restart(r: &mut Handle) -> u32
 
 /// How many bytes the open run holds.
 #[unsafe(no_mangle)]
-pub extern "C" fn h26x_receiver_run_len(r: &mut Handle) -> usize
-    ensures len { result ≡ endpoint_run_len r.old.value }
-    ensures left { r.new.value ≡ r.old.value }
+pub extern "C" fn h26x_receiver_run_len(r: &ConstHandle) -> usize
+    ensures len { result ≡ endpoint_run_len r.now.value }
 {
-    match r.get_mut() {
+    match r.get() {
         Endpoint::Sequenced(it) => it.run_len(),
         Endpoint::Sending(_) | Endpoint::Receiving(_) => 0,
     }

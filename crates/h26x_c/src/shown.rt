@@ -8,7 +8,7 @@ ghost use Rattle.h26x_handles.specs.Copies.{with_front};
 ghost use Rattle.h26x_handles.specs.States.{is_sending};
 ghost use Rattle.h26x_handles.specs.Shown.{part_without_don, first_part, other_part, payload_parts, payload_kind_number, payload_header, payload_word, nth_part, don_number, endpoint_shown, any_depacketizer_parts, endpoint_parts};
 
-use crate::handle::Handle;
+use crate::const_handle::ConstHandle;
 use h26x_handles::code::{NOT_OF_THIS_CODEC, OK, WRONG_END};
 use h26x_handles::copy::copy_where_room;
 use h26x_handles::endpoint::Endpoint;
@@ -30,23 +30,22 @@ pub struct Shown {
 
 /// The packet that was accepted last, in numbers.
 #[unsafe(no_mangle)]
-pub extern "C" fn h26x_h265_shown(d: &mut Handle, shown: &mut Shown) -> u32
-    ensures wrong { is_sending d.old.value ≡ true → result ≡ wrong_end }
-    ensures none { is_sending d.old.value ≡ false → endpoint_shown d.old.value ≡ None →
+pub extern "C" fn h26x_h265_shown(d: &ConstHandle, shown: &mut Shown) -> u32
+    ensures wrong { is_sending d.now.value ≡ true → result ≡ wrong_end }
+    ensures none { is_sending d.now.value ≡ false → endpoint_shown d.now.value ≡ None →
         result ≡ not_of_this_codec }
-    ensures answer { (it : H265Payload) → endpoint_shown d.old.value ≡ Some it → result ≡ ok }
-    ensures kind { (it : H265Payload) → endpoint_shown d.old.value ≡ Some it →
+    ensures answer { (it : H265Payload) → endpoint_shown d.now.value ≡ Some it → result ≡ ok }
+    ensures kind { (it : H265Payload) → endpoint_shown d.now.value ≡ Some it →
         shown.new.kind ≡ payload_kind_number it }
-    ensures header { (it : H265Payload) → endpoint_shown d.old.value ≡ Some it →
+    ensures header { (it : H265Payload) → endpoint_shown d.now.value ≡ Some it →
         shown.new.header ≡ payload_header it }
-    ensures word { (it : H265Payload) → endpoint_shown d.old.value ≡ Some it →
+    ensures word { (it : H265Payload) → endpoint_shown d.now.value ≡ Some it →
         shown.new.word ≡ payload_word it }
-    ensures parts { (it : H265Payload) → endpoint_shown d.old.value ≡ Some it →
+    ensures parts { (it : H265Payload) → endpoint_shown d.now.value ≡ Some it →
         shown.new.parts ≡ length (payload_parts it) }
     ensures kept { result ≢ ok → shown.new ≡ shown.old }
-    ensures left { d.new.value ≡ d.old.value }
 {
-    match d.get_mut() {
+    match d.get() {
         Endpoint::Receiving(it) => show(&it.depacketizer, shown),
         Endpoint::Sequenced(it) => show(it.depacketizer(), shown),
         Endpoint::Sending(_) => WRONG_END,
@@ -81,17 +80,16 @@ fn show(depacketizer: &AnyDepacketizer, shown: &mut Shown) -> u32
 /// that was read before it; the part's length.
 #[unsafe(no_mangle)]
 pub extern "C" fn h26x_h265_part_copy(
-    d: &mut Handle,
+    d: &ConstHandle,
     i: usize,
     to: &mut [u8],
     number: &mut u32,
 ) -> usize
-    ensures len { result ≡ length (nth_part i (endpoint_parts d.old.value)).bytes }
-    ensures copied { to.new ≡ with_front (nth_part i (endpoint_parts d.old.value)).bytes to.old }
-    ensures number { number.new ≡ don_number (nth_part i (endpoint_parts d.old.value)).number }
-    ensures left { d.new.value ≡ d.old.value }
+    ensures len { result ≡ length (nth_part i (endpoint_parts d.now.value)).bytes }
+    ensures copied { to.new ≡ with_front (nth_part i (endpoint_parts d.now.value)).bytes to.old }
+    ensures number { number.new ≡ don_number (nth_part i (endpoint_parts d.now.value)).number }
 {
-    match d.get_mut() {
+    match d.get() {
         Endpoint::Receiving(it) => copy_part(shown_part(&it.depacketizer, i), to, number),
         Endpoint::Sequenced(it) => copy_part(shown_part(it.depacketizer(), i), to, number),
         Endpoint::Sending(_) => copy_part(Part::part_without_don(&[]), to, number),

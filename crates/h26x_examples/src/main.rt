@@ -20,6 +20,7 @@ mod h264;
 mod h265;
 #[cfg(test)]
 mod h266;
+mod laws_met;
 #[cfg(test)]
 mod one_buffer;
 #[cfg(test)]

@@ -4,6 +4,7 @@
 //! and the copies into a caller's buffers.
 #![tactic(auto)]
 
+pub mod cases;
 pub mod code;
 pub mod copy;
 pub mod endpoint;

@@ -17,8 +17,8 @@ Self = TypeVar("Self", bound="Owner")
 class Owner:
     """Has a live handle: one that the library wrote, and that is not freed yet.
 
-    Calls release the interpreter's lock, and the library wants each handle to itself. So every call
-    is made with the owner's lock, and a second thread waits.
+    Calls release the interpreter's lock, and a call that changes a handle wants it to itself. So every
+    call is made with the owner's lock, one that only looks too, and a second thread waits.
     """
 
     #: The calls that copy and free such a handle.

@@ -3,15 +3,12 @@
 use crate::codec::Codec;
 use crate::error::PacketError;
 use crate::sys::{self, Raw, Refusal};
-use std::cmp::Ordering;
 use std::fmt;
 use std::marker::PhantomData;
-use std::ptr;
-use std::sync::{Mutex, MutexGuard, PoisonError};
 
 /// An end of the library: how its handles are copied and freed.
 pub trait End {
-    const CLONE: unsafe extern "C" fn(*mut Raw, *mut Raw) -> u32;
+    const CLONE: unsafe extern "C" fn(*const Raw, *mut Raw) -> u32;
     const FREE: unsafe extern "C" fn(Raw);
 }
 
@@ -28,7 +25,7 @@ impl OfCodec for Sending {
 }
 
 impl End for Sending {
-    const CLONE: unsafe extern "C" fn(*mut Raw, *mut Raw) -> u32 = sys::h26x_packetizer_clone;
+    const CLONE: unsafe extern "C" fn(*const Raw, *mut Raw) -> u32 = sys::h26x_packetizer_clone;
     const FREE: unsafe extern "C" fn(Raw) = sys::h26x_packetizer_free;
 }
 
@@ -40,7 +37,7 @@ impl OfCodec for Receiving {
 }
 
 impl End for Receiving {
-    const CLONE: unsafe extern "C" fn(*mut Raw, *mut Raw) -> u32 = sys::h26x_depacketizer_clone;
+    const CLONE: unsafe extern "C" fn(*const Raw, *mut Raw) -> u32 = sys::h26x_depacketizer_clone;
     const FREE: unsafe extern "C" fn(Raw) = sys::h26x_depacketizer_free;
 }
 
@@ -48,17 +45,17 @@ impl End for Receiving {
 pub enum Sequenced {}
 
 impl End for Sequenced {
-    const CLONE: unsafe extern "C" fn(*mut Raw, *mut Raw) -> u32 = sys::h26x_receiver_clone;
+    const CLONE: unsafe extern "C" fn(*const Raw, *mut Raw) -> u32 = sys::h26x_receiver_clone;
     const FREE: unsafe extern "C" fn(Raw) = sys::h26x_receiver_free;
 }
 
 /// A live handle: one that the library wrote and that is not freed yet.
 ///
-/// Every call must have its handle to itself, those that only look at it too. Whoever has a
-/// `&mut self` has it by that, and takes no lock; behind a `&self` it is locked.
+/// A call that changes its handle must have it to itself, which who has a `&mut self` does. Those that
+/// only look at it are made by who has a `&self`, in any number of threads at once.
 pub struct Handle<E: End> {
     codec: Codec,
-    raw: Mutex<Raw>,
+    raw: Raw,
     end: PhantomData<E>,
 }
 
@@ -90,7 +87,7 @@ impl<E: End> Handle<E> {
         PacketError::of(code, &Refusal::default()).expect("a handle");
         Handle {
             codec,
-            raw: Mutex::new(made),
+            raw: made,
             end: PhantomData,
         }
     }
@@ -100,17 +97,14 @@ impl<E: End> Handle<E> {
     }
 
     /// The handle, which is live and nobody else's as long as `self` is borrowed.
-    ///
-    /// Where a thread panicked while it had the lock, the handle is as good as before, since no call
-    /// was running: calls don't panic.
     pub fn raw(&mut self) -> &mut Raw {
-        self.raw.get_mut().unwrap_or_else(PoisonError::into_inner)
+        &mut self.raw
     }
 
-    /// The handle, which is live and nobody else's as long as the lock is held, for calls that only
-    /// look at it.
-    pub fn locked(&self) -> MutexGuard<'_, Raw> {
-        self.raw.lock().unwrap_or_else(PoisonError::into_inner)
+    /// The handle, which is live and which nobody changes as long as `self` is borrowed, for calls that
+    /// only look at it.
+    pub fn looked_at(&self) -> &Raw {
+        &self.raw
     }
 }
 
@@ -118,24 +112,16 @@ impl<E: End> Handle<E> {
 impl<E: End> Clone for Handle<E> {
     fn clone(&self) -> Self {
         let mut made = Raw::room();
-        // SAFETY: the handle is live and locked, and `made` has room for another.
-        let code = unsafe { E::CLONE(&mut *self.locked(), &mut made) };
+        // SAFETY: the handle is live, the call only looks at it, and `made` has room for another.
+        let code = unsafe { E::CLONE(self.looked_at(), &mut made) };
         Self::written(self.codec, code, made)
     }
 }
 
 impl PartialEq for Handle<Receiving> {
     fn eq(&self, other: &Self) -> bool {
-        // Locked in the order of their addresses, so that no two threads which compare the same two
-        // wait for one another. One handle is not given to the call twice.
-        let (first, second) = match ptr::from_ref(self).cmp(&ptr::from_ref(other)) {
-            Ordering::Equal => return true,
-            Ordering::Less => (self, other),
-            Ordering::Greater => (other, self),
-        };
-        let (mut first, mut second) = (first.locked(), second.locked());
-        // SAFETY: two live handles, both locked.
-        unsafe { sys::h26x_depacketizer_same(&mut *first, &mut *second) }
+        // SAFETY: two live handles, or one twice, and the call only looks at them.
+        unsafe { sys::h26x_depacketizer_same(self.looked_at(), other.looked_at()) }
     }
 }
 

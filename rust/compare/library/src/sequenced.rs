@@ -215,8 +215,8 @@ impl SequencedDepacketizer {
 
     /// How many bytes of data the open unit holds, up to the limit; 0 where none is open.
     pub fn run_len(&self) -> usize {
-        // SAFETY: the handle is live and locked, and the call only looks at it.
-        unsafe { sys::h26x_receiver_run_len(&mut *self.handle.locked()) }
+        // SAFETY: the handle is live, and the call only looks at it.
+        unsafe { sys::h26x_receiver_run_len(self.handle.looked_at()) }
     }
 
     /// The packet that was taken last, of H.265 (RFC 7798, 4.4); before any, a single NAL unit packet

@@ -333,12 +333,12 @@ impl LastPacket {
     /// The packet that the end accepted last; before any, the one of `default`.
     pub fn of<E: End>(&self, handle: &Handle<E>) -> &H265Payload {
         self.packet
-            .get_or_init(|| shown(&mut handle.locked(), self.has_donl))
+            .get_or_init(|| shown(handle.looked_at(), self.has_donl))
     }
 }
 
 /// The packet that a handle of H.265 shows which receives.
-fn shown(raw: &mut Raw, has_donl: bool) -> H265Payload {
+fn shown(raw: &Raw, has_donl: bool) -> H265Payload {
     let mut shown = Shown::default();
     // SAFETY: the handle is live and ours alone.
     let code = unsafe { sys::h26x_h265_shown(raw, &mut shown) };
@@ -377,7 +377,7 @@ fn shown(raw: &mut Raw, has_donl: bool) -> H265Payload {
 }
 
 /// A unit behind the first of an aggregation packet.
-fn other_unit(raw: &mut Raw, i: usize) -> H265AggregationUnit {
+fn other_unit(raw: &Raw, i: usize) -> H265AggregationUnit {
     let part = Part::of(raw, i);
     H265AggregationUnit {
         dond: part.number.map(|number| number as u8),
@@ -393,7 +393,7 @@ struct Part {
 
 impl Part {
     /// A part of the packet that was accepted last, counted from 0.
-    fn of(raw: &mut Raw, i: usize) -> Self {
+    fn of(raw: &Raw, i: usize) -> Self {
         let mut number = 0;
         let nowhere = NonNull::dangling().as_ptr();
         // SAFETY: the handle is live and ours alone, and a buffer without room isn't written.

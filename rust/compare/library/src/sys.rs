@@ -23,6 +23,10 @@ impl Raw {
 // header lets a handle go from one thread to another.
 unsafe impl Send for Raw {}
 
+// SAFETY: the calls that take a `*const Raw` only look at the handle, and the header lets any number of
+// threads make such calls at once while none changes it.
+unsafe impl Sync for Raw {}
+
 /// The numbers of a refusal.
 #[repr(C)]
 #[derive(Default)]
@@ -51,7 +55,7 @@ pub const PACI: u32 = 4;
 
 unsafe extern "C" {
     pub fn h26x_packetizer_new(codec: u32, numbers: bool, made: *mut Raw) -> u32;
-    pub fn h26x_packetizer_clone(p: *mut Raw, made: *mut Raw) -> u32;
+    pub fn h26x_packetizer_clone(p: *const Raw, made: *mut Raw) -> u32;
     pub fn h26x_packetizer_free(p: Raw);
     pub fn h26x_packetizer_set_numbers(p: *mut Raw, numbers: bool) -> u32;
     pub fn h26x_packetizer_set_max_size(p: *mut Raw, bytes: u16) -> u32;
@@ -83,9 +87,9 @@ unsafe extern "C" {
     ) -> u32;
 
     pub fn h26x_depacketizer_new(codec: u32, numbers: bool, made: *mut Raw) -> u32;
-    pub fn h26x_depacketizer_clone(d: *mut Raw, made: *mut Raw) -> u32;
+    pub fn h26x_depacketizer_clone(d: *const Raw, made: *mut Raw) -> u32;
     pub fn h26x_depacketizer_free(d: Raw);
-    pub fn h26x_depacketizer_same(a: *mut Raw, b: *mut Raw) -> bool;
+    pub fn h26x_depacketizer_same(a: *const Raw, b: *const Raw) -> bool;
     pub fn h26x_depacketizer_set_numbers(d: *mut Raw, numbers: bool) -> u32;
     pub fn h26x_depacketize(
         d: *mut Raw,
@@ -98,7 +102,7 @@ unsafe extern "C" {
         extra: *mut u8,
         why: *mut Refusal,
     ) -> u32;
-    pub fn h26x_written_copy(d: *mut Raw, to: *mut u8, room: usize) -> usize;
+    pub fn h26x_written_copy(d: *const Raw, to: *mut u8, room: usize) -> usize;
     pub fn h26x_give_up_run(d: *mut Raw) -> u32;
 
     pub fn h26x_receiver_new(
@@ -108,7 +112,7 @@ unsafe extern "C" {
         run_limit: usize,
         made: *mut Raw,
     ) -> u32;
-    pub fn h26x_receiver_clone(r: *mut Raw, made: *mut Raw) -> u32;
+    pub fn h26x_receiver_clone(r: *const Raw, made: *mut Raw) -> u32;
     pub fn h26x_receiver_free(r: Raw);
     pub fn h26x_receiver_set_numbers(r: *mut Raw, numbers: bool) -> u32;
     pub fn h26x_receiver_set_avc(r: *mut Raw, avc: bool) -> u32;
@@ -126,11 +130,11 @@ unsafe extern "C" {
         why: *mut Refusal,
     ) -> u32;
     pub fn h26x_receiver_restart(r: *mut Raw) -> u32;
-    pub fn h26x_receiver_run_len(r: *mut Raw) -> usize;
+    pub fn h26x_receiver_run_len(r: *const Raw) -> usize;
 
-    pub fn h26x_h265_shown(d: *mut Raw, shown: *mut Shown) -> u32;
+    pub fn h26x_h265_shown(d: *const Raw, shown: *mut Shown) -> u32;
     pub fn h26x_h265_part_copy(
-        d: *mut Raw,
+        d: *const Raw,
         i: usize,
         to: *mut u8,
         room: usize,
