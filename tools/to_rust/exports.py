@@ -7,7 +7,7 @@
 | `to: &mut [u8]`, `ends: &mut [usize]` | the same, as `room` and `ends_room`, then `room(..)` | as the header names them |
 | `x: &mut usize`, and the other types of `OUTPUTS`, which nothing reads; of all functions of the crates that C reaches | `x: &mut MaybeUninit<usize>`, `*x = y` is `x.write(y)`; of an export `x: *mut usize`, then `output(x, ..)` | C leaves it uninitialised; NULL isn't wanted |
 | `extra: &mut u8` of an export, which it reads | `extra: *mut u8`, then `in_out(extra, ..)` | NULL is read as 0 |
-| `x: &mut Place`, `x: &mut Handle` | `x: *mut Place`, then `made(x)`; `x: *mut Handle`, then `lent(x)` | they are there |
+| `x: &mut Place`, `x: &mut Handle`, `x: &ConstHandle` | `x: *mut Place`, then `made(x)`; `x: *mut Handle`, then `lent(x)`; `x: *const ConstHandle`, then `shared(x)` | they are there |
 | `x: Handle` | by value; of NULL the call returns | it is nothing to be freed |
 | numbers and `bool` | the same | |
 | `Box::new(x)` that answers a `Result` | `try_box(x)` | std's isn't stable |
@@ -186,7 +186,7 @@ class Exports:
         used = "\n".join(calls)
         uses = ["use crate::pointers;"] if "pointers::" in used else []
         uses += ["use core::mem::MaybeUninit;"] if "MaybeUninit" in used else []
-        kinds = {"Handle": "handle::Handle", "Place": "place::Place", "Shown": "shown::Shown"}
+        kinds = {"ConstHandle": "const_handle::ConstHandle", "Handle": "handle::Handle", "Place": "place::Place", "Shown": "shown::Shown"}
         uses += [f"pub use super::{path};" for kind, path in kinds.items() if re.search(rf"\b{kind}\b", used)]
         uses += ["pub use crate::proved::h26x_handles::code::Refusal;"] if "Refusal" in used else []
         return "\n".join([HEAD, *uses, "", *calls])
@@ -208,6 +208,9 @@ class Exports:
             elif output and (output[1] == "Place" or output[2] == "Handle"):
                 taken.append(f"{name}: *mut {output[1] or output[2]}")
                 given.append(f"pointers::{'made' if output[1] else 'lent'}({name})")
+            elif kind == "& ConstHandle":
+                taken.append(f"{name}: *const ConstHandle")
+                given.append(f"pointers::shared({name})")
             elif output and output[1] in OUTPUTS:
                 taken.append(f"{name}: *mut {output[1]}")
                 first.append(f"let mut no_{name} = MaybeUninit::uninit();")

@@ -74,6 +74,17 @@ pub unsafe fn lent<'a, T>(at: *mut T) -> &'a mut T {
     unsafe { &mut *at }
 }
 
+/// A handle for the time of a call that only looks.
+///
+/// # Safety
+///
+/// One stands there, and nobody changes it while `'a` lasts.
+#[inline]
+pub unsafe fn shared<'a, T>(at: *const T) -> &'a T {
+    // SAFETY: a caller owes it.
+    unsafe { &*at }
+}
+
 /// Where a handle is to be written.
 ///
 /// # Safety

@@ -90,6 +90,7 @@ fn version_of_the_header() {
 fn structs_of_the_header() {
     let word = size_of::<usize>();
     assert_eq!((size_of::<Handle>(), align_of::<Handle>()), (word, word));
+    assert_eq!((size_of::<ConstHandle>(), align_of::<ConstHandle>()), (word, word));
     assert_eq!((size_of::<Place>(), align_of::<Place>()), (word, word));
     assert_eq!(
         (offset_of!(Refusal, first), offset_of!(Refusal, second)),
@@ -114,14 +115,17 @@ fn nothing_where_nothing_is_given() {
             h26x_packetize(handle, 1200, null_mut(), usize::MAX, null_mut()),
             0
         );
-        assert_eq!(h26x_packet_count(handle), 0);
+        assert_eq!(h26x_packet_count(handle.cast_const().cast()), 0);
         assert_eq!(
             h26x_packetize(handle, 1200, unit.as_ptr(), unit.len(), null_mut()),
             0
         );
-        assert_eq!(h26x_packet_copy(handle, 0, null_mut(), usize::MAX), 4);
         assert_eq!(
-            h26x_packets_copy(handle, 0, null_mut(), 9, null_mut(), 9),
+            h26x_packet_copy(handle.cast_const().cast(), 0, null_mut(), usize::MAX),
+            4
+        );
+        assert_eq!(
+            h26x_packets_copy(handle.cast_const().cast(), 0, null_mut(), 9, null_mut(), 9),
             0
         );
         h26x_packetizer_free(handle.read());

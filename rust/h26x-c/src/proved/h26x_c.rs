@@ -5,6 +5,7 @@
 //! A handle is a struct of one pointer to an `Endpoint` of `h26x_handles`, a packetizer, a
 //! depacketizer or a receiver of packets with their sequence numbers, of one codec. Each call states
 //! what it answers in the words of the payload formats.
+mod const_handle;
 pub mod exports;
 mod handle;
 mod paci;

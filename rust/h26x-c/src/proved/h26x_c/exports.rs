@@ -5,6 +5,7 @@
 //! A caller owes what the header says. So a pointer is NULL, where it may be, or that of a buffer of the length
 //! behind it, of a handle or of an output, which nothing else reads or writes while the call runs.
 
+pub use super::const_handle::ConstHandle;
 pub use super::handle::Handle;
 pub use super::place::Place;
 pub use super::shown::Shown;
@@ -117,9 +118,9 @@ pub unsafe extern "C" fn h26x_depacketizer_new(codec: u32, numbers: bool, made: 
 }
 
 #[unsafe(no_mangle)]
-pub unsafe extern "C" fn h26x_depacketizer_clone(d: *mut Handle, made: *mut Place) -> u32 {
+pub unsafe extern "C" fn h26x_depacketizer_clone(d: *const ConstHandle, made: *mut Place) -> u32 {
     // SAFETY: a caller owes what the header says.
-    unsafe { super::receiving::h26x_depacketizer_clone(pointers::lent(d), pointers::made(made)) }
+    unsafe { super::receiving::h26x_depacketizer_clone(pointers::shared(d), pointers::made(made)) }
 }
 
 #[unsafe(no_mangle)]
@@ -131,9 +132,12 @@ pub unsafe extern "C" fn h26x_depacketizer_free(d: Handle) {
 }
 
 #[unsafe(no_mangle)]
-pub unsafe extern "C" fn h26x_depacketizer_same(a: *mut Handle, b: *mut Handle) -> bool {
+pub unsafe extern "C" fn h26x_depacketizer_same(
+    a: *const ConstHandle,
+    b: *const ConstHandle,
+) -> bool {
     // SAFETY: a caller owes what the header says.
-    unsafe { super::receiving::h26x_depacketizer_same(pointers::lent(a), pointers::lent(b)) }
+    unsafe { super::receiving::h26x_depacketizer_same(pointers::shared(a), pointers::shared(b)) }
 }
 
 #[unsafe(no_mangle)]
@@ -172,9 +176,13 @@ pub unsafe extern "C" fn h26x_depacketize(
 }
 
 #[unsafe(no_mangle)]
-pub unsafe extern "C" fn h26x_written_copy(d: *mut Handle, to: *mut u8, room: usize) -> usize {
+pub unsafe extern "C" fn h26x_written_copy(
+    d: *const ConstHandle,
+    to: *mut u8,
+    room: usize,
+) -> usize {
     // SAFETY: a caller owes what the header says.
-    unsafe { super::receiving::h26x_written_copy(pointers::lent(d), pointers::room(to, room)) }
+    unsafe { super::receiving::h26x_written_copy(pointers::shared(d), pointers::room(to, room)) }
 }
 
 #[unsafe(no_mangle)]
@@ -190,9 +198,9 @@ pub unsafe extern "C" fn h26x_packetizer_new(codec: u32, numbers: bool, made: *m
 }
 
 #[unsafe(no_mangle)]
-pub unsafe extern "C" fn h26x_packetizer_clone(p: *mut Handle, made: *mut Place) -> u32 {
+pub unsafe extern "C" fn h26x_packetizer_clone(p: *const ConstHandle, made: *mut Place) -> u32 {
     // SAFETY: a caller owes what the header says.
-    unsafe { super::sending::h26x_packetizer_clone(pointers::lent(p), pointers::made(made)) }
+    unsafe { super::sending::h26x_packetizer_clone(pointers::shared(p), pointers::made(made)) }
 }
 
 #[unsafe(no_mangle)]
@@ -257,7 +265,7 @@ pub unsafe extern "C" fn h26x_packetize_unit(
 
 #[unsafe(no_mangle)]
 pub unsafe extern "C" fn h26x_packets_size(
-    p: *mut Handle,
+    p: *const ConstHandle,
     mtu: usize,
     payload: *const u8,
     payload_len: usize,
@@ -270,7 +278,7 @@ pub unsafe extern "C" fn h26x_packets_size(
     // SAFETY: a caller owes what the header says.
     unsafe {
         super::sending::h26x_packets_size(
-            pointers::lent(p),
+            pointers::shared(p),
             mtu,
             pointers::bytes(payload, payload_len),
             headroom,
@@ -343,37 +351,37 @@ pub unsafe extern "C" fn h26x_packetize_unit_into(
 }
 
 #[unsafe(no_mangle)]
-pub unsafe extern "C" fn h26x_packet_count(p: *mut Handle) -> usize {
+pub unsafe extern "C" fn h26x_packet_count(p: *const ConstHandle) -> usize {
     // SAFETY: a caller owes what the header says.
-    unsafe { super::sending::h26x_packet_count(pointers::lent(p)) }
+    unsafe { super::sending::h26x_packet_count(pointers::shared(p)) }
 }
 
 #[unsafe(no_mangle)]
-pub unsafe extern "C" fn h26x_packet_len(p: *mut Handle, i: usize) -> usize {
+pub unsafe extern "C" fn h26x_packet_len(p: *const ConstHandle, i: usize) -> usize {
     // SAFETY: a caller owes what the header says.
-    unsafe { super::sending::h26x_packet_len(pointers::lent(p), i) }
+    unsafe { super::sending::h26x_packet_len(pointers::shared(p), i) }
 }
 
 #[unsafe(no_mangle)]
-pub unsafe extern "C" fn h26x_packets_len(p: *mut Handle) -> usize {
+pub unsafe extern "C" fn h26x_packets_len(p: *const ConstHandle) -> usize {
     // SAFETY: a caller owes what the header says.
-    unsafe { super::sending::h26x_packets_len(pointers::lent(p)) }
+    unsafe { super::sending::h26x_packets_len(pointers::shared(p)) }
 }
 
 #[unsafe(no_mangle)]
 pub unsafe extern "C" fn h26x_packet_copy(
-    p: *mut Handle,
+    p: *const ConstHandle,
     i: usize,
     to: *mut u8,
     room: usize,
 ) -> usize {
     // SAFETY: a caller owes what the header says.
-    unsafe { super::sending::h26x_packet_copy(pointers::lent(p), i, pointers::room(to, room)) }
+    unsafe { super::sending::h26x_packet_copy(pointers::shared(p), i, pointers::room(to, room)) }
 }
 
 #[unsafe(no_mangle)]
 pub unsafe extern "C" fn h26x_packets_copy(
-    p: *mut Handle,
+    p: *const ConstHandle,
     first: usize,
     to: *mut u8,
     room: usize,
@@ -383,7 +391,7 @@ pub unsafe extern "C" fn h26x_packets_copy(
     // SAFETY: a caller owes what the header says.
     unsafe {
         super::sending::h26x_packets_copy(
-            pointers::lent(p),
+            pointers::shared(p),
             first,
             pointers::room(to, room),
             pointers::room(ends, ends_room),
@@ -406,9 +414,9 @@ pub unsafe extern "C" fn h26x_receiver_new(
 }
 
 #[unsafe(no_mangle)]
-pub unsafe extern "C" fn h26x_receiver_clone(r: *mut Handle, made: *mut Place) -> u32 {
+pub unsafe extern "C" fn h26x_receiver_clone(r: *const ConstHandle, made: *mut Place) -> u32 {
     // SAFETY: a caller owes what the header says.
-    unsafe { super::sequenced::h26x_receiver_clone(pointers::lent(r), pointers::made(made)) }
+    unsafe { super::sequenced::h26x_receiver_clone(pointers::shared(r), pointers::made(made)) }
 }
 
 #[unsafe(no_mangle)]
@@ -473,23 +481,23 @@ pub unsafe extern "C" fn h26x_receiver_restart(r: *mut Handle) -> u32 {
 }
 
 #[unsafe(no_mangle)]
-pub unsafe extern "C" fn h26x_receiver_run_len(r: *mut Handle) -> usize {
+pub unsafe extern "C" fn h26x_receiver_run_len(r: *const ConstHandle) -> usize {
     // SAFETY: a caller owes what the header says.
-    unsafe { super::sequenced::h26x_receiver_run_len(pointers::lent(r)) }
+    unsafe { super::sequenced::h26x_receiver_run_len(pointers::shared(r)) }
 }
 
 #[unsafe(no_mangle)]
-pub unsafe extern "C" fn h26x_h265_shown(d: *mut Handle, shown: *mut Shown) -> u32 {
+pub unsafe extern "C" fn h26x_h265_shown(d: *const ConstHandle, shown: *mut Shown) -> u32 {
     let mut no_shown = MaybeUninit::uninit();
     // SAFETY: a caller owes what the header says.
     unsafe {
-        super::shown::h26x_h265_shown(pointers::lent(d), pointers::output(shown, &mut no_shown))
+        super::shown::h26x_h265_shown(pointers::shared(d), pointers::output(shown, &mut no_shown))
     }
 }
 
 #[unsafe(no_mangle)]
 pub unsafe extern "C" fn h26x_h265_part_copy(
-    d: *mut Handle,
+    d: *const ConstHandle,
     i: usize,
     to: *mut u8,
     room: usize,
@@ -499,7 +507,7 @@ pub unsafe extern "C" fn h26x_h265_part_copy(
     // SAFETY: a caller owes what the header says.
     unsafe {
         super::shown::h26x_h265_part_copy(
-            pointers::lent(d),
+            pointers::shared(d),
             i,
             pointers::room(to, room),
             pointers::output(number, &mut no_number),
@@ -528,4 +536,10 @@ pub unsafe extern "C" fn h26x_next_unit(
             pointers::output(end, &mut no_end),
         )
     }
+}
+
+#[unsafe(no_mangle)]
+pub unsafe extern "C" fn h26x_unit_is_plain(codec: u32, unit: *const u8, unit_len: usize) -> bool {
+    // SAFETY: a caller owes what the header says.
+    unsafe { super::units::h26x_unit_is_plain(codec, pointers::bytes(unit, unit_len)) }
 }

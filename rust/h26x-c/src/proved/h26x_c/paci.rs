@@ -16,14 +16,12 @@ pub fn h26x_h265_paci_packet(
     to: &mut [u8],
     len: &mut MaybeUninit<usize>,
 ) -> u32 {
-    if unit.len() < 2 {
-        return SHORT_PACKET;
-    }
     match H265PACIPacket::packetize(unit, extension, &mut Vec::new()) {
         Ok(packet) => {
             len.write(copy_where_room(&packet, to));
             OK
         }
+        Err(PacketError::ErrShortPacket) => SHORT_PACKET,
         Err(PacketError::ErrH265PACIPHESTooLong) => EXTENSION_TOO_LONG,
         Err(_) => OUT_OF_MEMORY,
     }

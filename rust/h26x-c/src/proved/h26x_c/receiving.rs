@@ -2,6 +2,7 @@
 
 //! The calls of a depacketizer.
 
+use crate::proved::h26x_c::const_handle::ConstHandle;
 use crate::proved::h26x_c::handle::Handle;
 use crate::proved::h26x_c::place::{Place, put};
 use crate::proved::h26x_handles::code::{
@@ -26,8 +27,8 @@ pub fn h26x_depacketizer_new(codec: u32, numbers: bool, made: &mut MaybeUninit<P
 }
 
 /// Makes a depacketizer again, without what its last packet completed.
-pub fn h26x_depacketizer_clone(d: &mut Handle, made: &mut MaybeUninit<Place>) -> u32 {
-    let copy = match d.get_mut() {
+pub fn h26x_depacketizer_clone(d: &ConstHandle, made: &mut MaybeUninit<Place>) -> u32 {
+    let copy = match d.get() {
         Endpoint::Receiving(it) => it.try_clone(),
         Endpoint::Sending(_) | Endpoint::Sequenced(_) => return WRONG_END,
     };
@@ -43,8 +44,8 @@ pub fn h26x_depacketizer_free(d: Handle) {
 }
 
 /// Whether two depacketizers are the same.
-pub fn h26x_depacketizer_same(a: &mut Handle, b: &mut Handle) -> bool {
-    match (a.get_mut(), b.get_mut()) {
+pub fn h26x_depacketizer_same(a: &ConstHandle, b: &ConstHandle) -> bool {
+    match (a.get(), b.get()) {
         (Endpoint::Receiving(a), Endpoint::Receiving(b)) => a.depacketizer.is_same(&b.depacketizer),
         _ => false,
     }
@@ -92,8 +93,8 @@ pub fn h26x_depacketize(
 
 /// Copies what the last packet that was taken completed and had no room for, where there is room for
 /// it now; its length.
-pub fn h26x_written_copy(d: &mut Handle, to: &mut [u8]) -> usize {
-    match d.get_mut() {
+pub fn h26x_written_copy(d: &ConstHandle, to: &mut [u8]) -> usize {
+    match d.get() {
         Endpoint::Receiving(it) => copy_where_room(it.written(), to),
         Endpoint::Sequenced(it) => copy_where_room(it.written(), to),
         Endpoint::Sending(_) => copy_where_room(&[], to),

@@ -2,6 +2,7 @@
 
 //! The calls of a packetizer.
 
+use crate::proved::h26x_c::const_handle::ConstHandle;
 use crate::proved::h26x_c::handle::Handle;
 use crate::proved::h26x_c::place::{Place, put};
 use crate::proved::h26x_handles::code::{
@@ -25,8 +26,8 @@ pub fn h26x_packetizer_new(codec: u32, numbers: bool, made: &mut MaybeUninit<Pla
 }
 
 /// Makes a packetizer again, without its packets.
-pub fn h26x_packetizer_clone(p: &mut Handle, made: &mut MaybeUninit<Place>) -> u32 {
-    let copy = match p.get_mut() {
+pub fn h26x_packetizer_clone(p: &ConstHandle, made: &mut MaybeUninit<Place>) -> u32 {
+    let copy = match p.get() {
         Endpoint::Sending(it) => it.try_clone(),
         Endpoint::Receiving(_) | Endpoint::Sequenced(_) => return WRONG_END,
     };
@@ -122,7 +123,7 @@ pub fn h26x_packetize_unit(
 /// How many packets there are of a payload, and how many bytes they take in memory, each behind
 /// `headroom`. Nothing changes.
 pub fn h26x_packets_size(
-    p: &mut Handle,
+    p: &ConstHandle,
     mtu: usize,
     payload: &[u8],
     headroom: usize,
@@ -131,7 +132,7 @@ pub fn h26x_packets_size(
 ) -> u32 {
     count.write(0);
     size.write(0);
-    let made = match p.get_mut() {
+    let made = match p.get() {
         Endpoint::Sending(it) => it.packetizer.packets_size(mtu, payload, headroom),
         Endpoint::Receiving(_) | Endpoint::Sequenced(_) => return WRONG_END,
     };
@@ -199,32 +200,32 @@ pub fn h26x_packetize_unit_into(
 }
 
 /// How many packets there are.
-pub fn h26x_packet_count(p: &mut Handle) -> usize {
-    match p.get_mut() {
+pub fn h26x_packet_count(p: &ConstHandle) -> usize {
+    match p.get() {
         Endpoint::Sending(it) => it.count(),
         Endpoint::Receiving(_) | Endpoint::Sequenced(_) => 0,
     }
 }
 
 /// The length of a packet, counted from 0; past the last one 0.
-pub fn h26x_packet_len(p: &mut Handle, i: usize) -> usize {
-    match p.get_mut() {
+pub fn h26x_packet_len(p: &ConstHandle, i: usize) -> usize {
+    match p.get() {
         Endpoint::Sending(it) => it.packet(i).len(),
         Endpoint::Receiving(_) | Endpoint::Sequenced(_) => 0,
     }
 }
 
 /// How many bytes the packets are together.
-pub fn h26x_packets_len(p: &mut Handle) -> usize {
-    match p.get_mut() {
+pub fn h26x_packets_len(p: &ConstHandle) -> usize {
+    match p.get() {
         Endpoint::Sending(it) => it.bytes_len(),
         Endpoint::Receiving(_) | Endpoint::Sequenced(_) => 0,
     }
 }
 
 /// Copies a packet, counted from 0, where there is room for it; its length.
-pub fn h26x_packet_copy(p: &mut Handle, i: usize, to: &mut [u8]) -> usize {
-    match p.get_mut() {
+pub fn h26x_packet_copy(p: &ConstHandle, i: usize, to: &mut [u8]) -> usize {
+    match p.get() {
         Endpoint::Sending(it) => copy_where_room(it.packet(i), to),
         Endpoint::Receiving(_) | Endpoint::Sequenced(_) => copy_where_room(&[], to),
     }
@@ -232,8 +233,13 @@ pub fn h26x_packet_copy(p: &mut Handle, i: usize, to: &mut [u8]) -> usize {
 
 /// Copies packets, from one counted from 0 on, to the front of a buffer, one behind the other, as
 /// many as there is room for, and writes where each ends; how many they are.
-pub fn h26x_packets_copy(p: &mut Handle, first: usize, to: &mut [u8], ends: &mut [usize]) -> usize {
-    match p.get_mut() {
+pub fn h26x_packets_copy(
+    p: &ConstHandle,
+    first: usize,
+    to: &mut [u8],
+    ends: &mut [usize],
+) -> usize {
+    match p.get() {
         Endpoint::Sending(it) => it.copy_packets(first, to, ends),
         Endpoint::Receiving(_) | Endpoint::Sequenced(_) => 0,
     }

@@ -2,6 +2,7 @@
 
 //! The calls of a receiver of packets with their sequence numbers.
 
+use crate::proved::h26x_c::const_handle::ConstHandle;
 use crate::proved::h26x_c::handle::Handle;
 use crate::proved::h26x_c::place::{Place, put};
 use crate::proved::h26x_handles::code::{
@@ -30,8 +31,8 @@ pub fn h26x_receiver_new(
 }
 
 /// Makes a receiver again, without what its last packet completed.
-pub fn h26x_receiver_clone(r: &mut Handle, made: &mut MaybeUninit<Place>) -> u32 {
-    let copy = match r.get_mut() {
+pub fn h26x_receiver_clone(r: &ConstHandle, made: &mut MaybeUninit<Place>) -> u32 {
+    let copy = match r.get() {
         Endpoint::Sequenced(it) => it.try_clone(),
         Endpoint::Sending(_) | Endpoint::Receiving(_) => return WRONG_END,
     };
@@ -116,8 +117,8 @@ pub fn h26x_receiver_restart(r: &mut Handle) -> u32 {
 }
 
 /// How many bytes the open run holds.
-pub fn h26x_receiver_run_len(r: &mut Handle) -> usize {
-    match r.get_mut() {
+pub fn h26x_receiver_run_len(r: &ConstHandle) -> usize {
+    match r.get() {
         Endpoint::Sequenced(it) => it.run_len(),
         Endpoint::Sending(_) | Endpoint::Receiving(_) => 0,
     }

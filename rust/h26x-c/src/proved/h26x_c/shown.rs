@@ -2,7 +2,7 @@
 
 //! The calls on the packet that a depacketizer or a receiver of H.265 shows.
 
-use crate::proved::h26x_c::handle::Handle;
+use crate::proved::h26x_c::const_handle::ConstHandle;
 use crate::proved::h26x_handles::code::{NOT_OF_THIS_CODEC, OK, WRONG_END};
 use crate::proved::h26x_handles::copy::copy_where_room;
 use crate::proved::h26x_handles::endpoint::Endpoint;
@@ -24,8 +24,8 @@ pub struct Shown {
 }
 
 /// The packet that was accepted last, in numbers.
-pub fn h26x_h265_shown(d: &mut Handle, shown: &mut MaybeUninit<Shown>) -> u32 {
-    match d.get_mut() {
+pub fn h26x_h265_shown(d: &ConstHandle, shown: &mut MaybeUninit<Shown>) -> u32 {
+    match d.get() {
         Endpoint::Receiving(it) => show(&it.depacketizer, shown),
         Endpoint::Sequenced(it) => show(it.depacketizer(), shown),
         Endpoint::Sending(_) => WRONG_END,
@@ -46,12 +46,12 @@ fn show(depacketizer: &AnyDepacketizer, shown: &mut MaybeUninit<Shown>) -> u32 {
 /// Copies a part of that packet, counted from 0, where there is room for it, and writes the number
 /// that was read before it; the part's length.
 pub fn h26x_h265_part_copy(
-    d: &mut Handle,
+    d: &ConstHandle,
     i: usize,
     to: &mut [u8],
     number: &mut MaybeUninit<u32>,
 ) -> usize {
-    match d.get_mut() {
+    match d.get() {
         Endpoint::Receiving(it) => copy_part(shown_part(&it.depacketizer, i), to, number),
         Endpoint::Sequenced(it) => copy_part(shown_part(it.depacketizer(), i), to, number),
         Endpoint::Sending(_) => copy_part(Part::part_without_don(&[]), to, number),

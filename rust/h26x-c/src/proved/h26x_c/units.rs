@@ -1,6 +1,6 @@
 // Made from crates/h26x_c/src/units.rt by tools/to-rust.
 
-//! The units of payloads, by their places.
+//! The units of payloads, by their places, and what a unit is.
 
 use crate::proved::h26x_cut::next_unit;
 use crate::proved::h26x_handles::code::codec_of;
@@ -23,6 +23,14 @@ pub fn h26x_next_unit(
             end.write(place.end);
             true
         }
+        None => false,
+    }
+}
+
+/// Whether a unit is plain: one of the video itself, in whose Annex B text no reader finds another.
+pub fn h26x_unit_is_plain(codec: u32, unit: &[u8]) -> bool {
+    match codec_of(codec) {
+        Some(codec) => codec.is_plain_unit(unit),
         None => false,
     }
 }

@@ -75,11 +75,8 @@ impl SequencedEndpoint {
         let received = self
             .receiver
             .receive(sequence, packet, &mut self.spare, extra)?;
-        // It always is: a packet that is late writes nothing, and so lacks no room. That is in no
-        // contract.
-        if received.is_taken() {
-            written.write(put_or_keep(&mut self.spare, to, &mut self.written));
-        }
+        // It is taken: one that is late is answered at once, and memory lacks for none.
+        written.write(put_or_keep(&mut self.spare, to, &mut self.written));
         Ok(received)
     }
 

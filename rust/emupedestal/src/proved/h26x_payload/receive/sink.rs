@@ -8,7 +8,7 @@ use alloc::vec::Vec;
 
 /// What units are written to, one behind the other: a list of bytes, or memory of a caller.
 pub(crate) trait UnitSink {
-    /// Has room for so many bytes more, or fails and leaves everything.
+    /// Has room for so many bytes more, or fails, leaves everything and tells that room lacks.
     fn try_reserve(&mut self, count: usize) -> Result<(), AllocError>;
 
     /// Writes bytes behind the others.
