@@ -151,7 +151,8 @@ pub fn write_parts<W: UnitSink>(
     ensures written { OnOk result (W.sink out.new ≡ with_written (W.sink out.old)
         (byte_stream is_avc ((head.now ++ (run.now ++ body.now)) ∷ []))) }
     ensures kept { OnErr result (W.sink out.new ≡ W.sink out.old) }
-    ensures told_room { IsRoomTold result (byte_stream is_avc ((head.now ++ (run.now ++ body.now)) ∷ []))
+    ensures told_room { IsRoomTold result (byte_stream is_avc
+        ((head.now ++ (run.now ++ body.now)) ∷ []))
         (W.room out.old) (W.lacks out.old) (W.lacks out.new) }
     ensures lacks { result ≡ Err PacketError.OutOfMemory → W.lacks out.new ≡ true }
 {
