@@ -72,7 +72,6 @@ impl AnyPayloadDepacketizer {
     }
 
     /// Takes a packet that this codec's reader reads.
-    #[inline]
     fn take_as<C: PacketReader, W: UnitSink>(
         &mut self,
         codec: C,
@@ -90,7 +89,6 @@ impl AnyPayloadDepacketizer {
     /// bytes or to memory of a caller. Where that has no room for them the error is `OutOfMemory`;
     /// a refusal leaves everything, the memory too. A fragment without a start before it is accepted
     /// and completes nothing, and it takes no memory.
-    #[inline]
     pub fn depacketize_into<W: UnitSink>(
         &mut self,
         packet: &[u8],
@@ -106,7 +104,6 @@ impl AnyPayloadDepacketizer {
     }
 
     /// Takes a packet that this codec's reader reads, where the run that is open stands in the text.
-    #[inline]
     fn take_as_in_text<C: PacketReader>(
         &self,
         codec: C,
@@ -170,7 +167,6 @@ impl RunDepacketizer for AnyPayloadDepacketizer {
         self.run.give_up();
     }
 
-    #[inline]
     fn take<W: UnitSink>(
         &mut self,
         packet: &[u8],
@@ -180,7 +176,6 @@ impl RunDepacketizer for AnyPayloadDepacketizer {
         self.depacketize_into(packet, out, codec_extra)
     }
 
-    #[inline]
     fn take_in_text(
         &mut self,
         rule: RunRule,
