@@ -7,14 +7,14 @@ use crate::tries::Tries;
 use h26x_codec::Codec;
 use h26x_core::{CodecExtra, PacketError};
 use h26x_frames::{AccessUnit, FrameReceiver, RtpPacket, receive_frames};
-use h26x_receiver::{AnyDepacketizer, Received, SequencedDepacketizer};
+use h26x_receiver::{AnyPayloadDepacketizer, Received, SequencedDepacketizer};
 use std::alloc::Global;
 use std::process::Abort;
 
 /// A receiver, and the access units that it gave out.
 #[derive(Drop)]
 struct Receiver {
-    it: FrameReceiver<AnyDepacketizer>,
+    it: FrameReceiver<AnyPayloadDepacketizer>,
     out: Vec<AccessUnit>,
 }
 
@@ -31,7 +31,8 @@ struct Row<'a> {
 impl Receiver {
     /// One of a codec to which nothing was given.
     fn new(alloc: Global, codec: Codec) -> Self {
-        let packets = SequencedDepacketizer::new(alloc, AnyDepacketizer::new(alloc, codec), 1000);
+        let depacketizer = AnyPayloadDepacketizer::new(alloc, codec);
+        let packets = SequencedDepacketizer::new(alloc, depacketizer, 1000);
         Receiver {
             it: FrameReceiver::new(alloc, packets, 1000),
             out: Vec::new(alloc),
