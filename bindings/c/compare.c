@@ -17,13 +17,13 @@
     X(version) X(codec_name) X(strerror) X(packetizer_new) X(depacketizer_new) X(receiver_new)     \
     X(packetizer_free) X(depacketizer_free) X(receiver_free) X(h265_paci_packet)                   \
     X(is_partition_head) X(is_partition_tail) X(detect_keyframe) X(detect_h264_nalu) X(next_unit)  \
-    X(out_size_hint) X(h264_profile_level) X(h265_is_known) X(h266_is_known)                       \
+    X(unit_is_plain) X(out_size_hint) X(h264_profile_level) X(h265_is_known) X(h266_is_known)      \
     X(packetizer_clone) X(packetizer_set_numbers) X(packetizer_set_max_size) X(packetize)          \
     X(packetize_unit) X(packetize_into) X(packets_size) X(packetize_unit_into) X(packet_count)     \
     X(packet_len) X(packets_len) X(packet_copy) X(packets_copy) X(depacketizer_clone)              \
-    X(depacketizer_same) X(depacketizer_set_numbers) X(depacketize) X(written_copy)                \
-    X(give_up_run) X(receiver_clone) X(receiver_set_numbers) X(receiver_set_avc) X(receive)        \
-    X(receiver_restart) X(receiver_run_len) X(h265_shown) X(h265_part_copy)
+    X(depacketizer_same) X(depacketizer_set_numbers) X(depacketize) X(written_copy) X(give_up_run) \
+    X(receiver_clone) X(receiver_set_numbers) X(receiver_set_avc) X(receive) X(receiver_restart)   \
+    X(receiver_run_len) X(h265_shown) X(h265_part_copy)
 
 struct library {
 #define POINTER(name) __typeof__(h26x_##name) *name;
@@ -114,6 +114,7 @@ static void draw_input(enum call call, uint32_t codec)
     case CALL_packetize_unit:
     case CALL_packetize_unit_into:
     case CALL_h265_paci_packet:
+    case CALL_unit_is_plain:
         draw_unit(&input, codec);
         break;
     default:
@@ -311,6 +312,8 @@ static uint64_t looks(int s, const struct drawn *d, struct answer *a, struct out
     case CALL_next_unit:
         return l->next_unit(d->codec, d->bytes, d->len, d->x % 3 == 0 ? 0 : d->y % (d->len + 2),
                             WANTED(0, &o->count), WANTED(1, &o->size));
+    case CALL_unit_is_plain:
+        return l->unit_is_plain(d->codec, d->bytes, d->len);
     case CALL_out_size_hint:
         return l->out_size_hint(d->x % 5 == 0 ? SIZE_MAX - d->y % 9000 : d->y);
     case CALL_h264_profile_level:
