@@ -21,8 +21,8 @@ returns-then-is_taken-clause-put c = λ taken.
     search rules
 
 -- so it is where they had no room there
-pub returns-then-is_taken-2-clause-run : goal.returns-then-is_taken-2-clause-run
-returns-then-is_taken-2-clause-run c = λ taken.
+pub returns-clause-run : goal.returns-clause-run
+returns-clause-run c = λ taken.
     let again = sequenced_depacketization (any_depacketizer_state c.receive.new.self.depacketizer) c.receive.new.self.expected c.clear-2.new.self.items c.receive.new.codec_extra in
     let same : again ≡ receiver_at_work c.args.self.now c.args.extra.now = search rules in
     let limit : c.receive.new.self.run_limit ≡ c.args.self.now.run_limit = search rules in
