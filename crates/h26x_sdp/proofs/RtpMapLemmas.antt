@@ -7,7 +7,7 @@ use Rattle.h26x_sdp.specs.declared.rtp_map.Encoding.{Encoding}
 use Rattle.h26x_sdp.specs.declared.rtp_map.Encoding.TheVariants.{H264, H265, H266}
 use Rattle.h26x_sdp.specs.declared.rtp_map.RtpMap.{RtpMap}
 use Rattle.h26x_sdp.specs.declared.rtp_map.RtpMapError.{RtpMapError}
-use Rattle.h26x_sdp.specs.RtpMaps.{rtp_map_of, text_of}
+use Rattle.h26x_sdp.specs.RtpMaps.{rtp_map_of, rtp_map_text}
 
 abbrev is_encoding : Encoding → Encoding → Bool
 is_encoding H264 H264 = true
@@ -47,7 +47,7 @@ map_is (Ok map) n e h =
 
 -- whether it is read again, of all payload types below a number
 back : Encoding → ℕ → Bool
-back e n = is_map (rtp_map_of (text_of (record { payload_type = n; encoding = e }))) n e
+back e n = is_map (rtp_map_of (rtp_map_text (record { payload_type = n; encoding = e }))) n e
 
 all_back : Encoding → ℕ → Bool
 all_back e zero = true
@@ -69,6 +69,6 @@ each_back H264 = refl
 each_back H265 = refl
 each_back H266 = refl
 
-pub map_back : (map : RtpMap) → map.payload_type < 128 → rtp_map_of (text_of map) ≡ Ok map
+pub map_back : (map : RtpMap) → map.payload_type < 128 → rtp_map_of (rtp_map_text map) ≡ Ok map
 unfolding back
-map_back map within = map_is (rtp_map_of (text_of map)) map.payload_type map.encoding (back_below map.encoding 128 map.payload_type (each_back map.encoding) within)
+map_back map within = map_is (rtp_map_of (rtp_map_text map)) map.payload_type map.encoding (back_below map.encoding 128 map.payload_type (each_back map.encoding) within)

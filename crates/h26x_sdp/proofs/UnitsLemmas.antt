@@ -12,7 +12,7 @@ use Rattle.base64.specs.Rfc4648.{encode_symbols, padding_len}
 use Rattle.base64.specs.declared.decode.DecodeError.{DecodeError}
 use Rattle.base64.proofs.EngineFacts.{decode_of-encode_of, decode_of_strict}
 use Rattle.h26x_sdp.specs.declared.error.UnitsError.{UnitsError}
-use Rattle.h26x_sdp.specs.Units.{is_comma, pieces, units_text, unit_unless_empty, unit_in, with_unit, units_from, units_of, AreUnits}
+use Rattle.h26x_sdp.specs.Units.{is_comma, pieces, units_text, unit_unless_empty, unit_in, unit_before, units_from, sprop_units, AreSpropUnits}
 use Rattle.h26x_sdp.proofs.PartLemmas.{by_test, first_at}
 
 -- a text without a comma is one piece
@@ -94,11 +94,11 @@ unit_kept place (byte ∷ rest) some = refl
 units_back : (place : ℕ) (units : List (List ℕ)) → AllByRecursion (λ unit. (0 < length unit) × IsBytes unit) units → units_from place (map (encode_of standard) units) ≡ Ok units
 units_back place [] h = refl
 units_back place (unit ∷ units) h =
-    ap (λ r. with_unit (unit_unless_empty place r) (units_from (place + 1) (map (encode_of standard) units))) (decode_of-encode_of standard unit refl h.0.1)
-    ∙ ap (λ r. with_unit r (units_from (place + 1) (map (encode_of standard) units))) (unit_kept place unit h.0.0)
-    ∙ ap (with_unit (Ok unit)) (units_back (place + 1) units h.1)
+    ap (λ r. unit_before (unit_unless_empty place r) (units_from (place + 1) (map (encode_of standard) units))) (decode_of-encode_of standard unit refl h.0.1)
+    ∙ ap (λ r. unit_before r (units_from (place + 1) (map (encode_of standard) units))) (unit_kept place unit h.0.0)
+    ∙ ap (unit_before (Ok unit)) (units_back (place + 1) units h.1)
 
-pub units_written : (units : List (List ℕ)) → AreUnits units → units_of (units_text units) ≡ Ok units
+pub units_written : (units : List (List ℕ)) → AreSpropUnits units → sprop_units (units_text units) ≡ Ok units
 units_written [] are = absurd (omega (arith, are.some))
 units_written (unit ∷ units) are = ap (units_from 0) (written_pieces unit units) ∙ units_back 0 (unit ∷ units) are.whole
 
@@ -134,22 +134,22 @@ unit_decoded place (Err error) unit h = cc h
 unit_decoded place (Ok []) unit h = cc h
 unit_decoded place (Ok (byte ∷ rest)) unit h = let same : byte ∷ rest ≡ unit = cc h in ap (λ (l : List ℕ). Ok l) same
 
-with_unit_parts : (r : Result (List ℕ) UnitsError) (rs : Result (List (List ℕ)) UnitsError) (units : List (List ℕ)) → with_unit r rs ≡ Ok units
+unit_before_parts : (r : Result (List ℕ) UnitsError) (rs : Result (List (List ℕ)) UnitsError) (units : List (List ℕ)) → unit_before r rs ≡ Ok units
     → (unit : List ℕ) × (rest : List (List ℕ)) × (r ≡ Ok unit) × (rs ≡ Ok rest) × (units ≡ unit ∷ rest)
-with_unit_parts (Err error) rs units h = cc h
-with_unit_parts (Ok unit) (Err error) units h = cc h
-with_unit_parts (Ok unit) (Ok rest) units h = (unit, rest, refl, refl, cc h)
+unit_before_parts (Err error) rs units h = cc h
+unit_before_parts (Ok unit) (Err error) units h = cc h
+unit_before_parts (Ok unit) (Ok rest) units h = (unit, rest, refl, refl, cc h)
 
 read_pieces : (place : ℕ) (ps units : List (List ℕ)) → AllByRecursion IsBytes ps → units_from place ps ≡ Ok units → map (encode_of standard) units ≡ ps
 read_pieces place [] units bytes h = let none : units ≡ [] = cc h in ap (map (encode_of standard)) none
 read_pieces place (p ∷ ps) units bytes h =
-    let (unit, rest, first, others, same) = with_unit_parts (unit_in place p) (units_from (place + 1) ps) units h in
+    let (unit, rest, first, others, same) = unit_before_parts (unit_in place p) (units_from (place + 1) ps) units h in
     let here : p ≡ encode_of standard unit = decode_of_strict standard p unit (refl, refl) bytes.0 (unit_decoded place (decode_of standard p) unit first) in
     ap (map (encode_of standard)) same
     ∙ ap (λ (l : List ℕ). l ∷ map (encode_of standard) rest) (sym here)
     ∙ ap (λ (l : List (List ℕ)). p ∷ l) (read_pieces (place + 1) ps rest bytes.1 others)
 
-pub units_read : (text : List ℕ) (units : List (List ℕ)) → IsBytes text → units_of text ≡ Ok units → units_text units ≡ text
+pub units_read : (text : List ℕ) (units : List (List ℕ)) → IsBytes text → sprop_units text ≡ Ok units → units_text units ≡ text
 units_read text units bytes h =
     ap (join_with_byte 44) (read_pieces 0 (pieces text) units (bytes_pieces text bytes) h) ∙ join_with_byte-slice_split 44 text
 

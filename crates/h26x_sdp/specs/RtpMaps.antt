@@ -60,5 +60,5 @@ rtp_map_of text =
     (payload_type_in (before_first (λ byte. byte == 32) (trim_ascii text)))
 
 -- as it is written
-abbrev pub text_of : RtpMap → List ℕ
-text_of map = decimal map.payload_type ++ 32 ∷ encoding_name map.encoding ++ codes "/90000"
+abbrev pub rtp_map_text : RtpMap → List ℕ
+rtp_map_text map = decimal map.payload_type ++ 32 ∷ encoding_name map.encoding ++ codes "/90000"

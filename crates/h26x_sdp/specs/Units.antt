@@ -33,28 +33,28 @@ abbrev pub unit_in : ℕ → List ℕ → Result (List ℕ) UnitsError
 unit_in place text = unit_unless_empty place (decode_of standard text)
 
 -- a unit before others; the first fault is the answer
-abbrev pub with_unit : Result (List ℕ) UnitsError → Result (List (List ℕ)) UnitsError →
+abbrev pub unit_before : Result (List ℕ) UnitsError → Result (List (List ℕ)) UnitsError →
     Result (List (List ℕ)) UnitsError
-with_unit (Err error) units = Err error
-with_unit (Ok unit) (Err error) = Err error
-with_unit (Ok unit) (Ok units) = Ok (unit ∷ units)
+unit_before (Err error) units = Err error
+unit_before (Ok unit) (Err error) = Err error
+unit_before (Ok unit) (Ok units) = Ok (unit ∷ units)
 
 -- the units of texts, the first of them at a place
 abbrev pub units_from : ℕ → List (List ℕ) → Result (List (List ℕ)) UnitsError
 units_from place [] = Ok []
-units_from place (text ∷ rest) = with_unit (unit_in place text) (units_from (place + 1) rest)
+units_from place (text ∷ rest) = unit_before (unit_in place text) (units_from (place + 1) rest)
 
 -- the units of a text
-abbrev pub units_of : List ℕ → Result (List (List ℕ)) UnitsError
-units_of text = units_from 0 (pieces text)
+abbrev pub sprop_units : List ℕ → Result (List (List ℕ)) UnitsError
+sprop_units text = units_from 0 (pieces text)
 
 -- the units of a row's value, if it's given and its kind is units
 abbrev pub units_at : List ParameterRow → FormatParameters → ℕ →
     Option (Result (List (List ℕ)) UnitsError)
 units_at rows it row =
-    if is_units (row_at rows row).kind then option_map units_of (value_at it.values row) else None
+    if is_units (row_at rows row).kind then option_map sprop_units (value_at it.values row) else None
 
 -- what may stand as units: some, each of some bytes
-pub record AreUnits (units : List (List ℕ)) : Type 0 where
+pub record AreSpropUnits (units : List (List ℕ)) : Type 0 where
   pub some : 0 < length units
   pub whole : AllByRecursion (λ unit. (0 < length unit) × IsBytes unit) units

@@ -8,8 +8,8 @@ ghost use Rattle.h26x_sdp.specs.Tables.{ParameterRow};
 ghost use Rattle.h26x_sdp.specs.Parameters.{IsTable, AreParameters};
 ghost use Rattle.h26x_sdp.specs.Reading.{FormatParameters, read_of, all_of};
 ghost use Rattle.base64.specs.GeneralPurpose.{IsBytes};
-ghost use Rattle.h26x_sdp.specs.Units.{AreUnits, units_of, units_text};
-ghost use Rattle.h26x_sdp.specs.RtpMaps.{rtp_map_of, text_of};
+ghost use Rattle.h26x_sdp.specs.Units.{AreSpropUnits, sprop_units, units_text};
+ghost use Rattle.h26x_sdp.specs.RtpMaps.{rtp_map_of, rtp_map_text};
 ghost use Rattle.h26x_sdp.specs.declared.rtp_map.RtpMap.{RtpMap};
 ghost use Rattle.h26x_sdp.specs.H264Rows as h264;
 ghost use Rattle.h26x_sdp.specs.H265Rows as h265;
@@ -59,12 +59,13 @@ pub fn what_is_read_of_a_table_is_written()
 /// What is written of NAL units is read as the same units, and what is read is written as the same
 /// text.
 pub fn units_and_their_text()
-    ensures read { (units : List (List ℕ)) → AreUnits units → units_of (units_text units) ≡ Ok units }
+    ensures read { (units : List (List ℕ)) → AreSpropUnits units →
+        sprop_units (units_text units) ≡ Ok units }
     ensures written { (text : List ℕ) (units : List (List ℕ)) → IsBytes text →
-        units_of text ≡ Ok units → units_text units ≡ text }
+        sprop_units text ≡ Ok units → units_text units ≡ text }
 {}
 
 /// What is written of a payload type and its encoding is read as the same.
 pub fn what_is_written_of_an_rtp_map_is_read()
-    ensures { (map : RtpMap) → map.payload_type < 128 → rtp_map_of (text_of map) ≡ Ok map }
+    ensures { (map : RtpMap) → map.payload_type < 128 → rtp_map_of (rtp_map_text map) ≡ Ok map }
 {}

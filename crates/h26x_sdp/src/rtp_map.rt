@@ -129,7 +129,7 @@ impl RtpMap {
 
     /// Writes what stands behind `a=rtpmap:`. It is read as the same.
     pub fn write(self, alloc: Global) -> Result<Vec<u8>, AllocError>
-        ensures { IfOk result (λ text. text.items ≡ spec.text_of self) }
+        ensures { IfOk result (λ text. text.items ≡ spec.rtp_map_text self) }
     {
         let (payload_type, name) = (self.payload_type, self.encoding.name());
         Ok(format!(in alloc; "{payload_type} {name}/90000")?.into_bytes())

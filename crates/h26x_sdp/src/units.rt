@@ -45,8 +45,8 @@ fn split_piece(text: &[u8]) -> (&[u8], Option<&[u8]>)
 /// They are written again as the same text.
 pub fn read_units(alloc: Global, text: &[u8]) -> Result<Vec<Vec<u8>>, UnitsError>
     ensures { MatchResult result
-        (λ units. spec.units_of text.now ≡ Ok (units_view units.items))
-        (λ error. FailsUnits error (spec.units_of text.now)) }
+        (λ units. spec.sprop_units text.now ≡ Ok (units_view units.items))
+        (λ error. FailsUnits error (spec.sprop_units text.now)) }
 {
     let mut units = Vec::new(alloc);
     let mut rest = Some(text);
