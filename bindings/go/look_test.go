@@ -22,7 +22,7 @@ func TestHeadsAndTails(t *testing.T) {
 				t.Errorf("%v: %x", codec, packet)
 			}
 		}
-		if d.IsPartitionHead(nil) || d.IsPartitionTail(true, nil) != (codec == h26x.H264) {
+		if d.IsPartitionHead(nil) || !d.IsPartitionTail(true, nil) || d.IsPartitionTail(false, some("620153")) {
 			t.Errorf("%v: nothing", codec)
 		}
 	}
