@@ -40,12 +40,12 @@ rows =
       default = Some (codes "42000a");
     } ∷
     record { name = codes "max-recv-level"; kind = Hexadecimal 2; default = None } ∷
-    record { name = codes "max-mbps"; kind = Number 0 4294967295; default = None } ∷
-    record { name = codes "max-smbps"; kind = Number 0 4294967295; default = None } ∷
-    record { name = codes "max-fs"; kind = Number 0 4294967295; default = None } ∷
-    record { name = codes "max-cpb"; kind = Number 0 4294967295; default = None } ∷
-    record { name = codes "max-dpb"; kind = Number 0 4294967295; default = None } ∷
-    record { name = codes "max-br"; kind = Number 0 4294967295; default = None } ∷
+    record { name = codes "max-mbps"; kind = Number 0 18446744073709551615; default = None } ∷
+    record { name = codes "max-smbps"; kind = Number 0 18446744073709551615; default = None } ∷
+    record { name = codes "max-fs"; kind = Number 0 18446744073709551615; default = None } ∷
+    record { name = codes "max-cpb"; kind = Number 0 18446744073709551615; default = None } ∷
+    record { name = codes "max-dpb"; kind = Number 0 18446744073709551615; default = None } ∷
+    record { name = codes "max-br"; kind = Number 0 18446744073709551615; default = None } ∷
     record { name = codes "redundant-pic-cap"; kind = Number 0 1; default = Some (codes "0") } ∷
     record { name = codes "sprop-parameter-sets"; kind = Units; default = None } ∷
     record { name = codes "sprop-level-parameter-sets"; kind = Text; default = None } ∷
@@ -72,5 +72,5 @@ rows =
     record { name = codes "sprop-max-don-diff"; kind = Number 0 32767; default = None } ∷
     record { name = codes "max-rcmd-nalu-size"; kind = Number 0 4294967295; default = None } ∷
     record { name = codes "sar-understood"; kind = Number 0 254; default = Some (codes "13") } ∷
-    record { name = codes "sar-supported"; kind = Number 0 255; default = None } ∷
+    record { name = codes "sar-supported"; kind = Number 1 255; default = None } ∷
     []

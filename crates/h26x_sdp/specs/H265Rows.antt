@@ -1,6 +1,6 @@
 -- The format parameters of H.265 (RFC 7798, section 7.1).
 use Rattle.std.specs.Prelude.{ℕ, List, [], ◌∷◌, codes, Some, None}
-use Rattle.h26x_sdp.specs.declared.kind.Kind.TheVariants.{Number, Hexadecimal, TxMode, Units, Text}
+use Rattle.h26x_sdp.specs.declared.kind.Kind.TheVariants.{Number, Hexadecimal, HexadecimalNumber, TxMode, Units, Text}
 use Rattle.h26x_sdp.specs.declared.h265.H265Parameter.{H265Parameter}
 use Rattle.h26x_sdp.specs.declared.h265.H265Parameter.TheVariants as p
 use Rattle.h26x_sdp.specs.Tables.{ParameterRow}
@@ -65,12 +65,12 @@ rows =
     record { name = codes "sprop-sei"; kind = Units; default = None } ∷
     record { name = codes "max-lsr"; kind = Number 0 18446744073709551615; default = None } ∷
     record { name = codes "max-lps"; kind = Number 0 4294967295; default = None } ∷
-    record { name = codes "max-cpb"; kind = Number 0 4294967295; default = None } ∷
-    record { name = codes "max-dpb"; kind = Number 1 16; default = None } ∷
-    record { name = codes "max-br"; kind = Number 0 4294967295; default = None } ∷
-    record { name = codes "max-tr"; kind = Number 0 4294967295; default = None } ∷
-    record { name = codes "max-tc"; kind = Number 0 4294967295; default = None } ∷
-    record { name = codes "max-fps"; kind = Number 0 4294967295; default = None } ∷
+    record { name = codes "max-cpb"; kind = Number 0 18446744073709551615; default = None } ∷
+    record { name = codes "max-dpb"; kind = Number 1 16; default = Some (codes "6") } ∷
+    record { name = codes "max-br"; kind = Number 0 18446744073709551615; default = None } ∷
+    record { name = codes "max-tr"; kind = Number 0 18446744073709551615; default = None } ∷
+    record { name = codes "max-tc"; kind = Number 0 18446744073709551615; default = None } ∷
+    record { name = codes "max-fps"; kind = Number 0 18446744073709551615; default = None } ∷
     record {
       name = codes "sprop-max-don-diff";
       kind = Number 0 32767;
@@ -94,8 +94,8 @@ rows =
     record { name = codes "sprop-segmentation-id"; kind = Number 0 3; default = Some (codes "0") } ∷
     record {
       name = codes "sprop-spatial-segmentation-idc";
-      kind = Number 0 4095;
-      default = Some (codes "0");
+      kind = HexadecimalNumber 4095;
+      default = None;
     } ∷
     record { name = codes "dec-parallel-cap"; kind = Text; default = None } ∷
     record { name = codes "include-dph"; kind = Text; default = None } ∷

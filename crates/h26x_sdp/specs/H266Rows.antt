@@ -37,9 +37,9 @@ rows =
     record { name = codes "interop-constraints"; kind = Text; default = None } ∷
     record { name = codes "level-id"; kind = Number 0 255; default = Some (codes "51") } ∷
     record { name = codes "sprop-sublayer-id"; kind = Number 0 6; default = Some (codes "6") } ∷
-    record { name = codes "sprop-ols-id"; kind = Number 0 257; default = None } ∷
+    record { name = codes "sprop-ols-id"; kind = Number 0 256; default = None } ∷
     record { name = codes "recv-sublayer-id"; kind = Number 0 6; default = None } ∷
-    record { name = codes "recv-ols-id"; kind = Number 0 257; default = None } ∷
+    record { name = codes "recv-ols-id"; kind = Number 0 256; default = None } ∷
     record { name = codes "max-recv-level-id"; kind = Number 0 255; default = None } ∷
     record { name = codes "sprop-dci"; kind = Units; default = None } ∷
     record { name = codes "sprop-vps"; kind = Units; default = None } ∷
@@ -47,7 +47,7 @@ rows =
     record { name = codes "sprop-pps"; kind = Units; default = None } ∷
     record { name = codes "sprop-sei"; kind = Units; default = None } ∷
     record { name = codes "max-lsr"; kind = Number 0 18446744073709551615; default = None } ∷
-    record { name = codes "max-fps"; kind = Number 0 4294967295; default = None } ∷
+    record { name = codes "max-fps"; kind = Number 0 18446744073709551615; default = None } ∷
     record {
       name = codes "sprop-max-don-diff";
       kind = Number 0 32767;

@@ -6,7 +6,7 @@ use Rattle.std.specs.Char.{digit_value}
 use Rattle.std.specs.Str.Parse.{digits_value}
 use Rattle.std.specs.Cmp.Lexicographic.{pointwise}
 use Rattle.h26x_sdp.specs.declared.kind.Kind.{Kind}
-use Rattle.h26x_sdp.specs.declared.kind.Kind.TheVariants.{Number, Hexadecimal, TxMode, Units, Text}
+use Rattle.h26x_sdp.specs.declared.kind.Kind.TheVariants.{Number, HexadecimalNumber, Hexadecimal, TxMode, Units, Text}
 use Rattle.h26x_sdp.specs.declared.error.Fault.{Fault}
 use Rattle.h26x_sdp.specs.declared.error.Fault.TheVariants.{NotANumber, OutOfRange, NotHexadecimal, NotTxMode}
 
@@ -14,12 +14,19 @@ use Rattle.h26x_sdp.specs.declared.error.Fault.TheVariants.{NotANumber, OutOfRan
 abbrev pub are_digits_of : ℕ → List ℕ → Bool
 are_digits_of radix text = list_all (λ c. nat_lt (digit_value c) radix) text
 
--- the number of a text of decimal digits, of 64 bits at most
+-- the number of a text of digits, of 64 bits at most, and what is wrong with another text
+abbrev pub digits_number : ℕ → Fault → List ℕ → Result ℕ Fault
+digits_number radix other text =
+    if nat_lt 0 (length text) && are_digits_of radix text then
+    (if nat_lt (digits_value radix text) (2 ^ 64) then Ok (digits_value radix text)
+    else Err OutOfRange)
+    else Err other
+
 abbrev pub number_in : List ℕ → Result ℕ Fault
-number_in text =
-    if nat_lt 0 (length text) && are_digits_of 10 text then
-    (if nat_lt (digits_value 10 text) (2 ^ 64) then Ok (digits_value 10 text) else Err OutOfRange)
-    else Err NotANumber
+number_in text = digits_number 10 NotANumber text
+
+abbrev pub hexadecimal_number_in : List ℕ → Result ℕ Fault
+hexadecimal_number_in text = digits_number 16 NotHexadecimal text
 
 abbrev pub range_fault : ℕ → ℕ → Result ℕ Fault → Option Fault
 range_fault least most (Err fault) = Some fault
@@ -34,6 +41,7 @@ is_tx_mode text = (pointwise nat_eq text (codes "SRST") || pointwise nat_eq text
 -- what is wrong with a value of a kind
 abbrev pub fault_in : Kind → List ℕ → Option Fault
 fault_in (Number least most) value = range_fault least most (number_in value)
+fault_in (HexadecimalNumber most) value = range_fault 0 most (hexadecimal_number_in value)
 fault_in (Hexadecimal bytes) value =
     if length value == 2 * bytes && are_digits_of 16 value then None else Some NotHexadecimal
 fault_in TxMode value = if is_tx_mode value then None else Some NotTxMode
@@ -43,6 +51,7 @@ fault_in Text value = None
 -- the number that a value of a kind says, if the kind is a number's
 abbrev pub number_of : Kind → List ℕ → Option ℕ
 number_of (Number least most) value = result_ok (number_in value)
+number_of (HexadecimalNumber most) value = result_ok (hexadecimal_number_in value)
 number_of (Hexadecimal bytes) value = None
 number_of TxMode value = None
 number_of Units value = None
@@ -50,6 +59,7 @@ number_of Text value = None
 
 abbrev pub is_units : Kind → Bool
 is_units (Number least most) = false
+is_units (HexadecimalNumber most) = false
 is_units (Hexadecimal bytes) = false
 is_units TxMode = false
 is_units Units = true

@@ -1,5 +1,5 @@
 -- Parameters by a table of what each of them is (RFC 6184, section 8.1; RFC 7798, section 7.1; RFC
--- 9328, section 7.1).
+-- 9328, section 7.2).
 use Rattle.std.specs.Prelude.{ℕ, ◌+◌, if◌then◌else◌, List, [], ◌∷◌, ◌++◌, length, replicate, slice_set, slice_index_or, Option, Some, None, is_some, Result, Ok, Err}
 use Rattle.std.specs.Option.{option_and_then, option_or}
 use Rattle.h26x_sdp.specs.declared.kind.Kind.{Kind}

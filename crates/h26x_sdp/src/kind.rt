@@ -11,6 +11,8 @@ use std::str;
 pub enum Kind {
     /// A decimal number from `least` to `most`.
     Number { least: u64, most: u64 },
+    /// A number up to `most`, by hexadecimal digits in either case.
+    HexadecimalNumber { most: u64 },
     /// So many bytes, each by two hexadecimal digits in either case.
     Hexadecimal { bytes: u8 },
     /// `SRST`, `MRST` or `MRMT` (RFC 7798, section 7.1).
@@ -62,6 +64,11 @@ impl Kind {
                 Ok(number) if least <= number && number <= most => None,
                 Ok(_) => Some(Fault::OutOfRange),
             },
+            Kind::HexadecimalNumber { most } => match hexadecimal_number_in(value) {
+                Err(fault) => Some(fault),
+                Ok(number) if number <= most => None,
+                Ok(_) => Some(Fault::OutOfRange),
+            },
             Kind::Hexadecimal { bytes } => {
                 if value.len() == 2 * usize::from(bytes) && are_digits(value, 16) {
                     None
@@ -93,6 +100,7 @@ impl Kind {
     {
         match self {
             Kind::Number { .. } => number_in(value).ok(),
+            Kind::HexadecimalNumber { .. } => hexadecimal_number_in(value).ok(),
             Kind::Hexadecimal { .. } | Kind::TxMode | Kind::Units | Kind::Text => None,
         }
     }
@@ -120,18 +128,35 @@ fn are_digits(text: &[u8], radix: u32) -> bool
     true
 }
 
+/// The number that a text of digits says: digits alone, without a sign. Another text has the fault
+/// that is given.
+fn digits_number(text: &[u8], radix: u32, other: Fault) -> Result<u64, Fault>
+    requires low { 2 ≤ radix }
+    requires high { radix ≤ 36 }
+    ensures { result ≡ spec.digits_number radix other text.now }
+{
+    if text.is_empty() || !are_digits(text, radix) {
+        return Err(other);
+    }
+    match str::from_utf8(text) {
+        Ok(digits) => match u64::from_str_radix(digits, radix) {
+            Ok(number) => Ok(number),
+            Err(_) => Err(Fault::OutOfRange),
+        },
+        Err(_) => Err(other),
+    }
+}
+
 /// The number that a text of decimal digits says: digits alone, without a sign.
 pub fn number_in(text: &[u8]) -> Result<u64, Fault>
     ensures { result ≡ spec.number_in text.now }
 {
-    if text.is_empty() || !are_digits(text, 10) {
-        return Err(Fault::NotANumber);
-    }
-    match str::from_utf8(text) {
-        Ok(digits) => match digits.parse::<u64>() {
-            Ok(number) => Ok(number),
-            Err(_) => Err(Fault::OutOfRange),
-        },
-        Err(_) => Err(Fault::NotANumber),
-    }
+    digits_number(text, 10, Fault::NotANumber)
+}
+
+/// The number that a text of hexadecimal digits says, in either case.
+fn hexadecimal_number_in(text: &[u8]) -> Result<u64, Fault>
+    ensures { result ≡ spec.hexadecimal_number_in text.now }
+{
+    digits_number(text, 16, Fault::NotHexadecimal)
 }

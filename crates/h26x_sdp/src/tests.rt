@@ -11,7 +11,7 @@ use std::test::Fail;
 
 /// Values as ends write them, and the same without white space and blank parts. The comments say whose
 /// form a value has; none was taken down from a run of theirs.
-const LINES: [(&str, &str); 12] = [
+const LINES: [(&str, &str); 13] = [
     // as Chromium's, of H.264
     (
         "level-asymmetry-allowed=1;packetization-mode=1;profile-level-id=42e01f",
@@ -46,10 +46,14 @@ const LINES: [(&str, &str); 12] = [
         "profile-level-id=42A01E;\r\n          packetization-mode=1;\r\n",
         "profile-level-id=42A01E;packetization-mode=1",
     ),
-    // RFC 7798, section 7.1: a `;` and a `=` in braces
+    // RFC 7798, section 7.1: a `;` and a `=` in braces, also over folded lines
     (
-        "level-id=120; dec-parallel-cap={w:8;level-id=93,t:4;level-id=90}",
-        "level-id=120;dec-parallel-cap={w:8;level-id=93,t:4;level-id=90}",
+        "level-id=93;dec-parallel-cap={t:8;level-id=120}",
+        "level-id=93;dec-parallel-cap={t:8;level-id=120}",
+    ),
+    (
+        "level-id=93;dec-parallel-cap={w:8;\r\n    max-lsr=62668800;max-lps=2088960}",
+        "level-id=93;dec-parallel-cap={w:8;\r\n    max-lsr=62668800;max-lps=2088960}",
     ),
     // blank parts, white space round `=`, no value, no `=`
     (" ;; max-fs = 3600 ;x=; y ;", "max-fs=3600;x=;y="),
@@ -60,7 +64,7 @@ const LINES: [(&str, &str); 12] = [
 ];
 
 /// What is wrong with values of each kind.
-const VALUES: [(Kind, &str, Option<Fault>); 16] = [
+const VALUES: [(Kind, &str, Option<Fault>); 20] = [
     (MODE, "0", None),
     (MODE, "2", None),
     (MODE, "02", None),
@@ -72,6 +76,10 @@ const VALUES: [(Kind, &str, Option<Fault>); 16] = [
     (ID, "42e01F", None),
     (ID, "42e01", Some(Fault::NotHexadecimal)),
     (ID, "42e01g", Some(Fault::NotHexadecimal)),
+    (SEGMENTATION, "0fFF", None),
+    (SEGMENTATION, "1000", Some(Fault::OutOfRange)),
+    (SEGMENTATION, "10000000000000000", Some(Fault::OutOfRange)),
+    (SEGMENTATION, "+f", Some(Fault::NotHexadecimal)),
     (Kind::TxMode, "SRST", None),
     (Kind::TxMode, "MRMT", None),
     (Kind::TxMode, "srst", Some(Fault::NotTxMode)),
@@ -102,7 +110,7 @@ const IN_ORDER: [(&str, &str); 5] = [
 ];
 
 /// Values of H.265, and the same in RFC 7798's order.
-const H265_IN_ORDER: [(&str, &str); 4] = [
+const H265_IN_ORDER: [(&str, &str); 5] = [
     // as Chromium's
     (
         "level-id=93;profile-id=1;tier-flag=0;tx-mode=SRST",
@@ -113,7 +121,12 @@ const H265_IN_ORDER: [(&str, &str); 4] = [
         "sprop-sps=QgEBAWAAAAMAAAMAAAMAAAMAXaAB; sprop-vps=QAEMAf//; x=1",
         "sprop-vps=QAEMAf//;sprop-sps=QgEBAWAAAAMAAAMAAAMAAAMAXaAB;x=1",
     ),
-    // RFC 7798, section 7.1: the braces hold a `level-id` of their own
+    // RFC 7798, section 7.1: digits of base 16
+    (
+        "sprop-spatial-segmentation-idc=fFf; max-br=18446744073709551615; max-tr=352",
+        "max-br=18446744073709551615;max-tr=352;sprop-spatial-segmentation-idc=fFf",
+    ),
+    // braces that hold a `level-id` of their own
     (
         "Level-ID=120; dec-parallel-cap={w:8;level-id=93,t:4;level-id=90}",
         "level-id=120;dec-parallel-cap={w:8;level-id=93,t:4;level-id=90}",
@@ -125,38 +138,44 @@ const H265_IN_ORDER: [(&str, &str); 4] = [
 ];
 
 /// Values of H.266, and the same in RFC 9328's order.
-const H266_IN_ORDER: [(&str, &str); 2] = [
+const H266_IN_ORDER: [(&str, &str); 3] = [
     (
         "sprop-dci=AGk=;level-id=83;tier-flag=1;profile-id=17",
         "profile-id=17;tier-flag=1;level-id=83;sprop-dci=AGk=",
     ),
     // H.265's name, which H.266 doesn't have
     (
-        "sprop-sub-layer-id=7; sprop-sublayer-id=6; recv-ols-id=257",
-        "sprop-sublayer-id=6;recv-ols-id=257;sprop-sub-layer-id=7",
+        "sprop-sub-layer-id=7; sprop-sublayer-id=6; recv-ols-id=256",
+        "sprop-sublayer-id=6;recv-ols-id=256;sprop-sub-layer-id=7",
     ),
+    // RFC 9328, section 7.3.1: its example has `_` where the parameter has `-`
+    ("level_id=83; profile-id=1;", "profile-id=1;level_id=83"),
 ];
 
 /// What is refused for H.264, with its place and its fault.
-const REFUSED: [(&str, usize, Fault); 7] = [
+const REFUSED: [(&str, usize, Fault); 9] = [
     ("packetization-mode=3", 0, Fault::OutOfRange),
     ("a=1;;packetization-mode=one", 1, Fault::NotANumber),
-    ("max-fs=4294967296", 0, Fault::OutOfRange),
+    ("max-fs=18446744073709551616", 0, Fault::OutOfRange),
+    ("sprop-deint-buf-req=4294967296", 0, Fault::OutOfRange),
     ("redundant-pic-cap=2", 0, Fault::OutOfRange),
     ("sar-supported=255;sar-understood=255", 1, Fault::OutOfRange),
+    ("sar-understood=0;sar-supported=0", 1, Fault::OutOfRange),
     ("x=1;profile-level-id=42e0", 1, Fault::NotHexadecimal),
     ("max-fs=1;a=2;Max-FS=1", 2, Fault::Twice),
 ];
 
 /// What is refused for H.265.
-const H265_REFUSED: [(&str, usize, Fault); 8] = [
+const H265_REFUSED: [(&str, usize, Fault); 10] = [
     ("profile-space=4", 0, Fault::OutOfRange),
     ("level-id=93;profile-id=32", 1, Fault::OutOfRange),
     ("level-id=256", 0, Fault::OutOfRange),
     ("interop-constraints=B0000000000", 0, Fault::NotHexadecimal),
     ("x=1;;tx-mode=MRTM", 1, Fault::NotTxMode),
     ("max-dpb=0", 0, Fault::OutOfRange),
-    ("sprop-spatial-segmentation-idc=4096", 0, Fault::OutOfRange),
+    ("max-dpb=16;max-dpb=17", 1, Fault::Twice),
+    ("sprop-spatial-segmentation-idc=1000", 0, Fault::OutOfRange),
+    ("sprop-spatial-segmentation-idc=", 0, Fault::NotHexadecimal),
     ("level-id=93;LEVEL-ID=93", 1, Fault::Twice),
 ];
 
@@ -164,7 +183,7 @@ const H265_REFUSED: [(&str, usize, Fault); 8] = [
 const H266_REFUSED: [(&str, usize, Fault); 5] = [
     ("profile-id=128", 0, Fault::OutOfRange),
     ("tx-mode=x;sprop-sublayer-id=7", 1, Fault::OutOfRange),
-    ("sprop-ols-id=258", 0, Fault::OutOfRange),
+    ("sprop-ols-id=257", 0, Fault::OutOfRange),
     ("depack-buf-cap=0", 0, Fault::OutOfRange),
     ("sprop-max-don-diff=32768", 0, Fault::OutOfRange),
 ];
@@ -180,13 +199,15 @@ const H264_DEFAULTS: [(H264Parameter, Option<u64>); 6] = [
 ];
 
 /// The same of H.265 (RFC 7798, section 7.1).
-const H265_DEFAULTS: [(H265Parameter, Option<u64>); 8] = [
+const H265_DEFAULTS: [(H265Parameter, Option<u64>); 10] = [
     (H265Parameter::ProfileId, Some(1)),
     (H265Parameter::LevelId, Some(93)),
     (H265Parameter::SpropSubLayerId, Some(6)),
     (H265Parameter::RecvSubLayerId, None),
     (H265Parameter::SpropMaxDonDiff, Some(0)),
     (H265Parameter::DepackBufCap, Some(4294967295)),
+    (H265Parameter::MaxDpb, Some(6)),
+    (H265Parameter::SpropSpatialSegmentationIdc, None),
     (H265Parameter::TxMode, None),
     (H265Parameter::MaxLsr, None),
 ];
@@ -200,7 +221,7 @@ const H266_DEFAULTS: [(H266Parameter, Option<u64>); 5] = [
     (H266Parameter::SpropOlsId, None),
 ];
 
-/// Texts of units, the first unit and how many there are. The first is of RFC 6184, section 8.2.1.
+/// Texts of units, the first unit and how many there are.
 const UNITS: [(&str, &[u8], usize); 3] = [
     (
         "Z0IACpZTBYmI,aMljiA==",
@@ -246,6 +267,8 @@ const NO_RTP_MAPS: [(&str, RtpMapError); 8] = [
 const MODE: Kind = Kind::Number { least: 0, most: 2 };
 
 const ID: Kind = Kind::Hexadecimal { bytes: 3 };
+
+const SEGMENTATION: Kind = Kind::HexadecimalNumber { most: 4095 };
 
 /// The parameters of a text, written again.
 fn written(alloc: Global, text: &str) -> Result<Vec<u8>, AllocError> {
