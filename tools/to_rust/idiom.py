@@ -4,6 +4,7 @@
 |---|---|---|
 | `crate::x` of the crate `c`, `c::x` in another | `crate::proved::c::x` | crates are modules of one crate |
 | `std::alloc` | `crate::support` | it has the error of a failed request |
+| `base64::x` | `crate::support::base64::x` | Debian's two versions of that crate have no call in common that may fail for want of memory |
 | `std::x` | `core::x`, `alloc::x` | without the feature `std` the crate is `no_std` |
 | a function that takes a `HashMap`, and imports of it | behind the feature `std` | it is std's alone |
 | `Vec`, `String`, `Box` | imported | they aren't in core's prelude |
@@ -33,6 +34,9 @@ PRELUDE = {"Vec": "vec::Vec", "Box": "boxed::Box", "String": "string::String"}
 PLACES = {"fmt": "core", "mem": "core", "ops": "core", "cmp": "core", "iter": "core", "slice": "core", "str": "core",
           "convert": "core", "num": "core", "option": "core", "result": "core", "marker": "core", "hash": "core",
           "vec": "alloc", "boxed": "alloc", "string": "alloc", "borrow": "alloc", "collections": "alloc"}
+
+# Libraries of Rattle that have another one in their place, by the names of theirs.
+LIBRARIES = ("base64",)
 
 
 def public_functions(items):
@@ -167,6 +171,8 @@ def rewrite_paths(module, crate, crates):
                 out += parse(f"crate::{module}::{crate}")
             elif is_among(it, crates) and follows and not behind:
                 out += parse(f"crate::{module}::{it.text}")
+            elif is_word(it, *LIBRARIES) and follows and not behind:
+                out += parse(f"crate::support::{it.text}")
             elif is_word(it, "std") and follows and not behind:
                 out += parse(place_of_std(items, i))
             elif is_word(it, "alloc") and bare(out[-4:]) == "crate :: support ::":

@@ -7,26 +7,28 @@
 | `x.push(y).unwrap()`, `x.push_back_reserved(y)` | `x.push(y)`, `x.push_back(y)`; of bytes `append_bytes` | it is proved that there is room |
 | an end `x.reserve(n)` of a function that answers `AllocError` | `Ok(x.try_reserve(n)?)` | std's error is another type |
 | `mem::replace(x, Vec::new())` | `mem::take(x)` | idiom |
+| `format!(in alloc; ..)` | `crate::support::try_format(format_args!(..))` | std's asks for memory by calls that abort |
 
 No type is looked at: where a name is wrong, rustc says so.
 """
 
 import re
 
-from .tree import (Function, Group, Token, after, at, bare, bare_words, before, commas, drop_heading, functions,
-                   is_among, is_group, is_sign, is_word, joined)
+from .tree import (Function, Group, Refused, Token, after, at, bare, bare_words, before, commas, drop_heading,
+                   functions, is_among, is_group, is_sign, is_word, joined, parse)
 
 # Calls that fail for want of memory, and so answer a Result in Rattle.
 FALLIBLE = {"push", "push_back", "reserve", "extend_from_slice", "append", "resize", "insert", "clone",
-            "to_vec", "with_capacity", "from_slice"}
+            "to_vec", "with_capacity", "from_slice", "push_str"}
 # Calls for which room was reserved, and which std has by other names.
 RESERVED = {"push_front_reserved": "push_front", "push_back_reserved": "push_back"}
 # std has a name of its own for what isn't stable yet.
 NAMES = {"try_with_capacity": "try_with_room"}
-# The traits of `support.rs`, with the fallible calls that std lacks: those of lists, of queues and of slices.
+# The traits of `support.rs`, with the fallible calls that std lacks: those of lists, of queues, of slices and of texts.
 LISTS = {"try_push", "try_append", "try_clone", "try_from_slice", "try_with_room"}
 QUEUES = {"try_push_back", "try_insert", "try_append"}
 SLICES = {"try_to_vec"}
+TEXTS = {"try_push_str"}
 
 ALLOCATOR = re.compile(r"alloc|self \. alloc|(?:\* )?(?:\w+ \. )+allocator \(\)")
 OF_ALLOCATOR = re.compile(r"(?:pub )?alloc : (?:Global|" + ALLOCATOR.pattern + ")")
@@ -118,6 +120,8 @@ class Fallible:
             self.traits.add("TryVec")
         elif call in SLICES:
             self.traits.add("TrySlice")
+        elif call in TEXTS:
+            self.traits.add("TryText")
         elif call == "try_extend_from_slice" and is_among(receiver, self.lists):
             self.traits.add("AppendBytes")
 
@@ -150,6 +154,25 @@ def convert_ends(items, lists):
         start = after(body, start - 1)
         body[start:end + 1] = [Token("word", "Ok"), Group("(", body[start:end + 1] + [Token("sign", "?")])]
     return items
+
+
+def write_formats(items):
+    """A text that is put together asks for memory by calls that may fail."""
+    out, i = [], 0
+    while i < len(items):
+        it, j = items[i], after(items, i)
+        arguments = at(items, after(items, j))
+        if is_word(it, "format") and is_sign(at(items, j), "!") and is_group(arguments, "("):
+            inner = arguments.items
+            if bare(inner[:4]) != "in alloc ;":
+                raise Refused("`format!` without its allocator")
+            of = [Token("word", "format_args"), Token("sign", "!"), Group("(", inner[4:])]
+            out += [*parse("crate::support::try_format"), Group("(", of)]
+            i = after(items, j) + 1
+            continue
+        out.append(it)
+        i += 1
+    return out
 
 
 def write_takes(items):

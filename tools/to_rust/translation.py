@@ -6,6 +6,10 @@ from . import contracts, exports, idiom, laws, memory, types
 from .tree import after, at, deep, functions, is_sign, is_word, parse, words_of, written
 
 
+# Crates that stand behind a feature of the package.
+FEATURES = {"h26x_sdp": "sdp"}
+
+
 class Crate:
     """The files of a crate by their places below its `src`."""
 
@@ -92,7 +96,9 @@ class Translation:
             lines += ["#[forbid(unsafe_code)]", f'#[path = "{folder}/{self.module}"]', "mod shared {",
                       *(f"pub mod {name};" for name in shared), "}", "", "pub use shared::*;", ""]
         for name in kept:
-            lines += ["#[forbid(unsafe_code)]"] * (bool(shared) and name not in exports.UNSAFE) + [f"pub mod {name};"]
+            lines += ["#[forbid(unsafe_code)]"] * (bool(shared) and name not in exports.UNSAFE)
+            lines += [f'#[cfg(feature = "{FEATURES[name]}")]'] if name in FEATURES else []
+            lines += [f"pub mod {name};"]
         return "\n".join([*lines, ""])
 
     def file(self, crate, place, items, of_c):
@@ -112,7 +118,7 @@ class Translation:
         items = deep(items, idiom.erase_examples)
         items = deep(items, idiom.put_behind_std(self.of_std))
         items = deep(items, idiom.rewrite_paths(self.module, crate.name, self.names))
-        items = deep(items, exports.write_boxes)
+        items = deep(deep(items, exports.write_boxes), memory.write_formats)
         items = deep(items, self.types.change)
         items = exports.add_import(idiom.add_imports(items, fallible.traits))
         idiom.check_words(items, f"{crate.name}/{place}")

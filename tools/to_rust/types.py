@@ -4,9 +4,11 @@
 |---|---|---|
 | derived `Serialize`, `Deserialize` | behind the feature `serde` | it is a choice |
 | the types of `ADDED` | those derives too | they are data; each name must be found |
-| the enums of `GROWING` | `#[non_exhaustive]` | a codec may come |
+| the enums of `GROWING` | `#[non_exhaustive]` | a codec or a parameter may come |
+| the enums of `LISTED` | `ALL`, each of their values in order | who has a table goes through it |
 | a derived `Debug` of a struct with bytes in a field | one that tells how many | payloads aren't printed |
 | derived `thiserror::Error` with `#[error("..")]` | `#[non_exhaustive]`, `Display` and `core::error::Error` | it is what thiserror makes, without the crates that it brings |
+| a field `fault` of an error | told behind its text | who prints an error wants the reason |
 """
 
 import re
@@ -27,8 +29,13 @@ ADDED = {
     "AccessUnit": "Clone PartialEq Eq Hash", "OpenAccessUnit": "Clone PartialEq Eq", "OpenUnit": "Clone PartialEq Eq",
     "OpenText": "Clone", "OpenRun": "Clone", "ReorderBuffer": "Clone", "NumberOrder": "Clone", "Parted": "Clone",
     "NotHeld": "Clone PartialEq Eq Hash", "NotHeldReason": "Hash",
+    "CodecParameters": "Clone PartialEq Eq Hash", "FormatParameters": "Clone PartialEq Eq Hash",
+    "OtherParameter": "Clone PartialEq Eq Hash", "H264Parameter": "PartialOrd Ord Hash",
+    "H265Parameter": "PartialOrd Ord Hash", "H266Parameter": "PartialOrd Ord Hash",
+    "Fault": "Hash", "ParametersError": "Hash", "UnitsError": "Hash", "RtpMapError": "Hash",
 }
-GROWING = {"CodecExtra"}
+LISTED = {"H264Parameter", "H265Parameter", "H266Parameter"}
+GROWING = {"CodecExtra", "Fault"} | LISTED
 
 # A field's type that is bytes, and what is shown of `it`.
 BYTES = [
@@ -82,6 +89,8 @@ class Types:
             traits.remove("Error")
             items, more = self.error(items, keyword, name)
             behind += more
+        if name in LISTED:
+            behind += self.all_of(items, name)
         if "Debug" in traits and (debug := self.debug(items, keyword, name)):
             traits.remove("Debug")
             behind += parse("\n\n" + debug + "\n")
@@ -92,6 +101,16 @@ class Types:
             traits = [t for t in traits if t not in SERDE]
         front = parse(text + (f"#[derive({', '.join(traits)})]\n" if traits else ""))
         return front + items[after(items, after(items, 0)):] + behind
+
+    @staticmethod
+    def all_of(items, name):
+        """The values of an enum, none of which has a field."""
+        values = [it for it in items[-1].items if not is_trivia(it) and not is_sign(it, ",")]
+        if not all(is_word(it) for it in values):
+            raise Refused(f"a value of {name} with a field")
+        every = ", ".join(f"Self::{it.text}" for it in values)
+        return parse(f"\n\nimpl {name} {{\n/// All of them, in their order.\n"
+                     f"pub const ALL: [Self; {len(values)}] = [{every}];\n}}\n")
 
     @staticmethod
     def debug(items, keyword, name):
@@ -132,10 +151,7 @@ class Types:
                 variant = variants[after(variants, after(variants, i))]
                 texts[variant.text] = bare(variants[after(variants, i)].items[1].items)
             if is_word(it) and it.text in texts:
-                fields = at(variants, after(variants, i))
-                count = len([p for p in commas(fields.items) if bare(p)]) if is_group(fields, "(") else 0
-                text = re.sub(r"\{(\d)\}", r"{of_\1}", texts[it.text])
-                bound = f"({', '.join(f'of_{n}' for n in range(count))})" if count else ""
+                bound, text = told(at(variants, after(variants, i)), texts[it.text])
                 arms.append(f"{name}::{it.text}{bound} => write!(f, {text}),")
         kept, i = [], 0
         while i < len(variants):
@@ -154,6 +170,19 @@ class Types:
         marked = items[:keyword]
         place = next((i for i, it in enumerate(marked) if is_word(it, "pub", "pub(crate)")), keyword)
         return items[:place] + parse("#[non_exhaustive]\n") + items[place:], parse(text)
+
+
+def told(fields, text):
+    """The pattern of an error's fields that its text tells, and the text."""
+    if is_group(fields, "{"):
+        names = [bare(part).split(" : ")[0].split(" ")[-1] for part in commas(fields.items, is_typed=True) if bare(part)]
+        if "fault" in names and "{fault}" not in text:
+            text = text[:-1] + ': {fault}"'
+        named = [one for one in names if "{" + one + "}" in text]
+        return "{ " + ", ".join(named + [".."] * (len(named) < len(names))) + " }", text
+    count = len([p for p in commas(fields.items) if bare(p)]) if is_group(fields, "(") else 0
+    bound = f"({', '.join(f'of_{n}' for n in range(count))})" if count else ""
+    return bound, re.sub(r"\{(\d)\}", r"{of_\1}", text)
 
 
 def check_added(found):

@@ -32,7 +32,8 @@
 //!
 //! [`CodecPacketizer`] and [`CodecDepacketizer`] are those of a codec that is chosen while the program
 //! runs, or a caller's own in a box; [`take_all`] gives many packets to one. [`H264ProfileLevel`],
-//! [`H265ProfileTierLevel`] and [`H266ProfileTierLevel`] read profiles and levels out of SDP.
+//! [`H265ProfileTierLevel`] and [`H266ProfileTierLevel`] read profiles and levels out of SDP, and with the feature
+//! `sdp` the module `sdp` all parameters of a format.
 //!
 //! A [`ReorderBuffer`] puts packets in their order, and a [`FrameReceiver`] behind it gives out whole
 //! pictures with their timestamps. [`access_units`] cuts a stream in Annex B form, or behind lengths, into
@@ -84,7 +85,9 @@
 //!
 //! - `std`, on unless it is turned off: streams that are read ([`access_units`]), and `from_fmtp`. Without it
 //!   the crate needs `alloc` alone.
-//! - `serde`: its traits for profiles, tiers and levels, header words, [`Codec`] and [`CodecExtra`].
+//! - `sdp`: payload types and format parameters of SDP (the module `sdp`), by the crate `data-encoding`.
+//! - `serde`: its traits for profiles, tiers and levels, header words, [`Codec`] and [`CodecExtra`], and parameters of
+//!   SDP as the texts that they are.
 //!
 //! # What is proved
 //!
@@ -94,7 +97,7 @@
 //! On targets of 32 bits it is only tested.
 //!
 //! Trusted are that translation, which drops contracts and writes fallible calls as std has them, rustc with
-//! std, and memchr. The modules beside `proved` are written by hand and only tested. All is compared with the
+//! std, memchr, and of base64 data-encoding. The modules beside `proved` are written by hand and only tested. All is compared with the
 //! proved library, built by Rattle's own compiler, by drawn calls.
 
 #![cfg_attr(not(feature = "std"), no_std)]
@@ -120,9 +123,19 @@ mod packets;
 mod profile;
 // What a caller above doesn't reach stays, as it was proved, and so do forms that Rust has shorter.
 #[allow(dead_code, missing_docs, unused_imports)]
-#[allow(clippy::explicit_auto_deref, clippy::manual_unwrap_or_default)]
-#[allow(clippy::mem_replace_option_with_some, clippy::needless_lifetimes)]
+#[allow(
+    clippy::explicit_auto_deref,
+    clippy::explicit_counter_loop,
+    clippy::manual_unwrap_or_default
+)]
+#[allow(
+    clippy::mem_replace_option_with_some,
+    clippy::needless_lifetimes,
+    clippy::ptr_arg
+)]
 mod proved;
+#[cfg(feature = "sdp")]
+pub mod sdp;
 mod sequenced;
 mod shown;
 mod support;

@@ -11,3 +11,5 @@ pub mod h26x_frames;
 pub mod h26x_payload;
 pub mod h26x_profile;
 pub mod h26x_receiver;
+#[cfg(feature = "sdp")]
+pub mod h26x_sdp;

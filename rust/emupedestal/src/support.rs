@@ -6,6 +6,14 @@ use alloc::collections::{TryReserveError, VecDeque};
 use alloc::vec::Vec;
 use core::fmt;
 
+#[cfg(feature = "sdp")]
+pub mod base64;
+#[cfg(feature = "sdp")]
+mod texts;
+
+#[cfg(feature = "sdp")]
+pub use texts::{TryText, try_format};
+
 /// There was no memory.
 #[derive(Debug, Clone, Copy, PartialEq, Eq)]
 pub struct AllocError;

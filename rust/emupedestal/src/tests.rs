@@ -13,6 +13,8 @@ mod packets;
 mod profile;
 mod quiet;
 mod refusals;
+#[cfg(feature = "sdp")]
+mod sdp;
 mod sequenced;
 mod shown;
 #[cfg(feature = "serde")]

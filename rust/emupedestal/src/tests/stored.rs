@@ -30,6 +30,25 @@ fn codecs_and_what_is_told_are_names() {
     assert!(serde_json::from_str::<Codec>(r#""H263""#).is_err());
 }
 
+#[cfg(feature = "sdp")]
+#[test]
+fn formats_are_their_texts() {
+    use crate::sdp::{H264Parameters, RtpMap};
+
+    let format: H264Parameters = "packetization-mode=1; x=\"; profile-level-id=42e01f"
+        .parse()
+        .unwrap();
+    stored(
+        format,
+        r#""profile-level-id=42e01f;packetization-mode=1;x=\"""#,
+    );
+    stored(RtpMap::new(96, Codec::H265).unwrap(), r#""96 H265/90000""#);
+    let refused = serde_json::from_str::<H264Parameters>(r#""max-fs=1;max-fs=1""#).unwrap_err();
+    let said = "parameter 1 is refused: it is given twice at line 1 column 19";
+    assert_eq!(refused.to_string(), said);
+    assert!(serde_json::from_str::<RtpMap>("96").is_err());
+}
+
 #[test]
 fn profiles_are_names() {
     stored(H264ProfileIdc::X64, r#""X64""#);

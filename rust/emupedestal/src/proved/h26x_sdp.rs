@@ -1,0 +1,32 @@
+// Made from crates/h26x_sdp/src/lib.rt by tools/to-rust.
+
+//! Format parameters of SDP for H.264, H.265 and H.266 (RFC 6184, section 8; RFC 7798, section 7; RFC
+//! 9328, section 7): the grammar of an `a=fmtp` value that the three share, and the parameters of
+//! each, read and written by the table of them.
+//!
+//! The definitions that contracts cite stand in `specs/`.
+mod codec;
+mod error;
+mod h264;
+mod h265;
+mod h266;
+mod kind;
+mod pairs;
+mod parameters;
+mod rtp_map;
+mod table;
+mod units;
+
+pub use codec::{CodecParameter, CodecParameters};
+pub use error::{Fault, ParametersError, UnitsError};
+pub use h264::{H264Parameter, H264Parameters};
+pub use h265::{H265Parameter, H265Parameters};
+pub use h266::{H266Parameter, H266Parameters};
+pub use kind::{Kind, number_in};
+pub(crate) use pairs::push_pair;
+pub use pairs::{Pair, Pairs, closes, pairs_of};
+pub use parameters::OtherParameter;
+pub use rtp_map::{Encoding, RtpMap, RtpMapError};
+pub use table::{ParameterRow, row_of, same_name};
+pub use units::read_units;
+pub(crate) use units::write_units;

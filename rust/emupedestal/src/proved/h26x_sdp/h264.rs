@@ -1,0 +1,244 @@
+// Made from crates/h26x_sdp/src/h264.rt by tools/to-rust.
+
+//! The format parameters of H.264 (RFC 6184, section 8.1).
+
+use crate::proved::h26x_sdp::codec::{CodecParameter, CodecParameters};
+use crate::proved::h26x_sdp::kind::{BITS_15, BITS_32, FLAG, Kind};
+use crate::proved::h26x_sdp::table::ParameterRow;
+
+/// A format parameter of H.264, in the order in which they are written (RFC 6184, section 8.1).
+#[non_exhaustive]
+#[derive(Debug, Clone, Copy, PartialEq, Eq, PartialOrd, Ord, Hash)]
+pub enum H264Parameter {
+    /// `profile-level-id`: profile_idc, profile_iop and level_idc, by six digits. Where it's
+    /// absent 42000a: Baseline, level 1.
+    ProfileLevelId,
+    /// `max-recv-level`: profile_iop and level_idc of the highest level that is received, by four
+    /// digits. Where it's absent, that of `profile-level-id`.
+    MaxRecvLevel,
+    /// `max-mbps`: the most macroblocks in a second. Where it's absent, the level's.
+    MaxMbps,
+    /// `max-smbps`: the most static macroblocks in a second.
+    MaxSmbps,
+    /// `max-fs`: the most macroblocks of a frame. Where it's absent, the level's.
+    MaxFs,
+    /// `max-cpb`: the largest coded picture buffer, in units of 1000 or 1200 bits. Where it's
+    /// absent, the level's.
+    MaxCpb,
+    /// `max-dpb`: the largest decoded picture buffer, in units of 8/3 macroblocks. Where it's
+    /// absent, the level's.
+    MaxDpb,
+    /// `max-br`: the highest bit rate, in units of 1000 or 1200 bits a second. Where it's absent,
+    /// the level's.
+    MaxBr,
+    /// `redundant-pic-cap`: whether redundant coded pictures are used, 0 or 1. Where it's absent
+    /// 0.
+    RedundantPicCap,
+    /// `sprop-parameter-sets`: parameter sets in base64, with `,` between them.
+    SpropParameterSets,
+    /// `sprop-level-parameter-sets`: parameter sets of other levels: a level's six digits, `:`,
+    /// its sets, `:` and so on.
+    SpropLevelParameterSets,
+    /// `use-level-src-parameter-sets`: whether parameter sets of other levels and by source are
+    /// used, 0 or 1. Where it's absent 0.
+    UseLevelSrcParameterSets,
+    /// `in-band-parameter-sets`: 1 where parameter sets outside the stream are discarded, 0 where
+    /// they are used. Where it's absent, neither is said.
+    InBandParameterSets,
+    /// `level-asymmetry-allowed`: whether the two directions may have different levels, 0 or 1.
+    /// Where it's absent 0.
+    LevelAsymmetryAllowed,
+    /// `packetization-mode`: 0 single NAL unit, 1 non-interleaved, 2 interleaved. Where it's
+    /// absent 0.
+    PacketizationMode,
+    /// `sprop-interleaving-depth`: how many units precede one that they follow in decoding order,
+    /// at most. Present in mode 2 alone.
+    SpropInterleavingDepth,
+    /// `sprop-deint-buf-req`: the size of the deinterleaving buffer, in bytes. Present in mode 2
+    /// alone.
+    SpropDeintBufReq,
+    /// `deint-buf-cap`: the deinterleaving buffer that a receiver has, in bytes. Where it's
+    /// absent 0.
+    DeintBufCap,
+    /// `sprop-init-buf-time`: how long a receiver buffers before it decodes, in ticks of 90 kHz.
+    SpropInitBufTime,
+    /// `sprop-max-don-diff`: the largest difference of decoding order numbers. Where it's absent,
+    /// it isn't said.
+    SpropMaxDonDiff,
+    /// `max-rcmd-nalu-size`: the largest unit that a receiver handles efficiently, in bytes.
+    /// Where it's absent, any.
+    MaxRcmdNaluSize,
+    /// `sar-understood`: the greatest aspect_ratio_idc below 255 that is understood. Where it's
+    /// absent 13.
+    SarUnderstood,
+    /// `sar-supported`: the greatest aspect_ratio_idc below 255 that is shown as it asks, or 255
+    /// for all.
+    SarSupported,
+}
+
+impl H264Parameter {
+    /// All of them, in their order.
+    pub const ALL: [Self; 23] = [
+        Self::ProfileLevelId,
+        Self::MaxRecvLevel,
+        Self::MaxMbps,
+        Self::MaxSmbps,
+        Self::MaxFs,
+        Self::MaxCpb,
+        Self::MaxDpb,
+        Self::MaxBr,
+        Self::RedundantPicCap,
+        Self::SpropParameterSets,
+        Self::SpropLevelParameterSets,
+        Self::UseLevelSrcParameterSets,
+        Self::InBandParameterSets,
+        Self::LevelAsymmetryAllowed,
+        Self::PacketizationMode,
+        Self::SpropInterleavingDepth,
+        Self::SpropDeintBufReq,
+        Self::DeintBufCap,
+        Self::SpropInitBufTime,
+        Self::SpropMaxDonDiff,
+        Self::MaxRcmdNaluSize,
+        Self::SarUnderstood,
+        Self::SarSupported,
+    ];
+}
+
+/// The parameters of the table.
+static ROWS: [ParameterRow; 23] = [
+    ParameterRow {
+        name: b"profile-level-id",
+        kind: Kind::Hexadecimal { bytes: 3 },
+        default: Some(b"42000a"),
+    },
+    ParameterRow {
+        name: b"max-recv-level",
+        kind: Kind::Hexadecimal { bytes: 2 },
+        default: None,
+    },
+    ParameterRow {
+        name: b"max-mbps",
+        kind: BITS_32,
+        default: None,
+    },
+    ParameterRow {
+        name: b"max-smbps",
+        kind: BITS_32,
+        default: None,
+    },
+    ParameterRow {
+        name: b"max-fs",
+        kind: BITS_32,
+        default: None,
+    },
+    ParameterRow {
+        name: b"max-cpb",
+        kind: BITS_32,
+        default: None,
+    },
+    ParameterRow {
+        name: b"max-dpb",
+        kind: BITS_32,
+        default: None,
+    },
+    ParameterRow {
+        name: b"max-br",
+        kind: BITS_32,
+        default: None,
+    },
+    ParameterRow {
+        name: b"redundant-pic-cap",
+        kind: FLAG,
+        default: Some(b"0"),
+    },
+    ParameterRow {
+        name: b"sprop-parameter-sets",
+        kind: Kind::Units,
+        default: None,
+    },
+    ParameterRow {
+        name: b"sprop-level-parameter-sets",
+        kind: Kind::Text,
+        default: None,
+    },
+    ParameterRow {
+        name: b"use-level-src-parameter-sets",
+        kind: FLAG,
+        default: Some(b"0"),
+    },
+    ParameterRow {
+        name: b"in-band-parameter-sets",
+        kind: FLAG,
+        default: None,
+    },
+    ParameterRow {
+        name: b"level-asymmetry-allowed",
+        kind: FLAG,
+        default: Some(b"0"),
+    },
+    ParameterRow {
+        name: b"packetization-mode",
+        kind: Kind::Number { least: 0, most: 2 },
+        default: Some(b"0"),
+    },
+    ParameterRow {
+        name: b"sprop-interleaving-depth",
+        kind: BITS_15,
+        default: None,
+    },
+    ParameterRow {
+        name: b"sprop-deint-buf-req",
+        kind: BITS_32,
+        default: None,
+    },
+    ParameterRow {
+        name: b"deint-buf-cap",
+        kind: BITS_32,
+        default: Some(b"0"),
+    },
+    ParameterRow {
+        name: b"sprop-init-buf-time",
+        kind: BITS_32,
+        default: None,
+    },
+    ParameterRow {
+        name: b"sprop-max-don-diff",
+        kind: BITS_15,
+        default: None,
+    },
+    ParameterRow {
+        name: b"max-rcmd-nalu-size",
+        kind: BITS_32,
+        default: None,
+    },
+    ParameterRow {
+        name: b"sar-understood",
+        kind: Kind::Number {
+            least: 0,
+            most: 254,
+        },
+        default: Some(b"13"),
+    },
+    ParameterRow {
+        name: b"sar-supported",
+        kind: Kind::Number {
+            least: 0,
+            most: 255,
+        },
+        default: None,
+    },
+];
+
+impl CodecParameter for H264Parameter {
+    fn rows() -> &'static [ParameterRow] {
+        &ROWS
+    }
+
+    fn place(self) -> usize {
+        self as usize
+    }
+}
+
+/// The format parameters of H.264: what an `a=fmtp` line says behind the payload type.
+pub type H264Parameters = CodecParameters<H264Parameter>;

@@ -1,0 +1,219 @@
+// Made from crates/h26x_sdp/src/h266.rt by tools/to-rust.
+
+//! The format parameters of H.266 (RFC 9328, sections 7.1 and 7.2).
+
+use crate::proved::h26x_sdp::codec::{CodecParameter, CodecParameters};
+use crate::proved::h26x_sdp::kind::{BITS_8, BITS_15, BITS_32, BITS_64, FLAG, Kind, SUB_LAYER};
+use crate::proved::h26x_sdp::table::ParameterRow;
+
+/// A format parameter of H.266, in the order in which they are written (RFC 9328, sections 7.1
+/// and 7.2).
+#[non_exhaustive]
+#[derive(Debug, Clone, Copy, PartialEq, Eq, PartialOrd, Ord, Hash)]
+pub enum H266Parameter {
+    /// `profile-id`: general_profile_idc. Where it's absent 1: Main 10.
+    ProfileId,
+    /// `tier-flag`: general_tier_flag: 0 Main tier, 1 High tier. Where it's absent 0.
+    TierFlag,
+    /// `sub-profile-id`: the sub-profiles, with `,` between them.
+    SubProfileId,
+    /// `interop-constraints`: the constraints of the stream: frames alone, multilayer,
+    /// general_constraints_info( ).
+    InteropConstraints,
+    /// `level-id`: general_level_idc, 16 times the level's major number and three times its minor
+    /// one. Where it's absent 51: level 3.1.
+    LevelId,
+    /// `sprop-sublayer-id`: the highest TID of the stream. Where it's absent 6.
+    SpropSublayerId,
+    /// `sprop-ols-id`: the output layer set that the stream applies to. Where it's absent,
+    /// TargetOlsIdx.
+    SpropOlsId,
+    /// `recv-sublayer-id`: the highest TID that a receiver chooses. Where it's absent,
+    /// `sprop-sublayer-id`.
+    RecvSublayerId,
+    /// `recv-ols-id`: the output layer set that a receiver chooses. Where it's absent,
+    /// `sprop-ols-id`.
+    RecvOlsId,
+    /// `max-recv-level-id`: the highest level that is received, as in `level-id`. Where it's
+    /// absent, `level-id`.
+    MaxRecvLevelId,
+    /// `sprop-dci`: the decoding capability information in base64.
+    SpropDci,
+    /// `sprop-vps`: video parameter sets in base64, with `,` between them.
+    SpropVps,
+    /// `sprop-sps`: sequence parameter sets in base64, with `,` between them.
+    SpropSps,
+    /// `sprop-pps`: picture parameter sets in base64, with `,` between them.
+    SpropPps,
+    /// `sprop-sei`: SEI messages in base64, with `,` between them.
+    SpropSei,
+    /// `max-lsr`: the most luma samples in a second: one to 16 times the level's. Where it's
+    /// absent, the level's.
+    MaxLsr,
+    /// `max-fps`: the highest picture rate, in pictures in 100 seconds.
+    MaxFps,
+    /// `sprop-max-don-diff`: the largest difference of decoding order numbers. Where it's absent
+    /// 0, and packets bear no such numbers.
+    SpropMaxDonDiff,
+    /// `sprop-depack-buf-bytes`: the size of the depacketization buffer, in bytes. Where it's
+    /// absent 0.
+    SpropDepackBufBytes,
+    /// `depack-buf-cap`: the depacketization buffer that a receiver has, in bytes. Where it's
+    /// absent 4294967295.
+    DepackBufCap,
+}
+
+impl H266Parameter {
+    /// All of them, in their order.
+    pub const ALL: [Self; 20] = [
+        Self::ProfileId,
+        Self::TierFlag,
+        Self::SubProfileId,
+        Self::InteropConstraints,
+        Self::LevelId,
+        Self::SpropSublayerId,
+        Self::SpropOlsId,
+        Self::RecvSublayerId,
+        Self::RecvOlsId,
+        Self::MaxRecvLevelId,
+        Self::SpropDci,
+        Self::SpropVps,
+        Self::SpropSps,
+        Self::SpropPps,
+        Self::SpropSei,
+        Self::MaxLsr,
+        Self::MaxFps,
+        Self::SpropMaxDonDiff,
+        Self::SpropDepackBufBytes,
+        Self::DepackBufCap,
+    ];
+}
+
+/// The parameters of the table.
+static ROWS: [ParameterRow; 20] = [
+    ParameterRow {
+        name: b"profile-id",
+        kind: Kind::Number {
+            least: 0,
+            most: 127,
+        },
+        default: Some(b"1"),
+    },
+    ParameterRow {
+        name: b"tier-flag",
+        kind: FLAG,
+        default: Some(b"0"),
+    },
+    ParameterRow {
+        name: b"sub-profile-id",
+        kind: Kind::Text,
+        default: None,
+    },
+    ParameterRow {
+        name: b"interop-constraints",
+        kind: Kind::Text,
+        default: None,
+    },
+    ParameterRow {
+        name: b"level-id",
+        kind: BITS_8,
+        default: Some(b"51"),
+    },
+    ParameterRow {
+        name: b"sprop-sublayer-id",
+        kind: SUB_LAYER,
+        default: Some(b"6"),
+    },
+    ParameterRow {
+        name: b"sprop-ols-id",
+        kind: Kind::Number {
+            least: 0,
+            most: 257,
+        },
+        default: None,
+    },
+    ParameterRow {
+        name: b"recv-sublayer-id",
+        kind: SUB_LAYER,
+        default: None,
+    },
+    ParameterRow {
+        name: b"recv-ols-id",
+        kind: Kind::Number {
+            least: 0,
+            most: 257,
+        },
+        default: None,
+    },
+    ParameterRow {
+        name: b"max-recv-level-id",
+        kind: BITS_8,
+        default: None,
+    },
+    ParameterRow {
+        name: b"sprop-dci",
+        kind: Kind::Units,
+        default: None,
+    },
+    ParameterRow {
+        name: b"sprop-vps",
+        kind: Kind::Units,
+        default: None,
+    },
+    ParameterRow {
+        name: b"sprop-sps",
+        kind: Kind::Units,
+        default: None,
+    },
+    ParameterRow {
+        name: b"sprop-pps",
+        kind: Kind::Units,
+        default: None,
+    },
+    ParameterRow {
+        name: b"sprop-sei",
+        kind: Kind::Units,
+        default: None,
+    },
+    ParameterRow {
+        name: b"max-lsr",
+        kind: BITS_64,
+        default: None,
+    },
+    ParameterRow {
+        name: b"max-fps",
+        kind: BITS_32,
+        default: None,
+    },
+    ParameterRow {
+        name: b"sprop-max-don-diff",
+        kind: BITS_15,
+        default: Some(b"0"),
+    },
+    ParameterRow {
+        name: b"sprop-depack-buf-bytes",
+        kind: BITS_32,
+        default: Some(b"0"),
+    },
+    ParameterRow {
+        name: b"depack-buf-cap",
+        kind: Kind::Number {
+            least: 1,
+            most: 4294967295,
+        },
+        default: Some(b"4294967295"),
+    },
+];
+
+impl CodecParameter for H266Parameter {
+    fn rows() -> &'static [ParameterRow] {
+        &ROWS
+    }
+
+    fn place(self) -> usize {
+        self as usize
+    }
+}
+
+/// The format parameters of H.266: what an `a=fmtp` line says behind the payload type.
+pub type H266Parameters = CodecParameters<H266Parameter>;
