@@ -45,7 +45,7 @@ many : (sets : List (List ℕ)) → length sets ≤ length (flat_map (further_se
 many sets = let h = further_long true sets in omega (arith, h)
 
 -- the sets behind an aggregate's number are read with their numbers
-units_back : (n : ℕ) (set : List ℕ) (sets : List (List ℕ)) → AllByRecursion (λ set. length set < 65536) (set ∷ sets) →
+pub units_back : (n : ℕ) (set : List ℕ) (sets : List (List ℕ)) → AllByRecursion (λ set. length set < 65536) (set ∷ sets) →
     units_behind_donl (n % 65536) (piece set ++ flat_map (further_set true) sets) ≡ with_dons (h265 true) n (set ∷ sets)
 units_back n set sets (fits, others) =
     let l : length set / 256 % 256 * 256 + length set % 256 ≡ length set = word_back (length set) fits in
@@ -55,7 +55,7 @@ units_back n set sets (fits, others) =
     (ap (λ (x : List (List ℕ × Option ℕ)). (set, Some (n % 65536)) ∷ x) (further_back (length (set ++ flat_map (further_set true) sets)) n sets (omega (arith, t, m)) others))
 
 -- the header of an aggregate has type 48
-sets_type : (high : ℕ) → type_of (with_type_and_f high 48) ≡ 48
+pub sets_type : (high : ℕ) → type_of (with_type_and_f high 48) ≡ 48
 sets_type high = omega arith
 
 -- an aggregate before a unit with these bytes is read back

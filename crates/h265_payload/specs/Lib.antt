@@ -6,3 +6,4 @@ pub mod Spare
 pub mod Packet
 pub mod Setting
 pub mod DepacketizerView
+pub mod LowestHeader

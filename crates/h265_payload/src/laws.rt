@@ -5,13 +5,17 @@ ghost use Rattle.std.specs.Prelude.{◌≡◌, ◌+◌, ◌*◌, ◌<◌, ◌≤
 ghost use Rattle.h26x_core.specs.Word.{field, is_set};
 ghost use Rattle.h26x_core.specs.H265Unit.{is_forbidden, type_of};
 ghost use Rattle.h26x_model.specs.Payload.Reading.{Paci, HasOneReading};
-ghost use Rattle.h26x_model.specs.Payload.Facts.{IsPayloadFormat};
+ghost use Rattle.h26x_model.specs.Payload.Facts.{IsPayloadFormat, AreCarried};
+ghost use Rattle.h26x_model.specs.Send.Calls.{Call, AreCalls, all_entries};
+ghost use Rattle.h26x_model.specs.Send.PacketizerState.{PacketizerState, IsPacketizerState, state_units, state_packets};
+ghost use Rattle.h26x_model.specs.Receive.DepacketizerState.{Depacketization};
 ghost use Rattle.h26x_model.specs.Send.Fragments.{HasRoomFrom};
 ghost use Rattle.h26x_cut.specs.declared.ZeroRule.TheVariants.{All};
 ghost use Rattle.h26x_payload.specs.Units.{CutsBy};
 ghost use Rattle.h265_payload.specs.H265.{h265, read};
 ghost use Rattle.h265_payload.specs.Reading.{IsReading};
 ghost use Rattle.h265_payload.specs.Shown.{shown, ShowsReading};
+ghost use Rattle.h265_payload.specs.LowestHeader.{IsHeadedByUnits, IsReadAlike, IsDetectedAlike, AreTakenAlike};
 ghost use Rattle.h265_packets.specs.Header.{with_type};
 ghost use Rattle.h265_packets.specs.Paci.{paci_fields, paci_packet};
 ghost use Rattle.h265_packets.specs.declared.payload.H265Payload.TheVariants as p;
@@ -74,4 +78,25 @@ pub fn paci_is_read_back()
         is_set (paci_fields high phes) 3 ≡ nat_le 3 (length phes) }
     ensures others { (high : ℕ) (phes : List ℕ) → length phes ≤ 31 →
         field (paci_fields high phes) 2 0 ≡ 0 }
+{}
+
+/// The header that `set_lowest_header` gives an aggregate is that of its units (RFC 7798, 4.4.2), and
+/// nothing else of a packet changes.
+pub fn lowest_headers_are_of_the_units()
+    ensures { (has_donl : Bool) (packet : List ℕ) → IsHeadedByUnits has_donl packet }
+{}
+
+/// An aggregate with the header of its units is read and detected as before, where F stood in its
+/// header as it does in its units. So what calls send of units that can be carried brings the same,
+/// whatever run was open.
+pub fn lowest_headers_change_no_reading()
+    ensures read { (has_donl : Bool) (high low : ℕ) (rest : List ℕ) →
+        IsReadAlike has_donl high low rest }
+    ensures detected { (has_donl : Bool) (high low : ℕ) (rest : List ℕ) →
+        IsDetectedAlike has_donl high low rest }
+    ensures taken { (has_donl : Bool) (s : PacketizerState) (w : Depacketization)
+        (calls : List Call) → s.format ≡ h265 has_donl → w.state.format ≡ h265 has_donl →
+        IsPacketizerState s → AreCalls calls →
+        AreCarried s.format (state_units s (all_entries s.format calls)) →
+        AreTakenAlike has_donl w (state_packets s (all_entries s.format calls)) }
 {}

@@ -20,6 +20,7 @@ mod cases;
 mod depacketizer;
 mod detect;
 pub mod laws;
+mod lowest_header;
 mod packet;
 mod packetizer;
 mod show;
@@ -33,4 +34,5 @@ pub use h265_packets::{
     H265AggregationPacket, H265AggregationUnit, H265AggregationUnitFirst,
     H265FragmentationUnitPacket, H265PACIPacket, H265Payload, H265SingleNALUnitPacket,
 };
+pub use lowest_header::set_lowest_header;
 pub use packetizer::{H265, H265Packetizer};

@@ -4,3 +4,4 @@ pub mod SetsLemmas
 pub mod FactLemmas
 pub mod ReadingLemmas
 pub mod JudgedLemmas
+pub mod LowestLemmas

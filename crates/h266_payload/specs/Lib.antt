@@ -3,3 +3,4 @@ pub mod Reading
 pub mod CodecFacts
 pub mod Packet
 pub mod Setting
+pub mod AggregateHeader

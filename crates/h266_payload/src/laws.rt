@@ -1,7 +1,7 @@
 //! Laws of the H.266 payload format, on which those of every format stand (`h26x_model::laws`,
 //! `h26x_payload::laws`). Each is the contract of a function without a result.
 
-ghost use Rattle.std.specs.Prelude.{true, false, Bool};
+ghost use Rattle.std.specs.Prelude.{true, false, ℕ, Bool, List};
 ghost use Rattle.h26x_model.specs.Payload.Reading.{HasOneReading};
 ghost use Rattle.h26x_model.specs.Payload.Facts.{IsPayloadFormat};
 ghost use Rattle.h26x_model.specs.Send.Fragments.{HasRoomFrom};
@@ -9,6 +9,7 @@ ghost use Rattle.h26x_cut.specs.declared.ZeroRule.TheVariants.{AtMostThree};
 ghost use Rattle.h26x_payload.specs.Units.{CutsBy};
 ghost use Rattle.h266_payload.specs.H266.{h266, read};
 ghost use Rattle.h266_payload.specs.Reading.{IsReading};
+ghost use Rattle.h266_payload.specs.AggregateHeader.{IsHeadedBySets};
 
 /// A packet has one reading, and `read` finds it.
 pub fn one_reading()
@@ -30,4 +31,11 @@ pub fn cuts_by_its_rule()
 pub fn room_for_fragments()
     ensures plain { HasRoomFrom (h266 false) 4 }
     ensures has_donl { HasRoomFrom (h266 true) 6 }
+{}
+
+/// The aggregate of sets that have temporal ids has the header that RFC 9328, 4.3.2 asks for: F where
+/// a set has it, Z clear, the lowest layer and the lowest temporal id.
+pub fn aggregates_have_the_header_of_their_sets()
+    ensures { (has_donl : Bool) (n : ℕ) (sets : List (List ℕ)) (unit : List ℕ) →
+        IsHeadedBySets has_donl n sets unit }
 {}
