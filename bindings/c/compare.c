@@ -18,6 +18,7 @@
     X(version) X(codec_name) X(strerror) X(packetizer_new) X(depacketizer_new) X(receiver_new)     \
     X(packetizer_free) X(depacketizer_free) X(receiver_free) X(h265_paci_packet)                   \
     X(is_partition_head) X(is_partition_tail) X(detect_keyframe) X(detect_h264_nalu) X(next_unit)  \
+    X(set_lowest_header)                                                                           \
     X(unit_is_plain) X(out_size_hint) X(h264_profile_level) X(h265_is_known) X(h266_is_known)      \
     X(packetizer_clone) X(packetizer_set_numbers) X(packetizer_set_max_size) X(packetize)          \
     X(packetize_unit) X(packetize_into) X(packets_size) X(packetize_unit_into) X(packet_count)     \
@@ -296,6 +297,16 @@ static uint32_t profile_level_id(const struct drawn *d)
         | d->z % 60;
 }
 
+/* Gives a packet that is copied first the header of its units. */
+static uint64_t set_lowest_header(const struct library *l, const struct drawn *d, struct answer *a)
+{
+    uint8_t *at = d->bytes != NULL ? a->to : NULL;
+    if (at != NULL)
+        memcpy(at, d->bytes, d->len);
+    l->set_lowest_header(d->codec, d->numbers, at, d->len);
+    return d->len;
+}
+
 static uint64_t looks(int s, const struct drawn *d, struct answer *a, struct outputs *o)
 {
     const struct library *l = &libraries[s];
@@ -313,6 +324,8 @@ static uint64_t looks(int s, const struct drawn *d, struct answer *a, struct out
         return l->detect_keyframe(d->codec, d->bytes, d->len);
     case CALL_detect_h264_nalu:
         return l->detect_h264_nalu(d->bytes, d->len, d->x % 32);
+    case CALL_set_lowest_header:
+        return set_lowest_header(l, d, a);
     case CALL_next_unit:
         return l->next_unit(d->codec, d->bytes, d->len, d->x % 3 == 0 ? 0 : d->y % (d->len + 2),
                             WANTED(0, &o->count), WANTED(1, &o->size));

@@ -525,6 +525,21 @@ static void check_detect_h264_nalu(void)
     hands_on_bool(h26x_detect_h264_nalu(given.in.at, given.in.len, (uint8_t)given.value));
 }
 
+STUB(set_lowest_header);
+void proved_set_lowest_header(uint32_t codec, bool numbers, uint8_t *packet, size_t packet_len)
+{
+    expect(codec == (uint32_t)given.value && numbers == (given.other_value != 0));
+    writes_to(packet, packet_len);
+    handed_on++;
+}
+
+static void check_set_lowest_header(void)
+{
+    give(TO);
+    h26x_set_lowest_header((uint32_t)given.value, given.other_value != 0, given.to.at, given.to.len);
+    expect(handed_on == 1);
+}
+
 STUB(next_unit);
 bool proved_next_unit(uint32_t codec, const uint8_t *payload, size_t payload_len, size_t from,
                       size_t *begin, size_t *end)
@@ -591,6 +606,7 @@ int main(void)
     in_each_case(check_is_partition_tail);
     in_each_case(check_detect_keyframe);
     in_each_case(check_detect_h264_nalu);
+    in_each_case(check_set_lowest_header);
     in_each_case(check_next_unit);
     in_each_case(check_unit_is_plain);
     in_each_case(check_h264_profile_level);

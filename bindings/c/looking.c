@@ -55,6 +55,27 @@ static void check_detection(struct tally *t)
     expect(t, has_nalu("6742", 7) && !has_nalu("", 0));
 }
 
+/* Whether a packet becomes another one. */
+static bool has_lowest_header(uint32_t codec, bool numbers, const char *packet, const char *with)
+{
+    struct bytes in = bytes_of(packet);
+    h26x_set_lowest_header(codec, numbers, in.at, in.len);
+    return is_same(in.at, in.len, with);
+}
+
+/* RFC 7798, 4.4.2: LayerId and TID are the lowest of the units, and F is set where one has it. */
+static void check_lowest_headers(struct tally *t)
+{
+    const char *sets = "600b 0002 4001 0002 4201 0002 4401", *numbered = "6000 0009 0002 430b 00 0002 c512";
+    expect(t, has_lowest_header(H26X_H265, false, sets, "6001 0002 4001 0002 4201 0002 4401"));
+    expect(t, has_lowest_header(H26X_H265, true, numbered, "e10a 0009 0002 430b 00 0002 c512"));
+    expect(t, has_lowest_header(H26X_H265, true, sets, sets));
+    expect(t, has_lowest_header(H26X_H265, false, "600b 0002 4001 00", "600b 0002 4001 00"));
+    expect(t, has_lowest_header(H26X_H265, false, "020b 0002 4001 0002 4201", "020b 0002 4001 0002 4201"));
+    expect(t, has_lowest_header(H26X_H264, false, sets, sets) && has_lowest_header(H26X_H266, false, sets, sets));
+    expect(t, has_lowest_header(7, false, sets, sets));
+}
+
 /* Goes through the units of a payload by their places, and compares them with those that `units`
  * names with '|' between two. */
 static void cuts_at(struct tally *t, uint32_t codec, const char *payload, const char *units,
@@ -197,6 +218,7 @@ void check_looking(struct tally *t)
 {
     check_heads_and_tails(t);
     check_detection(t);
+    check_lowest_headers(t);
     check_units(t);
     check_places(t);
     check_plain_units(t);

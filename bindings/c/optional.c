@@ -62,6 +62,7 @@ static void check_inputs_of_null(struct tally *t, uint32_t codec, size_t len)
     expect(t, !h26x_is_partition_head(codec, NULL, len) && !h26x_detect_keyframe(codec, NULL, len));
     expect(t, h26x_is_partition_tail(codec, true, NULL, len) == (codec == H26X_H264));
     expect(t, !h26x_detect_h264_nalu(NULL, len, 0));
+    h26x_set_lowest_header(codec, true, NULL, len);
     expect(t, !h26x_next_unit(codec, NULL, len, 0, &begin, &end) && begin == 9 && end == 9);
     expect(t, !h26x_unit_is_plain(codec, NULL, len));
     h26x_packetizer_free(p);

@@ -314,6 +314,7 @@ static void look_without_memory(const struct codec *c)
     without_memory(h26x_is_partition_tail(c->number, true, unit, 9));
     without_memory(h26x_detect_keyframe(c->number, unit, 9));
     without_memory(h26x_detect_h264_nalu(sets + 3, 2, 7) == (c->number == H26X_H264));
+    without_memory((h26x_set_lowest_header(c->number, false, unit, 9), true));
     without_memory(h26x_out_size_hint(1200) == 1208);
 }
 

@@ -11,6 +11,13 @@ static uint32_t packets_into(bool is_unit, h26x_packetizer *p, size_t mtu, const
     return is_unit ? h26x_packetize_unit_into(p, mtu, bytes, len, headroom, to, room, ends, ends_room, count, size)
                    : h26x_packetize_into(p, mtu, bytes, len, headroom, to, room, ends, ends_room, count, size);
 }
+
+// Gives packets of H.265 that were made the headers of their units.
+static void set_lowest_headers(bool numbers, uint8_t *to, size_t headroom, const size_t *ends, size_t count)
+{
+    for (size_t i = 0, begin = headroom; i < count; begin = ends[i++] + headroom)
+        h26x_set_lowest_header(H26X_H265, numbers, to + begin, ends[i] - begin);
+}
 */
 import "C"
 
@@ -25,6 +32,9 @@ type Packetizer struct {
 	mu    sync.RWMutex
 	codec Codec
 	call  *sending
+	// Whether packets bear decoding order numbers, and whether aggregates of H.265 have the header of their
+	// units.
+	donl, lowest bool
 	// Memory in which packets are made that go into slices of their own.
 	kept Packets
 }
@@ -78,7 +88,9 @@ func (p *Packetizer) Clone() (*Packetizer, error) {
 	if err := refusedBy(C.h26x_packetizer_clone(&p.call.handle, &call.handle)); err != nil {
 		return nil, err
 	}
-	return ownPacketizer(p.codec, call), nil
+	clone := ownPacketizer(p.codec, call)
+	clone.donl, clone.lowest = p.donl, p.lowest
+	return clone, nil
 }
 
 // SetDONL sets whether packets bear decoding order numbers, from 0 on (H.265 and H.266), as
@@ -89,7 +101,31 @@ func (p *Packetizer) SetDONL(donl bool) error {
 	if p.call == nil {
 		return ErrClosed
 	}
-	return refusedBy(C.h26x_packetizer_set_numbers(&p.call.handle, C.bool(donl)))
+	if err := refusedBy(C.h26x_packetizer_set_numbers(&p.call.handle, C.bool(donl))); err != nil {
+		return err
+	}
+	p.donl = donl
+	return nil
+}
+
+// SetLowestHeader sets whether parameter sets of H.265 that go in one packet have the header that RFC 7798,
+// 4.4.2 asks for: the lowest layer and the lowest temporal id of these sets. It is off at first, and then they
+// have those of the unit behind them, as str0m's have.
+//
+// Where a forwarder drops packets by temporal id, turn it on: else sets before a slice of a high one are
+// dropped with it. Receivers read both alike. Those of H.266 have their header in any case. Its errors are
+// ErrNotOfThisCodec of H.264, and ErrClosed.
+func (p *Packetizer) SetLowestHeader(lowest bool) error {
+	p.mu.Lock()
+	defer p.mu.Unlock()
+	if p.call == nil {
+		return ErrClosed
+	}
+	if p.codec == H264 {
+		return ErrNotOfThisCodec
+	}
+	p.lowest = lowest
+	return nil
 }
 
 // SetMaxPacketSize sets the largest packet size of H.265 and H.266, in bytes: no packet of a later call is
@@ -190,6 +226,10 @@ func (p *Packetizer) makes(isUnit bool, mtu uint16, bytes []byte, into *Packets)
 				return err
 			}
 			into.count = int(call.count)
+			if p.lowest && p.codec == H265 && !isUnit {
+				C.set_lowest_headers(C.bool(p.donl), at(into.bytes), C.size_t(into.headroom), into.endsAt(),
+					call.count)
+			}
 			return nil
 		}
 		into.grow(int(call.count), int(call.size))

@@ -2,6 +2,7 @@ package h26x_test
 
 import (
 	"bytes"
+	"errors"
 	"testing"
 
 	"emupedestal/h26x"
@@ -213,5 +214,48 @@ func TestHeadroomOutOfRange(t *testing.T) {
 			}()
 			h26x.NewPackets(headroom)
 		}()
+	}
+}
+
+// Sets of layer 0 and temporal id 1 before a slice of layer 1 and temporal id 3 (RFC 7798, 4.4.2).
+func TestSetsWithTheHeaderOfSets(t *testing.T) {
+	const (
+		units  = "000001 4001 000001 4201 000001 4401 000001 020baa"
+		sent   = "600b 0002 4001 0002 4201 0002 4401"
+		wanted = "6001 0002 4001 0002 4201 0002 4401"
+		withF  = "e001 0002 c001 0002 4201 0002 4401"
+	)
+	p, err := h26x.NewPacketizer(h26x.H265)
+	done(t, err)
+	defer p.Close()
+	sends(t, p, 1200, units, sent+"|020baa")
+	done(t, p.SetLowestHeader(true))
+	sends(t, p, 1200, units, wanted+"|020baa")
+	// F of a set is that of the packet, and F of the slice isn't. A unit that is sent as it is stays.
+	sends(t, p, 1200, "000001 c001 000001 4201 000001 4401 000001 020baa", withF+"|020baa")
+	sends(t, p, 1200, "000001 4001 000001 4201 000001 4401 000001 820baa", wanted+"|820baa")
+	sendsUnit(t, p, 1200, sent, sent)
+	done(t, p.SetDONL(true))
+	sends(t, p, 1200, "000001 4201 000001 4401 000001 0203aa", "6001 0000 0002 4201 00 0002 4401|02030002aa")
+	done(t, p.SetDONL(false))
+	done(t, p.SetLowestHeader(false))
+	sends(t, p, 1200, units, sent+"|020baa")
+}
+
+// Those of H.266 have it in any case (RFC 9328, 4.3.2), and H.264 has none.
+func TestHeaderOfSetsOfOtherCodecs(t *testing.T) {
+	p, err := h26x.NewPacketizer(h26x.H266)
+	done(t, err)
+	defer p.Close()
+	done(t, p.SetLowestHeader(true))
+	sends(t, p, 1200, "000001 027abb 000001 0183cc 000001 0039dd", "01e2 0003 027abb 0003 0183cc|0039dd")
+	other, err := h26x.NewPacketizer(h26x.H264)
+	done(t, err)
+	if got := other.SetLowestHeader(true); !errors.Is(got, h26x.ErrNotOfThisCodec) {
+		t.Errorf("got %v", got)
+	}
+	done(t, other.Close())
+	if got := other.SetLowestHeader(true); !errors.Is(got, h26x.ErrClosed) {
+		t.Errorf("got %v", got)
 	}
 }

@@ -402,6 +402,13 @@ H26X_API bool h26x_detect_keyframe(uint32_t codec, const uint8_t *packet, size_t
 /* Whether an H.264 packet is known to hold a unit of this type, or to be the first fragment of one. */
 H26X_API bool h26x_detect_h264_nalu(const uint8_t *packet, size_t packet_len, uint8_t type);
 
+/* Gives an aggregation packet of H.265 the header that RFC 7798, 4.4.2 asks for: the lowest LayerId and the lowest TID
+ * of the units in it, and F where one has it. `numbers`: whether packets bear decoding order numbers. Every other
+ * packet stays, and those of H.264 and H.266 and of an unknown codec.
+ * A packetizer sends sets with LayerId and TID of the unit behind them (str0m's rule): 60 0b before a slice of TID 3.
+ * Where a forwarder drops packets by TID, make this call of each packet that is sent, or the sets are dropped too. */
+H26X_API void h26x_set_lowest_header(uint32_t codec, bool numbers, uint8_t *packet, size_t packet_len);
+
 /* Where the next unit of a payload stands, from `from` on: the bytes from *begin up to *end, which are written where
  * the answer is true. Begin with 0, and go on from *end. A payload without a start code is one unit, and an empty
  * unit is left out. False where no unit is left, or for an unknown codec. */

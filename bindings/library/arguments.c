@@ -28,6 +28,7 @@ PROVED(is_partition_head);
 PROVED(is_partition_tail);
 PROVED(detect_keyframe);
 PROVED(detect_h264_nalu);
+PROVED(set_lowest_header);
 PROVED(next_unit);
 PROVED(unit_is_plain);
 PROVED(h264_profile_level);
@@ -220,6 +221,11 @@ bool h26x_detect_keyframe(uint32_t codec, const uint8_t *packet, size_t packet_l
 bool h26x_detect_h264_nalu(const uint8_t *packet, size_t packet_len, uint8_t type)
 {
     return proved_detect_h264_nalu(BYTES(packet, packet_len), type);
+}
+
+void h26x_set_lowest_header(uint32_t codec, bool numbers, uint8_t *packet, size_t packet_len)
+{
+    proved_set_lowest_header(codec, numbers, BYTES(packet, packet_len));
 }
 
 bool h26x_next_unit(uint32_t codec, const uint8_t *payload, size_t payload_len, size_t from,

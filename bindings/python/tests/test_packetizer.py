@@ -50,6 +50,38 @@ def test_h265() -> None:
     assert packetizer.packetize(16, units) == many("40010c|420101|4401c1|2601af")
 
 
+def test_h265_sets_with_the_header_of_sets() -> None:
+    # Sets of layer 0 and temporal id 1 before a slice of layer 1 and temporal id 3 (RFC 7798, 4.4.2).
+    units = some("000001 4001 000001 4201 000001 4401 000001 020baa")
+    sent = "600b 0002 4001 0002 4201 0002 4401|020baa"
+    wanted = "6001 0002 4001 0002 4201 0002 4401|020baa"
+    packetizer = Packetizer(Codec.H265)
+    assert not packetizer.lowest_header and packetizer.packetize(1200, units) == many(sent)
+    packetizer.lowest_header = True
+    for one in (packetizer, packetizer.copy()):
+        assert one.lowest_header and one.packetize(1200, units) == many(wanted)
+    into = bytearray(50)
+    assert packetizer.packetize_into(1200, units, into, 12) == [26, 41]
+    assert into[:41] == bytes(12) + many(wanted)[0] + bytes(12) + many(wanted)[1]
+    # F of a set is that of the packet. A unit that is sent as it is stays.
+    units = some("000001 c001 000001 4201 000001 4401 000001 020baa")
+    assert packetizer.packetize(1200, units)[0] == some("e001 0002 c001 0002 4201 0002 4401")
+    assert packetizer.packetize_unit(1200, many(sent)[0]) == many(sent)[:1]
+    packetizer.donl = True
+    units = some("000001 4201 000001 4401 000001 0203aa")
+    assert packetizer.packetize(1200, units)[0] == some("6001 0000 0002 4201 00 0002 4401")
+    for codec in (Codec.H264, Codec.H266):
+        other = Packetizer(codec)
+        if codec is Codec.H264:
+            with pytest.raises(NotOfThisCodec):
+                other.lowest_header = True
+        else:
+            other.lowest_header = True
+            units = some("000001 027abb 000001 0183cc 000001 0039dd")
+            packets = many("01e2 0003 027abb 0003 0183cc|0039dd")
+            assert other.packetize(1200, units) == packets
+
+
 def test_h265_with_decoding_order_numbers() -> None:
     packetizer = Packetizer(Codec.H265)
     assert not packetizer.donl

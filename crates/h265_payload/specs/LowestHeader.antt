@@ -77,14 +77,16 @@ pub record IsHeadedByUnits (has_donl : Bool) (packet : List ℕ) : Type 0 where
       (slice_index (with_lowest_header has_donl packet) 1)
   pub behind : drop 2 (with_lowest_header has_donl packet) ≡ drop 2 packet
   pub len : length (with_lowest_header has_donl packet) ≡ length packet
-  pub other : is_whole_aggregate has_donl packet ≡ false → with_lowest_header has_donl packet ≡ packet
+  pub other : is_whole_aggregate has_donl packet ≡ false →
+      with_lowest_header has_donl packet ≡ packet
 
 -- A packet with that header is read as before: where F is set in its header as it is in its units,
 -- whatever its bytes.
 abbrev pub IsReadAlike : Bool → ℕ → ℕ → List ℕ → Type 0
 IsReadAlike has_donl high low rest =
     is_forbidden high ≡ list_any has_forbidden_bit (units_carried has_donl (high ∷ low ∷ rest)) →
-    read has_donl (with_lowest_header has_donl (high ∷ low ∷ rest)) ≡ read has_donl (high ∷ low ∷ rest)
+    read has_donl (with_lowest_header has_donl (high ∷ low ∷ rest))
+    ≡ read has_donl (high ∷ low ∷ rest)
 
 -- and a keyframe is detected in it as before
 abbrev pub IsDetectedAlike : Bool → ℕ → ℕ → List ℕ → Type 0
@@ -96,7 +98,8 @@ IsDetectedAlike has_donl high low rest =
 abbrev pub with_lowest_headers : Bool → List (List ℕ) → List (List ℕ)
 with_lowest_headers has_donl packets = map (with_lowest_header has_donl) packets
 
--- What stands at a depacketizer after packets with that header is what stands after them without it.
+-- What stands at a depacketizer after packets with that header is what stands there after them
+-- without it.
 abbrev pub AreTakenAlike : Bool → Depacketization → List (List ℕ) → Type 0
 AreTakenAlike has_donl w packets =
     after_packets w (with_lowest_headers has_donl packets) ≡ after_packets w packets

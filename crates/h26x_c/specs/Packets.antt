@@ -5,6 +5,7 @@ use Rattle.h26x_model.specs.Payload.TwoBytes.{is_two_byte_fragment, two_byte_det
 use Rattle.h26x_payload.specs.AccessUnit.{may_begin, is_last}
 use Rattle.h264_payload.specs.H264 as h264
 use Rattle.h265_payload.specs.H265 as h265
+use Rattle.h265_payload.specs.LowestHeader.{with_lowest_header}
 use Rattle.h266_payload.specs.H266 as h266
 use Rattle.h26x_codec.specs.declared.codec.Codec.{Codec}
 use Rattle.h26x_codec.specs.declared.codec.Codec.TheVariants as c
@@ -31,3 +32,9 @@ is_key_of None packet = false
 is_key_of (Some c.H264) packet = h264.detects 5 packet
 is_key_of (Some c.H265) packet = two_byte_detects h265.h265_header packet
 is_key_of (Some c.H266) packet = two_byte_detects h266.h266_header packet
+
+-- a packet of H.265 with the header of its units, where it is an aggregate; that of H.266 has it, and
+-- that of H.264 has neither layers nor temporal ids
+abbrev pub with_units_header : Option Codec → Bool → List ℕ → List ℕ
+with_units_header (Some c.H265) has_donl packet = with_lowest_header has_donl packet
+with_units_header codec has_donl packet = packet

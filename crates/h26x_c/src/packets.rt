@@ -4,13 +4,13 @@ ghost use Rattle.std.specs.Prelude.{◌≡◌};
 ghost use Rattle.h26x_core.specs.Hint.{size_hint};
 ghost use Rattle.h264_payload.specs.H264.{detects};
 ghost use Rattle.h26x_handles.specs.Codes.{codec_with_number};
-ghost use Rattle.h26x_c.specs.Packets.{is_head_of, is_tail_of, is_key_of};
+ghost use Rattle.h26x_c.specs.Packets.{is_head_of, is_tail_of, is_key_of, with_units_header};
 
 use h26x_codec::Codec;
 use h26x_core::Depacketizer;
 use h26x_handles::code::codec_of;
 use h264_payload::{H264Depacketizer, detect_h264_keyframe, detect_h264_nalu};
-use h265_payload::{H265Depacketizer, detect_h265_keyframe};
+use h265_payload::{H265Depacketizer, detect_h265_keyframe, set_lowest_header};
 use h266_payload::{H266Depacketizer, detect_h266_keyframe};
 use std::alloc::Global;
 
@@ -66,6 +66,17 @@ pub extern "C" fn h26x_detect_h264_nalu(packet: &[u8], kind: u8) -> bool
     ensures { result ≡ detects kind packet.now }
 {
     detect_h264_nalu(packet, kind)
+}
+
+/// Gives an aggregation packet of H.265 the header of its units (RFC 7798, 4.4.2); every other packet
+/// stays.
+#[unsafe(no_mangle)]
+pub extern "C" fn h26x_set_lowest_header(codec: u32, numbers: bool, packet: &mut [u8])
+    ensures { packet.new ≡ with_units_header (codec_with_number codec) numbers packet.old }
+{
+    if let Some(Codec::H265) = codec_of(codec) {
+        set_lowest_header(numbers, packet);
+    }
 }
 
 /// How many bytes the units of packets of this many bytes may take.

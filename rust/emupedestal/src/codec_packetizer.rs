@@ -88,6 +88,15 @@ impl CodecPacketizer {
         }
     }
 
+    /// Sets whether parameter sets of H.265 that go in one packet have the header that RFC 7798, 4.4.2
+    /// asks for, as [`H265Packetizer::with_lowest_header`] tells. Those of H.266 have theirs in any case,
+    /// and for H.264 and a packetizer in a box it changes nothing.
+    pub fn with_lowest_header(&mut self, is_lowest: bool) {
+        if let CodecPacketizer::H265(it) = self {
+            it.with_lowest_header(is_lowest);
+        }
+    }
+
     /// The RTP payloads of `b` as [`Packetizer::packetize`] makes them, in the place of those in
     /// `packets`, whose memory is used again. A refusal leaves `packets`.
     ///

@@ -3,7 +3,7 @@
 use crate::proved::h26x_core::Packetizer as _;
 use crate::proved::h26x_payload::{PacketsSize, PayloadPacketizer, Placement};
 use crate::proved::h264_payload::H264;
-use crate::proved::h265_payload::H265;
+use crate::proved::h265_payload::{H265, set_lowest_header};
 use crate::proved::h266_payload::H266;
 use crate::{PacketError, Packetizer, Packets};
 use alloc::vec::Vec;
@@ -29,6 +29,32 @@ fn make_into(
     }
 }
 
+/// Which header parameter sets in one packet of H.265 have: that of the unit behind them, or that of
+/// their own.
+#[derive(Debug, Clone, Copy, Default)]
+struct SetsHeader {
+    has_donl: bool,
+    is_lowest: bool,
+}
+
+impl SetsHeader {
+    fn set_each(self, packets: &mut [Vec<u8>]) {
+        if self.is_lowest {
+            for packet in packets {
+                set_lowest_header(self.has_donl, packet);
+            }
+        }
+    }
+
+    fn set_all(self, packets: &mut Packets) {
+        if self.is_lowest {
+            for i in 0..packets.len() {
+                set_lowest_header(self.has_donl, packets.packet_mut(i));
+            }
+        }
+    }
+}
+
 macro_rules! packetizer {
     ($(#[$doc:meta])* $name:ident, $codec:ty) => {
         $(#[$doc])*
@@ -38,12 +64,14 @@ macro_rules! packetizer {
         #[derive(Debug)]
         pub struct $name {
             inner: PayloadPacketizer<$codec>,
+            sets_header: SetsHeader,
         }
 
         impl Default for $name {
             fn default() -> Self {
                 $name {
                     inner: PayloadPacketizer::new(),
+                    sets_header: SetsHeader::default(),
                 }
             }
         }
@@ -52,6 +80,7 @@ macro_rules! packetizer {
             fn clone(&self) -> Self {
                 $name {
                     inner: self.inner.try_clone().expect("memory"),
+                    sets_header: self.sets_header,
                 }
             }
         }
@@ -70,7 +99,9 @@ macro_rules! packetizer {
             ) -> Result<(), PacketError> {
                 make_into(packets, |headroom, to, ends| {
                     self.inner.packetize_to_memory(mtu, b, headroom, to, ends)
-                })
+                })?;
+                self.sets_header.set_all(packets);
+                Ok(())
             }
 
             /// The RTP payloads of one NAL unit as it is: no start code is looked for in it, and
@@ -107,7 +138,9 @@ macro_rules! packetizer {
 
         impl Packetizer for $name {
             fn packetize(&mut self, mtu: usize, b: &[u8]) -> Result<Vec<Vec<u8>>, PacketError> {
-                self.inner.packetize(mtu, b)
+                let mut packets = self.inner.packetize(mtu, b)?;
+                self.sets_header.set_each(&mut packets);
+                Ok(packets)
             }
 
             fn is_marker(&mut self, data: &[u8], previous: Option<&[u8]>, last: bool) -> bool {
@@ -187,6 +220,7 @@ macro_rules! numbered {
             /// begin at 0 again.
             pub fn with_donl(&mut self, has_donl: bool) {
                 self.inner.with_donl(has_donl);
+                self.sets_header.has_donl = has_donl;
             }
 
             /// Sets the largest packet size, in bytes, as the `mtu` counts them: no packet of a later
@@ -205,6 +239,30 @@ macro_rules! numbered {
             }
         }
     };
+}
+
+impl H265Packetizer {
+    /// Sets whether parameter sets that go in one packet (4.4.2) have the header that RFC 7798 asks
+    /// for: the lowest layer and the lowest temporal id of the sets in it. It is off at first, and then
+    /// they have those of the unit behind them, as str0m's have.
+    ///
+    /// Where a forwarder drops packets by temporal id, turn it on: else sets before a slice of a high
+    /// one are dropped with it. Receivers read both alike.
+    ///
+    /// ```
+    /// use emupedestal::{H265Packetizer, Packetizer};
+    ///
+    /// // An SPS and a PPS of temporal id 1, and a slice of 3.
+    /// let payload = [0, 0, 1, 0x42, 0x01, 0, 0, 1, 0x44, 0x01, 0, 0, 1, 0x02, 0x03, 0xaa];
+    /// let mut packetizer = H265Packetizer::default();
+    /// assert_eq!(packetizer.packetize(1200, &payload)?[0][..2], [0x60, 0x03]);
+    /// packetizer.with_lowest_header(true);
+    /// assert_eq!(packetizer.packetize(1200, &payload)?[0][..2], [0x60, 0x01]);
+    /// # Ok::<(), emupedestal::PacketError>(())
+    /// ```
+    pub fn with_lowest_header(&mut self, is_lowest: bool) {
+        self.sets_header.is_lowest = is_lowest;
+    }
 }
 
 numbered!(H265Packetizer);

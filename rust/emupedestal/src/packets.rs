@@ -80,6 +80,12 @@ impl Packets {
         &mut self.bytes[place]
     }
 
+    /// Packet `i` without its headroom, to be written. It panics past the last.
+    pub(crate) fn packet_mut(&mut self, i: usize) -> &mut [u8] {
+        let headroom = self.headroom;
+        &mut self.datagram_mut(i)[headroom..]
+    }
+
     /// All packets, one behind the other, each behind its headroom.
     pub fn bytes(&self) -> &[u8] {
         &self.bytes[..self.end_of_first(self.count)]

@@ -9,7 +9,7 @@ from ._handle import Owner
 from ._library import Handle, library
 from ._memory import Buffer, Ends, Room, Target, as_bytes, number
 from .codec import Codec, codec_of
-from .errors import NoRoom, check
+from .errors import NoRoom, NotOfThisCodec, check
 
 #: The largest packet size of H.265 and H.266 at first, in bytes.
 DEFAULT_MAX_PACKET_SIZE = 1200
@@ -43,6 +43,7 @@ class Packetizer(Owner):
 
     def _set_up(self, handle: Handle, codec: Codec, donl: bool, largest: Optional[int]) -> None:
         self._codec, self._donl, self._max_packet_size = codec, donl, largest
+        self._lowest_header = False
         self._room, self._ends = Room(), Ends()
         self._count, self._size = c_size_t(), c_size_t()
         self._own(handle)
@@ -77,6 +78,24 @@ class Packetizer(Owner):
         size = number("max_packet_size", value, 65535)
         check(self._with_handle(library.h26x_packetizer_set_max_size, size))
         self._max_packet_size = size
+
+    @property
+    def lowest_header(self) -> bool:
+        """Whether parameter sets of H.265 that go in one packet have the header that RFC 7798, 4.4.2 asks
+        for: the lowest layer and the lowest temporal id of these sets. It is off at first, and then they
+        have those of the unit behind them, as str0m's have.
+
+        **Where a forwarder drops packets by temporal id, turn it on**: else sets before a slice of a high
+        one are dropped with it. Receivers read both alike. Those of H.266 have their header in any case;
+        of H.264 setting it raises NotOfThisCodec.
+        """
+        return self._lowest_header
+
+    @lowest_header.setter
+    def lowest_header(self, value: bool) -> None:
+        if self._codec is Codec.H264:
+            check(NotOfThisCodec.code)
+        self._lowest_header = value
 
     def packetize(self, mtu: int, payload: Buffer) -> List[bytes]:
         """The RTP payloads of `payload`, in order, each of at most `mtu` bytes.
@@ -160,6 +179,7 @@ class Packetizer(Owner):
         OutOfMemory."""
         made = type(self).__new__(type(self))
         made._set_up(self._cloned(), self._codec, self._donl, self._max_packet_size)
+        made._lowest_header = self._lowest_header
         return made
 
     __copy__ = copy
@@ -220,4 +240,15 @@ class Packetizer(Owner):
             ends.grow(self._count.value)
             return False
         check(code)
+        is_lowest = self._lowest_header and self._codec is Codec.H265
+        if is_lowest and call is library.h26x_packetize_into:
+            self._set_lowest_headers(address, headroom)
         return True
+
+    def _set_lowest_headers(self, address: int, headroom: int) -> None:
+        """Gives the packets that were made at an address the headers of their units."""
+        begin = 0
+        for end in self._ends.copy(self._count.value):
+            begin += headroom
+            library.h26x_set_lowest_header(Codec.H265, self._donl, address + begin, end - begin)
+            begin = end

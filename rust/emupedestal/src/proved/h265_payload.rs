@@ -6,6 +6,7 @@
 mod aggregate;
 mod depacketizer;
 mod detect;
+mod lowest_header;
 mod packet;
 mod packetizer;
 mod show;
@@ -19,4 +20,5 @@ pub use crate::proved::h265_packets::{
 };
 pub use depacketizer::H265Depacketizer;
 pub use detect::detect_h265_keyframe;
+pub use lowest_header::set_lowest_header;
 pub use packetizer::{H265, H265Packetizer};

@@ -2,6 +2,7 @@
 //! 4.3).
 
 use super::{bytes, payload, sends};
+use crate::{Codec, CodecPacketizer, Packets};
 use crate::{H264Packetizer, H265Packetizer, H266Packetizer, Packetizer};
 
 /// A unit of this header and so many bytes `aa` behind it.
@@ -111,6 +112,75 @@ fn h265_sets_go_in_an_aggregate_or_alone() {
     let end = &mut H265Packetizer::default();
     sends(end, 17, &units, &[aggregate, "2601af"]);
     sends(end, 16, &units, &["40010c", "420101", "4401c1", "2601af"]);
+}
+
+/// Sets of layer 0 and temporal id 1 before a slice of layer 1 and temporal id 3 (RFC 7798, 4.4.2).
+#[test]
+fn h265_sets_with_the_header_of_sets() {
+    let units = payload(&["4001", "4201", "4401", "020baa"]);
+    let (sent, wanted) = (
+        "600b 0002 4001 0002 4201 0002 4401",
+        "6001 0002 4001 0002 4201 0002 4401",
+    );
+    let end = &mut H265Packetizer::default();
+    sends(end, 1200, &units, &[sent, "020baa"]);
+    end.with_lowest_header(true);
+    sends(end, 1200, &units, &[wanted, "020baa"]);
+    sends(&mut end.clone(), 1200, &units, &[wanted, "020baa"]);
+
+    let mut packets = Packets::with_headroom(12);
+    end.packetize_into(1200, &units, &mut packets).unwrap();
+    assert_eq!(packets.len(), 2);
+    assert_eq!(
+        (&packets[0], &packets[1]),
+        (&bytes(wanted)[..], &bytes("020baa")[..])
+    );
+    assert_eq!(packets.bytes()[..12], [0; 12]);
+
+    // F of a set is that of the packet, and F of the slice isn't.
+    let sets = ["c001", "4201", "4401"];
+    let with_f = "e001 0002 c001 0002 4201 0002 4401";
+    sends(
+        end,
+        1200,
+        &payload(&[&sets[..], &["020baa"]].concat()),
+        &[with_f, "020baa"],
+    );
+    sends(
+        end,
+        1200,
+        &payload(&["4001", "4201", "4401", "820baa"]),
+        &[wanted, "820baa"],
+    );
+
+    end.with_donl(true);
+    let numbered = "6001 0000 0002 4001 00 0002 4201 00 0002 4401";
+    sends(end, 1200, &units, &[numbered, "020b 0003 aa"]);
+    end.with_donl(false);
+    end.with_lowest_header(false);
+    sends(end, 1200, &units, &[sent, "020baa"]);
+}
+
+/// Of any codec: that of H.265 alone changes.
+#[test]
+fn any_codecs_sets_with_the_header_of_sets() {
+    let mut end = CodecPacketizer::new(Codec::H265);
+    end.with_lowest_header(true);
+    let units = payload(&["4201", "4401", "0203aa"]);
+    sends(
+        &mut end,
+        1200,
+        &units,
+        &["6001 0002 4201 0002 4401", "0203aa"],
+    );
+    let mut end = CodecPacketizer::new(Codec::H264);
+    end.with_lowest_header(true);
+    sends(
+        &mut end,
+        1200,
+        &payload(&["070001", "080203", "050405"]),
+        &["7800030700010003080203", "050405"],
+    );
 }
 
 #[test]

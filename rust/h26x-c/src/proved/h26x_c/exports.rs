@@ -79,6 +79,17 @@ pub unsafe extern "C" fn h26x_detect_h264_nalu(
 }
 
 #[unsafe(no_mangle)]
+pub unsafe extern "C" fn h26x_set_lowest_header(
+    codec: u32,
+    numbers: bool,
+    packet: *mut u8,
+    room: usize,
+) {
+    // SAFETY: a caller owes what the header says.
+    unsafe { super::packets::h26x_set_lowest_header(codec, numbers, pointers::room(packet, room)) }
+}
+
+#[unsafe(no_mangle)]
 pub extern "C" fn h26x_out_size_hint(packets_size: usize) -> usize {
     super::packets::h26x_out_size_hint(packets_size)
 }

@@ -6,7 +6,7 @@ use crate::proved::h26x_codec::Codec;
 use crate::proved::h26x_core::Depacketizer;
 use crate::proved::h26x_handles::code::codec_of;
 use crate::proved::h264_payload::{H264Depacketizer, detect_h264_keyframe, detect_h264_nalu};
-use crate::proved::h265_payload::{H265Depacketizer, detect_h265_keyframe};
+use crate::proved::h265_payload::{H265Depacketizer, detect_h265_keyframe, set_lowest_header};
 use crate::proved::h266_payload::{H266Depacketizer, detect_h266_keyframe};
 
 /// Whether a packet may be the first of an access unit.
@@ -44,6 +44,14 @@ pub fn h26x_detect_keyframe(codec: u32, packet: &[u8]) -> bool {
 /// one.
 pub fn h26x_detect_h264_nalu(packet: &[u8], kind: u8) -> bool {
     detect_h264_nalu(packet, kind)
+}
+
+/// Gives an aggregation packet of H.265 the header of its units (RFC 7798, 4.4.2); every other packet
+/// stays.
+pub fn h26x_set_lowest_header(codec: u32, numbers: bool, packet: &mut [u8]) {
+    if let Some(Codec::H265) = codec_of(codec) {
+        set_lowest_header(numbers, packet);
+    }
 }
 
 /// How many bytes the units of packets of this many bytes may take.
