@@ -21,6 +21,7 @@ mod h265;
 #[cfg(test)]
 mod h266;
 mod laws_met;
+mod model_laws_met;
 #[cfg(test)]
 mod one_buffer;
 #[cfg(test)]

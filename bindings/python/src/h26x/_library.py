@@ -113,7 +113,7 @@ CALLS: Dict[str, Tuple[Any, List[Any]]] = {
     "is_partition_tail": (c_bool, [c_uint32, c_bool, *_IN]),
     "detect_keyframe": (c_bool, [c_uint32, *_IN]),
     "detect_h264_nalu": (c_bool, [*_IN, c_uint8]),
-    "set_lowest_header": (None, [c_uint32, c_bool, *_OUT]),
+    "set_lowest_header": (None, [c_uint32, c_bool, _BYTE, c_size_t]),
     "next_unit": (c_bool, [c_uint32, *_IN, c_size_t, _SIZE, _SIZE]),
     "unit_is_plain": (c_bool, [c_uint32, *_IN]),
     "out_size_hint": (c_size_t, [c_size_t]),

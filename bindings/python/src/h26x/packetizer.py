@@ -2,7 +2,7 @@
 
 from __future__ import annotations
 
-from ctypes import byref, c_size_t
+from ctypes import byref, c_size_t, c_uint8
 from typing import Any, List, Optional, Tuple, Union
 
 from ._handle import Owner
@@ -250,5 +250,6 @@ class Packetizer(Owner):
         begin = 0
         for end in self._ends.copy(self._count.value):
             begin += headroom
-            library.h26x_set_lowest_header(Codec.H265, self._donl, address + begin, end - begin)
+            packet = byref(c_uint8.from_address(address + begin))
+            library.h26x_set_lowest_header(Codec.H265, self._donl, packet, end - begin)
             begin = end
