@@ -5,4 +5,5 @@ pub mod TakenLemmas
 pub mod OrderLemmas
 pub mod RefusalLemmas
 pub mod DeliveryLemmas
+pub mod SkipLemmas
 pub mod CaseLemmas

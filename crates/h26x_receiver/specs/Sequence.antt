@@ -18,7 +18,8 @@ missing_count (Some expected) number = distance_ahead expected number
 abbrev pub distance_behind : Option ℕ → ℕ → ℕ
 distance_behind expected number = 2 ^ 16 - missing_count expected number
 
--- a number in the half of the circle that is behind the one expected (RFC 3550, A.1)
+-- a number in the half of the circle that is behind the one expected (RFC 1982, 3.2), or as far behind
+-- it as ahead (ours)
 abbrev pub is_late : Option ℕ → ℕ → Bool
 is_late expected number = nat_le (2 ^ 15) (missing_count expected number)
 

@@ -1,5 +1,5 @@
 -- What becomes of packets with their sequence numbers (ours).
-use Rattle.std.specs.Prelude.{◌≡◌, ℕ, ◌==◌, nat_lt, Bool, true, false, if◌then◌else◌, List, [], ◌∷◌, Option, Some, None, Result, Ok, Err, IfOk, MatchBool}
+use Rattle.std.specs.Prelude.{◌≡◌, ℕ, ◌==◌, nat_lt, Bool, true, false, ◌||◌, if◌then◌else◌, List, [], ◌∷◌, Option, Some, None, Result, Ok, Err, IfOk, MatchBool}
 use Rattle.h26x_core.specs.declared.extra.CodecExtra.{CodecExtra}
 use Rattle.h26x_core.specs.declared.error.PacketError.{PacketError}
 use Rattle.h26x_model.specs.Receive.DepacketizerState.{DepacketizerState, Depacketization, depacketization, after_packets, IsPacketOutcome}
@@ -90,6 +90,27 @@ abbrev pub after_answers : ℕ → SequencedDepacketization → List (ℕ × Lis
 after_answers most s (p ∷ packets) (answer ∷ answers) = after_answers most
     (after_answer most s p.0 p.1 answer) packets answers
 after_answers most s packets answers = s
+
+-- what is answered for a number that came and bears nothing of the stream
+abbrev pub skip_answer : Option ℕ → ℕ → Received
+skip_answer expected number =
+    if is_late expected number then Late (distance_behind expected number)
+    else answer_by_missing (missing_count expected number) false
+
+-- the number that is expected behind it: one that is late changes nothing
+abbrev pub expected_after_skip : Option ℕ → ℕ → Option ℕ
+expected_after_skip expected number =
+    if is_late expected number then expected else Some (next_sequence_number number)
+
+-- whether the open run stays: the number is late, or the one expected
+abbrev pub is_run_kept : Option ℕ → ℕ → Bool
+is_run_kept expected number = is_late expected number || is_expected expected number
+
+-- what stands after it: nothing is written, and the open run is given up where numbers before it are
+-- missing
+abbrev pub after_skip : SequencedDepacketization → ℕ → SequencedDepacketization
+after_skip s number = with_expected (with_run_if (is_run_kept s.expected number) s.at_work)
+    (expected_after_skip s.expected number)
 
 -- a depacketizer, or what else changes with each packet that is taken, once those that were taken are
 abbrev pub having_taken_all : {A : Type 0} → (List ℕ → A → A) → List (List ℕ) →

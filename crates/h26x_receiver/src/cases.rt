@@ -11,7 +11,7 @@ ghost use Rattle.h26x_model.specs.Carry.Gaps.{whole_units};
 ghost use Rattle.h264_payload.specs.H264.{h264};
 ghost use Rattle.h26x_codec.specs.Codec.{fresh_packetizer_state, fresh_depacketizer_state};
 ghost use Rattle.h26x_receiver.specs.Sequence.{next_sequence_number, missing_count, distance_behind, is_late, is_expected};
-ghost use Rattle.h26x_receiver.specs.Sequenced.{sequenced_depacketization, answer_by_missing, HaveSequencedAnswers};
+ghost use Rattle.h26x_receiver.specs.Sequenced.{sequenced_depacketization, answer_by_missing, HaveSequencedAnswers, skip_answer, expected_after_skip, is_run_kept};
 ghost use Rattle.h26x_receiver.specs.Delivery.{IsDelivery, IsAnyDelivery, IsOrderedDelivery, IsNearPlace, IsNextPlace, ThoseThatCameAreWritten, WhatWasTakenIsWritten, IsWantOrTooLong, taken_mask};
 
 use crate::received::Received;
@@ -36,6 +36,23 @@ pub fn answers_of_taken_packets()
     ensures in_order { answer_by_missing 0 false ≡ Received.InOrder }
     ensures gap { answer_by_missing 1 false ≡ Received.Gap 1 }
     ensures too_long { answer_by_missing 1 true ≡ Received.TooLong 1 }
+{}
+
+/// A number that bears nothing, where 65535 is expected, or none: in order, at the furthest gap, and
+/// half of the circle ahead, which is late.
+pub fn numbers_skipped()
+    ensures in_order { skip_answer (Some 65535) 65535 ≡ Received.InOrder }
+    ensures gap { skip_answer (Some 65535) 32766 ≡ Received.Gap 32767 }
+    ensures half { skip_answer (Some 65535) 32767 ≡ Received.Late 32768 }
+    ensures twice { skip_answer (Some 65535) 65534 ≡ Received.Late 1 }
+    ensures first { skip_answer None 40000 ≡ Received.InOrder }
+    ensures next { expected_after_skip (Some 65535) 65535 ≡ Some 0 }
+    ensures next_of_gap { expected_after_skip (Some 65535) 32766 ≡ Some 32767 }
+    ensures next_of_late { expected_after_skip (Some 65535) 32767 ≡ Some 65535 }
+    ensures run_in_order { is_run_kept (Some 65535) 65535 ≡ true }
+    ensures run_of_gap { is_run_kept (Some 65535) 32766 ≡ false }
+    ensures run_of_late { is_run_kept (Some 65535) 32767 ≡ true }
+    ensures run_of_first { is_run_kept None 40000 ≡ false }
 {}
 
 /// A unit in three fragments and one that fits, numbered on from any number. The first, the middle

@@ -1,14 +1,15 @@
 //! Laws of the definitions, each the contract of a function without a result: for a caller with a
 //! loop of its own over `receive`.
 
-ghost use Rattle.std.specs.Prelude.{◌≤◌, ℕ, List, None, Result};
+ghost use Rattle.std.specs.Prelude.{◌≡◌, ◌≤◌, ◌<◌, ◌^◌, ℕ, List, true, Some, None, Result};
 ghost use Rattle.h26x_core.specs.declared.error.PacketError.{PacketError};
 ghost use Rattle.h26x_model.specs.Payload.Facts.{IsPayloadFormat};
 ghost use Rattle.h26x_model.specs.Receive.RunLimit.{run_len};
 ghost use Rattle.h26x_model.specs.Receive.DepacketizerState.{Depacketization};
 ghost use Rattle.h26x_receiver.specs.declared.received.Received.{Received};
 ghost use Rattle.h26x_receiver.specs.Delivery.{NoneIsRefused, WholeUnitsAreWritten, ThoseThatCameAreWritten, WhatWasTakenIsWritten};
-ghost use Rattle.h26x_receiver.specs.Sequenced.{SequencedDepacketization, with_expected, after_answers, HaveSequencedAnswers};
+ghost use Rattle.h26x_receiver.specs.Sequence.{next_sequence_number, is_expected};
+ghost use Rattle.h26x_receiver.specs.Sequenced.{SequencedDepacketization, with_expected, after_answers, HaveSequencedAnswers, after_skip};
 
 use h26x_model::laws;
 
@@ -56,4 +57,11 @@ pub fn runs_stay_within_the_limit()
     ensures { (most : ℕ) (s : SequencedDepacketization) (packets : List (ℕ × List ℕ))
         (answers : List (Result Received PacketError)) → run_len s.at_work.state.run ≤ most →
         run_len (after_answers most s packets answers).at_work.state.run ≤ most }
+{}
+
+/// A number that came in order and bears nothing of the stream changes only what is expected next.
+pub fn skipping_in_order_changes_only_the_number()
+    ensures { (s : SequencedDepacketization) (number : ℕ) → number < 2 ^ 16 →
+        is_expected s.expected number ≡ true →
+        after_skip s number ≡ with_expected s.at_work (Some (next_sequence_number number)) }
 {}

@@ -7,7 +7,7 @@ ghost use Rattle.h26x_model.specs.Receive.RunLimit.{run_len, run_within, state_w
 ghost use Rattle.h26x_payload.specs.OpenText.{IsSameText};
 ghost use Rattle.h26x_payload.specs.UnitSink.{bytes_brought, grown_to, IsRoomTold};
 ghost use Rattle.h26x_receiver.specs.Sequence.{missing_count, is_expected};
-ghost use Rattle.h26x_receiver.specs.Sequenced.{sequenced_depacketization, sequenced_in_text, with_run_if, after_sequenced_packet, IsSequencedAnswer, after_answer, is_taken};
+ghost use Rattle.h26x_receiver.specs.Sequenced.{sequenced_depacketization, sequenced_in_text, with_run_if, after_sequenced_packet, IsSequencedAnswer, after_answer, is_taken, skip_answer, expected_after_skip, is_run_kept, after_skip};
 
 use crate::received::Received;
 use crate::run::{RunDepacketizer, take_run};
@@ -17,7 +17,7 @@ use h26x_payload::{OpenText, RunRule, UnitSink};
 use std::alloc::Global;
 
 /// How far ahead of the expected number a number is taken as behind it: half of the circle (RFC
-/// 3550, A.1).
+/// 1982, 3.2).
 const HALF: u16 = 0x8000;
 
 /// How many packets are missing before a number, and whether it is the one expected.
@@ -187,6 +187,54 @@ impl<D: RunDepacketizer> SequencedDepacketizer<D> {
     {
         self.depacketizer.give_up_run();
         self.expected = None;
+    }
+
+    /// Passes over a number that came and bears nothing of the stream, as that of a packet of padding
+    /// alone, of forward error correction or of another payload type: it isn't missing. In order only
+    /// the number that is expected changes. Where others before it are missing (`Gap`) the open run is
+    /// given up; one that is late changes nothing. It takes no memory.
+    ///
+    /// ```rust
+    /// if payload.is_empty() {
+    ///     receiver.skip(sequence);
+    /// }
+    /// ```
+    pub fn skip(&mut self, sequence: u16) -> Received
+        ensures answer { result ≡ skip_answer self.old.expected sequence }
+        ensures after { (out : List ℕ) (extra : CodecExtra) →
+            sequenced_depacketization (D.state self.new.depacketizer) self.new.expected out extra
+            ≡ after_skip (sequenced_depacketization (D.state self.old.depacketizer)
+            self.old.expected out extra) sequence }
+        ensures rest { D.with_run None self.new.depacketizer
+            ≡ D.with_run None self.old.depacketizer }
+        ensures limit { self.new.run_limit ≡ self.old.run_limit }
+
+        // In order, or late, nothing else changes.
+        ensures kept { is_run_kept self.old.expected sequence ≡ true →
+            self.new.depacketizer ≡ self.old.depacketizer }
+    {
+        let (_, is_next) = place_of(self.expected, sequence);
+        let received = self.skip_in_text(sequence);
+        if received.is_taken() && !is_next {
+            self.depacketizer.give_up_run();
+        }
+        received
+    }
+
+    /// As [`Self::skip`], where the open run stands in a text of the caller, who gives it up: the
+    /// depacketizer, with its own run, stays as it is.
+    pub fn skip_in_text(&mut self, sequence: u16) -> Received
+        ensures answer { result ≡ skip_answer self.old.expected sequence }
+        ensures expected { self.new.expected ≡ expected_after_skip self.old.expected sequence }
+        ensures depacketizer { self.new.depacketizer ≡ self.old.depacketizer }
+        ensures limit { self.new.run_limit ≡ self.old.run_limit }
+    {
+        let (missing, _) = place_of(self.expected, sequence);
+        if let Some(late) = late_by(missing) {
+            return late;
+        }
+        self.expected = Some(sequence.wrapping_add(1));
+        Received::taken(missing, false)
     }
 
     /// Takes a packet with its sequence number. What it completes is written to `out`, a list of bytes
