@@ -241,7 +241,7 @@ pub fn access_units_of_a_stream()
         (s : PacketizerState) (calls : List StampedCall) (first : ℕ) (places : List ℕ)
         (packets : List (ℕ × RtpBody)) (answers : List (Result Received PacketError)) →
         w.state.format ≡ codec_format codec has_donl → s.format ≡ codec_format codec has_donl →
-        w.unit ≡ None → w.expected ≡ None →
+        w.is_gap ≡ false → w.unit ≡ None → w.expected ≡ None →
         HaveUnitAnswers most limit w packets answers → NoneIsRefused answers →
         IsStream s calls first false places packets →
         AreApart (units_left most s w.state.is_avc false calls
@@ -262,7 +262,7 @@ pub fn access_units_through_a_network()
         (s : PacketizerState) (calls : List StampedCall) (first : ℕ) (places : List ℕ)
         (packets : List (ℕ × RtpBody)) (answers : List (Result Received PacketError)) →
         w.state.format ≡ codec_format codec has_donl → s.format ≡ codec_format codec has_donl →
-        w.unit ≡ None → w.expected ≡ None →
+        w.is_gap ≡ false → w.unit ≡ None → w.expected ≡ None →
         HaveUnitAnswers most limit w (reordered 64 packets) answers → NoneIsRefused answers →
         IsBroughtStream 64 s calls first false places packets →
         AreApart (units_left most s w.state.is_avc false calls

@@ -133,9 +133,9 @@ first_known false = refl
 
 -- what is given out of packets in order
 pub come_in_order : (most limit : ℕ) (w : UnitDepacketization) (packets : List (ℕ × RtpBody)) (answers : List (Result Received PacketError)) → DamagesNothing → GoesOn →
-    IsPayloadFormat w.state.format → w.unit ≡ None → HaveUnitAnswers most limit w packets answers → NoneIsRefused answers →
+    IsPayloadFormat w.state.format → w.is_gap ≡ false → w.unit ≡ None → HaveUnitAnswers most limit w packets answers → NoneIsRefused answers →
     AreAccessUnitsLeft most limit w packets (after_end (after_all_rtp most limit w packets answers)).ended
-come_in_order most limit w packets answers law on_law ok none_open each none = λ s calls first known places same expected it apart within.
+come_in_order most limit w packets answers law on_law ok clear none_open each none = λ s calls first known places same expected it apart within.
     let sent = sent_bodies s calls in
     let e = first_place known in
     let mask = mask_of_places places (length sent) in
@@ -146,7 +146,7 @@ come_in_order most limit w packets answers law on_law ok none_open each none = �
     let came : packets ≡ packets_kept = it.each ∙ kept.same in
     let all : UnitDepacketization → List AccessUnitValue = λ x. x.ended ++ given_out false x.unit in
     let known_is = first_known known in
-    let over = over_calls most first 0 e s w w.state.is_avc calls mask law on_law (subst (λ (f : Format). IsPayloadFormat f) same ok) it.streamed same refl expected 0
+    let over = over_calls most first 0 e s w w.state.is_avc calls mask law on_law (subst (λ (f : Format). IsPayloadFormat f) same ok) it.streamed same refl clear expected 0
     (subst (λ (x : Option AccessUnitValue). IsLeftOpen 0 x e 0) (sym none_open) tt) (first_on known) kept.gaps long
     (subst (λ (x : Option AccessUnitValue). AreApart (given_out false x ++ units_left most s w.state.is_avc (is_place e 0) calls mask)) (sym none_open)
     (subst (λ (b : Bool). AreApart (units_left most s w.state.is_avc b calls mask)) (sym known_is) apart)) in

@@ -59,13 +59,13 @@ units_to_end most limit s packets i answers new past all = subst (λ (x : List (
 
 -- what a network brought of calls
 pub units_brought_by : (window most limit : ℕ) (w : UnitDepacketization) (packets : List (ℕ × RtpBody)) (answers : List (Result Received PacketError)) (new : UnitDepacketization) → DamagesNothing → GoesOn →
-    0 < window → window ≤ 16384 → IsPayloadFormat w.state.format → w.unit ≡ None → AreUnitsReceived most limit w (reordered window packets) answers new → NoneIsRefused answers →
+    0 < window → window ≤ 16384 → IsPayloadFormat w.state.format → w.is_gap ≡ false → w.unit ≡ None → AreUnitsReceived most limit w (reordered window packets) answers new → NoneIsRefused answers →
     AreAccessUnitsBrought window most limit w packets (new.ended ++ given_out false new.unit)
-units_brought_by window most limit w packets answers new law on_law some half ok none_open all none = λ s calls first known places same expected it apart within.
+units_brought_by window most limit w packets answers new law on_law some half ok clear none_open all none = λ s calls first known places same expected it apart within.
     let sent = sent_bodies s calls in
     let masks : mask_of_places (in_order places) (length sent) ≡ mask_of_places places (length sent) = same_in_range places 0 (length sent) in
     let left : List Bool → List AccessUnitValue = λ mask. units_left most s w.state.is_avc known calls mask in
-    let ordered = come_in_order most limit w (reordered window packets) answers law on_law ok none_open all.each none s calls first known (in_order places) same expected (record {
+    let ordered = come_in_order most limit w (reordered window packets) answers law on_law ok clear none_open all.each none s calls first known (in_order places) same expected (record {
       streamed = it.streamed;
       each = put_in_order_all window packets some half (λ place. slice_index_or sent place nothing) first places it.each it.near;
       sent = puts_below (length sent) places [] it.sent tt;

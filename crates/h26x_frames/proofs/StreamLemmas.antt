@@ -20,6 +20,7 @@ use Rattle.h26x_receiver.proofs.DeliveryLemmas.{DamagesNothing}
 use Rattle.h26x_frames.specs.Rtp.{RtpBody}
 use Rattle.h26x_frames.specs.AccessUnit.{AccessUnitValue, whole_if, UnitDepacketization, unit_depacketization, is_unit_at, given_out}
 use Rattle.h26x_frames.specs.StampedCalls.{StampedCall, calls_of, call_packets, after_call, unit_bodies, sent_bodies, are_runs_within, unit_left, last_came, units_left, AreApart, AreStreamed}
+use Rattle.h26x_frames.proofs.TakeLemmas.{at_gap}
 use Rattle.h26x_frames.proofs.UnitLemmas.{after_all_taken, taken_append, kept_from, expected_after, AreGapsShort, same_place, not_place, behind_next, on_next, IsLeftOpen, left_more, grown, begun, IsLeft, begins}
 
 -- the packets kept of some, and of others behind them
@@ -94,6 +95,7 @@ apart_left t e q (Some w) (Some v) u units left is apart = apart_as u (whole_if 
 record IsCallOver (most first : ℕ) (e : Option ℕ) (q : ℕ) (f : Format) (avc : Bool) (old : UnitDepacketization) (units : List AccessUnitValue) (new : UnitDepacketization) : Type 0 where
   all : new.ended ++ given_out false new.unit ≡ (old.ended ++ given_out false old.unit) ++ units
   expected : new.expected ≡ expected_at first e
+  gap : new.is_gap ≡ false
   left : (t : ℕ) × IsLeftOpen t new.unit e q
   apart : (rest : List AccessUnitValue) → AreApart (given_out false old.unit ++ (units ++ rest)) → AreApart (given_out false new.unit ++ rest)
   format : new.state.format ≡ f
@@ -123,12 +125,12 @@ left_of_call most s w avc c before mask same form some whole =
 -- the packets of one call
 over_call : (most first p q : ℕ) (e : Option ℕ) (s : PacketizerState) (w : UnitDepacketization) (avc : Bool) (c : StampedCall) (rest : List AccessUnitValue) (mask : List Bool) →
     DamagesNothing → IsPayloadFormat s.format → IsPacketizerState s → AreCalls (c.call ∷ []) → AreCarried s.format (state_units s (all_entries s.format (c.call ∷ []))) →
-    w.state.format ≡ s.format → w.state.is_avc ≡ avc → w.expected ≡ expected_at first e → (t : ℕ) → IsLeftOpen t w.unit e p → IsOn e p → AreGapsShort e p mask →
+    w.state.format ≡ s.format → w.state.is_avc ≡ avc → w.is_gap ≡ false → w.expected ≡ expected_at first e → (t : ℕ) → IsLeftOpen t w.unit e p → IsOn e p → AreGapsShort e p mask →
     length mask ≡ length (call_packets s c.call) → q ≡ p + length (call_packets s c.call) →
     AreApart (given_out false w.unit ++ (unit_left most s avc (is_place e p) c mask ++ rest)) →
     IsCallOver most first (expected_after e p mask) q s.format avc w (unit_left most s avc (is_place e p) c mask)
     (after_all_taken most w (kept_from first p mask (unit_bodies c.timestamp (call_packets s c.call))))
-over_call most first p q e s w avc c rest mask law ok is small carried same form expected t left on gaps long count apart =
+over_call most first p q e s w avc c rest mask law ok is small carried same form clear expected t left on gaps long count apart =
     let packets = call_packets s c.call in
     let before = is_place e p in
     let kept = kept_from first p mask (unit_bodies c.timestamp packets) in
@@ -142,12 +144,15 @@ over_call most first p q e s w avc c rest mask law ok is small carried same form
           let all_apart : AreApart (given_out false w.unit ++ (u ∷ rest)) =
           subst (λ (l : List AccessUnitValue). AreApart (given_out false w.unit ++ (l ++ rest))) (sym value) apart in
           let after : IsLeft first c.timestamp (expected_after e p mask) q w.state.format w.state.is_avc ((w.ended ++ given_out false w.unit) ++ u ∷ []) new =
-          subst (λ (x : Option ℕ). IsLeft first c.timestamp (expected_after e p mask) q w.state.format w.state.is_avc ((w.ended ++ given_out false w.unit) ++ u ∷ [])
+          subst (λ (g : Bool). IsLeft first c.timestamp (expected_after e p mask) q w.state.format w.state.is_avc ((w.ended ++ given_out false w.unit) ++ u ∷ [])
+          (after_all_taken most (at_gap g w.state w.expected w.unit w.ended) kept)) (sym clear)
+          (subst (λ (x : Option ℕ). IsLeft first c.timestamp (expected_after e p mask) q w.state.format w.state.is_avc ((w.ended ++ given_out false w.unit) ++ u ∷ [])
           (after_all_taken most (unit_depacketization w.state x w.unit w.ended) kept)) (sym expected)
-          (begins most first p q c.timestamp t e w.state w.unit w.ended mask packets long count some (apart_other false w.unit u rest all_apart) left gaps on) in
+          (begins most first p q c.timestamp t e w.state w.unit w.ended mask packets long count some (apart_other false w.unit u rest all_apart) left gaps on)) in
           subst (λ (l : List AccessUnitValue). IsCallOver most first (expected_after e p mask) q s.format avc w l new) value (record {
             all = after.all;
             expected = after.expected;
+            gap = after.gap;
             left = (c.timestamp, after.open_unit);
             apart = λ others a. apart_left c.timestamp (expected_after e p mask) q w.unit new.unit u others after.open_unit refl a;
             format = after.format ∙ same;
@@ -162,6 +167,7 @@ over_call most first p q e s w avc c rest mask law ok is small carried same form
           (subst (λ (x : Option ℕ). IsCallOver most first x q s.format avc w [] w) (sym no.1) (record {
             all = sym (append-nil (w.ended ++ given_out false w.unit));
             expected = expected;
+            gap = clear;
             left = (t, left_more t p q e w.unit (omega arith) left);
             apart = λ others a. a;
             format = same;
@@ -217,14 +223,14 @@ next_call s c calls on_law ok it =
 -- the packets of calls
 pub over_calls : (most first p : ℕ) (e : Option ℕ) (s : PacketizerState) (w : UnitDepacketization) (avc : Bool) (calls : List StampedCall) (mask : List Bool) →
     DamagesNothing → GoesOn → IsPayloadFormat s.format → AreStreamed s calls →
-    w.state.format ≡ s.format → w.state.is_avc ≡ avc → w.expected ≡ expected_at first e → (t : ℕ) → IsLeftOpen t w.unit e p → IsOn e p → AreGapsShort e p mask →
+    w.state.format ≡ s.format → w.state.is_avc ≡ avc → w.is_gap ≡ false → w.expected ≡ expected_at first e → (t : ℕ) → IsLeftOpen t w.unit e p → IsOn e p → AreGapsShort e p mask →
     length mask ≡ length (sent_bodies s calls) →
     AreApart (given_out false w.unit ++ units_left most s avc (is_place e p) calls mask) →
     (let new = after_all_taken most w (kept_from first p mask (sent_bodies s calls)) in
     new.ended ++ given_out false new.unit ≡ (w.ended ++ given_out false w.unit) ++ units_left most s avc (is_place e p) calls mask)
-over_calls most first p e s w avc [] [] law on_law ok it same form expected t left on gaps long apart = sym (append-nil (w.ended ++ given_out false w.unit))
-over_calls most first p e s w avc [] (m ∷ mask) law on_law ok it same form expected t left on gaps long apart = absurd (omega arith)
-over_calls most first p e s w avc (c ∷ calls) mask law on_law ok it same form expected t left on gaps long apart =
+over_calls most first p e s w avc [] [] law on_law ok it same form clear expected t left on gaps long apart = sym (append-nil (w.ended ++ given_out false w.unit))
+over_calls most first p e s w avc [] (m ∷ mask) law on_law ok it same form clear expected t left on gaps long apart = absurd (omega arith)
+over_calls most first p e s w avc (c ∷ calls) mask law on_law ok it same form clear expected t left on gaps long apart =
     let f = s.format in
     let packets = call_packets s c.call in
     let n = length packets in
@@ -244,10 +250,10 @@ over_calls most first p e s w avc (c ∷ calls) mask law on_law ok it same form 
     let e_next = expected_after e p front in
     let left_later = units_left most next avc (last_came before front) calls back in
     let over = over_call most first p q e s w avc c left_later front law ok it.sender (it.calls_are.0, tt) split.carried
-    same form expected t left on (gaps_front n e p mask gaps) parts.0 refl apart in
+    same form clear expected t left on (gaps_front n e p mask gaps) parts.0 refl apart in
     let mid = after_all_taken most w (kept_from first p front here) in
     let same_before = after_e.1 in
-    let rest = over_calls most first q e_next next mid avc calls back law on_law ok split.streamed over.format over.avc_is over.expected over.left.0 over.left.1 after_e.0 (gaps_rest n e p q mask refl (omega (arith, total)) gaps) parts.1
+    let rest = over_calls most first q e_next next mid avc calls back law on_law ok split.streamed over.format over.avc_is over.gap over.expected over.left.0 over.left.1 after_e.0 (gaps_rest n e p q mask refl (omega (arith, total)) gaps) parts.1
     (subst (λ (b : Bool). AreApart (given_out false mid.unit ++ units_left most next avc b calls back)) (sym same_before) (over.apart left_later apart)) in
     let kept : kept_from first p mask (here ++ later) ≡ kept_from first p front here ++ kept_from first q back later =
     kept_append first p q mask here later (omega (arith, many)) (omega (arith, many, total))

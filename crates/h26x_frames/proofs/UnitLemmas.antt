@@ -140,6 +140,7 @@ IsLeftOpen t (Some unit) e q = (unit.timestamp ≡ t) × IsBehind e q
 pub record IsLeft (first t : ℕ) (e : Option ℕ) (q : ℕ) (f : Format) (avc : Bool) (units : List AccessUnitValue) (new : UnitDepacketization) : Type 0 where
   pub all : new.ended ++ given_out false new.unit ≡ units
   pub expected : new.expected ≡ expected_at first e
+  pub gap : new.is_gap ≡ false
   pub open_unit : IsLeftOpen t new.unit e q
   pub format : new.state.format ≡ f
   pub avc_is : new.state.is_avc ≡ avc
@@ -186,6 +187,7 @@ from_step most first p q t whole b w ended x [] [] long later = record {
   all = append-nil (ended ++ next_unit most t whole b w x ∷ [])
       ∙ ap (λ (is : Bool). ended ++ unit_of t (next_work most w x) is ∷ []) (closing (is_long most w x) whole b);
   expected = ap Some (next_number first p);
+  gap = refl;
   open_unit = tt;
   format = refl;
   avc_is = refl;
@@ -221,6 +223,7 @@ goes_on most first p q t e w whole ended [] (x ∷ packets) long is gaps on none
 goes_on most first p q t e w whole ended [] [] long is gaps on none = record {
   all = ap (λ (b : Bool). ended ++ unit_of t w (whole && (b && (true && true))) ∷ []) (sym (not_place e p (none refl)));
   expected = refl;
+  gap = refl;
   open_unit = (refl, behind_more e p q (omega arith) (none refl));
   format = refl;
   avc_is = refl;

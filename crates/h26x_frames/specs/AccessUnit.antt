@@ -1,6 +1,7 @@
 -- Access units of packets with their timestamps and markers (RFC 3550, 5.1; RFC 6184, 5.1; RFC 7798,
 -- 4.1; RFC 9328, 4.1; ours).
 use Rattle.std.specs.Prelude.{◌≡◌, ℕ, ◌==◌, nat_lt, Bool, true, false, ◌&&◌, if◌then◌else◌, List, [], ◌∷◌, ◌++◌, length, Option, Some, None, Result, Ok, Err, ◌⊎◌}
+use Rattle.std.specs.Option.{option_map}
 use Rattle.h26x_core.specs.declared.extra.CodecExtra.{CodecExtra}
 use Rattle.h26x_core.specs.declared.extra.CodecExtra.TheVariants as extras
 use Rattle.h26x_core.specs.declared.error.PacketError.{PacketError}
@@ -10,7 +11,7 @@ use Rattle.h26x_model.specs.Receive.RunLimit.{run_len, state_with_run}
 use Rattle.h26x_receiver.specs.declared.received.Received.{Received}
 use Rattle.h26x_receiver.specs.declared.received.Received.TheVariants.{TooLong, Late}
 use Rattle.h26x_receiver.specs.Sequence.{is_expected}
-use Rattle.h26x_receiver.specs.Sequenced.{SequencedDepacketization, sequenced_depacketization, after_sequenced_packet, after_taken_packet, IsSequencedAnswer}
+use Rattle.h26x_receiver.specs.Sequenced.{SequencedDepacketization, sequenced_depacketization, after_sequenced_packet, after_taken_packet, IsSequencedAnswer, expected_after_skip, is_run_kept}
 use Rattle.h26x_frames.specs.Rtp.{RtpBody}
 use Rattle.h26x_frames.specs.declared.access_unit.AccessUnit.{AccessUnit}
 use Rattle.h26x_frames.specs.declared.access_unit.OpenUnit.{OpenUnit}
@@ -41,19 +42,25 @@ open_unit_value unit = record {
   is_whole = unit.is_whole;
 }
 
--- the access unit that is open, if one is, and the run that is open
+-- the access unit that is open, if one is, the run that is open, and whether packets are missing right
+-- before those numbers that were skipped last
 pub record OpenUnitView : Type 0 where
   pub unit : Option AccessUnitValue
   pub run : Option (List ℕ)
+  pub is_gap : Bool
 
 -- the run stands in the text of the one that is open, or else it is what the last one left
-abbrev pub open_unit_view : Option OpenUnit → Option (List ℕ) → OpenUnitView
-open_unit_view None left = record { unit = None; run = left }
-open_unit_view (Some unit) left = record { unit = Some (open_unit_value unit); run = unit.text.run }
+abbrev pub open_unit_view : Option OpenUnit → Option (List ℕ) → Bool → OpenUnitView
+open_unit_view None left is_gap = record { unit = None; run = left; is_gap = is_gap }
+open_unit_view (Some unit) left is_gap = record {
+  unit = Some (open_unit_value unit);
+  run = unit.text.run;
+  is_gap = is_gap;
+}
 
 -- neither is open
 abbrev pub none_open : OpenUnitView
-none_open = record { unit = None; run = None }
+none_open = record { unit = None; run = None; is_gap = false }
 
 -- one to which no packet came yet
 abbrev pub empty_unit : ℕ → AccessUnitValue
@@ -68,20 +75,31 @@ empty_unit timestamp = record {
 abbrev pub whole_if : Bool → AccessUnitValue → AccessUnitValue
 whole_if holds unit = record unit { is_whole = unit.is_whole && holds }
 
--- what a receiver works on: its depacketizer, the sequence number that is expected next, if a packet
--- was taken, the access unit that is open, and those that ended
+-- what is open where packets are missing: no run, and nothing is known to be whole
+abbrev pub behind_gap : OpenUnitView → OpenUnitView
+behind_gap it = record {
+  unit = option_map (whole_if false) it.unit;
+  run = None;
+  is_gap = true;
+}
+
+-- what a receiver works on: its depacketizer, the sequence number that is expected next, if one came,
+-- whether packets are missing right before those numbers that were skipped last, the access unit that
+-- is open, and those that ended
 pub record UnitDepacketization : Type 0 where
   pub state : DepacketizerState
   pub expected : Option ℕ
+  pub is_gap : Bool
   pub unit : Option AccessUnitValue
   pub ended : List AccessUnitValue
 
--- these four
+-- these, where none was skipped since the last packet
 abbrev pub unit_depacketization : DepacketizerState → Option ℕ → Option AccessUnitValue →
     List AccessUnitValue → UnitDepacketization
 unit_depacketization state expected unit ended = record {
   state = state;
   expected = expected;
+  is_gap = false;
   unit = unit;
   ended = ended;
 }
@@ -89,8 +107,13 @@ unit_depacketization state expected unit ended = record {
 -- the same by what is open, where the depacketizer's own run is not used
 abbrev pub open_depacketization : DepacketizerState → Option ℕ → OpenUnitView →
     List AccessUnitValue → UnitDepacketization
-open_depacketization state expected it ended =
-    unit_depacketization (state_with_run state it.run) expected it.unit ended
+open_depacketization state expected it ended = record {
+  state = state_with_run state it.run;
+  expected = expected;
+  is_gap = it.is_gap;
+  unit = it.unit;
+  ended = ended;
+}
 
 -- before any packet came
 abbrev pub fresh_units : DepacketizerState → UnitDepacketization
@@ -134,13 +157,18 @@ abbrev pub is_run_too_long : Result Received PacketError → Bool
 is_run_too_long (Ok (TooLong n)) = true
 is_run_too_long answer = false
 
+-- whether it is known that no packet is missing before a number: it is the one expected, and none is
+-- missing before those skipped last
+abbrev pub is_following : Bool → Option ℕ → ℕ → Bool
+is_following is_gap expected number = if is_gap then false else is_expected expected number
+
 -- whether it is known that no packet is missing before a packet that was taken, and it left no run
 -- that is too long
 abbrev pub is_sound : ℕ → UnitDepacketization → ℕ × RtpBody → Bool
 is_sound most s p =
     if nat_lt most
     (run_len (after_sequenced_packet (taken_by s p.1.timestamp) p.0 p.1.payload).state.run)
-    then false else is_expected s.expected p.0
+    then false else is_following s.is_gap s.expected p.0
 
 -- the access unit of a packet that was taken, with what it completed
 abbrev pub unit_with : ℕ → UnitDepacketization → ℕ × RtpBody → AccessUnitValue
@@ -179,7 +207,7 @@ after_taken_rtp most s p = unit_depacketization
     (after_taken_packet most (taken_by s p.1.timestamp) p.0 p.1.payload).at_work.state
     (after_taken_packet most (taken_by s p.1.timestamp) p.0 p.1.payload).expected
     (if p.1.marker then None else Some (unit_with most s p))
-    ((s.ended ++ ended_by (is_expected s.expected p.0) s.unit p.1.timestamp)
+    ((s.ended ++ ended_by (is_following s.is_gap s.expected p.0) s.unit p.1.timestamp)
     ++ (if p.1.marker then unit_with most s p ∷ [] else []))
 
 -- what stands after an answer: a packet that was not taken changes nothing
@@ -188,6 +216,21 @@ abbrev pub after_rtp : ℕ → ℕ → UnitDepacketization → ℕ × RtpBody �
 after_rtp most limit s p (Ok (Late n)) = s
 after_rtp most limit s p (Ok answer) = with_unit_within limit (after_taken_rtp most s p)
 after_rtp most limit s p (Err error) = s
+
+-- what stands after a number that came and bears nothing of the stream: in order only the number that
+-- is expected changes; where others before it are missing the open run is given up, and neither what is
+-- open nor what the next packet begins is known to be whole
+abbrev pub after_unit_skip : UnitDepacketization → ℕ → UnitDepacketization
+after_unit_skip s number =
+    if is_run_kept s.expected number
+    then record s { expected = expected_after_skip s.expected number }
+    else record {
+      state = state_with_run s.state None;
+      expected = expected_after_skip s.expected number;
+      is_gap = true;
+      unit = option_map (whole_if false) s.unit;
+      ended = s.ended;
+    }
 
 -- what stands after the end: what was open is not known to be whole, no run is open, and any number
 -- may be the first

@@ -4,9 +4,9 @@ ghost use Rattle.std.specs.Prelude.{◌≡◌, ◌+◌, ◌≤◌, ◌++◌, ◌
 ghost use Rattle.h26x_model.specs.Receive.RunLimit.{run_len};
 ghost use Rattle.h26x_receiver.specs.Sequenced.{is_taken};
 ghost use Rattle.h26x_frames.specs.Rtp.{rtp_body};
-ghost use Rattle.h26x_frames.specs.AccessUnit.{access_unit_value, open_unit_value, open_unit_view, empty_unit, whole_if, none_open, unit_len, unit_within, is_unit_at, given_out, open_depacketization, IsTakenAnswer, after_taken_rtp};
+ghost use Rattle.h26x_frames.specs.AccessUnit.{access_unit_value, open_unit_value, open_unit_view, empty_unit, whole_if, none_open, behind_gap, unit_len, unit_within, is_unit_at, given_out, open_depacketization, IsTakenAnswer, after_taken_rtp};
 
-use crate::answers::{is_next, is_sound, was_taken};
+use crate::answers::{is_following, is_sound, was_taken};
 use crate::packet::RtpPacket;
 use h26x_core::{CodecExtra, PacketError};
 use h26x_payload::{OpenRun, OpenText};
@@ -62,18 +62,19 @@ impl OpenUnit {
         &mut self,
         packets: &mut SequencedDepacketizer<D>,
         packet: &RtpPacket<'_>,
+        is_gap: bool,
         may_be_inside: bool,
     ) -> Result<Received, PacketError>
         requires { self.old.timestamp ≡ packet.now.1.timestamp }
         ensures answer { IsTakenAnswer packets.old.run_limit (open_depacketization
             (D.state packets.old.depacketizer) packets.old.expected
-            (open_unit_view (Some self.old) None) []) packet.now result }
+            (open_unit_view (Some self.old) None is_gap) []) packet.now result }
         ensures after { is_taken result ≡ true →
             open_depacketization (D.state packets.new.depacketizer) packets.new.expected
-            (open_unit_view (Some self.new) None) []
+            (open_unit_view (Some self.new) None false) []
             ≡ after_taken_rtp packets.old.run_limit (open_depacketization
             (D.state packets.old.depacketizer) packets.old.expected
-            (open_unit_view (Some self.old) None) [])
+            (open_unit_view (Some self.old) None is_gap) [])
             (packet.now.0, rtp_body packet.now.1.timestamp false packet.now.1.payload) }
         ensures rest { is_taken result ≡ true → packets.new.depacketizer
             ≡ D.having_taken packet.now.1.payload packets.old.depacketizer }
@@ -83,9 +84,10 @@ impl OpenUnit {
         ensures aside { may_be_inside ≡ false → is_taken result ≡ true →
             self.new.text.inside ≡ None }
         ensures kept { MatchBool (is_taken result) (Unit {0}) ((packets.new ≡ packets.old)
-            × (open_unit_view (Some self.new) None ≡ open_unit_view (Some self.old) None)) }
+            × (open_unit_view (Some self.new) None is_gap
+            ≡ open_unit_view (Some self.old) None is_gap)) }
     {
-        let follows = is_next(packets.expected, packet.sequence);
+        let follows = is_following(is_gap, packets.expected, packet.sequence);
         let received = packets.receive_in_text(
             packet.sequence,
             packet.payload,
@@ -114,11 +116,13 @@ impl OpenUnit {
 }
 
 /// The access unit that is open, if one is: the next packet may belong to it. And the run that is
-/// open, in its text, or left by the last one.
+/// open, in its text, or left by the last one; and whether packets are missing right before the numbers
+/// that were skipped last.
 #[derive(Debug, Drop)]
 pub struct OpenAccessUnit {
     unit: Option<OpenUnit>,
     left: OpenRun,
+    is_gap: bool,
 }
 
 impl Model for OpenAccessUnit {
@@ -127,7 +131,7 @@ impl Model for OpenAccessUnit {
 
     ghost Value = { OpenUnitView };
 
-    ghost view = { λ a. open_unit_view a.unit a.left };
+    ghost view = { λ a. open_unit_view a.unit a.left a.is_gap };
 
     ghost invariant = { λ a. is_some a.unit ≡ true → a.left ≡ None };
 }
@@ -140,6 +144,7 @@ impl OpenAccessUnit {
         OpenAccessUnit {
             unit: None,
             left: OpenRun::none(alloc),
+            is_gap: false,
         }
     }
 
@@ -185,6 +190,27 @@ impl OpenAccessUnit {
         }
     }
 
+    /// Whether packets are missing right before the numbers that were skipped last.
+    #[inline]
+    pub(crate) fn is_gap(&self) -> bool
+        ensures { result ≡ self.now.is_gap }
+    {
+        self.is_gap
+    }
+
+    /// Packets are missing, and a number behind them is skipped: gives up the run, and neither what is
+    /// open nor what the next packet begins is known to be whole.
+    pub(crate) fn break_off(&mut self)
+        ensures { self.new ≡ behind_gap self.old }
+    {
+        self.is_gap = true;
+        self.left.close();
+        if let Some(unit) = &mut self.unit {
+            unit.text.give_up_run();
+            unit.is_whole = false;
+        }
+    }
+
     /// Whether one is open that has this timestamp.
     #[inline]
     pub(crate) fn is_at(&self, timestamp: u32) -> bool
@@ -220,7 +246,11 @@ impl OpenAccessUnit {
             × (self.new ≡ self.old)) }
     {
         match &mut self.unit {
-            Some(unit) => unit.take(packets, packet, true),
+            Some(unit) => {
+                let received = unit.take(packets, packet, self.is_gap, true);
+                self.is_gap = self.is_gap && !was_taken(&received);
+                received
+            }
             None => unreachable!(),
         }
     }
@@ -254,11 +284,12 @@ impl OpenAccessUnit {
     {
         match self.unit.take() {
             Some(mut unit) => {
-                let received = unit.take(packets, packet, false);
+                let received = unit.take(packets, packet, self.is_gap, false);
                 if !was_taken(&received) {
                     self.unit = Some(unit);
                     return received;
                 }
+                self.is_gap = false;
                 unit.text.move_run(&mut self.left);
                 out.push(unit.end(true)).unwrap();
                 received
@@ -283,6 +314,7 @@ impl OpenAccessUnit {
         ensures unit { self.new.unit ≡ (if is_over then None
             else Some (whole_if is_sound (open_unit_value unit))) }
         ensures run { self.new.run ≡ unit.text.run }
+        ensures gap { self.new.is_gap ≡ false }
         ensures out { map access_unit_value out.new.items ≡ map access_unit_value out.old.items
             ++ (if is_over then whole_if is_sound (open_unit_value unit) ∷ [] else []) }
     {
@@ -305,6 +337,7 @@ impl OpenAccessUnit {
         ensures len { vec_len out.new ≤ vec_len out.old + 1 }
         ensures capacity { vec_capacity out.old ≤ vec_capacity out.new }
     {
+        self.is_gap = false;
         self.left.close();
         if let Some(unit) = self.unit.take() {
             out.push(unit.end(follows)).unwrap();

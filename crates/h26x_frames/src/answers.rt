@@ -3,7 +3,7 @@
 ghost use Rattle.std.specs.Prelude.{◌≡◌, false, if◌then◌else◌};
 ghost use Rattle.h26x_receiver.specs.Sequence.{is_expected};
 ghost use Rattle.h26x_receiver.specs.Sequenced.{is_taken};
-ghost use Rattle.h26x_frames.specs.AccessUnit.{is_run_too_long};
+ghost use Rattle.h26x_frames.specs.AccessUnit.{is_following, is_run_too_long};
 
 use h26x_core::PacketError;
 use h26x_receiver::Received;
@@ -17,6 +17,14 @@ pub(crate) fn is_next(expected: Option<u16>, sequence: u16) -> bool
         Some(expected) => sequence == expected,
         None => false,
     }
+}
+
+/// Whether it is known that no packet is missing before a sequence number.
+#[inline]
+pub(crate) fn is_following(is_gap: bool, expected: Option<u16>, sequence: u16) -> bool
+    ensures { result ≡ is_following is_gap expected sequence }
+{
+    !is_gap && is_next(expected, sequence)
 }
 
 /// Whether a packet was taken.

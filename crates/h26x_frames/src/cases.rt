@@ -8,7 +8,7 @@ ghost use Rattle.h26x_frames.specs.Reordering.{empty_buffer, put, in_order, rele
 ghost use Rattle.h26x_frames.specs.ReorderBuffer.{buffer_state, fresh_buffer, push_answer, next_packet, reordered};
 ghost use Rattle.h26x_frames.specs.Network.{IsNetwork, released_packets};
 ghost use Rattle.h26x_frames.specs.Rtp.{rtp_body};
-ghost use Rattle.h26x_frames.specs.AccessUnit.{empty_unit, fresh_units, after_all_rtp, after_end, HaveUnitAnswers};
+ghost use Rattle.h26x_frames.specs.AccessUnit.{empty_unit, fresh_units, after_all_rtp, after_unit_skip, after_end, HaveUnitAnswers};
 ghost use Rattle.h26x_frames.specs.StampedCalls.{stamped_call, call_packets, sent_bodies, unit_left, units_left, sent_unit, sent_units, packets_len, AreApart, AreUnitsWithin, IsStream, IsBroughtStream};
 
 use crate::buffer::Pushed;
@@ -132,6 +132,38 @@ pub fn access_units_by_marker_and_timestamp()
         ((7, rtp_body 3000 true (0x65 ∷ [])) ∷ (8, rtp_body 6000 false (0x61 ∷ [])) ∷ [])
         (Ok Received.InOrder ∷ Ok Received.InOrder ∷ []))).ended
         ≡ (3000, false) ∷ (6000, false) ∷ [] }
+{}
+
+/// Numbers that bear nothing. In order the access unit around one is whole; where another is missing
+/// before it neither the open one is, nor one that begins behind it, but the next one.
+pub fn numbers_skipped_in_access_units()
+    ensures within { map {B = ℕ × Bool} (λ u. (u.timestamp, u.is_whole))
+        (after_all_rtp 4 12 (after_unit_skip
+        (after_all_rtp 4 12 (fresh_units (fresh_depacketizer_state h264))
+        ((65534, rtp_body 3000 true (0x65 ∷ [])) ∷ (65535, rtp_body 6000 false (0x61 ∷ [])) ∷ [])
+        (Ok Received.InOrder ∷ Ok Received.InOrder ∷ [])) 0)
+        ((1, rtp_body 6000 true (0x61 ∷ [])) ∷ []) (Ok Received.InOrder ∷ [])).ended
+        ≡ (3000, false) ∷ (6000, true) ∷ [] }
+    ensures gap_within { map {B = ℕ × Bool} (λ u. (u.timestamp, u.is_whole))
+        (after_all_rtp 4 12 (after_unit_skip
+        (after_all_rtp 4 12 (fresh_units (fresh_depacketizer_state h264))
+        ((65534, rtp_body 3000 true (0x65 ∷ [])) ∷ (65535, rtp_body 6000 false (0x61 ∷ [])) ∷ [])
+        (Ok Received.InOrder ∷ Ok Received.InOrder ∷ [])) 1)
+        ((2, rtp_body 6000 true (0x61 ∷ [])) ∷ (3, rtp_body 9000 true (0x61 ∷ [])) ∷ [])
+        (Ok Received.InOrder ∷ Ok Received.InOrder ∷ [])).ended
+        ≡ (3000, false) ∷ (6000, false) ∷ (9000, true) ∷ [] }
+    ensures gap_before { map {B = ℕ × Bool} (λ u. (u.timestamp, u.is_whole))
+        (after_all_rtp 4 12 (after_unit_skip (after_unit_skip
+        (after_all_rtp 4 12 (fresh_units (fresh_depacketizer_state h264))
+        ((65534, rtp_body 3000 true (0x65 ∷ [])) ∷ []) (Ok Received.InOrder ∷ [])) 0) 1)
+        ((2, rtp_body 6000 true (0x61 ∷ [])) ∷ (3, rtp_body 9000 true (0x61 ∷ [])) ∷ [])
+        (Ok Received.InOrder ∷ Ok Received.InOrder ∷ [])).ended
+        ≡ (3000, false) ∷ (6000, false) ∷ (9000, true) ∷ [] }
+    ensures late { after_unit_skip
+        (after_all_rtp 4 12 (fresh_units (fresh_depacketizer_state h264))
+        ((65534, rtp_body 3000 false (0x65 ∷ [])) ∷ []) (Ok Received.InOrder ∷ [])) 65534
+        ≡ after_all_rtp 4 12 (fresh_units (fresh_depacketizer_state h264))
+        ((65534, rtp_body 3000 false (0x65 ∷ [])) ∷ []) (Ok Received.InOrder ∷ []) }
 {}
 
 /// The text of an open access unit that is as long as the limit stays. One that is longer is given

@@ -52,7 +52,7 @@ pub fn receive_frames<D: RunDepacketizer>(
     // Where they are what a network brings of the packets of calls with timestamps, with losses, in
     // another order and twice, and none is refused: the access units, with the one that is open, are
     // what the packets that came leave of the calls, in order.
-    ensures in_order { receiver.old.unit.unit ≡ None →
+    ensures in_order { receiver.old.unit.is_gap ≡ false → receiver.old.unit.unit ≡ None →
         IfOk result (λ answers. NoneIsRefused answers.items →
         AreAccessUnitsBrought window receiver.old.packets.run_limit receiver.old.unit_limit
         (open_depacketization (D.state receiver.old.packets.depacketizer)

@@ -1,6 +1,6 @@
 //! Laws of the definitions, each the contract of a function without a result.
 
-ghost use Rattle.std.specs.Prelude.{◌≡◌, ◌^◌, ◌<◌, ◌≤◌, ℕ, Bool, List, [], ◌∷◌, None, Some, Result, length};
+ghost use Rattle.std.specs.Prelude.{◌≡◌, ◌^◌, ◌<◌, ◌≤◌, ℕ, Bool, false, true, List, [], ◌∷◌, None, Some, Result, length};
 ghost use Rattle.std.specs.List.{AllByRecursion};
 ghost use Rattle.h26x_core.specs.declared.error.PacketError.{PacketError};
 ghost use Rattle.h26x_model.specs.Payload.Facts.{IsPayloadFormat};
@@ -8,8 +8,9 @@ ghost use Rattle.h26x_model.specs.Send.PacketizerState.{PacketizerState};
 ghost use Rattle.h26x_model.specs.Receive.DepacketizerState.{Depacketization};
 ghost use Rattle.h26x_receiver.specs.declared.received.Received.{Received};
 ghost use Rattle.h26x_receiver.specs.Delivery.{NoneIsRefused};
+ghost use Rattle.h26x_receiver.specs.Sequence.{next_sequence_number, is_expected};
 ghost use Rattle.h26x_frames.specs.Rtp.{RtpBody};
-ghost use Rattle.h26x_frames.specs.AccessUnit.{UnitDepacketization, after_all_rtp, after_end, HaveUnitAnswers};
+ghost use Rattle.h26x_frames.specs.AccessUnit.{UnitDepacketization, after_all_rtp, after_unit_skip, after_end, HaveUnitAnswers};
 ghost use Rattle.h26x_frames.specs.StampedCalls.{StampedCall, sent_bodies, units_left, sent_units, AreStreamed, AreAccessUnitsLeft, AreAccessUnitsBrought, IsSentIfWhole, IsLeftWhole};
 ghost use Rattle.h26x_frames.specs.Network.{UnitsComeThrough};
 ghost use Rattle.h26x_frames.specs.Reordering.{ReordersWithinWindow};
@@ -54,13 +55,21 @@ pub fn units_come_through_a_network()
 pub fn access_units_are_those_left()
     ensures { (most limit : ℕ) (w : UnitDepacketization) (packets : List (ℕ × RtpBody))
         (answers : List (Result Received PacketError)) → IsPayloadFormat w.state.format →
-        w.unit ≡ None → HaveUnitAnswers most limit w packets answers → NoneIsRefused answers →
+        w.is_gap ≡ false → w.unit ≡ None →
+        HaveUnitAnswers most limit w packets answers → NoneIsRefused answers →
         AreAccessUnitsLeft most limit w packets
         (after_end (after_all_rtp most limit w packets answers)).ended }
 {
     model_laws::nothing_is_damaged();
     model_laws::packetizers_go_on();
 }
+
+/// A number that came in order and bears nothing of the stream changes only what is expected next.
+pub fn skipping_in_order_changes_only_the_number()
+    ensures { (s : UnitDepacketization) (number : ℕ) → number < 2 ^ 16 →
+        is_expected s.expected number ≡ true →
+        after_unit_skip s number ≡ record s { expected = Some (next_sequence_number number) } }
+{}
 
 /// What is told to be whole of what packets leave of calls is what was sent: its timestamp, its text
 /// byte for byte, and what is told of it.
@@ -83,7 +92,7 @@ pub fn whole_access_units_are_those_sent()
 pub fn access_units_come_through_a_network()
     ensures { (window most limit : ℕ) (w : UnitDepacketization) (packets : List (ℕ × RtpBody))
         (answers : List (Result Received PacketError)) → 0 < window → window ≤ 2 ^ 14 →
-        IsPayloadFormat w.state.format → w.unit ≡ None →
+        IsPayloadFormat w.state.format → w.is_gap ≡ false → w.unit ≡ None →
         HaveUnitAnswers most limit w (reordered window packets) answers → NoneIsRefused answers →
         AreAccessUnitsBrought window most limit w packets
         (after_end (after_all_rtp most limit w (reordered window packets) answers)).ended }

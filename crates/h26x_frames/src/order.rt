@@ -14,7 +14,7 @@ use std::alloc::{AllocFailed, Global};
 use std::marker::Model;
 
 /// How far ahead of the number that is due a number is taken as behind it: half of the circle (RFC
-/// 3550, A.1).
+/// 1982, 3.2).
 const HALF: u16 = 0x8000;
 
 /// Packets in the order of their numbers, each once, from one that is due on.

@@ -1,12 +1,12 @@
 //! A receiver that gives out access units.
 
-ghost use Rattle.std.specs.Prelude.{◌≡◌, ◌+◌, ◌≤◌, ℕ, true, false, None, Ok, Err, OnOk, OnErr, map, vec_len, vec_capacity, if◌then◌else◌, MatchBool};
+ghost use Rattle.std.specs.Prelude.{◌≡◌, ◌+◌, ◌≤◌, ℕ, List, true, false, None, Ok, Err, OnOk, OnErr, map, vec_len, vec_capacity, if◌then◌else◌, MatchBool};
 ghost use Rattle.h26x_model.specs.Receive.RunLimit.{run_len};
-ghost use Rattle.h26x_receiver.specs.Sequenced.{is_taken};
-ghost use Rattle.h26x_frames.specs.AccessUnit.{access_unit_value, none_open, is_unit_at, open_depacketization, IsTakenAnswer, IsUnitAnswer, after_taken_rtp, after_rtp, after_end, unit_len};
+ghost use Rattle.h26x_receiver.specs.Sequenced.{is_taken, skip_answer, is_run_kept};
+ghost use Rattle.h26x_frames.specs.AccessUnit.{access_unit_value, none_open, is_unit_at, AccessUnitValue, open_depacketization, IsTakenAnswer, IsUnitAnswer, after_taken_rtp, after_rtp, after_unit_skip, after_end, unit_len};
 
 use crate::access_unit::{AccessUnit, OpenAccessUnit, OpenUnit};
-use crate::answers::{is_next, is_sound, was_taken};
+use crate::answers::{is_following, is_next, is_sound, was_taken};
 use crate::packet::RtpPacket;
 use crate::spare::SpareMemory;
 use h26x_core::PacketError;
@@ -77,7 +77,7 @@ fn begin<D: RunDepacketizer>(
     ensures kept { MatchBool (is_taken result) (Unit {0}) ((packets.new ≡ packets.old)
         × (place.new ≡ place.old) × (out.new.items ≡ out.old.items)) }
 {
-    let follows = is_next(packets.expected, packet.sequence);
+    let follows = is_following(place.is_gap(), packets.expected, packet.sequence);
     let mut unit = OpenUnit::new(spare.take(), packet.timestamp);
     let received = packets.receive_in_text(
         packet.sequence,
@@ -223,6 +223,34 @@ impl<D: RunDepacketizer> FrameReceiver<D> {
         let received = take(packets, unit, spare, packet, out);
         if was_taken(&received) {
             self.unit.limit(self.unit_limit);
+        }
+        received
+    }
+
+    /// Passes over a number that came and bears nothing of the stream, as
+    /// [`SequencedDepacketizer::skip`] does: in order the open run and access unit stay. Where others
+    /// before it are missing (`Gap`) the open run is given up, and neither the open access unit nor one
+    /// that the next packet begins is known to be whole. One that is late changes nothing. It takes no
+    /// memory.
+    pub fn skip(&mut self, sequence: u16) -> Received
+        ensures answer { result ≡ skip_answer self.old.packets.expected sequence }
+        ensures after { (ended : List AccessUnitValue) →
+            open_depacketization (D.state self.new.packets.depacketizer)
+            self.new.packets.expected self.new.unit ended
+            ≡ after_unit_skip (open_depacketization (D.state self.old.packets.depacketizer)
+            self.old.packets.expected self.old.unit ended) sequence }
+        ensures rest { self.new.packets.depacketizer ≡ self.old.packets.depacketizer }
+        ensures limit { self.new.packets.run_limit ≡ self.old.packets.run_limit }
+        ensures unit_limit { self.new.unit_limit ≡ self.old.unit_limit }
+
+        // In order, or late, what is open stays.
+        ensures kept { is_run_kept self.old.packets.expected sequence ≡ true →
+            self.new.unit ≡ self.old.unit }
+    {
+        let is_next = is_next(self.packets.expected, sequence);
+        let received = self.packets.skip_in_text(sequence);
+        if received.is_taken() && !is_next {
+            self.unit.break_off();
         }
         received
     }

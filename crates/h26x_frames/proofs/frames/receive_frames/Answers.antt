@@ -80,14 +80,14 @@ returns-clause-received g c =
     (units_to_end most first.unit_limit old (map seen held) c.loop-packet.packet-index c.loop-packet.answers.items new (rw length-map c.loop-packet-test.false) c.loop-packet.invariant.received)
 
 pub returns-clause-in_order : goal.returns-clause-in_order
-returns-clause-in_order g c = λ none_open fine.
+returns-clause-in_order g c = λ clear none_open fine.
     let state = g.D.RunDepacketizer.state in
     let first = c.args.receiver.now in
     let last = c.loop-packet.receiver in
     let old = open_depacketization (state first.packets.depacketizer) first.packets.expected first.unit (map access_unit_value c.args.out.now.items) in
     let new = open_depacketization (state last.packets.depacketizer) last.packets.expected last.unit (map access_unit_value c.loop-packet.out.items) in
     units_brought_by c.args.window first.packets.run_limit first.unit_limit old c.args.packets.now c.loop-packet.answers.items new
-    c.nothing_is_damaged.ensures (λ s ok is. c.packetizers_go_on.ensures.goes_on s ok.limits ok.dons is) c.requires.some c.requires.half c.meets_the_facts.ensures none_open (returns-clause-received g c) fine
+    c.nothing_is_damaged.ensures (λ s ok is. c.packetizers_go_on.ensures.goes_on s ok.limits ok.dons is) c.requires.some c.requires.half c.meets_the_facts.ensures clear none_open (returns-clause-received g c) fine
 
 pub returns-clause-refusals : goal.returns-clause-refusals
 returns-clause-refusals g c =
