@@ -1,7 +1,7 @@
 //! What the laws say of each codec, of lists that nothing is known of: each is called once here, by
 //! a function that has none of its premises left but those of its subject.
 
-ghost use Rattle.std.specs.Prelude.{◌≡◌, ◌≤◌, ◌<◌, ◌+◌, ◌++◌, ℕ, Bool, true, false, List, [], ◌∷◌, None, Some, Result, IsTrue, length, map};
+ghost use Rattle.std.specs.Prelude.{◌≡◌, ◌≤◌, ◌<◌, ◌+◌, ◌++◌, ℕ, Bool, true, false, List, [], ◌∷◌, Option, None, Some, Result, IsTrue, length, map};
 ghost use Rattle.std.specs.List.{AllByRecursion, Contains, list_any, list_all, flat_map, range_with_len};
 ghost use Rattle.h26x_core.specs.Mark.{IsMark};
 ghost use Rattle.h26x_core.specs.ByteStream.{is_not_empty, annex_b};
@@ -244,12 +244,11 @@ pub fn access_units_of_a_stream()
         w.is_gap ≡ false → w.unit ≡ None → w.expected ≡ None →
         HaveUnitAnswers most limit w packets answers → NoneIsRefused answers →
         IsStream s calls first false places packets →
-        AreApart (units_left most s w.state.is_avc false calls
-        (mask_of_places places (length (sent_bodies s calls)))) →
-        AreUnitsWithin limit (units_left most s w.state.is_avc false calls
+        AreApart None s calls (mask_of_places places (length (sent_bodies s calls))) →
+        AreUnitsWithin limit (units_left most s w.state.is_avc false w.closed calls
         (mask_of_places places (length (sent_bodies s calls)))) →
         (after_end (after_all_rtp most limit w packets answers)).ended
-        ≡ w.ended ++ units_left most s w.state.is_avc false calls
+        ≡ w.ended ++ units_left most s w.state.is_avc false w.closed calls
         (mask_of_places places (length (sent_bodies s calls))) }
 {
     formats_meet_the_facts();
@@ -265,12 +264,11 @@ pub fn access_units_through_a_network()
         w.is_gap ≡ false → w.unit ≡ None → w.expected ≡ None →
         HaveUnitAnswers most limit w (reordered 64 packets) answers → NoneIsRefused answers →
         IsBroughtStream 64 s calls first false places packets →
-        AreApart (units_left most s w.state.is_avc false calls
-        (mask_of_places places (length (sent_bodies s calls)))) →
-        AreUnitsWithin limit (units_left most s w.state.is_avc false calls
+        AreApart None s calls (mask_of_places places (length (sent_bodies s calls))) →
+        AreUnitsWithin limit (units_left most s w.state.is_avc false w.closed calls
         (mask_of_places places (length (sent_bodies s calls)))) →
         (after_end (after_all_rtp most limit w (reordered 64 packets) answers)).ended
-        ≡ w.ended ++ units_left most s w.state.is_avc false calls
+        ≡ w.ended ++ units_left most s w.state.is_avc false w.closed calls
         (mask_of_places places (length (sent_bodies s calls))) }
 {
     formats_meet_the_facts();
@@ -281,11 +279,11 @@ pub fn access_units_through_a_network()
 /// packet before them, is told to be whole.
 pub fn whole_access_units()
     ensures sent { (codec : Codec) (has_donl : Bool) (most : ℕ) (s : PacketizerState)
-        (avc before : Bool) (calls : List StampedCall) (mask : List Bool) →
+        (avc before : Bool) (closed : Option ℕ) (calls : List StampedCall) (mask : List Bool) →
         s.format ≡ codec_format codec has_donl → AreStreamed s calls →
         length mask ≡ length (sent_bodies s calls) →
         AllByRecursion (IsSentIfWhole (sent_units s avc calls))
-        (units_left most s avc before calls mask) }
+        (units_left most s avc before closed calls mask) }
     ensures whole { (codec : Codec) (has_donl : Bool) (most : ℕ) (s : PacketizerState) (avc : Bool)
         (c : StampedCall) (mask : List Bool) → s.format ≡ codec_format codec has_donl →
         AreStreamed s (c ∷ []) → length mask ≡ length (call_packets s c.call) →

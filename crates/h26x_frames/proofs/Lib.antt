@@ -6,6 +6,7 @@ pub mod NumberLemmas
 pub mod PlaceShiftLemmas
 pub mod TakeLemmas
 pub mod UnitLemmas
+pub mod UsedLemmas
 pub mod StreamLemmas
 pub mod GivenLemmas
 pub mod OrderedLemmas

@@ -21,7 +21,7 @@ use Rattle.h26x_receiver.proofs.AnswerLemmas.{accepted}
 use Rattle.h26x_receiver.proofs.OrderLemmas.{in_time_taken}
 use Rattle.h26x_frames.specs.Rtp.{RtpBody, rtp_body}
 use Rattle.h26x_frames.specs.AccessUnit.{AccessUnitValue, UnitDepacketization, taken_by, IsTakenAnswer, IsUnitAnswer, given_out, with_unit_within, after_taken_rtp, after_rtp, after_end, after_all_rtp, HaveUnitAnswers}
-use Rattle.h26x_frames.specs.StampedCalls.{sent_bodies, body_of_place, units_left, AreApart, AreUnitsWithin, first_place, AreAccessUnitsLeft}
+use Rattle.h26x_frames.specs.StampedCalls.{sent_bodies, body_of_place, units_left, AreUnitsWithin, first_place, AreAccessUnitsLeft}
 use Rattle.h26x_frames.proofs.UnitLemmas.{after_all_taken, kept_from, AreGapsShort, IsLeftOpen}
 use Rattle.h26x_frames.proofs.StreamLemmas.{GoesOn, over_calls}
 use Rattle.h26x_frames.proofs.GivenLemmas.{given_from, given_all, given_rest, open_within, unit_fits}
@@ -139,21 +139,19 @@ come_in_order most limit w packets answers law on_law ok clear none_open each no
     let sent = sent_bodies s calls in
     let e = first_place known in
     let mask = mask_of_places places (length sent) in
-    let left = units_left most s w.state.is_avc known calls mask in
+    let left = units_left most s w.state.is_avc known w.closed calls mask in
     let long : length mask ≡ length sent = length-map-range_with_len (is_among places) 0 (length sent) in
     let kept = by_mask first sent e 0 (length sent) places (omega arith) (up_from_first e places (up_of e places it.order)) it.order it.sent in
     let packets_kept = kept_from first 0 mask sent in
     let came : packets ≡ packets_kept = it.each ∙ kept.same in
     let all : UnitDepacketization → List AccessUnitValue = λ x. x.ended ++ given_out false x.unit in
     let known_is = first_known known in
-    let over = over_calls most first 0 e s w w.state.is_avc calls mask law on_law (subst (λ (f : Format). IsPayloadFormat f) same ok) it.streamed same refl clear expected 0
-    (subst (λ (x : Option AccessUnitValue). IsLeftOpen 0 x e 0) (sym none_open) tt) (first_on known) kept.gaps long
-    (subst (λ (x : Option AccessUnitValue). AreApart (given_out false x ++ units_left most s w.state.is_avc (is_place e 0) calls mask)) (sym none_open)
-    (subst (λ (b : Bool). AreApart (units_left most s w.state.is_avc b calls mask)) (sym known_is) apart)) in
+    let over = over_calls most first 0 e None w.closed s w w.state.is_avc calls mask law on_law (subst (λ (f : Format). IsPayloadFormat f) same ok) it.streamed same refl clear refl expected
+    (subst (λ (x : Option AccessUnitValue). IsLeftOpen None x e 0) (sym none_open) tt) (first_on known) kept.gaps long apart in
     let whole : all (after_all_taken most w packets_kept) ≡ w.ended ++ left = over
-    ∙ ap (λ (x : Option AccessUnitValue). (w.ended ++ given_out false x) ++ units_left most s w.state.is_avc (is_place e 0) calls mask) none_open
-    ∙ ap (λ (l : List AccessUnitValue). l ++ units_left most s w.state.is_avc (is_place e 0) calls mask) (append-nil w.ended)
-    ∙ ap (λ (b : Bool). w.ended ++ units_left most s w.state.is_avc b calls mask) known_is in
+    ∙ ap (λ (x : Option AccessUnitValue). (w.ended ++ given_out false x) ++ units_left most s w.state.is_avc (is_place e 0) w.closed calls mask) none_open
+    ∙ ap (λ (l : List AccessUnitValue). l ++ units_left most s w.state.is_avc (is_place e 0) w.closed calls mask) (append-nil w.ended)
+    ∙ ap (λ (b : Bool). w.ended ++ units_left most s w.state.is_avc b w.closed calls mask) known_is in
     let given : given_from most w packets_kept ≡ left = append_cancel_left w.ended (given_from most w packets_kept) left (sym (given_all most w packets_kept) ∙ whole) in
     let took = all_taken most limit first e 0 w mask sent answers expected kept.gaps (subst (λ (x : List (ℕ × RtpBody)). HaveUnitAnswers most limit w x answers) came each) none
     (subst (AreUnitsWithin limit) (sym given) within) in

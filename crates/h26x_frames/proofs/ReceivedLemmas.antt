@@ -64,12 +64,12 @@ pub units_brought_by : (window most limit : ℕ) (w : UnitDepacketization) (pack
 units_brought_by window most limit w packets answers new law on_law some half ok clear none_open all none = λ s calls first known places same expected it apart within.
     let sent = sent_bodies s calls in
     let masks : mask_of_places (in_order places) (length sent) ≡ mask_of_places places (length sent) = same_in_range places 0 (length sent) in
-    let left : List Bool → List AccessUnitValue = λ mask. units_left most s w.state.is_avc known calls mask in
+    let left : List Bool → List AccessUnitValue = λ mask. units_left most s w.state.is_avc known w.closed calls mask in
     let ordered = come_in_order most limit w (reordered window packets) answers law on_law ok clear none_open all.each none s calls first known (in_order places) same expected (record {
       streamed = it.streamed;
       each = put_in_order_all window packets some half (λ place. slice_index_or sent place nothing) first places it.each it.near;
       sent = puts_below (length sent) places [] it.sent tt;
       order = it.gaps;
-    }) (subst (λ (mask : List Bool). AreApart (left mask)) (sym masks) apart)
+    }) (subst (AreApart None s calls) (sym masks) apart)
     (subst (λ (mask : List Bool). AreUnitsWithin limit (left mask)) (sym masks) within) in
     ap (λ (x : UnitDepacketization). x.ended ++ given_out false x.unit) all.stands ∙ ordered ∙ ap (λ (mask : List Bool). w.ended ++ left mask) masks

@@ -18,10 +18,11 @@ use Rattle.h26x_model.specs.Carry.Laws.{PacketizerGoesOn}
 use Rattle.h26x_receiver.proofs.PlaceLemmas.{number_at, expected_at, is_place, IsOn}
 use Rattle.h26x_receiver.proofs.DeliveryLemmas.{DamagesNothing}
 use Rattle.h26x_frames.specs.Rtp.{RtpBody}
-use Rattle.h26x_frames.specs.AccessUnit.{AccessUnitValue, whole_if, UnitDepacketization, unit_depacketization, is_unit_at, given_out}
-use Rattle.h26x_frames.specs.StampedCalls.{StampedCall, calls_of, call_packets, after_call, unit_bodies, sent_bodies, are_runs_within, unit_left, last_came, units_left, AreApart, AreStreamed}
+use Rattle.h26x_frames.specs.AccessUnit.{AccessUnitValue, UnitDepacketization, is_unit_at, is_closed_at, given_out}
+use Rattle.h26x_frames.specs.StampedCalls.{StampedCall, calls_of, call_packets, after_call, unit_bodies, sent_bodies, are_runs_within, unit_left, last_came, closed_after, open_after, units_left, IsOtherStamp, AreApart, AreStreamed}
 use Rattle.h26x_frames.proofs.TakeLemmas.{at_gap}
-use Rattle.h26x_frames.proofs.UnitLemmas.{after_all_taken, taken_append, kept_from, expected_after, AreGapsShort, same_place, not_place, behind_next, on_next, IsLeftOpen, left_more, grown, begun, IsLeft, begins}
+use Rattle.h26x_frames.proofs.UnitLemmas.{after_all_taken, taken_append, kept_from, expected_after, AreGapsShort, same_place, not_place, behind_next, on_next, are_used, IsLeftOpen, left_more, grown, begun, IsLeft, begins}
+use Rattle.h26x_frames.proofs.UsedLemmas.{calls_used}
 
 -- the packets kept of some, and of others behind them
 kept_append : (first p q : ℕ) (mask : List Bool) (a b : List RtpBody) → q ≡ p + length a → length a ≤ length mask →
@@ -69,46 +70,34 @@ pub bodies_long : (t : ℕ) (packets : List (List ℕ)) → length (unit_bodies 
 bodies_long t [] = refl
 bodies_long t (x ∷ packets) = let rest = bodies_long t packets in omega (arith, rest)
 
--- timestamps alone tell units apart
-apart_as : (u v : AccessUnitValue) (units : List AccessUnitValue) → u.timestamp ≡ v.timestamp → AreApart (u ∷ units) → AreApart (v ∷ units)
-apart_as u v [] same apart = tt
-apart_as u v (n ∷ units) same apart = ((λ e. apart.0 (same ∙ e)), apart.1)
-
-apart_rest : (u : AccessUnitValue) (units : List AccessUnitValue) → AreApart (u ∷ units) → AreApart units
-apart_rest u [] apart = tt
-apart_rest u (n ∷ units) apart = apart.1
-
 -- what is open is another one than the next
-apart_other : (b : Bool) (unit : Option AccessUnitValue) (u : AccessUnitValue) (units : List AccessUnitValue) → AreApart (given_out b unit ++ u ∷ units) → is_unit_at unit u.timestamp ≡ false
-apart_other b None u units apart = refl
-apart_other b (Some v) u units apart = let other = apart.0 in grind (arith, nat_tests, other)
-
--- and what is left open is told apart from the rest as the unit given out is
-apart_left : (t : ℕ) (e : Option ℕ) (q : ℕ) (old new : Option AccessUnitValue) (u : AccessUnitValue) (units : List AccessUnitValue) → IsLeftOpen t new e q → u.timestamp ≡ t →
-    AreApart (given_out false old ++ u ∷ units) → AreApart (given_out false new ++ units)
-apart_left t e q None None u units left is apart = apart_rest u units apart
-apart_left t e q None (Some v) u units left is apart = apart_as u (whole_if false v) units (is ∙ sym left.0) apart
-apart_left t e q (Some w) None u units left is apart = apart_rest u units apart.1
-apart_left t e q (Some w) (Some v) u units left is apart = apart_as u (whole_if false v) units (is ∙ sym left.0) apart.1
+other_unit : (stamp : Option ℕ) (unit : Option AccessUnitValue) (e : Option ℕ) (p t : ℕ) → IsLeftOpen stamp unit e p → IsOtherStamp stamp t → is_unit_at unit t ≡ false
+other_unit stamp None e p t left other = refl
+other_unit stamp (Some v) e p t left other = let apart = subst (λ (o : Option ℕ). IsOtherStamp o t) left.0 other in grind (arith, nat_tests, apart)
 
 -- a receiver after a call, whether or not anything of it came
-record IsCallOver (most first : ℕ) (e : Option ℕ) (q : ℕ) (f : Format) (avc : Bool) (old : UnitDepacketization) (units : List AccessUnitValue) (new : UnitDepacketization) : Type 0 where
+record IsCallOver (first : ℕ) (e : Option ℕ) (q : ℕ) (stamp closed : Option ℕ) (f : Format) (avc : Bool) (old : UnitDepacketization) (units : List AccessUnitValue) (new : UnitDepacketization) : Type 0 where
   all : new.ended ++ given_out false new.unit ≡ (old.ended ++ given_out false old.unit) ++ units
   expected : new.expected ≡ expected_at first e
   gap : new.is_gap ≡ false
-  left : (t : ℕ) × IsLeftOpen t new.unit e q
-  apart : (rest : List AccessUnitValue) → AreApart (given_out false old.unit ++ (units ++ rest)) → AreApart (given_out false new.unit ++ rest)
+  closed_is : new.closed ≡ closed
+  left : IsLeftOpen stamp new.unit e q
   format : new.state.format ≡ f
   avc_is : new.state.is_avc ≡ avc
 
+and_true : (a b : Bool) → b ≡ true → (a && b) ≡ a
+and_true true b is = is
+and_true false b is = refl
+
 -- the text of what is left of a call
 left_of_call : (most : ℕ) (s : PacketizerState) (w : UnitDepacketization) (avc : Bool) (c : StampedCall) (before : Bool) (mask : List Bool) →
-    w.state.format ≡ s.format → w.state.is_avc ≡ avc → list_any (λ came. came) mask ≡ true → WritesWholeUnits most s (begun w) (c.call ∷ []) mask →
+    w.state.format ≡ s.format → w.state.is_avc ≡ avc → list_any (λ came. came) mask ≡ true → are_used s.format None (call_packets s c.call) ≡ true → WritesWholeUnits most s (begun w) (c.call ∷ []) mask →
     grown most c.timestamp true before (begun w) mask (call_packets s c.call) ∷ [] ≡ unit_left most s avc before c mask
-left_of_call most s w avc c before mask same form some whole =
+left_of_call most s w avc c before mask same form some used whole =
     let units = whole_units most s (c.call ∷ []) mask in
     let packets = call_packets s c.call in
-    let holds : Format → Bool = λ f. before && (list_all (λ came. came) mask && are_runs_within f most None packets) in
+    let runs : Format → Bool = λ f. are_runs_within f most None packets in
+    let holds : Format → Bool = λ f. before && (list_all (λ came. came) mask && (runs f && are_used f None packets)) in
     let value : List ℕ → CodecExtra → Bool → AccessUnitValue = λ text told is. record {
       timestamp = c.timestamp;
       bytes = text;
@@ -120,56 +109,58 @@ left_of_call most s w avc c before mask same form some whole =
     ∙ ap (λ (x : CodecExtra). value (byte_stream w.state.is_avc units) x (holds w.state.format) ∷ []) whole.told
     ∙ ap (λ (a : Bool). value (byte_stream a units) (extra_after w.state.format extras.None units) (holds w.state.format) ∷ []) form
     ∙ ap (λ (f : Format). value (byte_stream avc units) (extra_after f extras.None units) (holds f) ∷ []) same
-    ∙ ap (λ (b : Bool). cond b (value (byte_stream avc units) (extra_after s.format extras.None units) (holds s.format) ∷ []) []) (sym some)
+    ∙ ap (λ (b : Bool). value (byte_stream avc units) (extra_after s.format extras.None units) (before && (list_all (λ came. came) mask && b)) ∷ []) (and_true (runs s.format) (are_used s.format None packets) used)
+    ∙ ap (λ (b : Bool). cond b (value (byte_stream avc units) (extra_after s.format extras.None units) (before && (list_all (λ came. came) mask && runs s.format)) ∷ []) []) (sym some)
 
 -- the packets of one call
-over_call : (most first p q : ℕ) (e : Option ℕ) (s : PacketizerState) (w : UnitDepacketization) (avc : Bool) (c : StampedCall) (rest : List AccessUnitValue) (mask : List Bool) →
+over_call : (most first p q : ℕ) (e stamp closed : Option ℕ) (s : PacketizerState) (w : UnitDepacketization) (avc : Bool) (c : StampedCall) (mask : List Bool) →
     DamagesNothing → IsPayloadFormat s.format → IsPacketizerState s → AreCalls (c.call ∷ []) → AreCarried s.format (state_units s (all_entries s.format (c.call ∷ []))) →
-    w.state.format ≡ s.format → w.state.is_avc ≡ avc → w.is_gap ≡ false → w.expected ≡ expected_at first e → (t : ℕ) → IsLeftOpen t w.unit e p → IsOn e p → AreGapsShort e p mask →
-    length mask ≡ length (call_packets s c.call) → q ≡ p + length (call_packets s c.call) →
-    AreApart (given_out false w.unit ++ (unit_left most s avc (is_place e p) c mask ++ rest)) →
-    IsCallOver most first (expected_after e p mask) q s.format avc w (unit_left most s avc (is_place e p) c mask)
+    w.state.format ≡ s.format → w.state.is_avc ≡ avc → w.is_gap ≡ false → w.closed ≡ closed → w.expected ≡ expected_at first e → IsLeftOpen stamp w.unit e p → IsOn e p → AreGapsShort e p mask →
+    length mask ≡ length (call_packets s c.call) → q ≡ p + length (call_packets s c.call) → (list_any (λ came. came) mask ≡ true → IsOtherStamp stamp c.timestamp) →
+    IsCallOver first (expected_after e p mask) q (open_after stamp c.timestamp mask) (closed_after closed c.timestamp mask) s.format avc w
+    (unit_left most s avc (cond (is_closed_at closed c.timestamp) false (is_place e p)) c mask)
     (after_all_taken most w (kept_from first p mask (unit_bodies c.timestamp (call_packets s c.call))))
-over_call most first p q e s w avc c rest mask law ok is small carried same form clear expected t left on gaps long count apart =
+over_call most first p q e stamp closed s w avc c mask law ok is small carried same form clear shut expected left on gaps long count apart =
     let packets = call_packets s c.call in
-    let before = is_place e p in
-    let kept = kept_from first p mask (unit_bodies c.timestamp packets) in
+    let t = c.timestamp in
+    let before = cond (is_closed_at closed t) false (is_place e p) in
+    let last = last_came false mask in
+    let kept = kept_from first p mask (unit_bodies t packets) in
     let new = after_all_taken most w kept in
     elim (list_any (λ came. came) mask) as (λ b. list_any (λ came. came) mask ≡ b →
-    IsCallOver most first (expected_after e p mask) q s.format avc w (unit_left most s avc before c mask) new) [
+    IsCallOver first (expected_after e p mask) q (cond b (cond last None (Some t)) stamp) (cond b (cond last (Some t) None) closed) s.format avc w (unit_left most s avc before c mask) new) [
       | true ↦ λ some.
           let whole = law most s (begun w) (c.call ∷ []) ok is small same carried mask long in
-          let u = grown most c.timestamp true before (begun w) mask packets in
-          let value = left_of_call most s w avc c before mask same form some whole in
-          let all_apart : AreApart (given_out false w.unit ++ (u ∷ rest)) =
-          subst (λ (l : List AccessUnitValue). AreApart (given_out false w.unit ++ (l ++ rest))) (sym value) apart in
-          let after : IsLeft first c.timestamp (expected_after e p mask) q w.state.format w.state.is_avc ((w.ended ++ given_out false w.unit) ++ u ∷ []) new =
-          subst (λ (g : Bool). IsLeft first c.timestamp (expected_after e p mask) q w.state.format w.state.is_avc ((w.ended ++ given_out false w.unit) ++ u ∷ [])
-          (after_all_taken most (at_gap g w.state w.expected w.unit w.ended) kept)) (sym clear)
-          (subst (λ (x : Option ℕ). IsLeft first c.timestamp (expected_after e p mask) q w.state.format w.state.is_avc ((w.ended ++ given_out false w.unit) ++ u ∷ [])
-          (after_all_taken most (unit_depacketization w.state x w.unit w.ended) kept)) (sym expected)
-          (begins most first p q c.timestamp t e w.state w.unit w.ended mask packets long count some (apart_other false w.unit u rest all_apart) left gaps on)) in
-          subst (λ (l : List AccessUnitValue). IsCallOver most first (expected_after e p mask) q s.format avc w l new) value (record {
+          let u = grown most t true before (begun w) mask packets in
+          let value = left_of_call most s w avc c before mask same form some (calls_used s c.call ok is small carried) whole in
+          let rebuilt : at_gap false closed w.state (expected_at first e) w.unit w.ended ≡ w =
+          ap (λ (g : Bool). at_gap g closed w.state (expected_at first e) w.unit w.ended) (sym clear)
+          ∙ ap (λ (k : Option ℕ). at_gap w.is_gap k w.state (expected_at first e) w.unit w.ended) (sym shut)
+          ∙ ap (λ (x : Option ℕ). at_gap w.is_gap w.closed w.state x w.unit w.ended) (sym expected) in
+          let after : IsLeft first t last (expected_after e p mask) q w.state.format w.state.is_avc ((w.ended ++ given_out false w.unit) ++ u ∷ []) new =
+          subst (λ (v : UnitDepacketization). IsLeft first t last (expected_after e p mask) q w.state.format w.state.is_avc ((w.ended ++ given_out false w.unit) ++ u ∷ []) (after_all_taken most v kept)) rebuilt
+          (begins most first p q t stamp closed e w.state w.unit w.ended mask packets long count some (other_unit stamp w.unit e p t left (apart some)) left gaps on) in
+          subst (λ (l : List AccessUnitValue). IsCallOver first (expected_after e p mask) q (cond last None (Some t)) (cond last (Some t) None) s.format avc w l new) value (record {
             all = after.all;
             expected = after.expected;
             gap = after.gap;
-            left = (c.timestamp, after.open_unit);
-            apart = λ others a. apart_left c.timestamp (expected_after e p mask) q w.unit new.unit u others after.open_unit refl a;
+            closed_is = after.closed;
+            left = after.open_unit;
             format = after.format ∙ same;
             avc_is = after.avc_is ∙ form;
           })
       | false ↦ λ none.
-          let no = none_kept first p e mask (unit_bodies c.timestamp packets) none in
+          let no = none_kept first p e mask (unit_bodies t packets) none in
           let stays : new ≡ w = ap (after_all_taken most w) no.0 in
           let empty : unit_left most s avc before c mask ≡ [] = rw none refl in
-          subst (λ (l : List AccessUnitValue). IsCallOver most first (expected_after e p mask) q s.format avc w l new) (sym empty)
-          (subst (λ (n : UnitDepacketization). IsCallOver most first (expected_after e p mask) q s.format avc w [] n) (sym stays)
-          (subst (λ (x : Option ℕ). IsCallOver most first x q s.format avc w [] w) (sym no.1) (record {
+          subst (λ (l : List AccessUnitValue). IsCallOver first (expected_after e p mask) q stamp closed s.format avc w l new) (sym empty)
+          (subst (λ (n : UnitDepacketization). IsCallOver first (expected_after e p mask) q stamp closed s.format avc w [] n) (sym stays)
+          (subst (λ (x : Option ℕ). IsCallOver first x q stamp closed s.format avc w [] w) (sym no.1) (record {
             all = sym (append-nil (w.ended ++ given_out false w.unit));
             expected = expected;
             gap = clear;
-            left = (t, left_more t p q e w.unit (omega arith) left);
-            apart = λ others a. a;
+            closed_is = shut;
+            left = left_more stamp p q e w.unit (omega arith) left;
             format = same;
             avc_is = form;
           })))
@@ -221,17 +212,15 @@ next_call s c calls on_law ok it =
     }
 
 -- the packets of calls
-pub over_calls : (most first p : ℕ) (e : Option ℕ) (s : PacketizerState) (w : UnitDepacketization) (avc : Bool) (calls : List StampedCall) (mask : List Bool) →
+pub over_calls : (most first p : ℕ) (e stamp closed : Option ℕ) (s : PacketizerState) (w : UnitDepacketization) (avc : Bool) (calls : List StampedCall) (mask : List Bool) →
     DamagesNothing → GoesOn → IsPayloadFormat s.format → AreStreamed s calls →
-    w.state.format ≡ s.format → w.state.is_avc ≡ avc → w.is_gap ≡ false → w.expected ≡ expected_at first e → (t : ℕ) → IsLeftOpen t w.unit e p → IsOn e p → AreGapsShort e p mask →
-    length mask ≡ length (sent_bodies s calls) →
-    AreApart (given_out false w.unit ++ units_left most s avc (is_place e p) calls mask) →
+    w.state.format ≡ s.format → w.state.is_avc ≡ avc → w.is_gap ≡ false → w.closed ≡ closed → w.expected ≡ expected_at first e → IsLeftOpen stamp w.unit e p → IsOn e p → AreGapsShort e p mask →
+    length mask ≡ length (sent_bodies s calls) → AreApart stamp s calls mask →
     (let new = after_all_taken most w (kept_from first p mask (sent_bodies s calls)) in
-    new.ended ++ given_out false new.unit ≡ (w.ended ++ given_out false w.unit) ++ units_left most s avc (is_place e p) calls mask)
-over_calls most first p e s w avc [] [] law on_law ok it same form clear expected t left on gaps long apart = sym (append-nil (w.ended ++ given_out false w.unit))
-over_calls most first p e s w avc [] (m ∷ mask) law on_law ok it same form clear expected t left on gaps long apart = absurd (omega arith)
-over_calls most first p e s w avc (c ∷ calls) mask law on_law ok it same form clear expected t left on gaps long apart =
-    let f = s.format in
+    new.ended ++ given_out false new.unit ≡ (w.ended ++ given_out false w.unit) ++ units_left most s avc (is_place e p) closed calls mask)
+over_calls most first p e stamp closed s w avc [] [] law on_law ok it same form clear shut expected left on gaps long apart = sym (append-nil (w.ended ++ given_out false w.unit))
+over_calls most first p e stamp closed s w avc [] (m ∷ mask) law on_law ok it same form clear shut expected left on gaps long apart = absurd (omega arith)
+over_calls most first p e stamp closed s w avc (c ∷ calls) mask law on_law ok it same form clear shut expected left on gaps long apart =
     let packets = call_packets s c.call in
     let n = length packets in
     let here = unit_bodies c.timestamp packets in
@@ -248,13 +237,13 @@ over_calls most first p e s w avc (c ∷ calls) mask law on_law ok it same form 
     let split = next_call s c calls on_law ok it in
     let after_e = on_after e p q front (omega (arith, parts.0)) on in
     let e_next = expected_after e p front in
-    let left_later = units_left most next avc (last_came before front) calls back in
-    let over = over_call most first p q e s w avc c left_later front law ok it.sender (it.calls_are.0, tt) split.carried
-    same form clear expected t left on (gaps_front n e p mask gaps) parts.0 refl apart in
+    let closed_next = closed_after closed c.timestamp front in
+    let left_later = units_left most next avc (last_came before front) closed_next calls back in
+    let over = over_call most first p q e stamp closed s w avc c front law ok it.sender (it.calls_are.0, tt) split.carried
+    same form clear shut expected left on (gaps_front n e p mask gaps) parts.0 refl apart.0 in
     let mid = after_all_taken most w (kept_from first p front here) in
-    let same_before = after_e.1 in
-    let rest = over_calls most first q e_next next mid avc calls back law on_law ok split.streamed over.format over.avc_is over.gap over.expected over.left.0 over.left.1 after_e.0 (gaps_rest n e p q mask refl (omega (arith, total)) gaps) parts.1
-    (subst (λ (b : Bool). AreApart (given_out false mid.unit ++ units_left most next avc b calls back)) (sym same_before) (over.apart left_later apart)) in
+    let rest = over_calls most first q e_next (open_after stamp c.timestamp front) closed_next next mid avc calls back law on_law ok split.streamed over.format over.avc_is over.gap over.closed_is over.expected over.left after_e.0
+    (gaps_rest n e p q mask refl (omega (arith, total)) gaps) parts.1 apart.1 in
     let kept : kept_from first p mask (here ++ later) ≡ kept_from first p front here ++ kept_from first q back later =
     kept_append first p q mask here later (omega (arith, many)) (omega (arith, many, total))
     ∙ ap (λ (k : ℕ). kept_from first p (take k mask) here ++ kept_from first q (drop k mask) later) many in
@@ -262,6 +251,6 @@ over_calls most first p e s w avc (c ∷ calls) mask law on_law ok it same form 
     ap (λ (l : List (ℕ × RtpBody)). all (after_all_taken most w l)) kept
     ∙ ap all (taken_append most w (kept_from first p front here) (kept_from first q back later))
     ∙ rest
-    ∙ ap (λ (b : Bool). all mid ++ units_left most next avc b calls back) same_before
+    ∙ ap (λ (b : Bool). all mid ++ units_left most next avc b closed_next calls back) after_e.1
     ∙ ap (λ (l : List AccessUnitValue). l ++ left_later) over.all
-    ∙ append_assoc (all w) (unit_left most s avc before c front) left_later
+    ∙ append_assoc (all w) (unit_left most s avc (cond (is_closed_at closed c.timestamp) false before) c front) left_later

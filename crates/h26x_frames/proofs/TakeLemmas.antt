@@ -1,18 +1,20 @@
 -- What one packet that was taken leaves.
-use Rattle.std.proofs.Common.{◌≡◌, ℕ, Bool, true, false, cond, List, [], ◌∷◌, ◌++◌, Option, Some, None, Result, Ok, Err, refl, sym, ap, ◌∙◌}
-use Rattle.std.specs.Prelude.{◌==◌, nat_lt, unwrap_or, MatchBool, IfOk}
+use Rattle.std.proofs.Common.{◌≡◌, ℕ, Bool, true, false, cond, eq-eqb, length, List, [], ◌∷◌, ◌++◌, Option, Some, None, Result, Ok, Err, refl, sym, ap, ◌∙◌, arith}
+use Rattle.std.specs.Prelude.{◌==◌, ◌&&◌, nat_lt, unwrap_or, MatchBool, IfOk}
+use Rattle.std.specs.Option.{option_map}
 use Rattle.std.proofs.lemmas.List.{append-nil}
+use Rattle.std.proofs.lemmas.Bool.Decides.{nat_tests}
 use Rattle.h26x_core.specs.declared.error.PacketError.{PacketError}
 use Rattle.h26x_core.specs.declared.extra.CodecExtra.TheVariants as extras
 use Rattle.h26x_model.specs.Receive.DepacketizerState.{DepacketizerState}
-use Rattle.h26x_model.specs.Receive.RunLimit.{run_len, state_with_run}
+use Rattle.h26x_model.specs.Receive.RunLimit.{run_len, run_within, state_with_run}
 use Rattle.h26x_receiver.specs.declared.received.Received.{Received}
 use Rattle.h26x_receiver.specs.declared.received.Received.TheVariants.{InOrder, Gap, TooLong, Late}
 use Rattle.h26x_receiver.specs.Sequence.{missing_count, distance_behind, is_late}
 use Rattle.h26x_receiver.specs.Sequenced.{SequencedDepacketization, sequenced_depacketization, after_sequenced_packet, after_taken_packet, answer_by_missing, is_taken, IsSequencedAnswer, after_answer}
 use Rattle.h26x_receiver.proofs.AnswerLemmas.{accepted}
 use Rattle.h26x_frames.specs.Rtp.{RtpBody, rtp_body}
-use Rattle.h26x_frames.specs.AccessUnit.{AccessUnitValue, OpenUnitView, empty_unit, whole_if, UnitDepacketization, unit_depacketization, open_depacketization, is_unit_at, taken_by, unit_with, given_out, is_run_too_long, is_following, after_taken_rtp}
+use Rattle.h26x_frames.specs.AccessUnit.{AccessUnitValue, OpenUnitView, empty_unit, whole_if, UnitDepacketization, open_depacketization, is_unit_at, taken_by, unit_with, given_out, is_run_too_long, is_following, is_run_closed, is_dropped, after_taken_rtp}
 
 -- an answer says whether the run was too long
 long_of : (lost : ℕ) (long : Bool) → is_run_too_long (accepted (answer_by_missing lost long)) ≡ long
@@ -45,69 +47,138 @@ abbrev pub filled : AccessUnitValue → SequencedDepacketization → AccessUnitV
 filled unit work = record unit { bytes = work.at_work.out; extra = work.at_work.extra }
 
 -- a receiver with this access unit, which has ended or not
-abbrev pub with_unit : SequencedDepacketization → List AccessUnitValue → Bool → AccessUnitValue → UnitDepacketization
-with_unit work ended marker unit = unit_depacketization work.at_work.state work.expected (cond marker None (Some unit)) (ended ++ cond marker (unit ∷ []) [])
+abbrev pub with_unit : SequencedDepacketization → List AccessUnitValue → ℕ → Bool → AccessUnitValue → UnitDepacketization
+with_unit work ended t marker unit = record {
+  state = work.at_work.state;
+  expected = work.expected;
+  is_gap = false;
+  closed = cond marker (Some t) None;
+  unit = cond marker None (Some unit);
+  ended = ended ++ cond marker (whole_if (is_run_closed work.at_work.state.run) unit ∷ []) [];
+}
 
 -- a receiver of these parts
-abbrev pub at_gap : Bool → DepacketizerState → Option ℕ → Option AccessUnitValue → List AccessUnitValue → UnitDepacketization
-at_gap gap state expected unit ended = record {
+abbrev pub at_gap : Bool → Option ℕ → DepacketizerState → Option ℕ → Option AccessUnitValue → List AccessUnitValue → UnitDepacketization
+at_gap gap closed state expected unit ended = record {
   state = state;
   expected = expected;
   is_gap = gap;
+  closed = closed;
   unit = unit;
   ended = ended;
 }
 
+-- what a packet leaves sound, by whether it follows the one before it
+abbrev sound_by : ℕ → SequencedDepacketization → ℕ × RtpBody → Bool → Bool
+sound_by most s p follow = let w = after_sequenced_packet s p.0 p.1.payload in
+    cond (nat_lt most (run_len w.state.run)) false (cond (is_dropped s.at_work w) false follow)
+
 -- one that begins an access unit
-first_taken : (most : ℕ) (gap : Bool) (state : DepacketizerState) (expected : Option ℕ) (unit : Option AccessUnitValue) (ended : List AccessUnitValue) (p : ℕ × RtpBody) → is_unit_at unit p.1.timestamp ≡ false →
+first_taken : (most : ℕ) (gap : Bool) (closed : Option ℕ) (state : DepacketizerState) (expected : Option ℕ) (unit : Option AccessUnitValue) (ended : List AccessUnitValue) (p : ℕ × RtpBody) →
+    is_unit_at unit p.1.timestamp ≡ false →
     (let s = sequenced_depacketization (state_with_run state None) expected [] extras.None in
     let work = after_taken_packet most s p.0 p.1.payload in
-    with_unit work (ended ++ given_out (is_following gap expected p.0) unit) p.1.marker
-    (whole_if (cond (nat_lt most (run_len (after_sequenced_packet s p.0 p.1.payload).state.run)) false (is_following gap expected p.0)) (filled (empty_unit p.1.timestamp) work))
-    ≡ after_taken_rtp most (at_gap gap state expected unit ended) p)
-first_taken most gap state expected None ended p other = refl
-first_taken most gap state expected (Some u) ended p other = rw other refl
+    let follow = is_following gap closed expected p.1.timestamp p.0 in
+    with_unit work (ended ++ given_out (follow && is_run_closed state.run) unit) p.1.timestamp p.1.marker (whole_if (sound_by most s p follow) (filled (empty_unit p.1.timestamp) work))
+    ≡ after_taken_rtp most (at_gap gap closed state expected unit ended) p)
+first_taken most gap closed state expected None ended p other = refl
+first_taken most gap closed state expected (Some u) ended p other = rw other refl
+
+-- a run that is measured is closed where it was, if it is not too long
+limited_same : (most : ℕ) (run : Option (List ℕ)) (same follow : Bool) →
+    cond (nat_lt most (run_len run)) false (cond (same && is_run_closed (run_within most run)) false follow) ≡ cond (nat_lt most (run_len run)) false (cond (same && is_run_closed run) false follow)
+limited_same most None same follow = refl
+limited_same most (Some run) same follow = elim (nat_lt most (length run)) as (λ b.
+    cond b false (cond (same && is_run_closed (cond b None (Some run))) false follow) ≡ cond b false (cond (same && is_run_closed (Some run)) false follow)) [ true ↦ refl | false ↦ refl ]
 
 -- what a packet was taken by, and what is known of it then
-record WasTaken (most : ℕ) (gap : Bool) (s : SequencedDepacketization) (p : ℕ × RtpBody) (r : Result Received PacketError) (sound : Bool) (work : SequencedDepacketization) : Type 0 where
+record WasTaken (most : ℕ) (follow : Bool) (s : SequencedDepacketization) (p : ℕ × RtpBody) (r : Result Received PacketError) (sound : Bool) (work : SequencedDepacketization) : Type 0 where
   pub taken : is_taken r ≡ true
   pub answer : IsSequencedAnswer most s p.0 p.1.payload r
   pub work_is : work ≡ after_taken_packet most s p.0 p.1.payload
-  pub sound_is : sound ≡ cond (is_run_too_long r) false (is_following gap s.expected p.0)
+  pub sound_is : sound ≡ cond (is_run_too_long r) false (cond ((length s.at_work.out == length work.at_work.out) && is_run_closed work.at_work.state.run) false follow)
 
-sound_at : (most : ℕ) (gap : Bool) (s : SequencedDepacketization) (p : ℕ × RtpBody) (r : Result Received PacketError) (sound : Bool) (work : SequencedDepacketization) → WasTaken most gap s p r sound work →
-    sound ≡ cond (nat_lt most (run_len (after_sequenced_packet s p.0 p.1.payload).state.run)) false (is_following gap s.expected p.0)
-sound_at most gap s p r sound work it = it.sound_is ∙ ap (λ (b : Bool). cond b false (is_following gap s.expected p.0)) (answer_long most s p.0 p.1.payload r it.taken it.answer)
+sound_at : (most : ℕ) (follow : Bool) (s : SequencedDepacketization) (p : ℕ × RtpBody) (r : Result Received PacketError) (sound : Bool) (work : SequencedDepacketization) → WasTaken most follow s p r sound work →
+    sound ≡ sound_by most s p follow
+sound_at most follow s p r sound work it =
+    let drops : SequencedDepacketization → Bool = λ w. (length s.at_work.out == length w.at_work.out) && is_run_closed w.at_work.state.run in
+    let w = after_sequenced_packet s p.0 p.1.payload in
+    it.sound_is
+    ∙ ap (λ (b : Bool). cond b false (cond (drops work) false follow)) (answer_long most s p.0 p.1.payload r it.taken it.answer)
+    ∙ ap (λ (v : SequencedDepacketization). cond (nat_lt most (run_len w.state.run)) false (cond (drops v) false follow)) it.work_is
+    ∙ limited_same most w.state.run (length s.at_work.out == length w.out) follow
 
-pub begins_taken : (most : ℕ) (gap : Bool) (state : DepacketizerState) (expected : Option ℕ) (unit : Option AccessUnitValue) (ended : List AccessUnitValue) (p : ℕ × RtpBody) (r : Result Received PacketError)
-    (sound : Bool) (work : SequencedDepacketization) → is_unit_at unit p.1.timestamp ≡ false → is_taken r ≡ true →
-    IsSequencedAnswer most (sequenced_depacketization (state_with_run state None) expected [] extras.None) p.0 p.1.payload r →
-    work ≡ after_taken_packet most (sequenced_depacketization (state_with_run state None) expected [] extras.None) p.0 p.1.payload → sound ≡ cond (is_run_too_long r) false (is_following gap expected p.0) →
-    with_unit work (ended ++ given_out (is_following gap expected p.0) unit) p.1.marker (whole_if sound (filled (empty_unit p.1.timestamp) work)) ≡ after_taken_rtp most (at_gap gap state expected unit ended) p
-begins_taken most gap state expected unit ended p r sound work other taken answer work_is sound_is =
+pub begins_taken : (most : ℕ) (gap : Bool) (closed : Option ℕ) (state : DepacketizerState) (expected : Option ℕ) (unit : Option AccessUnitValue) (ended : List AccessUnitValue) (p : ℕ × RtpBody)
+    (r : Result Received PacketError) (sound : Bool) (work : SequencedDepacketization) → is_unit_at unit p.1.timestamp ≡ false → is_taken r ≡ true →
+    (let s = sequenced_depacketization (state_with_run state None) expected [] extras.None in
+    let follow = is_following gap closed expected p.1.timestamp p.0 in
+    IsSequencedAnswer most s p.0 p.1.payload r → work ≡ after_taken_packet most s p.0 p.1.payload →
+    sound ≡ cond (is_run_too_long r) false (cond ((0 == length work.at_work.out) && is_run_closed work.at_work.state.run) false follow) →
+    with_unit work (ended ++ given_out (follow && is_run_closed state.run) unit) p.1.timestamp p.1.marker (whole_if sound (filled (empty_unit p.1.timestamp) work))
+    ≡ after_taken_rtp most (at_gap gap closed state expected unit ended) p)
+begins_taken most gap closed state expected unit ended p r sound work other taken answer work_is sound_is =
     let s = sequenced_depacketization (state_with_run state None) expected [] extras.None in
-    let it : WasTaken most gap s p r sound work = record { taken = taken; answer = answer; work_is = work_is; sound_is = sound_is } in
-    let before = ended ++ given_out (is_following gap expected p.0) unit in
-    ap (λ (w : SequencedDepacketization). with_unit w before p.1.marker (whole_if sound (filled (empty_unit p.1.timestamp) w))) it.work_is
-    ∙ ap (λ (b : Bool). with_unit (after_taken_packet most s p.0 p.1.payload) before p.1.marker (whole_if b (filled (empty_unit p.1.timestamp) (after_taken_packet most s p.0 p.1.payload)))) (sound_at most gap s p r sound work it)
-    ∙ first_taken most gap state expected unit ended p other
+    let t = p.1.timestamp in
+    let follow = is_following gap closed expected t p.0 in
+    let it : WasTaken most follow s p r sound work = record { taken = taken; answer = answer; work_is = work_is; sound_is = sound_is } in
+    let before = ended ++ given_out (follow && is_run_closed state.run) unit in
+    ap (λ (w : SequencedDepacketization). with_unit w before t p.1.marker (whole_if sound (filled (empty_unit t) w))) it.work_is
+    ∙ ap (λ (b : Bool). with_unit (after_taken_packet most s p.0 p.1.payload) before t p.1.marker (whole_if b (filled (empty_unit t) (after_taken_packet most s p.0 p.1.payload)))) (sound_at most follow s p r sound work it)
+    ∙ first_taken most gap closed state expected unit ended p other
+
+-- one that goes on with an access unit
+goes_first : (most : ℕ) (gap : Bool) (closed : Option ℕ) (state : DepacketizerState) (expected : Option ℕ) (unit : AccessUnitValue) (number : ℕ) (payload : List ℕ) →
+    (let t = unit.timestamp in
+    let p : ℕ × RtpBody = (number, rtp_body t false payload) in
+    let s = sequenced_depacketization state expected unit.bytes unit.extra in
+    let work = after_taken_packet most s number payload in
+    with_unit work [] t false (whole_if (sound_by most s p (is_following gap closed expected t number)) (filled unit work))
+    ≡ after_taken_rtp most (at_gap gap closed state expected (Some unit) []) p)
+goes_first most gap closed state expected unit number payload = let same = eq-eqb unit.timestamp unit.timestamp refl in rw same refl
+
+pub goes_on_taken : (most : ℕ) (gap : Bool) (closed : Option ℕ) (state : DepacketizerState) (expected : Option ℕ) (unit : AccessUnitValue) (number : ℕ) (payload : List ℕ)
+    (r : Result Received PacketError) (sound : Bool) (work : SequencedDepacketization) → is_taken r ≡ true →
+    (let t = unit.timestamp in
+    let s = sequenced_depacketization state expected unit.bytes unit.extra in
+    IsSequencedAnswer most s number payload r → work ≡ after_taken_packet most s number payload →
+    sound ≡ cond (is_run_too_long r) false (cond ((length unit.bytes == length work.at_work.out) && is_run_closed work.at_work.state.run) false (is_following gap closed expected t number)) →
+    with_unit work [] t false (whole_if sound (filled unit work)) ≡ after_taken_rtp most (at_gap gap closed state expected (Some unit) []) (number, rtp_body t false payload))
+goes_on_taken most gap closed state expected unit number payload r sound work taken answer work_is sound_is =
+    let t = unit.timestamp in
+    let s = sequenced_depacketization state expected unit.bytes unit.extra in
+    let p : ℕ × RtpBody = (number, rtp_body t false payload) in
+    let follow = is_following gap closed expected t number in
+    let it : WasTaken most follow s p r sound work = record { taken = taken; answer = answer; work_is = work_is; sound_is = sound_is } in
+    ap (λ (w : SequencedDepacketization). with_unit w [] t false (whole_if sound (filled unit w))) it.work_is
+    ∙ ap (λ (b : Bool). with_unit (after_taken_packet most s number payload) [] t false (whole_if b (filled unit (after_taken_packet most s number payload)))) (sound_at most follow s p r sound work it)
+    ∙ goes_first most gap closed state expected unit number payload
 
 -- one that ends the access unit to which it belongs leaves what it would without its marker, and appends that
-pub ends_taken : (most : ℕ) (gap : Bool) (state new : DepacketizerState) (expected next : Option ℕ) (unit left : AccessUnitValue) (ended : List AccessUnitValue) (p : ℕ × RtpBody) → p.1.marker ≡ true → is_unit_at (Some unit) p.1.timestamp ≡ true →
-    unit_depacketization new next (Some left) [] ≡ after_taken_rtp most (at_gap gap state expected (Some unit) []) (p.0, rtp_body p.1.timestamp false p.1.payload) →
-    unit_depacketization new next None (ended ++ left ∷ []) ≡ after_taken_rtp most (at_gap gap state expected (Some unit) ended) p
-ends_taken most gap state new expected next unit left ended p marker at is =
-    let s = at_gap gap state expected (Some unit) [] in
-    let work = after_taken_packet most (taken_by s p.1.timestamp) p.0 p.1.payload in
+pub ends_taken : (most : ℕ) (gap : Bool) (closed : Option ℕ) (state new : DepacketizerState) (expected next : Option ℕ) (unit left : AccessUnitValue) (ended : List AccessUnitValue) (p : ℕ × RtpBody) →
+    p.1.marker ≡ true → is_unit_at (Some unit) p.1.timestamp ≡ true →
+    at_gap false None new next (Some left) [] ≡ after_taken_rtp most (at_gap gap closed state expected (Some unit) []) (p.0, rtp_body p.1.timestamp false p.1.payload) →
+    at_gap false (Some p.1.timestamp) new next None (ended ++ whole_if (is_run_closed new.run) left ∷ []) ≡ after_taken_rtp most (at_gap gap closed state expected (Some unit) ended) p
+ends_taken most gap closed state new expected next unit left ended p marker at is =
+    let t = p.1.timestamp in
+    let s = at_gap gap closed state expected (Some unit) [] in
+    let work = after_taken_packet most (taken_by s t) p.0 p.1.payload in
     let one = unit_with most s p in
-    let others = given_out (is_following gap expected p.0) (Some unit) in
+    let others = given_out (is_following gap closed expected t p.0 && is_run_closed state.run) (Some unit) in
     let same : left ≡ one = ap (λ (o : UnitDepacketization). unwrap_or o.unit left) is in
-    ap (λ (r : DepacketizerState). unit_depacketization r next None (ended ++ left ∷ [])) (ap (λ (o : UnitDepacketization). o.state) is)
-    ∙ ap (λ (e : Option ℕ). unit_depacketization work.at_work.state e None (ended ++ left ∷ [])) (ap (λ (o : UnitDepacketization). o.expected) is)
-    ∙ ap (λ (v : AccessUnitValue). unit_depacketization work.at_work.state work.expected None (ended ++ v ∷ [])) same
-    ∙ ap (λ (l : List AccessUnitValue). unit_depacketization work.at_work.state work.expected None (l ++ one ∷ [])) (sym (append-nil ended))
-    ∙ ap (λ (b : Bool). unit_depacketization work.at_work.state work.expected None ((ended ++ cond b [] others) ++ one ∷ [])) (sym at)
-    ∙ ap (λ (m : Bool). unit_depacketization work.at_work.state work.expected (cond m None (Some one)) ((ended ++ cond (is_unit_at (Some unit) p.1.timestamp) [] others) ++ cond m (one ∷ []) [])) (sym marker)
+    let made : DepacketizerState → Option ℕ → AccessUnitValue → UnitDepacketization = λ r e v. at_gap false (Some t) r e None (ended ++ whole_if (is_run_closed r.run) v ∷ []) in
+    let last = whole_if (is_run_closed work.at_work.state.run) one in
+    let whole : Bool → List AccessUnitValue → UnitDepacketization = λ m l. at_gap false (cond m (Some t) None) work.at_work.state work.expected (cond m None (Some one)) (l ++ cond m (last ∷ []) []) in
+    ap (λ (r : DepacketizerState). made r next left) (ap (λ (o : UnitDepacketization). o.state) is)
+    ∙ ap (λ (e : Option ℕ). made work.at_work.state e left) (ap (λ (o : UnitDepacketization). o.expected) is)
+    ∙ ap (made work.at_work.state work.expected) same
+    ∙ ap (λ (l : List AccessUnitValue). whole true l) (sym (append-nil ended))
+    ∙ ap (λ (b : Bool). whole true (ended ++ cond b [] others)) (sym at)
+    ∙ ap (λ (m : Bool). whole m (ended ++ cond (is_unit_at (Some unit) t) [] others)) (sym marker)
+
+-- the timestamp of an access unit with which a packet goes on
+pub unit_stamp : (most : ℕ) (gap : Bool) (closed : Option ℕ) (state : DepacketizerState) (expected : Option ℕ) (unit : AccessUnitValue) (p : ℕ × RtpBody) → is_unit_at (Some unit) p.1.timestamp ≡ true →
+    option_map (λ (u : AccessUnitValue). u.timestamp) (after_taken_rtp most (at_gap gap closed state expected (Some unit) []) (p.0, rtp_body p.1.timestamp false p.1.payload)).unit ≡ Some p.1.timestamp
+unit_stamp most gap closed state expected unit p at = let same : unit.timestamp ≡ p.1.timestamp = grind (arith, nat_tests) in rw at (ap Some same)
 
 -- the first of two, where the test holds
 pub when_true : (b : Bool) (P Q : Type 0) → b ≡ true → MatchBool b P Q → P
@@ -115,13 +186,15 @@ when_true true P Q is h = h
 when_true false P Q is h = absurd (let bad = is in cc)
 
 -- of equal parts
-pub same_open : (state : DepacketizerState) (expected : Option ℕ) (it : OpenUnitView) (gap : Bool) (run : Option (List ℕ)) (unit : Option AccessUnitValue) (x y : List AccessUnitValue) → it.is_gap ≡ gap → it.run ≡ run → it.unit ≡ unit → x ≡ y →
-    open_depacketization state expected it x ≡ at_gap gap (state_with_run state run) expected unit y
-same_open state expected it gap run unit x y zero one two three =
-    ap (λ (g : Bool). at_gap g (state_with_run state it.run) expected it.unit x) zero
-    ∙ ap (λ (r : Option (List ℕ)). at_gap gap (state_with_run state r) expected it.unit x) one
-    ∙ ap (λ (u : Option AccessUnitValue). at_gap gap (state_with_run state run) expected u x) two
-    ∙ ap (λ (l : List AccessUnitValue). at_gap gap (state_with_run state run) expected unit l) three
+pub same_open : (state : DepacketizerState) (expected : Option ℕ) (it : OpenUnitView) (gap : Bool) (closed : Option ℕ) (run : Option (List ℕ)) (unit : Option AccessUnitValue) (x y : List AccessUnitValue) →
+    it.is_gap ≡ gap → it.closed ≡ closed → it.run ≡ run → it.unit ≡ unit → x ≡ y →
+    open_depacketization state expected it x ≡ at_gap gap closed (state_with_run state run) expected unit y
+same_open state expected it gap closed run unit x y is_gap is_closed is_run is_unit is_ended =
+    ap (λ (g : Bool). at_gap g it.closed (state_with_run state it.run) expected it.unit x) is_gap
+    ∙ ap (λ (k : Option ℕ). at_gap gap k (state_with_run state it.run) expected it.unit x) is_closed
+    ∙ ap (λ (r : Option (List ℕ)). at_gap gap closed (state_with_run state r) expected it.unit x) is_run
+    ∙ ap (λ (u : Option AccessUnitValue). at_gap gap closed (state_with_run state run) expected u x) is_unit
+    ∙ ap (λ (l : List AccessUnitValue). at_gap gap closed (state_with_run state run) expected unit l) is_ended
 
 -- an access unit of these parts
 pub same_unit : (unit : AccessUnitValue) (t : ℕ) → unit.timestamp ≡ t → unit.is_whole ≡ true →

@@ -1,12 +1,13 @@
 -- What a receiver gives out of packets that are all taken.
-use Rattle.std.proofs.Common.{◌≡◌, ℕ, ◌+◌, ◌<◌, ◌≤◌, Bool, true, false, cond, eq-eqb, List, [], ◌∷◌, ◌++◌, length, Option, Some, None, refl, sym, ap, ◌∙◌, subst, arith}
+use Rattle.std.proofs.Common.{◌≡◌, ℕ, ◌+◌, ◌<◌, ◌≤◌, Bool, true, false, cond, eq-eqb, List, [], ◌∷◌, ◌++◌, length, length-append, Option, Some, None, refl, sym, ap, ◌∙◌, subst, arith}
 use Rattle.std.specs.Prelude.{◌==◌, ◌&&◌, nat_lt}
 use Rattle.std.specs.List.{list_any, list_all}
 use Rattle.std.proofs.lemmas.List.{append-nil}
 use Rattle.std.proofs.lemmas.Bool.Decides.{nat_tests}
 use Rattle.h26x_core.specs.declared.extra.CodecExtra.TheVariants as extras
 use Rattle.h26x_model.specs.Payload.Format.{Format}
-use Rattle.h26x_model.specs.Receive.Received.{run_after}
+use Rattle.h26x_core.specs.ByteStream.{byte_stream}
+use Rattle.h26x_model.specs.Receive.Received.{run_after, reading_units}
 use Rattle.h26x_model.specs.Receive.DepacketizerState.{DepacketizerState, Depacketization, depacketization, after_packets}
 use Rattle.h26x_model.specs.Receive.RunLimit.{run_len, run_within, state_with_run, without_open_run, with_run_within}
 use Rattle.h26x_model.specs.Carry.Gaps.{after_kept_packets}
@@ -15,8 +16,9 @@ use Rattle.h26x_receiver.specs.Sequenced.{with_run_if}
 use Rattle.h26x_receiver.specs.Delivery.{IsNextPlace}
 use Rattle.h26x_receiver.proofs.PlaceLemmas.{number_at, expected_at, is_place, IsOn, next_number, on_place, next_in_time, next_near}
 use Rattle.h26x_frames.specs.Rtp.{RtpBody, rtp_body}
-use Rattle.h26x_frames.specs.AccessUnit.{AccessUnitValue, UnitDepacketization, unit_depacketization, is_unit_at, given_out, after_taken_rtp}
-use Rattle.h26x_frames.specs.StampedCalls.{has_none, unit_bodies, are_runs_within}
+use Rattle.h26x_frames.specs.AccessUnit.{AccessUnitValue, whole_if, UnitDepacketization, unit_depacketization, is_unit_at, is_closed_at, is_run_closed, is_dropped, given_out, after_taken_rtp}
+use Rattle.h26x_frames.specs.StampedCalls.{has_none, unit_bodies, are_runs_within, last_came}
+use Rattle.h26x_frames.proofs.TakeLemmas.{at_gap}
 
 -- what stands after packets that are taken
 abbrev pub after_all_taken : ℕ → UnitDepacketization → List (ℕ × RtpBody) → UnitDepacketization
@@ -87,16 +89,24 @@ opened first e t w whole ended = unit_depacketization w.state (expected_at first
 abbrev is_long : ℕ → Depacketization → List ℕ → Bool
 is_long most w x = nat_lt most (run_len (after_packets w (x ∷ [])).state.run)
 
+-- whether no byte stands of a packet
+abbrev drops : Depacketization → List ℕ → Bool
+drops w x = is_dropped w (after_packets w (x ∷ []))
+
+-- whether nothing is known to be missing, by whether a run is too long, no byte stands of the packet, and it follows
+abbrev pub sound_bit : Bool → Bool → Bool → Bool
+sound_bit long dropped b = cond long false (cond dropped false b)
+
 -- what a packet leaves, where this stands
 abbrev next_work : ℕ → Depacketization → List ℕ → Depacketization
 next_work most w x = with_run_within most (after_packets w (x ∷ []))
 
 abbrev next_unit : ℕ → ℕ → Bool → Bool → Depacketization → List ℕ → AccessUnitValue
-next_unit most t whole b w x = unit_of t (next_work most w x) (whole && cond (is_long most w x) false b)
+next_unit most t whole b w x = unit_of t (next_work most w x) (whole && sound_bit (is_long most w x) (drops w x) b)
 
 abbrev stepped : ℕ → ℕ → Bool → Bool → Depacketization → List AccessUnitValue → ℕ → Bool → List ℕ → UnitDepacketization
-stepped most t whole b w ended number marker x = unit_depacketization (next_work most w x).state (Some (next_sequence_number number))
-    (cond marker None (Some (next_unit most t whole b w x))) (ended ++ cond marker (next_unit most t whole b w x ∷ []) [])
+stepped most t whole b w ended number marker x = at_gap false (cond marker (Some t) None) (next_work most w x).state (Some (next_sequence_number number))
+    (cond marker None (Some (next_unit most t whole b w x))) (ended ++ cond marker (whole_if (is_run_closed (next_work most w x).state.run) (next_unit most t whole b w x) ∷ []) [])
 
 -- a packet that goes on with an access unit
 step_on : (most t : ℕ) (w : Depacketization) (whole b : Bool) (ended : List AccessUnitValue) (expected : Option ℕ) (number : ℕ) (marker : Bool) (x : List ℕ) →
@@ -104,8 +114,11 @@ step_on : (most t : ℕ) (w : Depacketization) (whole b : Bool) (ended : List Ac
     after_taken_rtp most (unit_depacketization w.state expected (Some (unit_of t w whole)) ended) (number, rtp_body t marker x)
     ≡ stepped most t whole b (with_run_if b w) ended number marker x
 step_on most t w whole b ended expected number marker x is =
-    rw (same_place t, is) (ap (λ (l : List AccessUnitValue). unit_depacketization (next_work most (with_run_if b w) x).state (Some (next_sequence_number number))
-    (cond marker None (Some (next_unit most t whole b (with_run_if b w) x))) (l ++ cond marker (next_unit most t whole b (with_run_if b w) x ∷ []) []))
+    let here = with_run_if b w in
+    let next = next_work most here x in
+    let unit = next_unit most t whole b here x in
+    rw (same_place t, is) (ap (λ (l : List AccessUnitValue). at_gap false (cond marker (Some t) None) next.state (Some (next_sequence_number number))
+    (cond marker None (Some unit)) (l ++ cond marker (whole_if (is_run_closed next.state.run) unit ∷ []) []))
     (append-nil ended))
 
 -- where an access unit begins
@@ -116,32 +129,52 @@ no_run : (b : Bool) (s : UnitDepacketization) → with_run_if b (begun s) ≡ be
 no_run true s = refl
 no_run false s = refl
 
--- a packet that begins an access unit
-step_first : (most t : ℕ) (state : DepacketizerState) (unit : Option AccessUnitValue) (b : Bool) (ended : List AccessUnitValue) (expected : Option ℕ) (number : ℕ) (marker : Bool) (x : List ℕ) →
-    is_expected expected number ≡ b → is_unit_at unit t ≡ false →
-    (let s = unit_depacketization state expected unit ended in
-    after_taken_rtp most s (number, rtp_body t marker x) ≡ stepped most t true b (begun s) (ended ++ given_out b unit) number marker x)
-step_first most t state None true ended expected number marker x is other = rw is refl
-step_first most t state None false ended expected number marker x is other = rw is refl
-step_first most t state (Some u) true ended expected number marker x is other = rw (other, is) refl
-step_first most t state (Some u) false ended expected number marker x is other = rw (other, is) refl
+-- a packet that begins an access unit, where the marker ended one of its timestamp right before it or not
+step_first : (most t : ℕ) (closed : Option ℕ) (state : DepacketizerState) (unit : Option AccessUnitValue) (shut b : Bool) (ended : List AccessUnitValue) (expected : Option ℕ) (number : ℕ) (marker : Bool) (x : List ℕ) →
+    is_closed_at closed t ≡ shut → is_expected expected number ≡ b → is_unit_at unit t ≡ false →
+    (let s = at_gap false closed state expected unit ended in
+    let follow = cond shut false b in
+    after_taken_rtp most s (number, rtp_body t marker x) ≡ stepped most t true follow (begun s) (ended ++ given_out (follow && is_run_closed state.run) unit) number marker x)
+step_first most t closed state None true true ended expected number marker x at is other = rw (at, is) refl
+step_first most t closed state None true false ended expected number marker x at is other = rw (at, is) refl
+step_first most t closed state None false true ended expected number marker x at is other = rw (at, is) refl
+step_first most t closed state None false false ended expected number marker x at is other = rw (at, is) refl
+step_first most t closed state (Some u) true true ended expected number marker x at is other = rw (other, at, is) refl
+step_first most t closed state (Some u) true false ended expected number marker x at is other = rw (other, at, is) refl
+step_first most t closed state (Some u) false true ended expected number marker x at is other = rw (other, at, is) refl
+step_first most t closed state (Some u) false false ended expected number marker x at is other = rw (other, at, is) refl
+
+-- whether some unit is among these
+abbrev pub is_some_unit : List (List ℕ) → Bool
+is_some_unit [] = false
+is_some_unit (u ∷ units) = true
+
+-- whether no byte stands of a packet
+abbrev pub is_unused : Format → Option (List ℕ) → List ℕ → Bool
+is_unused f run x = cond (is_some_unit (reading_units run (f.read x))) false (is_run_closed (run_after run (f.read x)))
+
+-- whether bytes stand of each packet, and no run is open behind them
+abbrev pub are_used : Format → Option (List ℕ) → List (List ℕ) → Bool
+are_used f run [] = is_run_closed run
+are_used f run (x ∷ packets) = cond (is_unused f run x) false (are_used f (run_after run (f.read x)) packets)
 
 -- what is left of an access unit, of which this much stands
 abbrev pub grown : ℕ → ℕ → Bool → Bool → Depacketization → List Bool → List (List ℕ) → AccessUnitValue
 grown most t whole b w mask packets = unit_of t (after_kept_packets most w mask packets)
-    (whole && (b && (list_all (λ came. came) mask && are_runs_within w.state.format most w.state.run packets)))
+    (whole && (b && (list_all (λ came. came) mask && (are_runs_within w.state.format most w.state.run packets && are_used w.state.format w.state.run packets))))
 
 -- what is open is of this timestamp, and its last packet is missing
-abbrev pub IsLeftOpen : ℕ → Option AccessUnitValue → Option ℕ → ℕ → Type 0
-IsLeftOpen t None e q = Unit {0}
-IsLeftOpen t (Some unit) e q = (unit.timestamp ≡ t) × IsBehind e q
+abbrev pub IsLeftOpen : Option ℕ → Option AccessUnitValue → Option ℕ → ℕ → Type 0
+IsLeftOpen stamp None e q = Unit {0}
+IsLeftOpen stamp (Some unit) e q = (stamp ≡ Some unit.timestamp) × IsBehind e q
 
 -- a receiver after the packets of a call
-pub record IsLeft (first t : ℕ) (e : Option ℕ) (q : ℕ) (f : Format) (avc : Bool) (units : List AccessUnitValue) (new : UnitDepacketization) : Type 0 where
+pub record IsLeft (first t : ℕ) (last : Bool) (e : Option ℕ) (q : ℕ) (f : Format) (avc : Bool) (units : List AccessUnitValue) (new : UnitDepacketization) : Type 0 where
   pub all : new.ended ++ given_out false new.unit ≡ units
   pub expected : new.expected ≡ expected_at first e
   pub gap : new.is_gap ≡ false
-  pub open_unit : IsLeftOpen t new.unit e q
+  pub closed : new.closed ≡ cond last (Some t) None
+  pub open_unit : IsLeftOpen (cond last None (Some t)) new.unit e q
   pub format : new.state.format ≡ f
   pub avc_is : new.state.is_avc ≡ avc
 
@@ -154,59 +187,107 @@ pub short_run : (most : ℕ) (run : Option (List ℕ)) → nat_lt most (run_len 
 short_run most None short = refl
 short_run most (Some run) short = rw short refl
 
+-- a unit is written with bytes
+prefix_long : (avc : Bool) (u : List ℕ) (units : List (List ℕ)) → 0 < length (byte_stream avc (u ∷ units))
+prefix_long true u units = omega arith
+prefix_long false u units = omega arith
+
+-- where a text is no longer than before no unit was written
+no_longer : (avc : Bool) (out : List ℕ) (units : List (List ℕ)) → (length out == length (out ++ byte_stream avc units)) ≡ cond (is_some_unit units) false true
+no_longer avc out [] = let same = append-nil out in rw same (same_place (length out))
+no_longer avc out (u ∷ units) =
+    let both = length-append out (byte_stream avc (u ∷ units)) in
+    let some = prefix_long avc u units in
+    grind (arith, nat_tests, both, some)
+
+-- so no byte stands of a packet
+drops_is : (w : Depacketization) (x : List ℕ) → drops w x ≡ is_unused w.state.format w.state.run x
+drops_is w x =
+    let units = reading_units w.state.run (w.state.format.read x) in
+    let run = run_after w.state.run (w.state.format.read x) in
+    ap (λ (l : List (List ℕ)). (length w.out == length (w.out ++ byte_stream w.state.is_avc l)) && is_run_closed run) (append-nil units)
+    ∙ ap (λ (b : Bool). b && is_run_closed run) (no_longer w.state.is_avc w.out units)
+    ∙ elim (is_some_unit units) as (λ b. (cond b false true && is_run_closed run) ≡ cond b false (is_run_closed run)) [ true ↦ refl | false ↦ refl ]
+
 -- the last packet of an access unit
-closing : (c whole b : Bool) → (whole && cond c false b) ≡ (whole && (b && ((true && true) && cond c false true)))
-closing true true true = refl
-closing true true false = refl
-closing true false b = refl
-closing false true true = refl
-closing false true false = refl
-closing false false b = refl
+closing : (long dropped whole b c d : Bool) → (long ≡ false → c ≡ d) →
+    ((whole && sound_bit long dropped b) && c) ≡ (whole && (b && ((true && true) && (cond long false true && cond dropped false d))))
+closing long dropped false b c d h = refl
+closing true dropped true true c d h = refl
+closing true dropped true false c d h = refl
+closing false true true true c d h = refl
+closing false true true false c d h = refl
+closing false false true true c d h = h refl
+closing false false true false c d h = refl
+
+no_more : (b : Bool) → false ≡ (b && false)
+no_more true = refl
+no_more false = refl
 
 -- one that is not the last
-going_on : (c whole b all x y : Bool) → (c ≡ false → x ≡ y) → ((whole && cond c false b) && (true && (all && x))) ≡ (whole && (b && ((true && all) && cond c false y)))
-going_on true false b all x y h = refl
-going_on true true false all x y h = refl
-going_on true true true true x y h = refl
-going_on true true true false x y h = refl
-going_on false false b all x y h = refl
-going_on false true false all x y h = refl
-going_on false true true all x y h = ap (λ (z : Bool). all && z) (h refl)
+going_on : (long dropped whole b all x y u v : Bool) → (long ≡ false → x ≡ y) → (long ≡ false → u ≡ v) →
+    ((whole && sound_bit long dropped b) && (true && (all && (x && u)))) ≡ (whole && (b && ((true && all) && (cond long false y && cond dropped false v))))
+going_on long dropped false b all x y u v h k = refl
+going_on true dropped true true true x y u v h k = refl
+going_on true dropped true true false x y u v h k = refl
+going_on true dropped true false all x y u v h k = refl
+going_on false true true true true x y u v h k = no_more y
+going_on false true true true false x y u v h k = refl
+going_on false true true false all x y u v h k = refl
+going_on false false true true all x y u v h k = ap (λ (z : Bool). all && (z && u)) (h refl) ∙ ap (λ (z : Bool). all && (y && z)) (k refl)
+going_on false false true false all x y u v h k = refl
 
 -- one packet, and then others
 from_step : (most first p q t : ℕ) (whole b : Bool) (w : Depacketization) (ended : List AccessUnitValue) (x : List ℕ) (packets : List (List ℕ)) (mask : List Bool) →
     length mask ≡ length packets →
-    (has_none packets ≡ false → IsLeft first t (expected_after (Some (p + 1)) (p + 1) mask) q w.state.format w.state.is_avc
-    (ended ++ grown most t (whole && cond (is_long most w x) false b) true (next_work most w x) mask packets ∷ [])
-    (after_all_taken most (opened first (Some (p + 1)) t (next_work most w x) (whole && cond (is_long most w x) false b) ended) (kept_from first (p + 1) mask (unit_bodies t packets)))) →
-    IsLeft first t (expected_after (Some (p + 1)) (p + 1) mask) q w.state.format w.state.is_avc (ended ++ grown most t whole b w (true ∷ mask) (x ∷ packets) ∷ [])
-    (after_all_taken most (stepped most t whole b w ended (number_at first p) (has_none packets) x) (kept_from first (p + 1) mask (unit_bodies t packets)))
-from_step most first p q t whole b w ended x [] (m ∷ mask) long later = absurd (omega arith)
-from_step most first p q t whole b w ended x (y ∷ packets) [] long later = absurd (omega arith)
-from_step most first p q t whole b w ended x [] [] long later = record {
-  all = append-nil (ended ++ next_unit most t whole b w x ∷ [])
-      ∙ ap (λ (is : Bool). ended ++ unit_of t (next_work most w x) is ∷ []) (closing (is_long most w x) whole b);
-  expected = ap Some (next_number first p);
-  gap = refl;
-  open_unit = tt;
-  format = refl;
-  avc_is = refl;
-}
-from_step most first p q t whole b w ended x (y ∷ packets) (m ∷ mask) long later =
+    (let holds = whole && sound_bit (is_long most w x) (drops w x) b in
+    (has_none packets ≡ false → IsLeft first t (last_came false mask) (expected_after (Some (p + 1)) (p + 1) mask) q w.state.format w.state.is_avc
+    (ended ++ grown most t holds true (next_work most w x) mask packets ∷ [])
+    (after_all_taken most (opened first (Some (p + 1)) t (next_work most w x) holds ended) (kept_from first (p + 1) mask (unit_bodies t packets)))) →
+    IsLeft first t (last_came true mask) (expected_after (Some (p + 1)) (p + 1) mask) q w.state.format w.state.is_avc (ended ++ grown most t whole b w (true ∷ mask) (x ∷ packets) ∷ [])
+    (after_all_taken most (stepped most t whole b w ended (number_at first p) (has_none packets) x) (kept_from first (p + 1) mask (unit_bodies t packets))))
+from_step most first p q t whole b w ended x [] (m ∷ mask) long = λ later. absurd (omega arith)
+from_step most first p q t whole b w ended x (y ∷ packets) [] long = λ later. absurd (omega arith)
+from_step most first p q t whole b w ended x [] [] long = λ later.
+    let run = run_after w.state.run (w.state.format.read x) in
+    let unit = next_unit most t whole b w x in
+    let next = next_work most w x in
+    let too_long = is_long most w x in
+    record {
+      all = append-nil (ended ++ whole_if (is_run_closed next.state.run) unit ∷ [])
+          ∙ ap (λ (is : Bool). ended ++ unit_of t next is ∷ [])
+          (closing too_long (drops w x) whole b (is_run_closed (run_within most run)) (is_run_closed run) (λ short. ap is_run_closed (short_run most run short))
+          ∙ ap (λ (d : Bool). whole && (b && ((true && true) && (cond too_long false true && cond d false (is_run_closed run))))) (drops_is w x));
+      expected = ap Some (next_number first p);
+      gap = refl;
+      closed = refl;
+      open_unit = tt;
+      format = refl;
+      avc_is = refl;
+    }
+from_step most first p q t whole b w ended x (y ∷ packets) (m ∷ mask) long = λ later.
     let rest = y ∷ packets in
+    let f = w.state.format in
+    let too_long = is_long most w x in
+    let last = last_came false (m ∷ mask) in
     let kept = kept_from first (p + 1) (m ∷ mask) (unit_bodies t rest) in
     let next = next_work most w x in
-    let holds = whole && cond (is_long most w x) false b in
+    let holds = whole && sound_bit too_long (drops w x) b in
+    let e_next = expected_after (Some (p + 1)) (p + 1) (m ∷ mask) in
     let new : opened first (Some (p + 1)) t next holds ended ≡ stepped most t whole b w ended (number_at first p) false x =
     ap (λ (n : ℕ). unit_depacketization next.state (Some n) (Some (unit_of t next holds)) ended) (sym (next_number first p))
     ∙ ap (λ (l : List AccessUnitValue). unit_depacketization next.state (Some (next_sequence_number (number_at first p))) (Some (unit_of t next holds)) l) (sym (append-nil ended)) in
-    let run = run_after w.state.run (w.state.format.read x) in
+    let run = run_after w.state.run (f.read x) in
+    let all = list_all (λ came. came) (m ∷ mask) in
     let same : grown most t holds true next (m ∷ mask) rest ≡ grown most t whole b w (true ∷ m ∷ mask) (x ∷ rest) =
     ap (unit_of t (after_kept_packets most next (m ∷ mask) rest))
-    (going_on (is_long most w x) whole b (list_all (λ came. came) (m ∷ mask)) (are_runs_within w.state.format most (run_within most run) rest)
-    (are_runs_within w.state.format most run rest) (λ short. ap (λ (r : Option (List ℕ)). are_runs_within w.state.format most r rest) (short_run most run short))) in
-    subst (λ (s : UnitDepacketization). IsLeft first t (expected_after (Some (p + 1)) (p + 1) (m ∷ mask)) q w.state.format w.state.is_avc (ended ++ grown most t whole b w (true ∷ m ∷ mask) (x ∷ rest) ∷ []) (after_all_taken most s kept)) new
-    (subst (λ (u : AccessUnitValue). IsLeft first t (expected_after (Some (p + 1)) (p + 1) (m ∷ mask)) q w.state.format w.state.is_avc (ended ++ u ∷ []) (after_all_taken most (opened first (Some (p + 1)) t next holds ended) kept)) same
+    (going_on too_long (drops w x) whole b all (are_runs_within f most (run_within most run) rest) (are_runs_within f most run rest)
+    (are_used f (run_within most run) rest) (are_used f run rest)
+    (λ short. ap (λ (r : Option (List ℕ)). are_runs_within f most r rest) (short_run most run short))
+    (λ short. ap (λ (r : Option (List ℕ)). are_used f r rest) (short_run most run short))
+    ∙ ap (λ (d : Bool). whole && (b && ((true && all) && (cond too_long false (are_runs_within f most run rest) && cond d false (are_used f run rest))))) (drops_is w x)) in
+    subst (λ (s : UnitDepacketization). IsLeft first t last e_next q f w.state.is_avc (ended ++ grown most t whole b w (true ∷ m ∷ mask) (x ∷ rest) ∷ []) (after_all_taken most s kept)) new
+    (subst (λ (u : AccessUnitValue). IsLeft first t last e_next q f w.state.is_avc (ended ++ u ∷ []) (after_all_taken most (opened first (Some (p + 1)) t next holds ended) kept)) same
     (later refl))
 
 -- the number of a place that is next tells whether it is the one expected
@@ -216,14 +297,15 @@ follows_at first e p next = (on_place first e p (next_near e p next) (next_in_ti
 -- the rest of an access unit
 pub goes_on : (most first p q t : ℕ) (e : Option ℕ) (w : Depacketization) (whole : Bool) (ended : List AccessUnitValue) (mask : List Bool) (packets : List (List ℕ)) →
     length mask ≡ length packets → q ≡ p + length packets → AreGapsShort e p mask → IsOn e p → (has_none packets ≡ true → IsBehind e p) →
-    IsLeft first t (expected_after e p mask) q w.state.format w.state.is_avc (ended ++ grown most t whole (is_place e p) (with_run_if (is_place e p) w) mask packets ∷ [])
+    IsLeft first t (last_came false mask) (expected_after e p mask) q w.state.format w.state.is_avc (ended ++ grown most t whole (is_place e p) (with_run_if (is_place e p) w) mask packets ∷ [])
     (after_all_taken most (opened first e t w whole ended) (kept_from first p mask (unit_bodies t packets)))
 goes_on most first p q t e w whole ended (m ∷ mask) [] long is gaps on none = absurd (omega arith)
 goes_on most first p q t e w whole ended [] (x ∷ packets) long is gaps on none = absurd (omega arith)
 goes_on most first p q t e w whole ended [] [] long is gaps on none = record {
-  all = ap (λ (b : Bool). ended ++ unit_of t w (whole && (b && (true && true))) ∷ []) (sym (not_place e p (none refl)));
+  all = ap (λ (b : Bool). ended ++ unit_of t w (whole && (b && (true && (true && is_run_closed (with_run_if b w).state.run)))) ∷ []) (sym (not_place e p (none refl)));
   expected = refl;
   gap = refl;
+  closed = refl;
   open_unit = (refl, behind_more e p q (omega arith) (none refl));
   format = refl;
   avc_is = refl;
@@ -236,60 +318,72 @@ goes_on most first p q t e w whole ended (false ∷ mask) (x ∷ packets) long i
     let same : grown most t whole (is_place e (p + 1)) (with_run_if (is_place e (p + 1)) w) mask packets ≡ grown most t whole b here (false ∷ mask) (x ∷ packets) =
     ap (λ (c : Bool). grown most t whole c (with_run_if c w) mask packets) (not_place e (p + 1) (behind_next e p on))
     ∙ ap (λ (c : Bool). unit_of t (after_kept_packets most (without_open_run w) mask packets) (whole && c)) (sym (and_false b)) in
-    subst (λ (u : AccessUnitValue). IsLeft first t (expected_after e (p + 1) mask) q w.state.format w.state.is_avc (ended ++ u ∷ []) (after_all_taken most (opened first e t w whole ended) kept)) same rest
+    subst (λ (u : AccessUnitValue). IsLeft first t (last_came false mask) (expected_after e (p + 1) mask) q w.state.format w.state.is_avc (ended ++ u ∷ []) (after_all_taken most (opened first e t w whole ended) kept)) same rest
 goes_on most first p q t e w whole ended (true ∷ mask) (x ∷ packets) long is gaps on none =
     let b = is_place e p in
     let here = with_run_if b w in
     let next = next_work most here x in
-    let holds = whole && cond (is_long most here x) false b in
+    let holds = whole && sound_bit (is_long most here x) (drops here x) b in
     let kept = kept_from first (p + 1) mask (unit_bodies t packets) in
     let step = step_on most t w whole b ended (expected_at first e) (number_at first p) (has_none packets) x (follows_at first e p gaps.0) in
-    subst (λ (s : UnitDepacketization). IsLeft first t (expected_after (Some (p + 1)) (p + 1) mask) q w.state.format w.state.is_avc (ended ++ grown most t whole b here (true ∷ mask) (x ∷ packets) ∷ []) (after_all_taken most s kept)) (sym step)
+    subst (λ (s : UnitDepacketization). IsLeft first t (last_came true mask) (expected_after (Some (p + 1)) (p + 1) mask) q w.state.format w.state.is_avc (ended ++ grown most t whole b here (true ∷ mask) (x ∷ packets) ∷ []) (after_all_taken most s kept)) (sym step)
     (from_step most first p q t whole b here ended x packets mask (omega arith)
-    (λ more. subst (λ (c : Bool). IsLeft first t (expected_after (Some (p + 1)) (p + 1) mask) q w.state.format w.state.is_avc (ended ++ grown most t holds c (with_run_if c next) mask packets ∷ []) (after_all_taken most (opened first (Some (p + 1)) t next holds ended) kept))
+    (λ more. subst (λ (c : Bool). IsLeft first t (last_came false mask) (expected_after (Some (p + 1)) (p + 1) mask) q w.state.format w.state.is_avc (ended ++ grown most t holds c (with_run_if c next) mask packets ∷ []) (after_all_taken most (opened first (Some (p + 1)) t next holds ended) kept))
     (same_place (p + 1))
     (goes_on most first (p + 1) q t (Some (p + 1)) next holds ended mask packets (omega arith) (omega arith) gaps.1 (omega arith) (λ none. absurd (let bad = sym more ∙ none in cc)))))
 
+-- what never holds
+never : (b : Bool) → cond b false false ≡ false
+never true = refl
+never false = refl
+
 -- what was open is given out as not whole where its last packet is missing
-given_same : (t p : ℕ) (e : Option ℕ) (unit : Option AccessUnitValue) → IsLeftOpen t unit e p → given_out (is_place e p) unit ≡ given_out false unit
-given_same t p e None left = refl
-given_same t p e (Some unit) left = ap (λ (b : Bool). given_out b (Some unit)) (not_place e p left.1)
+given_same : (stamp : Option ℕ) (p : ℕ) (e : Option ℕ) (shut c : Bool) (unit : Option AccessUnitValue) → IsLeftOpen stamp unit e p → given_out (cond shut false (is_place e p) && c) unit ≡ given_out false unit
+given_same stamp p e shut c None left = refl
+given_same stamp p e shut c (Some unit) left =
+    ap (λ (b : Bool). given_out (cond shut false b && c) (Some unit)) (not_place e p left.1)
+    ∙ ap (λ (b : Bool). given_out (b && c) (Some unit)) (never shut)
 
 -- at a later place too
-pub left_more : (t p q : ℕ) (e : Option ℕ) (unit : Option AccessUnitValue) → p ≤ q → IsLeftOpen t unit e p → IsLeftOpen t unit e q
-left_more t p q e None le left = tt
-left_more t p q e (Some unit) le left = (left.0, behind_more e p q le left.1)
+pub left_more : (stamp : Option ℕ) (p q : ℕ) (e : Option ℕ) (unit : Option AccessUnitValue) → p ≤ q → IsLeftOpen stamp unit e p → IsLeftOpen stamp unit e q
+left_more stamp p q e None le left = tt
+left_more stamp p q e (Some unit) le left = (left.0, behind_more e p q le left.1)
 
 -- the packets of a call, of which some came
-pub begins : (most first p q t before : ℕ) (e : Option ℕ) (state : DepacketizerState) (unit : Option AccessUnitValue) (ended : List AccessUnitValue) (mask : List Bool) (packets : List (List ℕ)) →
-    length mask ≡ length packets → q ≡ p + length packets → list_any (λ came. came) mask ≡ true → is_unit_at unit t ≡ false → IsLeftOpen before unit e p → AreGapsShort e p mask → IsOn e p →
-    (let s = unit_depacketization state (expected_at first e) unit ended in
-    IsLeft first t (expected_after e p mask) q state.format state.is_avc ((ended ++ given_out false unit) ++ grown most t true (is_place e p) (begun s) mask packets ∷ [])
+pub begins : (most first p q t : ℕ) (stamp closed : Option ℕ) (e : Option ℕ) (state : DepacketizerState) (unit : Option AccessUnitValue) (ended : List AccessUnitValue) (mask : List Bool) (packets : List (List ℕ)) →
+    length mask ≡ length packets → q ≡ p + length packets → list_any (λ came. came) mask ≡ true → is_unit_at unit t ≡ false → IsLeftOpen stamp unit e p → AreGapsShort e p mask → IsOn e p →
+    (let s = at_gap false closed state (expected_at first e) unit ended in
+    IsLeft first t (last_came false mask) (expected_after e p mask) q state.format state.is_avc
+    ((ended ++ given_out false unit) ++ grown most t true (cond (is_closed_at closed t) false (is_place e p)) (begun s) mask packets ∷ [])
     (after_all_taken most s (kept_from first p mask (unit_bodies t packets))))
-begins most first p q t before e state unit ended [] packets long is some other left gaps on = absurd (let bad = some in cc)
-begins most first p q t before e state unit ended (m ∷ mask) [] long is some other left gaps on = absurd (omega arith)
-begins most first p q t before e state unit ended (false ∷ mask) (x ∷ packets) long is some other left gaps on =
-    let s = unit_depacketization state (expected_at first e) unit ended in
-    let b = is_place e p in
-    let rest = begins most first (p + 1) q t before e state unit ended mask packets (omega arith) (omega arith) some other (left_more before p (p + 1) e unit (omega arith) left) gaps (on_next e p on) in
+begins most first p q t stamp closed e state unit ended [] packets long is some other left gaps on = absurd (let bad = some in cc)
+begins most first p q t stamp closed e state unit ended (m ∷ mask) [] long is some other left gaps on = absurd (omega arith)
+begins most first p q t stamp closed e state unit ended (false ∷ mask) (x ∷ packets) long is some other left gaps on =
+    let s = at_gap false closed state (expected_at first e) unit ended in
+    let shut = is_closed_at closed t in
+    let b = cond shut false (is_place e p) in
+    let rest = begins most first (p + 1) q t stamp closed e state unit ended mask packets (omega arith) (omega arith) some other (left_more stamp p (p + 1) e unit (omega arith) left) gaps (on_next e p on) in
     let kept = kept_from first (p + 1) mask (unit_bodies t packets) in
-    let same : grown most t true (is_place e (p + 1)) (begun s) mask packets ≡ grown most t true b (begun s) (false ∷ mask) (x ∷ packets) =
-    ap (λ (c : Bool). grown most t true c (begun s) mask packets) (not_place e (p + 1) (behind_next e p on))
+    let same : grown most t true (cond shut false (is_place e (p + 1))) (begun s) mask packets ≡ grown most t true b (begun s) (false ∷ mask) (x ∷ packets) =
+    ap (λ (c : Bool). grown most t true (cond shut false c) (begun s) mask packets) (not_place e (p + 1) (behind_next e p on))
+    ∙ ap (λ (c : Bool). grown most t true c (begun s) mask packets) (never shut)
     ∙ ap (λ (c : Bool). unit_of t (after_kept_packets most (begun s) mask packets) c) (sym (and_false b)) in
-    subst (λ (u : AccessUnitValue). IsLeft first t (expected_after e (p + 1) mask) q state.format state.is_avc ((ended ++ given_out false unit) ++ u ∷ []) (after_all_taken most s kept)) same rest
-begins most first p q t before e state unit ended (true ∷ mask) (x ∷ packets) long is some other left gaps on =
-    let s = unit_depacketization state (expected_at first e) unit ended in
-    let b = is_place e p in
+    subst (λ (u : AccessUnitValue). IsLeft first t (last_came false mask) (expected_after e (p + 1) mask) q state.format state.is_avc ((ended ++ given_out false unit) ++ u ∷ []) (after_all_taken most s kept)) same rest
+begins most first p q t stamp closed e state unit ended (true ∷ mask) (x ∷ packets) long is some other left gaps on =
+    let s = at_gap false closed state (expected_at first e) unit ended in
+    let shut = is_closed_at closed t in
+    let b = cond shut false (is_place e p) in
     let w = begun s in
     let next = next_work most w x in
-    let holds = true && cond (is_long most w x) false b in
+    let holds = true && sound_bit (is_long most w x) (drops w x) b in
     let all = ended ++ given_out false unit in
     let kept = kept_from first (p + 1) mask (unit_bodies t packets) in
+    let e_next = expected_after (Some (p + 1)) (p + 1) mask in
     let step : after_taken_rtp most s (number_at first p, rtp_body t (has_none packets) x) ≡ stepped most t true b w all (number_at first p) (has_none packets) x =
-    step_first most t state unit b ended (expected_at first e) (number_at first p) (has_none packets) x (follows_at first e p gaps.0) other
-    ∙ ap (λ (l : List AccessUnitValue). stepped most t true b w (ended ++ l) (number_at first p) (has_none packets) x) (given_same before p e unit left) in
-    subst (λ (s : UnitDepacketization). IsLeft first t (expected_after (Some (p + 1)) (p + 1) mask) q w.state.format w.state.is_avc (all ++ grown most t true b w (true ∷ mask) (x ∷ packets) ∷ []) (after_all_taken most s kept)) (sym step)
+    step_first most t closed state unit shut (is_place e p) ended (expected_at first e) (number_at first p) (has_none packets) x refl (follows_at first e p gaps.0) other
+    ∙ ap (λ (l : List AccessUnitValue). stepped most t true b w (ended ++ l) (number_at first p) (has_none packets) x) (given_same stamp p e shut (is_run_closed state.run) unit left) in
+    subst (λ (s : UnitDepacketization). IsLeft first t (last_came true mask) e_next q w.state.format w.state.is_avc (all ++ grown most t true b w (true ∷ mask) (x ∷ packets) ∷ []) (after_all_taken most s kept)) (sym step)
     (from_step most first p q t true b w all x packets mask (omega arith)
-    (λ more. subst (λ (c : Bool). IsLeft first t (expected_after (Some (p + 1)) (p + 1) mask) q w.state.format w.state.is_avc (all ++ grown most t holds c (with_run_if c next) mask packets ∷ []) (after_all_taken most (opened first (Some (p + 1)) t next holds all) kept))
+    (λ more. subst (λ (c : Bool). IsLeft first t (last_came false mask) e_next q w.state.format w.state.is_avc (all ++ grown most t holds c (with_run_if c next) mask packets ∷ []) (after_all_taken most (opened first (Some (p + 1)) t next holds all) kept))
     (same_place (p + 1))
     (goes_on most first (p + 1) q t (Some (p + 1)) next holds all mask packets (omega arith) (omega arith) gaps.1 (omega arith) (λ none. absurd (let bad = sym more ∙ none in cc)))))

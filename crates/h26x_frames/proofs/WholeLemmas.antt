@@ -17,8 +17,8 @@ use Rattle.h26x_model.specs.Receive.RunLimit.{run_len, with_run_within}
 use Rattle.h26x_model.specs.Carry.Gaps.{whole_units, after_kept_packets}
 use Rattle.h26x_model.specs.Carry.Laws.{DepacketizerGoesOn, CarriesWhole}
 use Rattle.h26x_receiver.proofs.DeliveryLemmas.{DamagesNothing}
-use Rattle.h26x_frames.specs.AccessUnit.{AccessUnitValue}
-use Rattle.h26x_frames.specs.StampedCalls.{StampedCall, call_packets, after_call, unit_bodies, sent_bodies, are_runs_within, unit_left, last_came, units_left, sent_unit, sent_units, packets_len, AreStreamed, IsSentIfWhole, IsLeftWhole}
+use Rattle.h26x_frames.specs.AccessUnit.{AccessUnitValue, is_closed_at}
+use Rattle.h26x_frames.specs.StampedCalls.{StampedCall, call_packets, after_call, unit_bodies, sent_bodies, are_runs_within, unit_left, last_came, closed_after, units_left, sent_unit, sent_units, packets_len, AreStreamed, IsSentIfWhole, IsLeftWhole}
 use Rattle.h26x_frames.proofs.UnitLemmas.{short_run}
 use Rattle.h26x_frames.proofs.StreamLemmas.{GoesOn, next_call, bodies_long, rest_long}
 
@@ -119,10 +119,10 @@ one_left most s avc before c mask others law on carry ok is small carried long =
     ]
 
 -- what is left of calls
-pub all_left : (most : ℕ) (s : PacketizerState) (avc before : Bool) (calls : List StampedCall) (mask : List Bool) → DamagesNothing → GoesOn → TakesOn → Carries → IsPayloadFormat s.format → AreStreamed s calls →
-    length mask ≡ length (sent_bodies s calls) → AllByRecursion (IsSentIfWhole (sent_units s avc calls)) (units_left most s avc before calls mask)
-all_left most s avc before [] mask law goes on carry ok it long = tt
-all_left most s avc before (c ∷ calls) mask law goes on carry ok it long =
+pub all_left : (most : ℕ) (s : PacketizerState) (avc before : Bool) (closed : Option ℕ) (calls : List StampedCall) (mask : List Bool) → DamagesNothing → GoesOn → TakesOn → Carries → IsPayloadFormat s.format → AreStreamed s calls →
+    length mask ≡ length (sent_bodies s calls) → AllByRecursion (IsSentIfWhole (sent_units s avc calls)) (units_left most s avc before closed calls mask)
+all_left most s avc before closed [] mask law goes on carry ok it long = tt
+all_left most s avc before closed (c ∷ calls) mask law goes on carry ok it long =
     let packets = call_packets s c.call in
     let n = length packets in
     let next = after_call s c.call in
@@ -133,10 +133,12 @@ all_left most s avc before (c ∷ calls) mask law goes on carry ok it long =
     let split = next_call s c calls goes ok it in
     let front = take n mask in
     let others = sent_units next avc calls in
-    let one = one_left most s avc before c front others law on carry ok it.sender (it.calls_are.0, tt) split.carried parts.0 in
-    let rest = all_left most next avc (last_came before front) calls (drop n mask) law goes on carry ok split.streamed parts.1 in
-    all_append (IsSentIfWhole (sent_unit s avc c ∷ others)) (unit_left most s avc before c front) (units_left most next avc (last_came before front) calls (drop n mask)) one
-    (all_behind (sent_unit s avc c) others (units_left most next avc (last_came before front) calls (drop n mask)) rest)
+    let begun = cond (is_closed_at closed c.timestamp) false before in
+    let closed_next = closed_after closed c.timestamp front in
+    let one = one_left most s avc begun c front others law on carry ok it.sender (it.calls_are.0, tt) split.carried parts.0 in
+    let rest = all_left most next avc (last_came before front) closed_next calls (drop n mask) law goes on carry ok split.streamed parts.1 in
+    all_append (IsSentIfWhole (sent_unit s avc c ∷ others)) (unit_left most s avc begun c front) (units_left most next avc (last_came before front) closed_next calls (drop n mask)) one
+    (all_behind (sent_unit s avc c) others (units_left most next avc (last_came before front) closed_next calls (drop n mask)) rest)
 
 -- a law of runs, as it stands in `h26x_model`
 abbrev pub RunsGrow : Type 0

@@ -6,7 +6,7 @@ use Rattle.h26x_core.specs.declared.extra.CodecExtra.{CodecExtra}
 use Rattle.h26x_core.specs.declared.extra.CodecExtra.TheVariants as extras
 use Rattle.h26x_core.specs.declared.error.PacketError.{PacketError}
 use Rattle.h26x_core.specs.declared.error.PacketError.TheVariants.{OutOfMemory}
-use Rattle.h26x_model.specs.Receive.DepacketizerState.{DepacketizerState}
+use Rattle.h26x_model.specs.Receive.DepacketizerState.{DepacketizerState, Depacketization}
 use Rattle.h26x_model.specs.Receive.RunLimit.{run_len, state_with_run}
 use Rattle.h26x_receiver.specs.declared.received.Received.{Received}
 use Rattle.h26x_receiver.specs.declared.received.Received.TheVariants.{TooLong, Late}
@@ -42,25 +42,33 @@ open_unit_value unit = record {
   is_whole = unit.is_whole;
 }
 
--- the access unit that is open, if one is, the run that is open, and whether packets are missing right
--- before those numbers that were skipped last
+-- the access unit that is open, if one is, the run that is open, whether packets are missing right
+-- before those numbers that were skipped last, and the timestamp of the access unit that the marker of
+-- the last packet ended, if it did
 pub record OpenUnitView : Type 0 where
   pub unit : Option AccessUnitValue
   pub run : Option (List ℕ)
   pub is_gap : Bool
+  pub closed : Option ℕ
 
 -- the run stands in the text of the one that is open, or else it is what the last one left
-abbrev pub open_unit_view : Option OpenUnit → Option (List ℕ) → Bool → OpenUnitView
-open_unit_view None left is_gap = record { unit = None; run = left; is_gap = is_gap }
-open_unit_view (Some unit) left is_gap = record {
+abbrev pub open_unit_view : Option OpenUnit → Option (List ℕ) → Bool → Option ℕ → OpenUnitView
+open_unit_view None left is_gap closed = record {
+  unit = None;
+  run = left;
+  is_gap = is_gap;
+  closed = closed;
+}
+open_unit_view (Some unit) left is_gap closed = record {
   unit = Some (open_unit_value unit);
   run = unit.text.run;
   is_gap = is_gap;
+  closed = closed;
 }
 
 -- neither is open
 abbrev pub none_open : OpenUnitView
-none_open = record { unit = None; run = None; is_gap = false }
+none_open = record { unit = None; run = None; is_gap = false; closed = None }
 
 -- one to which no packet came yet
 abbrev pub empty_unit : ℕ → AccessUnitValue
@@ -81,25 +89,29 @@ behind_gap it = record {
   unit = option_map (whole_if false) it.unit;
   run = None;
   is_gap = true;
+  closed = it.closed;
 }
 
 -- what a receiver works on: its depacketizer, the sequence number that is expected next, if one came,
--- whether packets are missing right before those numbers that were skipped last, the access unit that
--- is open, and those that ended
+-- whether packets are missing right before those numbers that were skipped last, the timestamp of the
+-- access unit that the marker of the last packet ended, the access unit that is open, and those that
+-- ended
 pub record UnitDepacketization : Type 0 where
   pub state : DepacketizerState
   pub expected : Option ℕ
   pub is_gap : Bool
+  pub closed : Option ℕ
   pub unit : Option AccessUnitValue
   pub ended : List AccessUnitValue
 
--- these, where none was skipped since the last packet
+-- these, where none was skipped since the last packet, and that bore no marker
 abbrev pub unit_depacketization : DepacketizerState → Option ℕ → Option AccessUnitValue →
     List AccessUnitValue → UnitDepacketization
 unit_depacketization state expected unit ended = record {
   state = state;
   expected = expected;
   is_gap = false;
+  closed = None;
   unit = unit;
   ended = ended;
 }
@@ -111,6 +123,7 @@ open_depacketization state expected it ended = record {
   state = state_with_run state it.run;
   expected = expected;
   is_gap = it.is_gap;
+  closed = it.closed;
   unit = it.unit;
   ended = ended;
 }
@@ -157,18 +170,41 @@ abbrev pub is_run_too_long : Result Received PacketError → Bool
 is_run_too_long (Ok (TooLong n)) = true
 is_run_too_long answer = false
 
--- whether it is known that no packet is missing before a number: it is the one expected, and none is
--- missing before those skipped last
-abbrev pub is_following : Bool → Option ℕ → ℕ → Bool
-is_following is_gap expected number = if is_gap then false else is_expected expected number
+-- whether the marker of the last packet ended an access unit of this timestamp
+abbrev pub is_closed_at : Option ℕ → ℕ → Bool
+is_closed_at None timestamp = false
+is_closed_at (Some closed) timestamp = closed == timestamp
 
--- whether it is known that no packet is missing before a packet that was taken, and it left no run
--- that is too long
+-- whether it is known that nothing of its access unit is missing before a packet with this timestamp
+-- and number: that is the one expected, none is missing before those skipped last, and no marker ended
+-- the access unit right before it
+abbrev pub is_following : Bool → Option ℕ → Option ℕ → ℕ → ℕ → Bool
+is_following is_gap closed expected timestamp number =
+    if is_gap then false else (if is_closed_at closed timestamp then false
+    else is_expected expected number)
+
+-- so of a receiver
+abbrev pub follows : UnitDepacketization → ℕ × RtpBody → Bool
+follows s p = is_following s.is_gap s.closed s.expected p.1.timestamp p.0
+
+-- whether no run is open that holds a byte
+abbrev pub is_run_closed : Option (List ℕ) → Bool
+is_run_closed run = run_len run == 0
+
+-- whether no byte stands of a packet, by what stood before it and after it: neither in the text nor in
+-- a run, as of a fragment whose start is missing
+abbrev pub is_dropped : Depacketization → Depacketization → Bool
+is_dropped before after = (length before.out == length after.out) && is_run_closed after.state.run
+
+-- whether it is known that nothing of its access unit is missing before a packet that was taken, and
+-- bytes of it stand, and it left no run that is too long
 abbrev pub is_sound : ℕ → UnitDepacketization → ℕ × RtpBody → Bool
 is_sound most s p =
     if nat_lt most
     (run_len (after_sequenced_packet (taken_by s p.1.timestamp) p.0 p.1.payload).state.run)
-    then false else is_following s.is_gap s.expected p.0
+    then false
+    else (if is_dropped (taken_by s p.1.timestamp).at_work
+    (after_sequenced_packet (taken_by s p.1.timestamp) p.0 p.1.payload) then false else follows s p)
 
 -- the access unit of a packet that was taken, with what it completed
 abbrev pub unit_with : ℕ → UnitDepacketization → ℕ × RtpBody → AccessUnitValue
@@ -196,19 +232,27 @@ abbrev pub given_out : Bool → Option AccessUnitValue → List AccessUnitValue
 given_out holds None = []
 given_out holds (Some unit) = whole_if holds unit ∷ []
 
--- what a packet's timestamp ends, if it is another one
-abbrev pub ended_by : Bool → Option AccessUnitValue → ℕ → List AccessUnitValue
-ended_by follows unit timestamp = if is_unit_at unit timestamp then [] else given_out follows unit
+-- What a packet ends by its timestamp, if that is another one. The access unit is known to be whole
+-- only if the packet follows it, and no run is open.
+abbrev pub ended_by : UnitDepacketization → ℕ × RtpBody → List AccessUnitValue
+ended_by s p = if is_unit_at s.unit p.1.timestamp then []
+    else given_out (follows s p && is_run_closed s.state.run) s.unit
 
 -- What stands after a packet that was taken, before the access unit that is open is measured: another
--- timestamp ends the one that was, and the marker ends the packet's own.
+-- timestamp ends the one that was, and the marker ends the packet's own, which is known to be whole
+-- only if no run is open then.
 abbrev pub after_taken_rtp : ℕ → UnitDepacketization → ℕ × RtpBody → UnitDepacketization
-after_taken_rtp most s p = unit_depacketization
-    (after_taken_packet most (taken_by s p.1.timestamp) p.0 p.1.payload).at_work.state
-    (after_taken_packet most (taken_by s p.1.timestamp) p.0 p.1.payload).expected
-    (if p.1.marker then None else Some (unit_with most s p))
-    ((s.ended ++ ended_by (is_following s.is_gap s.expected p.0) s.unit p.1.timestamp)
-    ++ (if p.1.marker then unit_with most s p ∷ [] else []))
+after_taken_rtp most s p = record {
+  state = (after_taken_packet most (taken_by s p.1.timestamp) p.0 p.1.payload).at_work.state;
+  expected = (after_taken_packet most (taken_by s p.1.timestamp) p.0 p.1.payload).expected;
+  is_gap = false;
+  closed = if p.1.marker then Some p.1.timestamp else None;
+  unit = if p.1.marker then None else Some (unit_with most s p);
+  ended = (s.ended ++ ended_by s p)
+      ++ (if p.1.marker then whole_if (is_run_closed
+      (after_taken_packet most (taken_by s p.1.timestamp) p.0 p.1.payload).at_work.state.run)
+      (unit_with most s p) ∷ [] else []);
+}
 
 -- what stands after an answer: a packet that was not taken changes nothing
 abbrev pub after_rtp : ℕ → ℕ → UnitDepacketization → ℕ × RtpBody →
@@ -228,6 +272,7 @@ after_unit_skip s number =
       state = state_with_run s.state None;
       expected = expected_after_skip s.expected number;
       is_gap = true;
+      closed = s.closed;
       unit = option_map (whole_if false) s.unit;
       ended = s.ended;
     }

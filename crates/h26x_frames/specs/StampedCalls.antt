@@ -18,7 +18,7 @@ use Rattle.h26x_receiver.specs.declared.received.Received.{Received}
 use Rattle.h26x_receiver.specs.Delivery.{AreNextPlaces, mask_of_places, IsWantOrTooLong}
 use Rattle.h26x_frames.specs.Reordering.{in_order, IsReordered}
 use Rattle.h26x_frames.specs.Rtp.{RtpBody, rtp_body}
-use Rattle.h26x_frames.specs.AccessUnit.{AccessUnitValue, UnitDepacketization}
+use Rattle.h26x_frames.specs.AccessUnit.{AccessUnitValue, UnitDepacketization, is_closed_at}
 
 -- a call, and the timestamp of the access unit that it sends
 pub record StampedCall : Type 0 where
@@ -91,21 +91,46 @@ abbrev pub last_came : Bool → List Bool → Bool
 last_came before [] = before
 last_came before (came ∷ mask) = last_came came mask
 
--- of calls, one after the other
-abbrev pub units_left : ℕ → PacketizerState → Bool → Bool → List StampedCall → List Bool →
-    List AccessUnitValue
-units_left most s avc before [] mask = []
-units_left most s avc before (c ∷ calls) mask =
-    unit_left most s avc before c (take (length (call_packets s c.call)) mask)
+-- the timestamp of an access unit whose last packet came, behind packets of which a mask says which
+-- came: that of theirs, or where none of them came the one before
+abbrev pub closed_after : Option ℕ → ℕ → List Bool → Option ℕ
+closed_after before timestamp mask =
+    if list_any (λ came. came) mask
+    then (if last_came false mask then Some timestamp else None) else before
+
+-- that of one whose last packet did not come
+abbrev pub open_after : Option ℕ → ℕ → List Bool → Option ℕ
+open_after before timestamp mask =
+    if list_any (λ came. came) mask
+    then (if last_came false mask then None else Some timestamp) else before
+
+-- Of calls, one after the other. Where the last packet of an access unit came, the next one of its
+-- timestamp goes on with it, and isn't known to be whole: such a timestamp is given, if one is.
+abbrev pub units_left : ℕ → PacketizerState → Bool → Bool → Option ℕ → List StampedCall →
+    List Bool → List AccessUnitValue
+units_left most s avc before closed [] mask = []
+units_left most s avc before closed (c ∷ calls) mask =
+    unit_left most s avc (if is_closed_at closed c.timestamp then false else before) c
+    (take (length (call_packets s c.call)) mask)
     ++ units_left most (after_call s c.call) avc
-    (last_came before (take (length (call_packets s c.call)) mask)) calls
+    (last_came before (take (length (call_packets s c.call)) mask))
+    (closed_after closed c.timestamp (take (length (call_packets s c.call)) mask)) calls
     (drop (length (call_packets s c.call)) mask)
 
--- access units that come one behind the other have other timestamps
-abbrev pub AreApart : List AccessUnitValue → Type 0
-AreApart [] = Unit {0}
-AreApart (unit ∷ []) = Unit {0}
-AreApart (unit ∷ next ∷ units) = (unit.timestamp ≡ next.timestamp → ⊥) × AreApart (next ∷ units)
+-- a timestamp other than that of an access unit that is open, if one is
+abbrev pub IsOtherStamp : Option ℕ → ℕ → Type 0
+IsOtherStamp None timestamp = Unit {0}
+IsOtherStamp (Some stamp) timestamp = stamp ≡ timestamp → ⊥
+
+-- Access units of which packets come, one behind the other, have other timestamps, or the last packet
+-- of the earlier one comes; the timestamp of one that is open is given, if one is.
+abbrev pub AreApart : Option ℕ → PacketizerState → List StampedCall → List Bool → Type 0
+AreApart stamp s [] mask = Unit {0}
+AreApart stamp s (c ∷ calls) mask =
+    (list_any (λ came. came) (take (length (call_packets s c.call)) mask) ≡ true →
+    IsOtherStamp stamp c.timestamp)
+    × AreApart (open_after stamp c.timestamp (take (length (call_packets s c.call)) mask))
+    (after_call s c.call) calls (drop (length (call_packets s c.call)) mask)
 
 -- no access unit holds more bytes than this
 abbrev pub AreUnitsWithin : ℕ → List AccessUnitValue → Type 0
@@ -162,19 +187,17 @@ pub record IsStream (s : PacketizerState) (calls : List StampedCall) (first : �
   pub order : AreNextPlaces (first_place known) places
 
 -- Of whatever calls the packets are a stream, these access units are those that the packets leave of
--- the calls, in order. Those that come one behind the other have other timestamps, and none holds more
--- than the limit.
+-- the calls, in order. Those of one timestamp are told apart, and none holds more than the limit.
 abbrev pub AreAccessUnitsLeft : ℕ → ℕ → UnitDepacketization → List (ℕ × RtpBody) →
     List AccessUnitValue → Type 0
 AreAccessUnitsLeft most limit w packets units = (s : PacketizerState) (calls : List StampedCall)
     (first : ℕ) (known : Bool) (places : List ℕ) → w.state.format ≡ s.format →
     w.expected ≡ option_map (λ place. (first + place) % 2 ^ 16) (first_place known) →
     IsStream s calls first known places packets →
-    AreApart (units_left most s w.state.is_avc known calls
+    AreApart None s calls (mask_of_places places (length (sent_bodies s calls))) →
+    AreUnitsWithin limit (units_left most s w.state.is_avc known w.closed calls
     (mask_of_places places (length (sent_bodies s calls)))) →
-    AreUnitsWithin limit (units_left most s w.state.is_avc known calls
-    (mask_of_places places (length (sent_bodies s calls)))) →
-    units ≡ w.ended ++ units_left most s w.state.is_avc known calls
+    units ≡ w.ended ++ units_left most s w.state.is_avc known w.closed calls
     (mask_of_places places (length (sent_bodies s calls)))
 
 -- The packets that a network brings of those that calls send, in the order in which they come: any of
@@ -189,8 +212,8 @@ pub record IsBroughtStream (window : ℕ) (s : PacketizerState) (calls : List St
   pub gaps : AreNextPlaces (first_place known) (in_order places)
 
 -- Of whatever calls a network brought the packets, these access units are those that the packets
--- leave of the calls, in order. Those that come one behind the other have other timestamps, and none
--- holds more than the limit.
+-- leave of the calls, in order. Those of one timestamp are told apart, and none holds more than the
+-- limit.
 abbrev pub AreAccessUnitsBrought : ℕ → ℕ → ℕ → UnitDepacketization → List (ℕ × RtpBody) →
     List AccessUnitValue → Type 0
 AreAccessUnitsBrought window most limit w packets units = (s : PacketizerState)
@@ -198,11 +221,10 @@ AreAccessUnitsBrought window most limit w packets units = (s : PacketizerState)
     w.state.format ≡ s.format →
     w.expected ≡ option_map (λ place. (first + place) % 2 ^ 16) (first_place known) →
     IsBroughtStream window s calls first known places packets →
-    AreApart (units_left most s w.state.is_avc known calls
+    AreApart None s calls (mask_of_places places (length (sent_bodies s calls))) →
+    AreUnitsWithin limit (units_left most s w.state.is_avc known w.closed calls
     (mask_of_places places (length (sent_bodies s calls)))) →
-    AreUnitsWithin limit (units_left most s w.state.is_avc known calls
-    (mask_of_places places (length (sent_bodies s calls)))) →
-    units ≡ w.ended ++ units_left most s w.state.is_avc known calls
+    units ≡ w.ended ++ units_left most s w.state.is_avc known w.closed calls
     (mask_of_places places (length (sent_bodies s calls)))
 
 -- Of whatever calls a network brought the packets, none that a buffer gives out is refused for what it

@@ -1,10 +1,10 @@
 //! Access units, and the one that is open.
 
-ghost use Rattle.std.specs.Prelude.{◌≡◌, ◌+◌, ◌≤◌, ◌++◌, ◌∷◌, [], if◌then◌else◌, true, false, None, Some, MatchBool, map, vec_len, vec_capacity, is_some};
+ghost use Rattle.std.specs.Prelude.{◌≡◌, ◌+◌, ◌≤◌, ◌==◌, ◌&&◌, ◌++◌, ◌∷◌, [], if◌then◌else◌, true, false, None, Some, MatchBool, map, length, vec_len, vec_capacity, is_some};
 ghost use Rattle.h26x_model.specs.Receive.RunLimit.{run_len};
 ghost use Rattle.h26x_receiver.specs.Sequenced.{is_taken};
 ghost use Rattle.h26x_frames.specs.Rtp.{rtp_body};
-ghost use Rattle.h26x_frames.specs.AccessUnit.{access_unit_value, open_unit_value, open_unit_view, empty_unit, whole_if, none_open, behind_gap, unit_len, unit_within, is_unit_at, given_out, open_depacketization, IsTakenAnswer, after_taken_rtp};
+ghost use Rattle.h26x_frames.specs.AccessUnit.{access_unit_value, open_unit_value, open_unit_view, empty_unit, whole_if, none_open, behind_gap, is_following, is_run_closed, unit_len, unit_within, is_unit_at, given_out, open_depacketization, IsTakenAnswer, after_taken_rtp};
 
 use crate::answers::{is_following, is_sound, was_taken};
 use crate::packet::RtpPacket;
@@ -26,9 +26,10 @@ pub struct AccessUnit {
     /// What is told of these units; `CodecExtra::None` where there is none.
     pub extra: CodecExtra,
     /// Whether it is known that nothing of it is missing: its packets followed each other, its first
-    /// the packet before it, and its last bore the marker or was followed by another timestamp; and no
-    /// run of it was too long, nor its text. Where the packet before it is missing it isn't known,
-    /// since that may have been its first.
+    /// the packet before it, and its last bore the marker or was followed by another timestamp; no
+    /// unit of it lacks its start or its end; and no run of it was too long, nor its text. Where the
+    /// packet before it is missing it isn't known, since that may have been its first; nor where the
+    /// marker ended one of its timestamp right before it, with which it goes on.
     pub is_whole: bool,
 }
 
@@ -63,18 +64,19 @@ impl OpenUnit {
         packets: &mut SequencedDepacketizer<D>,
         packet: &RtpPacket<'_>,
         is_gap: bool,
+        closed: Option<u32>,
         may_be_inside: bool,
     ) -> Result<Received, PacketError>
         requires { self.old.timestamp ≡ packet.now.1.timestamp }
         ensures answer { IsTakenAnswer packets.old.run_limit (open_depacketization
             (D.state packets.old.depacketizer) packets.old.expected
-            (open_unit_view (Some self.old) None is_gap) []) packet.now result }
+            (open_unit_view (Some self.old) None is_gap closed) []) packet.now result }
         ensures after { is_taken result ≡ true →
             open_depacketization (D.state packets.new.depacketizer) packets.new.expected
-            (open_unit_view (Some self.new) None false) []
+            (open_unit_view (Some self.new) None false None) []
             ≡ after_taken_rtp packets.old.run_limit (open_depacketization
             (D.state packets.old.depacketizer) packets.old.expected
-            (open_unit_view (Some self.old) None is_gap) [])
+            (open_unit_view (Some self.old) None is_gap closed) [])
             (packet.now.0, rtp_body packet.now.1.timestamp false packet.now.1.payload) }
         ensures rest { is_taken result ≡ true → packets.new.depacketizer
             ≡ D.having_taken packet.now.1.payload packets.old.depacketizer }
@@ -84,10 +86,11 @@ impl OpenUnit {
         ensures aside { may_be_inside ≡ false → is_taken result ≡ true →
             self.new.text.inside ≡ None }
         ensures kept { MatchBool (is_taken result) (Unit {0}) ((packets.new ≡ packets.old)
-            × (open_unit_view (Some self.new) None is_gap
-            ≡ open_unit_view (Some self.old) None is_gap)) }
+            × (open_unit_view (Some self.new) None is_gap closed
+            ≡ open_unit_view (Some self.old) None is_gap closed)) }
     {
-        let follows = is_following(is_gap, packets.expected, packet.sequence);
+        let follows = is_following(is_gap, closed, packets.expected, packet);
+        let len = self.text.len();
         let received = packets.receive_in_text(
             packet.sequence,
             packet.payload,
@@ -95,10 +98,30 @@ impl OpenUnit {
             &mut self.text,
             &mut self.extra,
         );
+        let is_dropped = self.is_dropped(len);
+        let is_sound = is_sound(follows, is_dropped, &received);
         if was_taken(&received) {
-            self.is_whole = self.is_whole && is_sound(follows, &received);
+            self.is_whole = self.is_whole && is_sound;
         }
         received
+    }
+
+    /// Whether no byte stands of a packet before which the text had so many: neither there nor in a
+    /// run.
+    #[inline]
+    pub(crate) fn is_dropped(&self, len: usize) -> bool
+        ensures { result ≡ ((len == length self.now.text.text) && is_run_closed self.now.text.run) }
+    {
+        len == self.text.len() && self.text.run_len() == 0
+    }
+
+    /// Packets are missing: gives up the run, and it isn't known to be whole.
+    fn break_off(&mut self)
+        ensures unit { open_unit_value self.new ≡ whole_if false (open_unit_value self.old) }
+        ensures run { self.new.text.run ≡ None }
+    {
+        self.text.give_up_run();
+        self.is_whole = false;
     }
 
     /// The access unit, known to be whole only if this holds too. A run that is open goes.
@@ -116,13 +139,14 @@ impl OpenUnit {
 }
 
 /// The access unit that is open, if one is: the next packet may belong to it. And the run that is
-/// open, in its text, or left by the last one; and whether packets are missing right before the numbers
-/// that were skipped last.
+/// open, in its text, or left by the last one; whether packets are missing right before the numbers
+/// that were skipped last; and the timestamp of the one that the marker of the last packet ended.
 #[derive(Debug, Drop)]
 pub struct OpenAccessUnit {
     unit: Option<OpenUnit>,
     left: OpenRun,
     is_gap: bool,
+    closed: Option<u32>,
 }
 
 impl Model for OpenAccessUnit {
@@ -131,7 +155,7 @@ impl Model for OpenAccessUnit {
 
     ghost Value = { OpenUnitView };
 
-    ghost view = { λ a. open_unit_view a.unit a.left a.is_gap };
+    ghost view = { λ a. open_unit_view a.unit a.left a.is_gap a.closed };
 
     ghost invariant = { λ a. is_some a.unit ≡ true → a.left ≡ None };
 }
@@ -145,6 +169,7 @@ impl OpenAccessUnit {
             unit: None,
             left: OpenRun::none(alloc),
             is_gap: false,
+            closed: None,
         }
     }
 
@@ -190,12 +215,13 @@ impl OpenAccessUnit {
         }
     }
 
-    /// Whether packets are missing right before the numbers that were skipped last.
+    /// Whether it is known that nothing of its access unit is missing before a packet.
     #[inline]
-    pub(crate) fn is_gap(&self) -> bool
-        ensures { result ≡ self.now.is_gap }
+    pub(crate) fn follows(&self, expected: Option<u16>, packet: &RtpPacket<'_>) -> bool
+        ensures { result ≡ is_following self.now.is_gap self.now.closed expected
+            packet.now.1.timestamp packet.now.0 }
     {
-        self.is_gap
+        is_following(self.is_gap, self.closed, expected, packet)
     }
 
     /// Packets are missing, and a number behind them is skipped: gives up the run, and neither what is
@@ -204,10 +230,9 @@ impl OpenAccessUnit {
         ensures { self.new ≡ behind_gap self.old }
     {
         self.is_gap = true;
-        self.left.close();
-        if let Some(unit) = &mut self.unit {
-            unit.text.give_up_run();
-            unit.is_whole = false;
+        match &mut self.unit {
+            Some(unit) => unit.break_off(),
+            None => self.left.close(),
         }
     }
 
@@ -247,8 +272,11 @@ impl OpenAccessUnit {
     {
         match &mut self.unit {
             Some(unit) => {
-                let received = unit.take(packets, packet, self.is_gap, true);
-                self.is_gap = self.is_gap && !was_taken(&received);
+                let received = unit.take(packets, packet, self.is_gap, self.closed, true);
+                if was_taken(&received) {
+                    self.is_gap = false;
+                    self.closed = None;
+                }
                 received
             }
             None => unreachable!(),
@@ -284,14 +312,16 @@ impl OpenAccessUnit {
     {
         match self.unit.take() {
             Some(mut unit) => {
-                let received = unit.take(packets, packet, self.is_gap, false);
+                let received = unit.take(packets, packet, self.is_gap, self.closed, false);
                 if !was_taken(&received) {
                     self.unit = Some(unit);
                     return received;
                 }
                 self.is_gap = false;
+                self.closed = Some(unit.timestamp);
+                let is_closed = unit.text.run_len() == 0;
                 unit.text.move_run(&mut self.left);
-                out.push(unit.end(true)).unwrap();
+                out.push(unit.end(is_closed)).unwrap();
                 received
             }
             None => unreachable!(),
@@ -315,14 +345,18 @@ impl OpenAccessUnit {
             else Some (whole_if is_sound (open_unit_value unit))) }
         ensures run { self.new.run ≡ unit.text.run }
         ensures gap { self.new.is_gap ≡ false }
+        ensures closed { self.new.closed ≡ (if is_over then Some unit.timestamp else None) }
         ensures out { map access_unit_value out.new.items ≡ map access_unit_value out.old.items
-            ++ (if is_over then whole_if is_sound (open_unit_value unit) ∷ [] else []) }
+            ++ (if is_over then whole_if (is_run_closed unit.text.run)
+            (whole_if is_sound (open_unit_value unit)) ∷ [] else []) }
     {
+        unit.is_whole = unit.is_whole && is_sound;
         if is_over {
+            self.closed = Some(unit.timestamp);
+            let is_closed = unit.text.run_len() == 0;
             unit.text.move_run(&mut self.left);
-            out.push(unit.end(is_sound)).unwrap();
+            out.push(unit.end(is_closed)).unwrap();
         } else {
-            unit.is_whole = unit.is_whole && is_sound;
             self.unit = Some(unit);
         }
     }
@@ -333,14 +367,16 @@ impl OpenAccessUnit {
         requires { vec_len out.old + 1 ≤ vec_capacity out.old }
         ensures none { self.new ≡ none_open }
         ensures out { map access_unit_value out.new.items ≡ map access_unit_value out.old.items
-            ++ given_out follows self.old.unit }
+            ++ given_out (follows && is_run_closed self.old.run) self.old.unit }
         ensures len { vec_len out.new ≤ vec_len out.old + 1 }
         ensures capacity { vec_capacity out.old ≤ vec_capacity out.new }
     {
         self.is_gap = false;
+        self.closed = None;
         self.left.close();
         if let Some(unit) = self.unit.take() {
-            out.push(unit.end(follows)).unwrap();
+            let is_closed = unit.text.run_len() == 0;
+            out.push(unit.end(follows && is_closed)).unwrap();
         }
     }
 }

@@ -3,8 +3,9 @@
 ghost use Rattle.std.specs.Prelude.{◌≡◌, false, if◌then◌else◌};
 ghost use Rattle.h26x_receiver.specs.Sequence.{is_expected};
 ghost use Rattle.h26x_receiver.specs.Sequenced.{is_taken};
-ghost use Rattle.h26x_frames.specs.AccessUnit.{is_following, is_run_too_long};
+ghost use Rattle.h26x_frames.specs.AccessUnit.{is_closed_at, is_following, is_run_too_long};
 
+use crate::packet::RtpPacket;
 use h26x_core::PacketError;
 use h26x_receiver::Received;
 
@@ -19,12 +20,28 @@ pub(crate) fn is_next(expected: Option<u16>, sequence: u16) -> bool
     }
 }
 
-/// Whether it is known that no packet is missing before a sequence number.
+/// Whether the marker of the last packet ended an access unit of this timestamp.
 #[inline]
-pub(crate) fn is_following(is_gap: bool, expected: Option<u16>, sequence: u16) -> bool
-    ensures { result ≡ is_following is_gap expected sequence }
+fn is_closed_at(closed: Option<u32>, timestamp: u32) -> bool
+    ensures { result ≡ is_closed_at closed timestamp }
 {
-    !is_gap && is_next(expected, sequence)
+    match closed {
+        Some(closed) => closed == timestamp,
+        None => false,
+    }
+}
+
+/// Whether it is known that nothing of its access unit is missing before a packet.
+#[inline]
+pub(crate) fn is_following(
+    is_gap: bool,
+    closed: Option<u32>,
+    expected: Option<u16>,
+    packet: &RtpPacket<'_>,
+) -> bool
+    ensures { result ≡ is_following is_gap closed expected packet.now.1.timestamp packet.now.0 }
+{
+    !is_gap && !is_closed_at(closed, packet.timestamp) && is_next(expected, packet.sequence)
 }
 
 /// Whether a packet was taken.
@@ -38,13 +55,19 @@ pub(crate) fn was_taken(received: &Result<Received, PacketError>) -> bool
     }
 }
 
-/// Whether a packet that was taken follows the one before it, and left no run that was too long.
+/// Whether a packet that was taken follows the one before it, stands in the text or a run, and left no
+/// run that was too long.
 #[inline]
-pub(crate) fn is_sound(follows: bool, received: &Result<Received, PacketError>) -> bool
-    ensures { result ≡ (if is_run_too_long received.now then false else follows) }
+pub(crate) fn is_sound(
+    follows: bool,
+    is_dropped: bool,
+    received: &Result<Received, PacketError>,
+) -> bool
+    ensures { result ≡ (if is_run_too_long received.now then false
+        else (if is_dropped then false else follows)) }
 {
     match received {
         Ok(Received::TooLong(_)) => false,
-        _ => follows,
+        _ => !is_dropped && follows,
     }
 }

@@ -8,7 +8,7 @@ ghost use Rattle.h26x_frames.specs.Reordering.{empty_buffer, put, in_order, rele
 ghost use Rattle.h26x_frames.specs.ReorderBuffer.{buffer_state, fresh_buffer, push_answer, next_packet, reordered};
 ghost use Rattle.h26x_frames.specs.Network.{IsNetwork, released_packets};
 ghost use Rattle.h26x_frames.specs.Rtp.{rtp_body};
-ghost use Rattle.h26x_frames.specs.AccessUnit.{empty_unit, fresh_units, after_all_rtp, after_unit_skip, after_end, HaveUnitAnswers};
+ghost use Rattle.h26x_frames.specs.AccessUnit.{fresh_units, after_all_rtp, after_unit_skip, after_end, HaveUnitAnswers};
 ghost use Rattle.h26x_frames.specs.StampedCalls.{stamped_call, call_packets, sent_bodies, unit_left, units_left, sent_unit, sent_units, packets_len, AreApart, AreUnitsWithin, IsStream, IsBroughtStream};
 
 use crate::buffer::Pushed;
@@ -134,6 +134,42 @@ pub fn access_units_by_marker_and_timestamp()
         ≡ (3000, false) ∷ (6000, false) ∷ [] }
 {}
 
+/// Where the marker is not at the end of an access unit. On each slice: the second isn't told to be
+/// whole, since it goes on with the first. On a middle fragment: a unit of neither is ended. A fragment
+/// whose start is missing, though no number is, or another timestamp while a unit is open: nor these.
+pub fn markers_that_are_wrong()
+    ensures each_slice { map {B = ℕ × Bool} (λ u. (u.timestamp, u.is_whole))
+        (after_all_rtp 4 12 (fresh_units (fresh_depacketizer_state h264))
+        ((7, rtp_body 3000 true (0x65 ∷ [])) ∷ (8, rtp_body 6000 true (0x61 ∷ []))
+        ∷ (9, rtp_body 6000 true (0x61 ∷ [])) ∷ (10, rtp_body 9000 true (0x61 ∷ [])) ∷ [])
+        (Ok Received.InOrder ∷ Ok Received.InOrder ∷ Ok Received.InOrder ∷ Ok Received.InOrder
+        ∷ [])).ended
+        ≡ (3000, false) ∷ (6000, true) ∷ (6000, false) ∷ (9000, true) ∷ [] }
+    ensures middle { map {B = ℕ × List ℕ × Bool} (λ u. (u.timestamp, u.bytes, u.is_whole))
+        (after_all_rtp 4 12 (fresh_units (fresh_depacketizer_state h264))
+        ((7, rtp_body 3000 true (0x65 ∷ []))
+        ∷ (8, rtp_body 6000 false (0x7c ∷ 0x85 ∷ 0x01 ∷ []))
+        ∷ (9, rtp_body 6000 true (0x7c ∷ 0x05 ∷ 0x02 ∷ []))
+        ∷ (10, rtp_body 6000 true (0x7c ∷ 0x45 ∷ 0x03 ∷ [])) ∷ [])
+        (Ok Received.InOrder ∷ Ok Received.InOrder ∷ Ok Received.InOrder ∷ Ok Received.InOrder
+        ∷ [])).ended
+        ≡ (3000, 0x00 ∷ 0x00 ∷ 0x00 ∷ 0x01 ∷ 0x65 ∷ [], false) ∷ (6000, [], false)
+        ∷ (6000, [], false) ∷ [] }
+    ensures startless { map {B = ℕ × Bool} (λ u. (u.timestamp, u.is_whole))
+        (after_all_rtp 4 12 (fresh_units (fresh_depacketizer_state h264))
+        ((7, rtp_body 3000 true (0x65 ∷ [])) ∷ (8, rtp_body 6000 false (0x61 ∷ []))
+        ∷ (9, rtp_body 6000 true (0x7c ∷ 0x45 ∷ 0x03 ∷ [])) ∷ [])
+        (Ok Received.InOrder ∷ Ok Received.InOrder ∷ Ok Received.InOrder ∷ [])).ended
+        ≡ (3000, false) ∷ (6000, false) ∷ [] }
+    ensures cut_off { map {B = ℕ × Bool} (λ u. (u.timestamp, u.is_whole))
+        (after_all_rtp 4 12 (fresh_units (fresh_depacketizer_state h264))
+        ((7, rtp_body 3000 true (0x65 ∷ []))
+        ∷ (8, rtp_body 6000 false (0x7c ∷ 0x85 ∷ 0x01 ∷ []))
+        ∷ (9, rtp_body 9000 true (0x61 ∷ [])) ∷ [])
+        (Ok Received.InOrder ∷ Ok Received.InOrder ∷ Ok Received.InOrder ∷ [])).ended
+        ≡ (3000, false) ∷ (6000, false) ∷ (9000, true) ∷ [] }
+{}
+
 /// Numbers that bear nothing. In order the access unit around one is whole; where another is missing
 /// before it neither the open one is, nor one that begins behind it, but the next one.
 pub fn numbers_skipped_in_access_units()
@@ -189,14 +225,24 @@ pub fn access_units_at_the_limit()
         ∷ (0x00 ∷ 0x00 ∷ 0x00 ∷ 0x01 ∷ 0x61 ∷ [], true) ∷ [] }
 {}
 
-/// Access units with one timestamp are apart only where one with another stands between them; a limit
-/// holds a text of its own length, and none that is longer.
+/// Access units with one timestamp are apart where the last packet of the earlier one came, or none of
+/// the later one; a limit holds a text of its own length, and none that is longer.
 pub fn access_units_apart_and_within()
-    ensures same { AreApart (empty_unit 3000 ∷ empty_unit 3000 ∷ []) → ⊥ }
-    ensures between { AreApart (empty_unit 3000 ∷ empty_unit 6000 ∷ empty_unit 3000 ∷ []) }
-    ensures within { AreUnitsWithin 6 (units_left 4 (fresh_packetizer_state h264) false true
+    ensures open { AreApart None (fresh_packetizer_state h264)
+        (stamped_call 3000 (fresh_call 3 (0x65 ∷ 0x01 ∷ 0x02 ∷ 0x03 ∷ []))
+        ∷ stamped_call 3000 (fresh_call 3 (0x61 ∷ 0x05 ∷ [])) ∷ [])
+        (true ∷ true ∷ false ∷ true ∷ []) → ⊥ }
+    ensures ended { AreApart None (fresh_packetizer_state h264)
+        (stamped_call 3000 (fresh_call 3 (0x65 ∷ 0x01 ∷ 0x02 ∷ 0x03 ∷ []))
+        ∷ stamped_call 3000 (fresh_call 3 (0x61 ∷ 0x05 ∷ [])) ∷ [])
+        (false ∷ false ∷ true ∷ true ∷ []) }
+    ensures other { AreApart (Some 3000) (fresh_packetizer_state h264)
+        (stamped_call 6000 (fresh_call 3 (0x61 ∷ 0x05 ∷ [])) ∷ []) (true ∷ []) }
+    ensures not_come { AreApart (Some 3000) (fresh_packetizer_state h264)
+        (stamped_call 3000 (fresh_call 3 (0x61 ∷ 0x05 ∷ [])) ∷ []) (false ∷ []) }
+    ensures within { AreUnitsWithin 6 (units_left 4 (fresh_packetizer_state h264) false true None
         (stamped_call 6000 (fresh_call 3 (0x61 ∷ 0x05 ∷ [])) ∷ []) (true ∷ [])) }
-    ensures longer { AreUnitsWithin 5 (units_left 4 (fresh_packetizer_state h264) false true
+    ensures longer { AreUnitsWithin 5 (units_left 4 (fresh_packetizer_state h264) false true None
         (stamped_call 6000 (fresh_call 3 (0x61 ∷ 0x05 ∷ [])) ∷ []) (true ∷ [])) → ⊥ }
 {}
 
@@ -229,27 +275,34 @@ pub fn access_units_left()
         ∷ rtp_body 3000 true (0x7c ∷ 0x45 ∷ 0x03 ∷ [])
         ∷ rtp_body 6000 true (0x61 ∷ 0x05 ∷ []) ∷ [] }
     ensures all { map {B = ℕ × List ℕ × Bool} (λ u. (u.timestamp, u.bytes, u.is_whole))
-        (units_left 4 (fresh_packetizer_state h264) false true
+        (units_left 4 (fresh_packetizer_state h264) false true None
         (stamped_call 3000 (fresh_call 3 (0x65 ∷ 0x01 ∷ 0x02 ∷ 0x03 ∷ []))
         ∷ stamped_call 6000 (fresh_call 3 (0x61 ∷ 0x05 ∷ [])) ∷ [])
         (true ∷ true ∷ true ∷ true ∷ []))
         ≡ (3000, 0x00 ∷ 0x00 ∷ 0x00 ∷ 0x01 ∷ 0x65 ∷ 0x01 ∷ 0x02 ∷ 0x03 ∷ [], true)
         ∷ (6000, 0x00 ∷ 0x00 ∷ 0x00 ∷ 0x01 ∷ 0x61 ∷ 0x05 ∷ [], true) ∷ [] }
     ensures middle { map {B = ℕ × List ℕ × Bool} (λ u. (u.timestamp, u.bytes, u.is_whole))
-        (units_left 4 (fresh_packetizer_state h264) false true
+        (units_left 4 (fresh_packetizer_state h264) false true None
         (stamped_call 3000 (fresh_call 3 (0x65 ∷ 0x01 ∷ 0x02 ∷ 0x03 ∷ []))
         ∷ stamped_call 6000 (fresh_call 3 (0x61 ∷ 0x05 ∷ [])) ∷ [])
         (true ∷ false ∷ true ∷ true ∷ []))
         ≡ (3000, [], false)
         ∷ (6000, 0x00 ∷ 0x00 ∷ 0x00 ∷ 0x01 ∷ 0x61 ∷ 0x05 ∷ [], true) ∷ [] }
+    ensures goes_on { map {B = ℕ × Bool} (λ u. (u.timestamp, u.is_whole))
+        (units_left 4 (fresh_packetizer_state h264) false true None
+        (stamped_call 3000 (fresh_call 3 (0x65 ∷ 0x01 ∷ 0x02 ∷ 0x03 ∷ []))
+        ∷ stamped_call 3000 (fresh_call 3 (0x61 ∷ 0x05 ∷ []))
+        ∷ stamped_call 6000 (fresh_call 3 (0x61 ∷ 0x06 ∷ [])) ∷ [])
+        (true ∷ true ∷ true ∷ true ∷ true ∷ []))
+        ≡ (3000, true) ∷ (3000, false) ∷ (6000, true) ∷ [] }
     ensures none { map {B = ℕ × List ℕ × Bool} (λ u. (u.timestamp, u.bytes, u.is_whole))
-        (units_left 4 (fresh_packetizer_state h264) false true
+        (units_left 4 (fresh_packetizer_state h264) false true None
         (stamped_call 3000 (fresh_call 3 (0x65 ∷ 0x01 ∷ 0x02 ∷ 0x03 ∷ []))
         ∷ stamped_call 6000 (fresh_call 3 (0x61 ∷ 0x05 ∷ [])) ∷ [])
         (false ∷ false ∷ false ∷ true ∷ []))
         ≡ (6000, 0x00 ∷ 0x00 ∷ 0x00 ∷ 0x01 ∷ 0x61 ∷ 0x05 ∷ [], false) ∷ [] }
     ensures too_long { map {B = ℕ × List ℕ × Bool} (λ u. (u.timestamp, u.bytes, u.is_whole))
-        (units_left 1 (fresh_packetizer_state h264) false true
+        (units_left 1 (fresh_packetizer_state h264) false true None
         (stamped_call 3000 (fresh_call 3 (0x65 ∷ 0x01 ∷ 0x02 ∷ 0x03 ∷ [])) ∷ [])
         (true ∷ true ∷ true ∷ []))
         ≡ (3000, [], false) ∷ [] }
@@ -265,10 +318,10 @@ pub fn a_stream()
         ((65535, rtp_body 3000 false (0x7c ∷ 0x85 ∷ 0x01 ∷ []))
         ∷ (1, rtp_body 3000 true (0x7c ∷ 0x45 ∷ 0x03 ∷ []))
         ∷ (2, rtp_body 6000 true (0x61 ∷ 0x05 ∷ [])) ∷ []) }
-    ensures apart { AreApart (units_left 4 (fresh_packetizer_state h264) false true
+    ensures apart { AreApart None (fresh_packetizer_state h264)
         (stamped_call 3000 (fresh_call 3 (0x65 ∷ 0x01 ∷ 0x02 ∷ 0x03 ∷ []))
         ∷ stamped_call 6000 (fresh_call 3 (0x61 ∷ 0x05 ∷ [])) ∷ [])
-        (true ∷ false ∷ true ∷ true ∷ [])) }
+        (true ∷ false ∷ true ∷ true ∷ []) }
     ensures answers { HaveUnitAnswers 4 12 (fresh_units (fresh_depacketizer_state h264))
         ((65535, rtp_body 3000 false (0x7c ∷ 0x85 ∷ 0x01 ∷ []))
         ∷ (1, rtp_body 3000 true (0x7c ∷ 0x45 ∷ 0x03 ∷ []))

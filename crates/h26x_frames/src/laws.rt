@@ -1,6 +1,6 @@
 //! Laws of the definitions, each the contract of a function without a result.
 
-ghost use Rattle.std.specs.Prelude.{◌≡◌, ◌^◌, ◌<◌, ◌≤◌, ℕ, Bool, false, true, List, [], ◌∷◌, None, Some, Result, length};
+ghost use Rattle.std.specs.Prelude.{◌≡◌, ◌^◌, ◌<◌, ◌≤◌, ℕ, Bool, false, true, List, [], ◌∷◌, Option, None, Some, Result, length};
 ghost use Rattle.std.specs.List.{AllByRecursion};
 ghost use Rattle.h26x_core.specs.declared.error.PacketError.{PacketError};
 ghost use Rattle.h26x_model.specs.Payload.Facts.{IsPayloadFormat};
@@ -74,11 +74,12 @@ pub fn skipping_in_order_changes_only_the_number()
 /// What is told to be whole of what packets leave of calls is what was sent: its timestamp, its text
 /// byte for byte, and what is told of it.
 pub fn whole_access_units_are_those_sent()
-    ensures { (most : ℕ) (s : PacketizerState) (avc before : Bool) (calls : List StampedCall)
-        (mask : List Bool) → IsPayloadFormat s.format → AreStreamed s calls →
+    ensures { (most : ℕ) (s : PacketizerState) (avc before : Bool) (closed : Option ℕ)
+        (calls : List StampedCall) (mask : List Bool) → IsPayloadFormat s.format →
+        AreStreamed s calls →
         length mask ≡ length (sent_bodies s calls) →
         AllByRecursion (IsSentIfWhole (sent_units s avc calls))
-        (units_left most s avc before calls mask) }
+        (units_left most s avc before closed calls mask) }
 {
     model_laws::nothing_is_damaged();
     model_laws::packetizers_go_on();

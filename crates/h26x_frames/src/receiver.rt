@@ -6,7 +6,7 @@ ghost use Rattle.h26x_receiver.specs.Sequenced.{is_taken, skip_answer, is_run_ke
 ghost use Rattle.h26x_frames.specs.AccessUnit.{access_unit_value, none_open, is_unit_at, AccessUnitValue, open_depacketization, IsTakenAnswer, IsUnitAnswer, after_taken_rtp, after_rtp, after_unit_skip, after_end, unit_len};
 
 use crate::access_unit::{AccessUnit, OpenAccessUnit, OpenUnit};
-use crate::answers::{is_following, is_next, is_sound, was_taken};
+use crate::answers::{is_next, is_sound, was_taken};
 use crate::packet::RtpPacket;
 use crate::spare::SpareMemory;
 use h26x_core::PacketError;
@@ -77,8 +77,9 @@ fn begin<D: RunDepacketizer>(
     ensures kept { MatchBool (is_taken result) (Unit {0}) ((packets.new ≡ packets.old)
         × (place.new ≡ place.old) × (out.new.items ≡ out.old.items)) }
 {
-    let follows = is_following(place.is_gap(), packets.expected, packet.sequence);
+    let follows = place.follows(packets.expected, packet);
     let mut unit = OpenUnit::new(spare.take(), packet.timestamp);
+    let len = unit.text.len();
     let received = packets.receive_in_text(
         packet.sequence,
         packet.payload,
@@ -90,7 +91,8 @@ fn begin<D: RunDepacketizer>(
         spare.keep(unit.text.into_text(), usize::MAX);
         return received;
     }
-    let is_sound = is_sound(follows, &received);
+    let is_dropped = unit.is_dropped(len);
+    let is_sound = is_sound(follows, is_dropped, &received);
     place.end(follows, out);
     place.put(unit, is_sound, packet.marker, out);
     received

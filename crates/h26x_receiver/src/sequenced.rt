@@ -215,8 +215,9 @@ impl<D: RunDepacketizer> SequencedDepacketizer<D> {
     {
         let (_, is_next) = place_of(self.expected, sequence);
         let received = self.skip_in_text(sequence);
+        let own = &mut self.depacketizer;
         if received.is_taken() && !is_next {
-            self.depacketizer.give_up_run();
+            own.give_up_run();
         }
         received
     }

@@ -1,10 +1,11 @@
-use Rattle.std.proofs.Common.{◌≡◌, ◌∙◌, ap, sym, subst, map, Bool, false, cond, ℕ, List, [], ◌∷◌, Option, None, Some, ◌++◌}
+use Rattle.std.proofs.Common.{◌≡◌, ◌∙◌, ap, sym, subst, map, length, Bool, false, cond, ℕ, List, [], ◌∷◌, Option, None, Some, ◌++◌}
+use Rattle.std.specs.Prelude.{◌==◌, ◌&&◌}
 use Rattle.h26x_core.specs.declared.extra.CodecExtra.{CodecExtra}
 use Rattle.h26x_core.specs.declared.extra.CodecExtra.TheVariants as extras
 use Rattle.h26x_model.specs.Receive.RunLimit.{state_with_run}
 use Rattle.h26x_receiver.specs.Sequenced.{SequencedDepacketization, sequenced_depacketization, sequenced_in_text, after_taken_packet, IsSequencedAnswer}
 use Rattle.h26x_frames.specs.Rtp.{RtpBody, rtp_body}
-use Rattle.h26x_frames.specs.AccessUnit.{AccessUnitValue, access_unit_value, open_unit_value, empty_unit, whole_if, given_out, unit_depacketization, open_depacketization, is_run_too_long, is_following, is_unit_at, after_taken_rtp}
+use Rattle.h26x_frames.specs.AccessUnit.{AccessUnitValue, access_unit_value, open_unit_value, empty_unit, whole_if, given_out, unit_depacketization, open_depacketization, is_run_too_long, is_following, is_run_closed, is_unit_at, after_taken_rtp}
 use Rattle.h26x_frames.proofs.TakeLemmas.{begins_taken, taken_work, filled, with_unit, same_open, same_unit}
 use Rattle.h26x_frames.proofs.receiver.begin.Goals as goal
 
@@ -43,13 +44,22 @@ returns-clause-after g c = λ taken.
     let unit : AccessUnitValue = record { timestamp = before.timestamp; bytes = text.text; extra = extra; is_whole = before.is_whole } in
     let value : unit ≡ filled (empty_unit p.1.timestamp) work =
     same_unit unit p.1.timestamp (ap (λ (v : AccessUnitValue). v.timestamp) empty) (ap (λ (v : AccessUnitValue). v.is_whole) empty) in
-    let follows = c.is_following-follows.ensures ∙ ap (λ (b : Bool). is_following b old.expected p.0) c.is_gap.ensures in
+    let follows : c.follows-follows.result ≡ is_following place.is_gap place.closed old.expected p.1.timestamp p.0 = subst (λ (q : ℕ × RtpBody). c.follows-follows.result ≡ is_following place.is_gap place.closed old.expected q.1.timestamp q.0) view c.follows-follows.ensures in
     let sound = c.is_sound-is_sound.result in
     let one = whole_if sound unit in
-    same_open (state new.depacketizer) new.expected c.put.new.self false text.run (cond inside.marker None (Some one)) _ ((ended ++ given_out c.is_following-follows.result place.unit) ++ cond inside.marker (one ∷ []) [])
-    c.put.ensures.gap c.put.ensures.run c.put.ensures.unit (c.put.ensures.out ∙ ap (λ (l : List AccessUnitValue). l ++ cond inside.marker (one ∷ []) []) c.end.ensures.out)
-    ∙ ap (λ (v : AccessUnitValue). with_unit work (ended ++ given_out c.is_following-follows.result place.unit) inside.marker (whole_if sound v)) value
-    ∙ ap (λ (b : Bool). with_unit work (ended ++ given_out b place.unit) inside.marker (whole_if sound (filled (empty_unit p.1.timestamp) work))) follows
-    ∙ begins_taken most place.is_gap (state_with_run (state old.depacketizer) place.run) old.expected place.unit ended p r sound work
-    other taken answer after (c.is_sound-is_sound.ensures ∙ ap (λ (b : Bool). cond (is_run_too_long r) false b) follows)
+    let last = whole_if (is_run_closed text.run) one in
+    let given : Bool → List AccessUnitValue = λ b. ended ++ given_out (b && is_run_closed place.run) place.unit in
+    let told = c.follows-follows.result in
+    let stamp : before.timestamp ≡ p.1.timestamp = ap (λ (v : AccessUnitValue). v.timestamp) empty in
+    let drops : ℕ → Bool = λ n. (n == length text.text) && is_run_closed text.run in
+    let none_before : c.len-len.result ≡ 0 = c.len-len.ensures ∙ ap (λ (b : List ℕ). length b) no_bytes in
+    let dropped : c.is_dropped-is_dropped.result ≡ drops 0 = c.is_dropped-is_dropped.ensures ∙ ap drops none_before in
+    same_open (state new.depacketizer) new.expected c.put.new.self false (cond inside.marker (Some p.1.timestamp) None) text.run (cond inside.marker None (Some one)) _ (given told ++ cond inside.marker (last ∷ []) [])
+    c.put.ensures.gap (c.put.ensures.closed ∙ ap (λ (t : ℕ). cond inside.marker (Some t) None) stamp) c.put.ensures.run c.put.ensures.unit
+    (c.put.ensures.out ∙ ap (λ (l : List AccessUnitValue). l ++ cond inside.marker (last ∷ []) []) c.end.ensures.out)
+    ∙ ap (λ (v : AccessUnitValue). with_unit work (given told) p.1.timestamp inside.marker (whole_if sound v)) value
+    ∙ ap (λ (b : Bool). with_unit work (given b) p.1.timestamp inside.marker (whole_if sound (filled (empty_unit p.1.timestamp) work))) follows
+    ∙ begins_taken most place.is_gap place.closed (state_with_run (state old.depacketizer) place.run) old.expected place.unit ended p r sound work
+    other taken answer after (c.is_sound-is_sound.ensures ∙ ap (λ (d : Bool). cond (is_run_too_long r) false (cond d false told)) dropped
+    ∙ ap (λ (b : Bool). cond (is_run_too_long r) false (cond (drops 0) false b)) follows)
     ∙ ap (λ (q : ℕ × RtpBody). after_taken_rtp most (open_depacketization (state old.depacketizer) old.expected place ended) q) (sym view)
