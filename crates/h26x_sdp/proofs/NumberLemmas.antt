@@ -7,7 +7,6 @@ use Rattle.std.specs.Str.Parse.{AllDigits, IsNumeral, digits_value, without_lead
 use Rattle.std.specs.Result.{OkIff}
 use Rattle.std.proofs.lemmas.Bool.{and_parts}
 use Rattle.std.proofs.lemmas.Bool.Decides.{nat_tests}
-use Rattle.std.proofs.lemmas.Result.{converted_as}
 use Rattle.std.proofs.lemmas.Str.{IsUtf8-from_ascii}
 use Rattle.std.proofs.lemmas.Str.Ascii.{IsAscii-nil, IsAscii-cons}
 use Rattle.std.proofs.lemmas.Str.Parse.{without_leading_plus_none}
@@ -53,13 +52,18 @@ no_plus : (radix : ℕ) (text : List ℕ) → radix ≤ 36 → AllDigits radix t
 no_plus radix [] most h plus = omega (arith, plus)
 no_plus radix (c ∷ cs) most h plus = let first : digit_value 43 < radix = subst (λ it. digit_value it < radix) plus h.0 in omega (arith, most, first)
 
+-- a result whose premise says the same in other words
+other_words : {E : Type 0} (r : Result ℕ E) (P Q : Type 0) (v : ℕ) → (P → Q) → (Q → P) → OkIff r P v → OkIff r Q v
+other_words (Ok x) P Q v to from h = (to h.0, h.1)
+other_words (Err e) P Q v to from h = λ q. h (from q)
+
 -- what std reads is the number
 pub parsed_number : {E : Type 0} (radix : ℕ) (text : List ℕ) (r : Result ℕ E) → radix ≤ 36 → ParsesUnsigned 64 radix text r → are_digits_of radix text ≡ true
     → OkIff r ((0 < length text) × (digits_value radix text < 2 ^ 64)) (digits_value radix text)
 parsed_number radix text r most h digits =
     let are = digits_from_test radix text digits in
     let plain = without_leading_plus_none text (no_plus radix text most are) in
-    converted_as r _ _ _ _ (λ q. ((q.0.0, q.1), refl)) (λ q. ((q.0, are), q.1))
+    other_words r _ _ _ (λ q. (q.0.0, q.1)) (λ q. ((q.0, are), q.1))
     (subst (λ l. OkIff r (IsNumeral radix l × (digits_value radix l < 2 ^ 64)) (digits_value radix l)) plain h)
 
 -- the number of a text of digits

@@ -12,7 +12,7 @@ returns-in-Err-from_str_radix c =
     let some : 0 < length c.args.text.now = first_of (search rules, grind (arith, nat_tests)) in
     let digits : are_digits_of c.args.radix c.args.text.now ≡ true = first_of (search rules, grind (arith, nat_tests)) in
     let most : c.args.radix ≤ 36 = first_of (search rules, grind (arith, nat_tests)) in
-    let read = parsed_number c.args.radix c.args.text.now c.from_str_radix.result most (subst (λ t. ParsesUnsigned 64 c.args.radix t c.from_str_radix.result) same c.from_str_radix.ensures.value.0) digits in
+    let read = parsed_number c.args.radix c.args.text.now c.from_str_radix.result most (subst (λ t. ParsesUnsigned 64 c.args.radix t c.from_str_radix.result) same c.from_str_radix.ensures.value) digits in
     sym (number_too_big c.args.radix c.args.other c.args.text.now some digits (λ fits. OkIff-at_err c.from_str_radix.result _ _ _ read c.in-Err-from_str_radix.is (some, fits)))
 
 pub returns-in-Err : goal.returns-in-Err
