@@ -9,3 +9,7 @@ pub mod RowLemmas
 pub mod FixedLemmas
 pub mod UnitsLemmas
 pub mod RtpMapLemmas
+pub mod AnswerLemmas
+pub mod AnswersLemmas
+pub mod IdLemmas
+pub mod AnswersH264Lemmas

@@ -13,3 +13,8 @@ pub mod H266Rows
 pub mod Units
 pub mod UnitsViews
 pub mod RtpMaps
+pub mod Answers
+pub mod AnswersViews
+pub mod AnswersH264
+pub mod AnswerLaws
+pub mod AllowedH264

@@ -1,6 +1,6 @@
 //! Laws of the grammar. Each is the contract of a function without a result.
 
-ghost use Rattle.std.specs.Prelude.{◌≡◌, ◌<◌, ℕ, true, Ok, List, [], ◌∷◌, ◌++◌};
+ghost use Rattle.std.specs.Prelude.{◌≡◌, ◌<◌, ℕ, true, Some, Ok, List, [], ◌∷◌, ◌++◌};
 ghost use Rattle.std.specs.List.{AllByRecursion, join_with_byte};
 ghost use Rattle.h26x_sdp.specs.Pairs.{Pair, parts, pairs, closes};
 ghost use Rattle.h26x_sdp.specs.Written.{written, with_pair, IsWritable};
@@ -11,6 +11,12 @@ ghost use Rattle.base64.specs.GeneralPurpose.{IsBytes};
 ghost use Rattle.h26x_sdp.specs.Units.{AreSpropUnits, sprop_units, units_text};
 ghost use Rattle.h26x_sdp.specs.RtpMaps.{rtp_map_of, rtp_map_text};
 ghost use Rattle.h26x_sdp.specs.declared.rtp_map.RtpMap.{RtpMap};
+ghost use Rattle.std.specs.Prelude.{is_some};
+ghost use Rattle.h26x_sdp.specs.Answers.{Format, Terms, Rules, offer_answer};
+ghost use Rattle.h26x_sdp.specs.AnswerLaws.{HaveCommon, ComesFrom};
+ghost use Rattle.h26x_sdp.specs.Answers.{answer_by};
+ghost use Rattle.h26x_sdp.specs.AnswersH264 as h264_answers;
+ghost use Rattle.h26x_sdp.specs.AllowedH264.{IsH264Answer, MaySend};
 ghost use Rattle.h26x_sdp.specs.H264Rows as h264;
 ghost use Rattle.h26x_sdp.specs.H265Rows as h265;
 ghost use Rattle.h26x_sdp.specs.H266Rows as h266;
@@ -68,4 +74,28 @@ pub fn units_and_their_text()
 /// What is written of a payload type and its encoding is read as the same.
 pub fn what_is_written_of_an_rtp_map_is_read()
     ensures { (map : RtpMap) → map.payload_type < 128 → rtp_map_of (rtp_map_text map) ≡ Ok map }
+{}
+
+/// Of two ends with a configuration in common there is an answer, and each answer is of such a one and
+/// keeps its payload type.
+pub fn whom_both_understand_is_found()
+    ensures found { (rules : Rules) (offer : List Format) (ours : List FormatParameters)
+        (format : Format) (own : FormatParameters) (terms : Terms) →
+        HaveCommon rules offer ours format own terms → is_some (offer_answer rules offer ours)
+        ≡ true }
+    ensures none { (rules : Rules) (offer : List Format) (ours : List FormatParameters)
+        (answer : Format) → offer_answer rules offer ours ≡ Some answer →
+        ComesFrom rules offer ours answer }
+{}
+
+/// An answer of H.264 is one that RFC 6184, section 8.2.2, allows of the offered format, and of an allowed
+/// answer what each end sends is what the other said that it receives.
+pub fn h264_answers_are_allowed()
+    ensures allowed { (offered own answer : FormatParameters) → AreParameters h264.rows offered →
+        AreParameters h264.rows own → answer_by h264_answers.rules offered own ≡ Some answer →
+        IsH264Answer offered answer }
+    ensures forth { (offered answer : FormatParameters) (it : IsH264Answer offered answer) →
+        MaySend offered answer it.theirs it.ours }
+    ensures back { (offered answer : FormatParameters) (it : IsH264Answer offered answer) →
+        MaySend answer offered it.ours it.theirs }
 {}

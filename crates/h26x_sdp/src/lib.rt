@@ -5,6 +5,7 @@
 //! The definitions that contracts cite stand in `specs/`.
 #![tactic(auto)]
 
+mod answer;
 mod codec;
 mod error;
 mod h264;
@@ -18,6 +19,7 @@ mod rtp_map;
 mod table;
 mod units;
 
+pub use answer::{CodecRules, Format, Role, Terms, answer_to};
 pub use codec::{CodecParameter, CodecParameters};
 pub use error::{Fault, ParametersError, UnitsError};
 pub use h264::{H264Parameter, H264Parameters};

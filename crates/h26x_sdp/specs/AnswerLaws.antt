@@ -1,0 +1,21 @@
+-- Which answers an offer has.
+use Rattle.std.specs.Prelude.{◌≡◌, List, Some}
+use Rattle.std.specs.List.{Contains}
+use Rattle.h26x_sdp.specs.Reading.{FormatParameters}
+use Rattle.h26x_sdp.specs.Answers.{Format, Terms, Rules, common_terms, answered}
+
+-- an offered format and one of ours that have a configuration in common
+pub record HaveCommon (rules : Rules) (offer : List Format) (ours : List FormatParameters)
+    (format : Format) (own : FormatParameters) (terms : Terms) : Type 0 where
+  pub offered : Contains offer format
+  pub taken : Contains ours own
+  pub common : common_terms rules format.parameters own ≡ Some terms
+
+-- an answer is made of an offered format and one of ours, and keeps the payload type
+pub record ComesFrom (rules : Rules) (offer : List Format) (ours : List FormatParameters)
+    (answer : Format) : Type 0 where
+  pub format : Format
+  pub own : FormatParameters
+  pub terms : Terms
+  pub have : HaveCommon rules offer ours format own terms
+  pub is : answer ≡ record format { parameters = answered rules format.parameters own terms }

@@ -1,0 +1,274 @@
+//! Offers as ends make them and those of the RFCs, and what is answered.
+
+use crate::{CodecParameters, CodecRules, Format, H264Parameter, ParametersError, answer_to};
+use std::alloc::Global;
+use std::process::Abort;
+use std::test::Fail;
+
+/// An offer with its payload types, what we take, and the answer in the order of the table.
+struct Exchange {
+    offer: &'static [(u8, &'static str)],
+    ours: &'static [&'static str],
+    answer: Option<(u8, &'static str)>,
+}
+
+/// The modes that Chromium offers of Baseline, Constrained Baseline and Main, and High 4:4:4.
+const CHROMIUM: [(u8, &str); 7] = [
+    (
+        102,
+        "level-asymmetry-allowed=1;packetization-mode=1;profile-level-id=42001f",
+    ),
+    (
+        104,
+        "level-asymmetry-allowed=1;packetization-mode=0;profile-level-id=42001f",
+    ),
+    (
+        106,
+        "level-asymmetry-allowed=1;packetization-mode=1;profile-level-id=42e01f",
+    ),
+    (
+        108,
+        "level-asymmetry-allowed=1;packetization-mode=0;profile-level-id=42e01f",
+    ),
+    (
+        127,
+        "level-asymmetry-allowed=1;packetization-mode=1;profile-level-id=4d001f",
+    ),
+    (
+        39,
+        "level-asymmetry-allowed=1;packetization-mode=0;profile-level-id=4d001f",
+    ),
+    (
+        112,
+        "level-asymmetry-allowed=1;packetization-mode=1;profile-level-id=f4001f",
+    ),
+];
+
+/// RFC 6184, section 8.3: three modes, the interleaved one first.
+const MODES: [(u8, &str); 3] = [
+    (
+        100,
+        "profile-level-id=42A01E; packetization-mode=2; sprop-interleaving-depth=45; \
+         sprop-deint-buf-req=64000; sprop-init-buf-time=102478; deint-buf-cap=128000",
+    ),
+    (99, "profile-level-id=42A01E; packetization-mode=1"),
+    (98, "profile-level-id=42A01E; packetization-mode=0"),
+];
+
+const H264: [Exchange; 18] = [
+    // a mode that isn't given is 0
+    Exchange {
+        offer: &CHROMIUM,
+        ours: &["profile-level-id=42e01f;level-asymmetry-allowed=1"],
+        answer: Some((
+            108,
+            "profile-level-id=42e01f;level-asymmetry-allowed=1;packetization-mode=0",
+        )),
+    },
+    // the offer's order of preference, not ours; our own level in both directions of our own
+    Exchange {
+        offer: &CHROMIUM,
+        ours: &[
+            "profile-level-id=4d0028;level-asymmetry-allowed=1;packetization-mode=1",
+            "profile-level-id=42e034;level-asymmetry-allowed=1;packetization-mode=1",
+        ],
+        answer: Some((
+            106,
+            "profile-level-id=42e034;level-asymmetry-allowed=1;packetization-mode=1",
+        )),
+    },
+    // High 4:4:4 Predictive
+    Exchange {
+        offer: &CHROMIUM,
+        ours: &["profile-level-id=f4001f;packetization-mode=1"],
+        answer: Some((112, "profile-level-id=f4001f;packetization-mode=1")),
+    },
+    // Safari's Constrained High is not High
+    Exchange {
+        offer: &[(
+            96,
+            "level-asymmetry-allowed=1;packetization-mode=1;profile-level-id=640c1f",
+        )],
+        ours: &["profile-level-id=64001f;packetization-mode=1"],
+        answer: None,
+    },
+    Exchange {
+        offer: &[(
+            96,
+            "level-asymmetry-allowed=1;packetization-mode=1;profile-level-id=640c1f",
+        )],
+        ours: &["profile-level-id=640c34;packetization-mode=1"],
+        answer: Some((96, "profile-level-id=640c1f;packetization-mode=1")),
+    },
+    // Firefox's, whose mode 0 isn't said; and by other bytes of one sub-profile
+    Exchange {
+        offer: &[
+            (
+                126,
+                "profile-level-id=42e01f;level-asymmetry-allowed=1;packetization-mode=1",
+            ),
+            (97, "profile-level-id=42e01f;level-asymmetry-allowed=1"),
+        ],
+        ours: &["profile-level-id=4D801F;packetization-mode=0"],
+        answer: Some((97, "profile-level-id=42e01f")),
+    },
+    // RFC 6184, section 8.3
+    Exchange {
+        offer: &MODES,
+        ours: &[
+            "profile-level-id=42A01E;packetization-mode=1;max-rcmd-nalu-size=3980",
+            "profile-level-id=42A01E;packetization-mode=2;sprop-interleaving-depth=60;\
+             sprop-deint-buf-req=86000;sprop-init-buf-time=156320;deint-buf-cap=128000",
+        ],
+        answer: Some((
+            100,
+            "profile-level-id=42A01E;packetization-mode=2;sprop-interleaving-depth=60;\
+             sprop-deint-buf-req=86000;deint-buf-cap=128000;sprop-init-buf-time=156320",
+        )),
+    },
+    // buffers at their edges: 64000 in 64000 is held, 128001 in 128000 is not
+    Exchange {
+        offer: &MODES,
+        ours: &[
+            "profile-level-id=42A01E;packetization-mode=2;sprop-interleaving-depth=60;\
+             sprop-deint-buf-req=128000;deint-buf-cap=64000",
+        ],
+        answer: Some((
+            100,
+            "profile-level-id=42A01E;packetization-mode=2;sprop-interleaving-depth=60;\
+             sprop-deint-buf-req=128000;deint-buf-cap=64000",
+        )),
+    },
+    Exchange {
+        offer: &MODES,
+        ours: &[
+            "profile-level-id=42A01E;packetization-mode=2;sprop-interleaving-depth=60;\
+             sprop-deint-buf-req=128001;deint-buf-cap=64000",
+        ],
+        answer: None,
+    },
+    Exchange {
+        offer: &MODES,
+        ours: &[
+            "profile-level-id=42A01E;packetization-mode=2;sprop-interleaving-depth=60;\
+             sprop-deint-buf-req=0;deint-buf-cap=63999",
+            "profile-level-id=42A01E;packetization-mode=1;max-rcmd-nalu-size=3980",
+        ],
+        answer: Some((
+            99,
+            "profile-level-id=42A01E;packetization-mode=1;max-rcmd-nalu-size=3980",
+        )),
+    },
+    // level 1.1 to 1b; our own sets are of that level
+    Exchange {
+        offer: &[(
+            98,
+            "profile-level-id=42A00B;packetization-mode=1;sprop-parameter-sets=AA==",
+        )],
+        ours: &[
+            "profile-level-id=42B00B;packetization-mode=1;sprop-parameter-sets=Z0IACpZTBYmI;\
+             use-level-src-parameter-sets=1",
+        ],
+        answer: Some((
+            98,
+            "profile-level-id=42b00b;sprop-parameter-sets=Z0IACpZTBYmI;\
+             use-level-src-parameter-sets=1;packetization-mode=1",
+        )),
+    },
+    // and 1b kept, where we take 1.1, whose sets are left out
+    Exchange {
+        offer: &[(98, "profile-level-id=42B00B;packetization-mode=1")],
+        ours: &["profile-level-id=42A00B;packetization-mode=1;sprop-parameter-sets=Z0IACpZTBYmI"],
+        answer: Some((98, "profile-level-id=42B00B;packetization-mode=1")),
+    },
+    // level 3 to 2
+    Exchange {
+        offer: &[(
+            98,
+            "profile-level-id=42A01E;packetization-mode=1;sprop-parameter-sets=AA==",
+        )],
+        ours: &["profile-level-id=42A014;packetization-mode=1"],
+        answer: Some((98, "profile-level-id=42a014;packetization-mode=1")),
+    },
+    // level 2 to 3, where both ends allow it
+    Exchange {
+        offer: &[(
+            98,
+            "profile-level-id=42A014;packetization-mode=1;level-asymmetry-allowed=1",
+        )],
+        ours: &["profile-level-id=42A01E;packetization-mode=1;level-asymmetry-allowed=1"],
+        answer: Some((
+            98,
+            "profile-level-id=42a01e;level-asymmetry-allowed=1;packetization-mode=1",
+        )),
+    },
+    // and not where one of them doesn't
+    Exchange {
+        offer: &[(98, "profile-level-id=42A014;packetization-mode=1")],
+        ours: &["profile-level-id=42A01E;packetization-mode=1;level-asymmetry-allowed=1"],
+        answer: Some((98, "profile-level-id=42A014;packetization-mode=1")),
+    },
+    // sets in band, as the offer asks
+    Exchange {
+        offer: &[(
+            98,
+            "profile-level-id=42A01E;packetization-mode=1;in-band-parameter-sets=1",
+        )],
+        ours: &["profile-level-id=42A01E;packetization-mode=1;sprop-parameter-sets=Z0IACpZTBYmI"],
+        answer: Some((98, "profile-level-id=42A01E;packetization-mode=1")),
+    },
+    // High's level 1b is 9, and higher than 1
+    Exchange {
+        offer: &[(98, "profile-level-id=640009")],
+        ours: &["profile-level-id=64000a;max-fs=99;x-own=1"],
+        answer: Some((98, "profile-level-id=64000a;max-fs=99;x-own=1")),
+    },
+    // nothing is said: Baseline, level 1, mode 0; what we don't know isn't in the answer
+    Exchange {
+        offer: &[(98, "x-google-start-bitrate=800")],
+        ours: &["profile-level-id=42000A;packetization-mode=00"],
+        answer: Some((98, "")),
+    },
+];
+
+/// Each offer has its answer.
+fn all_answered<P: CodecRules>(
+    rt: &impl Abort,
+    alloc: Global,
+    exchanges: &[Exchange],
+) -> Result<(), ParametersError> {
+    for exchange in exchanges {
+        let mut offer = Vec::new(alloc);
+        for (payload_type, line) in exchange.offer {
+            let parameters = CodecParameters::<P>::read(alloc, line.as_bytes())?;
+            let payload_type = *payload_type;
+            offer.push(Format {
+                payload_type,
+                parameters,
+            })?;
+        }
+        let mut ours = Vec::new(alloc);
+        for line in exchange.ours {
+            ours.push(CodecParameters::<P>::read(alloc, line.as_bytes())?)?;
+        }
+        match (
+            answer_to(alloc, offer.as_slice(), ours.as_slice())?,
+            exchange.answer,
+        ) {
+            (None, want) => assert!(rt; want.is_none()),
+            (Some(answer), want) => {
+                let text = answer.parameters.write(alloc)?;
+                let (payload_type, line) = want.unwrap_or((0, "none"));
+                assert!(rt; answer.payload_type == payload_type);
+                assert!(rt; text.as_slice() == line.as_bytes());
+            }
+        }
+    }
+    Ok(())
+}
+
+#[test]
+fn answers_of_h264(rt: HostRuntime) -> Result<(), Fail> {
+    all_answered::<H264Parameter>(&rt, rt.alloc(), &H264)?;
+    Ok(())
+}
