@@ -1,12 +1,10 @@
 -- Answers of H.264 are those that the RFC allows.
-use Rattle.std.proofs.Common.{◌≡◌, ℕ, ◌+◌, ◌<◌, ◌≤◌, true, false, not, ◌&&◌, cond, List, [], ◌∷◌, length, Option, Some, None, ◌⊎◌, inl, inr, refl, sym, ap, subst, ◌∙◌, arith, Bool}
-use Rattle.std.specs.Prelude.{◌==◌, ◌||◌, nat_lt, min, max, is_some}
-use Rattle.std.specs.Option.{option_map, option_and_then, option_or}
+use Rattle.std.proofs.Common.{◌≡◌, ℕ, ◌<◌, ◌≤◌, true, false, not, ◌&&◌, cond, List, [], ◌∷◌, length, Option, Some, None, ◌⊎◌, inl, inr, refl, sym, ap, subst, ◌∙◌, arith, Bool}
+use Rattle.std.specs.Prelude.{◌==◌, ◌||◌, nat_lt, min, is_some}
+use Rattle.std.specs.Option.{option_and_then, option_or}
 use Rattle.std.proofs.lemmas.Bool.{and_parts, eqb-true}
 use Rattle.std.proofs.lemmas.Bool.Decides.{nat_tests}
 use Rattle.hex.specs.Hex.{IsBytes}
-use Rattle.h26x_sdp.specs.declared.answer.Role.{Role}
-use Rattle.h26x_sdp.specs.declared.answer.Role.TheVariants as role
 use Rattle.h26x_sdp.specs.declared.h264.H264Parameter.{H264Parameter}
 use Rattle.h26x_sdp.specs.declared.h264.H264Parameter.TheVariants as p
 use Rattle.h26x_sdp.specs.declared.answer.h264.ProfileLevelId.{ProfileLevelId}
@@ -15,12 +13,12 @@ use Rattle.h26x_sdp.specs.Tables.{ParameterRow, row_at}
 use Rattle.h26x_sdp.specs.Parameters.{AreValues, AreParameters}
 use Rattle.h26x_sdp.specs.Reading.{FormatParameters, value_at, value_or_default}
 use Rattle.h26x_sdp.specs.H264Rows.{rows, row_place}
-use Rattle.h26x_sdp.specs.Answers.{Terms, only_if, answered_value, answered_values, answered, are_symmetric, common_terms, answer_by, same_number, holds}
+use Rattle.h26x_sdp.specs.Answers.{Terms, only_if, answered_values, answered, are_symmetric, common_terms, answer_by, same_number, holds}
 use Rattle.h26x_sdp.specs.AnswersH264.{roles, rules, number, is_set, id_of, profile_level_id_of, profile_level_id_text, at_level_of, level_rank, same_profile, highest_of, highest_rank, is_interleaved, can_deinterleave, can_order, both_asymmetric, answer_level, answer_id, rank_back, with_sets, with_level_sets, terms_at, terms_of_ids, terms}
-use Rattle.h26x_sdp.specs.AllowedH264.{IsAbsent, IsSameProfile, IsH264Answer, MaySend, rank_to_use}
+use Rattle.h26x_sdp.specs.AllowedH264.{IsSameProfile, IsH264Answer, MaySend, rank_to_use}
 use Rattle.h26x_sdp.proofs.PartLemmas.{by_test}
 use Rattle.h26x_sdp.proofs.AnswersLemmas.{answered_at, answer_parts}
-use Rattle.h26x_sdp.proofs.IdLemmas.{bytes_in, id_bytes, id_read, profile_kept, level_moved, moved_bytes, profile_through}
+use Rattle.h26x_sdp.proofs.IdLemmas.{bytes_in, id_bytes, id_read, profile_kept, level_moved, moved_bytes}
 
 -- as many values as rows
 pub long_values : (table : List ParameterRow) (values : List (Option (List ℕ))) → AreValues table values → length values ≡ length table
@@ -30,7 +28,7 @@ long_values (r ∷ table) [] are = absurd are
 long_values (r ∷ table) (v ∷ values) are = let e = long_values table values are.1 in omega (arith, e)
 
 -- two formats, their profiles and levels, and what they agree on
-record Agreed (offered own : FormatParameters) (found : Terms) : Type 0 where
+pub record Agreed (offered own : FormatParameters) (found : Terms) : Type 0 where
   pub a : ProfileLevelId
   pub b : ProfileLevelId
   pub offer_says : id_of offered ≡ Some a
@@ -39,7 +37,7 @@ record Agreed (offered own : FormatParameters) (found : Terms) : Type 0 where
   pub order : can_order offered own ≡ true
   pub is : found ≡ terms_at offered (both_asymmetric offered own) a b (answer_level (both_asymmetric offered own) a b)
 
-agreed_ids : (offered own : FormatParameters) (found : Terms) (x y : Option ProfileLevelId) → id_of offered ≡ x → id_of own ≡ y → terms_of_ids offered own x y ≡ Some found → Agreed offered own found
+pub agreed_ids : (offered own : FormatParameters) (found : Terms) (x y : Option ProfileLevelId) → id_of offered ≡ x → id_of own ≡ y → terms_of_ids offered own x y ≡ Some found → Agreed offered own found
 agreed_ids offered own found None y ex ey h = cc h
 agreed_ids offered own found (Some a) None ex ey h = cc h
 agreed_ids offered own found (Some a) (Some b) ex ey h = by_test (same_profile a b && can_order offered own)
@@ -53,7 +51,7 @@ agreed_ids offered own found (Some a) (Some b) ex ey h = by_test (same_profile a
     let e : None ≡ Some found = sym (ap (λ t. cond t (Some at) None) other) ∙ h in
     cc e)
 
-agreed_common : (offered own : FormatParameters) (found : Terms) → common_terms rules offered own ≡ Some found → Agreed offered own found
+pub agreed_common : (offered own : FormatParameters) (found : Terms) → common_terms rules offered own ≡ Some found → Agreed offered own found
 agreed_common offered own found h = by_test (are_symmetric roles rows offered.values own.values)
     (λ same. agreed_ids offered own found (id_of offered) (id_of own) refl refl
     (sym (ap (λ t. cond t (terms offered own) None) same) ∙ h))
@@ -66,22 +64,22 @@ bytes_of_text : (text : Option (List ℕ)) (it : ProfileLevelId) → option_and_
 bytes_of_text None it h = cc h
 bytes_of_text (Some text) it h = id_bytes text it h
 
-id_of_bytes : (of : FormatParameters) (it : ProfileLevelId) → id_of of ≡ Some it → IsBytes (bytes_in it)
+pub id_of_bytes : (of : FormatParameters) (it : ProfileLevelId) → id_of of ≡ Some it → IsBytes (bytes_in it)
 id_of_bytes of it h = bytes_of_text (value_or_default rows of 0) it h
 
-level_bytes : (asymmetric : Bool) (a b : ProfileLevelId) → IsBytes (bytes_in a) → IsBytes (bytes_in b) → IsBytes (bytes_in (answer_level asymmetric a b))
+pub level_bytes : (asymmetric : Bool) (a b : ProfileLevelId) → IsBytes (bytes_in a) → IsBytes (bytes_in b) → IsBytes (bytes_in (answer_level asymmetric a b))
 level_bytes asymmetric a b of_a of_b = by_test (asymmetric || nat_lt (level_rank b) (level_rank a))
     (λ h. subst (λ t. IsBytes (bytes_in (cond t b a))) (sym h) of_b)
     (λ h. subst (λ t. IsBytes (bytes_in (cond t b a))) (sym h) of_a)
 
 -- a profile-level-id of the offer's profile and of a level's rank
-record Says (it : FormatParameters) (a : ProfileLevelId) (rank : ℕ) : Type 0 where
+pub record Says (it : FormatParameters) (a : ProfileLevelId) (rank : ℕ) : Type 0 where
   pub id : ProfileLevelId
   pub says : id_of it ≡ Some id
   pub profile : IsSameProfile id a
   pub level : level_rank id ≡ rank
 
-answer_says : (offered answer : FormatParameters) (a level : ProfileLevelId) → id_of offered ≡ Some a → IsBytes (bytes_in a) → IsBytes (bytes_in level)
+pub answer_says : (offered answer : FormatParameters) (a level : ProfileLevelId) → id_of offered ≡ Some a → IsBytes (bytes_in a) → IsBytes (bytes_in level)
     → value_at answer.values 0 ≡ answer_id offered a level → Says answer a (level_rank level)
 answer_says offered answer a level says of_a of_level here = by_test (level_rank a == level_rank level)
     (λ same. record {
@@ -101,7 +99,7 @@ answer_says offered answer a level says of_a of_level here = by_test (level_rank
     })
 
 -- the rows of an answer
-record Rows (offered own answer : FormatParameters) (found : Terms) : Type 0 where
+pub record Rows (offered own answer : FormatParameters) (found : Terms) : Type 0 where
   pub id : value_at answer.values 0 ≡ found.level
   pub sets : value_at answer.values 9 ≡ only_if found.sets (value_at own.values 9)
   pub level_sets : value_at answer.values 10 ≡ only_if found.level_sets (value_at own.values 10)
@@ -113,7 +111,7 @@ record Rows (offered own answer : FormatParameters) (found : Terms) : Type 0 whe
   pub time : value_at answer.values 18 ≡ only_if found.reorders (value_at own.values 18)
   pub difference : value_at answer.values 19 ≡ only_if found.reorders (value_at own.values 19)
 
-answer_rows : (offered own answer : FormatParameters) (found : Terms) → AreParameters rows offered → AreParameters rows own → answer ≡ answered rules offered own found → Rows offered own answer found
+pub answer_rows : (offered own answer : FormatParameters) (found : Terms) → AreParameters rows offered → AreParameters rows own → answer ≡ answered rules offered own found → Rows offered own answer found
 answer_rows offered own answer found of_offered of_own e =
     let lo : length offered.values ≡ length roles = long_values rows offered.values of_offered.values in
     let lu : length own.values ≡ length roles = long_values rows own.values of_own.values in
@@ -133,20 +131,20 @@ answer_rows offered own answer found of_offered of_own e =
     }
 
 -- a parameter whose value is the same says the same number
-number_same : (x y : FormatParameters) (parameter : H264Parameter) → value_at x.values (row_place parameter) ≡ value_at y.values (row_place parameter) → number x parameter ≡ number y parameter
+pub number_same : (x y : FormatParameters) (parameter : H264Parameter) → value_at x.values (row_place parameter) ≡ value_at y.values (row_place parameter) → number x parameter ≡ number y parameter
 number_same x y parameter e =
     ap (λ v. option_and_then (number_of (row_at rows (row_place parameter)).kind) (option_or v (row_at rows (row_place parameter)).default)) e
 
 -- a test and one that fails
-and_false : (b : Bool) → (b && false) ≡ false
+pub and_false : (b : Bool) → (b && false) ≡ false
 and_false true = refl
 and_false false = refl
 
-abbrev is_one : Option ℕ → Bool
+abbrev pub is_one : Option ℕ → Bool
 is_one n = same_number n (Some 1)
 
 -- the answer allows asymmetry where both ends do
-asymmetry_kept : (offered own answer : FormatParameters) → value_at answer.values 13 ≡ only_if (both_asymmetric offered own) (value_at own.values 13)
+pub asymmetry_kept : (offered own answer : FormatParameters) → value_at answer.values 13 ≡ only_if (both_asymmetric offered own) (value_at own.values 13)
     → both_asymmetric offered answer ≡ both_asymmetric offered own
 asymmetry_kept offered own answer here = by_test (both_asymmetric offered own)
     (λ both.
@@ -158,7 +156,7 @@ asymmetry_kept offered own answer here = by_test (both_asymmetric offered own)
     ∙ and_false (is_set offered p.LevelAsymmetryAllowed) ∙ sym not_both)
 
 -- the level of the answer isn't above the offer's, where not both ends allow it
-lower : (asymmetric : Bool) (a b : ProfileLevelId) → asymmetric ≡ false → level_rank (answer_level asymmetric a b) ≤ level_rank a
+pub lower : (asymmetric : Bool) (a b : ProfileLevelId) → asymmetric ≡ false → level_rank (answer_level asymmetric a b) ≤ level_rank a
 lower true a b h = cc h
 lower false a b h = by_test (nat_lt (level_rank b) (level_rank a))
     (λ less.
@@ -174,7 +172,7 @@ absent : (belongs : Bool) (value own : Option (List ℕ)) → value ≡ only_if 
 absent belongs value own here fails = here ∙ ap (λ t. only_if t own) fails
 
 -- and what belongs there is our own
-present : (belongs : Bool) (value own : Option (List ℕ)) → value ≡ only_if belongs own → belongs ≡ true → value ≡ own
+pub present : (belongs : Bool) (value own : Option (List ℕ)) → value ≡ only_if belongs own → belongs ≡ true → value ≡ own
 present belongs value own here passes = here ∙ ap (λ t. only_if t own) passes
 
 -- parameter sets are of one kind
@@ -195,7 +193,7 @@ none_in_band offered back answer own in_band = (
 )
 
 -- interleaved formats can both be put in order
-both_hold : (offered own : FormatParameters) → can_order offered own ≡ true → is_interleaved offered ≡ true
+pub both_hold : (offered own : FormatParameters) → can_order offered own ≡ true → is_interleaved offered ≡ true
     → (can_deinterleave offered own ≡ true) × (can_deinterleave own offered ≡ true)
 both_hold offered own can interleaved =
     and_parts (can_deinterleave offered own) (can_deinterleave own offered)
@@ -206,10 +204,10 @@ abbrev holds_by : Option (List ℕ) → Option (List ℕ) → Option (List ℕ) 
 holds_by depth need room = is_some depth && holds (option_and_then (number_of (row_at rows 16).kind) (option_or need (row_at rows 16).default))
     (option_and_then (number_of (row_at rows 17).kind) (option_or room (row_at rows 17).default))
 
-hold_to_answer : (offered own answer : FormatParameters) → value_at answer.values 17 ≡ value_at own.values 17 → can_deinterleave offered answer ≡ can_deinterleave offered own
+pub hold_to_answer : (offered own answer : FormatParameters) → value_at answer.values 17 ≡ value_at own.values 17 → can_deinterleave offered answer ≡ can_deinterleave offered own
 hold_to_answer offered own answer room = ap (holds_by (value_at offered.values 15) (value_at offered.values 16)) room
 
-hold_of_answer : (offered own answer : FormatParameters) → value_at answer.values 15 ≡ value_at own.values 15 → value_at answer.values 16 ≡ value_at own.values 16
+pub hold_of_answer : (offered own answer : FormatParameters) → value_at answer.values 15 ≡ value_at own.values 15 → value_at answer.values 16 ≡ value_at own.values 16
     → can_deinterleave answer offered ≡ can_deinterleave own offered
 hold_of_answer offered own answer depth need =
     ap (λ d. holds_by d (value_at answer.values 16) (value_at offered.values 17)) depth

@@ -13,3 +13,5 @@ pub mod AnswerLemmas
 pub mod AnswersLemmas
 pub mod IdLemmas
 pub mod AnswersH264Lemmas
+pub mod KeptLemmas
+pub mod KeptH264Lemmas

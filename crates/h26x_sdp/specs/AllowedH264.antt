@@ -1,6 +1,6 @@
 -- What RFC 6184, section 8.2.2, allows as the answer to an offered format of H.264, for unicast, and what
 -- an end may send.
-use Rattle.std.specs.Prelude.{◌≡◌, ◌⊎◌, ℕ, ◌≤◌, min, Bool, true, false, if◌then◌else◌, List, Option, Some, None}
+use Rattle.std.specs.Prelude.{◌≡◌, ◌⊎◌, ◌==◌, ◌||◌, ℕ, ◌≤◌, min, Bool, true, false, if◌then◌else◌, Some, None}
 use Rattle.h26x_sdp.specs.declared.h264.H264Parameter.{H264Parameter}
 use Rattle.h26x_sdp.specs.declared.h264.H264Parameter.TheVariants as p
 use Rattle.h26x_sdp.specs.declared.answer.h264.ProfileLevelId.{ProfileLevelId}
@@ -52,3 +52,8 @@ pub record MaySend (sender receiver : FormatParameters) (s r : ProfileLevelId) :
   pub mode : number sender p.PacketizationMode ≡ number receiver p.PacketizationMode
   pub level : rank_to_use sender receiver s r ≤ highest_rank receiver r
   pub buffer : is_interleaved sender ≡ true → can_deinterleave sender receiver ≡ true
+
+-- the rows of parameter sets, which depend on what the other end says of them
+abbrev pub is_sets_row : ℕ → Bool
+is_sets_row row = (row == row_place p.SpropParameterSets)
+    || (row == row_place p.SpropLevelParameterSets)

@@ -1,6 +1,6 @@
 -- Answers to offers of H.264 (RFC 6184, section 8.2.2).
-use Rattle.std.specs.Prelude.{ℕ, ◌+◌, ◌-◌, ◌*◌, ◌==◌, max, nat_lt, Bool, true, false, not, ◌&&◌, ◌||◌, if◌then◌else◌, List, [], ◌∷◌, Option, Some, None, is_some, Result, Ok, Err}
-use Rattle.std.specs.Option.{option_and_then, option_map_or}
+use Rattle.std.specs.Prelude.{ℕ, ◌+◌, ◌-◌, ◌*◌, ◌==◌, max, nat_lt, Bool, false, not, ◌&&◌, ◌||◌, if◌then◌else◌, List, [], ◌∷◌, Option, Some, None, is_some, Result, Ok}
+use Rattle.std.specs.Option.{option_and_then}
 use Rattle.hex.specs.Hex.{decode_sized, encode_lower}
 use Rattle.hex.specs.declared.error.FromHexError.{FromHexError}
 use Rattle.h26x_profile.specs.H264.{idc_of, profile_of}
@@ -12,7 +12,7 @@ use Rattle.h26x_sdp.specs.declared.answer.Role.TheVariants as role
 use Rattle.h26x_sdp.specs.declared.h264.H264Parameter.{H264Parameter}
 use Rattle.h26x_sdp.specs.declared.h264.H264Parameter.TheVariants as p
 use Rattle.h26x_sdp.specs.declared.answer.h264.ProfileLevelId.{ProfileLevelId}
-use Rattle.h26x_sdp.specs.Reading.{FormatParameters, value_at, number_at, value_or_default, number_or_default}
+use Rattle.h26x_sdp.specs.Reading.{FormatParameters, value_at, value_or_default, number_or_default}
 use Rattle.h26x_sdp.specs.H264Rows.{rows, row_place}
 use Rattle.h26x_sdp.specs.Answers.{Terms, Rules, same_number, holds}
 

@@ -18,3 +18,4 @@ pub mod AnswersViews
 pub mod AnswersH264
 pub mod AnswerLaws
 pub mod AllowedH264
+pub mod AnsweredAgain

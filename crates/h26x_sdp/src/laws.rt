@@ -16,7 +16,8 @@ ghost use Rattle.h26x_sdp.specs.Answers.{Format, Terms, Rules, offer_answer};
 ghost use Rattle.h26x_sdp.specs.AnswerLaws.{HaveCommon, ComesFrom};
 ghost use Rattle.h26x_sdp.specs.Answers.{answer_by};
 ghost use Rattle.h26x_sdp.specs.AnswersH264 as h264_answers;
-ghost use Rattle.h26x_sdp.specs.AllowedH264.{IsH264Answer, MaySend};
+ghost use Rattle.h26x_sdp.specs.AllowedH264.{IsH264Answer, MaySend, is_sets_row};
+ghost use Rattle.h26x_sdp.specs.AnsweredAgain.{IsAnsweredAgain};
 ghost use Rattle.h26x_sdp.specs.H264Rows as h264;
 ghost use Rattle.h26x_sdp.specs.H265Rows as h265;
 ghost use Rattle.h26x_sdp.specs.H266Rows as h266;
@@ -98,4 +99,24 @@ pub fn h264_answers_are_allowed()
         MaySend offered answer it.theirs it.ours }
     ensures back { (offered answer : FormatParameters) (it : IsH264Answer offered answer) →
         MaySend answer offered it.ours it.theirs }
+{}
+
+/// An answer of H.264 is parameters of H.264, and once it's written it is read as the same.
+pub fn h264_answers_are_read()
+    ensures parameters { (offered own answer : FormatParameters) →
+        AreParameters h264.rows offered → AreParameters h264.rows own →
+        answer_by h264_answers.rules offered own ≡ Some answer → AreParameters h264.rows answer }
+    ensures read { (offered own answer : FormatParameters) → AreParameters h264.rows offered →
+        AreParameters h264.rows own → answer_by h264_answers.rules offered own ≡ Some answer →
+        read_of h264.rows (written (all_of h264.rows answer)) ≡ Ok answer }
+{}
+
+/// An answer of H.264 is answered with itself, but for parameter sets, which depend on what the other end
+/// says of them; in interleaved mode where we could put in order what we send.
+pub fn h264_answers_are_answered_with_themselves()
+    ensures { (offered own answer : FormatParameters) → AreParameters h264.rows offered →
+        AreParameters h264.rows own → (h264_answers.is_interleaved answer ≡ true →
+        h264_answers.can_deinterleave own own ≡ true) →
+        answer_by h264_answers.rules offered own ≡ Some answer →
+        IsAnsweredAgain h264_answers.rules is_sets_row own answer }
 {}

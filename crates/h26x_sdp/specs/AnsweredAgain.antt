@@ -1,0 +1,13 @@
+-- An answer that is answered once more.
+use Rattle.std.specs.Prelude.{◌≡◌, ℕ, ◌<◌, Bool, false, length, Some}
+use Rattle.h26x_sdp.specs.Reading.{FormatParameters, value_at}
+use Rattle.h26x_sdp.specs.Answers.{Rules, answer_by}
+
+-- an answer that an end answers with itself, but for rows that depend on what the other end said
+pub record IsAnsweredAgain (rules : Rules) (depends : ℕ → Bool) (own answer : FormatParameters) :
+    Type 0 where
+  pub twice : FormatParameters
+  pub is : answer_by rules answer own ≡ Some twice
+  pub same : (row : ℕ) → row < length rules.rows → depends row ≡ false →
+      value_at twice.values row ≡ value_at answer.values row
+  pub others : twice.others ≡ answer.others
