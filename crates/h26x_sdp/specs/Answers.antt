@@ -64,6 +64,7 @@ same_if_given kind (Some a) (Some b) = same_value kind a b
 abbrev pub is_symmetric_at : Role → ParameterRow → Option (List ℕ) → Option (List ℕ) → Bool
 is_symmetric_at role.Configuration row offered own = same_if_given row.kind
     (option_or offered row.default) (option_or own row.default)
+is_symmetric_at role.Inferred row offered own = true
 is_symmetric_at role.Level row offered own = true
 is_symmetric_at role.HighestLevel row offered own = true
 is_symmetric_at role.Asymmetry row offered own = true
@@ -90,6 +91,7 @@ only_if belongs value = if belongs then value else None
 -- the value of a parameter in the answer, of the offer's and our own
 abbrev pub answered_value : Role → Terms → Option (List ℕ) → Option (List ℕ) → Option (List ℕ)
 answered_value role.Configuration terms offered own = offered
+answered_value role.Inferred terms offered own = offered
 answered_value role.Level terms offered own = terms.level
 answered_value role.HighestLevel terms offered own = terms.highest
 answered_value role.Asymmetry terms offered own = only_if terms.asymmetric own

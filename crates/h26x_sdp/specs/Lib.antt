@@ -19,3 +19,6 @@ pub mod AnswersH264
 pub mod AnswerLaws
 pub mod AllowedH264
 pub mod AnsweredAgain
+pub mod AnswersByLevel
+pub mod AnswersH265
+pub mod AnswersH266

@@ -1,7 +1,10 @@
 //! Answers to offers of formats (RFC 3264, section 6; RFC 6184, section 8.2.2; RFC 7798, section 7.2.2;
 //! RFC 9328, section 7.3.2).
 
+pub(crate) mod by_level;
 pub(crate) mod h264;
+pub(crate) mod h265;
+pub(crate) mod h266;
 #[cfg(test)]
 mod tests;
 
@@ -26,6 +29,8 @@ use std::marker::{Model, PhantomData};
 pub enum Role {
     /// Configuration of both directions: the answer has the offer's value, and ours says the same.
     Configuration,
+    /// The same, where another parameter says what it is if it's absent.
+    Inferred,
     /// The profile and level, or the level: the answer's depends on both.
     Level,
     /// The highest level that is received, where the answer's depends on both.
@@ -116,7 +121,7 @@ fn same_value(kind: Kind, a: &[u8], b: &[u8]) -> bool
 }
 
 /// The same of values that may be absent.
-fn same_if_given(kind: Kind, a: Option<&[u8]>, b: Option<&[u8]>) -> bool
+pub(crate) fn same_if_given(kind: Kind, a: Option<&[u8]>, b: Option<&[u8]>) -> bool
     ensures { result ≡ spec.same_if_given kind (option_map (λ v. v.now) a.entry)
         (option_map (λ v. v.now) b.entry) }
 {
@@ -191,7 +196,7 @@ fn are_symmetric(
 }
 
 /// A value, where it belongs into the answer.
-fn only_if(belongs: bool, value: &Option<Vec<u8>>) -> Option<&[u8]>
+pub(crate) fn only_if(belongs: bool, value: &Option<Vec<u8>>) -> Option<&[u8]>
     ensures { option_map (λ v. v.now) result ≡ spec.only_if belongs (value_view value.now) }
 {
     if belongs { bytes_of(value) } else { None }
@@ -208,7 +213,7 @@ fn answered_value<'a>(
         (value_view offered.now) (value_view own.now) }
 {
     match role {
-        Role::Configuration => bytes_of(offered),
+        Role::Configuration | Role::Inferred => bytes_of(offered),
         Role::Level => bytes_of(&terms.level),
         Role::HighestLevel => bytes_of(&terms.highest),
         Role::Asymmetry => only_if(terms.asymmetric, own),
