@@ -10,6 +10,7 @@ use crate::options::COMMANDS;
 use crate::report::Form;
 use crate::rtp::RTCP;
 use crate::seed::Drawn;
+use crate::session;
 use crate::streams::Choice;
 use crate::window::LONGEST;
 use crate::words::{STANDARD, Words};
@@ -40,6 +41,8 @@ pub struct Send {
     pub sequence: u16,
     /// So many pictures in so many seconds.
     pub frames: (u32, u32),
+    /// Where the session description is written.
+    pub description: Option<PathBuf>,
 }
 
 /// How streams in a capture are looked at.
@@ -51,6 +54,8 @@ pub struct Looking {
     pub has_donl: bool,
     pub window: u16,
     pub run_limit: usize,
+    /// Parameter sets that a session description has.
+    pub sets: Vec<Vec<u8>>,
 }
 
 pub struct Receive {
@@ -139,10 +144,23 @@ impl Words {
                 .number("--sequence", 0, 65535)?
                 .map_or(drawn.sequence, |it| it as u16),
             frames: self.frames()?,
+            description: self.description(&output)?,
             has_lengths,
             input,
             output,
         })
+    }
+
+    /// Where a session description goes, which is no other file.
+    fn description(&mut self, output: &Path) -> Result<Option<PathBuf>, Failure> {
+        let path = self.value("--sdp").map(PathBuf::from);
+        match path {
+            Some(path) if path == output => Err(Failure::usage(format!(
+                "--sdp {}: this is the capture too; name another file",
+                path.display()
+            ))),
+            other => Ok(other),
+        }
     }
 
     fn port(&mut self) -> Result<Option<u16>, Failure> {
@@ -196,20 +214,36 @@ impl Words {
         ending: Option<Codec>,
     ) -> Result<Looking, Failure> {
         let is_all = self.flag("--all");
-        let choice = Choice {
+        let mut choice = Choice {
             port: self.port()?,
             payload_type: self.payload_type()?,
             ssrc: self.ssrc()?,
             codec: codec.or(ending),
             is_all,
         };
+        let described = match self.value("--sdp") {
+            Some(_) if is_all => {
+                return Err(Failure::usage(
+                    "--all takes all streams, and --sdp describes one; leave one of them out",
+                ));
+            }
+            Some(path) => Some(session::described(Path::new(&path), &choice)?),
+            None => None,
+        };
+        if let Some(it) = &described {
+            choice.codec = Some(it.codec);
+            choice.payload_type = Some(it.payload_type);
+            choice.port = choice.port.or(it.port);
+        }
+        let has_donl = self.donl(choice.codec)?;
         Ok(Looking {
             input,
             choice,
-            is_codec_given: codec.is_some(),
-            has_donl: self.donl(choice.codec)?,
+            is_codec_given: codec.is_some() || described.is_some(),
+            has_donl: has_donl || described.as_ref().is_some_and(|it| it.has_donl),
             window: self.number("--window", 0, LONGEST.into())?.unwrap_or(32) as u16,
             run_limit: self.number("--run-limit", 1, 1 << 30)?.unwrap_or(16 << 20) as usize,
+            sets: described.map(|it| it.sets).unwrap_or_default(),
         })
     }
 

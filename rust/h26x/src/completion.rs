@@ -1,6 +1,6 @@
 //! Completions of the command line for shells.
 
-use crate::options::{COMMANDS, GROUPS, Opt};
+use crate::options::{COMMANDS, FILE, GROUPS, Opt};
 use std::fmt::Write;
 
 #[derive(Clone, Copy, PartialEq, Eq)]
@@ -59,7 +59,8 @@ fn bash() -> String {
             option.values.join(" ")
         );
     }
-    let with_value = all_options().filter(|it| it.value.is_some() && it.values.is_empty());
+    let has_value = |it: &&Opt| it.value.is_some_and(|of| of != FILE) && it.values.is_empty();
+    let with_value = all_options().filter(has_value);
     let mut names: Vec<&str> = with_value.map(|it| it.name).collect();
     names.sort_unstable();
     names.dedup();
@@ -115,6 +116,7 @@ fn zsh() -> String {
                 .replace(':', "\\:");
             let value = match (option.value, option.values) {
                 (None, _) => String::new(),
+                (Some(FILE), _) => format!(":{FILE}:_files"),
                 (Some(value), []) => format!(":{value}: "),
                 (Some(value), values) => format!(":{value}:({})", values.join(" ")),
             };
@@ -169,6 +171,7 @@ fn fish() -> String {
         for option in group.options {
             let value = match (option.value, option.values) {
                 (None, _) => String::new(),
+                (Some(FILE), _) => " -r -F".into(),
                 (Some(_), []) => " -x".into(),
                 (Some(_), values) => format!(" -x -a '{}'", values.join(" ")),
             };

@@ -1,6 +1,7 @@
 //! Writes RTP packets as a capture: pcap with times in microseconds, Ethernet, IPv4 and UDP.
 
 use crate::rtp::{self, Rtp};
+use std::net::Ipv4Addr;
 
 /// The file's header: little-endian, version 2.4, whole frames, Ethernet.
 const FILE_HEADER: [u32; 6] = [0xa1b2_c3d4, 4 << 16 | 2, 0, 0, 1 << 18, 1];
@@ -11,6 +12,9 @@ const ETHERNET: [u8; 14] = [2, 0, 0, 0, 0, 2, 2, 0, 0, 0, 0, 1, 0x08, 0x00];
 const IPV4: [u8; 20] = [
     0x45, 0, 0, 0, 0, 0, 0x40, 0, 64, 17, 0, 0, 10, 0, 0, 1, 10, 0, 0, 2,
 ];
+/// Where packets come from, and where they go.
+pub const SOURCE: Ipv4Addr = Ipv4Addr::new(IPV4[12], IPV4[13], IPV4[14], IPV4[15]);
+pub const DESTINATION: Ipv4Addr = Ipv4Addr::new(IPV4[16], IPV4[17], IPV4[18], IPV4[19]);
 const UDP: usize = 8;
 const IP_AND_BEHIND: usize = IPV4.len() + UDP + rtp::HEADER;
 

@@ -13,6 +13,9 @@ pub struct Opt {
     pub about: &'static str,
 }
 
+/// What the value of an option is called that is a file.
+pub const FILE: &str = "FILE";
+
 /// Options of the same commands.
 pub struct Group {
     pub commands: &'static [&'static str],
@@ -75,6 +78,12 @@ pub static GROUPS: [Group; 5] = [
                 "N",
                 "what is drawn is drawn from this number: the same each time",
             ),
+            with(
+                "--sdp",
+                FILE,
+                "writes the session description of what is sent, as FFmpeg and GStreamer read it: \
+                 payload type, profile and level, parameter sets",
+            ),
             flag(
                 "--lengths",
                 "IN has its units behind lengths of four bytes, as in MP4 files (ISO/IEC \
@@ -92,6 +101,13 @@ pub static GROUPS: [Group; 5] = [
                 "N",
                 "the stream of this SSRC (of those that are asked for, and of the codec, the one \
                  in which most packets follow one another)",
+            ),
+            with(
+                "--sdp",
+                FILE,
+                "the stream that this session description has: its codec, payload type, port and \
+                 decoding order numbers; receive writes its parameter sets before the first \
+                 picture where the stream has none there",
             ),
             flag(
                 "--all",

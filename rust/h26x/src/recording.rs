@@ -7,6 +7,7 @@ use crate::output::Output;
 use crate::packets::{Captured, Stream};
 use crate::printing::say;
 use crate::reception::{Became, Reception};
+use crate::sets::Sets;
 use crate::streams::{Known, counted};
 use crate::tally::Tally;
 use crate::window::{Event, Window};
@@ -18,6 +19,8 @@ pub struct Recording {
     stream: Stream,
     window: Window,
     reception: Reception,
+    /// Parameter sets that may have to stand before the first picture.
+    sets: Sets,
     output: Output,
     path: PathBuf,
     /// Whether the name of its file isn't the user's.
@@ -45,6 +48,7 @@ impl Recording {
             stream: known.stream,
             window: Window::new(asked.looking.window),
             reception,
+            sets: Sets::new(codec, &asked.looking.sets, asked.has_lengths),
             output: Output::create(&path, input)?,
             path,
             is_of_many: choice.is_all,
@@ -69,18 +73,25 @@ impl Recording {
         let Recording {
             window,
             reception,
+            sets,
             output,
             ..
         } = self;
         window.take(packet, &mut |event: Event<'_>| {
             receive_event(reception, event, &mut output.gathered);
-            output.pass_on()
+            match sets.are_put_into(&mut output.gathered) {
+                true => output.pass_on(),
+                false => Ok(()),
+            }
         })
     }
 
     /// Writes what is there so far.
     pub fn pass_on(&mut self) -> Result<(), Failure> {
-        self.output.write_out()
+        match self.sets.are_put_into(&mut self.output.gathered) {
+            true => self.output.write_out(),
+            false => Ok(()),
+        }
     }
 
     /// Gives the file its name, says what was counted, and answers the status to end with.
@@ -89,6 +100,7 @@ impl Recording {
             codec,
             window,
             mut reception,
+            mut sets,
             mut output,
             path,
             is_of_many,
@@ -96,13 +108,20 @@ impl Recording {
         } = self;
         window.finish(&mut |event: Event<'_>| {
             receive_event(&mut reception, event, &mut output.gathered);
-            output.pass_on()
+            match sets.are_put_into(&mut output.gathered) {
+                true => output.pass_on(),
+                false => Ok(()),
+            }
         })?;
+        sets.put_into(&mut output.gathered);
         let tally = reception.finish();
         check_taken(&asked.looking, codec, &tally)?;
         let written = output.finish()?;
         for oddity in tally.oddities() {
             say(&oddity);
+        }
+        if let Some(told) = sets.told() {
+            say(&told);
         }
         let of = if is_of_many {
             &path

@@ -3,6 +3,7 @@
 use crate::access_units::AccessUnits;
 use crate::arguments::Send;
 use crate::codecs::{Likeness, name, word};
+use crate::description::Description;
 use crate::errors::Failure;
 use crate::frames::{HEADROOM, MARKER, file_header, write_headers};
 use crate::output::Output;
@@ -23,6 +24,8 @@ struct Sender<'a> {
     output: Output,
     sequence: u16,
     likeness: Likeness,
+    /// What a session description says of it, and the file of that.
+    description: Option<(Description, Output)>,
     access_units: u64,
     /// Where the last packet of this access unit stands in what is gathered.
     last: Option<usize>,
@@ -51,6 +54,9 @@ impl<'a> Sender<'a> {
         packetizer.with_max_packet_size(asked.mtu);
         let mut output = Output::create(&asked.output, &asked.input)?;
         output.gathered.extend(file_header());
+        let described = asked.description.as_ref();
+        let description = described.map(|path| Output::create(path, &asked.input));
+        let description = description.transpose()?;
         Ok(Sender {
             asked,
             packetizer,
@@ -58,6 +64,7 @@ impl<'a> Sender<'a> {
             output,
             sequence: asked.sequence,
             likeness: Likeness::default(),
+            description: description.map(|to| (Description::new(asked.codec), to)),
             access_units: 0,
             last: None,
             sent: 0,
@@ -99,6 +106,9 @@ impl<'a> Sender<'a> {
         let (mut is_short, mut is_before) = (true, true);
         for unit in units(codec, access_unit) {
             self.likeness.add(unit);
+            if let Some((description, _)) = &mut self.description {
+                description.look(unit);
+            }
             let set = unit_type(codec, unit).filter(|it| is_parameter_set_type(codec, *it));
             if let Some(set) = set {
                 sets.push(set);
@@ -162,7 +172,13 @@ impl<'a> Sender<'a> {
             );
             return Err(Failure::of(input, what));
         }
+        let mut description = self.description;
+        if let Some((description, to)) = &mut description {
+            let text = description.text(self.asked)?;
+            to.gathered.extend_from_slice(text.as_bytes());
+        }
         let written = self.output.finish()?;
+        description.map(|(_, to)| to.finish()).transpose()?;
         say(&format!(
             "{}: {} in {}, {}; left out: {}",
             input.display(),
