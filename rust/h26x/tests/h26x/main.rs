@@ -18,6 +18,8 @@ mod peers;
 mod pipes;
 mod program;
 mod rtsp;
+mod sdp;
+mod sdp_peers;
 mod signals;
 mod there_and_back;
 mod tunnels;

@@ -29,7 +29,7 @@ fn until(mut is_so: impl FnMut() -> bool) -> bool {
 }
 
 /// Another program that runs in a folder; it is ended with the test.
-struct Peer {
+pub struct Peer {
     name: &'static str,
     child: Child,
     said: PathBuf,
@@ -37,7 +37,7 @@ struct Peer {
 
 impl Peer {
     /// Starts a program, or says that it is missing.
-    fn start(folder: &Folder, name: &'static str, words: &[&str]) -> Option<Self> {
+    pub fn start(folder: &Folder, name: &'static str, words: &[&str]) -> Option<Self> {
         let said = folder.path("said");
         let child = Command::new(name)
             .args(words)
@@ -65,7 +65,7 @@ impl Peer {
 
     /// Waits for its end; whether it went well.
     #[track_caller]
-    fn end(mut self) -> bool {
+    pub fn end(mut self) -> bool {
         let has_ended = until(|| self.has_ended());
         assert!(has_ended, "{} doesn't end: {}", self.name, self.said());
         let is_well = self.child.wait().is_ok_and(|status| status.success());
@@ -76,7 +76,7 @@ impl Peer {
     }
 
     /// Waits until it has a port, or says that it can't.
-    fn listens(&mut self, port: u16) -> bool {
+    pub fn listens(&mut self, port: u16) -> bool {
         let has_port = until(|| waiting_bytes(port).is_some() || self.has_ended());
         let listens = has_port && waiting_bytes(port).is_some();
         if !listens {
@@ -105,7 +105,7 @@ fn waiting_bytes(port: u16) -> Option<u32> {
 }
 
 /// Whether the system tells its sockets.
-fn tells_sockets() -> bool {
+pub fn tells_sockets() -> bool {
     let is_there = fs::exists(SOCKETS).is_ok_and(|it| it);
     if !is_there {
         eprintln!("left out, since {SOCKETS} is missing");
@@ -115,7 +115,7 @@ fn tells_sockets() -> bool {
 
 /// Sockets of two ports that follow one another, the lower for RTP (RFC 3550, 11). They are none of
 /// those that the system gives away by itself.
-fn sockets() -> (u16, [UdpSocket; 2]) {
+pub fn sockets() -> (u16, [UdpSocket; 2]) {
     static NEXT: AtomicU32 = AtomicU32::new(0);
     let bind = |port| UdpSocket::bind((Ipv4Addr::LOCALHOST, port)).ok();
     let of_next = |_| {
@@ -128,7 +128,7 @@ fn sockets() -> (u16, [UdpSocket; 2]) {
 
 /// The packets that a program sends to a socket; nothing where it is missing or can't.
 #[track_caller]
-fn packets_from(
+pub fn packets_from(
     socket: &UdpSocket,
     folder: &Folder,
     name: &'static str,
@@ -157,7 +157,7 @@ fn packets_from(
 
 /// Sends packets to a port one by one, each when the one before is taken.
 #[track_caller]
-fn send_to(port: u16, packets: &[Vec<u8>]) {
+pub fn send_to(port: u16, packets: &[Vec<u8>]) {
     let socket = UdpSocket::bind((Ipv4Addr::LOCALHOST, 0)).expect("a socket");
     for packet in packets {
         socket
@@ -169,7 +169,7 @@ fn send_to(port: u16, packets: &[Vec<u8>]) {
 }
 
 /// The capture of packets, as they would be seen on Ethernet.
-fn captured(packets: &[Vec<u8>]) -> Vec<u8> {
+pub fn captured(packets: &[Vec<u8>]) -> Vec<u8> {
     let frame = |packet: &Vec<u8>| ethernet(&[], 0x0800, &ipv4(&[], 0x4000, &udp(packet)));
     pcap(&packets.iter().map(frame).collect::<Vec<_>>())
 }
@@ -206,7 +206,7 @@ fn is_delimiter(codec: &str, unit: &[u8]) -> bool {
 /// These are the stream's slices, and beside them are its other units, which programs repeat; they
 /// put delimiters before access units, too.
 #[track_caller]
-fn check_units(codec: &str, back: &[u8], stream: &[u8]) {
+pub fn check_units(codec: &str, back: &[u8], stream: &[u8]) {
     let [back, units] = [back, stream].map(cut);
     let slices = |units: &[Vec<u8>]| -> Vec<Vec<u8>> {
         let slices = units.iter().filter(|it| is_slice(codec, it));
@@ -225,7 +225,7 @@ fn check_units(codec: &str, back: &[u8], stream: &[u8]) {
 
 /// Inspects and receives a capture of another program's packets: none is lost or refused.
 #[track_caller]
-fn check_capture(folder: &Folder, capture: &str, codec: &str, stream: &[u8], kinds: &[&str]) {
+pub fn check_capture(folder: &Folder, capture: &str, codec: &str, stream: &[u8], kinds: &[&str]) {
     let name = if codec == "h264" { "H.264" } else { "H.265" };
     let inspected = folder.run(&["inspect", capture]);
     inspected.says(0, &[&[name], kinds].concat());
@@ -235,7 +235,7 @@ fn check_capture(folder: &Folder, capture: &str, codec: &str, stream: &[u8], kin
 }
 
 /// The small streams of the codecs that both programs know.
-fn small_streams() -> [(&'static str, Vec<u8>); 2] {
+pub fn small_streams() -> [(&'static str, Vec<u8>); 2] {
     ["h264", "h265"].map(|codec| {
         let path = streams().join("test_pictures").with_extension(codec);
         (codec, fs::read(path).expect("a small stream"))
@@ -505,7 +505,7 @@ fn what_gstreamer_receives() {
 
 /// Has dumpcap capture what is sent to a port and the next one; nothing where it is missing, or may
 /// not.
-fn start_capture(folder: &Folder, port: u16) -> Option<Peer> {
+pub fn start_capture(folder: &Folder, port: u16) -> Option<Peer> {
     let filter = format!("udp port {port} or udp port {}", port + 1);
     let words = ["-q", "-i", "lo", "-f", &filter, "-w", "in.pcapng"];
     let mut dumpcap = Peer::start(folder, "dumpcap", &words)?;
@@ -520,7 +520,7 @@ fn start_capture(folder: &Folder, port: u16) -> Option<Peer> {
 
 /// Ends a capture, once a datagram that is sent to the socket is in it.
 #[track_caller]
-fn end_capture(folder: &Folder, dumpcap: Peer, socket: &UdpSocket) {
+pub fn end_capture(folder: &Folder, dumpcap: Peer, socket: &UdpSocket) {
     let last = b"this is the last datagram";
     let to = socket.local_addr().expect("a port");
     socket.send_to(last, to).expect("sent");
