@@ -4,7 +4,7 @@
 |---|---|---|
 | `crate::x` of the crate `c`, `c::x` in another | `crate::proved::c::x` | crates are modules of one crate |
 | `std::alloc` | `crate::support` | it has the error of a failed request |
-| `base64::x` | `crate::support::base64::x` | Debian's two versions of that crate have no call in common that may fail for want of memory |
+| `base64::x`, `hex::x` | `crate::support::base64::x`, .. | Rust's crates have no call that fails for want of memory, or Debian's two versions have none in common |
 | `std::x` | `core::x`, `alloc::x` | without the feature `std` the crate is `no_std` |
 | a function that takes a `HashMap`, and imports of it | behind the feature `std` | it is std's alone |
 | `Vec`, `String`, `Box` | imported | they aren't in core's prelude |
@@ -36,7 +36,7 @@ PLACES = {"fmt": "core", "mem": "core", "ops": "core", "cmp": "core", "iter": "c
           "vec": "alloc", "boxed": "alloc", "string": "alloc", "borrow": "alloc", "collections": "alloc"}
 
 # Libraries of Rattle that have another one in their place, by the names of theirs.
-LIBRARIES = ("base64",)
+LIBRARIES = ("base64", "hex")
 
 
 def public_functions(items):

@@ -14,6 +14,7 @@ pub mod payloads;
 pub mod plan;
 pub mod profiles;
 pub mod receivers;
+pub mod sdp;
 pub mod shown;
 pub mod streams;
 pub mod text;

@@ -1,0 +1,225 @@
+//! Format parameters and payload types of SDP, read by the words of the RFCs and not by the crate's code.
+
+use crate::held::held_by;
+use crate::input::Input;
+use emupedestal::Codec;
+use emupedestal::sdp::*;
+
+/// So many bytes more than a text of the same length may be held of what is read: the lists of a format's values.
+const FRONT: isize = 4096;
+/// So many bytes at most are held for each byte of a text: of a parameter `a` the lists of its name and its value, in a
+/// list that doubles.
+const EACH: isize = 64;
+
+pub fn check(codec: Codec, input: &mut Input) {
+    let text = String::from_utf8_lossy(input.bytes()).into_owned();
+    let value = String::from_utf8_lossy(input.bytes()).into_owned();
+    let which = usize::from(input.byte());
+    match codec {
+        Codec::H264 => check_format::<H264Parameter>(&text, &value, which),
+        Codec::H265 => check_format::<H265Parameter>(&text, &value, which),
+        Codec::H266 => check_format::<H266Parameter>(&text, &value, which),
+    }
+    check_units(&value);
+    check_payload_type(&text);
+}
+
+/// The parameters of a text: parts between `;` that stand outside braces, none of them blank, and of each what stands
+/// before its first `=` and behind it; nothing where a brace is left open.
+fn pairs(text: &str) -> Option<Vec<(&str, &str)>> {
+    let mut is_open = false;
+    let parts = text.split(|c| {
+        match c {
+            '{' => is_open = true,
+            '}' => is_open = false,
+            _ => {}
+        }
+        c == ';' && !is_open
+    });
+    let parts: Vec<&str> = parts.map(str::trim_ascii).collect();
+    let parts = parts.into_iter().filter(|it| !it.is_empty()).map(|part| {
+        let (name, value) = part.split_once('=').unwrap_or((part, ""));
+        (name.trim_ascii(), value.trim_ascii())
+    });
+    let pairs = parts.collect();
+    (!is_open).then_some(pairs)
+}
+
+fn check_format<P: Parameter>(text: &str, value: &str, which: usize) {
+    let (read, held) = held_by(|| text.parse::<CodecParameters<P>>());
+    let Some(pairs) = pairs(text) else {
+        assert_eq!(read, Err(ParametersError::OpenBrace));
+        return;
+    };
+    match read {
+        Ok(format) => {
+            assert!(
+                held <= FRONT + EACH * text.len() as isize,
+                "{held} bytes are held"
+            );
+            check_read(&format, &pairs);
+            check_written(&format);
+            check_set(&format, value, which);
+        }
+        Err(error) => {
+            assert_eq!(held, 0, "what is refused leaves nothing");
+            check_refused::<P>(error, &pairs);
+        }
+    }
+}
+
+/// Each value is where it belongs, and the others are in their order.
+fn check_read<P: Parameter>(format: &CodecParameters<P>, pairs: &[(&str, &str)]) {
+    let known = |it: &&(&str, &str)| P::of_name(it.0).is_some();
+    for (name, value) in pairs.iter().filter(known) {
+        let parameter = P::of_name(name).expect("a known one");
+        assert_eq!(format.value(parameter), Some(*value));
+        assert_eq!(format.value_or_default(parameter), Some(*value));
+        let number = format.number(parameter);
+        assert_eq!(format.number_or_default(parameter), number);
+        // Of base 10, or of base 16 as `sprop-spatial-segmentation-idc`.
+        let [ten, sixteen] = [10, 16].map(|base| u64::from_str_radix(value, base).ok());
+        assert!(number.is_none() || number == ten || number == sixteen);
+        if let Ok(units) = format.units(parameter) {
+            assert!(units.is_empty() || write_units(&units).as_deref() == Ok(value));
+        }
+    }
+    let given = P::all()
+        .iter()
+        .filter(|it| format.value(**it).is_some())
+        .count();
+    assert_eq!(given, pairs.iter().filter(known).count());
+    let others = pairs.iter().filter(|it| !known(it)).copied();
+    assert!(format.others().eq(others));
+    assert_eq!(format.iter().count(), pairs.len());
+}
+
+/// What is written is read as the same, and its parameters are those in the order of the RFC.
+fn check_written<P: Parameter>(format: &CodecParameters<P>) {
+    let text = format.to_string();
+    assert_eq!(text.parse().as_ref(), Ok(format));
+    let pairs = pairs(&text).expect("braces are closed");
+    assert!(format.iter().eq(pairs));
+}
+
+/// The first that is refused is told: what is before it is read.
+fn check_refused<P: Parameter>(error: ParametersError, pairs: &[(&str, &str)]) {
+    let ParametersError::Refused { place, fault } = error else {
+        panic!("{error:?}");
+    };
+    let parameter = P::of_name(pairs[place].0);
+    let is_given = |it: &(&str, &str)| P::of_name(it.0) == parameter;
+    assert!(parameter.is_some());
+    assert_eq!(fault == Fault::Twice, pairs[..place].iter().any(is_given));
+    let before = pairs[..place]
+        .iter()
+        .map(|(name, value)| format!("{name}={value};"));
+    assert!(
+        before
+            .collect::<String>()
+            .parse::<CodecParameters<P>>()
+            .is_ok()
+    );
+    let (name, value) = pairs[place];
+    let alone = format!("{name}={value}").parse::<CodecParameters<P>>();
+    let wanted = Err(ParametersError::Refused { place: 0, fault });
+    assert!(fault == Fault::Twice || alone == wanted);
+}
+
+/// A value that is set is there, and the others stay; where it is refused all stays.
+fn check_set<P: Parameter>(format: &CodecParameters<P>, value: &str, which: usize) {
+    let parameter = P::all()[which % P::all().len()];
+    let mut changed = format.clone();
+    let without = |it: &CodecParameters<P>| {
+        let mut it = it.clone();
+        assert_eq!(it.remove(parameter), Ok(()));
+        assert_eq!(it.value(parameter), None);
+        it
+    };
+    match changed.set(parameter, value) {
+        Ok(()) => {
+            assert_eq!(changed.value(parameter), Some(value.trim_ascii()));
+            assert_eq!(without(&changed), without(format));
+            check_written(&changed);
+        }
+        Err(_) => assert_eq!(changed, *format),
+    }
+}
+
+/// The bytes of base64 with its padding (RFC 4648, section 4), bit by bit.
+fn bytes_of(text: &str) -> Option<Vec<u8>> {
+    let digits = text
+        .strip_suffix("==")
+        .or(text.strip_suffix('='))
+        .unwrap_or(text);
+    let (mut bits, mut count, mut bytes) = (0_u32, 0, Vec::new());
+    for digit in digits.bytes() {
+        let value = match digit {
+            b'A'..=b'Z' => digit - b'A',
+            b'a'..=b'z' => digit - b'a' + 26,
+            b'0'..=b'9' => digit - b'0' + 52,
+            b'+' => 62,
+            b'/' => 63,
+            _ => return None,
+        };
+        (bits, count) = (bits << 6 | u32::from(value), count + 6);
+        if count >= 8 {
+            count -= 8;
+            bytes.push((bits >> count) as u8);
+            bits &= (1 << count) - 1;
+        }
+    }
+    let is_whole = text.len() % 4 == 0 && bits == 0 && count < 6;
+    is_whole.then_some(bytes)
+}
+
+fn check_units(text: &str) {
+    let units: Vec<Option<Vec<u8>>> = text.split(',').map(bytes_of).collect();
+    let is_none = |it: &Option<Vec<u8>>| it.as_ref().is_none_or(Vec::is_empty);
+    let wanted = match units.iter().position(is_none) {
+        None => Ok(units.into_iter().flatten().collect()),
+        Some(place) if units[place].is_none() => Err(UnitsError::NotBase64 { place }),
+        Some(place) => Err(UnitsError::Empty { place }),
+    };
+    assert_eq!(read_units(text), wanted);
+    if let Ok(units) = wanted {
+        assert_eq!(write_units(&units).as_deref(), Ok(text));
+    }
+}
+
+/// `PAYLOAD-TYPE NAME/90000`, with white space at its ends and before the name.
+fn check_payload_type(text: &str) {
+    let (number, rest) = text
+        .trim_ascii()
+        .split_once(' ')
+        .unwrap_or((text.trim_ascii(), ""));
+    let is_digits = !number.is_empty() && number.bytes().all(|it| it.is_ascii_digit());
+    let number = number
+        .parse::<u8>()
+        .ok()
+        .filter(|it| is_digits && *it < 128);
+    let (name, clock) = rest
+        .trim_ascii()
+        .split_once('/')
+        .unwrap_or((rest.trim_ascii(), ""));
+    let codec = match name.to_ascii_uppercase().as_str() {
+        "H264" => Some(Codec::H264),
+        "H265" => Some(Codec::H265),
+        "H266" => Some(Codec::H266),
+        _ => None,
+    };
+    let read = text.parse::<RtpMap>();
+    match (number, codec, clock) {
+        (None, _, _) => assert_eq!(read, Err(RtpMapError::PayloadType)),
+        (_, None, _) => assert_eq!(read, Err(RtpMapError::Encoding)),
+        (Some(number), Some(codec), "90000") => {
+            let map = RtpMap::new(number, codec).expect("below 128");
+            assert_eq!(read, Ok(map));
+            assert_eq!(
+                map.to_string(),
+                format!("{number} {}/90000", name.to_ascii_uppercase())
+            );
+        }
+        _ => assert_eq!(read, Err(RtpMapError::ClockRate)),
+    }
+}

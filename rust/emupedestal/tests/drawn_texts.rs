@@ -1,0 +1,236 @@
+//! Drawn texts of SDP: what is read is written and read as the same, and what is refused has its place.
+//!
+//! `DRAWN_TEXTS=1000000000 cargo test --release --features sdp --test drawn_texts` draws so many, and
+//! `DRAWN_SECONDS=600` ends after so many seconds; `DRAWN_THREADS` says how many threads do so.
+#![cfg(feature = "sdp")]
+
+use emupedestal::sdp::*;
+use std::env;
+use std::fmt::Write;
+use std::sync::atomic::{AtomicBool, Ordering};
+use std::thread;
+use std::time::{Duration, Instant};
+
+/// Numbers that follow one another as drawn (Marsaglia, Xorshift RNGs).
+struct Drawn(u64);
+
+impl Drawn {
+    fn new(seed: u64) -> Self {
+        Drawn((seed + 1).wrapping_mul(0x9e37_79b9_7f4a_7c15))
+    }
+
+    fn below(&mut self, most: usize) -> usize {
+        self.0 ^= self.0 << 13;
+        self.0 ^= self.0 >> 7;
+        self.0 ^= self.0 << 17;
+        ((self.0 >> 32) * most as u64 >> 32) as usize
+    }
+
+    fn one<'a>(&mut self, of: &[&'a str]) -> &'a str {
+        of[self.below(of.len())]
+    }
+}
+
+/// What stands where an end would write a `;`, a `=`, a value, or the name of no parameter of the codec.
+const BETWEEN: [&str; 8] = [";", ";", ";", "; ", ";;", " ;\r\n\t", ",", ""];
+const EQUALS: [&str; 6] = ["=", "=", "=", " = ", "", "=="];
+const VALUES: [&str; 30] = [
+    "0",
+    "1",
+    "2",
+    "3",
+    "6",
+    "7",
+    "15",
+    "16",
+    "93",
+    "255",
+    "256",
+    "32767",
+    "32768",
+    "4294967295",
+    "4294967296",
+    "18446744073709551615",
+    "18446744073709551616",
+    "-1",
+    "+1",
+    "0x1",
+    "42e01f",
+    "640C1F",
+    "B00000000000",
+    "SRST",
+    "MRMT",
+    "{w:8;level-id=93}",
+    "{",
+    "}",
+    "Z0IACpZTBYmI,aMljiA==",
+    "",
+];
+const NAMES: [&str; 5] = ["x-google-start-bitrate", "a", "", "packetisation-mode", "ä"];
+/// Any characters, those of the grammar among them.
+const ANY: [&str; 16] = [
+    ";", "=", "{", "}", ",", " ", "\t", "\r", "\n", "a", "A", "0", "/", "+", "\0", "\u{20ac}",
+];
+
+/// Draws a text into this one: parameters with their values, some of them of the other kind, and now and then any
+/// character.
+fn draw<P: Parameter>(drawn: &mut Drawn, text: &mut String) {
+    text.clear();
+    for _ in 0..drawn.below(6) {
+        match drawn.below(8) {
+            0 => text.push_str(drawn.one(&NAMES)),
+            1 => text.extend(
+                P::all()[drawn.below(P::all().len())]
+                    .name()
+                    .chars()
+                    .map(|c| c.to_ascii_uppercase()),
+            ),
+            _ => text.push_str(P::all()[drawn.below(P::all().len())].name()),
+        }
+        text.push_str(drawn.one(&EQUALS));
+        match drawn.below(4) {
+            0 => write!(text, "{}", drawn.below(1 << 20)).expect("memory"),
+            _ => text.push_str(drawn.one(&VALUES)),
+        }
+        if drawn.below(24) == 0 {
+            (0..drawn.below(8)).for_each(|_| text.push_str(drawn.one(&ANY)));
+        }
+        text.push_str(drawn.one(&BETWEEN));
+    }
+}
+
+/// Reads a text; whether it is taken.
+fn check<P: Parameter>(text: &str) -> bool {
+    match text.parse::<CodecParameters<P>>() {
+        Ok(format) => {
+            let written = format.to_string();
+            assert_eq!(written.parse().as_ref(), Ok(&format), "{text:?}");
+            assert!(
+                written.len() <= text.len() + format.iter().count(),
+                "{text:?}"
+            );
+            for (name, value) in format.iter() {
+                let Some(parameter) = P::of_name(name) else {
+                    break; // the others stand behind
+                };
+                let units = format.units(parameter).unwrap_or_default();
+                let is_written = || write_units(&units).as_deref() == Ok(value);
+                assert!(units.is_empty() || is_written(), "{text:?}");
+            }
+            true
+        }
+        Err(ParametersError::Refused { place, .. }) => {
+            assert!(place <= text.matches(';').count(), "{text:?}");
+            false
+        }
+        Err(error) => {
+            assert_eq!(error, ParametersError::OpenBrace, "{text:?}");
+            assert!(text.contains('{'), "{text:?}");
+            false
+        }
+    }
+}
+
+/// Draws texts of one codec after the other; answers how many, how many were taken, and their bytes.
+fn run(seed: u64, most: u64, is_over: &AtomicBool) -> [u64; 3] {
+    let (mut drawn, mut text, mut counts) = (Drawn::new(seed), String::new(), [0; 3]);
+    while counts[0] < most && !(counts[0] % 1024 == 0 && is_over.load(Ordering::Relaxed)) {
+        let is_taken = match counts[0] % 3 {
+            0 => {
+                draw::<H264Parameter>(&mut drawn, &mut text);
+                check::<H264Parameter>(&text)
+            }
+            1 => {
+                draw::<H265Parameter>(&mut drawn, &mut text);
+                check::<H265Parameter>(&text)
+            }
+            _ => {
+                draw::<H266Parameter>(&mut drawn, &mut text);
+                check::<H266Parameter>(&text)
+            }
+        };
+        let _ = text.parse::<RtpMap>();
+        let _ = read_units(&text);
+        counts = [
+            counts[0] + 1,
+            counts[1] + u64::from(is_taken),
+            counts[2] + text.len() as u64,
+        ];
+    }
+    counts
+}
+
+fn number(name: &str, otherwise: u64) -> u64 {
+    env::var(name)
+        .ok()
+        .and_then(|it| it.parse().ok())
+        .unwrap_or(otherwise)
+}
+
+#[test]
+fn drawn_texts() {
+    let threads = number("DRAWN_THREADS", 1);
+    let most = number("DRAWN_TEXTS", 30_000).div_ceil(threads);
+    let seconds = number("DRAWN_SECONDS", 3600);
+    let (begin, is_over) = (Instant::now(), AtomicBool::new(false));
+    let counts = thread::scope(|scope| {
+        let runs: Vec<_> = (0..threads)
+            .map(|seed| {
+                scope.spawn({
+                    let is_over = &is_over;
+                    move || run(seed, most, is_over)
+                })
+            })
+            .collect();
+        while runs.iter().any(|it| !it.is_finished()) {
+            is_over.store(
+                begin.elapsed() > Duration::from_secs(seconds),
+                Ordering::Relaxed,
+            );
+            thread::sleep(Duration::from_millis(5));
+        }
+        let counts = runs.into_iter().map(|it| it.join().expect("no finding"));
+        counts.fold([0; 3], |sum, of| [0, 1, 2].map(|i| sum[i] + of[i]))
+    });
+    let [texts, taken, bytes] = counts;
+    println!(
+        "{texts} texts of {bytes} bytes, {taken} taken, {:.1} s",
+        begin.elapsed().as_secs_f64()
+    );
+    assert!(
+        taken * 10 > texts && taken < texts,
+        "some are taken, and some are not"
+    );
+}
+
+/// How long texts of growing length take, each way that they are read: run by hand, since it looks at the time.
+#[test]
+#[ignore = "it looks at the time"]
+fn time_is_linear() {
+    let forms: [(&str, &dyn Fn(usize) -> String); 6] = [
+        ("one value", &|n| "x=".to_string() + &"a".repeat(n)),
+        ("others", &|n| "a=1;".repeat(n / 4)),
+        ("blank parts", &|n| ";".repeat(n)),
+        ("white space", &|n| " ".repeat(n) + "a"),
+        ("braces", &|n| "{}".repeat(n / 2)),
+        ("units", &|n| {
+            "sprop-parameter-sets=".to_string() + &"AAAA,".repeat(n / 5) + "AAAA"
+        }),
+    ];
+    for (name, form) in forms {
+        print!("{name}:");
+        for len in [1 << 16, 1 << 18, 1 << 20, 1 << 22] {
+            let text = form(len);
+            let begin = Instant::now();
+            let format: H264Parameters = text.parse().expect("it is taken");
+            let read = begin.elapsed();
+            let units = format.sprop_parameter_sets().map(|units| units.len());
+            let written = format.to_string().len();
+            let all = begin.elapsed();
+            let each = |time: Duration| time.as_nanos() as f64 / text.len() as f64;
+            print!(" {len}: {:.2} {:.2} ns a byte", each(read), each(all));
+            assert!(written > 0 || name == "blank parts" || units.is_err());
+        }
+        println!();
+    }
+}
