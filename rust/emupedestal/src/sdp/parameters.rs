@@ -9,7 +9,7 @@ use core::fmt;
 use core::hash::Hash;
 use core::str::{self, FromStr};
 
-/// A format parameter of one of the codecs: [`H264Parameter`], [`H265Parameter`] or [`H266Parameter`].
+/// A format parameter of one of the codecs: [`H264Parameter`], [`H265Parameter`] or [`H266Parameter`], and no other.
 pub trait Parameter: proved::CodecParameter + fmt::Debug + Eq + Hash + 'static {
     /// All of them, in the order in which they are written.
     fn all() -> &'static [Self];

@@ -140,6 +140,53 @@ fn lines_of_programs() {
     }
 }
 
+/// The video of an offer that Pion 3.1.56 made in a run, as a server goes through its lines.
+#[test]
+fn an_offer_of_pion() {
+    let lines = "m=video 9 UDP/TLS/RTP/SAVPF 96 97 102 121 127 120 125 107 108 109 123 118 116
+a=rtpmap:96 VP8/90000
+a=rtpmap:97 rtx/90000
+a=fmtp:97 apt=96
+a=rtpmap:102 H264/90000
+a=fmtp:102 level-asymmetry-allowed=1;packetization-mode=1;profile-level-id=42001f
+a=rtpmap:121 rtx/90000
+a=fmtp:121 apt=102
+a=rtpmap:127 H264/90000
+a=fmtp:127 level-asymmetry-allowed=1;packetization-mode=0;profile-level-id=42001f
+a=rtpmap:125 H264/90000
+a=fmtp:125 level-asymmetry-allowed=1;packetization-mode=1;profile-level-id=42e01f
+a=rtpmap:108 H264/90000
+a=fmtp:108 level-asymmetry-allowed=1;packetization-mode=0;profile-level-id=42e01f
+a=rtpmap:123 H264/90000
+a=fmtp:123 level-asymmetry-allowed=1;packetization-mode=1;profile-level-id=640032
+a=rtpmap:116 ulpfec/90000";
+    let values = |name| {
+        lines
+            .lines()
+            .filter_map(move |line| line.strip_prefix(name))
+    };
+    let maps = values("a=rtpmap:").filter_map(|it| it.parse::<RtpMap>().ok());
+    let formats = maps.map(|map| {
+        let front = format!("{} ", map.payload_type());
+        let format = values("a=fmtp:").find_map(|it| it.strip_prefix(&front));
+        let format: H264Parameters = format.expect("a format").parse().expect("it is read");
+        assert_eq!(map.codec(), Codec::H264);
+        (
+            map.payload_type(),
+            format.packetization_mode() as u8,
+            format.profile_level_id(),
+        )
+    });
+    let wanted = [
+        (102, 1, [0x42, 0x00, 0x1f]),
+        (127, 0, [0x42, 0x00, 0x1f]),
+        (125, 1, [0x42, 0xe0, 0x1f]),
+        (108, 0, [0x42, 0xe0, 0x1f]),
+        (123, 1, [0x64, 0x00, 0x32]),
+    ];
+    assert!(formats.eq(wanted));
+}
+
 /// RFC 6184, 8.2.1, RFC 7798, 7.1, and what RFC 9328, 7.2 says of values.
 #[test]
 fn lines_of_the_rfcs() {
