@@ -23,7 +23,7 @@ impl Drawn {
         self.0 ^= self.0 << 13;
         self.0 ^= self.0 >> 7;
         self.0 ^= self.0 << 17;
-        ((self.0 >> 32) * most as u64 >> 32) as usize
+        (((self.0 >> 32) * most as u64) >> 32) as usize
     }
 
     fn one<'a>(&mut self, of: &[&'a str]) -> &'a str {

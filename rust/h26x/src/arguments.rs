@@ -227,6 +227,11 @@ impl Words {
                     "--all takes all streams, and --sdp describes one; leave one of them out",
                 ));
             }
+            Some(path) if path == STANDARD && input == Path::new(STANDARD) => {
+                return Err(Failure::usage(
+                    "--sdp -: standard input is the capture; name a file of the description",
+                ));
+            }
             Some(path) => Some(session::described(Path::new(&path), &choice)?),
             None => None,
         };

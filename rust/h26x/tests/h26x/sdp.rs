@@ -334,5 +334,7 @@ fn descriptions_that_are_refused() {
         .says(1, &["longer than session descriptions are"]);
     let inspect = ["inspect", "in.pcap", "--all", "--sdp", "in.sdp"];
     folder.run(&inspect).says(2, &["leave one of them out"]);
+    let ran = folder.shell("$0 inspect - --sdp - <in.pcap");
+    ran.says(2, &["standard input is the capture"]);
     assert_eq!(folder.names(), ["in.pcap", "in.sdp"]);
 }

@@ -151,7 +151,7 @@ fn what_ffmpeg_describes() {
     for (codec, encoder, form) in encoders {
         let folder = Folder::new();
         let encode = format!(
-            "-v error -f lavfi -i testsrc=size=320x240:rate=25:duration=1 -pix_fmt yuv420p \
+            "-v error -f lavfi -i testsrc=size=160x128:rate=25:duration=1 -pix_fmt yuv420p -preset ultrafast \
              -c:v {encoder} in.mp4"
         );
         let wanted = format!("-v error -i in.mp4 -c copy -f {form} wanted");
