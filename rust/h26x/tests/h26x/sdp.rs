@@ -219,7 +219,8 @@ fn sets_that_the_stream_has_not() {
         &[0x67, 0x42, 0xc0, 0x1f],
         &[0x06, 5, 1, 0x80],
     );
-    let cases: [(&[&[u8]], &[&[u8]], &str); 5] = [
+    type Units<'a> = &'a [&'a [u8]];
+    let cases: [(Units, Units, &str); 5] = [
         (
             &[slice, slice],
             &[sps, pps, slice, slice],
