@@ -261,3 +261,43 @@ fn a_run_that_is_too_long_leaves_the_text_in_place() {
         }
     }
 }
+
+/// What is read of a text of SDP, and what is left where it is refused.
+#[cfg(feature = "sdp")]
+#[test]
+fn formats_of_sdp() {
+    use emupedestal::sdp::{H264Parameters, read_units};
+
+    const LEN: usize = 1 << 20;
+    /// A name, a value and a place in a list that doubles for each `a;`.
+    const EACH: usize = 64;
+    for (part, end) in [
+        ("a", ""),
+        ("a;", ""),
+        (";", ""),
+        ("a=b;", ""),
+        ("{;}", ""),
+        ("a;", ";max-fs=a"),
+        ("a=b;", "max-fs=1;max-fs=1"),
+        ("a;", "{"),
+    ] {
+        let text = part.repeat(LEN / part.len()) + end;
+        let before = HELD.get();
+        let read = text.parse::<H264Parameters>();
+        let held = (HELD.get() - before) as usize;
+        assert_eq!(read.is_ok(), end.is_empty(), "{part}{end}");
+        let most = if read.is_ok() { SMALL + EACH * LEN } else { 0 };
+        assert!(held <= most, "{part}{end}: {held} bytes");
+    }
+    for (part, end) in [("AA==,", "AA=="), ("AAAA", ""), ("AA==,", "A")] {
+        let text = part.repeat(LEN / part.len()) + end;
+        let before = HELD.get();
+        let read = read_units(&text);
+        let held = (HELD.get() - before) as usize;
+        let most = if read.is_ok() { SMALL + EACH * LEN } else { 0 };
+        assert!(
+            held <= most && read.is_ok() == (end != "A"),
+            "{part}{end}: {held} bytes"
+        );
+    }
+}
