@@ -60,7 +60,6 @@ getters! {
         max_lsr: MaxLsr, u64;
         max_lps: MaxLps, u64;
         max_cpb: MaxCpb, u64;
-        max_dpb: MaxDpb, u8;
         max_br: MaxBr, u64;
         max_tr: MaxTr, u64;
         max_tc: MaxTc, u64;
@@ -72,6 +71,7 @@ getters! {
         profile_id: ProfileId, u8;
         level_id: LevelId, u8;
         sprop_sub_layer_id: SpropSubLayerId, u8;
+        max_dpb: MaxDpb, u8;
         sprop_max_don_diff: SpropMaxDonDiff, u32;
         sprop_depack_buf_nalus: SpropDepackBufNalus, u16;
         sprop_depack_buf_bytes: SpropDepackBufBytes, u32;

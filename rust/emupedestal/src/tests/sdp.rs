@@ -246,6 +246,12 @@ fn what_is_taken_where_nothing_is_said() {
         (0, u32::MAX)
     );
     assert_eq!(none.profile_compatibility_indicator(), None);
+    assert_eq!(
+        (none.max_dpb(), none.sprop_spatial_segmentation_idc()),
+        (6, None)
+    );
+    let format: H265Parameters = "sprop-spatial-segmentation-idc=fFf".parse().unwrap();
+    assert_eq!(format.sprop_spatial_segmentation_idc(), Some(4095));
     let none = H266Parameters::default();
     assert_eq!(
         none.profile_tier_level(),
@@ -285,7 +291,7 @@ fn values_as_they_are() {
         (format.tx_mode(), format.max_lsr()),
         (TxMode::MultipleSessions, Some(u64::MAX))
     );
-    assert_eq!((format.max_dpb(), format.level_id()), (Some(16), 255));
+    assert_eq!((format.max_dpb(), format.level_id()), (16, 255));
     let mode = |text: &str| text.parse::<H265Parameters>().unwrap().tx_mode();
     assert_eq!(
         (mode("tx-mode=MRST"), mode("tx-mode=SRST")),

@@ -12,7 +12,7 @@ pub enum Fault {
     NotANumber,
     /// The value is a number, but none that the parameter may have.
     OutOfRange,
-    /// The value isn't as many bytes, by two hexadecimal digits each, as the parameter has.
+    /// The value isn't hexadecimal digits, or not as many as the parameter has.
     NotHexadecimal,
     /// The value is none of `SRST`, `MRST` and `MRMT`.
     NotTxMode,

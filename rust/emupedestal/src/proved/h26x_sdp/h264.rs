@@ -3,7 +3,7 @@
 //! The format parameters of H.264 (RFC 6184, section 8.1).
 
 use crate::proved::h26x_sdp::codec::{CodecParameter, CodecParameters};
-use crate::proved::h26x_sdp::kind::{BITS_15, BITS_32, FLAG, Kind};
+use crate::proved::h26x_sdp::kind::{BITS_15, BITS_32, BITS_64, FLAG, Kind};
 use crate::proved::h26x_sdp::table::ParameterRow;
 
 /// A format parameter of H.264, in the order in which they are written (RFC 6184, section 8.1).
@@ -14,30 +14,35 @@ pub enum H264Parameter {
     /// absent 42000a: Baseline, level 1.
     ProfileLevelId,
     /// `max-recv-level`: profile_iop and level_idc of the highest level that is received, by four
-    /// digits. Where it's absent, that of `profile-level-id`.
+    /// digits. Level 1b is 11 with bit 4 of profile_iop, or 9 without it. Where it's absent, the
+    /// level of `profile-level-id`.
     MaxRecvLevel,
-    /// `max-mbps`: the most macroblocks in a second. Where it's absent, the level's.
+    /// `max-mbps`: the most macroblocks in a second, not below the level's. Where it's absent, the
+    /// level's.
     MaxMbps,
-    /// `max-smbps`: the most static macroblocks in a second.
+    /// `max-smbps`: the most static macroblocks in a second, not below `max-mbps`. Where it's
+    /// absent, static macroblocks count as others do.
     MaxSmbps,
-    /// `max-fs`: the most macroblocks of a frame. Where it's absent, the level's.
+    /// `max-fs`: the most macroblocks of a frame, not below the level's. Where it's absent, the
+    /// level's.
     MaxFs,
-    /// `max-cpb`: the largest coded picture buffer, in units of 1000 or 1200 bits. Where it's
-    /// absent, the level's.
+    /// `max-cpb`: the largest coded picture buffer, in units of 1000 bits for the VCL and 1200 for
+    /// the NAL HRD, not below the level's. Where it's absent, the level's, times `max-br` over
+    /// the level's where that is given.
     MaxCpb,
-    /// `max-dpb`: the largest decoded picture buffer, in units of 8/3 macroblocks. Where it's
-    /// absent, the level's.
+    /// `max-dpb`: the largest decoded picture buffer, in units of 8/3 macroblocks, not below the
+    /// level's. Where it's absent, the level's.
     MaxDpb,
-    /// `max-br`: the highest bit rate, in units of 1000 or 1200 bits a second. Where it's absent,
-    /// the level's.
+    /// `max-br`: the highest bit rate, in units of 1000 bits a second for the VCL and 1200 for the
+    /// NAL HRD, not below the level's. Where it's absent, the level's.
     MaxBr,
-    /// `redundant-pic-cap`: whether redundant coded pictures are used, 0 or 1. Where it's absent
-    /// 0.
+    /// `redundant-pic-cap`: whether a receiver uses redundant coded pictures, 0 or 1. Where it's
+    /// absent 0.
     RedundantPicCap,
     /// `sprop-parameter-sets`: parameter sets in base64, with `,` between them.
     SpropParameterSets,
-    /// `sprop-level-parameter-sets`: parameter sets of other levels: a level's six digits, `:`,
-    /// its sets, `:` and so on.
+    /// `sprop-level-parameter-sets`: parameter sets of other levels: six digits as in
+    /// `profile-level-id`, `:`, its sets as in `sprop-parameter-sets`, `:` and so on.
     SpropLevelParameterSets,
     /// `use-level-src-parameter-sets`: whether parameter sets of other levels and by source are
     /// used, 0 or 1. Where it's absent 0.
@@ -51,19 +56,21 @@ pub enum H264Parameter {
     /// `packetization-mode`: 0 single NAL unit, 1 non-interleaved, 2 interleaved. Where it's
     /// absent 0.
     PacketizationMode,
-    /// `sprop-interleaving-depth`: how many units precede one that they follow in decoding order,
-    /// at most. Present in mode 2 alone.
+    /// `sprop-interleaving-depth`: how many VCL units precede one that they follow in decoding
+    /// order, at most. Present in mode 2, and there alone.
     SpropInterleavingDepth,
-    /// `sprop-deint-buf-req`: the size of the deinterleaving buffer, in bytes. Present in mode 2
-    /// alone.
+    /// `sprop-deint-buf-req`: the size of the deinterleaving buffer that the stream needs, in
+    /// bytes. Present in mode 2, and there alone.
     SpropDeintBufReq,
     /// `deint-buf-cap`: the deinterleaving buffer that a receiver has, in bytes. Where it's
     /// absent 0.
     DeintBufCap,
     /// `sprop-init-buf-time`: how long a receiver buffers before it decodes, in ticks of 90 kHz.
+    /// Absent in modes 0 and 1. Where it's absent, it isn't said.
     SpropInitBufTime,
-    /// `sprop-max-don-diff`: the largest difference of decoding order numbers. Where it's absent,
-    /// it isn't said.
+    /// `sprop-max-don-diff`: the largest difference of the decoding order numbers of a unit and
+    /// of one that is sent behind it, up to 32767. Absent in modes 0 and 1. Where it's absent, it
+    /// isn't said.
     SpropMaxDonDiff,
     /// `max-rcmd-nalu-size`: the largest unit that a receiver handles efficiently, in bytes.
     /// Where it's absent, any.
@@ -71,8 +78,8 @@ pub enum H264Parameter {
     /// `sar-understood`: the greatest aspect_ratio_idc below 255 that is understood. Where it's
     /// absent 13.
     SarUnderstood,
-    /// `sar-supported`: the greatest aspect_ratio_idc below 255 that is shown as it asks, or 255
-    /// for all.
+    /// `sar-supported`: the greatest aspect_ratio_idc, from 1 to `sar-understood`, that is shown
+    /// without distortion, or 255 for all ratios. Where it's absent, it isn't said.
     SarSupported,
 }
 
@@ -119,32 +126,32 @@ static ROWS: [ParameterRow; 23] = [
     },
     ParameterRow {
         name: b"max-mbps",
-        kind: BITS_32,
+        kind: BITS_64,
         default: None,
     },
     ParameterRow {
         name: b"max-smbps",
-        kind: BITS_32,
+        kind: BITS_64,
         default: None,
     },
     ParameterRow {
         name: b"max-fs",
-        kind: BITS_32,
+        kind: BITS_64,
         default: None,
     },
     ParameterRow {
         name: b"max-cpb",
-        kind: BITS_32,
+        kind: BITS_64,
         default: None,
     },
     ParameterRow {
         name: b"max-dpb",
-        kind: BITS_32,
+        kind: BITS_64,
         default: None,
     },
     ParameterRow {
         name: b"max-br",
-        kind: BITS_32,
+        kind: BITS_64,
         default: None,
     },
     ParameterRow {
@@ -223,7 +230,7 @@ static ROWS: [ParameterRow; 23] = [
     ParameterRow {
         name: b"sar-supported",
         kind: Kind::Number {
-            least: 0,
+            least: 1,
             most: 255,
         },
         default: None,

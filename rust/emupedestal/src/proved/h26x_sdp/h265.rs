@@ -21,12 +21,12 @@ pub enum H265Parameter {
     /// `interop-constraints`: the 48 flags of constraints behind the compatibility flags, by
     /// twelve digits. Where it's absent B00000000000: progressive, not packed, frames alone.
     InteropConstraints,
-    /// `profile-compatibility-indicator`: the 32 flags of compatible profiles, by eight digits.
-    /// Where it's absent, `profile-id` alone.
+    /// `profile-compatibility-indicator`: the 32 flags of compatible profiles, by eight digits, the
+    /// flag of profile 0 first. Where it's absent, the flag of `profile-id` alone.
     ProfileCompatibilityIndicator,
     /// `sprop-sub-layer-id`: the highest TID of the stream. Where it's absent 6.
     SpropSubLayerId,
-    /// `recv-sub-layer-id`: the highest TID that a receiver chooses. Where it's absent,
+    /// `recv-sub-layer-id`: the highest TID that a receiver chooses. Where it's absent, the offer's
     /// `sprop-sub-layer-id`.
     RecvSubLayerId,
     /// `max-recv-level-id`: the highest level that is received, 30 times the level. Where it's
@@ -50,10 +50,11 @@ pub enum H265Parameter {
     /// absent, the level's.
     MaxLps,
     /// `max-cpb`: the largest coded picture buffer, in units of CpbBrVclFactor or CpbBrNalFactor
-    /// bits: one to 16 times the level's. Where it's absent, the level's.
+    /// bits: one to 16 times the level's. Where it's absent, the level's, times `max-br` over the
+    /// level's where that is given.
     MaxCpb,
-    /// `max-dpb`: the largest decoded picture buffer, in pictures of the level's largest size.
-    /// Where it's absent, the level's.
+    /// `max-dpb`: the largest decoded picture buffer, in pictures of the level's largest size: 1
+    /// to 16, and no fewer than MaxDpbPicBuf, which is 6. Where it's absent 6.
     MaxDpb,
     /// `max-br`: the highest bit rate, in units of CpbBrVclFactor or CpbBrNalFactor bits a
     /// second: one to 16 times the level's. Where it's absent, the level's.
@@ -66,27 +67,29 @@ pub enum H265Parameter {
     MaxTc,
     /// `max-fps`: the highest picture rate, in pictures in 100 seconds.
     MaxFps,
-    /// `sprop-max-don-diff`: the largest difference of decoding order numbers. Where it's absent
-    /// 0, and packets bear no such numbers.
+    /// `sprop-max-don-diff`: the largest difference of the decoding order numbers of a unit and of
+    /// one that is sent behind it, up to 32767. Where it's absent 0, and packets bear no such
+    /// numbers.
     SpropMaxDonDiff,
-    /// `sprop-depack-buf-nalus`: the units that the depacketization buffer has to hold. Where
-    /// it's absent 0.
+    /// `sprop-depack-buf-nalus`: how many units precede one that they follow in decoding order, at
+    /// most. Where it's absent 0; present and above 0 where `sprop-max-don-diff` is.
     SpropDepackBufNalus,
-    /// `sprop-depack-buf-bytes`: the size of the depacketization buffer, in bytes. Where it's
-    /// absent 0.
+    /// `sprop-depack-buf-bytes`: the size of the depacketization buffer that the stream needs, in
+    /// bytes. Where it's absent 0; present and above 0 where `sprop-max-don-diff` is.
     SpropDepackBufBytes,
     /// `depack-buf-cap`: the depacketization buffer that a receiver has, in bytes. Where it's
     /// absent 4294967295.
     DepackBufCap,
-    /// `sprop-segmentation-id`: the tools for parallel decoding that the stream uses: 0 none, 1
-    /// slices, 2 tiles, 3 wavefronts. Where it's absent 0.
+    /// `sprop-segmentation-id`: the tools for parallel decoding that the stream uses: 0 isn't said,
+    /// 1 slices, 2 tiles, 3 wavefronts. Where it's absent 0.
     SpropSegmentationId,
-    /// `sprop-spatial-segmentation-idc`: min_spatial_segmentation_idc. Where it's absent 0.
+    /// `sprop-spatial-segmentation-idc`: min_spatial_segmentation_idc, up to 4095, by hexadecimal
+    /// digits. Where it's absent, it isn't said.
     SpropSpatialSegmentationIdc,
     /// `dec-parallel-cap`: capabilities for parallel decoding, in braces, with `,` between them.
     DecParallelCap,
     /// `include-dph`: the hash types of decoded pictures that are wanted or there, with `,`
-    /// between them.
+    /// between them, each up to 255. Where it's absent, none.
     IncludeDph,
 }
 
@@ -210,32 +213,32 @@ static ROWS: [ParameterRow; 30] = [
     },
     ParameterRow {
         name: b"max-cpb",
-        kind: BITS_32,
+        kind: BITS_64,
         default: None,
     },
     ParameterRow {
         name: b"max-dpb",
         kind: Kind::Number { least: 1, most: 16 },
-        default: None,
+        default: Some(b"6"),
     },
     ParameterRow {
         name: b"max-br",
-        kind: BITS_32,
+        kind: BITS_64,
         default: None,
     },
     ParameterRow {
         name: b"max-tr",
-        kind: BITS_32,
+        kind: BITS_64,
         default: None,
     },
     ParameterRow {
         name: b"max-tc",
-        kind: BITS_32,
+        kind: BITS_64,
         default: None,
     },
     ParameterRow {
         name: b"max-fps",
-        kind: BITS_32,
+        kind: BITS_64,
         default: None,
     },
     ParameterRow {
@@ -268,11 +271,8 @@ static ROWS: [ParameterRow; 30] = [
     },
     ParameterRow {
         name: b"sprop-spatial-segmentation-idc",
-        kind: Kind::Number {
-            least: 0,
-            most: 4095,
-        },
-        default: Some(b"0"),
+        kind: Kind::HexadecimalNumber { most: 4095 },
+        default: None,
     },
     ParameterRow {
         name: b"dec-parallel-cap",

@@ -25,14 +25,14 @@ pub enum H266Parameter {
     LevelId,
     /// `sprop-sublayer-id`: the highest TID of the stream. Where it's absent 6.
     SpropSublayerId,
-    /// `sprop-ols-id`: the output layer set that the stream applies to. Where it's absent,
-    /// TargetOlsIdx.
+    /// `sprop-ols-id`: the output layer set that the stream applies to, up to 256. Where it's
+    /// absent, TargetOlsIdx (Rec. ITU-T H.266, section 8.1.1).
     SpropOlsId,
-    /// `recv-sublayer-id`: the highest TID that a receiver chooses. Where it's absent,
+    /// `recv-sublayer-id`: the highest TID that a receiver chooses. Where it's absent, the offer's
     /// `sprop-sublayer-id`.
     RecvSublayerId,
-    /// `recv-ols-id`: the output layer set that a receiver chooses. Where it's absent,
-    /// `sprop-ols-id`.
+    /// `recv-ols-id`: the output layer set that a receiver chooses, up to 256. Where it's absent,
+    /// the offer's `sprop-ols-id`.
     RecvOlsId,
     /// `max-recv-level-id`: the highest level that is received, as in `level-id`. Where it's
     /// absent, `level-id`.
@@ -52,11 +52,12 @@ pub enum H266Parameter {
     MaxLsr,
     /// `max-fps`: the highest picture rate, in pictures in 100 seconds.
     MaxFps,
-    /// `sprop-max-don-diff`: the largest difference of decoding order numbers. Where it's absent
-    /// 0, and packets bear no such numbers.
+    /// `sprop-max-don-diff`: the largest difference of the decoding order numbers of a unit and of
+    /// one that is sent behind it, up to 32767. Where it's absent 0, and packets bear no such
+    /// numbers.
     SpropMaxDonDiff,
-    /// `sprop-depack-buf-bytes`: the size of the depacketization buffer, in bytes. Where it's
-    /// absent 0.
+    /// `sprop-depack-buf-bytes`: the size of the depacketization buffer that the stream needs, in
+    /// bytes. Where it's absent 0; present and above 0 where `sprop-max-don-diff` is.
     SpropDepackBufBytes,
     /// `depack-buf-cap`: the depacketization buffer that a receiver has, in bytes. Where it's
     /// absent 4294967295.
@@ -128,7 +129,7 @@ static ROWS: [ParameterRow; 20] = [
         name: b"sprop-ols-id",
         kind: Kind::Number {
             least: 0,
-            most: 257,
+            most: 256,
         },
         default: None,
     },
@@ -141,7 +142,7 @@ static ROWS: [ParameterRow; 20] = [
         name: b"recv-ols-id",
         kind: Kind::Number {
             least: 0,
-            most: 257,
+            most: 256,
         },
         default: None,
     },
@@ -182,7 +183,7 @@ static ROWS: [ParameterRow; 20] = [
     },
     ParameterRow {
         name: b"max-fps",
-        kind: BITS_32,
+        kind: BITS_64,
         default: None,
     },
     ParameterRow {

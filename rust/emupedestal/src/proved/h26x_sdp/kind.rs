@@ -10,6 +10,8 @@ use core::str;
 pub enum Kind {
     /// A decimal number from `least` to `most`.
     Number { least: u64, most: u64 },
+    /// A number up to `most`, by hexadecimal digits in either case.
+    HexadecimalNumber { most: u64 },
     /// So many bytes, each by two hexadecimal digits in either case.
     Hexadecimal { bytes: u8 },
     /// `SRST`, `MRST` or `MRMT` (RFC 7798, section 7.1).
@@ -59,6 +61,11 @@ impl Kind {
                 Ok(number) if least <= number && number <= most => None,
                 Ok(_) => Some(Fault::OutOfRange),
             },
+            Kind::HexadecimalNumber { most } => match hexadecimal_number_in(value) {
+                Err(fault) => Some(fault),
+                Ok(number) if number <= most => None,
+                Ok(_) => Some(Fault::OutOfRange),
+            },
             Kind::Hexadecimal { bytes } => {
                 if value.len() == 2 * usize::from(bytes) && are_digits(value, 16) {
                     None
@@ -86,6 +93,7 @@ impl Kind {
     pub(crate) fn number_of(self, value: &[u8]) -> Option<u64> {
         match self {
             Kind::Number { .. } => number_in(value).ok(),
+            Kind::HexadecimalNumber { .. } => hexadecimal_number_in(value).ok(),
             Kind::Hexadecimal { .. } | Kind::TxMode | Kind::Units | Kind::Text => None,
         }
     }
@@ -107,16 +115,27 @@ fn are_digits(text: &[u8], radix: u32) -> bool {
     true
 }
 
-/// The number that a text of decimal digits says: digits alone, without a sign.
-pub fn number_in(text: &[u8]) -> Result<u64, Fault> {
-    if text.is_empty() || !are_digits(text, 10) {
-        return Err(Fault::NotANumber);
+/// The number that a text of digits says: digits alone, without a sign. Another text has the fault
+/// that is given.
+fn digits_number(text: &[u8], radix: u32, other: Fault) -> Result<u64, Fault> {
+    if text.is_empty() || !are_digits(text, radix) {
+        return Err(other);
     }
     match str::from_utf8(text) {
-        Ok(digits) => match digits.parse::<u64>() {
+        Ok(digits) => match u64::from_str_radix(digits, radix) {
             Ok(number) => Ok(number),
             Err(_) => Err(Fault::OutOfRange),
         },
-        Err(_) => Err(Fault::NotANumber),
+        Err(_) => Err(other),
     }
+}
+
+/// The number that a text of decimal digits says: digits alone, without a sign.
+pub fn number_in(text: &[u8]) -> Result<u64, Fault> {
+    digits_number(text, 10, Fault::NotANumber)
+}
+
+/// The number that a text of hexadecimal digits says, in either case.
+fn hexadecimal_number_in(text: &[u8]) -> Result<u64, Fault> {
+    digits_number(text, 16, Fault::NotHexadecimal)
 }
