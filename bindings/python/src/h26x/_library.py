@@ -123,9 +123,11 @@ CALLS: Dict[str, Tuple[Any, List[Any]]] = {
 
 
 def _opened() -> ctypes.CDLL:
-    """The library that H26X_LIBRARY names, else the one that is installed."""
+    """The library that H26X_LIBRARY names, else the one in this package, else the one that is installed."""
     named = os.environ.get("H26X_LIBRARY")
-    names = [named] if named else ["libh26x.so.0", ctypes.util.find_library("h26x") or ""]
+    within = os.path.join(os.path.dirname(__file__), "libh26x.so.0")
+    names = [named] if named else [within] if os.path.exists(within) else []
+    names = names or ["libh26x.so.0", ctypes.util.find_library("h26x") or ""]
     told = []
     for name in filter(None, names):
         try:
