@@ -5,7 +5,8 @@
  *
  * All calls are made, of handles of the right kind and of others, with what may be NULL as NULL, buffers
  * of any length, and rooms that are too small. At the first difference the status is 1. The last line
- * has a sum of all answers, which CALLS and SEED give on every machine of 64 bits. */
+ * has a sum of all answers, which CALLS and SEED give on every machine of 64 bits. h26x_origin, by which
+ * the two differ, is asked once, for the first line. */
 #include "drawn.h"
 #include <dlfcn.h>
 #include <stdio.h>
@@ -29,6 +30,7 @@
 struct library {
 #define POINTER(name) __typeof__(h26x_##name) *name;
     NAMES(POINTER)
+    POINTER(origin)
 };
 
 /* From packetizer_clone on, calls of a handle that is there. */
@@ -53,12 +55,14 @@ static struct library opened(const char *path)
     }
 #define FIND(name) *(void **)&it.name = dlsym(at, "h26x_" #name);
     NAMES(FIND)
+    FIND(origin)
 #define LOOK(name)                                                                                 \
     if (it.name == NULL) {                                                                         \
         fprintf(stderr, "%s has no h26x_" #name "\n", path);                                       \
         exit(2);                                                                                   \
     }
     NAMES(LOOK)
+    LOOK(origin)
     return it;
 }
 
@@ -490,6 +494,7 @@ int main(int argc, char **argv)
         return 2;
     }
     libraries[0] = opened(argv[1]), libraries[1] = opened(argv[2]);
+    printf("%s; %s\n", libraries[0].origin(), libraries[1].origin());
     begin(strtoull(argv[4], NULL, 10));
     const bool is_counted = argv[3][0] == '=';
     const unsigned long long most = strtoull(argv[3] + is_counted, NULL, 10);

@@ -241,6 +241,8 @@ static void check_words(struct tally *t)
     snprintf(version, sizeof version, "%u.%u.%u", h26x_version() >> 16, h26x_version() >> 8 & 255,
              h26x_version() & 255);
     expect(t, strcmp(version, H26X_VERSION) == 0);
+    expect(t, strncmp(h26x_origin(), "proved " H26X_VERSION " ", sizeof "proved " H26X_VERSION) == 0
+                  || strncmp(h26x_origin(), "source " H26X_VERSION " ", sizeof "source " H26X_VERSION) == 0);
 }
 
 void check_optional(struct tally *t)

@@ -31,3 +31,9 @@ func Version() string {
 	part := func(shift uint) string { return strconv.FormatUint(number>>shift&255, 10) }
 	return part(16) + "." + part(8) + "." + part(0)
 }
+
+// Origin is which library is linked, in three words: "proved" (the archive built from the proofs) or "source" (what
+// cargo makes of the translated sources), its version, and the target it was built for.
+func Origin() string {
+	return C.GoString(C.h26x_origin())
+}

@@ -203,9 +203,9 @@ func (d *Depacketizer) IsPartitionHead(packet []byte) bool {
 	return IsPartitionHead(d.codec, packet)
 }
 
-// IsPartitionTail tells whether a packet is told to be the last of an access unit; see the function. Of H.265
-// and H.266 it is true where a fragmented unit ends, so who ends a sample there ends it early, in an access unit
-// with several such units. The example has a type that goes by the marker alone.
-func (d *Depacketizer) IsPartitionTail(marker bool, packet []byte) bool {
-	return IsPartitionTail(d.codec, marker, packet)
+// IsPartitionTail tells whether a packet is the last of an access unit, as Pion's sample builder asks: by its
+// marker alone, which is what ends one (RFC 6184, 5.1; RFC 7798, 4.1; RFC 9328, 4.1). The function of this name
+// tells of H.265 and H.266 also where a fragmented unit ends.
+func (d *Depacketizer) IsPartitionTail(marker bool, _ []byte) bool {
+	return marker
 }

@@ -1,3 +1,5 @@
+//go:build cgo
+
 // Package h26x carries H.264, H.265 and H.266 as RTP payloads (RFC 6184, RFC 7798, RFC 9328), over the
 // library libh26x.
 //

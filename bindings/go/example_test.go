@@ -63,11 +63,6 @@ func ExamplePacketizer_PacketizeInto() {
 	// 17 bytes, 7c45040506
 }
 
-// byMarker ends access units at the marker alone.
-type byMarker struct{ *h26x.Depacketizer }
-
-func (byMarker) IsPartitionTail(marker bool, _ []byte) bool { return marker }
-
 // The last fragment of a unit that is not the last of its access unit.
 func ExampleDepacketizer_IsPartitionTail() {
 	depacketizer, err := h26x.NewDepacketizer(h26x.H265)
@@ -77,10 +72,10 @@ func ExampleDepacketizer_IsPartitionTail() {
 	defer depacketizer.Close()
 	fragment := []byte{0x62, 0x01, 0x53, 0xaa} // E is set (RFC 7798, 4.4.3)
 	fmt.Println(depacketizer.IsPartitionTail(false, fragment))
-	fmt.Println(byMarker{depacketizer}.IsPartitionTail(false, fragment))
+	fmt.Println(h26x.IsPartitionTail(h26x.H265, false, fragment)) // the unit's end
 	// Output:
-	// true
 	// false
+	// true
 }
 
 // A stream of 50 pictures, a keyframe every 5, is sent picture by picture, loses every twentieth packet, and is

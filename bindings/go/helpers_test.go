@@ -24,7 +24,6 @@ type depacketizer interface {
 var (
 	_ payloader    = (*h26x.Packetizer)(nil)
 	_ depacketizer = (*h26x.Depacketizer)(nil)
-	_ depacketizer = byMarker{}
 )
 
 var codecs = []h26x.Codec{h26x.H264, h26x.H265, h26x.H266}

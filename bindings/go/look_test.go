@@ -22,7 +22,7 @@ func TestHeadsAndTails(t *testing.T) {
 				t.Errorf("%v: %x", codec, packet)
 			}
 		}
-		if d.IsPartitionHead(nil) || d.IsPartitionTail(true, nil) != (codec == h26x.H264) {
+		if d.IsPartitionHead(nil) || !d.IsPartitionTail(true, nil) || d.IsPartitionTail(false, some("620153")) {
 			t.Errorf("%v: nothing", codec)
 		}
 	}
@@ -218,6 +218,9 @@ func TestProfiles(t *testing.T) {
 }
 
 func TestNamesAndWords(t *testing.T) {
+	if !regexp.MustCompile(`^(proved|source) 0\.1\.0 [a-z0-9_]+(-[a-z0-9_]+)+$`).MatchString(h26x.Origin()) {
+		t.Error(h26x.Origin())
+	}
 	if h26x.Version() != "0.1.0" {
 		t.Error(h26x.Version())
 	}

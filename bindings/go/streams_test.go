@@ -107,7 +107,7 @@ func TestHeadsTailsAndKeyframesOfStreams(t *testing.T) {
 			for n := one.first; n <= one.last; n++ {
 				isFragment := typeOf(codec, packets[n]) == typesOf(codec).fragment
 				ends := codec != h26x.H264 && isFragment && n == one.last
-				if d.IsPartitionHead(packets[n]) != (n == one.first) || d.IsPartitionTail(false, packets[n]) != ends {
+				if d.IsPartitionHead(packets[n]) != (n == one.first) || h26x.IsPartitionTail(codec, false, packets[n]) != ends {
 					t.Errorf("%v: packet %d is no head or tail", codec, n)
 				}
 			}

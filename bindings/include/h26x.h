@@ -70,6 +70,10 @@ extern "C" {
 /* The version of the library that is linked, as H26X_VERSION_NUMBER. */
 H26X_API uint32_t h26x_version(void);
 
+/* Which library that is, in three words: "proved" (the archive built from the proofs) or "source" (what cargo makes of
+ * the translated sources), the version, and the target it was built for, as "proved 0.1.0 x86_64-unknown-linux-gnu". */
+H26X_API const char *h26x_origin(void);
+
 enum h26x_codec { H26X_H264 = 264, H26X_H265 = 265, H26X_H266 = 266 };
 
 /* What SDP calls a codec: "H264", "H265" or "H266" (RFC 6184, 8.1; RFC 7798, 7.1; RFC 9328, 7.2). NULL for an unknown

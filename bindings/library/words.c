@@ -6,6 +6,15 @@ uint32_t h26x_version(void)
     return H26X_VERSION_NUMBER;
 }
 
+#ifndef H26X_TARGET
+#error "bindings/build says by H26X_TARGET what this is compiled for"
+#endif
+
+const char *h26x_origin(void)
+{
+    return "proved " H26X_VERSION " " H26X_TARGET;
+}
+
 const char *h26x_strerror(uint32_t code)
 {
     switch (code) {

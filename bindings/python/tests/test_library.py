@@ -75,6 +75,10 @@ def test_versions() -> None:
     assert h26x.version() == "0.1.0" == h26x.__version__
 
 
+def test_origin_is_told_in_three_words() -> None:
+    assert re.fullmatch(r"(proved|source) 0\.1\.0 [a-z0-9_]+(-[a-z0-9_]+)+", h26x.origin())
+
+
 def test_codecs_are_called_as_in_sdp() -> None:
     for codec in h26x.Codec:
         assert _library.library.h26x_codec_name(codec) == codec.name.encode()

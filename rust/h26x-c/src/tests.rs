@@ -1,7 +1,7 @@
 //! Tests of what is written by hand, beside `h26x.h` and `words.c`: the words, the version, the structs, and NULL.
 
 use crate::proved::h26x_c::exports::*;
-use crate::words::{h26x_codec_name, h26x_strerror, h26x_version};
+use crate::words::{h26x_codec_name, h26x_origin, h26x_strerror, h26x_version};
 use core::ffi::{CStr, c_char};
 use core::mem::offset_of;
 use core::ptr::null_mut;
@@ -84,6 +84,14 @@ fn version_of_the_header() {
         h26x_version(),
         part("MAJOR") << 16 | part("MINOR") << 8 | part("PATCH")
     );
+}
+
+#[test]
+fn origin_in_three_words() {
+    let told = text(h26x_origin()).unwrap();
+    let words: Vec<_> = told.split(' ').collect();
+    assert_eq!(words[..2], ["source", env!("CARGO_PKG_VERSION")]);
+    assert!(words.len() == 3 && words[2].starts_with(std::env::consts::ARCH), "{told}");
 }
 
 #[test]

@@ -81,6 +81,13 @@ def version() -> str:
     return f"{number >> 16}.{number >> 8 & 255}.{number & 255}"
 
 
+def origin() -> str:
+    """Which library is loaded, in three words: "proved" (the archive built from the proofs) or "source" (what cargo
+    makes of the translated sources), its version, and the target it was built for."""
+    told: bytes = _loaded.h26x_origin()
+    return told.decode()
+
+
 __all__ = [
     "AvcUnitTooLong",
     "Codec",
@@ -121,6 +128,7 @@ __all__ = [
     "is_partition_head",
     "is_partition_tail",
     "is_plain_unit",
+    "origin",
     "out_size_hint",
     "paci_packet",
     "profile_level",

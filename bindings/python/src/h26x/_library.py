@@ -69,6 +69,7 @@ _IS_KNOWN = (c_bool, [c_uint8, c_uint8, c_uint8])
 #: What each call answers, and what it is given.
 CALLS: Dict[str, Tuple[Any, List[Any]]] = {
     "version": (c_uint32, []),
+    "origin": (c_char_p, []),
     "codec_name": (c_char_p, [c_uint32]),
     "strerror": (c_char_p, [c_uint32]),
     "packetizer_new": _NEW,
