@@ -8,7 +8,11 @@
  * has a sum of all answers, which CALLS and SEED give on every machine of 64 bits. h26x_origin, by which
  * the two differ, is asked once, for the first line. */
 #include "drawn.h"
+#ifdef _WIN32
+#include <windows.h>
+#else
 #include <dlfcn.h>
+#endif
 #include <stdio.h>
 #include <stdlib.h>
 #include <string.h>
@@ -40,20 +44,28 @@ enum call {
 };
 
 static const char *const names[] = {
-#define TEXT(name) #name,
-    NAMES(TEXT)};
+#define NAME(name) #name,
+    NAMES(NAME)};
 
 static struct library libraries[2];
+
+#ifdef _WIN32
+#define OPEN(path) LoadLibraryA(path)
+#define LOOK_UP(at, name) GetProcAddress(at, name)
+#else
+#define OPEN(path) dlopen(path, RTLD_NOW | RTLD_LOCAL)
+#define LOOK_UP(at, name) dlsym(at, name)
+#endif
 
 static struct library opened(const char *path)
 {
     struct library it;
-    void *at = dlopen(path, RTLD_NOW | RTLD_LOCAL);
+    void *at = OPEN(path);
     if (at == NULL) {
-        fprintf(stderr, "%s\n", dlerror());
+        fprintf(stderr, "%s can't be opened\n", path);
         exit(2);
     }
-#define FIND(name) *(void **)&it.name = dlsym(at, "h26x_" #name);
+#define FIND(name) *(void **)&it.name = (void *)LOOK_UP(at, "h26x_" #name);
     NAMES(FIND)
     FIND(origin)
 #define LOOK(name)                                                                                 \
