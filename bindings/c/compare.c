@@ -29,7 +29,7 @@
     X(packet_len) X(packets_len) X(packet_copy) X(packets_copy) X(depacketizer_clone)              \
     X(depacketizer_same) X(depacketizer_set_numbers) X(depacketize) X(written_copy) X(give_up_run) \
     X(receiver_clone) X(receiver_set_numbers) X(receiver_set_avc) X(receive) X(receiver_restart)   \
-    X(receiver_run_len) X(h265_shown) X(h265_part_copy)
+    X(receiver_skip) X(receiver_run_len) X(h265_shown) X(h265_part_copy)
 
 struct library {
 #define POINTER(name) __typeof__(h26x_##name) *name;
@@ -288,6 +288,8 @@ static uint64_t receives(int s, const struct drawn *d, struct answer *a, struct 
     case CALL_receive:
         return l->receive(R, d->sequence, d->bytes, d->len, to, d->room, written, extra,
                           WANTED(4, &o->number), WANTED(5, &o->gap), why);
+    case CALL_receiver_skip:
+        return l->receiver_skip(R, d->sequence, WANTED(4, &o->number), WANTED(5, &o->gap));
     case CALL_receiver_restart:
         return l->receiver_restart(R);
     case CALL_receiver_run_len:

@@ -291,6 +291,7 @@ static void refuse_receiving_sequenced(const struct codec *c)
     without_memory(h26x_receiver_set_avc(&r, true) == H26X_OK);
     without_memory(h26x_receiver_set_numbers(&r, false)
                    == (c->number == H26X_H264 ? H26X_NOT_OF_THIS_CODEC : H26X_OK));
+    without_memory(h26x_receiver_skip(&r, 4, &received, &missing) == H26X_OK);
     without_memory(h26x_receiver_restart(&r) == H26X_OK && h26x_receiver_run_len(&r) == 0);
     h26x_packetizer_free(p);
     h26x_receiver_free(r);

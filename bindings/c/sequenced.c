@@ -141,6 +141,29 @@ static void check_settings(struct tally *t, const struct fragments *f)
     h26x_receiver_free(it.r);
 }
 
+/* Numbers that bear nothing of the stream: in order the open unit stays, behind a gap it is given up. */
+static void check_skipped(struct tally *t, const struct fragments *f)
+{
+    struct receiving it = receiver_of(t, f->codec, false, false, 100);
+    uint32_t received = 9;
+    uint16_t count = 9;
+    receives(&it, 65534, f->start, H26X_IN_ORDER, 0, "", 0, DATA);
+    expect(t, h26x_receiver_skip(&it.r, 65535, &received, &count) == H26X_OK);
+    expect(t, received == H26X_IN_ORDER && count == 0 && h26x_receiver_run_len(&it.r) == DATA);
+    receives(&it, 0, f->end, H26X_IN_ORDER, 0,
+             f->codec == H26X_H264 ? "00000001 6501020506"
+             : f->codec == H26X_H265 ? "00000001 260101020506" : "00000001 003901020506", 2, 0);
+    receives(&it, 1, f->start, H26X_IN_ORDER, 0, "", 2, DATA);
+    expect(t, h26x_receiver_skip(&it.r, 1, &received, &count) == H26X_OK);
+    expect(t, received == H26X_LATE && count == 1 && h26x_receiver_run_len(&it.r) == DATA);
+    expect(t, h26x_receiver_skip(&it.r, 4, &received, &count) == H26X_OK);
+    expect(t, received == H26X_GAP && count == 2 && h26x_receiver_run_len(&it.r) == 0);
+    receives(&it, 5, f->end, H26X_IN_ORDER, 0, "", 2, 0);
+    expect(t, h26x_receiver_skip(&it.r, 6, NULL, NULL) == H26X_OK);
+    receives(&it, 7, f->start, H26X_IN_ORDER, 0, "", 2, DATA);
+    h26x_receiver_free(it.r);
+}
+
 /* What was completed where there was no room, and a late packet, which leaves it. */
 static void check_room(struct tally *t)
 {
@@ -217,6 +240,8 @@ static void check_ends(struct tally *t)
         expect(t, h26x_receiver_set_numbers(&as_receiver, true) == H26X_WRONG_END);
         expect(t, h26x_receiver_set_avc(&as_receiver, true) == H26X_WRONG_END);
         expect(t, h26x_receiver_restart(&as_receiver) == H26X_WRONG_END);
+        expect(t, h26x_receiver_skip(&as_receiver, 1, &received, &counted) == H26X_WRONG_END);
+        expect(t, received == 9 && counted == 9);
         expect(t, h26x_receiver_run_len(&as_receiver) == 0);
     }
     expect(t, h26x_receiver_new(H26X_H264, false, false, 9, &r) == H26X_OK);
@@ -256,6 +281,7 @@ void check_sequenced(struct tally *t)
         check_losses(t, &fragments[i]);
         check_limit(t, &fragments[i]);
         check_settings(t, &fragments[i]);
+        check_skipped(t, &fragments[i]);
     }
     check_room(t);
     check_shown(t);

@@ -203,6 +203,20 @@ func (r *Receiver) append(dst []byte, sequence uint16, packet []byte) ([]byte, R
 	return out, Received{Outcome(call.outcome), uint16(call.distance), Told(call.extra), data}, nil
 }
 
+// Skip passes over a number that came and bears nothing of the stream, as that of padding alone, of forward
+// error correction or of another payload type: so it isn't missing. InOrder leaves the open unit; behind a Gap it is
+// given up; Late changes nothing. The distance is that of Receive. Its error is ErrClosed.
+func (r *Receiver) Skip(sequence uint16) (outcome Outcome, distance uint16, err error) {
+	r.mu.Lock()
+	defer r.mu.Unlock()
+	if r.call == nil {
+		return 0, 0, ErrClosed
+	}
+	call := r.call
+	code := C.h26x_receiver_skip(&call.handle, C.uint16_t(sequence), &call.outcome, &call.distance)
+	return Outcome(call.outcome), uint16(call.distance), refusedBy(code)
+}
+
 // Restart gives up the open unit, frees its buffer, and takes any sequence number as the next. Its error is
 // ErrClosed.
 func (r *Receiver) Restart() error {

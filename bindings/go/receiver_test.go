@@ -75,6 +75,33 @@ func TestLosses(t *testing.T) {
 	refuses(t, err, h26x.ErrNALUTypeNotHandled, 31)
 }
 
+func TestNumbersThatBearNothing(t *testing.T) {
+	for _, codec := range codecs {
+		f, r := fragmentsOf(codec), newReceiver(t, codec, 100, false, false)
+		skips := func(sequence uint16, outcome h26x.Outcome, distance uint16, runLen int) {
+			t.Helper()
+			got, d, err := r.Skip(sequence)
+			done(t, err)
+			if got != outcome || d != distance || r.RunLen() != runLen {
+				t.Fatalf("%d: got %v of %d, and %d bytes open", sequence, got, d, r.RunLen())
+			}
+		}
+		receives(t, r, step{65534, f.start, h26x.InOrder, 0, nil, 2})
+		skips(65535, h26x.InOrder, 0, 2)
+		receives(t, r,
+			step{0, f.middle, h26x.InOrder, 0, nil, 4},
+			step{1, f.end, h26x.InOrder, 0, annexB(f.unit), 0},
+			step{2, f.start, h26x.InOrder, 0, nil, 2})
+		skips(2, h26x.Late, 1, 2)
+		skips(5, h26x.Gap, 2, 0)
+		receives(t, r, step{6, f.end, h26x.InOrder, 0, nil, 0})
+		r.Close()
+		if _, _, err := r.Skip(7); err != h26x.ErrClosed {
+			t.Fatalf("got %v", err)
+		}
+	}
+}
+
 func TestLimit(t *testing.T) {
 	for _, codec := range codecs {
 		f, r := fragmentsOf(codec), newReceiver(t, codec, 4, false, false)

@@ -339,6 +339,13 @@ H26X_API uint32_t h26x_receive(h26x_receiver *r, uint16_t sequence, const uint8_
                                uint8_t *to, size_t room, size_t *written, uint8_t *extra, uint32_t *received,
                                uint16_t *count, h26x_refusal *why) H26X_MUST_USE;
 
+/* Passes over a number that came and bears nothing of the stream: padding alone, as congestion control sends it,
+ * forward error correction, another payload type. So it isn't missing. *received is H26X_IN_ORDER, and the open unit
+ * stays; or H26X_GAP, where others before it are missing, and the open unit is given up; or H26X_LATE, which changes
+ * nothing; with *count as in h26x_receive. What the last packet completed and had no room for stays. It takes no
+ * memory. H26X_WRONG_END leaves both numbers. */
+H26X_API uint32_t h26x_receiver_skip(h26x_receiver *r, uint16_t sequence, uint32_t *received, uint16_t *count);
+
 /* Gives up the open unit, frees its buffer, and takes any number as the next. What the last packet completed and had
  * no room for stays. H26X_WRONG_END. */
 H26X_API uint32_t h26x_receiver_restart(h26x_receiver *r);

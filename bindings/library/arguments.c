@@ -22,6 +22,7 @@ PROVED(depacketize);
 PROVED(written_copy);
 PROVED(receiver_free);
 PROVED(receive);
+PROVED(receiver_skip);
 PROVED(h265_part_copy);
 PROVED(h265_paci_packet);
 PROVED(is_partition_head);
@@ -182,6 +183,14 @@ uint32_t h26x_receive(h26x_receiver *r, uint16_t sequence, const uint8_t *packet
                              why);
     return receive_in_part(r, sequence, packet, packet_len, to, room, written, extra, received, count,
                            why);
+}
+
+uint32_t h26x_receiver_skip(h26x_receiver *r, uint16_t sequence, uint32_t *received, uint16_t *count)
+{
+    uint32_t unwanted_received;
+    uint16_t unwanted_count;
+    return proved_receiver_skip(r, sequence, WANTED(received, &unwanted_received),
+                                WANTED(count, &unwanted_count));
 }
 
 /* ---- The packets that H.265 shows ---- */

@@ -96,6 +96,21 @@ def test_settings_and_copies(codec: Codec) -> None:
     assert not receiver.avc and receiver.receive(3, end).data == annex_b([unit])
 
 
+def test_numbers_that_bear_nothing(codec: Codec) -> None:
+    start, middle, end, unit = FRAGMENTS[codec]
+    receiver = Receiver(codec, 100)
+    receiver.receive(65534, start)
+    assert receiver.skip(65535) == (IN_ORDER, 0)
+    assert receiver.receive(0, middle).outcome is IN_ORDER
+    assert receiver.receive(1, end).data == annex_b([unit])
+    receiver.receive(2, start)
+    assert receiver.skip(2) == (LATE, 1)
+    assert receiver.run_len == 2
+    assert receiver.skip(5) == (GAP, 2)
+    assert receiver.run_len == 0
+    assert receiver.receive(6, end) == (IN_ORDER, 0, b"", None)
+
+
 def test_a_restart_takes_any_number(codec: Codec) -> None:
     start, _, end, _ = FRAGMENTS[codec]
     receiver = Receiver(codec, 100)

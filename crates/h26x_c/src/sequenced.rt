@@ -4,10 +4,11 @@ ghost use Rattle.std.specs.Prelude.{◌≡◌, ◌≢◌, ◌⊎◌, ◌≤◌, 
 ghost use Rattle.h26x_codec.specs.Codec.{codec_format};
 ghost use Rattle.h26x_codec.specs.declared.codec.Codec.{Codec};
 ghost use Rattle.h26x_c.specs.Answers.{IsSequencedCode};
-ghost use Rattle.h26x_handles.specs.Codes.{codec_or_code, may_have_donl, extra_with_number, extra_number, ok, out_of_memory, wrong_end, not_of_this_codec, says_taken};
+ghost use Rattle.h26x_receiver.specs.Sequenced.{skip_answer};
+ghost use Rattle.h26x_handles.specs.Codes.{codec_or_code, may_have_donl, extra_with_number, extra_number, ok, out_of_memory, wrong_end, not_of_this_codec, says_taken, received_numbers};
 ghost use Rattle.h26x_handles.specs.Copies.{with_front, without_room};
 ghost use Rattle.h26x_handles.specs.Endpoint.{SequencedEndpoint};
-ghost use Rattle.h26x_handles.specs.States.{is_sequenced, endpoint_receiver, receiver_at_work, after_receiver_packet, receiver_run_len, endpoint_receiver_state, endpoint_expected, endpoint_run_len, endpoint_written, endpoint_codec, fresh_sequenced_endpoint, endpoint_showing, endpoint_without_output, endpoint_restarted, endpoint_with_donl, endpoint_with_avc};
+ghost use Rattle.h26x_handles.specs.States.{is_sequenced, endpoint_receiver, receiver_at_work, after_receiver_packet, receiver_run_len, endpoint_receiver_state, endpoint_expected, endpoint_run_len, endpoint_written, endpoint_codec, fresh_sequenced_endpoint, endpoint_showing, endpoint_without_output, endpoint_restarted, endpoint_after_skip, endpoint_with_donl, endpoint_with_avc};
 
 use crate::const_handle::ConstHandle;
 use crate::handle::Handle;
@@ -186,6 +187,30 @@ pub extern "C" fn h26x_receive(
             OK
         }
         Err(error) => code_of(error, why),
+    }
+}
+
+/// Passes over a number that came and bears nothing of the stream.
+#[unsafe(no_mangle)]
+pub extern "C" fn h26x_receiver_skip(
+    r: &mut Handle,
+    sequence: u16,
+    received: &mut u32,
+    count: &mut u16,
+) -> u32
+    ensures wrong { is_sequenced r.old.value ≡ false → result ≡ wrong_end }
+    ensures answer { is_sequenced r.old.value ≡ true → (result ≡ ok)
+        × ((received.new, count.new)
+        ≡ received_numbers (skip_answer (endpoint_expected r.old.value) sequence)) }
+    ensures after { r.new.value ≡ endpoint_after_skip sequence r.old.value }
+    ensures kept_received { result ≢ ok → (received.new ≡ received.old) × (count.new ≡ count.old) }
+{
+    match r.get_mut() {
+        Endpoint::Sequenced(it) => {
+            (*received, *count) = numbers_of(it.skip(sequence));
+            OK
+        }
+        Endpoint::Sending(_) | Endpoint::Receiving(_) => WRONG_END,
     }
 }
 

@@ -1,6 +1,6 @@
 -- What an endpoint is in the words of the payload formats: a packetizer with its packets, or a
 -- depacketizer or a receiver of packets with their sequence numbers, with what it wrote.
-use Rattle.std.specs.Prelude.{ℕ, Bool, true, false, List, [], ◌∷◌, Option, Some, None}
+use Rattle.std.specs.Prelude.{ℕ, Bool, true, false, if◌then◌else◌, List, [], ◌∷◌, Option, Some, None}
 use Rattle.h26x_model.specs.Send.Group.{Entry}
 use Rattle.h26x_model.specs.Send.Calls.{call_entries}
 use Rattle.h26x_model.specs.Send.PacketizerState.{PacketizerState}
@@ -16,7 +16,7 @@ use Rattle.h26x_handles.specs.declared.packetizer.AnyPacketizer.{AnyPacketizer}
 use Rattle.h26x_handles.specs.declared.packetizer.AnyPacketizer.TheVariants as s
 use Rattle.h26x_core.specs.declared.extra.CodecExtra.{CodecExtra}
 use Rattle.h26x_model.specs.Receive.RunLimit.{run_len}
-use Rattle.h26x_receiver.specs.Sequenced.{SequencedDepacketization, sequenced_depacketization, after_taken_packet}
+use Rattle.h26x_receiver.specs.Sequenced.{SequencedDepacketization, sequenced_depacketization, after_taken_packet, is_run_kept, expected_after_skip, skip_answer}
 use Rattle.h26x_receiver.specs.AnyDepacketizer.{any_depacketizer_state, any_depacketizer_with_avc, any_depacketizer_codec, any_depacketizer_with_donl, any_depacketizer_with_run, fresh_any_depacketizer, any_depacketizer_showing, are_same_depacketizers}
 use Rattle.h26x_receiver.specs.declared.any.AnyDepacketizer.{AnyDepacketizer}
 use Rattle.h26x_handles.specs.Endpoint.{SequencedEndpoint}
@@ -96,6 +96,15 @@ abbrev pub after_receiver_packet : SequencedEndpoint → CodecExtra → ℕ → 
     SequencedDepacketization
 after_receiver_packet it extra number packet = after_taken_packet it.run_limit
     (receiver_at_work it extra) number packet
+
+-- such a receiver after a number that came and bears nothing of the stream: the open run is given up
+-- where numbers before it are missing
+abbrev pub receiver_after_skip : SequencedEndpoint → ℕ → SequencedEndpoint
+receiver_after_skip it number = record it {
+  depacketizer = if is_run_kept it.expected number then it.depacketizer
+      else any_depacketizer_with_run None it.depacketizer;
+  expected = expected_after_skip it.expected number;
+}
 
 -- how many bytes the open run of such a receiver holds
 abbrev pub receiver_run_len : SequencedEndpoint → ℕ
@@ -196,6 +205,12 @@ endpoint_restarted (e.Sequenced it) = e.Sequenced (record it {
   depacketizer = any_depacketizer_with_run None it.depacketizer;
   expected = None;
 })
+
+-- an endpoint whose receiver passes over a number that bears nothing of the stream
+abbrev pub endpoint_after_skip : ℕ → Endpoint → Endpoint
+endpoint_after_skip number (e.Sending it) = e.Sending it
+endpoint_after_skip number (e.Receiving it) = e.Receiving it
+endpoint_after_skip number (e.Sequenced it) = e.Sequenced (receiver_after_skip it number)
 
 -- an endpoint whose depacketizer shows a packet
 abbrev pub endpoint_showing : List ℕ → Endpoint → Endpoint

@@ -3,9 +3,9 @@
 
 ghost use Rattle.std.specs.Prelude.{◌≡◌, ◌≤◌, [], true, false, None, Err, IfOk, OnErr, length};
 ghost use Rattle.h26x_receiver.specs.AnyDepacketizer.{any_depacketizer_state, any_depacketizer_with_avc, any_depacketizer_with_donl, any_depacketizer_with_run, any_depacketizer_showing};
-ghost use Rattle.h26x_receiver.specs.Sequenced.{IsSequencedAnswer, is_taken};
+ghost use Rattle.h26x_receiver.specs.Sequenced.{IsSequencedAnswer, is_taken, skip_answer};
 ghost use Rattle.h26x_handles.specs.Copies.{with_front, without_room};
-ghost use Rattle.h26x_handles.specs.States.{receiver_at_work, after_receiver_packet, receiver_run_len, fresh_receiver};
+ghost use Rattle.h26x_handles.specs.States.{receiver_at_work, after_receiver_packet, receiver_run_len, receiver_after_skip, fresh_receiver};
 
 use crate::copy::put_or_keep;
 use h26x_codec::Codec;
@@ -127,6 +127,14 @@ impl SequencedEndpoint {
         // It is taken: one that is late is answered at once, and memory lacks for none.
         *written = put_or_keep(&mut self.spare, to, &mut self.written);
         Ok(received)
+    }
+
+    /// Passes over a number that came and bears nothing of the stream: it isn't missing.
+    pub fn skip(&mut self, sequence: u16) -> Received
+        ensures answer { result ≡ skip_answer self.old.expected sequence }
+        ensures after { self.new ≡ receiver_after_skip self.old sequence }
+    {
+        self.receiver.skip(sequence)
     }
 
     /// Gives up the open run, and takes any sequence number as the next.

@@ -212,6 +212,8 @@ impl<D: RunDepacketizer> SequencedDepacketizer<D> {
         // In order, or late, nothing else changes.
         ensures kept { is_run_kept self.old.expected sequence ≡ true →
             self.new.depacketizer ≡ self.old.depacketizer }
+        ensures given_up { is_run_kept self.old.expected sequence ≡ false →
+            self.new.depacketizer ≡ D.with_run None self.old.depacketizer }
     {
         let (_, is_next) = place_of(self.expected, sequence);
         let received = self.skip_in_text(sequence);

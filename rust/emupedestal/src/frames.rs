@@ -145,6 +145,13 @@ impl FrameReceiver {
         self.inner.receive(packet, out)
     }
 
+    /// Passes over a number that came and bears nothing of the stream, as
+    /// [`SequencedDepacketizer::skip`](crate::SequencedDepacketizer::skip) does: in order what is open stays.
+    /// Behind a gap the open unit is given up, and the open access unit isn't told to be whole.
+    pub fn skip(&mut self, sequence: u16) -> Received {
+        self.inner.skip(sequence)
+    }
+
     /// Ends the access unit that is open, if one is, and appends it; any sequence number is the next.
     pub fn end(&mut self, out: &mut Vec<AccessUnit>) -> Result<(), PacketError> {
         self.inner.end(out)

@@ -158,6 +158,14 @@ impl SequencedDepacketizer {
         self.inner.receive(sequence, packet, out, codec_extra)
     }
 
+    /// Passes over a number that came and bears nothing of the stream, as that of padding alone, of
+    /// forward error correction or of another payload type: so it isn't missing. [`Received::InOrder`]
+    /// leaves the open unit; behind a [`Received::Gap`] it is given up; [`Received::Late`] changes
+    /// nothing. It takes no memory.
+    pub fn skip(&mut self, sequence: u16) -> Received {
+        self.inner.skip(sequence)
+    }
+
     /// Gives up the open unit, frees its buffer, and takes any sequence number as the next: for a peer
     /// that begins anew, of which many packets in a row are [`Received::Late`]. It takes no memory.
     pub fn restart(&mut self) {

@@ -104,6 +104,7 @@ CALLS: Dict[str, Tuple[Any, List[Any]]] = {
         c_uint32,
         [_HANDLE, c_uint16, *_IN, *_OUT, _SIZE, _BYTE, _WORD, _SHORT, _WHY],
     ),
+    "receiver_skip": (c_uint32, [_HANDLE, c_uint16, _WORD, _SHORT]),
     "receiver_restart": _DO,
     "receiver_run_len": (c_size_t, [_HANDLE]),
     "h265_shown": (c_uint32, [_HANDLE, _SHOWN]),

@@ -4,7 +4,7 @@ from __future__ import annotations
 
 from ctypes import byref, c_uint16, c_uint32
 from enum import IntEnum
-from typing import Any, NamedTuple, Optional
+from typing import Any, NamedTuple, Optional, Tuple
 
 from ._library import Handle, library
 from ._memory import Buffer, as_bytes, number
@@ -132,6 +132,17 @@ class Receiver(Taking):
         with self._lock:
             units = self._take(library.h26x_receive, sequence, data)
             return Received(Outcome(self._outcome.value), self._count.value, *units)
+
+    def skip(self, sequence: int) -> Tuple[Outcome, int]:
+        """Passes over a number that came and bears nothing of the stream, as that of padding alone, of
+        forward error correction or of another payload type: so it isn't missing. Answers what became of
+        it, and the distance: in order the open unit stays, behind a gap it is given up, and late
+        changes nothing."""
+        number("sequence", sequence, 65535)
+        outcome, distance = c_uint32(), c_uint16()
+        told = (byref(outcome), byref(distance))
+        check(self._with_handle(library.h26x_receiver_skip, sequence, *told))
+        return Outcome(outcome.value), distance.value
 
     def restart(self) -> None:
         """Gives up the open unit, frees its buffer, and takes any sequence number as the next."""

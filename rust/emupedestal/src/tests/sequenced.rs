@@ -147,6 +147,20 @@ fn a_unit_that_is_too_long_is_given_up() {
 }
 
 #[test]
+fn numbers_that_bear_nothing() {
+    for (codec, [start, middle, end], unit) in UNITS {
+        let it = &mut SequencedDepacketizer::new(codec, 100);
+        receives(it, &[(65534, start, IN_ORDER)], "");
+        assert_eq!((it.skip(65535), it.run_len()), (Received::InOrder, 1));
+        let rest = [(0, middle, IN_ORDER), (1, end, IN_ORDER), (2, start, IN_ORDER)];
+        receives(it, &rest, &behind_codes(unit));
+        assert_eq!((it.skip(2), it.run_len()), (Received::Late(1), 1));
+        assert_eq!((it.skip(5), it.run_len()), (Received::Gap(2), 0));
+        receives(it, &[(6, end, IN_ORDER)], "");
+    }
+}
+
+#[test]
 fn a_restart_takes_any_number() {
     for (codec, [start, middle, end], unit) in UNITS {
         let it = &mut SequencedDepacketizer::new(codec, 100);
