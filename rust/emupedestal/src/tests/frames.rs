@@ -208,6 +208,28 @@ fn a_unit_of_which_a_packet_is_missing_is_left_out() {
 }
 
 #[test]
+fn numbers_that_bear_nothing_are_passed_over() {
+    let mut receiver = FrameReceiver::new(Codec::H264, 100, 1000);
+    received(&mut receiver, &[(7, 10, true, "65aa"), (8, 20, false, "7c8101")]);
+    // Padding within a fragmented unit: nothing is missing.
+    assert_eq!(receiver.skip(9), Received::InOrder);
+    assert_eq!(receiver.skip(9), Received::Late(1));
+    let (units, last) = received(&mut receiver, &[(10, 20, true, "7c4102")]);
+    assert_eq!(last, Received::InOrder);
+    assert_eq!(units, [unit(20, "00000001610102", false, true)]);
+    // Behind a gap nothing is known to be whole, nor of what the next packet in order brings.
+    received(&mut receiver, &[(11, 30, false, "61cc")]);
+    assert_eq!(receiver.skip(13), Received::Gap(1));
+    let (units, _) = received(&mut receiver, &[(14, 40, true, "61dd"), (15, 50, true, "61ee")]);
+    let wanted = [
+        unit(30, "0000000161cc", false, false),
+        unit(40, "0000000161dd", false, false),
+        unit(50, "0000000161ee", false, true),
+    ];
+    assert_eq!(units, wanted);
+}
+
+#[test]
 fn limits_ends_and_refusals() {
     let mut receiver = FrameReceiver::new(Codec::H264, 2, 9);
     let (_, last) = received(&mut receiver, &[(1, 10, false, "7c85010203")]);

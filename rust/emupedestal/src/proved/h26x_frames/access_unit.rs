@@ -3,7 +3,7 @@
 //! Access units, and the one that is open.
 
 use crate::proved::h26x_core::{CodecExtra, PacketError};
-use crate::proved::h26x_frames::answers::{is_next, is_sound, was_taken};
+use crate::proved::h26x_frames::answers::{is_following, is_sound, was_taken};
 use crate::proved::h26x_frames::packet::RtpPacket;
 use crate::proved::h26x_payload::{OpenRun, OpenText};
 use crate::proved::h26x_receiver::{Received, RunDepacketizer, SequencedDepacketizer};
@@ -67,9 +67,10 @@ impl OpenUnit {
         &mut self,
         packets: &mut SequencedDepacketizer<D>,
         packet: &RtpPacket<'_>,
+        is_gap: bool,
         may_be_inside: bool,
     ) -> Result<Received, PacketError> {
-        let follows = is_next(packets.expected, packet.sequence);
+        let follows = is_following(is_gap, packets.expected, packet.sequence);
         let received = packets.receive_in_text(
             packet.sequence,
             packet.payload,
@@ -96,11 +97,13 @@ impl OpenUnit {
 }
 
 /// The access unit that is open, if one is: the next packet may belong to it. And the run that is
-/// open, in its text, or left by the last one.
+/// open, in its text, or left by the last one; and whether packets are missing right before the numbers
+/// that were skipped last.
 #[derive(Debug, Clone, PartialEq, Eq)]
 pub struct OpenAccessUnit {
     unit: Option<OpenUnit>,
     left: OpenRun,
+    is_gap: bool,
 }
 
 impl OpenAccessUnit {
@@ -109,6 +112,7 @@ impl OpenAccessUnit {
         OpenAccessUnit {
             unit: None,
             left: OpenRun::none(),
+            is_gap: false,
         }
     }
 
@@ -146,6 +150,23 @@ impl OpenAccessUnit {
         }
     }
 
+    /// Whether packets are missing right before the numbers that were skipped last.
+    #[inline]
+    pub(crate) fn is_gap(&self) -> bool {
+        self.is_gap
+    }
+
+    /// Packets are missing, and a number behind them is skipped: gives up the run, and neither what is
+    /// open nor what the next packet begins is known to be whole.
+    pub(crate) fn break_off(&mut self) {
+        self.is_gap = true;
+        self.left.close();
+        if let Some(unit) = &mut self.unit {
+            unit.text.give_up_run();
+            unit.is_whole = false;
+        }
+    }
+
     /// Whether one is open that has this timestamp.
     #[inline]
     pub(crate) fn is_at(&self, timestamp: u32) -> bool {
@@ -163,7 +184,11 @@ impl OpenAccessUnit {
         packet: &RtpPacket<'_>,
     ) -> Result<Received, PacketError> {
         match &mut self.unit {
-            Some(unit) => unit.take(packets, packet, true),
+            Some(unit) => {
+                let received = unit.take(packets, packet, self.is_gap, true);
+                self.is_gap = self.is_gap && !was_taken(&received);
+                received
+            }
             None => unreachable!(),
         }
     }
@@ -177,11 +202,12 @@ impl OpenAccessUnit {
     ) -> Result<Received, PacketError> {
         match self.unit.take() {
             Some(mut unit) => {
-                let received = unit.take(packets, packet, false);
+                let received = unit.take(packets, packet, self.is_gap, false);
                 if !was_taken(&received) {
                     self.unit = Some(unit);
                     return received;
                 }
+                self.is_gap = false;
                 unit.text.move_run(&mut self.left);
                 out.push(unit.end(true));
                 received
@@ -212,6 +238,7 @@ impl OpenAccessUnit {
     /// Appends it, if one is open, and gives up the run.
     #[inline]
     pub(crate) fn end(&mut self, follows: bool, out: &mut Vec<AccessUnit>) {
+        self.is_gap = false;
         self.left.close();
         if let Some(unit) = self.unit.take() {
             out.push(unit.end(follows));

@@ -14,6 +14,12 @@ pub(crate) fn is_next(expected: Option<u16>, sequence: u16) -> bool {
     }
 }
 
+/// Whether it is known that no packet is missing before a sequence number.
+#[inline]
+pub(crate) fn is_following(is_gap: bool, expected: Option<u16>, sequence: u16) -> bool {
+    !is_gap && is_next(expected, sequence)
+}
+
 /// Whether a packet was taken.
 #[inline]
 pub(crate) fn was_taken(received: &Result<Received, PacketError>) -> bool {

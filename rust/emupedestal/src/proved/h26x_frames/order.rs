@@ -8,7 +8,7 @@ use crate::proved::h26x_frames::parted::Parted;
 use crate::support::AllocFailed;
 
 /// How far ahead of the number that is due a number is taken as behind it: half of the circle (RFC
-/// 3550, A.1).
+/// 1982, 3.2).
 const HALF: u16 = 0x8000;
 
 /// Packets in the order of their numbers, each once, from one that is due on.

@@ -4,7 +4,7 @@
 
 use crate::proved::h26x_core::PacketError;
 use crate::proved::h26x_frames::access_unit::{AccessUnit, OpenAccessUnit, OpenUnit};
-use crate::proved::h26x_frames::answers::{is_next, is_sound, was_taken};
+use crate::proved::h26x_frames::answers::{is_following, is_next, is_sound, was_taken};
 use crate::proved::h26x_frames::packet::RtpPacket;
 use crate::proved::h26x_frames::spare::SpareMemory;
 use crate::proved::h26x_receiver::{Received, RunDepacketizer, SequencedDepacketizer};
@@ -32,7 +32,7 @@ fn begin<D: RunDepacketizer>(
     packet: &RtpPacket<'_>,
     out: &mut Vec<AccessUnit>,
 ) -> Result<Received, PacketError> {
-    let follows = is_next(packets.expected, packet.sequence);
+    let follows = is_following(place.is_gap(), packets.expected, packet.sequence);
     let mut unit = OpenUnit::new(spare.take(), packet.timestamp);
     let received = packets.receive_in_text(
         packet.sequence,
@@ -116,6 +116,20 @@ impl<D: RunDepacketizer> FrameReceiver<D> {
         let received = take(packets, unit, spare, packet, out);
         if was_taken(&received) {
             self.unit.limit(self.unit_limit);
+        }
+        received
+    }
+
+    /// Passes over a number that came and bears nothing of the stream, as
+    /// [`SequencedDepacketizer::skip`] does: in order the open run and access unit stay. Where others
+    /// before it are missing (`Gap`) the open run is given up, and neither the open access unit nor one
+    /// that the next packet begins is known to be whole. One that is late changes nothing. It takes no
+    /// memory.
+    pub fn skip(&mut self, sequence: u16) -> Received {
+        let is_next = is_next(self.packets.expected, sequence);
+        let received = self.packets.skip_in_text(sequence);
+        if received.is_taken() && !is_next {
+            self.unit.break_off();
         }
         received
     }

@@ -8,7 +8,7 @@ use crate::proved::h26x_receiver::received::Received;
 use crate::proved::h26x_receiver::run::{RunDepacketizer, take_run};
 
 /// How far ahead of the expected number a number is taken as behind it: half of the circle (RFC
-/// 3550, A.1).
+/// 1982, 3.2).
 const HALF: u16 = 0x8000;
 
 /// How many packets are missing before a number, and whether it is the one expected.
@@ -111,6 +111,30 @@ impl<D: RunDepacketizer> SequencedDepacketizer<D> {
     pub fn restart(&mut self) {
         self.depacketizer.give_up_run();
         self.expected = None;
+    }
+
+    /// Passes over a number that came and bears nothing of the stream, as that of a packet of padding
+    /// alone, of forward error correction or of another payload type: it isn't missing. In order only
+    /// the number that is expected changes. Where others before it are missing (`Gap`) the open run is
+    /// given up; one that is late changes nothing. It takes no memory.
+    pub fn skip(&mut self, sequence: u16) -> Received {
+        let (_, is_next) = place_of(self.expected, sequence);
+        let received = self.skip_in_text(sequence);
+        if received.is_taken() && !is_next {
+            self.depacketizer.give_up_run();
+        }
+        received
+    }
+
+    /// As [`Self::skip`], where the open run stands in a text of the caller, who gives it up: the
+    /// depacketizer, with its own run, stays as it is.
+    pub fn skip_in_text(&mut self, sequence: u16) -> Received {
+        let (missing, _) = place_of(self.expected, sequence);
+        if let Some(late) = late_by(missing) {
+            return late;
+        }
+        self.expected = Some(sequence.wrapping_add(1));
+        Received::taken(missing, false)
     }
 
     /// Takes a packet with its sequence number. What it completes is written to `out`, a list of bytes

@@ -486,6 +486,26 @@ pub unsafe extern "C" fn h26x_receive(
 }
 
 #[unsafe(no_mangle)]
+pub unsafe extern "C" fn h26x_receiver_skip(
+    r: *mut Handle,
+    sequence: u16,
+    received: *mut u32,
+    count: *mut u16,
+) -> u32 {
+    let mut no_received = MaybeUninit::uninit();
+    let mut no_count = MaybeUninit::uninit();
+    // SAFETY: a caller owes what the header says.
+    unsafe {
+        super::sequenced::h26x_receiver_skip(
+            pointers::lent(r),
+            sequence,
+            pointers::output(received, &mut no_received),
+            pointers::output(count, &mut no_count),
+        )
+    }
+}
+
+#[unsafe(no_mangle)]
 pub unsafe extern "C" fn h26x_receiver_restart(r: *mut Handle) -> u32 {
     // SAFETY: a caller owes what the header says.
     unsafe { super::sequenced::h26x_receiver_restart(pointers::lent(r)) }

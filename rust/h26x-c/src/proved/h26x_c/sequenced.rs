@@ -105,6 +105,26 @@ pub fn h26x_receive(
     }
 }
 
+/// Passes over a number that came and bears nothing of the stream.
+pub fn h26x_receiver_skip(
+    r: &mut Handle,
+    sequence: u16,
+    received: &mut MaybeUninit<u32>,
+    count: &mut MaybeUninit<u16>,
+) -> u32 {
+    match r.get_mut() {
+        Endpoint::Sequenced(it) => {
+            {
+                let values = numbers_of(it.skip(sequence));
+                received.write(values.0);
+                count.write(values.1);
+            }
+            OK
+        }
+        Endpoint::Sending(_) | Endpoint::Receiving(_) => WRONG_END,
+    }
+}
+
 /// Gives up the open run, and takes any sequence number as the next.
 pub fn h26x_receiver_restart(r: &mut Handle) -> u32 {
     match r.get_mut() {

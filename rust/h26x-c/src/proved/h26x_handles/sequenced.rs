@@ -80,6 +80,11 @@ impl SequencedEndpoint {
         Ok(received)
     }
 
+    /// Passes over a number that came and bears nothing of the stream: it isn't missing.
+    pub fn skip(&mut self, sequence: u16) -> Received {
+        self.receiver.skip(sequence)
+    }
+
     /// Gives up the open run, and takes any sequence number as the next.
     pub fn restart(&mut self) {
         self.receiver.restart();
