@@ -1,3 +1,4 @@
 pub mod CopyLemmas
 pub mod MemoryLemmas
 pub mod PlacementLemmas
+pub mod SkipLemmas

@@ -207,6 +207,7 @@ impl<D: RunDepacketizer> SequencedDepacketizer<D> {
             self.old.expected out extra) sequence }
         ensures rest { D.with_run None self.new.depacketizer
             ≡ D.with_run None self.old.depacketizer }
+        ensures expected { self.new.expected ≡ expected_after_skip self.old.expected sequence }
         ensures limit { self.new.run_limit ≡ self.old.run_limit }
 
         // In order, or late, nothing else changes.
