@@ -127,7 +127,7 @@ fn lowest_header(has_donl: bool, packet: &[u8]) -> Option<(u8, u8)>
 /// sent. `has_donl` is the packetizer's: whether packets bear decoding order numbers (4.6).
 ///
 /// ```rust
-/// for packet in &mut packets {
+/// for packet in packets.iter_mut() {
 ///     set_lowest_header(false, packet);
 /// }
 /// ```

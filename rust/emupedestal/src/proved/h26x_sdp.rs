@@ -5,6 +5,7 @@
 //! each, read and written by the table of them.
 //!
 //! The definitions that contracts cite stand in `specs/`.
+mod answer;
 mod codec;
 mod error;
 mod h264;
@@ -17,6 +18,8 @@ mod rtp_map;
 mod table;
 mod units;
 
+pub(crate) use answer::answer_to;
+pub use answer::{CodecRules, Format, Role, Terms};
 pub use codec::{CodecParameter, CodecParameters};
 pub use error::{Fault, ParametersError, UnitsError};
 pub use h264::{H264Parameter, H264Parameters};

@@ -21,9 +21,10 @@ pub struct AccessUnit {
     /// What is told of these units; `CodecExtra::None` where there is none.
     pub extra: CodecExtra,
     /// Whether it is known that nothing of it is missing: its packets followed each other, its first
-    /// the packet before it, and its last bore the marker or was followed by another timestamp; and no
-    /// run of it was too long, nor its text. Where the packet before it is missing it isn't known,
-    /// since that may have been its first.
+    /// the packet before it, and its last bore the marker or was followed by another timestamp; no
+    /// unit of it lacks its start or its end; and no run of it was too long, nor its text. Where the
+    /// packet before it is missing it isn't known, since that may have been its first; nor where the
+    /// marker ended one of its timestamp right before it, with which it goes on.
     pub is_whole: bool,
 }
 
@@ -68,9 +69,11 @@ impl OpenUnit {
         packets: &mut SequencedDepacketizer<D>,
         packet: &RtpPacket<'_>,
         is_gap: bool,
+        closed: Option<u32>,
         may_be_inside: bool,
     ) -> Result<Received, PacketError> {
-        let follows = is_following(is_gap, packets.expected, packet.sequence);
+        let follows = is_following(is_gap, closed, packets.expected, packet);
+        let len = self.text.len();
         let received = packets.receive_in_text(
             packet.sequence,
             packet.payload,
@@ -78,10 +81,25 @@ impl OpenUnit {
             &mut self.text,
             &mut self.extra,
         );
+        let is_dropped = self.is_dropped(len);
+        let is_sound = is_sound(follows, is_dropped, &received);
         if was_taken(&received) {
-            self.is_whole = self.is_whole && is_sound(follows, &received);
+            self.is_whole = self.is_whole && is_sound;
         }
         received
+    }
+
+    /// Whether no byte stands of a packet before which the text had so many: neither there nor in a
+    /// run.
+    #[inline]
+    pub(crate) fn is_dropped(&self, len: usize) -> bool {
+        len == self.text.len() && self.text.run_len() == 0
+    }
+
+    /// Packets are missing: gives up the run, and it isn't known to be whole.
+    fn break_off(&mut self) {
+        self.text.give_up_run();
+        self.is_whole = false;
     }
 
     /// The access unit, known to be whole only if this holds too. A run that is open goes.
@@ -97,13 +115,14 @@ impl OpenUnit {
 }
 
 /// The access unit that is open, if one is: the next packet may belong to it. And the run that is
-/// open, in its text, or left by the last one; and whether packets are missing right before the numbers
-/// that were skipped last.
+/// open, in its text, or left by the last one; whether packets are missing right before the numbers
+/// that were skipped last; and the timestamp of the one that the marker of the last packet ended.
 #[derive(Debug, Clone, PartialEq, Eq)]
 pub struct OpenAccessUnit {
     unit: Option<OpenUnit>,
     left: OpenRun,
     is_gap: bool,
+    closed: Option<u32>,
 }
 
 impl OpenAccessUnit {
@@ -113,6 +132,7 @@ impl OpenAccessUnit {
             unit: None,
             left: OpenRun::none(),
             is_gap: false,
+            closed: None,
         }
     }
 
@@ -150,20 +170,19 @@ impl OpenAccessUnit {
         }
     }
 
-    /// Whether packets are missing right before the numbers that were skipped last.
+    /// Whether it is known that nothing of its access unit is missing before a packet.
     #[inline]
-    pub(crate) fn is_gap(&self) -> bool {
-        self.is_gap
+    pub(crate) fn follows(&self, expected: Option<u16>, packet: &RtpPacket<'_>) -> bool {
+        is_following(self.is_gap, self.closed, expected, packet)
     }
 
     /// Packets are missing, and a number behind them is skipped: gives up the run, and neither what is
     /// open nor what the next packet begins is known to be whole.
     pub(crate) fn break_off(&mut self) {
         self.is_gap = true;
-        self.left.close();
-        if let Some(unit) = &mut self.unit {
-            unit.text.give_up_run();
-            unit.is_whole = false;
+        match &mut self.unit {
+            Some(unit) => unit.break_off(),
+            None => self.left.close(),
         }
     }
 
@@ -185,8 +204,11 @@ impl OpenAccessUnit {
     ) -> Result<Received, PacketError> {
         match &mut self.unit {
             Some(unit) => {
-                let received = unit.take(packets, packet, self.is_gap, true);
-                self.is_gap = self.is_gap && !was_taken(&received);
+                let received = unit.take(packets, packet, self.is_gap, self.closed, true);
+                if was_taken(&received) {
+                    self.is_gap = false;
+                    self.closed = None;
+                }
                 received
             }
             None => unreachable!(),
@@ -202,14 +224,16 @@ impl OpenAccessUnit {
     ) -> Result<Received, PacketError> {
         match self.unit.take() {
             Some(mut unit) => {
-                let received = unit.take(packets, packet, self.is_gap, false);
+                let received = unit.take(packets, packet, self.is_gap, self.closed, false);
                 if !was_taken(&received) {
                     self.unit = Some(unit);
                     return received;
                 }
                 self.is_gap = false;
+                self.closed = Some(unit.timestamp);
+                let is_closed = unit.text.run_len() == 0;
                 unit.text.move_run(&mut self.left);
-                out.push(unit.end(true));
+                out.push(unit.end(is_closed));
                 received
             }
             None => unreachable!(),
@@ -226,11 +250,13 @@ impl OpenAccessUnit {
         is_over: bool,
         out: &mut Vec<AccessUnit>,
     ) {
+        unit.is_whole = unit.is_whole && is_sound;
         if is_over {
+            self.closed = Some(unit.timestamp);
+            let is_closed = unit.text.run_len() == 0;
             unit.text.move_run(&mut self.left);
-            out.push(unit.end(is_sound));
+            out.push(unit.end(is_closed));
         } else {
-            unit.is_whole = unit.is_whole && is_sound;
             self.unit = Some(unit);
         }
     }
@@ -239,9 +265,11 @@ impl OpenAccessUnit {
     #[inline]
     pub(crate) fn end(&mut self, follows: bool, out: &mut Vec<AccessUnit>) {
         self.is_gap = false;
+        self.closed = None;
         self.left.close();
         if let Some(unit) = self.unit.take() {
-            out.push(unit.end(follows));
+            let is_closed = unit.text.run_len() == 0;
+            out.push(unit.end(follows && is_closed));
         }
     }
 }

@@ -3,6 +3,7 @@
 //! What is known of a packet by its number and by what was answered for it.
 
 use crate::proved::h26x_core::PacketError;
+use crate::proved::h26x_frames::packet::RtpPacket;
 use crate::proved::h26x_receiver::Received;
 
 /// Whether a sequence number is the one expected.
@@ -14,10 +15,24 @@ pub(crate) fn is_next(expected: Option<u16>, sequence: u16) -> bool {
     }
 }
 
-/// Whether it is known that no packet is missing before a sequence number.
+/// Whether the marker of the last packet ended an access unit of this timestamp.
 #[inline]
-pub(crate) fn is_following(is_gap: bool, expected: Option<u16>, sequence: u16) -> bool {
-    !is_gap && is_next(expected, sequence)
+fn is_closed_at(closed: Option<u32>, timestamp: u32) -> bool {
+    match closed {
+        Some(closed) => closed == timestamp,
+        None => false,
+    }
+}
+
+/// Whether it is known that nothing of its access unit is missing before a packet.
+#[inline]
+pub(crate) fn is_following(
+    is_gap: bool,
+    closed: Option<u32>,
+    expected: Option<u16>,
+    packet: &RtpPacket<'_>,
+) -> bool {
+    !is_gap && !is_closed_at(closed, packet.timestamp) && is_next(expected, packet.sequence)
 }
 
 /// Whether a packet was taken.
@@ -29,11 +44,16 @@ pub(crate) fn was_taken(received: &Result<Received, PacketError>) -> bool {
     }
 }
 
-/// Whether a packet that was taken follows the one before it, and left no run that was too long.
+/// Whether a packet that was taken follows the one before it, stands in the text or a run, and left no
+/// run that was too long.
 #[inline]
-pub(crate) fn is_sound(follows: bool, received: &Result<Received, PacketError>) -> bool {
+pub(crate) fn is_sound(
+    follows: bool,
+    is_dropped: bool,
+    received: &Result<Received, PacketError>,
+) -> bool {
     match received {
         Ok(Received::TooLong(_)) => false,
-        _ => follows,
+        _ => !is_dropped && follows,
     }
 }

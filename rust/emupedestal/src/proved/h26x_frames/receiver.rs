@@ -4,7 +4,7 @@
 
 use crate::proved::h26x_core::PacketError;
 use crate::proved::h26x_frames::access_unit::{AccessUnit, OpenAccessUnit, OpenUnit};
-use crate::proved::h26x_frames::answers::{is_following, is_next, is_sound, was_taken};
+use crate::proved::h26x_frames::answers::{is_next, is_sound, was_taken};
 use crate::proved::h26x_frames::packet::RtpPacket;
 use crate::proved::h26x_frames::spare::SpareMemory;
 use crate::proved::h26x_receiver::{Received, RunDepacketizer, SequencedDepacketizer};
@@ -32,8 +32,9 @@ fn begin<D: RunDepacketizer>(
     packet: &RtpPacket<'_>,
     out: &mut Vec<AccessUnit>,
 ) -> Result<Received, PacketError> {
-    let follows = is_following(place.is_gap(), packets.expected, packet.sequence);
+    let follows = place.follows(packets.expected, packet);
     let mut unit = OpenUnit::new(spare.take(), packet.timestamp);
+    let len = unit.text.len();
     let received = packets.receive_in_text(
         packet.sequence,
         packet.payload,
@@ -45,7 +46,8 @@ fn begin<D: RunDepacketizer>(
         spare.keep(unit.text.into_text(), usize::MAX);
         return received;
     }
-    let is_sound = is_sound(follows, &received);
+    let is_dropped = unit.is_dropped(len);
+    let is_sound = is_sound(follows, is_dropped, &received);
     place.end(follows, out);
     place.put(unit, is_sound, packet.marker, out);
     received

@@ -120,8 +120,9 @@ impl<D: RunDepacketizer> SequencedDepacketizer<D> {
     pub fn skip(&mut self, sequence: u16) -> Received {
         let (_, is_next) = place_of(self.expected, sequence);
         let received = self.skip_in_text(sequence);
+        let own = &mut self.depacketizer;
         if received.is_taken() && !is_next {
-            self.depacketizer.give_up_run();
+            own.give_up_run();
         }
         received
     }

@@ -23,8 +23,8 @@ pub trait CodecParameter: Copy {
 /// The format parameters of a codec: what an `a=fmtp` line says behind the payload type.
 #[derive(Debug, Clone, PartialEq, Eq, Hash)]
 pub struct CodecParameters<P: CodecParameter> {
-    parameters: FormatParameters,
-    of: PhantomData<P>,
+    pub(crate) parameters: FormatParameters,
+    pub(crate) of: PhantomData<P>,
 }
 
 impl<P: CodecParameter> CodecParameters<P> {
