@@ -3,7 +3,9 @@
 
 use crate::stand_ins::{look_at, send};
 use h26x_core::{CodecExtra, Depacketizer, PacketError, Packetizer};
-use h265_payload::{H265Depacketizer, H265PACIPacket, H265Packetizer, H265Payload};
+use h265_payload::{
+    H265Depacketizer, H265PACIPacket, H265Packetizer, H265Payload, set_lowest_header,
+};
 use std::alloc::Global;
 
 /// Cuts a frame into packets, puts its units together again, and looks at the last packet where it
@@ -32,6 +34,15 @@ pub fn send_frame(alloc: Global, frame: &[u8]) -> Result<(), PacketError> {
         send(packet);
     }
     Ok(())
+}
+
+/// The packets of a frame, of which sets in one packet have the header of these sets.
+pub fn packets_of_frame(alloc: Global, frame: &[u8]) -> Result<Vec<Vec<u8>>, PacketError> {
+    let mut packets = H265Packetizer::new(alloc).packetize(1200, frame)?;
+    for packet in packets.iter_mut() {
+        set_lowest_header(false, packet);
+    }
+    Ok(packets)
 }
 
 /// The PACI packet of a slice of an IDR picture and an extension.

@@ -148,8 +148,8 @@ pub fn ends_of_one_meaning()
 }
 
 /// Where each aggregate of H.265 that calls send is given the header of its units, all units sent are
-/// written, whatever run was open; and all else of an aggregate stays. Those of H.266 have the header of
-/// their sets.
+/// written, whatever run was open; and all else of an aggregate stays. Those of H.266 have the header
+/// of their sets.
 pub fn headers_of_aggregates()
     ensures written { (has_donl : Bool) (s : PacketizerState) (w : Depacketization)
         (calls : List Call) → s.format ≡ h265 has_donl → w.state.format ≡ h265 has_donl →
