@@ -4,7 +4,7 @@
 |---|---|---|
 | `#[unsafe(no_mangle)] pub extern "C" fn h26x_x(..)` | `pub fn h26x_x(..)` of the same body; in a module `exports` of the crate a function of C's form that calls it | the body stays safe, and all that C gives is taken in one file |
 | `x: &[u8]` of an export | `x: *const u8, x_len: usize`, then `bytes(x, x_len)` | NULL has length 0 |
-| `to: &mut [u8]`, `ends: &mut [usize]` | the same, as `room` and `ends_room`, then `room(..)` | as the header names them |
+| `to: &mut [u8]`, `ends: &mut [usize]`, `packet: &mut [u8]` | the same, as `room`, `ends_room` and `packet_len`, then `room(..)` | as the header names them |
 | `x: &mut usize`, and the other types of `OUTPUTS`, which nothing reads; of all functions of the crates that C reaches | `x: &mut MaybeUninit<usize>`, `*x = y` is `x.write(y)`; of an export `x: *mut usize`, then `output(x, ..)` | C leaves it uninitialised; NULL isn't wanted |
 | `extra: &mut u8` of an export, which it reads | `extra: *mut u8`, then `in_out(extra, ..)` | NULL is read as 0 |
 | `x: &mut Place`, `x: &mut Handle`, `x: &ConstHandle` | `x: *mut Place`, then `made(x)`; `x: *mut Handle`, then `lent(x)`; `x: *const ConstHandle`, then `shared(x)` | they are there |
@@ -199,7 +199,7 @@ class Exports:
             items = re.fullmatch(r"& (mut )?\[(u8|usize)\]", kind)
             output = re.fullmatch(r"& mut (?:MaybeUninit < (\w+) >|(\w+))", kind)
             if items and items[1]:
-                room = "room" if items[2] == "u8" else f"{name}_room"
+                room = f"{name}_room" if items[2] != "u8" else "room" if name == "to" else f"{name}_len"
                 taken.append(f"{name}: *mut {items[2]}, {room}: usize")
                 given.append(f"pointers::room({name}, {room})")
             elif items:

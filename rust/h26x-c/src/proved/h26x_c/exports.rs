@@ -83,10 +83,12 @@ pub unsafe extern "C" fn h26x_set_lowest_header(
     codec: u32,
     numbers: bool,
     packet: *mut u8,
-    room: usize,
+    packet_len: usize,
 ) {
     // SAFETY: a caller owes what the header says.
-    unsafe { super::packets::h26x_set_lowest_header(codec, numbers, pointers::room(packet, room)) }
+    unsafe {
+        super::packets::h26x_set_lowest_header(codec, numbers, pointers::room(packet, packet_len))
+    }
 }
 
 #[unsafe(no_mangle)]
