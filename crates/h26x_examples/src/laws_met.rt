@@ -1,7 +1,7 @@
 //! What the laws say of each codec, of lists that nothing is known of: each is called once here, by
 //! a function that has none of its premises left but those of its subject.
 
-ghost use Rattle.std.specs.Prelude.{◌≡◌, ◌≤◌, ◌<◌, ◌+◌, ◌++◌, ℕ, Bool, true, false, List, [], ◌∷◌, Option, None, Some, Result, IsTrue, length, map};
+ghost use Rattle.std.specs.Prelude.{◌≡◌, ◌≤◌, ◌<◌, ◌+◌, ◌^◌, ◌++◌, IsPermutation, ℕ, Bool, true, false, List, [], ◌∷◌, Option, None, Some, Result, IsTrue, length, map};
 ghost use Rattle.std.specs.List.{AllByRecursion, Contains, list_any, list_all, flat_map, range_with_len};
 ghost use Rattle.h26x_core.specs.Mark.{IsMark};
 ghost use Rattle.h26x_core.specs.ByteStream.{is_not_empty, annex_b};
@@ -33,14 +33,17 @@ ghost use Rattle.h26x_codec.specs.Codec.{codec_format, fresh_depacketizer_state}
 ghost use Rattle.h26x_codec.specs.Runs.{AreWritten};
 ghost use Rattle.h26x_codec.specs.declared.codec.Codec.{Codec};
 ghost use Rattle.h26x_receiver.specs.Delivery.{IsDelivery, NoneIsRefused, mask_of_places, taken_mask};
-ghost use Rattle.h26x_receiver.specs.Sequenced.{sequenced_depacketization, with_expected, after_answers, HaveSequencedAnswers};
+ghost use Rattle.h26x_receiver.specs.Sequence.{is_expected, next_sequence_number};
+ghost use Rattle.h26x_receiver.specs.Sequenced.{SequencedDepacketization, after_skip, is_taken, sequenced_depacketization, with_expected, after_answers, HaveSequencedAnswers};
 ghost use Rattle.h26x_receiver.specs.declared.received.Received.{Received};
-ghost use Rattle.h26x_frames.specs.AccessUnit.{UnitDepacketization, after_all_rtp, after_end, HaveUnitAnswers};
+ghost use Rattle.h26x_frames.specs.AccessUnit.{UnitDepacketization, IsNoneOpen, follows, after_all_rtp, after_unit_skip, after_end, HaveUnitAnswers};
+ghost use Rattle.h26x_frames.specs.AnyUnits.{SentPackets, AreSentApart, IsAnyStream, any_mask, any_units_left};
+ghost use Rattle.h26x_frames.specs.BufferSteps.{BufferStep, AreInTurn, AreNumbered, after_steps, steps_held, steps_out};
 ghost use Rattle.h26x_frames.specs.Network.{IsNetwork, released_packets};
-ghost use Rattle.h26x_frames.specs.ReorderBuffer.{BufferState, next_packet, packet_at, ready_packets, reordered, without_first};
+ghost use Rattle.h26x_frames.specs.ReorderBuffer.{BufferState, fresh_buffer, next_packet, packet_at, ready_packets, reordered, without_first};
 ghost use Rattle.h26x_frames.specs.Reordering.{IsReordered, in_order};
 ghost use Rattle.h26x_frames.specs.Rtp.{RtpBody};
-ghost use Rattle.h26x_frames.specs.StampedCalls.{StampedCall, AreStreamed, AreApart, AreUnitsWithin, IsBroughtStream, IsStream, IsSentIfWhole, call_packets, packets_len, sent_bodies, sent_unit, sent_units, unit_left, units_left};
+ghost use Rattle.h26x_frames.specs.StampedCalls.{StampedCall, AreStreamed, AreApart, AreUnitsWithin, AreUnitsGiven, brought_mask, IsBroughtStream, IsStream, IsSentIfWhole, call_packets, packets_len, sent_bodies, sent_unit, sent_units, unit_left, units_left};
 
 use h26x_codec::laws::formats_meet_the_facts;
 
@@ -235,13 +238,14 @@ pub fn units_through_a_network()
     h26x_frames::laws::units_come_through_a_network();
 }
 
-/// Access units come that are a stream's, where the number of the first packet isn't known.
+/// Access units come that are a stream's, where the number of the first packet isn't known; where none
+/// is past the limit they are exactly those.
 pub fn access_units_of_a_stream()
     ensures { (codec : Codec) (has_donl : Bool) (most limit : ℕ) (w : UnitDepacketization)
         (s : PacketizerState) (calls : List StampedCall) (first : ℕ) (places : List ℕ)
         (packets : List (ℕ × RtpBody)) (answers : List (Result Received PacketError)) →
         w.state.format ≡ codec_format codec has_donl → s.format ≡ codec_format codec has_donl →
-        w.is_gap ≡ false → w.unit ≡ None → w.expected ≡ None →
+        IsNoneOpen w.unit w.is_gap → w.expected ≡ None →
         HaveUnitAnswers most limit w packets answers → NoneIsRefused answers →
         IsStream s calls first false places packets →
         AreApart None s calls (mask_of_places places (length (sent_bodies s calls))) →
@@ -253,26 +257,80 @@ pub fn access_units_of_a_stream()
 {
     formats_meet_the_facts();
     h26x_frames::laws::access_units_are_those_left();
+    h26x_frames::laws::access_units_within_the_limit_stay();
 }
 
-/// So they do through a network and a buffer.
+/// So they do through a network and a buffer, where all packets that this gives out are taken; one past
+/// the limit is its own loss.
 pub fn access_units_through_a_network()
     ensures { (codec : Codec) (has_donl : Bool) (most limit : ℕ) (w : UnitDepacketization)
         (s : PacketizerState) (calls : List StampedCall) (first : ℕ) (places : List ℕ)
         (packets : List (ℕ × RtpBody)) (answers : List (Result Received PacketError)) →
         w.state.format ≡ codec_format codec has_donl → s.format ≡ codec_format codec has_donl →
-        w.is_gap ≡ false → w.unit ≡ None → w.expected ≡ None →
-        HaveUnitAnswers most limit w (reordered 64 packets) answers → NoneIsRefused answers →
+        IsNoneOpen w.unit w.is_gap → w.expected ≡ None →
+        HaveUnitAnswers most limit w (reordered 64 packets) answers →
+        AllByRecursion (λ answer. is_taken answer ≡ true) answers →
         IsBroughtStream 64 s calls first false places packets →
-        AreApart None s calls (mask_of_places places (length (sent_bodies s calls))) →
-        AreUnitsWithin limit (units_left most s w.state.is_avc false w.closed calls
-        (mask_of_places places (length (sent_bodies s calls)))) →
+        AreApart None s calls (brought_mask s calls places answers) →
+        AreUnitsGiven limit w.ended
         (after_end (after_all_rtp most limit w (reordered 64 packets) answers)).ended
-        ≡ w.ended ++ units_left most s w.state.is_avc false w.closed calls
-        (mask_of_places places (length (sent_bodies s calls))) }
+        (units_left most s w.state.is_avc false w.closed calls
+        (brought_mask s calls places answers)) }
 {
     formats_meet_the_facts();
     h26x_frames::laws::access_units_come_through_a_network();
+    h26x_frames::laws::places_that_come_are_near();
+}
+
+/// So do those of any sender, whatever its packets are.
+pub fn access_units_of_any_sender()
+    ensures { (codec : Codec) (has_donl : Bool) (most limit : ℕ) (w : UnitDepacketization)
+        (sent : List SentPackets) (first : ℕ) (places : List ℕ) (packets : List (ℕ × RtpBody))
+        (answers : List (Result Received PacketError)) →
+        w.state.format ≡ codec_format codec has_donl →
+        IsNoneOpen w.unit w.is_gap → w.expected ≡ None →
+        HaveUnitAnswers most limit w (reordered 64 packets) answers →
+        AllByRecursion (λ answer. is_taken answer ≡ true) answers →
+        IsAnyStream 64 sent first places packets →
+        AreSentApart None sent (any_mask sent places answers) →
+        AreUnitsGiven limit w.ended
+        (after_end (after_all_rtp most limit w (reordered 64 packets) answers)).ended
+        (any_units_left most w.state.format w.state.is_avc false w.closed sent
+        (any_mask sent places answers)) }
+{
+    formats_meet_the_facts();
+    h26x_frames::laws::any_access_units_come_through_a_network();
+    h26x_frames::laws::places_that_come_are_near();
+}
+
+/// What a buffer gave out and holds are the packets that it held, in turn.
+pub fn packets_that_were_held()
+    ensures exact { (steps : List BufferStep) → AreNumbered steps →
+        IsPermutation (steps_held (fresh_buffer 64) steps)
+        (steps_out (fresh_buffer 64) steps ++ (after_steps (fresh_buffer 64) steps).held) }
+    ensures order { (steps : List BufferStep) → AreNumbered steps →
+        AreInTurn (steps_out (fresh_buffer 64) steps
+        ++ (after_steps (fresh_buffer 64) steps).held) }
+{
+    h26x_frames::laws::those_held_are_given_out();
+}
+
+/// A packet behind a number that was skipped in order does what it would behind that number's packet
+/// that wrote nothing; neither the open unit nor the open access unit is touched.
+pub fn skipped_numbers()
+    ensures run { (s : SequencedDepacketization) (number : ℕ) → number < 2 ^ 16 →
+        is_expected s.expected number ≡ true → (after_skip s number).at_work ≡ s.at_work }
+    ensures next { (s : SequencedDepacketization) (number : ℕ) → number < 2 ^ 16 →
+        is_expected s.expected number ≡ true →
+        is_expected (after_skip s number).expected (next_sequence_number number) ≡ true }
+    ensures unit { (s : UnitDepacketization) (number : ℕ) → number < 2 ^ 16 →
+        is_expected s.expected number ≡ true → (after_unit_skip s number).unit ≡ s.unit }
+    ensures follows { (s : UnitDepacketization) (number : ℕ) (body : RtpBody) → number < 2 ^ 16 →
+        is_expected s.expected number ≡ true → s.is_gap ≡ false → s.closed ≡ None →
+        follows (after_unit_skip s number) (next_sequence_number number, body) ≡ true }
+{
+    h26x_receiver::laws::skipping_in_order_changes_only_the_number();
+    h26x_frames::laws::skipping_in_order_changes_only_the_number();
 }
 
 /// An access unit that is told to be whole was sent, and one of which each packet came, and the

@@ -1,7 +1,9 @@
 pub mod ReorderLemmas
+pub mod GapLemmas
 pub mod NetworkLemmas
 pub mod HeldLemmas
 pub mod BufferLemmas
+pub mod StepLemmas
 pub mod NumberLemmas
 pub mod PlaceShiftLemmas
 pub mod TakeLemmas
@@ -9,7 +11,10 @@ pub mod UnitLemmas
 pub mod UsedLemmas
 pub mod StreamLemmas
 pub mod GivenLemmas
+pub mod PastLimitLemmas
 pub mod OrderedLemmas
 pub mod WholeLemmas
+pub mod TakenLemmas
 pub mod ReceivedLemmas
 pub mod RefusedLemmas
+pub mod AnyLemmas

@@ -12,18 +12,16 @@ use Rattle.h26x_model.specs.Send.PacketizerState.{state_packets}
 use Rattle.h26x_codec.specs.Runs.{AreWritten}
 use Rattle.h26x_receiver.specs.declared.received.Received.{Received}
 use Rattle.h26x_receiver.specs.Sequenced.{with_expected, after_answers, HaveSequencedAnswers}
-use Rattle.h26x_receiver.specs.Delivery.{packet_of_place, NoneIsRefused, ThoseThatCameAreWritten}
+use Rattle.h26x_receiver.specs.Delivery.{packet_of_place, WritesThoseOfCalls}
 use Rattle.h26x_frames.specs.Reordering.{in_order}
 use Rattle.h26x_frames.specs.Network.{released_packets, UnitsComeThrough}
+use Rattle.h26x_frames.proofs.GapLemmas.{gaps_short}
 use Rattle.h26x_frames.proofs.ReorderLemmas.{puts_below, among_puts}
 use Rattle.h26x_frames.proofs.PlaceShiftLemmas.{put_in_order_all}
 
 -- the law of packets in order, as it stands in `h26x_receiver`
 abbrev pub WritesThoseThatCame : Type 0
-WritesThoseThatCame = (most : ℕ) (w : Depacketization) (packets : List (ℕ × List ℕ)) (answers : List (Result Received PacketError)) → IsPayloadFormat w.state.format →
-    HaveSequencedAnswers most (with_expected w None) packets answers → NoneIsRefused answers →
-    ThoseThatCameAreWritten most w packets (after_answers most (with_expected w None) packets answers).at_work.out
-    (after_answers most (with_expected w None) packets answers).at_work.extra
+WritesThoseThatCame = (most : ℕ) (w : Depacketization) → WritesThoseOfCalls most w
 
 -- those that came in order are those that came
 pub same_in_range : (places : List ℕ) (from count : ℕ) →
@@ -41,7 +39,7 @@ come_through window most w some half ok law = λ s calls first places answers sa
     subst (λ (mask : List Bool). AreWritten w (whole_units most s calls mask) (after_answers most (with_expected w None) packets answers).at_work.out
     (after_answers most (with_expected w None) packets answers).at_work.extra)
     (same_in_range places 0 (length sent))
-    (law most w packets answers ok each none s calls first (in_order places) same (record {
+    (law most w ok packets answers each none s calls first (in_order places) same (record {
       brought = record {
         sender = it.sender;
         calls_are = it.calls_are;
@@ -49,5 +47,5 @@ come_through window most w some half ok law = λ s calls first places answers sa
         each = put_in_order_all window (map (packet_of_place sent first) places) some half (λ place. slice_index_or sent place []) first places refl it.near;
         sent = puts_below (length sent) places [] it.sent tt;
       };
-      order = it.gaps;
+      order = gaps_short window places half it.near;
     }))

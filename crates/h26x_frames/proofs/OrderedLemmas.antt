@@ -20,11 +20,12 @@ use Rattle.h26x_receiver.proofs.DeliveryLemmas.{DamagesNothing, GoUp, is_among, 
 use Rattle.h26x_receiver.proofs.AnswerLemmas.{accepted}
 use Rattle.h26x_receiver.proofs.OrderLemmas.{in_time_taken}
 use Rattle.h26x_frames.specs.Rtp.{RtpBody, rtp_body}
-use Rattle.h26x_frames.specs.AccessUnit.{AccessUnitValue, UnitDepacketization, taken_by, IsTakenAnswer, IsUnitAnswer, given_out, with_unit_within, after_taken_rtp, after_rtp, after_end, after_all_rtp, HaveUnitAnswers}
-use Rattle.h26x_frames.specs.StampedCalls.{sent_bodies, body_of_place, units_left, AreUnitsWithin, first_place, AreAccessUnitsLeft}
+use Rattle.h26x_frames.specs.AccessUnit.{AccessUnitValue, UnitDepacketization, IsNoneOpen, taken_by, IsTakenAnswer, IsUnitAnswer, given_out, with_unit_within, after_taken_rtp, after_rtp, after_end, after_all_rtp, HaveUnitAnswers}
+use Rattle.h26x_frames.specs.StampedCalls.{sent_bodies, body_of_place, units_left, AreGivenOut, first_place, AreAccessUnitsLeft}
 use Rattle.h26x_frames.proofs.UnitLemmas.{after_all_taken, kept_from, AreGapsShort, IsLeftOpen}
 use Rattle.h26x_frames.proofs.StreamLemmas.{GoesOn, over_calls}
-use Rattle.h26x_frames.proofs.GivenLemmas.{given_from, given_all, given_rest, open_within, unit_fits}
+use Rattle.h26x_frames.proofs.GivenLemmas.{given_from, given_all}
+use Rattle.h26x_frames.proofs.PastLimitLemmas.{after_all_measured, measured_from, measured_all, none_out}
 
 -- an answer that is neither a refusal nor late leaves what a packet that is taken leaves
 taken_is : (most limit : ℕ) (s : UnitDepacketization) (p : ℕ × RtpBody) (answer : Result Received PacketError) → is_late s.expected p.0 ≡ false →
@@ -39,29 +40,26 @@ taken_is most limit s p (Ok (Late n)) timely is fine = absurd (⊎_elim
     (nat_lt most (run_len (after_sequenced_packet (taken_by s p.1.timestamp) p.0 p.1.payload).state.run)) (Late (distance_behind s.expected p.0)) _ timely heard)
     is)
 
--- packets in order are all taken, and where what they give out is within the limit so is what is open
+-- packets in order are all taken
 pub all_taken : (most limit first : ℕ) (e : Option ℕ) (p : ℕ) (s : UnitDepacketization) (mask : List Bool) (bodies : List RtpBody) (answers : List (Result Received PacketError)) →
     s.expected ≡ expected_at first e → AreGapsShort e p mask → HaveUnitAnswers most limit s (kept_from first p mask bodies) answers → NoneIsRefused answers →
-    AreUnitsWithin limit (given_from most s (kept_from first p mask bodies)) →
-    after_all_rtp most limit s (kept_from first p mask bodies) answers ≡ after_all_taken most s (kept_from first p mask bodies)
-all_taken most limit first e p s [] bodies [] is gaps each none within = refl
-all_taken most limit first e p s [] bodies (a ∷ answers) is gaps each none within = absurd each
-all_taken most limit first e p s (true ∷ mask) [] [] is gaps each none within = refl
-all_taken most limit first e p s (true ∷ mask) [] (a ∷ answers) is gaps each none within = absurd each
-all_taken most limit first e p s (false ∷ mask) [] [] is gaps each none within = refl
-all_taken most limit first e p s (false ∷ mask) [] (a ∷ answers) is gaps each none within = absurd each
-all_taken most limit first e p s (false ∷ mask) (b ∷ bodies) answers is gaps each none within = all_taken most limit first e (p + 1) s mask bodies answers is gaps each none within
-all_taken most limit first e p s (true ∷ mask) (b ∷ bodies) [] is gaps each none within = absurd each
-all_taken most limit first e p s (true ∷ mask) (b ∷ bodies) (a ∷ answers) is gaps each none within =
+    after_all_rtp most limit s (kept_from first p mask bodies) answers ≡ after_all_measured most limit s (kept_from first p mask bodies)
+all_taken most limit first e p s [] bodies [] is gaps each none = refl
+all_taken most limit first e p s [] bodies (a ∷ answers) is gaps each none = absurd each
+all_taken most limit first e p s (true ∷ mask) [] [] is gaps each none = refl
+all_taken most limit first e p s (true ∷ mask) [] (a ∷ answers) is gaps each none = absurd each
+all_taken most limit first e p s (false ∷ mask) [] [] is gaps each none = refl
+all_taken most limit first e p s (false ∷ mask) [] (a ∷ answers) is gaps each none = absurd each
+all_taken most limit first e p s (false ∷ mask) (b ∷ bodies) answers is gaps each none = all_taken most limit first e (p + 1) s mask bodies answers is gaps each none
+all_taken most limit first e p s (true ∷ mask) (b ∷ bodies) [] is gaps each none = absurd each
+all_taken most limit first e p s (true ∷ mask) (b ∷ bodies) (a ∷ answers) is gaps each none =
     let kept = kept_from first (p + 1) mask bodies in
     let timely : is_late s.expected (number_at first p) ≡ false = ap (λ (x : Option ℕ). is_late x (number_at first p)) is ∙ next_in_time first e p gaps.0 in
-    let next = after_taken_rtp most s (number_at first p, b) in
-    let later = given_rest limit most s (number_at first p, b) kept within in
-    let here : after_rtp most limit s (number_at first p, b) a ≡ next =
-    taken_is most limit s (number_at first p, b) a timely each.0 none.0 ∙ ap (λ (x : Option AccessUnitValue). record next { unit = x }) (unit_fits limit next.unit (open_within limit most next kept later)) in
+    let next = with_unit_within limit (after_taken_rtp most s (number_at first p, b)) in
+    let here : after_rtp most limit s (number_at first p, b) a ≡ next = taken_is most limit s (number_at first p, b) a timely each.0 none.0 in
     ap (λ (x : UnitDepacketization). after_all_rtp most limit x kept answers) here
     ∙ all_taken most limit first (Some (p + 1)) (p + 1) next mask bodies answers (ap Some (next_number first p)) gaps.1
-    (subst (λ (x : UnitDepacketization). HaveUnitAnswers most limit x kept answers) here each.1) none.1 later
+    (subst (λ (x : UnitDepacketization). HaveUnitAnswers most limit x kept answers) here each.1) none.1
 
 -- nothing at a place beyond the packets sent
 abbrev pub nothing : RtpBody
@@ -117,25 +115,25 @@ by_mask first sent e from (suc count) (place ∷ places) total up order within_s
     ] refl
 
 -- places in order go up
-up_of : (e : Option ℕ) (places : List ℕ) → AreNextPlaces e places → GoUp e places
+pub up_of : (e : Option ℕ) (places : List ℕ) → AreNextPlaces e places → GoUp e places
 up_of e [] order = tt
 up_of None (place ∷ places) order = (tt, up_of (Some (place + 1)) places order.1)
 up_of (Some q) (place ∷ places) order = (order.0.0, up_of (Some (place + 1)) places order.1)
 
 -- the first place is the one expected, or none is yet
-first_on : (known : Bool) → IsOn (first_place known) 0
+pub first_on : (known : Bool) → IsOn (first_place known) 0
 first_on true = omega arith
 first_on false = tt
 
-first_known : (known : Bool) → is_place (first_place known) 0 ≡ known
+pub first_known : (known : Bool) → is_place (first_place known) 0 ≡ known
 first_known true = refl
 first_known false = refl
 
 -- what is given out of packets in order
 pub come_in_order : (most limit : ℕ) (w : UnitDepacketization) (packets : List (ℕ × RtpBody)) (answers : List (Result Received PacketError)) → DamagesNothing → GoesOn →
-    IsPayloadFormat w.state.format → w.is_gap ≡ false → w.unit ≡ None → HaveUnitAnswers most limit w packets answers → NoneIsRefused answers →
+    IsPayloadFormat w.state.format → IsNoneOpen w.unit w.is_gap → HaveUnitAnswers most limit w packets answers → NoneIsRefused answers →
     AreAccessUnitsLeft most limit w packets (after_end (after_all_rtp most limit w packets answers)).ended
-come_in_order most limit w packets answers law on_law ok clear none_open each none = λ s calls first known places same expected it apart within.
+come_in_order most limit w packets answers law on_law ok start each none = λ s calls first known places same expected it apart.
     let sent = sent_bodies s calls in
     let e = first_place known in
     let mask = mask_of_places places (length sent) in
@@ -146,14 +144,16 @@ come_in_order most limit w packets answers law on_law ok clear none_open each no
     let came : packets ≡ packets_kept = it.each ∙ kept.same in
     let all : UnitDepacketization → List AccessUnitValue = λ x. x.ended ++ given_out false x.unit in
     let known_is = first_known known in
-    let over = over_calls most first 0 e None w.closed s w w.state.is_avc calls mask law on_law (subst (λ (f : Format). IsPayloadFormat f) same ok) it.streamed same refl clear refl expected
-    (subst (λ (x : Option AccessUnitValue). IsLeftOpen None x e 0) (sym none_open) tt) (first_on known) kept.gaps long apart in
+    let over = over_calls most first 0 e None w.closed s w w.state.is_avc calls mask law on_law (subst (λ (f : Format). IsPayloadFormat f) same ok) it.streamed same refl start.clear refl expected
+    (subst (λ (x : Option AccessUnitValue). IsLeftOpen None x e 0) (sym start.none) tt) (first_on known) kept.gaps long apart in
     let whole : all (after_all_taken most w packets_kept) ≡ w.ended ++ left = over
-    ∙ ap (λ (x : Option AccessUnitValue). (w.ended ++ given_out false x) ++ units_left most s w.state.is_avc (is_place e 0) w.closed calls mask) none_open
+    ∙ ap (λ (x : Option AccessUnitValue). (w.ended ++ given_out false x) ++ units_left most s w.state.is_avc (is_place e 0) w.closed calls mask) start.none
     ∙ ap (λ (l : List AccessUnitValue). l ++ units_left most s w.state.is_avc (is_place e 0) w.closed calls mask) (append-nil w.ended)
     ∙ ap (λ (b : Bool). w.ended ++ units_left most s w.state.is_avc b w.closed calls mask) known_is in
     let given : given_from most w packets_kept ≡ left = append_cancel_left w.ended (given_from most w packets_kept) left (sym (given_all most w packets_kept) ∙ whole) in
-    let took = all_taken most limit first e 0 w mask sent answers expected kept.gaps (subst (λ (x : List (ℕ × RtpBody)). HaveUnitAnswers most limit w x answers) came each) none
-    (subst (AreUnitsWithin limit) (sym given) within) in
-    ap (λ (x : List (ℕ × RtpBody)). all (after_all_rtp most limit w x answers)) came
-    ∙ ap all took ∙ whole
+    let took = all_taken most limit first e 0 w mask sent answers expected kept.gaps (subst (λ (x : List (ℕ × RtpBody)). HaveUnitAnswers most limit w x answers) came each) none in
+    record {
+      given = measured_from most limit w packets_kept;
+      behind = ap (λ (x : List (ℕ × RtpBody)). all (after_all_rtp most limit w x answers)) came ∙ ap all took ∙ measured_all most limit w packets_kept;
+      each = subst (AreGivenOut limit (measured_from most limit w packets_kept)) given (none_out most limit w packets_kept start.none);
+    }

@@ -1,22 +1,23 @@
 -- Packets with their timestamps, one by one.
-use Rattle.std.proofs.Common.{◌≡◌, ℕ, ◌+◌, ◌<◌, ◌≤◌, Bool, false, List, [], ◌∷◌, ◌++◌, length, take, get_or, slice_index_or, None, Result, refl, sym, ap, ◌∙◌, subst}
+use Rattle.std.proofs.Common.{◌≡◌, ℕ, ◌+◌, ◌<◌, ◌≤◌, Bool, true, false, List, [], ◌∷◌, ◌++◌, length, take, get_or, slice_index_or, None, Result, refl, sym, ap, ◌∙◌, subst}
 use Rattle.std.proofs.lemmas.List.{take_all}
 use Rattle.std.proofs.lemmas.Grind.{take_at_read}
 use Rattle.h26x_core.specs.declared.error.PacketError.{PacketError}
 use Rattle.h26x_model.specs.Payload.Facts.{IsPayloadFormat}
 use Rattle.h26x_receiver.specs.declared.received.Received.{Received}
-use Rattle.h26x_receiver.specs.Delivery.{NoneIsRefused, mask_of_places}
-use Rattle.h26x_receiver.proofs.DeliveryLemmas.{DamagesNothing}
+use Rattle.h26x_receiver.specs.Delivery.{taken_places}
+use Rattle.h26x_receiver.proofs.DeliveryLemmas.{DamagesNothing, GoUp, up_from_first}
 use Rattle.h26x_frames.specs.Rtp.{RtpBody}
-use Rattle.h26x_frames.specs.Reordering.{in_order}
+use Rattle.h26x_frames.specs.Reordering.{in_order, IsReordered}
 use Rattle.h26x_frames.specs.ReorderBuffer.{reordered}
-use Rattle.h26x_frames.specs.AccessUnit.{AccessUnitValue, UnitDepacketization, IsUnitAnswer, given_out, after_rtp, after_all_rtp, HaveUnitAnswers, AreUnitsReceived}
-use Rattle.h26x_frames.specs.StampedCalls.{sent_bodies, units_left, AreApart, AreUnitsWithin, AreAccessUnitsBrought}
+use Rattle.h26x_frames.specs.AccessUnit.{AccessUnitValue, UnitDepacketization, IsNoneOpen, IsUnitAnswer, given_out, after_rtp, after_all_rtp, HaveUnitAnswers, AreUnitsReceived}
+use Rattle.h26x_frames.specs.StampedCalls.{sent_bodies, first_place, units_left, brought_mask, AreUnitsGiven, AreAccessUnitsBrought}
 use Rattle.h26x_frames.proofs.ReorderLemmas.{puts_below}
 use Rattle.h26x_frames.proofs.PlaceShiftLemmas.{put_in_order_all}
-use Rattle.h26x_frames.proofs.NetworkLemmas.{same_in_range}
+use Rattle.h26x_frames.proofs.GapLemmas.{gaps_short}
+use Rattle.h26x_frames.proofs.TakenLemmas.{taken_packets, taken_answers, only_taken, taken_at, taken_below, taken_next}
 use Rattle.h26x_frames.proofs.StreamLemmas.{GoesOn}
-use Rattle.h26x_frames.proofs.OrderedLemmas.{nothing, come_in_order}
+use Rattle.h26x_frames.proofs.OrderedLemmas.{nothing, up_of, come_in_order}
 
 -- one packet more, and its answer
 answers_more : (most limit : ℕ) (s : UnitDepacketization) (packets : List (ℕ × RtpBody)) (answers : List (Result Received PacketError)) (packet : ℕ × RtpBody) (answer : Result Received PacketError) →
@@ -57,19 +58,27 @@ pub units_to_end : (most limit : ℕ) (s : UnitDepacketization) (packets : List 
     length packets ≤ i → AreUnitsReceived most limit s (take i packets) answers new → AreUnitsReceived most limit s packets answers new
 units_to_end most limit s packets i answers new past all = subst (λ (x : List (ℕ × RtpBody)). AreUnitsReceived most limit s x answers new) (take_all i packets past) all
 
+-- the places that came go up from the first one
+pub up_first : (window : ℕ) (known : Bool) (places : List ℕ) → window ≤ 16384 → IsReordered window places → GoUp (first_place known) (in_order places)
+up_first window true places half near = up_from_first None (in_order places) (up_of None (in_order places) (gaps_short window places half near))
+up_first window false places half near = up_of None (in_order places) (gaps_short window places half near)
+
 -- what a network brought of calls
 pub units_brought_by : (window most limit : ℕ) (w : UnitDepacketization) (packets : List (ℕ × RtpBody)) (answers : List (Result Received PacketError)) (new : UnitDepacketization) → DamagesNothing → GoesOn →
-    0 < window → window ≤ 16384 → IsPayloadFormat w.state.format → w.is_gap ≡ false → w.unit ≡ None → AreUnitsReceived most limit w (reordered window packets) answers new → NoneIsRefused answers →
-    AreAccessUnitsBrought window most limit w packets (new.ended ++ given_out false new.unit)
-units_brought_by window most limit w packets answers new law on_law some half ok clear none_open all none = λ s calls first known places same expected it apart within.
+    0 < window → window ≤ 16384 → IsPayloadFormat w.state.format → IsNoneOpen w.unit w.is_gap → AreUnitsReceived most limit w (reordered window packets) answers new →
+    AreAccessUnitsBrought window most limit w packets answers (new.ended ++ given_out false new.unit)
+units_brought_by window most limit w packets answers new law on_law some half ok start all = λ s calls first known places same expected it near apart.
     let sent = sent_bodies s calls in
-    let masks : mask_of_places (in_order places) (length sent) ≡ mask_of_places places (length sent) = same_in_range places 0 (length sent) in
-    let left : List Bool → List AccessUnitValue = λ mask. units_left most s w.state.is_avc known w.closed calls mask in
-    let ordered = come_in_order most limit w (reordered window packets) answers law on_law ok clear none_open all.each none s calls first known (in_order places) same expected (record {
+    let ordered = in_order places in
+    let given = reordered window packets in
+    let only = only_taken most limit w given answers all.each in
+    let came = come_in_order most limit w (taken_packets given answers) (taken_answers answers) law on_law ok start only.each only.none s calls first known (taken_places ordered answers) same expected (record {
       streamed = it.streamed;
-      each = put_in_order_all window packets some half (λ place. slice_index_or sent place nothing) first places it.each it.near;
-      sent = puts_below (length sent) places [] it.sent tt;
-      order = it.gaps;
-    }) (subst (AreApart None s calls) (sym masks) apart)
-    (subst (λ (mask : List Bool). AreUnitsWithin limit (left mask)) (sym masks) within) in
-    ap (λ (x : UnitDepacketization). x.ended ++ given_out false x.unit) all.stands ∙ ordered ∙ ap (λ (mask : List Bool). w.ended ++ left mask) masks
+      each = ap (λ (l : List (ℕ × RtpBody)). taken_packets l answers) (put_in_order_all window packets some half (λ place. slice_index_or sent place nothing) first places it.each it.near)
+          ∙ taken_at sent first ordered answers;
+      sent = taken_below (length sent) ordered answers (puts_below (length sent) places [] it.sent tt);
+      order = taken_next (first_place known) ordered answers (up_first window known places half it.near) near;
+    }) apart in
+    let given_of : UnitDepacketization → List AccessUnitValue = λ x. x.ended ++ given_out false x.unit in
+    subst (λ (units : List AccessUnitValue). AreUnitsGiven limit w.ended units (units_left most s w.state.is_avc known w.closed calls (brought_mask s calls places answers)))
+    (ap given_of only.same ∙ ap given_of (sym all.stands)) came

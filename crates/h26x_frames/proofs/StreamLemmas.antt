@@ -21,11 +21,12 @@ use Rattle.h26x_frames.specs.Rtp.{RtpBody}
 use Rattle.h26x_frames.specs.AccessUnit.{AccessUnitValue, UnitDepacketization, is_unit_at, is_closed_at, given_out}
 use Rattle.h26x_frames.specs.StampedCalls.{StampedCall, calls_of, call_packets, after_call, unit_bodies, sent_bodies, are_runs_within, unit_left, last_came, closed_after, open_after, units_left, IsOtherStamp, AreApart, AreStreamed}
 use Rattle.h26x_frames.proofs.TakeLemmas.{at_gap}
-use Rattle.h26x_frames.proofs.UnitLemmas.{after_all_taken, taken_append, kept_from, expected_after, AreGapsShort, same_place, not_place, behind_next, on_next, are_used, IsLeftOpen, left_more, grown, begun, IsLeft, begins}
+use Rattle.h26x_frames.proofs.UnitLemmas.{after_all_taken, taken_append, kept_from, expected_after, AreGapsShort, same_place, not_place, behind_next, on_next, IsLeftOpen, left_more, grown, begun, IsLeft, begins}
+use Rattle.h26x_frames.specs.AnyUnits.{are_used}
 use Rattle.h26x_frames.proofs.UsedLemmas.{calls_used}
 
 -- the packets kept of some, and of others behind them
-kept_append : (first p q : ℕ) (mask : List Bool) (a b : List RtpBody) → q ≡ p + length a → length a ≤ length mask →
+pub kept_append : (first p q : ℕ) (mask : List Bool) (a b : List RtpBody) → q ≡ p + length a → length a ≤ length mask →
     kept_from first p mask (a ++ b) ≡ kept_from first p (take (length a) mask) a ++ kept_from first q (drop (length a) mask) b
 kept_append first p q mask [] b is long = ap (λ (k : ℕ). kept_from first k mask b) (let e : p ≡ q = omega arith in e)
 kept_append first p q [] (x ∷ a) b is long = absurd (omega arith)
@@ -33,7 +34,7 @@ kept_append first p q (false ∷ mask) (x ∷ a) b is long = kept_append first (
 kept_append first p q (true ∷ mask) (x ∷ a) b is long = ap (λ (l : List (ℕ × RtpBody)). (number_at first p, x) ∷ l) (kept_append first (p + 1) q mask a b (omega arith) (omega arith))
 
 -- none is kept
-none_kept : (first p : ℕ) (e : Option ℕ) (mask : List Bool) (bodies : List RtpBody) → list_any (λ came. came) mask ≡ false →
+pub none_kept : (first p : ℕ) (e : Option ℕ) (mask : List Bool) (bodies : List RtpBody) → list_any (λ came. came) mask ≡ false →
     (kept_from first p mask bodies ≡ []) × (expected_after e p mask ≡ e)
 none_kept first p e [] bodies none = (refl, refl)
 none_kept first p e (true ∷ mask) bodies none = absurd (let bad = none in cc)
@@ -41,13 +42,13 @@ none_kept first p e (false ∷ mask) [] none = (refl, (none_kept first (p + 1) e
 none_kept first p e (false ∷ mask) (x ∷ bodies) none = none_kept first (p + 1) e mask bodies none
 
 -- gaps of a mask are those of its parts
-gaps_front : (n : ℕ) (e : Option ℕ) (p : ℕ) (mask : List Bool) → AreGapsShort e p mask → AreGapsShort e p (take n mask)
+pub gaps_front : (n : ℕ) (e : Option ℕ) (p : ℕ) (mask : List Bool) → AreGapsShort e p mask → AreGapsShort e p (take n mask)
 gaps_front zero e p mask gaps = tt
 gaps_front (suc n) e p [] gaps = tt
 gaps_front (suc n) e p (true ∷ mask) gaps = (gaps.0, gaps_front n (Some (p + 1)) (p + 1) mask gaps.1)
 gaps_front (suc n) e p (false ∷ mask) gaps = gaps_front n e (p + 1) mask gaps
 
-gaps_rest : (n : ℕ) (e : Option ℕ) (p q : ℕ) (mask : List Bool) → q ≡ p + n → n ≤ length mask → AreGapsShort e p mask →
+pub gaps_rest : (n : ℕ) (e : Option ℕ) (p q : ℕ) (mask : List Bool) → q ≡ p + n → n ≤ length mask → AreGapsShort e p mask →
     AreGapsShort (expected_after e p (take n mask)) q (drop n mask)
 gaps_rest zero e p q mask is long gaps = subst (λ (k : ℕ). AreGapsShort e k mask) (let h : p ≡ q = omega arith in h) gaps
 gaps_rest (suc n) e p q [] is long gaps = absurd (omega arith)
@@ -55,7 +56,7 @@ gaps_rest (suc n) e p q (true ∷ mask) is long gaps = gaps_rest n (Some (p + 1)
 gaps_rest (suc n) e p q (false ∷ mask) is long gaps = gaps_rest n e (p + 1) q mask (omega arith) (omega arith) gaps
 
 -- whether the next place is the one expected
-on_after : (e : Option ℕ) (p q : ℕ) (mask : List Bool) → q ≡ p + length mask → IsOn e p →
+pub on_after : (e : Option ℕ) (p q : ℕ) (mask : List Bool) → q ≡ p + length mask → IsOn e p →
     IsOn (expected_after e p mask) q × (is_place (expected_after e p mask) q ≡ last_came (is_place e p) mask)
 on_after e p q [] is on = let h : p ≡ q = omega arith in (subst (IsOn e) h on, ap (is_place e) (sym h))
 on_after e p q (true ∷ mask) is on =
@@ -71,19 +72,19 @@ bodies_long t [] = refl
 bodies_long t (x ∷ packets) = let rest = bodies_long t packets in omega (arith, rest)
 
 -- what is open is another one than the next
-other_unit : (stamp : Option ℕ) (unit : Option AccessUnitValue) (e : Option ℕ) (p t : ℕ) → IsLeftOpen stamp unit e p → IsOtherStamp stamp t → is_unit_at unit t ≡ false
+pub other_unit : (stamp : Option ℕ) (unit : Option AccessUnitValue) (e : Option ℕ) (p t : ℕ) → IsLeftOpen stamp unit e p → IsOtherStamp stamp t → is_unit_at unit t ≡ false
 other_unit stamp None e p t left other = refl
 other_unit stamp (Some v) e p t left other = let apart = subst (λ (o : Option ℕ). IsOtherStamp o t) left.0 other in grind (arith, nat_tests, apart)
 
 -- a receiver after a call, whether or not anything of it came
-record IsCallOver (first : ℕ) (e : Option ℕ) (q : ℕ) (stamp closed : Option ℕ) (f : Format) (avc : Bool) (old : UnitDepacketization) (units : List AccessUnitValue) (new : UnitDepacketization) : Type 0 where
-  all : new.ended ++ given_out false new.unit ≡ (old.ended ++ given_out false old.unit) ++ units
-  expected : new.expected ≡ expected_at first e
-  gap : new.is_gap ≡ false
-  closed_is : new.closed ≡ closed
-  left : IsLeftOpen stamp new.unit e q
-  format : new.state.format ≡ f
-  avc_is : new.state.is_avc ≡ avc
+pub record IsCallOver (first : ℕ) (e : Option ℕ) (q : ℕ) (stamp closed : Option ℕ) (f : Format) (avc : Bool) (old : UnitDepacketization) (units : List AccessUnitValue) (new : UnitDepacketization) : Type 0 where
+  pub all : new.ended ++ given_out false new.unit ≡ (old.ended ++ given_out false old.unit) ++ units
+  pub expected : new.expected ≡ expected_at first e
+  pub gap : new.is_gap ≡ false
+  pub closed_is : new.closed ≡ closed
+  pub left : IsLeftOpen stamp new.unit e q
+  pub format : new.state.format ≡ f
+  pub avc_is : new.state.is_avc ≡ avc
 
 and_true : (a b : Bool) → b ≡ true → (a && b) ≡ a
 and_true true b is = is

@@ -18,6 +18,7 @@ use Rattle.h26x_receiver.proofs.PlaceLemmas.{number_at, expected_at, is_place, I
 use Rattle.h26x_frames.specs.Rtp.{RtpBody, rtp_body}
 use Rattle.h26x_frames.specs.AccessUnit.{AccessUnitValue, whole_if, UnitDepacketization, unit_depacketization, is_unit_at, is_closed_at, is_run_closed, is_dropped, given_out, after_taken_rtp}
 use Rattle.h26x_frames.specs.StampedCalls.{has_none, unit_bodies, are_runs_within, last_came}
+use Rattle.h26x_frames.specs.AnyUnits.{is_some_unit, is_unused, are_used}
 use Rattle.h26x_frames.proofs.TakeLemmas.{at_gap}
 
 -- what stands after packets that are taken
@@ -143,20 +144,6 @@ step_first most t closed state (Some u) true true ended expected number marker x
 step_first most t closed state (Some u) true false ended expected number marker x at is other = rw (other, at, is) refl
 step_first most t closed state (Some u) false true ended expected number marker x at is other = rw (other, at, is) refl
 step_first most t closed state (Some u) false false ended expected number marker x at is other = rw (other, at, is) refl
-
--- whether some unit is among these
-abbrev pub is_some_unit : List (List ℕ) → Bool
-is_some_unit [] = false
-is_some_unit (u ∷ units) = true
-
--- whether no byte stands of a packet
-abbrev pub is_unused : Format → Option (List ℕ) → List ℕ → Bool
-is_unused f run x = cond (is_some_unit (reading_units run (f.read x))) false (is_run_closed (run_after run (f.read x)))
-
--- whether bytes stand of each packet, and no run is open behind them
-abbrev pub are_used : Format → Option (List ℕ) → List (List ℕ) → Bool
-are_used f run [] = is_run_closed run
-are_used f run (x ∷ packets) = cond (is_unused f run x) false (are_used f (run_after run (f.read x)) packets)
 
 -- what is left of an access unit, of which this much stands
 abbrev pub grown : ℕ → ℕ → Bool → Bool → Depacketization → List Bool → List (List ℕ) → AccessUnitValue

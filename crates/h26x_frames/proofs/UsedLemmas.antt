@@ -14,7 +14,7 @@ use Rattle.h26x_model.specs.Send.Packets.{single_packet, fragment, fragments, fr
 use Rattle.h26x_model.proofs.ReadBackLemmas.{later_read, first_read, Bounds, bounds, place_below}
 use Rattle.h26x_model.proofs.SenderLemmas.{sender_plans}
 use Rattle.h26x_model.proofs.SentLemmas.{entries_of_calls}
-use Rattle.h26x_frames.proofs.UnitLemmas.{are_used}
+use Rattle.h26x_frames.specs.AnyUnits.{are_used}
 
 -- a run with bytes is not closed
 some_open : (r more : List ℕ) → 0 < length r → (length (r ++ more) == 0) ≡ false

@@ -1,6 +1,6 @@
 -- Access units of packets with their timestamps and markers (RFC 3550, 5.1; RFC 6184, 5.1; RFC 7798,
 -- 4.1; RFC 9328, 4.1; ours).
-use Rattle.std.specs.Prelude.{◌≡◌, ℕ, ◌==◌, nat_lt, Bool, true, false, ◌&&◌, if◌then◌else◌, List, [], ◌∷◌, ◌++◌, length, Option, Some, None, Result, Ok, Err, ◌⊎◌}
+use Rattle.std.specs.Prelude.{◌≡◌, ℕ, ◌==◌, nat_lt, Bool, true, false, ◌&&◌, if◌then◌else◌, List, [], ◌∷◌, ◌++◌, length, map, Option, Some, None, Result, Ok, Err, ◌⊎◌}
 use Rattle.std.specs.Option.{option_map}
 use Rattle.h26x_core.specs.declared.extra.CodecExtra.{CodecExtra}
 use Rattle.h26x_core.specs.declared.extra.CodecExtra.TheVariants as extras
@@ -9,10 +9,11 @@ use Rattle.h26x_core.specs.declared.error.PacketError.TheVariants.{OutOfMemory}
 use Rattle.h26x_model.specs.Receive.DepacketizerState.{DepacketizerState, Depacketization}
 use Rattle.h26x_model.specs.Receive.RunLimit.{run_len, state_with_run}
 use Rattle.h26x_receiver.specs.declared.received.Received.{Received}
+use Rattle.h26x_receiver.specs.declared.sequenced.SequencedDepacketizer.{SequencedDepacketizer}
 use Rattle.h26x_receiver.specs.declared.received.Received.TheVariants.{TooLong, Late}
 use Rattle.h26x_receiver.specs.Sequence.{is_expected}
 use Rattle.h26x_receiver.specs.Sequenced.{SequencedDepacketization, sequenced_depacketization, after_sequenced_packet, after_taken_packet, IsSequencedAnswer, expected_after_skip, is_run_kept}
-use Rattle.h26x_frames.specs.Rtp.{RtpBody}
+use Rattle.h26x_frames.specs.Rtp.{RtpBody, rtp_body}
 use Rattle.h26x_frames.specs.declared.access_unit.AccessUnit.{AccessUnit}
 use Rattle.h26x_frames.specs.declared.access_unit.OpenUnit.{OpenUnit}
 
@@ -65,6 +66,10 @@ open_unit_view (Some unit) left is_gap closed = record {
   is_gap = is_gap;
   closed = closed;
 }
+
+-- one that is open, with the run in its text
+abbrev pub one_open : OpenUnit → Bool → Option ℕ → OpenUnitView
+one_open unit is_gap closed = open_unit_view (Some unit) None is_gap closed
 
 -- neither is open
 abbrev pub none_open : OpenUnitView
@@ -127,6 +132,12 @@ open_depacketization state expected it ended = record {
   unit = it.unit;
   ended = ended;
 }
+
+-- a receiver of packets with this open, and those that ended, by what its depacketizer is
+abbrev pub units_at : {D : Type 0} → (D → DepacketizerState) → SequencedDepacketizer D →
+    OpenUnitView → List AccessUnit → UnitDepacketization
+units_at state packets it ended = open_depacketization (state packets.depacketizer) packets.expected
+    it (map access_unit_value ended)
 
 -- before any packet came
 abbrev pub fresh_units : DepacketizerState → UnitDepacketization
@@ -232,11 +243,24 @@ abbrev pub given_out : Bool → Option AccessUnitValue → List AccessUnitValue
 given_out holds None = []
 given_out holds (Some unit) = whole_if holds unit ∷ []
 
+-- No access unit is open, and no packets are missing before numbers skipped.
+pub record IsNoneOpen (unit : Option AccessUnitValue) (is_gap : Bool) : Type 0 where
+  pub none : unit ≡ None
+  pub clear : is_gap ≡ false
+
+-- those that ended, with what is open at the end
+abbrev pub with_open_unit : List AccessUnit → OpenUnitView → List AccessUnitValue
+with_open_unit ended it = map access_unit_value ended ++ given_out false it.unit
+
 -- What a packet ends by its timestamp, if that is another one. The access unit is known to be whole
 -- only if the packet follows it, and no run is open.
 abbrev pub ended_by : UnitDepacketization → ℕ × RtpBody → List AccessUnitValue
 ended_by s p = if is_unit_at s.unit p.1.timestamp then []
     else given_out (follows s p && is_run_closed s.state.run) s.unit
+
+-- a packet without its marker
+abbrev pub without_marker : ℕ × RtpBody → ℕ × RtpBody
+without_marker p = (p.0, rtp_body p.1.timestamp false p.1.payload)
 
 -- What stands after a packet that was taken, before the access unit that is open is measured: another
 -- timestamp ends the one that was, and the marker ends the packet's own, which is known to be whole

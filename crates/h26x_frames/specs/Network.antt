@@ -10,14 +10,13 @@ use Rattle.h26x_model.specs.Receive.DepacketizerState.{Depacketization}
 use Rattle.h26x_codec.specs.Runs.{AreWritten}
 use Rattle.h26x_receiver.specs.declared.received.Received.{Received}
 use Rattle.h26x_receiver.specs.Sequenced.{with_expected, after_answers, HaveSequencedAnswers}
-use Rattle.h26x_receiver.specs.Delivery.{packet_of_place, mask_of_places, AreNextPlaces, NoneIsRefused}
-use Rattle.h26x_frames.specs.Reordering.{in_order, IsReordered}
+use Rattle.h26x_receiver.specs.Delivery.{packet_of_place, mask_of_places, NoneIsRefused}
+use Rattle.h26x_frames.specs.Reordering.{IsReordered}
 use Rattle.h26x_frames.specs.ReorderBuffer.{reordered}
 
 -- The places, in the order in which they come, of the packets that a network brings of those that
 -- calls send: any of them may be lost, come twice, or before others that were sent earlier, but less
--- than a window apart; gaps are shorter than half of the numbers' circle. Packets can carry the
--- units.
+-- than a window apart. Packets can carry the units.
 pub record IsNetwork (window : ℕ) (s : PacketizerState) (calls : List Call)
     (places : List ℕ) : Type 0 where
   pub sender : IsPacketizerState s
@@ -26,7 +25,6 @@ pub record IsNetwork (window : ℕ) (s : PacketizerState) (calls : List Call)
   pub sent : AllByRecursion
       (λ place. place < length (state_packets s (all_entries s.format calls))) places
   pub near : IsReordered window places
-  pub gaps : AreNextPlaces None (in_order places)
 
 -- what a buffer gives out of the packets that come
 abbrev pub released_packets : ℕ → PacketizerState → List Call → ℕ → List ℕ → List (ℕ × List ℕ)

@@ -1,6 +1,6 @@
 -- Calls that each send an access unit, with its timestamp (RFC 6184, 5.1; RFC 7798, 4.1; RFC 9328,
 -- 4.1), and what is left of these where packets are missing (ours).
-use Rattle.std.specs.Prelude.{◌≡◌, ℕ, ◌+◌, ◌%◌, ◌^◌, ◌<◌, ◌≤◌, nat_lt, Bool, true, false, ◌&&◌, if◌then◌else◌, List, [], ◌∷◌, ◌++◌, length, map, take, drop, Option, Some, None, Result, slice_index_or}
+use Rattle.std.specs.Prelude.{◌≡◌, ℕ, ◌+◌, ◌%◌, ◌^◌, ◌<◌, ◌≤◌, nat_lt, Bool, true, false, ◌&&◌, if◌then◌else◌, List, [], ◌∷◌, ◌++◌, length, map, take, drop, Option, Some, None, Result, slice_index_or, ◌⊎◌}
 use Rattle.std.specs.Option.{option_map}
 use Rattle.std.specs.List.{AllByRecursion, Contains, list_any, list_all}
 use Rattle.h26x_core.specs.declared.extra.CodecExtra.TheVariants as extras
@@ -8,17 +8,18 @@ use Rattle.h26x_core.specs.declared.error.PacketError.{PacketError}
 use Rattle.h26x_core.specs.ByteStream.{byte_stream}
 use Rattle.h26x_model.specs.Payload.Format.{Format}
 use Rattle.h26x_model.specs.Payload.Extra.{extra_after}
-use Rattle.h26x_model.specs.Payload.Facts.{AreCarried}
+use Rattle.h26x_model.specs.Payload.Facts.{AreCarried, IsPayloadFormat}
 use Rattle.h26x_model.specs.Send.Calls.{Call, AreCalls, all_entries}
 use Rattle.h26x_model.specs.Send.PacketizerState.{PacketizerState, IsPacketizerState, state_units, state_packets, after_entries}
 use Rattle.h26x_model.specs.Receive.Received.{run_after}
 use Rattle.h26x_model.specs.Receive.RunLimit.{run_len}
 use Rattle.h26x_model.specs.Carry.Gaps.{whole_units}
 use Rattle.h26x_receiver.specs.declared.received.Received.{Received}
-use Rattle.h26x_receiver.specs.Delivery.{AreNextPlaces, mask_of_places, IsWantOrTooLong}
+use Rattle.h26x_receiver.specs.Delivery.{AreNextPlaces, AreNearPlaces, taken_places, mask_of_places, NoneIsRefused, IsWantOrTooLong}
 use Rattle.h26x_frames.specs.Reordering.{in_order, IsReordered}
 use Rattle.h26x_frames.specs.Rtp.{RtpBody, rtp_body}
-use Rattle.h26x_frames.specs.AccessUnit.{AccessUnitValue, UnitDepacketization, is_closed_at}
+use Rattle.h26x_frames.specs.AccessUnit.{AccessUnitValue, UnitDepacketization, IsNoneOpen, is_closed_at, after_all_rtp, after_end, HaveUnitAnswers}
+use Rattle.h26x_frames.specs.ReorderBuffer.{reordered}
 
 -- a call, and the timestamp of the access unit that it sends
 pub record StampedCall : Type 0 where
@@ -136,6 +137,26 @@ AreApart stamp s (c ∷ calls) mask =
 abbrev pub AreUnitsWithin : ℕ → List AccessUnitValue → Type 0
 AreUnitsWithin limit units = AllByRecursion (λ unit. length unit.bytes ≤ limit) units
 
+-- An access unit as it is given out, by what would be without a limit: that, or where it holds more
+-- than the limit perhaps one whose text was given up, and which is told not to be whole.
+abbrev pub IsGivenOut : ℕ → AccessUnitValue → AccessUnitValue → Type 0
+IsGivenOut limit given left = (given ≡ left)
+    ⊎ ((limit < length left.bytes) × (given.timestamp ≡ left.timestamp)
+    × (given.is_whole ≡ false))
+
+-- so of each of several, in order
+abbrev pub AreGivenOut : ℕ → List AccessUnitValue → List AccessUnitValue → Type 0
+AreGivenOut limit [] [] = Unit {0}
+AreGivenOut limit (given ∷ others) (left ∷ units) = IsGivenOut limit given left
+    × AreGivenOut limit others units
+AreGivenOut limit given units = ⊥
+
+-- Behind those that ended before, these are given out of what would be without a limit.
+pub record AreUnitsGiven (limit : ℕ) (before units left : List AccessUnitValue) : Type 0 where
+  pub given : List AccessUnitValue
+  pub behind : units ≡ before ++ given
+  pub each : AreGivenOut limit given left
+
 -- Calls whose units packets can carry.
 pub record AreStreamed (s : PacketizerState) (calls : List StampedCall) : Type 0 where
   pub sender : IsPacketizerState s
@@ -173,6 +194,14 @@ IsLeftWhole most s avc c mask = length mask ≡ length (call_packets s c.call) �
 abbrev pub IsSentIfWhole : List AccessUnitValue → AccessUnitValue → Type 0
 IsSentIfWhole sent unit = unit.is_whole ≡ true → Contains sent unit
 
+-- What packets leave of calls is one of those sent, where it is told to be whole: a mask says which
+-- packets came.
+abbrev pub WholeOnesAreSent : ℕ → PacketizerState → Bool → List StampedCall → Type 0
+WholeOnesAreSent most s avc calls = (before : Bool) (closed : Option ℕ) (mask : List Bool) →
+    length mask ≡ length (sent_bodies s calls) →
+    AllByRecursion (IsSentIfWhole (sent_units s avc calls))
+    (units_left most s avc before closed calls mask)
+
 -- the place that is expected at first, where the number of the first packet sent is known
 abbrev pub first_place : Bool → Option ℕ
 first_place known = if known then Some 0 else None
@@ -187,7 +216,7 @@ pub record IsStream (s : PacketizerState) (calls : List StampedCall) (first : �
   pub order : AreNextPlaces (first_place known) places
 
 -- Of whatever calls the packets are a stream, these access units are those that the packets leave of
--- the calls, in order. Those of one timestamp are told apart, and none holds more than the limit.
+-- the calls, in order, where those of one timestamp are told apart.
 abbrev pub AreAccessUnitsLeft : ℕ → ℕ → UnitDepacketization → List (ℕ × RtpBody) →
     List AccessUnitValue → Type 0
 AreAccessUnitsLeft most limit w packets units = (s : PacketizerState) (calls : List StampedCall)
@@ -195,37 +224,57 @@ AreAccessUnitsLeft most limit w packets units = (s : PacketizerState) (calls : L
     w.expected ≡ option_map (λ place. (first + place) % 2 ^ 16) (first_place known) →
     IsStream s calls first known places packets →
     AreApart None s calls (mask_of_places places (length (sent_bodies s calls))) →
-    AreUnitsWithin limit (units_left most s w.state.is_avc known w.closed calls
-    (mask_of_places places (length (sent_bodies s calls)))) →
-    units ≡ w.ended ++ units_left most s w.state.is_avc known w.closed calls
-    (mask_of_places places (length (sent_bodies s calls)))
+    AreUnitsGiven limit w.ended units (units_left most s w.state.is_avc known w.closed calls
+    (mask_of_places places (length (sent_bodies s calls))))
+
+-- What a receiver gives out of packets in order, where none is refused, is what they leave of calls.
+abbrev pub GivesOutThoseLeft : ℕ → ℕ → UnitDepacketization → Type 0
+GivesOutThoseLeft most limit w = IsPayloadFormat w.state.format → IsNoneOpen w.unit w.is_gap →
+    (packets : List (ℕ × RtpBody)) (answers : List (Result Received PacketError)) →
+    HaveUnitAnswers most limit w packets answers → NoneIsRefused answers →
+    AreAccessUnitsLeft most limit w packets
+    (after_end (after_all_rtp most limit w packets answers)).ended
 
 -- The packets that a network brings of those that calls send, in the order in which they come: any of
 -- them may be lost, come twice, or before others that were sent earlier, but less than a window
--- apart; gaps are shorter than half of the numbers' circle.
+-- apart.
 pub record IsBroughtStream (window : ℕ) (s : PacketizerState) (calls : List StampedCall)
     (first : ℕ) (known : Bool) (places : List ℕ) (packets : List (ℕ × RtpBody)) : Type 0 where
   pub streamed : AreStreamed s calls
   pub each : packets ≡ map (body_of_place (sent_bodies s calls) first) places
   pub sent : AllByRecursion (λ place. place < length (sent_bodies s calls)) places
   pub near : IsReordered window places
-  pub gaps : AreNextPlaces (first_place known) (in_order places)
+
+-- which of the packets that calls send were taken, where a buffer put in order those that came
+abbrev pub brought_mask : PacketizerState → List StampedCall → List ℕ →
+    List (Result Received PacketError) → List Bool
+brought_mask s calls places answers = mask_of_places (taken_places (in_order places) answers)
+    (length (sent_bodies s calls))
 
 -- Of whatever calls a network brought the packets, these access units are those that the packets
--- leave of the calls, in order. Those of one timestamp are told apart, and none holds more than the
--- limit.
+-- that were taken leave of the calls, in order: each of these is less than half of the numbers' circle
+-- behind the one before. Those of one timestamp are told apart.
 abbrev pub AreAccessUnitsBrought : ℕ → ℕ → ℕ → UnitDepacketization → List (ℕ × RtpBody) →
-    List AccessUnitValue → Type 0
-AreAccessUnitsBrought window most limit w packets units = (s : PacketizerState)
+    List (Result Received PacketError) → List AccessUnitValue → Type 0
+AreAccessUnitsBrought window most limit w packets answers units = (s : PacketizerState)
     (calls : List StampedCall) (first : ℕ) (known : Bool) (places : List ℕ) →
     w.state.format ≡ s.format →
     w.expected ≡ option_map (λ place. (first + place) % 2 ^ 16) (first_place known) →
     IsBroughtStream window s calls first known places packets →
-    AreApart None s calls (mask_of_places places (length (sent_bodies s calls))) →
-    AreUnitsWithin limit (units_left most s w.state.is_avc known w.closed calls
-    (mask_of_places places (length (sent_bodies s calls)))) →
-    units ≡ w.ended ++ units_left most s w.state.is_avc known w.closed calls
-    (mask_of_places places (length (sent_bodies s calls)))
+    AreNearPlaces (first_place known) (in_order places) answers →
+    AreApart None s calls (brought_mask s calls places answers) →
+    AreUnitsGiven limit w.ended units (units_left most s w.state.is_avc known w.closed calls
+    (brought_mask s calls places answers))
+
+-- What a receiver gives out of packets that a network brings, behind a buffer, is what those that were
+-- taken leave of calls.
+abbrev pub GivesOutThoseBrought : ℕ → ℕ → ℕ → UnitDepacketization → Type 0
+GivesOutThoseBrought window most limit w = IsPayloadFormat w.state.format →
+    IsNoneOpen w.unit w.is_gap → (packets : List (ℕ × RtpBody))
+    (answers : List (Result Received PacketError)) →
+    HaveUnitAnswers most limit w (reordered window packets) answers →
+    AreAccessUnitsBrought window most limit w packets answers
+    (after_end (after_all_rtp most limit w (reordered window packets) answers)).ended
 
 -- Of whatever calls a network brought the packets, none that a buffer gives out is refused for what it
 -- is.

@@ -3,8 +3,7 @@
 ghost use Rattle.std.specs.Prelude.{◌≡◌, ◌+◌, ◌≤◌, ◌==◌, ◌&&◌, ◌++◌, ◌∷◌, [], if◌then◌else◌, true, false, None, Some, MatchBool, map, length, vec_len, vec_capacity, is_some};
 ghost use Rattle.h26x_model.specs.Receive.RunLimit.{run_len};
 ghost use Rattle.h26x_receiver.specs.Sequenced.{is_taken};
-ghost use Rattle.h26x_frames.specs.Rtp.{rtp_body};
-ghost use Rattle.h26x_frames.specs.AccessUnit.{access_unit_value, open_unit_value, open_unit_view, empty_unit, whole_if, none_open, behind_gap, is_following, is_run_closed, unit_len, unit_within, is_unit_at, given_out, open_depacketization, IsTakenAnswer, after_taken_rtp};
+ghost use Rattle.h26x_frames.specs.AccessUnit.{access_unit_value, open_unit_value, open_unit_view, empty_unit, whole_if, one_open, none_open, without_marker, behind_gap, is_following, is_run_closed, unit_len, unit_within, is_unit_at, given_out, IsTakenAnswer, after_taken_rtp, units_at};
 
 use crate::answers::{is_following, is_sound, was_taken};
 use crate::packet::RtpPacket;
@@ -68,16 +67,11 @@ impl OpenUnit {
         may_be_inside: bool,
     ) -> Result<Received, PacketError>
         requires { self.old.timestamp ≡ packet.now.1.timestamp }
-        ensures answer { IsTakenAnswer packets.old.run_limit (open_depacketization
-            (D.state packets.old.depacketizer) packets.old.expected
-            (open_unit_view (Some self.old) None is_gap closed) []) packet.now result }
-        ensures after { is_taken result ≡ true →
-            open_depacketization (D.state packets.new.depacketizer) packets.new.expected
-            (open_unit_view (Some self.new) None false None) []
-            ≡ after_taken_rtp packets.old.run_limit (open_depacketization
-            (D.state packets.old.depacketizer) packets.old.expected
-            (open_unit_view (Some self.old) None is_gap closed) [])
-            (packet.now.0, rtp_body packet.now.1.timestamp false packet.now.1.payload) }
+        ensures answer { IsTakenAnswer packets.old.run_limit (units_at D.state packets.old
+            (one_open self.old is_gap closed) []) packet.now result }
+        ensures after { is_taken result ≡ true → units_at D.state packets.new
+            (one_open self.new false None) [] ≡ after_taken_rtp packets.old.run_limit (units_at
+            D.state packets.old (one_open self.old is_gap closed) []) (without_marker packet.now) }
         ensures rest { is_taken result ≡ true → packets.new.depacketizer
             ≡ D.having_taken packet.now.1.payload packets.old.depacketizer }
         ensures limit { packets.new.run_limit ≡ packets.old.run_limit }
@@ -86,8 +80,7 @@ impl OpenUnit {
         ensures aside { may_be_inside ≡ false → is_taken result ≡ true →
             self.new.text.inside ≡ None }
         ensures kept { MatchBool (is_taken result) (Unit {0}) ((packets.new ≡ packets.old)
-            × (open_unit_view (Some self.new) None is_gap closed
-            ≡ open_unit_view (Some self.old) None is_gap closed)) }
+            × (one_open self.new is_gap closed ≡ one_open self.old is_gap closed)) }
     {
         let follows = is_following(is_gap, closed, packets.expected, packet);
         let len = self.text.len();
@@ -255,13 +248,11 @@ impl OpenAccessUnit {
         packet: &RtpPacket<'_>,
     ) -> Result<Received, PacketError>
         requires { is_unit_at self.old.unit packet.now.1.timestamp ≡ true }
-        ensures answer { IsTakenAnswer packets.old.run_limit (open_depacketization
-            (D.state packets.old.depacketizer) packets.old.expected self.old []) packet.now result }
-        ensures after { is_taken result ≡ true →
-            open_depacketization (D.state packets.new.depacketizer) packets.new.expected
-            self.new [] ≡ after_taken_rtp packets.old.run_limit (open_depacketization
-            (D.state packets.old.depacketizer) packets.old.expected self.old [])
-            (packet.now.0, rtp_body packet.now.1.timestamp false packet.now.1.payload) }
+        ensures answer { IsTakenAnswer packets.old.run_limit
+            (units_at D.state packets.old self.old []) packet.now result }
+        ensures after { is_taken result ≡ true → units_at D.state packets.new self.new []
+            ≡ after_taken_rtp packets.old.run_limit (units_at D.state packets.old self.old [])
+            (without_marker packet.now) }
         ensures rest { is_taken result ≡ true → packets.new.depacketizer
             ≡ D.having_taken packet.now.1.payload packets.old.depacketizer }
         ensures limit { packets.new.run_limit ≡ packets.old.run_limit }
@@ -293,15 +284,11 @@ impl OpenAccessUnit {
         requires at { is_unit_at self.old.unit packet.now.1.timestamp ≡ true }
         requires marker { packet.now.1.marker ≡ true }
         requires room { vec_len out.old + 1 ≤ vec_capacity out.old }
-        ensures answer { IsTakenAnswer packets.old.run_limit (open_depacketization
-            (D.state packets.old.depacketizer) packets.old.expected self.old
-            (map access_unit_value out.old.items)) packet.now result }
-        ensures after { is_taken result ≡ true →
-            open_depacketization (D.state packets.new.depacketizer) packets.new.expected
-            self.new (map access_unit_value out.new.items)
-            ≡ after_taken_rtp packets.old.run_limit (open_depacketization
-            (D.state packets.old.depacketizer) packets.old.expected self.old
-            (map access_unit_value out.old.items)) packet.now }
+        ensures answer { IsTakenAnswer packets.old.run_limit (units_at D.state packets.old self.old
+            out.old.items) packet.now result }
+        ensures after { is_taken result ≡ true → units_at D.state packets.new self.new out.new.items
+            ≡ after_taken_rtp packets.old.run_limit (units_at D.state packets.old self.old
+            out.old.items) packet.now }
         ensures rest { is_taken result ≡ true → packets.new.depacketizer
             ≡ D.having_taken packet.now.1.payload packets.old.depacketizer }
         ensures limit { packets.new.run_limit ≡ packets.old.run_limit }

@@ -1,15 +1,20 @@
 //! Worked cases of the definitions, each the contract of a function without a result.
 
 ghost use Rattle.std.specs.Prelude.{◌≡◌, ℕ, List, Bool, true, false, None, Some, [], ◌∷◌, Ok, map};
+ghost use Rattle.h26x_core.specs.declared.extra.CodecExtra.{CodecExtra};
+ghost use Rattle.h26x_core.specs.declared.extra.CodecExtra.TheVariants as extras;
+ghost use Rattle.h26x_model.specs.Payload.Extra.{extra_after};
 ghost use Rattle.h26x_model.specs.Send.Calls.{fresh_call};
 ghost use Rattle.h264_payload.specs.H264.{h264};
 ghost use Rattle.h26x_codec.specs.Codec.{fresh_packetizer_state, fresh_depacketizer_state};
 ghost use Rattle.h26x_frames.specs.Reordering.{empty_buffer, put, in_order, released, AreWithinWindow, IsReordered};
 ghost use Rattle.h26x_frames.specs.ReorderBuffer.{buffer_state, fresh_buffer, push_answer, next_packet, reordered};
+ghost use Rattle.h26x_frames.specs.BufferSteps.{Comes, GoesOut, steps_held, steps_out, AreInTurn};
 ghost use Rattle.h26x_frames.specs.Network.{IsNetwork, released_packets};
 ghost use Rattle.h26x_frames.specs.Rtp.{rtp_body};
-ghost use Rattle.h26x_frames.specs.AccessUnit.{fresh_units, after_all_rtp, after_unit_skip, after_end, HaveUnitAnswers};
-ghost use Rattle.h26x_frames.specs.StampedCalls.{stamped_call, call_packets, sent_bodies, unit_left, units_left, sent_unit, sent_units, packets_len, AreApart, AreUnitsWithin, IsStream, IsBroughtStream};
+ghost use Rattle.h26x_frames.specs.AccessUnit.{AccessUnitValue, empty_unit, unit_depacketization, fresh_units, after_all_rtp, after_unit_skip, after_end, HaveUnitAnswers};
+ghost use Rattle.h26x_frames.specs.AnyUnits.{any_units_left};
+ghost use Rattle.h26x_frames.specs.StampedCalls.{stamped_call, call_packets, sent_bodies, unit_left, units_left, sent_unit, sent_units, packets_len, AreApart, AreUnitsWithin, IsGivenOut, IsStream, IsBroughtStream, IsSentIfWhole, AreAccessUnitsLeft};
 
 use crate::buffer::Pushed;
 use h26x_receiver::Received;
@@ -68,6 +73,22 @@ pub fn answers_of_pushed_packets()
     ensures furthest { push_answer (buffer_state {A = List ℕ} 3 (Some 5) []) 32772 ≡ Pushed.Held }
     ensures half { push_answer (buffer_state {A = List ℕ} 3 (Some 5) []) 32773 ≡ Pushed.Late 32768 }
     ensures first { push_answer (fresh_buffer {A = List ℕ} 3) 40000 ≡ Pushed.Held }
+{}
+
+/// Steps of a buffer with a window of 3: a packet comes, and one behind it that is taken out before it
+/// may go; then the one between comes late, one comes again, and one is held at the end.
+pub fn steps_of_a_buffer()
+    ensures held { map {B = ℕ} (λ p. p.0) (steps_held (fresh_buffer 3)
+        (Comes (65535, rtp_body 0 false []) ∷ Comes (1, rtp_body 0 false []) ∷ GoesOut ∷ GoesOut
+        ∷ Comes (0, rtp_body 0 false []) ∷ Comes (2, rtp_body 0 false [])
+        ∷ Comes (2, rtp_body 0 false []) ∷ [])) ≡ 65535 ∷ 1 ∷ 2 ∷ [] }
+    ensures out { map {B = ℕ} (λ p. p.0) (steps_out (fresh_buffer 3)
+        (Comes (65535, rtp_body 0 false []) ∷ Comes (1, rtp_body 0 false []) ∷ GoesOut ∷ GoesOut
+        ∷ Comes (0, rtp_body 0 false []) ∷ Comes (2, rtp_body 0 false [])
+        ∷ Comes (2, rtp_body 0 false []) ∷ [])) ≡ 65535 ∷ 1 ∷ [] }
+    ensures in_turn { AreInTurn ((65535, rtp_body 0 false []) ∷ (1, rtp_body 0 false [])
+        ∷ (2, rtp_body 0 false []) ∷ []) }
+    ensures far { AreInTurn ((0, rtp_body 0 false []) ∷ (32769, rtp_body 0 false []) ∷ []) → ⊥ }
 {}
 
 /// What may go where 5 is due: 5 itself, and with a window of 3 the first of 6 to 8, but not of 6 to 7.
@@ -242,6 +263,10 @@ pub fn access_units_apart_and_within()
         (stamped_call 3000 (fresh_call 3 (0x61 ∷ 0x05 ∷ [])) ∷ []) (false ∷ []) }
     ensures within { AreUnitsWithin 6 (units_left 4 (fresh_packetizer_state h264) false true None
         (stamped_call 6000 (fresh_call 3 (0x61 ∷ 0x05 ∷ [])) ∷ []) (true ∷ [])) }
+    ensures past { IsGivenOut 5 (record (empty_unit 3000) { is_whole = false })
+        (record (empty_unit 3000) { bytes = 0x00 ∷ 0x00 ∷ 0x00 ∷ 0x01 ∷ 0x61 ∷ 0x05 ∷ [] }) }
+    ensures not_past { IsGivenOut 6 (record (empty_unit 3000) { is_whole = false })
+        (record (empty_unit 3000) { bytes = 0x00 ∷ 0x00 ∷ 0x00 ∷ 0x01 ∷ 0x61 ∷ 0x05 ∷ [] }) → ⊥ }
     ensures longer { AreUnitsWithin 5 (units_left 4 (fresh_packetizer_state h264) false true None
         (stamped_call 6000 (fresh_call 3 (0x61 ∷ 0x05 ∷ [])) ∷ []) (true ∷ [])) → ⊥ }
 {}
@@ -249,6 +274,7 @@ pub fn access_units_apart_and_within()
 /// What two calls send, as access units; and the first of them as it is left where each of its
 /// packets came, which have nine bytes together, as many as the limit on a run.
 pub fn access_units_sent()
+    ensures not_sent { IsSentIfWhole [] (empty_unit 3000) → ⊥ }
     ensures sent { map {B = ℕ × List ℕ × Bool} (λ u. (u.timestamp, u.bytes, u.is_whole))
         (sent_units (fresh_packetizer_state h264) false
         (stamped_call 3000 (fresh_call 3 (0x65 ∷ 0x01 ∷ 0x02 ∷ 0x03 ∷ []))
@@ -327,6 +353,61 @@ pub fn a_stream()
         ∷ (1, rtp_body 3000 true (0x7c ∷ 0x45 ∷ 0x03 ∷ []))
         ∷ (2, rtp_body 6000 true (0x61 ∷ 0x05 ∷ [])) ∷ [])
         (Ok Received.InOrder ∷ Ok (Received.Gap 1) ∷ Ok Received.InOrder ∷ []) }
+{}
+
+/// What is given out of that stream, whatever is said of it, where none is past the limit.
+pub fn a_stream_left()
+    ensures { (units : List AccessUnitValue) → AreAccessUnitsLeft 4 12
+        (unit_depacketization (fresh_depacketizer_state h264) (Some 65535) None [])
+        ((65535, rtp_body 3000 false (0x7c ∷ 0x85 ∷ 0x01 ∷ []))
+        ∷ (1, rtp_body 3000 true (0x7c ∷ 0x45 ∷ 0x03 ∷ []))
+        ∷ (2, rtp_body 6000 true (0x61 ∷ 0x05 ∷ [])) ∷ []) units →
+        map {B = ℕ × Bool} (λ u. (u.timestamp, u.is_whole)) units
+        ≡ (3000, false) ∷ (6000, true) ∷ [] }
+{}
+
+/// At the end no run is open, and any number may be the next.
+pub fn an_end()
+    ensures run { (after_end (after_all_rtp 4 12 (fresh_units (fresh_depacketizer_state h264))
+        ((7, rtp_body 3000 false (0x7c ∷ 0x85 ∷ 0x01 ∷ [])) ∷ [])
+        (Ok Received.InOrder ∷ []))).state.run ≡ None }
+    ensures expected { (after_end (after_all_rtp 4 12 (fresh_units (fresh_depacketizer_state h264))
+        ((7, rtp_body 3000 false (0x7c ∷ 0x85 ∷ 0x01 ∷ [])) ∷ [])
+        (Ok Received.InOrder ∷ []))).expected ≡ None }
+    ensures extra { map {B = CodecExtra} (λ u. u.extra)
+        (after_all_rtp 4 5 (fresh_units (fresh_depacketizer_state h264))
+        ((7, rtp_body 3000 false (0x65 ∷ 0x01 ∷ [])) ∷ (8, rtp_body 3000 true (0x41 ∷ [])) ∷ [])
+        (Ok Received.InOrder ∷ Ok Received.InOrder ∷ [])).ended
+        ≡ extra_after h264 extras.None ((0x41 ∷ []) ∷ []) ∷ [] }
+{}
+
+/// What is left of packets of any sender, which sends another unit between the fragments of one: where
+/// all came both units, and it is whole; where the middle fragment is missing the other unit alone.
+pub fn access_units_of_any_sender()
+    ensures all { map {B = List ℕ × Bool} (λ u. (u.bytes, u.is_whole))
+        (any_units_left 4 h264 false true None ((record {
+          timestamp = 3000;
+          packets = (0x7c ∷ 0x85 ∷ 0x01 ∷ []) ∷ (0x41 ∷ []) ∷ (0x7c ∷ 0x45 ∷ 0x03 ∷ []) ∷ [];
+        }) ∷ [])
+        (true ∷ true ∷ true ∷ []))
+        ≡ (
+          0x00 ∷ 0x00 ∷ 0x00 ∷ 0x01 ∷ 0x41 ∷ 0x00 ∷ 0x00 ∷ 0x00 ∷ 0x01 ∷ 0x65 ∷ 0x01 ∷ 0x03 ∷ [],
+          true,
+        ) ∷ [] }
+    ensures missing { map {B = List ℕ × Bool} (λ u. (u.bytes, u.is_whole))
+        (any_units_left 4 h264 false true None ((record {
+          timestamp = 3000;
+          packets = (0x7c ∷ 0x85 ∷ 0x01 ∷ []) ∷ (0x7c ∷ 0x05 ∷ 0x02 ∷ []) ∷ (0x41 ∷ [])
+              ∷ (0x7c ∷ 0x45 ∷ 0x03 ∷ []) ∷ [];
+        }) ∷ [])
+        (true ∷ false ∷ true ∷ true ∷ []))
+        ≡ (0x00 ∷ 0x00 ∷ 0x00 ∷ 0x01 ∷ 0x41 ∷ [], false) ∷ [] }
+    ensures no_end { map {B = Bool} (λ u. u.is_whole)
+        (any_units_left 4 h264 false true None ((record {
+          timestamp = 3000;
+          packets = (0x41 ∷ []) ∷ (0x7c ∷ 0x85 ∷ 0x01 ∷ []) ∷ [];
+        }) ∷ []) (true ∷ true ∷ []))
+        ≡ false ∷ [] }
 {}
 
 /// What a network brings of the packets of two calls: the last fragment before the middle one, and

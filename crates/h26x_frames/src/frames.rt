@@ -1,12 +1,12 @@
 //! RTP packets, any whatever, through a buffer and a receiver.
 
-ghost use Rattle.std.specs.Prelude.{◌≡◌, ◌<◌, ◌≤◌, ◌^◌, ◌++◌, false, IfOk, OnErr, Err, None, map};
+ghost use Rattle.std.specs.Prelude.{◌≡◌, ◌<◌, ◌≤◌, ◌^◌, IfOk, OnErr, Err, None, map};
 ghost use Rattle.h26x_model.specs.Receive.RunLimit.{run_len};
-ghost use Rattle.h26x_receiver.specs.Delivery.{NoneIsRefused};
 ghost use Rattle.h26x_receiver.specs.Sequenced.{having_taken_all};
 ghost use Rattle.h26x_frames.specs.ReorderBuffer.{reordered};
-ghost use Rattle.h26x_frames.specs.AccessUnit.{access_unit_value, open_depacketization, unit_len, given_out, AreUnitsReceived};
-ghost use Rattle.h26x_frames.specs.StampedCalls.{AreAccessUnitsBrought, NoneBroughtIsRefused};
+ghost use Rattle.h26x_frames.specs.AccessUnit.{unit_len, with_open_unit, AreUnitsReceived};
+ghost use Rattle.h26x_frames.specs.Receiver.{frames_at, BringsAccessUnits, BringsAnyUnits};
+ghost use Rattle.h26x_frames.specs.StampedCalls.{NoneBroughtIsRefused};
 
 use crate::access_unit::AccessUnit;
 use crate::packet::RtpPacket;
@@ -43,27 +43,25 @@ pub fn receive_frames<D: RunDepacketizer>(
     // Any packets whatever: the answer for each that the buffer gave out by what those before it
     // left, and what stands after them.
     ensures received { IfOk result (λ answers. AreUnitsReceived receiver.old.packets.run_limit
-        receiver.old.unit_limit (open_depacketization (D.state receiver.old.packets.depacketizer)
-        receiver.old.packets.expected receiver.old.unit (map access_unit_value out.old.items))
+        receiver.old.unit_limit (frames_at D.state receiver.old out.old.items)
         (reordered window packets.now) answers.items
-        (open_depacketization (D.state receiver.new.packets.depacketizer)
-        receiver.new.packets.expected receiver.new.unit (map access_unit_value out.new.items))) }
+        (frames_at D.state receiver.new out.new.items)) }
 
     // Where they are what a network brings of the packets of calls with timestamps, with losses, in
-    // another order and twice, and none is refused: the access units, with the one that is open, are
-    // what the packets that came leave of the calls, in order.
-    ensures in_order { receiver.old.unit.is_gap ≡ false → receiver.old.unit.unit ≡ None →
-        IfOk result (λ answers. NoneIsRefused answers.items →
-        AreAccessUnitsBrought window receiver.old.packets.run_limit receiver.old.unit_limit
-        (open_depacketization (D.state receiver.old.packets.depacketizer)
-        receiver.old.packets.expected receiver.old.unit (map access_unit_value out.old.items))
-        packets.now (map access_unit_value out.new.items ++ given_out false receiver.new.unit.unit)) }
+    // another order and twice: the access units, with the one that is open, are what the packets that
+    // were taken leave of the calls, in order.
+    ensures in_order { IfOk result (λ answers. BringsAccessUnits D.state receiver.old out.old.items
+        window packets.now answers.items (with_open_unit out.new.items receiver.new.unit)) }
 
-    // None of these is refused for what it is: memory lacks or, in AVC form, a unit is too long.
+    // Whoever sent them, and whatever they are: that part of what all of them would bring of which each
+    // packet was taken, and that a run may hold, in access units whose last packets bear the marker.
+    ensures came { IfOk result (λ answers. BringsAnyUnits D.state receiver.old out.old.items
+        window packets.now answers.items (with_open_unit out.new.items receiver.new.unit)) }
+
+    // None of those of calls is refused for what it is: memory lacks or, in AVC form, a unit is too
+    // long.
     ensures refusals { IfOk result (λ answers. NoneBroughtIsRefused window
-        (open_depacketization (D.state receiver.old.packets.depacketizer)
-        receiver.old.packets.expected receiver.old.unit (map access_unit_value out.old.items))
-        packets.now answers.items) }
+        (frames_at D.state receiver.old out.old.items) packets.now answers.items) }
 
     // What else the packets that were taken change, as what a depacketizer of H.265 shows.
     ensures rest { IfOk result (λ answers. D.with_run None receiver.new.packets.depacketizer
@@ -88,6 +86,7 @@ pub fn receive_frames<D: RunDepacketizer>(
     laws::nothing_is_damaged();
     laws::packetizers_go_on();
     laws::what_calls_send_is_carried();
+    laws::what_came_is_written();
     let ordered = ordered(alloc, window, packets)?;
     let mut answers = Vec::with_capacity(alloc, ordered.len())?;
     for packet in &ordered {

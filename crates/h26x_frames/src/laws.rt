@@ -1,20 +1,23 @@
 //! Laws of the definitions, each the contract of a function without a result.
 
-ghost use Rattle.std.specs.Prelude.{◌≡◌, ◌^◌, ◌<◌, ◌≤◌, ℕ, Bool, false, true, List, [], ◌∷◌, Option, None, Some, Result, length};
+ghost use Rattle.std.specs.Prelude.{◌≡◌, ◌^◌, ◌<◌, ◌≤◌, ℕ, Bool, true, List, [], ◌∷◌, None, Some, Result};
 ghost use Rattle.std.specs.List.{AllByRecursion};
 ghost use Rattle.h26x_core.specs.declared.error.PacketError.{PacketError};
 ghost use Rattle.h26x_model.specs.Payload.Facts.{IsPayloadFormat};
 ghost use Rattle.h26x_model.specs.Send.PacketizerState.{PacketizerState};
 ghost use Rattle.h26x_model.specs.Receive.DepacketizerState.{Depacketization};
 ghost use Rattle.h26x_receiver.specs.declared.received.Received.{Received};
-ghost use Rattle.h26x_receiver.specs.Delivery.{NoneIsRefused};
+ghost use Rattle.h26x_receiver.specs.Delivery.{AreNearPlaces};
+ghost use Rattle.h26x_receiver.specs.Sequenced.{is_taken};
 ghost use Rattle.h26x_receiver.specs.Sequence.{next_sequence_number, is_expected};
 ghost use Rattle.h26x_frames.specs.Rtp.{RtpBody};
-ghost use Rattle.h26x_frames.specs.AccessUnit.{UnitDepacketization, after_all_rtp, after_unit_skip, after_end, HaveUnitAnswers};
-ghost use Rattle.h26x_frames.specs.StampedCalls.{StampedCall, sent_bodies, units_left, sent_units, AreStreamed, AreAccessUnitsLeft, AreAccessUnitsBrought, IsSentIfWhole, IsLeftWhole};
+ghost use Rattle.h26x_frames.specs.AccessUnit.{AccessUnitValue, UnitDepacketization, after_unit_skip};
+ghost use Rattle.h26x_frames.specs.AnyUnits.{GivesOutAnyBrought};
+ghost use Rattle.h26x_frames.specs.StampedCalls.{StampedCall, GivesOutThoseLeft, GivesOutThoseBrought, WholeOnesAreSent, AreGivenOut, AreUnitsWithin, AreStreamed, IsLeftWhole};
 ghost use Rattle.h26x_frames.specs.Network.{UnitsComeThrough};
-ghost use Rattle.h26x_frames.specs.Reordering.{ReordersWithinWindow};
-ghost use Rattle.h26x_frames.specs.ReorderBuffer.{BufferState, next_packet, without_first, IsReadyStep, IsNothingReady, reordered, IsPutInOrder};
+ghost use Rattle.h26x_frames.specs.Reordering.{in_order, IsReordered, ReordersWithinWindow};
+ghost use Rattle.h26x_frames.specs.BufferSteps.{BufferStep, AreNumbered, GivesOutThoseHeld};
+ghost use Rattle.h26x_frames.specs.ReorderBuffer.{BufferState, fresh_buffer, next_packet, without_first, IsReadyStep, IsNothingReady, reordered, IsPutInOrder};
 
 use h26x_model::laws as model_laws;
 use h26x_receiver::laws;
@@ -33,6 +36,14 @@ pub fn numbered_packets_are_put_in_order()
         IsPutInOrder window packets (reordered window packets) }
 {}
 
+/// Whatever comes, however late or often, and whoever calls `pop_first` early: what a buffer gives out,
+/// with what it holds at the end, are exactly the packets that were answered `Held`, each once, in the
+/// order of their numbers.
+pub fn those_held_are_given_out()
+    ensures { (window : ℕ) (steps : List BufferStep) → AreNumbered steps →
+        GivesOutThoseHeld (fresh_buffer window) steps }
+{}
+
 /// What may go of a buffer is what `pop` gives out, one after the other, until it gives out none.
 pub fn packets_go_one_by_one()
     ensures step { (b : BufferState RtpBody) (p : ℕ × RtpBody) → next_packet b ≡ Some p →
@@ -49,16 +60,20 @@ pub fn units_come_through_a_network()
     laws::those_that_came_are_written();
 }
 
+/// Places that a network brings, put in order, are near where all packets are taken: gaps follow from
+/// the jumps, which with the window are at most 2^14.
+pub fn places_that_come_are_near()
+    ensures { (window : ℕ) (places : List ℕ) (answers : List (Result Received PacketError)) →
+        window ≤ 2 ^ 14 → IsReordered window places →
+        AllByRecursion (λ answer. is_taken answer ≡ true) answers →
+        AreNearPlaces None (in_order places) answers }
+{}
+
 /// Of packets of calls with timestamps, numbered on, that come in order, some of them missing: the
 /// access units that a receiver gives out, with what is open at the end, are what those packets leave
 /// of the calls.
 pub fn access_units_are_those_left()
-    ensures { (most limit : ℕ) (w : UnitDepacketization) (packets : List (ℕ × RtpBody))
-        (answers : List (Result Received PacketError)) → IsPayloadFormat w.state.format →
-        w.is_gap ≡ false → w.unit ≡ None →
-        HaveUnitAnswers most limit w packets answers → NoneIsRefused answers →
-        AreAccessUnitsLeft most limit w packets
-        (after_end (after_all_rtp most limit w packets answers)).ended }
+    ensures { (most limit : ℕ) (w : UnitDepacketization) → GivesOutThoseLeft most limit w }
 {
     model_laws::nothing_is_damaged();
     model_laws::packetizers_go_on();
@@ -71,15 +86,17 @@ pub fn skipping_in_order_changes_only_the_number()
         after_unit_skip s number ≡ record s { expected = Some (next_sequence_number number) } }
 {}
 
+/// Access units that are no longer than the limit are given out as they are.
+pub fn access_units_within_the_limit_stay()
+    ensures { (limit : ℕ) (given left : List AccessUnitValue) → AreGivenOut limit given left →
+        AreUnitsWithin limit left → given ≡ left }
+{}
+
 /// What is told to be whole of what packets leave of calls is what was sent: its timestamp, its text
 /// byte for byte, and what is told of it.
 pub fn whole_access_units_are_those_sent()
-    ensures { (most : ℕ) (s : PacketizerState) (avc before : Bool) (closed : Option ℕ)
-        (calls : List StampedCall) (mask : List Bool) → IsPayloadFormat s.format →
-        AreStreamed s calls →
-        length mask ≡ length (sent_bodies s calls) →
-        AllByRecursion (IsSentIfWhole (sent_units s avc calls))
-        (units_left most s avc before closed calls mask) }
+    ensures { (most : ℕ) (s : PacketizerState) (avc : Bool) (calls : List StampedCall) →
+        IsPayloadFormat s.format → AreStreamed s calls → WholeOnesAreSent most s avc calls }
 {
     model_laws::nothing_is_damaged();
     model_laws::packetizers_go_on();
@@ -91,15 +108,21 @@ pub fn whole_access_units_are_those_sent()
 /// receiver gives out, with what is open at the end, are what the packets that came leave of the
 /// calls.
 pub fn access_units_come_through_a_network()
-    ensures { (window most limit : ℕ) (w : UnitDepacketization) (packets : List (ℕ × RtpBody))
-        (answers : List (Result Received PacketError)) → 0 < window → window ≤ 2 ^ 14 →
-        IsPayloadFormat w.state.format → w.is_gap ≡ false → w.unit ≡ None →
-        HaveUnitAnswers most limit w (reordered window packets) answers → NoneIsRefused answers →
-        AreAccessUnitsBrought window most limit w packets
-        (after_end (after_all_rtp most limit w (reordered window packets) answers)).ended }
+    ensures { (window most limit : ℕ) (w : UnitDepacketization) → 0 < window →
+        window ≤ 2 ^ 14 → GivesOutThoseBrought window most limit w }
 {
     model_laws::nothing_is_damaged();
     model_laws::packetizers_go_on();
+}
+
+/// Whoever sent the packets, and whatever they are, of access units the last packet of which bears the
+/// marker: what is given out, with what is open at the end, is that part of what all of them would
+/// bring of which each packet was taken, and that a run may hold.
+pub fn any_access_units_come_through_a_network()
+    ensures { (window most limit : ℕ) (w : UnitDepacketization) → 0 < window →
+        window ≤ 2 ^ 14 → GivesOutAnyBrought window most limit w }
+{
+    model_laws::what_came_is_written();
 }
 
 /// An access unit each packet of which came, and the packet before them, is given out as it was sent

@@ -3,7 +3,9 @@
 ghost use Rattle.std.specs.Prelude.{◌≡◌, ◌+◌, ◌≤◌, ℕ, List, true, false, None, Ok, Err, OnOk, OnErr, map, vec_len, vec_capacity, if◌then◌else◌, MatchBool};
 ghost use Rattle.h26x_model.specs.Receive.RunLimit.{run_len};
 ghost use Rattle.h26x_receiver.specs.Sequenced.{is_taken, skip_answer, is_run_kept};
-ghost use Rattle.h26x_frames.specs.AccessUnit.{access_unit_value, none_open, is_unit_at, AccessUnitValue, open_depacketization, IsTakenAnswer, IsUnitAnswer, after_taken_rtp, after_rtp, after_unit_skip, after_end, unit_len};
+ghost use Rattle.h26x_frames.specs.declared.access_unit.AccessUnit.{AccessUnit};
+ghost use Rattle.h26x_frames.specs.AccessUnit.{none_open, is_unit_at, AccessUnitValue, IsTakenAnswer, IsUnitAnswer, after_taken_rtp, after_rtp, after_unit_skip, after_end, unit_len, units_at};
+ghost use Rattle.h26x_frames.specs.Receiver.{frames_at};
 
 use crate::access_unit::{AccessUnit, OpenAccessUnit, OpenUnit};
 use crate::answers::{is_next, is_sound, was_taken};
@@ -22,17 +24,11 @@ fn go_on<D: RunDepacketizer>(
 ) -> Result<Received, PacketError>
     requires same { is_unit_at place.old.unit packet.now.1.timestamp ≡ true }
     requires room { vec_len out.old + 2 ≤ vec_capacity out.old }
-    ensures answer { IsTakenAnswer packets.old.run_limit (open_depacketization
-        (D.state packets.old.depacketizer) packets.old.expected place.old
-        (map access_unit_value out.old.items))
-        packet.now result }
-    ensures after { is_taken result ≡ true →
-        open_depacketization (D.state packets.new.depacketizer) packets.new.expected
-        place.new (map access_unit_value out.new.items)
-        ≡ after_taken_rtp packets.old.run_limit (open_depacketization
-        (D.state packets.old.depacketizer) packets.old.expected place.old
-        (map access_unit_value out.old.items))
-        packet.now }
+    ensures answer { IsTakenAnswer packets.old.run_limit (units_at D.state packets.old place.old
+        out.old.items) packet.now result }
+    ensures after { is_taken result ≡ true → units_at D.state packets.new place.new out.new.items
+        ≡ after_taken_rtp packets.old.run_limit (units_at D.state packets.old place.old
+        out.old.items) packet.now }
     ensures rest { is_taken result ≡ true → packets.new.depacketizer
         ≡ D.having_taken packet.now.1.payload packets.old.depacketizer }
     ensures limit { packets.new.run_limit ≡ packets.old.run_limit }
@@ -58,17 +54,11 @@ fn begin<D: RunDepacketizer>(
 ) -> Result<Received, PacketError>
     requires other { is_unit_at place.old.unit packet.now.1.timestamp ≡ false }
     requires room { vec_len out.old + 2 ≤ vec_capacity out.old }
-    ensures answer { IsTakenAnswer packets.old.run_limit (open_depacketization
-        (D.state packets.old.depacketizer) packets.old.expected place.old
-        (map access_unit_value out.old.items))
-        packet.now result }
-    ensures after { is_taken result ≡ true →
-        open_depacketization (D.state packets.new.depacketizer) packets.new.expected
-        place.new (map access_unit_value out.new.items)
-        ≡ after_taken_rtp packets.old.run_limit (open_depacketization
-        (D.state packets.old.depacketizer) packets.old.expected place.old
-        (map access_unit_value out.old.items))
-        packet.now }
+    ensures answer { IsTakenAnswer packets.old.run_limit (units_at D.state packets.old place.old
+        out.old.items) packet.now result }
+    ensures after { is_taken result ≡ true → units_at D.state packets.new place.new out.new.items
+        ≡ after_taken_rtp packets.old.run_limit (units_at D.state packets.old place.old
+        out.old.items) packet.now }
     ensures rest { is_taken result ≡ true → packets.new.depacketizer
         ≡ D.having_taken packet.now.1.payload packets.old.depacketizer }
     ensures limit { packets.new.run_limit ≡ packets.old.run_limit }
@@ -107,17 +97,11 @@ fn take<D: RunDepacketizer>(
     out: &mut Vec<AccessUnit>,
 ) -> Result<Received, PacketError>
     requires room { vec_len out.old + 2 ≤ vec_capacity out.old }
-    ensures answer { IsTakenAnswer packets.old.run_limit (open_depacketization
-        (D.state packets.old.depacketizer) packets.old.expected place.old
-        (map access_unit_value out.old.items))
-        packet.now result }
-    ensures after { is_taken result ≡ true →
-        open_depacketization (D.state packets.new.depacketizer) packets.new.expected
-        place.new (map access_unit_value out.new.items)
-        ≡ after_taken_rtp packets.old.run_limit (open_depacketization
-        (D.state packets.old.depacketizer) packets.old.expected place.old
-        (map access_unit_value out.old.items))
-        packet.now }
+    ensures answer { IsTakenAnswer packets.old.run_limit (units_at D.state packets.old place.old
+        out.old.items) packet.now result }
+    ensures after { is_taken result ≡ true → units_at D.state packets.new place.new out.new.items
+        ≡ after_taken_rtp packets.old.run_limit (units_at D.state packets.old place.old
+        out.old.items) packet.now }
     ensures rest { is_taken result ≡ true → packets.new.depacketizer
         ≡ D.having_taken packet.now.1.payload packets.old.depacketizer }
     ensures limit { packets.new.run_limit ≡ packets.old.run_limit }
@@ -194,14 +178,11 @@ impl<D: RunDepacketizer> FrameReceiver<D> {
         out: &mut Vec<AccessUnit>,
     ) -> Result<Received, PacketError>
         // What is answered, and what stands afterwards.
-        ensures answer { IsUnitAnswer self.old.packets.run_limit (open_depacketization
-            (D.state self.old.packets.depacketizer) self.old.packets.expected self.old.unit
-            (map access_unit_value out.old.items)) packet.now result }
-        ensures after { open_depacketization (D.state self.new.packets.depacketizer)
-            self.new.packets.expected self.new.unit (map access_unit_value out.new.items)
-            ≡ after_rtp self.old.packets.run_limit self.old.unit_limit (open_depacketization
-            (D.state self.old.packets.depacketizer) self.old.packets.expected self.old.unit
-            (map access_unit_value out.old.items)) packet.now result }
+        ensures answer { IsUnitAnswer self.old.packets.run_limit
+            (frames_at D.state self.old out.old.items) packet.now result }
+        ensures after { frames_at D.state self.new out.new.items ≡ after_rtp
+            self.old.packets.run_limit self.old.unit_limit
+            (frames_at D.state self.old out.old.items) packet.now result }
         ensures rest { is_taken result ≡ true → self.new.packets.depacketizer
             ≡ D.having_taken packet.now.1.payload self.old.packets.depacketizer }
         ensures limit { self.new.packets.run_limit ≡ self.old.packets.run_limit }
@@ -236,11 +217,8 @@ impl<D: RunDepacketizer> FrameReceiver<D> {
     /// memory.
     pub fn skip(&mut self, sequence: u16) -> Received
         ensures answer { result ≡ skip_answer self.old.packets.expected sequence }
-        ensures after { (ended : List AccessUnitValue) →
-            open_depacketization (D.state self.new.packets.depacketizer)
-            self.new.packets.expected self.new.unit ended
-            ≡ after_unit_skip (open_depacketization (D.state self.old.packets.depacketizer)
-            self.old.packets.expected self.old.unit ended) sequence }
+        ensures after { (ended : List AccessUnit) → frames_at D.state self.new ended
+            ≡ after_unit_skip (frames_at D.state self.old ended) sequence }
         ensures rest { self.new.packets.depacketizer ≡ self.old.packets.depacketizer }
         ensures limit { self.new.packets.run_limit ≡ self.old.packets.run_limit }
         ensures unit_limit { self.new.unit_limit ≡ self.old.unit_limit }
@@ -262,10 +240,8 @@ impl<D: RunDepacketizer> FrameReceiver<D> {
     ///
     /// Without memory the error is `OutOfMemory`, and everything is left.
     pub fn end(&mut self, out: &mut Vec<AccessUnit>) -> Result<(), PacketError>
-        ensures after { OnOk result (open_depacketization (D.state self.new.packets.depacketizer)
-            self.new.packets.expected self.new.unit (map access_unit_value out.new.items)
-            ≡ after_end (open_depacketization (D.state self.old.packets.depacketizer)
-            self.old.packets.expected self.old.unit (map access_unit_value out.old.items))) }
+        ensures after { OnOk result (frames_at D.state self.new out.new.items ≡ after_end
+            (frames_at D.state self.old out.old.items)) }
         ensures rest { OnOk result (self.new.packets.depacketizer
             ≡ D.with_run None self.old.packets.depacketizer) }
         ensures limit { self.new.packets.run_limit ≡ self.old.packets.run_limit }

@@ -7,7 +7,7 @@ use Rattle.h26x_core.specs.declared.extra.CodecExtra.{CodecExtra}
 use Rattle.h26x_core.specs.declared.error.PacketError.{PacketError}
 use Rattle.h26x_core.specs.declared.error.PacketError.TheVariants.{AvcUnitTooLong, OutOfMemory}
 use Rattle.h26x_model.specs.Send.Calls.{Call, AreCalls, all_entries}
-use Rattle.h26x_model.specs.Payload.Facts.{AreCarried}
+use Rattle.h26x_model.specs.Payload.Facts.{AreCarried, IsPayloadFormat}
 use Rattle.h26x_model.specs.Send.PacketizerState.{PacketizerState, IsPacketizerState, state_units, state_packets}
 use Rattle.h26x_model.specs.Receive.DepacketizerState.{Depacketization, readings_units}
 use Rattle.h26x_model.specs.Carry.Loss.{keep}
@@ -15,7 +15,7 @@ use Rattle.h26x_model.specs.Carry.Gaps.{whole_units}
 use Rattle.h26x_model.specs.Carry.AnySender.{units_came}
 use Rattle.h26x_codec.specs.Runs.{AreWritten}
 use Rattle.h26x_receiver.specs.declared.received.Received.{Received}
-use Rattle.h26x_receiver.specs.Sequenced.{is_taken}
+use Rattle.h26x_receiver.specs.Sequenced.{is_taken, with_expected, after_answers, HaveSequencedAnswers}
 
 -- packets with their sequence numbers, as lists of bytes
 abbrev pub sequenced_packets : List (ℕ × Vec ℕ Global) → List (ℕ × List ℕ)
@@ -136,6 +136,36 @@ ThoseThatCameAreWritten most w packets out told =
     w.state.format ≡ s.format → IsOrderedDelivery s calls first places packets →
     AreWritten w (whole_units most s calls (mask_of_places places
     (length (state_packets s (all_entries s.format calls))))) out told
+
+-- what stands after packets with their answers, where any number may be the first
+abbrev pub after_first_answers : ℕ → Depacketization → List (ℕ × List ℕ) →
+    List (Result Received PacketError) → Depacketization
+after_first_answers most w packets answers =
+    (after_answers most (with_expected w None) packets answers).at_work
+
+-- Of what a network brings of calls the units of the items are written of which each packet was taken.
+abbrev pub WritesNothingDamaged : ℕ → Depacketization → Type 0
+WritesNothingDamaged most w = IsPayloadFormat w.state.format → (packets : List (ℕ × List ℕ))
+    (answers : List (Result Received PacketError)) →
+    HaveSequencedAnswers most (with_expected w None) packets answers →
+    WholeUnitsAreWritten most w packets answers (after_first_answers most w packets answers).out
+    (after_first_answers most w packets answers).extra
+
+-- Of those that come in order, where none is refused, those of which each packet came.
+abbrev pub WritesThoseOfCalls : ℕ → Depacketization → Type 0
+WritesThoseOfCalls most w = IsPayloadFormat w.state.format → (packets : List (ℕ × List ℕ))
+    (answers : List (Result Received PacketError)) →
+    HaveSequencedAnswers most (with_expected w None) packets answers → NoneIsRefused answers →
+    ThoseThatCameAreWritten most w packets (after_first_answers most w packets answers).out
+    (after_first_answers most w packets answers).extra
+
+-- Of any sender's packets that part of what all would bring of which each packet was taken.
+abbrev pub WritesThoseTaken : ℕ → Depacketization → Type 0
+WritesThoseTaken most w = IsPayloadFormat w.state.format → (packets : List (ℕ × List ℕ))
+    (answers : List (Result Received PacketError)) →
+    HaveSequencedAnswers most (with_expected w None) packets answers →
+    WhatWasTakenIsWritten most w packets answers (after_first_answers most w packets answers).out
+    (after_first_answers most w packets answers).extra
 
 -- a refusal for want of memory or, in AVC form, for a unit too long for a length of four bytes
 abbrev pub IsWantOrTooLong : Bool → Result Received PacketError → Type 0

@@ -6,6 +6,7 @@ use Rattle.h26x_model.specs.Receive.DepacketizerState.{DepacketizerState, Depack
 use Rattle.h26x_model.specs.Receive.RunLimit.{run_len, with_open_run, with_run_within}
 use Rattle.h26x_payload.specs.OpenText.{OpenTextView, text_depacketization}
 use Rattle.h26x_receiver.specs.declared.received.Received.{Received}
+use Rattle.h26x_receiver.specs.declared.sequenced.SequencedDepacketizer.{SequencedDepacketizer}
 use Rattle.h26x_receiver.specs.declared.received.Received.TheVariants.{InOrder, Gap, TooLong, Late}
 use Rattle.h26x_receiver.specs.Sequence.{next_sequence_number, missing_count, distance_behind, is_late, is_expected}
 
@@ -27,6 +28,23 @@ sequenced_depacketization r expected out extra = with_expected (depacketization 
 abbrev pub sequenced_in_text : DepacketizerState → Option ℕ → OpenTextView → CodecExtra →
     SequencedDepacketization
 sequenced_in_text r expected text extra = with_expected (text_depacketization r text extra) expected
+
+-- what a receiver works on, by what its depacketizer is
+abbrev pub work_at : {D : Type 0} → (D → DepacketizerState) → SequencedDepacketizer D → List ℕ →
+    CodecExtra → Depacketization
+work_at state it out extra = depacketization (state it.depacketizer) out extra
+
+-- a receiver as it stands, by what its depacketizer is, with what was written and told
+abbrev pub receiver_at : {D : Type 0} → (D → DepacketizerState) → SequencedDepacketizer D →
+    List ℕ → CodecExtra → SequencedDepacketization
+receiver_at state it out extra = sequenced_depacketization (state it.depacketizer) it.expected out
+    extra
+
+-- the same where the open run stands in the text
+abbrev pub receiver_in_text : {D : Type 0} → (D → DepacketizerState) → SequencedDepacketizer D →
+    OpenTextView → CodecExtra → SequencedDepacketization
+receiver_in_text state it text extra = sequenced_in_text (state it.depacketizer) it.expected text
+    extra
 
 -- what a packet is taken by: the open run is given up, but where the packet is the one expected
 abbrev pub with_run_if : Bool → Depacketization → Depacketization

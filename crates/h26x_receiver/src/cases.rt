@@ -12,7 +12,7 @@ ghost use Rattle.h264_payload.specs.H264.{h264};
 ghost use Rattle.h26x_codec.specs.Codec.{fresh_packetizer_state, fresh_depacketizer_state};
 ghost use Rattle.h26x_receiver.specs.Sequence.{next_sequence_number, missing_count, distance_behind, is_late, is_expected};
 ghost use Rattle.h26x_receiver.specs.Sequenced.{sequenced_depacketization, answer_by_missing, HaveSequencedAnswers, skip_answer, expected_after_skip, is_run_kept};
-ghost use Rattle.h26x_receiver.specs.Delivery.{IsDelivery, IsAnyDelivery, IsOrderedDelivery, IsNearPlace, IsNextPlace, ThoseThatCameAreWritten, WhatWasTakenIsWritten, IsWantOrTooLong, taken_mask};
+ghost use Rattle.h26x_receiver.specs.Delivery.{IsDelivery, IsAnyDelivery, IsOrderedDelivery, IsNearPlace, IsNextPlace, ThoseThatCameAreWritten, WhatWasTakenIsWritten, IsWantOrTooLong, NoneIsRefused, taken_mask};
 
 use crate::received::Received;
 use h26x_core::PacketError;
@@ -165,6 +165,8 @@ pub fn places_at_the_edges()
 /// A refusal that isn't for what a packet is.
 pub fn refusals_for_want()
     ensures memory { IsWantOrTooLong false (Err OutOfMemory) }
+    ensures none_refused { NoneIsRefused (Ok Received.InOrder ∷ Ok (Received.Gap 1) ∷ []) }
+    ensures one_refused { NoneIsRefused (Ok Received.InOrder ∷ Err OutOfMemory ∷ []) → ⊥ }
     ensures too_long { IsWantOrTooLong true (Err AvcUnitTooLong) }
     ensures not_without_lengths { IsWantOrTooLong false (Err AvcUnitTooLong) → ⊥ }
     ensures not_for_what_it_is { IsWantOrTooLong true (Err ErrShortPacket) → ⊥ }

@@ -2,10 +2,9 @@
 
 ghost use Rattle.std.specs.Prelude.{◌≡◌, ◌≤◌, IfOk, OnErr, Err, length, map, vec_len, None};
 ghost use Rattle.h26x_core.specs.Front.{IsFrontOf};
-ghost use Rattle.h26x_model.specs.Receive.DepacketizerState.{depacketization};
 ghost use Rattle.h26x_model.specs.Receive.RunLimit.{run_len};
 ghost use Rattle.h26x_receiver.specs.Delivery.{sequenced_packets, NoneIsRefused, NoneIsRefusedForWhatItIs, WholeUnitsAreWritten, ThoseThatCameAreWritten, WhatWasTakenIsWritten};
-ghost use Rattle.h26x_receiver.specs.Sequenced.{sequenced_depacketization, AreAllReceived, having_taken_all};
+ghost use Rattle.h26x_receiver.specs.Sequenced.{AreAllReceived, having_taken_all, receiver_at, work_at};
 
 use crate::received::Received;
 use crate::run::RunDepacketizer;
@@ -30,37 +29,33 @@ pub fn receive_all<D: RunDepacketizer>(
 
     // Any packets whatever: the answer for each by what those before it left, and what stands after
     // them.
-    ensures received { IfOk result (λ answers. AreAllReceived receiver.old.run_limit
-        (sequenced_depacketization (D.state receiver.old.depacketizer) receiver.old.expected
-        out.old.items codec_extra.old) (sequenced_packets packets.now) answers.items
-        (sequenced_depacketization (D.state receiver.new.depacketizer) receiver.new.expected
-        out.new.items codec_extra.new)) }
+    ensures received { IfOk result (λ answers. AreAllReceived receiver.old.run_limit (receiver_at
+        D.state receiver.old out.old.items codec_extra.old) (sequenced_packets packets.now)
+        answers.items (receiver_at D.state receiver.new out.new.items codec_extra.new)) }
 
     // Where they are what a network brings of the packets that calls send, with losses, twice and
     // late: nothing damaged is written, but exactly the items of which each packet was taken, and
     // that a run may hold.
-    ensures whole { receiver.old.expected ≡ None →
-        IfOk result (λ answers. WholeUnitsAreWritten receiver.old.run_limit
-        (depacketization (D.state receiver.old.depacketizer) out.old.items codec_extra.old)
+    ensures whole { receiver.old.expected ≡ None → IfOk result (λ answers. WholeUnitsAreWritten
+        receiver.old.run_limit (work_at D.state receiver.old out.old.items codec_extra.old)
         (sequenced_packets packets.now) answers.items out.new.items codec_extra.new) }
 
     // Whoever sent them, and whatever they are: exactly that part of what all of them would bring of
     // which each packet was taken, and that a run may hold.
-    ensures came { receiver.old.expected ≡ None →
-        IfOk result (λ answers. WhatWasTakenIsWritten receiver.old.run_limit
-        (depacketization (D.state receiver.old.depacketizer) out.old.items codec_extra.old)
+    ensures came { receiver.old.expected ≡ None → IfOk result (λ answers. WhatWasTakenIsWritten
+        receiver.old.run_limit (work_at D.state receiver.old out.old.items codec_extra.old)
         (sequenced_packets packets.now) answers.items out.new.items codec_extra.new) }
 
     // Where those of calls come in order and none is refused: the items of which each packet came.
     ensures in_order { receiver.old.expected ≡ None →
-        IfOk result (λ answers. NoneIsRefused answers.items →
+        IfOk result (λ them. NoneIsRefused them.items →
         ThoseThatCameAreWritten receiver.old.run_limit
-        (depacketization (D.state receiver.old.depacketizer) out.old.items codec_extra.old)
+        (work_at D.state receiver.old out.old.items codec_extra.old)
         (sequenced_packets packets.now) out.new.items codec_extra.new) }
 
     // None of them is refused for what it is: memory lacks or, in AVC form, a unit is too long.
     ensures refusals { IfOk result (λ answers. NoneIsRefusedForWhatItIs
-        (depacketization (D.state receiver.old.depacketizer) out.old.items codec_extra.old)
+        (work_at D.state receiver.old out.old.items codec_extra.old)
         (sequenced_packets packets.now) answers.items) }
 
     // What else the packets that were taken change, as what a depacketizer of H.265 shows.

@@ -3,25 +3,19 @@
 
 ghost use Rattle.std.specs.Prelude.{◌≡◌, ◌≤◌, ◌<◌, ◌^◌, ℕ, List, true, Some, None, Result};
 ghost use Rattle.h26x_core.specs.declared.error.PacketError.{PacketError};
-ghost use Rattle.h26x_model.specs.Payload.Facts.{IsPayloadFormat};
 ghost use Rattle.h26x_model.specs.Receive.RunLimit.{run_len};
 ghost use Rattle.h26x_model.specs.Receive.DepacketizerState.{Depacketization};
 ghost use Rattle.h26x_receiver.specs.declared.received.Received.{Received};
-ghost use Rattle.h26x_receiver.specs.Delivery.{NoneIsRefused, WholeUnitsAreWritten, ThoseThatCameAreWritten, WhatWasTakenIsWritten};
+ghost use Rattle.h26x_receiver.specs.Delivery.{WritesNothingDamaged, WritesThoseOfCalls, WritesThoseTaken};
 ghost use Rattle.h26x_receiver.specs.Sequence.{next_sequence_number, is_expected};
-ghost use Rattle.h26x_receiver.specs.Sequenced.{SequencedDepacketization, with_expected, after_answers, HaveSequencedAnswers, after_skip};
+ghost use Rattle.h26x_receiver.specs.Sequenced.{SequencedDepacketization, with_expected, after_answers, after_skip};
 
 use h26x_model::laws;
 
 /// From a receiver for which any number may be the first: of what a network brings, nothing damaged
 /// is written and told, but exactly the items of which each packet was taken.
 pub fn nothing_damaged_is_written()
-    ensures { (most : ℕ) (w : Depacketization) (packets : List (ℕ × List ℕ))
-        (answers : List (Result Received PacketError)) → IsPayloadFormat w.state.format →
-        HaveSequencedAnswers most (with_expected w None) packets answers →
-        WholeUnitsAreWritten most w packets answers
-        (after_answers most (with_expected w None) packets answers).at_work.out
-        (after_answers most (with_expected w None) packets answers).at_work.extra }
+    ensures { (most : ℕ) (w : Depacketization) → WritesNothingDamaged most w }
 {
     laws::nothing_is_damaged();
 }
@@ -29,12 +23,7 @@ pub fn nothing_damaged_is_written()
 /// So where packets come in order and none is refused: what is written are the items of which each
 /// packet came.
 pub fn those_that_came_are_written()
-    ensures { (most : ℕ) (w : Depacketization) (packets : List (ℕ × List ℕ))
-        (answers : List (Result Received PacketError)) → IsPayloadFormat w.state.format →
-        HaveSequencedAnswers most (with_expected w None) packets answers → NoneIsRefused answers →
-        ThoseThatCameAreWritten most w packets
-        (after_answers most (with_expected w None) packets answers).at_work.out
-        (after_answers most (with_expected w None) packets answers).at_work.extra }
+    ensures { (most : ℕ) (w : Depacketization) → WritesThoseOfCalls most w }
 {
     laws::nothing_is_damaged();
 }
@@ -42,12 +31,7 @@ pub fn those_that_came_are_written()
 /// Whoever sent the packets, and whatever they are: what is written is that part of what all of them
 /// would bring of which each packet was taken.
 pub fn what_was_taken_is_written()
-    ensures { (most : ℕ) (w : Depacketization) (packets : List (ℕ × List ℕ))
-        (answers : List (Result Received PacketError)) → IsPayloadFormat w.state.format →
-        HaveSequencedAnswers most (with_expected w None) packets answers →
-        WhatWasTakenIsWritten most w packets answers
-        (after_answers most (with_expected w None) packets answers).at_work.out
-        (after_answers most (with_expected w None) packets answers).at_work.extra }
+    ensures { (most : ℕ) (w : Depacketization) → WritesThoseTaken most w }
 {
     laws::what_came_is_written();
 }

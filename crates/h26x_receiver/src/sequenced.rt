@@ -7,7 +7,7 @@ ghost use Rattle.h26x_model.specs.Receive.RunLimit.{run_len, run_within, state_w
 ghost use Rattle.h26x_payload.specs.OpenText.{IsSameText};
 ghost use Rattle.h26x_payload.specs.UnitSink.{bytes_brought, grown_to, IsRoomTold};
 ghost use Rattle.h26x_receiver.specs.Sequence.{missing_count, is_expected};
-ghost use Rattle.h26x_receiver.specs.Sequenced.{sequenced_depacketization, sequenced_in_text, with_run_if, after_sequenced_packet, IsSequencedAnswer, after_answer, is_taken, skip_answer, expected_after_skip, is_run_kept, after_skip};
+ghost use Rattle.h26x_receiver.specs.Sequenced.{with_run_if, after_sequenced_packet, IsSequencedAnswer, after_answer, is_taken, skip_answer, expected_after_skip, is_run_kept, after_skip, receiver_at, receiver_in_text};
 
 use crate::received::Received;
 use crate::run::{RunDepacketizer, take_run};
@@ -201,10 +201,8 @@ impl<D: RunDepacketizer> SequencedDepacketizer<D> {
     /// ```
     pub fn skip(&mut self, sequence: u16) -> Received
         ensures answer { result ≡ skip_answer self.old.expected sequence }
-        ensures after { (out : List ℕ) (extra : CodecExtra) →
-            sequenced_depacketization (D.state self.new.depacketizer) self.new.expected out extra
-            ≡ after_skip (sequenced_depacketization (D.state self.old.depacketizer)
-            self.old.expected out extra) sequence }
+        ensures after { (out : List ℕ) (extra : CodecExtra) → receiver_at D.state self.new out extra
+            ≡ after_skip (receiver_at D.state self.old out extra) sequence }
         ensures rest { D.with_run None self.new.depacketizer
             ≡ D.with_run None self.old.depacketizer }
         ensures expected { self.new.expected ≡ expected_after_skip self.old.expected sequence }
@@ -255,24 +253,20 @@ impl<D: RunDepacketizer> SequencedDepacketizer<D> {
         codec_extra: &mut CodecExtra,
     ) -> Result<Received, PacketError>
         // What is answered, and what stands afterwards.
-        ensures answer { IsSequencedAnswer self.old.run_limit (sequenced_depacketization
-            (D.state self.old.depacketizer) self.old.expected (W.sink out.old).bytes codec_extra.old)
-            sequence packet.now result }
-        ensures after { sequenced_depacketization (D.state self.new.depacketizer)
-            self.new.expected (W.sink out.new).bytes codec_extra.new
-            ≡ after_answer self.old.run_limit (sequenced_depacketization
-            (D.state self.old.depacketizer) self.old.expected (W.sink out.old).bytes codec_extra.old)
-            sequence packet.now result }
+        ensures answer { IsSequencedAnswer self.old.run_limit (receiver_at D.state self.old
+            (W.sink out.old).bytes codec_extra.old) sequence packet.now result }
+        ensures after { receiver_at D.state self.new (W.sink out.new).bytes codec_extra.new
+            ≡ after_answer self.old.run_limit (receiver_at D.state self.old (W.sink out.old).bytes
+            codec_extra.old) sequence packet.now result }
         ensures rest { is_taken result ≡ true → D.with_run None self.new.depacketizer
             ≡ D.with_run None (D.having_taken packet.now self.old.depacketizer) }
         ensures limit { self.new.run_limit ≡ self.old.run_limit }
 
         // While a packet is taken the run is no longer than before and the packet, and afterwards it
         // is within the limit.
-        ensures while_taken { run_len (after_sequenced_packet (sequenced_depacketization
-            (D.state self.old.depacketizer) self.old.expected (W.sink out.old).bytes codec_extra.old)
-            sequence packet.now).state.run
-            ≤ run_len (D.state self.old.depacketizer).run + length packet.now }
+        ensures while_taken { run_len (after_sequenced_packet (receiver_at D.state self.old
+            (W.sink out.old).bytes codec_extra.old) sequence packet.now).state.run ≤ run_len
+            (D.state self.old.depacketizer).run + length packet.now }
         ensures bounded { run_len (D.state self.old.depacketizer).run ≤ self.old.run_limit →
             run_len (D.state self.new.depacketizer).run ≤ self.old.run_limit }
 
@@ -316,19 +310,17 @@ impl<D: RunDepacketizer> SequencedDepacketizer<D> {
         codec_extra: &mut CodecExtra,
     ) -> Result<Received, PacketError>
         // What is answered, and what stands afterwards.
-        ensures answer { IsSequencedAnswer self.old.run_limit (sequenced_in_text
-            (D.state self.old.depacketizer) self.old.expected text.old codec_extra.old)
-            sequence packet.now result }
-        ensures after { sequenced_in_text (D.state self.new.depacketizer) self.new.expected text.new
-            codec_extra.new ≡ after_answer self.old.run_limit (sequenced_in_text
-            (D.state self.old.depacketizer) self.old.expected text.old codec_extra.old)
-            sequence packet.now result }
+        ensures answer { IsSequencedAnswer self.old.run_limit (receiver_in_text D.state self.old
+            text.old codec_extra.old) sequence packet.now result }
+        ensures after { receiver_in_text D.state self.new text.new codec_extra.new ≡ after_answer
+            self.old.run_limit (receiver_in_text D.state self.old text.old codec_extra.old) sequence
+            packet.now result }
         ensures rest { is_taken result ≡ true →
             self.new.depacketizer ≡ D.having_taken packet.now self.old.depacketizer }
         ensures limit { self.new.run_limit ≡ self.old.run_limit }
-        ensures while_taken { run_len (after_sequenced_packet (sequenced_in_text
-            (D.state self.old.depacketizer) self.old.expected text.old codec_extra.old)
-            sequence packet.now).state.run ≤ run_len text.old.run + length packet.now }
+        ensures while_taken { run_len (after_sequenced_packet (receiver_in_text D.state self.old
+            text.old codec_extra.old) sequence packet.now).state.run ≤ run_len text.old.run + length
+            packet.now }
         ensures bounded { run_len text.old.run ≤ self.old.run_limit →
             run_len text.new.run ≤ self.old.run_limit }
         ensures aside { may_be_inside ≡ false → is_taken result ≡ true → text.new.inside ≡ None }

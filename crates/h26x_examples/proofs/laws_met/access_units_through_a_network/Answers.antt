@@ -4,7 +4,7 @@ use Rattle.std.specs.Prelude.{false}
 use Rattle.h26x_examples.proofs.laws_met.access_units_through_a_network.Goals as goal
 
 pub returns : goal.returns
-returns c = λ codec has_donl most limit w s calls first places packets answers receives sends clear none_open none_expected each none stream apart within.
-    c.access_units_come_through_a_network.ensures 64 most limit w packets answers (omega arith) (omega arith)
-    (subst IsPayloadFormat (sym receives) (c.formats_meet_the_facts.ensures codec has_donl)) clear none_open each none
-    s calls first false places (receives ∙ sym sends) none_expected stream apart within
+returns c = λ codec has_donl most limit w s calls first places packets answers receives sends start none_expected each all stream apart.
+    c.access_units_come_through_a_network.ensures 64 most limit w (omega arith) (omega arith)
+    (subst IsPayloadFormat (sym receives) (c.formats_meet_the_facts.ensures codec has_donl)) start packets answers each
+    s calls first false places (receives ∙ sym sends) none_expected stream (c.places_that_come_are_near.ensures 64 places answers (omega arith) stream.near all) apart

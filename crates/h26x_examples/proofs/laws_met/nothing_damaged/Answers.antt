@@ -4,5 +4,5 @@ use Rattle.h26x_examples.proofs.laws_met.nothing_damaged.Goals as goal
 
 pub returns : goal.returns
 returns c = λ codec has_donl most w s calls first places packets answers receives sends each delivery.
-    c.nothing_damaged_is_written.ensures most w packets answers (subst IsPayloadFormat (sym receives) (c.formats_meet_the_facts.ensures codec has_donl)) each
+    c.nothing_damaged_is_written.ensures most w (subst IsPayloadFormat (sym receives) (c.formats_meet_the_facts.ensures codec has_donl)) packets answers each
     s calls first places (receives ∙ sym sends) delivery

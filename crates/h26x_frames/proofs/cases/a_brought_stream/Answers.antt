@@ -12,5 +12,4 @@ returns c = record {
   each = refl;
   sent = (lit< tt, (lit< tt, (lit< tt, (lit< tt, (lit< tt, tt)))));
   near = ((lit< tt, (lit< tt, (lit< tt, (lit< tt, tt)))), (lit≤ tt, (lit≤ tt, (lit≤ tt, (lit≤ tt, tt)))));
-  gaps = (tt, ((lit≤ tt, lit< tt), ((lit≤ tt, lit< tt), ((lit≤ tt, lit< tt), tt))));
 }

@@ -9,5 +9,4 @@ returns-clause-is c = record {
   carried = (refl, tt);
   sent = (lit< tt, (lit< tt, (lit< tt, (lit< tt, tt))));
   near = ((lit< tt, (lit< tt, (lit< tt, tt))), (lit≤ tt, (lit≤ tt, (lit≤ tt, tt))));
-  gaps = (tt, ((lit≤ tt, lit< tt), ((lit≤ tt, lit< tt), tt)));
 }

@@ -11,6 +11,7 @@ use Rattle.h26x_frames.specs.Rtp.{RtpBody}
 use Rattle.h26x_frames.specs.ReorderBuffer.{reordered}
 use Rattle.h26x_frames.specs.AccessUnit.{access_unit_value, open_depacketization, unit_len, IsUnitAnswer, after_rtp, AreUnitsReceived}
 use Rattle.h26x_frames.proofs.ReceivedLemmas.{units_more, units_to_end, units_brought_by}
+use Rattle.h26x_frames.proofs.AnyLemmas.{any_brought_by}
 use Rattle.h26x_frames.proofs.RefusedLemmas.{brought_want}
 use Rattle.h26x_frames.proofs.frames.receive_frames.Goals as goal
 
@@ -80,14 +81,24 @@ returns-clause-received g c =
     (units_to_end most first.unit_limit old (map seen held) c.loop-packet.packet-index c.loop-packet.answers.items new (rw length-map c.loop-packet-test.false) c.loop-packet.invariant.received)
 
 pub returns-clause-in_order : goal.returns-clause-in_order
-returns-clause-in_order g c = λ clear none_open fine.
+returns-clause-in_order g c = λ start.
     let state = g.D.RunDepacketizer.state in
     let first = c.args.receiver.now in
     let last = c.loop-packet.receiver in
     let old = open_depacketization (state first.packets.depacketizer) first.packets.expected first.unit (map access_unit_value c.args.out.now.items) in
     let new = open_depacketization (state last.packets.depacketizer) last.packets.expected last.unit (map access_unit_value c.loop-packet.out.items) in
     units_brought_by c.args.window first.packets.run_limit first.unit_limit old c.args.packets.now c.loop-packet.answers.items new
-    c.nothing_is_damaged.ensures (λ s ok is. c.packetizers_go_on.ensures.goes_on s ok.limits ok.dons is) c.requires.some c.requires.half c.meets_the_facts.ensures clear none_open (returns-clause-received g c) fine
+    c.nothing_is_damaged.ensures (λ s ok is. c.packetizers_go_on.ensures.goes_on s ok.limits ok.dons is) c.requires.some c.requires.half c.meets_the_facts.ensures start (returns-clause-received g c)
+
+pub returns-clause-came : goal.returns-clause-came
+returns-clause-came g c = λ start.
+    let state = g.D.RunDepacketizer.state in
+    let first = c.args.receiver.now in
+    let last = c.loop-packet.receiver in
+    let old = open_depacketization (state first.packets.depacketizer) first.packets.expected first.unit (map access_unit_value c.args.out.now.items) in
+    let new = open_depacketization (state last.packets.depacketizer) last.packets.expected last.unit (map access_unit_value c.loop-packet.out.items) in
+    any_brought_by c.args.window first.packets.run_limit first.unit_limit old c.args.packets.now c.loop-packet.answers.items new
+    c.what_came_is_written.ensures c.requires.some c.requires.half c.meets_the_facts.ensures start (returns-clause-received g c)
 
 pub returns-clause-refusals : goal.returns-clause-refusals
 returns-clause-refusals g c =
