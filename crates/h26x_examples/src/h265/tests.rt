@@ -26,7 +26,9 @@ fn a_frame_is_sent(rt: HostRuntime) {
 /// An SPS and a PPS of temporal id 1 before a slice of 3 (RFC 7798, 4.4.2).
 #[test]
 fn sets_have_their_own_header(rt: HostRuntime) {
-    let frame = [0, 0, 1, 0x42, 0x01, 0, 0, 1, 0x44, 0x01, 0, 0, 1, 0x02, 0x03, 0xaa];
+    let frame = [
+        0, 0, 1, 0x42, 0x01, 0, 0, 1, 0x44, 0x01, 0, 0, 1, 0x02, 0x03, 0xaa,
+    ];
     let want = [0x60, 0x01, 0x00, 0x02, 0x42, 0x01, 0x00, 0x02, 0x44, 0x01];
     let sets = match packets_of_frame(rt.alloc(), &frame) {
         Ok(packets) if packets.len() == 2 => packets[0].as_slice() == want.as_slice(),
