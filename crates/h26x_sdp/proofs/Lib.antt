@@ -15,3 +15,6 @@ pub mod IdLemmas
 pub mod AnswersH264Lemmas
 pub mod KeptLemmas
 pub mod KeptH264Lemmas
+pub mod ByLevelLemmas
+pub mod TieredLemmas
+pub mod TieredAgainLemmas

@@ -1,5 +1,5 @@
--- What RFC 6184, section 8.2.2, allows as the answer to an offered format of H.264, for unicast, and what
--- an end may send.
+-- What RFC 6184, section 8.2.2, allows as the answer to an offered format of H.264, for unicast, and
+-- what an end may send.
 use Rattle.std.specs.Prelude.{◌≡◌, ◌⊎◌, ◌==◌, ◌||◌, ℕ, ◌≤◌, min, Bool, true, false, if◌then◌else◌, Some, None}
 use Rattle.h26x_sdp.specs.declared.h264.H264Parameter.{H264Parameter}
 use Rattle.h26x_sdp.specs.declared.h264.H264Parameter.TheVariants as p

@@ -3,7 +3,7 @@
 use Rattle.std.specs.Prelude.{ℕ, ◌==◌, nat_le, Bool, true, false, ◌&&◌, if◌then◌else◌, List, [], ◌∷◌, Option, Some, None}
 use Rattle.std.specs.Option.{option_map, option_or}
 use Rattle.h26x_sdp.specs.declared.kind.Kind.{Kind}
-use Rattle.h26x_sdp.specs.declared.kind.Kind.TheVariants.{Number, Hexadecimal, TxMode, Units, Text}
+use Rattle.h26x_sdp.specs.declared.kind.Kind.TheVariants.{Number, HexadecimalNumber, Hexadecimal, TxMode, Units, Text}
 use Rattle.h26x_sdp.specs.declared.answer.Role.{Role}
 use Rattle.h26x_sdp.specs.declared.answer.Role.TheVariants as role
 use Rattle.std.specs.Cmp.Lexicographic.{pointwise}
@@ -48,6 +48,8 @@ holds None room = false
 abbrev pub same_value : Kind → List ℕ → List ℕ → Bool
 same_value (Number least most) a b = same_number (number_of (Number least most) a)
     (number_of (Number least most) b)
+same_value (HexadecimalNumber most) a b = same_number (number_of (HexadecimalNumber most) a)
+    (number_of (HexadecimalNumber most) b)
 same_value (Hexadecimal bytes) a b = same_name a b
 same_value TxMode a b = pointwise nat_eq a b
 same_value Units a b = pointwise nat_eq a b

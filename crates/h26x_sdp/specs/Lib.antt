@@ -22,3 +22,4 @@ pub mod AnsweredAgain
 pub mod AnswersByLevel
 pub mod AnswersH265
 pub mod AnswersH266
+pub mod AllowedByLevel

@@ -114,7 +114,9 @@ fn same_value(kind: Kind, a: &[u8], b: &[u8]) -> bool
     ensures { result ≡ spec.same_value kind a.now b.now }
 {
     match kind {
-        Kind::Number { .. } => same_number(kind.number_of(a), kind.number_of(b)),
+        Kind::Number { .. } | Kind::HexadecimalNumber { .. } => {
+            same_number(kind.number_of(a), kind.number_of(b))
+        }
         Kind::Hexadecimal { .. } => same_name(a, b),
         Kind::TxMode | Kind::Units | Kind::Text => a == b,
     }

@@ -1,6 +1,6 @@
 //! Laws of the grammar. Each is the contract of a function without a result.
 
-ghost use Rattle.std.specs.Prelude.{◌≡◌, ◌<◌, ℕ, true, Some, Ok, List, [], ◌∷◌, ◌++◌};
+ghost use Rattle.std.specs.Prelude.{◌≡◌, ◌<◌, ℕ, true, false, Some, Ok, List, [], ◌∷◌, ◌++◌};
 ghost use Rattle.std.specs.List.{AllByRecursion, join_with_byte};
 ghost use Rattle.h26x_sdp.specs.Pairs.{Pair, parts, pairs, closes};
 ghost use Rattle.h26x_sdp.specs.Written.{written, with_pair, IsWritable};
@@ -18,6 +18,10 @@ ghost use Rattle.h26x_sdp.specs.Answers.{answer_by};
 ghost use Rattle.h26x_sdp.specs.AnswersH264 as h264_answers;
 ghost use Rattle.h26x_sdp.specs.AllowedH264.{IsH264Answer, MaySend, is_sets_row};
 ghost use Rattle.h26x_sdp.specs.AnsweredAgain.{IsAnsweredAgain};
+ghost use Rattle.h26x_sdp.specs.AllowedByLevel.{IsAnswerByLevel, MaySendByLevel};
+ghost use Rattle.h26x_sdp.specs.AnswersByLevel.{LevelRows, can_hold};
+ghost use Rattle.h26x_sdp.specs.AnswersH265 as h265_answers;
+ghost use Rattle.h26x_sdp.specs.AnswersH266 as h266_answers;
 ghost use Rattle.h26x_sdp.specs.H264Rows as h264;
 ghost use Rattle.h26x_sdp.specs.H265Rows as h265;
 ghost use Rattle.h26x_sdp.specs.H266Rows as h266;
@@ -89,8 +93,8 @@ pub fn whom_both_understand_is_found()
         ComesFrom rules offer ours answer }
 {}
 
-/// An answer of H.264 is one that RFC 6184, section 8.2.2, allows of the offered format, and of an allowed
-/// answer what each end sends is what the other said that it receives.
+/// An answer of H.264 is one that RFC 6184, section 8.2.2, allows of the offered format, and of an
+/// allowed answer what each end sends is what the other said that it receives.
 pub fn h264_answers_are_allowed()
     ensures allowed { (offered own answer : FormatParameters) → AreParameters h264.rows offered →
         AreParameters h264.rows own → answer_by h264_answers.rules offered own ≡ Some answer →
@@ -111,12 +115,53 @@ pub fn h264_answers_are_read()
         read_of h264.rows (written (all_of h264.rows answer)) ≡ Ok answer }
 {}
 
-/// An answer of H.264 is answered with itself, but for parameter sets, which depend on what the other end
-/// says of them; in interleaved mode where we could put in order what we send.
+/// An answer of H.264 is answered with itself, but for parameter sets, which depend on what the other
+/// end says of them; in interleaved mode where we could put in order what we send.
 pub fn h264_answers_are_answered_with_themselves()
     ensures { (offered own answer : FormatParameters) → AreParameters h264.rows offered →
         AreParameters h264.rows own → (h264_answers.is_interleaved answer ≡ true →
         h264_answers.can_deinterleave own own ≡ true) →
         answer_by h264_answers.rules offered own ≡ Some answer →
         IsAnsweredAgain h264_answers.rules is_sets_row own answer }
+{}
+
+/// An answer of H.265 is one that RFC 7798, section 7.2.2, allows of the offered format, and one of
+/// H.266 one that RFC 9328, section 7.3.2, allows; and of an allowed answer what each end sends is what
+/// the other said that it receives.
+pub fn answers_by_level_are_allowed()
+    ensures h265 { (offered own answer : FormatParameters) → AreParameters h265.rows offered →
+        AreParameters h265.rows own → answer_by h265_answers.rules offered own ≡ Some answer →
+        IsAnswerByLevel h265_answers.rules h265_answers.by offered answer }
+    ensures h266 { (offered own answer : FormatParameters) → AreParameters h266.rows offered →
+        AreParameters h266.rows own → answer_by h266_answers.rules offered own ≡ Some answer →
+        IsAnswerByLevel h266_answers.rules h266_answers.by offered answer }
+    ensures forth { (rules : Rules) (by : LevelRows) (offered answer : FormatParameters)
+        (it : IsAnswerByLevel rules by offered answer) →
+        MaySendByLevel rules by offered answer it.ours.level it.ours }
+    ensures back { (rules : Rules) (by : LevelRows) (offered answer : FormatParameters)
+        (it : IsAnswerByLevel rules by offered answer) →
+        MaySendByLevel rules by answer offered it.ours.highest it.theirs }
+{}
+
+/// An answer of H.265 or of H.266 is parameters of that codec, and once it's written it is read as the
+/// same.
+pub fn answers_by_level_are_read()
+    ensures h265 { (offered own answer : FormatParameters) → AreParameters h265.rows offered →
+        AreParameters h265.rows own → answer_by h265_answers.rules offered own ≡ Some answer →
+        read_of h265.rows (written (all_of h265.rows answer)) ≡ Ok answer }
+    ensures h266 { (offered own answer : FormatParameters) → AreParameters h266.rows offered →
+        AreParameters h266.rows own → answer_by h266_answers.rules offered own ≡ Some answer →
+        read_of h266.rows (written (all_of h266.rows answer)) ≡ Ok answer }
+{}
+
+/// An answer of H.265 or of H.266 is answered with itself, where we could put in order what we send.
+pub fn answers_by_level_are_answered_with_themselves()
+    ensures h265 { (offered own answer : FormatParameters) → AreParameters h265.rows offered →
+        AreParameters h265.rows own → can_hold h265.rows h265_answers.by own own ≡ true →
+        answer_by h265_answers.rules offered own ≡ Some answer →
+        IsAnsweredAgain h265_answers.rules (λ _. false) own answer }
+    ensures h266 { (offered own answer : FormatParameters) → AreParameters h266.rows offered →
+        AreParameters h266.rows own → can_hold h266.rows h266_answers.by own own ≡ true →
+        answer_by h266_answers.rules offered own ≡ Some answer →
+        IsAnsweredAgain h266_answers.rules (λ _. false) own answer }
 {}

@@ -9,8 +9,8 @@ use crate::answer::{Terms, copy_of, holds};
 use crate::codec::{CodecParameter, CodecParameters};
 use std::alloc::{AllocError, Global};
 
-/// The parameters of the level, of the highest level that is received, and of packets that bear decoding
-/// order numbers.
+/// The parameters of the level, of the highest level that is received, and of packets that bear
+/// decoding order numbers.
 #[derive(Debug, Clone, Copy)]
 pub(crate) struct LevelParameters<P> {
     /// The level.

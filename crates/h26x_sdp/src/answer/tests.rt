@@ -1,6 +1,9 @@
 //! Offers as ends make them and those of the RFCs, and what is answered.
 
-use crate::{CodecParameters, CodecRules, Format, H264Parameter, ParametersError, answer_to};
+use crate::{
+    CodecParameters, CodecRules, Format, H264Parameter, H265Parameter, H266Parameter,
+    ParametersError, answer_to,
+};
 use std::alloc::Global;
 use std::process::Abort;
 use std::test::Fail;
@@ -231,6 +234,147 @@ const H264: [Exchange; 18] = [
     },
 ];
 
+const H265: [Exchange; 10] = [
+    // as Chromium and Safari offer it
+    Exchange {
+        offer: &[(49, "level-id=93;profile-id=1;tier-flag=0;tx-mode=SRST")],
+        ours: &["level-id=150;profile-id=1;tier-flag=0;tx-mode=SRST"],
+        answer: Some((49, "profile-id=1;tier-flag=0;level-id=93;tx-mode=SRST")),
+    },
+    // the lower level of both, which needn't be said; sets of another level are left out
+    Exchange {
+        offer: &[(
+            49,
+            "level-id=150;profile-id=1;tier-flag=0;tx-mode=SRST;sprop-pps=AA==",
+        )],
+        ours: &["profile-id=1;sprop-vps=QAEMAf//;max-fps=3000"],
+        answer: Some((
+            49,
+            "profile-id=1;tier-flag=0;tx-mode=SRST;sprop-vps=QAEMAf//;max-fps=3000",
+        )),
+    },
+    Exchange {
+        offer: &[(49, "profile-id=1")],
+        ours: &["level-id=94;sprop-vps=QAEMAf//"],
+        answer: Some((49, "profile-id=1")),
+    },
+    // another tier, profile or mode
+    Exchange {
+        offer: &[
+            (49, "level-id=93;tier-flag=1"),
+            (50, "level-id=93;profile-id=2"),
+            (51, "level-id=93;tx-mode=MRST"),
+            (52, "level-id=93;interop-constraints=000000000000"),
+        ],
+        ours: &["level-id=93;profile-id=1;tier-flag=0;tx-mode=SRST"],
+        answer: None,
+    },
+    // what is inferred is what is said: in either case of digits, and of the profile's own flag
+    Exchange {
+        offer: &[(
+            49,
+            "profile-id=2;interop-constraints=b00000000000;\
+             profile-compatibility-indicator=20000000",
+        )],
+        ours: &["profile-id=2"],
+        answer: Some((
+            49,
+            "profile-id=2;interop-constraints=b00000000000;\
+             profile-compatibility-indicator=20000000",
+        )),
+    },
+    Exchange {
+        offer: &[(49, "profile-id=1;profile-compatibility-indicator=60000000")],
+        ours: &["profile-id=1"],
+        answer: None,
+    },
+    // the highest level is the lower of both too, and said where it's above the level
+    Exchange {
+        offer: &[(49, "level-id=93;max-recv-level-id=120")],
+        ours: &["level-id=90;max-recv-level-id=150"],
+        answer: Some((49, "level-id=90;max-recv-level-id=120")),
+    },
+    Exchange {
+        offer: &[(49, "level-id=120")],
+        ours: &["level-id=93;max-recv-level-id=123"],
+        answer: Some((49, "level-id=93;max-recv-level-id=120")),
+    },
+    // buffers at their edge, and a choice of an operation point that isn't ours to repeat
+    Exchange {
+        offer: &[(
+            49,
+            "sprop-max-don-diff=2;sprop-depack-buf-nalus=2;sprop-depack-buf-bytes=4096;\
+             recv-sub-layer-id=1",
+        )],
+        ours: &["depack-buf-cap=4096"],
+        answer: Some((49, "depack-buf-cap=4096")),
+    },
+    Exchange {
+        offer: &[
+            (
+                49,
+                "sprop-max-don-diff=2;sprop-depack-buf-nalus=2;sprop-depack-buf-bytes=4097",
+            ),
+            (50, "sprop-max-don-diff=2;sprop-depack-buf-bytes=4096"),
+            (51, "sprop-max-don-diff=0"),
+        ],
+        ours: &["depack-buf-cap=4096"],
+        answer: Some((51, "depack-buf-cap=4096")),
+    },
+];
+
+const H266: [Exchange; 6] = [
+    Exchange {
+        offer: &[(
+            96,
+            "profile-id=1;tier-flag=0;level-id=83;sprop-max-don-diff=0",
+        )],
+        ours: &["profile-id=1;level-id=67;max-fps=6000"],
+        answer: Some((96, "profile-id=1;tier-flag=0;level-id=67;max-fps=6000")),
+    },
+    // level 3.1, tier Main and Main 10 are not said
+    Exchange {
+        offer: &[(96, "")],
+        ours: &["profile-id=1;tier-flag=0;level-id=51"],
+        answer: Some((96, "")),
+    },
+    Exchange {
+        offer: &[
+            (96, "tier-flag=1"),
+            (97, "profile-id=33"),
+            (98, "sub-profile-id=1"),
+        ],
+        ours: &["profile-id=1"],
+        answer: None,
+    },
+    Exchange {
+        offer: &[
+            (96, "sprop-max-don-diff=1;sprop-depack-buf-bytes=8"),
+            (
+                97,
+                "sprop-max-don-diff=1;sprop-depack-buf-bytes=7;recv-ols-id=0",
+            ),
+        ],
+        ours: &["depack-buf-cap=7"],
+        answer: Some((97, "depack-buf-cap=7")),
+    },
+    // layers: the same sprop-vps, or none
+    Exchange {
+        offer: &[
+            (96, "profile-id=17;sprop-vps=AA=="),
+            (97, "profile-id=17;level-id=83;sprop-vps=AHs="),
+        ],
+        ours: &["profile-id=17;level-id=83;sprop-vps=AHs="],
+        answer: Some((97, "profile-id=17;level-id=83;sprop-vps=AHs=")),
+    },
+    // whose own level is above the offer's has no sets for it
+    Exchange {
+        offer: &[(96, "profile-id=17;sprop-vps=AHs="), (97, "profile-id=17")],
+        ours: &["profile-id=17;level-id=83;sprop-vps=AHs="],
+        answer: Some((97, "profile-id=17")),
+    },
+];
+
 /// Each offer has its answer.
 fn all_answered<P: CodecRules>(
     rt: &impl Abort,
@@ -270,5 +414,12 @@ fn all_answered<P: CodecRules>(
 #[test]
 fn answers_of_h264(rt: HostRuntime) -> Result<(), Fail> {
     all_answered::<H264Parameter>(&rt, rt.alloc(), &H264)?;
+    Ok(())
+}
+
+#[test]
+fn answers_by_level(rt: HostRuntime) -> Result<(), Fail> {
+    all_answered::<H265Parameter>(&rt, rt.alloc(), &H265)?;
+    all_answered::<H266Parameter>(&rt, rt.alloc(), &H266)?;
     Ok(())
 }
