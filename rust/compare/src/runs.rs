@@ -443,11 +443,14 @@ pub fn frames(seed: u64, case: u64, ours: &mut Log, theirs: &mut Log) {
     }
 
     let mut model_buffer = ModelBuffer::new(window);
-    // The model of the receiver.
+    let mut in_order = proved::SequencedDepacketizer::new(codec, usize::MAX);
+    in_order.with_donl(m.has_donl);
+    in_order.with_avc(avc);
     let mut model = Model {
-        depacketizer: model_depacketizer(codec, m.has_donl, avc),
+        packets: in_order,
         expected: None,
         open: None,
+        closed: None,
         given: Vec::new(),
         unit_limit,
     };
@@ -656,65 +659,13 @@ impl ModelBuffer {
     }
 }
 
-enum Any {
-    H264(proved::H264Depacketizer),
-    H265(proved::H265Depacketizer),
-    H266(proved::H266Depacketizer),
-}
-
-fn model_depacketizer(codec: proved::Codec, has_donl: bool, avc: bool) -> Any {
-    match codec {
-        proved::Codec::H264 => {
-            let mut it = proved::H264Depacketizer::default();
-            it.is_avc = avc;
-            Any::H264(it)
-        }
-        proved::Codec::H265 => {
-            let mut it = proved::H265Depacketizer::default();
-            it.with_donl(has_donl);
-            it.is_avc = avc;
-            Any::H265(it)
-        }
-        proved::Codec::H266 => {
-            let mut it = proved::H266Depacketizer::default();
-            it.with_donl(has_donl);
-            it.is_avc = avc;
-            Any::H266(it)
-        }
-    }
-}
-
-impl Any {
-    fn copy(&self) -> Any {
-        match self {
-            Any::H264(it) => Any::H264(it.clone()),
-            Any::H265(it) => Any::H265(it.clone()),
-            Any::H266(it) => Any::H266(it.clone()),
-        }
-    }
-
-    fn give_up(&mut self) {
-        match self {
-            Any::H264(it) => it.give_up_run(),
-            Any::H265(it) => it.give_up_run(),
-            Any::H266(it) => it.give_up_run(),
-        }
-    }
-
-    fn take(&mut self, packet: &[u8], unit: &mut Unit) -> Result<(), proved::PacketError> {
-        use proved::Depacketizer as _;
-        match self {
-            Any::H264(it) => it.depacketize(packet, &mut unit.bytes, &mut unit.extra),
-            Any::H265(it) => it.depacketize(packet, &mut unit.bytes, &mut unit.extra),
-            Any::H266(it) => it.depacketize(packet, &mut unit.bytes, &mut unit.extra),
-        }
-    }
-}
-
+/// A plain model of a receiver of access units, over one of packets.
 struct Model {
-    depacketizer: Any,
+    packets: proved::SequencedDepacketizer,
     expected: Option<u16>,
     open: Option<Unit>,
+    /// The timestamp of the access unit that the marker of the last packet ended.
+    closed: Option<u32>,
     given: Vec<Unit>,
     unit_limit: usize,
 }
@@ -732,14 +683,15 @@ impl Model {
             let behind = self.expected.expect("it is late").wrapping_sub(sequence);
             return Ok(format!("Late({behind})"));
         }
-        let follows = self.expected == Some(sequence);
+        let is_next = self.expected == Some(sequence);
+        let follows = is_next && self.closed != Some(timestamp);
         let is_same = self
             .open
             .as_ref()
             .is_some_and(|unit| unit.timestamp == timestamp);
-        let mut taking = self.depacketizer.copy();
-        if !follows || !is_same {
-            taking.give_up();
+        let mut packets = self.packets.clone();
+        if !is_same {
+            packets.restart();
         }
         let mut unit = match &self.open {
             Some(unit) if is_same => unit.clone(),
@@ -750,17 +702,22 @@ impl Model {
                 is_whole: true,
             },
         };
-        taking
-            .take(payload, &mut unit)
+        let before = unit.bytes.len();
+        packets
+            .receive(sequence, payload, &mut unit.bytes, &mut unit.extra)
             .map_err(|e| format!("{e:?}"))?;
-        self.depacketizer = taking;
-        self.expected = Some(sequence.wrapping_add(1));
-        unit.is_whole &= follows;
         if !is_same {
             self.end(follows);
         }
+        self.packets = packets;
+        self.expected = Some(sequence.wrapping_add(1));
+        let has_run = self.packets.run_len() > 0;
+        let is_dropped = unit.bytes.len() == before && !has_run;
+        unit.is_whole &= follows && !is_dropped;
+        self.closed = marker.then_some(timestamp);
         if marker {
             self.open = None;
+            unit.is_whole &= !has_run;
             self.given.push(unit);
         } else {
             if unit.bytes.len() > self.unit_limit {
@@ -781,7 +738,7 @@ impl Model {
 
     fn end(&mut self, follows: bool) {
         if let Some(mut unit) = self.open.take() {
-            unit.is_whole &= follows;
+            unit.is_whole &= follows && self.packets.run_len() == 0;
             self.given.push(unit);
         }
     }
