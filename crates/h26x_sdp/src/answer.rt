@@ -49,7 +49,8 @@ pub enum Role {
     OperationPoint,
 }
 
-/// The rules by which formats of a codec are answered.
+/// The rules by which formats of a codec are answered: what each parameter is, and what two formats
+/// agree on.
 pub trait CodecRules: CodecParameter {
     ghost use Rattle.h26x_sdp.specs.declared.answer.Role.{Role};
 
@@ -351,8 +352,9 @@ fn answer_by<P: CodecRules>(
 }
 
 impl<P: CodecRules> CodecParameters<P> {
-    /// The answer to these parameters of an offer, by the first of ours that gives one; `None` where
-    /// none does.
+    /// The answer to these parameters of an offered format, by the first of ours that gives one; `None`
+    /// where none does. It is for both directions, and for unicast (RFC 6184, section 8.2.2; RFC 7798,
+    /// section 7.2.2; RFC 9328, section 7.3.2).
     pub fn answer(
         &self,
         alloc: Global,
@@ -371,7 +373,15 @@ impl<P: CodecRules> CodecParameters<P> {
 }
 
 /// The answer to an offer: of its formats, in its order of preference, the first that one of ours
-/// answers, with its payload type; `None` where no two have a configuration in common.
+/// answers, with its payload type; `None` where no two have a configuration in common (RFC 3264,
+/// section 6.1). To take more than one format, ask each for its answer.
+///
+/// ```rust
+/// let parameters = H264Parameters::read(alloc, b"profile-level-id=42e01f;packetization-mode=1")?;
+/// let offer = [Format { payload_type: 106, parameters }];
+/// let ours = [H264Parameters::read(alloc, b"profile-level-id=42e00b;packetization-mode=1")?];
+/// let answer = answer_to(alloc, &offer, &ours)?;
+/// ```
 pub fn answer_to<P: CodecRules>(
     alloc: Global,
     offer: &[Format<P>],
