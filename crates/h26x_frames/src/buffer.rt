@@ -1,6 +1,6 @@
 //! A buffer for packets that come before earlier ones.
 
-ghost use Rattle.std.specs.Prelude.{◌≡◌, ◌+◌, ◌^◌, ◌<◌, ◌≤◌, ◌==◌, if◌then◌else◌, ℕ, Ok, None, IfOk, IfErr, OnOk, OnErr, is_some, length, slice_get};
+ghost use Rattle.std.specs.Prelude.{◌≡◌, ◌+◌, ◌^◌, ◌<◌, ◌≤◌, ◌==◌, if◌then◌else◌, false, ℕ, Ok, None, IfOk, IfErr, OnOk, OnErr, is_some, length, slice_get, slice_index_or};
 ghost use Rattle.std.specs.Option.{option_map};
 ghost use Rattle.h26x_frames.specs.Rtp.{RtpBody};
 ghost use Rattle.h26x_frames.specs.ReorderBuffer.{BufferState, numbered_packet, fresh_buffer, push_answer, after_push, next_packet, without_first};
@@ -191,6 +191,39 @@ impl ReorderBuffer {
         ensures { result ≡ (length self.now.held == 0) }
     {
         self.held.is_empty()
+    }
+
+    /// The number that is due: the next one to go where none is missing. None before a packet came.
+    pub fn due(&self) -> Option<u16>
+        ensures { result ≡ self.now.due }
+    {
+        self.held.due()
+    }
+
+    /// The first of the packets held, which stays: one that is taken elsewhere, where memory may lack,
+    /// is looked at here and popped once it was taken.
+    pub fn first(&self) -> Option<&HeldPacket>
+        ensures { option_map (λ p. numbered_packet p.now) result ≡ slice_get self.now.held 0 }
+    {
+        self.held.first()
+    }
+
+    /// The number of the packet at a place of those held, in their order, the first at 0.
+    pub fn number_at(&self, place: usize) -> u16
+        requires { place < length self.now.held }
+        ensures { (d : ℕ × RtpBody) → result ≡ (slice_index_or self.now.held place d).0 }
+    {
+        self.held.number_at(place)
+    }
+
+    /// Whether the first of the packets held may go, so that `pop` gives it out.
+    pub fn is_ready(&self) -> bool
+        ensures ready { result ≡ is_some (next_packet self.now) }
+
+        // Where none may go, fewer are held than the window has.
+        ensures few { result ≡ false → length self.now.held < self.now.window }
+    {
+        self.held.is_ready()
     }
 
     /// Takes a packet, and copies it. Without memory the buffer stays as it was, and the packet can be

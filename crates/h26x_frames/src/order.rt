@@ -65,6 +65,31 @@ impl<T: Numbered> NumberOrder<T> {
         self.held.is_empty()
     }
 
+    /// The number that is due, if a packet came.
+    #[inline]
+    pub(crate) fn due(&self) -> Option<u16>
+        ensures { result ≡ self.now.due }
+    {
+        self.due
+    }
+
+    /// The first packet.
+    #[inline]
+    pub(crate) fn first(&self) -> Option<&T>
+        ensures { option_map (λ p. T.numbered p.now) result ≡ slice_get self.now.held 0 }
+    {
+        self.held.first()
+    }
+
+    /// The number of the packet at a place.
+    #[inline]
+    pub(crate) fn number_at(&self, place: usize) -> u16
+        requires { place < length self.now.held }
+        ensures { (d : ℕ × RtpBody) → result ≡ (slice_index_or self.now.held place d).0 }
+    {
+        self.held.get(place).sequence()
+    }
+
     /// How far ahead of a number the packet at a place is.
     #[inline]
     fn ahead_at(&self, due: u16, place: usize) -> u16
@@ -175,7 +200,7 @@ impl<T: Numbered> NumberOrder<T> {
 
     /// Whether the first packet may go.
     #[inline]
-    fn is_ready(&self) -> bool
+    pub(crate) fn is_ready(&self) -> bool
         ensures ready { result ≡ is_some (next_packet self.now) }
         ensures few { result ≡ false → length self.now.held < self.now.window }
     {
