@@ -1,0 +1,21 @@
+use Rattle.std.proofs.Common.{rules, ◌≡◌, ◌∙◌, ap, sym, ℕ, ◌+◌, length}
+use Rattle.h26x_frames.specs.Rtp.{RtpBody}
+use Rattle.h26x_frames.specs.ReorderBuffer.{BufferState, push_answer, after_push}
+use Rattle.h26x_frames.specs.declared.buffer.Pushed.TheVariants as pushes
+use Rattle.h26x_access_units.specs.JitterBuffer.{JitterState, held_bytes}
+use Rattle.h26x_access_units.proofs.JitterLemmas.{push_bytes, push_window}
+use Rattle.h26x_access_units.proofs.jitter.JitterBuffer.push.Goals as goal
+
+pub invariant_of-self-in-Held : goal.invariant_of-self-in-Held
+invariant_of-self-in-Held c =
+    let b = c.self.inside.buffer in
+    let p = c.args.packet.now in
+    let is : push_answer b p.0 ≡ pushes.Held = sym c.in_ok-push.ensures.answer ∙ c.in-Held.is in
+    let after : c.push.new.self ≡ after_push b p = search rules in
+    let bytes : c.in-Some.bytes ≡ held_bytes b.held + length p.1.payload = c.in-Some.ensures.1
+    ∙ ap (λ (j : JitterState). held_bytes j.buffer.held + length c.packet.inside.payload.now) (sym c.self.view_is)
+    ∙ ap (λ (q : ℕ × RtpBody). held_bytes b.held + length q.1.payload) c.packet.view_is in
+    record {
+      count = bytes ∙ sym (push_bytes b p is) ∙ ap (λ (b : BufferState RtpBody). held_bytes b.held) (sym after);
+      window = ap (λ (b : BufferState RtpBody). b.window) after ∙ push_window b p ∙ c.self.invariant.window;
+    }

@@ -1,0 +1,96 @@
+-- Packets that wait for those before them: by a window, by time and by bytes (RFC 3550, 5.1; ours).
+use Rattle.std.specs.Prelude.{◌≡◌, ℕ, ◌+◌, ◌<◌, ◌≤◌, ◌^◌, ◌==◌, nat_lt, nat_le, Bool, true, false, ◌||◌, if◌then◌else◌, List, [], ◌∷◌, ◌++◌, length, Option, Some, None, slice_get}
+use Rattle.h26x_frames.specs.Rtp.{RtpBody}
+use Rattle.h26x_frames.specs.ReorderBuffer.{BufferState, fresh_buffer, push_answer, after_push, next_packet, without_first}
+use Rattle.h26x_access_units.specs.declared.arrival.Arrival.{Arrival}
+use Rattle.h26x_access_units.specs.declared.config.AccessUnitConfig.{AccessUnitConfig}
+use Rattle.h26x_access_units.specs.declared.pushed.Pushed.{Pushed}
+use Rattle.h26x_access_units.specs.declared.pushed.Pushed.TheVariants as pushes
+use Rattle.h26x_access_units.specs.Arrival.{arrival_of, without_number, has_waited}
+use Rattle.h26x_access_units.specs.Pushed.{as_pushed}
+
+-- what waits: the settings, the packets in the order of their numbers, when they came, in the order
+-- in which they came, and whether the stream has ended
+pub record JitterState : Type 0 where
+  pub config : AccessUnitConfig
+  pub buffer : BufferState RtpBody
+  pub arrivals : List Arrival
+  pub is_over : Bool
+
+-- these four
+abbrev pub jitter_state : AccessUnitConfig → BufferState RtpBody → List Arrival → Bool → JitterState
+jitter_state config buffer arrivals is_over = record {
+  config = config;
+  buffer = buffer;
+  arrivals = arrivals;
+  is_over = is_over;
+}
+
+-- before any packet came
+abbrev pub fresh_jitter : AccessUnitConfig → JitterState
+fresh_jitter config = record {
+  config = config;
+  buffer = fresh_buffer config.window;
+  arrivals = [];
+  is_over = false;
+}
+
+-- how many bytes of payloads packets have
+abbrev pub held_bytes : List (ℕ × RtpBody) → ℕ
+held_bytes [] = 0
+held_bytes (p ∷ held) = length p.1.payload + held_bytes held
+
+-- of what waits the bytes are counted, and its window is that of the settings
+pub record IsCounted (config : AccessUnitConfig) (buffer : BufferState RtpBody) (bytes : ℕ) : Type 0
+  where
+    pub count : bytes ≡ held_bytes buffer.held
+    pub window : buffer.window ≡ config.window
+
+-- whether more bytes wait than the limit
+abbrev pub is_past_limit : JitterState → Bool
+is_past_limit j = nat_lt j.config.held_limit (held_bytes j.buffer.held)
+
+-- whether a packet of so many bytes may not wait: more wait already than the limit, or they couldn't
+-- be counted
+abbrev pub is_full : JitterState → ℕ → Bool
+is_full j len = is_past_limit j || nat_le (2 ^ 64) (held_bytes j.buffer.held + len)
+
+-- what is answered for a packet
+abbrev pub jitter_answer : JitterState → ℕ × RtpBody → Pushed
+jitter_answer j p =
+    if is_full j (length p.1.payload) then pushes.Full
+    else as_pushed (push_answer j.buffer p.0)
+
+-- a packet more waits, which came at this tick
+abbrev pub with_packet : ℕ → JitterState → ℕ × RtpBody → JitterState
+with_packet now j p = record j {
+  buffer = after_push j.buffer p;
+  arrivals = j.arrivals ++ arrival_of p.0 now ∷ [];
+}
+
+-- what waits after this answer: a packet that isn't held changes nothing
+abbrev pub after_jitter : ℕ → JitterState → ℕ × RtpBody → Pushed → JitterState
+after_jitter now j p pushes.Held = with_packet now j p
+after_jitter now j p answer = j
+
+-- whether the first packet isn't to wait: the stream has ended, more bytes wait than the limit, or the
+-- packet that waits longest has waited long enough
+abbrev pub is_pressed : ℕ → JitterState → Bool
+is_pressed now j = j.is_over || (is_past_limit j || has_waited j.config.max_wait now j.arrivals)
+
+-- the packet that is due, if one is: the first, where it isn't to wait, where it is the one that is
+-- expected next, or where the window has passed
+abbrev pub due_packet : ℕ → JitterState → Option (ℕ × RtpBody)
+due_packet now j = if is_pressed now j then slice_get j.buffer.held 0 else next_packet j.buffer
+
+-- arrivals without that of the first of packets
+abbrev pub without_arrival_of : List (ℕ × RtpBody) → List Arrival → List Arrival
+without_arrival_of [] arrivals = arrivals
+without_arrival_of (p ∷ held) arrivals = without_number p.0 arrivals
+
+-- what waits without the first packet
+abbrev pub without_due : JitterState → JitterState
+without_due j = record j {
+  buffer = without_first j.buffer;
+  arrivals = without_arrival_of j.buffer.held j.arrivals;
+}

@@ -1,0 +1,20 @@
+-- What becomes of packets that are given to a receiver (ours).
+use Rattle.h26x_frames.specs.declared.buffer.Pushed.{Pushed}
+use Rattle.h26x_frames.specs.declared.buffer.Pushed.TheVariants as frames
+use Rattle.h26x_access_units.specs.declared.pushed.Pushed as own
+use Rattle.h26x_access_units.specs.declared.pushed.Pushed.TheVariants as pushes
+use Rattle.h26x_access_units.specs.declared.pushed.NotPushedReason.{NotPushedReason}
+use Rattle.h26x_access_units.specs.declared.pushed.NotPushedReason.TheVariants as reasons
+
+-- the answer of a reorder buffer
+abbrev pub as_pushed : Pushed → own.Pushed
+as_pushed frames.Held = pushes.Held
+as_pushed (frames.Late n) = pushes.Late n
+as_pushed frames.Twice = pushes.Twice
+
+-- why a packet doesn't wait for which this is answered: where it would wait, memory lacks
+abbrev pub not_pushed_reason : own.Pushed → NotPushedReason
+not_pushed_reason (pushes.Late n) = reasons.Late n
+not_pushed_reason pushes.Twice = reasons.Twice
+not_pushed_reason pushes.Full = reasons.Full
+not_pushed_reason answer = reasons.OutOfMemory

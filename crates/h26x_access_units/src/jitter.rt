@@ -1,0 +1,190 @@
+//! Packets that wait for those before them, by a window, by time and by bytes.
+
+ghost use Rattle.std.specs.Prelude.{◌≡◌, ◌+◌, ◌^◌, ◌<◌, ◌≤◌, ◌==◌, true, false, IfOk, OnErr, MatchOption, length, slice_get};
+ghost use Rattle.std.specs.Option.{option_map};
+ghost use Rattle.h26x_frames.specs.ReorderBuffer.{numbered_packet};
+ghost use Rattle.h26x_access_units.specs.Arrival.{deadline_of, has_waited};
+ghost use Rattle.h26x_access_units.specs.JitterBuffer.{fresh_jitter, held_bytes, is_past_limit, is_full, is_pressed, jitter_answer, after_jitter, due_packet, without_due};
+
+use crate::arrival::{Arrival, drop_number};
+use crate::config::AccessUnitConfig;
+use crate::pushed::Pushed;
+use h26x_frames::{self, HeldPacket, ReorderBuffer, RtpPacket};
+use std::alloc::{AllocError, Global};
+use std::collections::VecDeque;
+use std::marker::Model;
+
+/// Packets that wait for those before them, in the order of their sequence numbers (RFC 3550, 5.1),
+/// as in a [`ReorderBuffer`]: until those have come, or a window of packets has passed, or one has
+/// waited for so long, or more bytes wait than a limit.
+#[derive(Debug, Drop)]
+pub struct JitterBuffer {
+    config: AccessUnitConfig,
+    buffer: ReorderBuffer,
+    arrivals: VecDeque<Arrival>,
+    bytes: usize,
+    is_over: bool,
+}
+
+impl Model for JitterBuffer {
+    ghost use Rattle.h26x_access_units.specs.JitterBuffer.{JitterState, IsCounted, jitter_state};
+
+    ghost Value = { JitterState };
+
+    ghost view = { λ j. jitter_state j.config j.buffer j.arrivals.items j.is_over };
+
+    ghost invariant = { λ j. IsCounted j.config j.buffer j.bytes };
+}
+
+impl JitterBuffer {
+    /// One in which no packet waits, and that takes any number as the first. It takes no memory.
+    pub fn new(alloc: Global, config: AccessUnitConfig) -> Self
+        requires some { 0 < config.window }
+        requires half { config.window ≤ 2 ^ 14 }
+        ensures { result ≡ fresh_jitter config }
+    {
+        JitterBuffer {
+            config,
+            buffer: ReorderBuffer::new(alloc, config.window),
+            arrivals: VecDeque::new(alloc),
+            bytes: 0,
+            is_over: false,
+        }
+    }
+
+    /// How many packets wait.
+    pub fn len(&self) -> usize
+        ensures { result ≡ length self.now.buffer.held }
+    {
+        self.buffer.len()
+    }
+
+    /// Whether none waits.
+    pub fn is_empty(&self) -> bool
+        ensures { result ≡ (length self.now.buffer.held == 0) }
+    {
+        self.buffer.is_empty()
+    }
+
+    /// How many bytes of payloads wait.
+    pub fn bytes_len(&self) -> usize
+        ensures { result ≡ held_bytes self.now.buffer.held }
+    {
+        self.bytes
+    }
+
+    /// How many bytes wait with so many more, where these may wait.
+    fn bytes_with(&self, len: usize) -> Option<usize>
+        ensures { MatchOption result (is_full self.now len ≡ true) (λ bytes.
+            (is_full self.now len ≡ false) × (bytes ≡ held_bytes self.now.buffer.held + len)) }
+    {
+        if self.bytes > self.config.held_limit {
+            None
+        } else {
+            self.bytes.checked_add(len)
+        }
+    }
+
+    /// Takes a packet that came at this tick, and copies it if it is to wait. Without memory all stays
+    /// as it was, and the packet can be given again.
+    pub fn push(&mut self, now: u32, packet: &RtpPacket<'_>) -> Result<Pushed, AllocError>
+        ensures answer { IfOk result (λ answer. answer ≡ jitter_answer self.old packet.now) }
+        ensures after { IfOk result (λ answer.
+            self.new ≡ after_jitter now self.old packet.now answer) }
+        ensures kept { OnErr result (self.new ≡ self.old) }
+    {
+        let bytes = match self.bytes_with(packet.payload.len()) {
+            Some(bytes) => bytes,
+            None => return Ok(Pushed::Full),
+        };
+        self.arrivals.reserve(1)?;
+        match self.buffer.push(packet)? {
+            h26x_frames::Pushed::Held => {
+                self.bytes = bytes;
+                self.arrivals.push_back_reserved(Arrival {
+                    number: packet.sequence,
+                    at: now,
+                });
+                Ok(Pushed::Held)
+            }
+            h26x_frames::Pushed::Late(count) => Ok(Pushed::Late(count)),
+            h26x_frames::Pushed::Twice => Ok(Pushed::Twice),
+        }
+    }
+
+    /// Whether the first packet isn't to wait for those before it.
+    fn is_pressed(&self, now: u32) -> bool
+        ensures { result ≡ is_pressed now self.now }
+    {
+        self.is_over || self.bytes > self.config.held_limit || self.has_waited(now)
+    }
+
+    /// Whether the packet that waits longest has waited long enough.
+    fn has_waited(&self, now: u32) -> bool
+        ensures { result ≡ has_waited self.now.config.max_wait now self.now.arrivals }
+    {
+        match self.arrivals.front() {
+            Some(arrival) => {
+                let max_wait = self.config.max_wait;
+                max_wait != u32::MAX && now.wrapping_sub(arrival.at) >= max_wait
+            }
+            None => false,
+        }
+    }
+
+    /// The packet that is due at this tick, if one is. It stays until it is popped.
+    pub fn first_due(&self, now: u32) -> Option<&HeldPacket>
+        ensures { option_map (λ p. numbered_packet p.now) result ≡ due_packet now self.now }
+    {
+        if self.is_pressed(now) || self.buffer.is_ready() {
+            self.buffer.first()
+        } else {
+            None
+        }
+    }
+
+    /// The first packet, due or not.
+    pub fn pop_first(&mut self) -> Option<HeldPacket>
+        ensures packet { option_map numbered_packet result ≡ slice_get self.old.buffer.held 0 }
+        ensures after { self.new ≡ without_due self.old }
+    {
+        match self.buffer.pop_first() {
+            Some(packet) => {
+                drop_number(&mut self.arrivals, packet.sequence);
+                self.bytes -= packet.payload.len();
+                Some(packet)
+            }
+            None => None,
+        }
+    }
+
+    /// When a packet will have waited for as long as one may, in the caller's ticks: none where none
+    /// waits, or no time is set.
+    pub fn deadline(&self) -> Option<u32>
+        ensures { result ≡ deadline_of self.now.config.max_wait self.now.arrivals }
+    {
+        match self.arrivals.front() {
+            Some(arrival) if self.config.max_wait != u32::MAX => {
+                Some(arrival.at.wrapping_add(self.config.max_wait))
+            }
+            _ => None,
+        }
+    }
+
+    /// At the end of a stream: all that waits is due.
+    pub fn finish(&mut self)
+        ensures { self.new ≡ record self.old { is_over = true } }
+    {
+        self.is_over = true;
+    }
+
+    /// Drops all that waits, and takes any number as the next: for another sender.
+    pub fn restart(&mut self)
+        ensures { self.new ≡ fresh_jitter self.old.config }
+    {
+        self.buffer.restart();
+        self.arrivals.clear();
+        self.bytes = 0;
+        self.is_over = false;
+    }
+}
