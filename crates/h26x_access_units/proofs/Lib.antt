@@ -1,2 +1,4 @@
 pub mod ArrivalLemmas
 pub mod JitterLemmas
+pub mod ReceptionLemmas
+pub mod MissingLemmas

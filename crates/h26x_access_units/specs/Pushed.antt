@@ -1,6 +1,9 @@
 -- What becomes of packets that are given to a receiver (ours).
+use Rattle.std.specs.Prelude.{◌≡◌, ◌⊎◌}
 use Rattle.h26x_frames.specs.declared.buffer.Pushed.{Pushed}
 use Rattle.h26x_frames.specs.declared.buffer.Pushed.TheVariants as frames
+use Rattle.h26x_frames.specs.declared.buffer.NotHeldReason.{NotHeldReason}
+use Rattle.h26x_frames.specs.declared.buffer.NotHeldReason.TheVariants as held
 use Rattle.h26x_access_units.specs.declared.pushed.Pushed as own
 use Rattle.h26x_access_units.specs.declared.pushed.Pushed.TheVariants as pushes
 use Rattle.h26x_access_units.specs.declared.pushed.NotPushedReason.{NotPushedReason}
@@ -18,3 +21,14 @@ not_pushed_reason (pushes.Late n) = reasons.Late n
 not_pushed_reason pushes.Twice = reasons.Twice
 not_pushed_reason pushes.Full = reasons.Full
 not_pushed_reason answer = reasons.OutOfMemory
+
+-- what a reorder buffer says
+abbrev pub as_not_pushed : NotHeldReason → NotPushedReason
+as_not_pushed (held.Late n) = reasons.Late n
+as_not_pushed held.Twice = reasons.Twice
+as_not_pushed held.OutOfMemory = reasons.OutOfMemory
+
+-- why a packet that is given by value doesn't wait: memory lacks, or what is answered for it
+abbrev pub IsNotPushedReason : own.Pushed → NotPushedReason → Type 0
+IsNotPushedReason answer reason = (reason ≡ reasons.OutOfMemory)
+    ⊎ (reason ≡ not_pushed_reason answer)

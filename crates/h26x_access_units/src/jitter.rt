@@ -1,18 +1,32 @@
 //! Packets that wait for those before them, by a window, by time and by bytes.
 
-ghost use Rattle.std.specs.Prelude.{◌≡◌, ◌+◌, ◌^◌, ◌<◌, ◌≤◌, ◌==◌, true, false, IfOk, OnErr, MatchOption, length, slice_get};
+ghost use Rattle.std.specs.Prelude.{◌≡◌, ◌+◌, ◌^◌, ◌<◌, ◌≤◌, ◌==◌, ◌++◌, true, false, IfOk, IfErr, OnOk, OnErr, MatchOption, length, slice_get};
 ghost use Rattle.std.specs.Option.{option_map};
 ghost use Rattle.h26x_frames.specs.ReorderBuffer.{numbered_packet};
 ghost use Rattle.h26x_access_units.specs.Arrival.{deadline_of, has_waited};
-ghost use Rattle.h26x_access_units.specs.JitterBuffer.{fresh_jitter, held_bytes, is_past_limit, is_full, is_pressed, jitter_answer, after_jitter, due_packet, without_due};
+ghost use Rattle.h26x_access_units.specs.Pushed.{IsNotPushedReason};
+ghost use Rattle.h26x_access_units.specs.Missing.{numbers_from, missing_numbers};
+ghost use Rattle.h26x_access_units.specs.JitterBuffer.{with_packet, fresh_jitter, held_bytes, is_past_limit, is_full, is_pressed, jitter_answer, after_jitter, due_packet, without_due};
 
 use crate::arrival::{Arrival, drop_number};
 use crate::config::AccessUnitConfig;
-use crate::pushed::Pushed;
+use crate::pushed::{NotPushed, NotPushedReason, Pushed, as_not_pushed};
 use h26x_frames::{self, HeldPacket, ReorderBuffer, RtpPacket};
 use std::alloc::{AllocError, Global};
 use std::collections::VecDeque;
 use std::marker::Model;
+
+/// Appends numbers from one on, so many.
+fn append_numbers(numbers: &mut Vec<u16>, first: u16, count: u16) -> Result<(), AllocError>
+    ensures { OnOk result (numbers.new.items ≡ numbers.old.items ++ numbers_from first count) }
+{
+    let mut number = first;
+    for _ in 0..count {
+        numbers.push(number)?;
+        number = number.wrapping_add(1);
+    }
+    Ok(())
+}
 
 /// Packets that wait for those before them, in the order of their sequence numbers (RFC 3550, 5.1),
 /// as in a [`ReorderBuffer`]: until those have come, or a window of packets has passed, or one has
@@ -27,6 +41,7 @@ pub struct JitterBuffer {
 }
 
 impl Model for JitterBuffer {
+    ghost use Rattle.h26x_access_units.specs.Pushed.{IsNotPushedReason};
     ghost use Rattle.h26x_access_units.specs.JitterBuffer.{JitterState, IsCounted, jitter_state};
 
     ghost Value = { JitterState };
@@ -112,6 +127,49 @@ impl JitterBuffer {
         }
     }
 
+    /// Takes a packet that has memory of its own, and copies nothing of it. One that doesn't wait comes
+    /// back as it was given, with the reason, and all stays as it was.
+    pub fn push_held(&mut self, now: u32, packet: HeldPacket) -> Result<(), NotPushed>
+        ensures held { OnOk result
+            (jitter_answer self.old (numbered_packet packet) ≡ Pushed.Held) }
+        ensures after { OnOk result (self.new ≡ with_packet now self.old (numbered_packet packet)) }
+        ensures back { IfErr result (λ it. it.packet ≡ packet) }
+        ensures reason { IfErr result (λ it. IsNotPushedReason
+            (jitter_answer self.old (numbered_packet packet)) it.reason) }
+        ensures kept { OnErr result (self.new ≡ self.old) }
+    {
+        let bytes = match self.bytes_with(packet.payload.len()) {
+            Some(bytes) => bytes,
+            None => {
+                return Err(NotPushed {
+                    packet,
+                    reason: NotPushedReason::Full,
+                });
+            }
+        };
+        if self.arrivals.reserve(1).is_err() {
+            return Err(NotPushed {
+                packet,
+                reason: NotPushedReason::OutOfMemory,
+            });
+        }
+        let arrival = Arrival {
+            number: packet.sequence,
+            at: now,
+        };
+        match self.buffer.push_held(packet) {
+            Ok(()) => {
+                self.bytes = bytes;
+                self.arrivals.push_back_reserved(arrival);
+                Ok(())
+            }
+            Err(not_held) => Err(NotPushed {
+                packet: not_held.packet,
+                reason: as_not_pushed(not_held.reason),
+            }),
+        }
+    }
+
     /// Whether the first packet isn't to wait for those before it.
     fn is_pressed(&self, now: u32) -> bool
         ensures { result ≡ is_pressed now self.now }
@@ -158,6 +216,26 @@ impl JitterBuffer {
         }
     }
 
+    /// The numbers that are missing before packets that wait, in order, from the one that is due on: for
+    /// a NACK (RFC 4585, 6.2.1). Of a stream that begins the first of them are those of the window
+    /// before the first packet that came.
+    pub fn missing(&self) -> Result<Vec<u16>, AllocError>
+        ensures { IfOk result (λ numbers.
+            numbers.items ≡ missing_numbers self.now.buffer.due self.now.buffer.held) }
+    {
+        let mut numbers = Vec::new(*self.arrivals.allocator());
+        let mut from = match self.buffer.due() {
+            Some(due) => due,
+            None => return Ok(numbers),
+        };
+        for place in 0..self.buffer.len() {
+            let number = self.buffer.number_at(place);
+            append_numbers(&mut numbers, from, number.wrapping_sub(from))?;
+            from = number.wrapping_add(1);
+        }
+        Ok(numbers)
+    }
+
     /// When a packet will have waited for as long as one may, in the caller's ticks: none where none
     /// waits, or no time is set.
     pub fn deadline(&self) -> Option<u32>
@@ -169,6 +247,13 @@ impl JitterBuffer {
             }
             _ => None,
         }
+    }
+
+    /// Whether the stream has ended.
+    pub fn is_over(&self) -> bool
+        ensures { result ≡ self.now.is_over }
+    {
+        self.is_over
     }
 
     /// At the end of a stream: all that waits is due.

@@ -4,11 +4,22 @@
 #![tactic(auto)]
 
 mod arrival;
+mod cases;
 mod config;
+mod counts;
 mod jitter;
+mod numbers;
 mod pushed;
+mod receiver;
+#[cfg(test)]
+mod tests;
+mod unit;
 
 pub use arrival::Arrival;
 pub use config::AccessUnitConfig;
+pub use counts::Counts;
 pub use jitter::JitterBuffer;
+pub use numbers::UnitNumbers;
 pub use pushed::{NotPushed, NotPushedReason, Pushed};
+pub use receiver::AccessUnitReceiver;
+pub use unit::ReceivedUnit;

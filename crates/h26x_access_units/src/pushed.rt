@@ -3,7 +3,7 @@
 ghost use Rattle.std.specs.Prelude.{◌≡◌};
 ghost use Rattle.h26x_access_units.specs.Pushed as spec;
 
-use h26x_frames::HeldPacket;
+use h26x_frames::{HeldPacket, NotHeldReason};
 
 /// What became of a packet that was given to a receiver.
 #[derive(Debug, Clone, Copy, PartialEq, Eq)]
@@ -51,4 +51,15 @@ pub struct NotPushed {
     pub packet: HeldPacket,
     /// Why it doesn't wait.
     pub reason: NotPushedReason,
+}
+
+/// Why a packet doesn't wait, by what a reorder buffer says.
+pub(crate) fn as_not_pushed(reason: NotHeldReason) -> NotPushedReason
+    ensures { result ≡ spec.as_not_pushed reason }
+{
+    match reason {
+        NotHeldReason::Late(count) => NotPushedReason::Late(count),
+        NotHeldReason::Twice => NotPushedReason::Twice,
+        NotHeldReason::OutOfMemory => NotPushedReason::OutOfMemory,
+    }
 }

@@ -1,0 +1,25 @@
+use Rattle.std.proofs.Common.{◌≡◌, ◌∙◌, ap, sym, map, ℕ, Some}
+use Rattle.h26x_frames.specs.Rtp.{RtpBody}
+use Rattle.h26x_frames.specs.AccessUnit.{access_unit_value, open_depacketization}
+use Rattle.h26x_access_units.specs.Reception.{reception}
+use Rattle.h26x_access_units.proofs.ReceptionLemmas.{due_stands}
+use Rattle.h26x_access_units.proofs.receiver.AccessUnitReceiver.take_due.Goals as goal
+
+pub returns-clause-taken : goal.returns-clause-taken
+returns-clause-taken g c =
+    let old = c.args.self.now in
+    let state = g.D.RunDepacketizer.state in
+    let frames = c.take_packet-received.new.frames in
+    let ended = c.take_packet-received.new.ended in
+    record {
+      packet = c.packet-packet.result;
+      answer = c.take_packet-received.result;
+      due = sym c.in-Some.ensures ∙ ap (λ (p : ℕ × RtpBody). Some p) (sym c.packet-packet.ensures);
+      answered = c.take_packet-received.ensures.answer;
+      room = λ bad. absurd (let h = c.is_want_of_memory.ensures.1 bad in cc);
+      stands = due_stands
+          (reception old.waiting (open_depacketization (state old.frames.packets.depacketizer) old.frames.packets.expected old.frames.unit (map access_unit_value old.ended.items)) old.numbers old.is_clean old.counts old.frames.packets.run_limit old.frames.unit_limit)
+          c.packet-packet.result c.take_packet-received.result c.pop_first.new.self (open_depacketization (state frames.packets.depacketizer) frames.packets.expected frames.unit (map access_unit_value ended.items))
+          c.note.new.self c.note-2.new.self frames.packets.run_limit frames.unit_limit
+          c.pop_first.ensures.after c.take_packet-received.ensures.after c.note.ensures c.note-2.ensures c.take_packet-received.ensures.limit c.take_packet-received.ensures.unit_limit;
+    }

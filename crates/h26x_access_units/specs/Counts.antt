@@ -1,0 +1,77 @@
+-- What a receiver counts (ours).
+use Rattle.std.specs.Prelude.{ℕ, ◌+◌, ◌-◌, ◌^◌, min, Bool, true, false, if◌then◌else◌, List, Result, Ok, Err}
+use Rattle.h26x_core.specs.declared.error.PacketError.{PacketError}
+use Rattle.h26x_receiver.specs.declared.received.Received.{Received}
+use Rattle.h26x_receiver.specs.declared.received.Received.TheVariants.{TooLong, Late}
+use Rattle.h26x_access_units.specs.declared.counts.Counts.{Counts}
+use Rattle.h26x_access_units.specs.declared.pushed.Pushed.{Pushed}
+use Rattle.h26x_access_units.specs.declared.pushed.Pushed.TheVariants as pushes
+use Rattle.h26x_access_units.specs.Numbers.{missing_told, bears_nothing}
+
+-- nothing was counted
+abbrev pub no_counts : Counts
+no_counts = record {
+  taken = 0;
+  lost = 0;
+  late = 0;
+  twice = 0;
+  stray = 0;
+  refused = 0;
+  skipped = 0;
+  anew = 0;
+  units = 0;
+  whole = 0;
+  units_given_up = 0;
+}
+
+-- so many more, to 2^64 - 1
+abbrev pub count_up : ℕ → ℕ → ℕ
+count_up count more = min (count + more) (2 ^ 64 - 1)
+
+-- a packet that was given to a receiver
+abbrev pub counted_push : Counts → Pushed → Counts
+counted_push c (pushes.Late n) = record c { late = count_up c.late 1 }
+counted_push c pushes.Twice = record c { twice = count_up c.twice 1 }
+counted_push c pushes.Stray = record c { stray = count_up c.stray 1 }
+counted_push c pushes.Anew = record c { anew = count_up c.anew 1 }
+counted_push c answer = c
+
+-- whether an answer says that an open NAL unit was given up
+abbrev pub given_up : Received → ℕ
+given_up (TooLong n) = 1
+given_up answer = 0
+
+-- a packet that was taken, by what was answered
+abbrev pub counted_taken : Counts → Received → Counts
+counted_taken c answer = record c {
+  taken = count_up c.taken 1;
+  lost = count_up c.lost (missing_told answer);
+  units_given_up = count_up c.units_given_up (given_up answer);
+}
+
+-- a packet that was due
+abbrev pub counted_answer : Counts → Result Received PacketError → Counts
+counted_answer c (Ok (Late n)) = record c { late = count_up c.late 1 }
+counted_answer c (Ok answer) = counted_taken c answer
+counted_answer c (Err error) = record c { refused = count_up c.refused 1 }
+
+-- a number that bears nothing
+abbrev pub counted_skip : Counts → Received → Counts
+counted_skip c (Late n) = record c { late = count_up c.late 1 }
+counted_skip c answer = record c {
+  skipped = count_up c.skipped 1;
+  lost = count_up c.lost (missing_told answer);
+}
+
+-- a packet that was due, with its payload
+abbrev pub counted_due : Counts → List ℕ → Result Received PacketError → Counts
+counted_due c payload (Ok answer) =
+    if bears_nothing payload then counted_skip c answer else counted_answer c (Ok answer)
+counted_due c payload (Err error) = counted_answer c (Err error)
+
+-- an access unit that is given out
+abbrev pub counted_unit : Counts → Bool → Counts
+counted_unit c is_whole = record c {
+  units = count_up c.units 1;
+  whole = count_up c.whole (if is_whole then 1 else 0);
+}

@@ -1,0 +1,19 @@
+-- Numbers that are missing before packets that wait (RFC 4585, 6.2.1; ours).
+use Rattle.std.specs.Prelude.{ℕ, zero, suc, List, [], ◌∷◌, ◌++◌, Option, Some, None}
+use Rattle.h26x_receiver.specs.Sequence.{next_sequence_number, distance_ahead}
+
+-- so many numbers, from one on
+abbrev pub numbers_from : ℕ → ℕ → List ℕ
+numbers_from first zero = []
+numbers_from first (suc count) = first ∷ numbers_from (next_sequence_number first) count
+
+-- the numbers that are missing before packets, where a number is due
+abbrev pub missing_before : {A : Type 0} → ℕ → List (ℕ × A) → List ℕ
+missing_before due [] = []
+missing_before due (p ∷ held) = numbers_from due (distance_ahead due p.0)
+    ++ missing_before (next_sequence_number p.0) held
+
+-- so of what waits: none before a packet came
+abbrev pub missing_numbers : {A : Type 0} → Option ℕ → List (ℕ × A) → List ℕ
+missing_numbers None held = []
+missing_numbers (Some due) held = missing_before due held

@@ -1,0 +1,128 @@
+-- The sequence numbers of the packets of access units (RFC 3550, 5.1; ours).
+use Rattle.std.specs.Prelude.{ℕ, ◌+◌, ◌-◌, ◌^◌, ◌==◌, min, Bool, true, false, if◌then◌else◌, List, [], ◌∷◌, Option, Some, None, Result, Ok, Err}
+use Rattle.h26x_core.specs.declared.error.PacketError.{PacketError}
+use Rattle.h26x_receiver.specs.declared.received.Received.{Received}
+use Rattle.h26x_receiver.specs.declared.received.Received.TheVariants.{Gap, TooLong, Late}
+use Rattle.h26x_frames.specs.Rtp.{RtpBody}
+use Rattle.h26x_access_units.specs.declared.numbers.UnitNumbers.{UnitNumbers}
+use Rattle.h26x_access_units.specs.declared.numbers.NumbersSoFar.{NumbersSoFar}
+
+-- how many numbers an answer tells to be missing
+abbrev pub missing_told : Received → ℕ
+missing_told (Gap n) = n
+missing_told (TooLong n) = n
+missing_told answer = 0
+
+-- before any packet
+abbrev pub fresh_numbers : NumbersSoFar
+fresh_numbers = record {
+  unit = None;
+  marked = None;
+  skipped_gap = 0;
+  ended = None;
+  ended_by_marker = None;
+}
+
+-- as many more missing, counted to 2^32 - 1
+abbrev pub missing_sum : ℕ → ℕ → ℕ
+missing_sum count more = min (count + more) (2 ^ 32 - 1)
+
+-- whether it is this timestamp
+abbrev pub is_timestamp : Option ℕ → ℕ → Bool
+is_timestamp None timestamp = false
+is_timestamp (Some marked) timestamp = marked == timestamp
+
+-- the numbers of an access unit of which a packet is the first
+abbrev pub numbers_from : Option ℕ → ℕ × RtpBody → ℕ → UnitNumbers
+numbers_from marked p missing = record {
+  timestamp = p.1.timestamp;
+  first = p.0;
+  last = p.0;
+  missing = missing;
+  continues = is_timestamp marked p.1.timestamp;
+}
+
+-- with a packet more
+abbrev pub numbers_to : UnitNumbers → ℕ × RtpBody → ℕ → UnitNumbers
+numbers_to unit p missing = record unit {
+  last = p.0;
+  missing = missing_sum unit.missing missing;
+}
+
+-- the numbers of a packet's access unit: the one that is open, where it has its timestamp
+abbrev pub numbers_with : Option UnitNumbers → Option ℕ → ℕ × RtpBody → ℕ → UnitNumbers
+numbers_with None marked p missing = numbers_from marked p missing
+numbers_with (Some unit) marked p missing =
+    if unit.timestamp == p.1.timestamp then numbers_to unit p missing
+    else numbers_from marked p missing
+
+-- so of what is known so far
+abbrev pub unit_numbers : NumbersSoFar → ℕ × RtpBody → ℕ → UnitNumbers
+unit_numbers n p missing = numbers_with n.unit n.marked p missing
+
+-- the numbers of the access unit that a timestamp ends, if it is another one
+abbrev pub numbers_ended : Option UnitNumbers → ℕ → Option UnitNumbers
+numbers_ended None timestamp = None
+numbers_ended (Some unit) timestamp =
+    if unit.timestamp == timestamp then None else Some unit
+
+-- after a number that was skipped, before which so many are missing
+abbrev pub after_gap : NumbersSoFar → ℕ → NumbersSoFar
+after_gap n missing = record n { skipped_gap = missing_sum n.skipped_gap missing }
+
+-- after a packet, before which so many are missing
+abbrev pub after_packet : NumbersSoFar → ℕ × RtpBody → ℕ → NumbersSoFar
+after_packet n p missing = record {
+  unit = if p.1.marker then None
+      else Some (unit_numbers n p (missing_sum n.skipped_gap missing));
+  marked = if p.1.marker then Some p.1.timestamp else None;
+  skipped_gap = 0;
+  ended = numbers_ended n.unit p.1.timestamp;
+  ended_by_marker = if p.1.marker
+      then Some (unit_numbers n p (missing_sum n.skipped_gap missing)) else None;
+}
+
+-- whether a packet bears nothing of the stream
+abbrev pub bears_nothing : List ℕ → Bool
+bears_nothing [] = true
+bears_nothing (byte ∷ bytes) = false
+
+-- after a packet that was due and has a payload, by what was answered
+abbrev pub numbers_taken : NumbersSoFar → ℕ × RtpBody → Received → NumbersSoFar
+numbers_taken n p (Late k) = n
+numbers_taken n p answer = after_packet n p (missing_told answer)
+
+-- after any that was due; one that was refused changes nothing
+abbrev pub numbers_after : NumbersSoFar → ℕ × RtpBody → Result Received PacketError →
+    NumbersSoFar
+numbers_after n p (Ok answer) =
+    if bears_nothing p.1.payload then after_gap n (missing_told answer)
+    else numbers_taken n p answer
+numbers_after n p (Err error) = n
+
+-- after the end, which ends the access unit that is open
+abbrev pub after_last : NumbersSoFar → NumbersSoFar
+after_last n = record fresh_numbers { ended = n.unit }
+
+-- those of an access unit of which no packet came
+abbrev pub no_numbers : UnitNumbers
+no_numbers = record { timestamp = 0; first = 0; last = 0; missing = 0; continues = false }
+
+-- those of the first access unit that ended
+abbrev pub first_of_ended : Option UnitNumbers → Option UnitNumbers → UnitNumbers
+first_of_ended (Some numbers) other = numbers
+first_of_ended None (Some numbers) = numbers
+first_of_ended None None = no_numbers
+
+-- so of what is known so far
+abbrev pub first_ended : NumbersSoFar → UnitNumbers
+first_ended n = first_of_ended n.ended n.ended_by_marker
+
+-- once it is given out
+abbrev pub without_first_of : NumbersSoFar → Option UnitNumbers → NumbersSoFar
+without_first_of n (Some numbers) = record n { ended = None }
+without_first_of n None = record n { ended_by_marker = None }
+
+-- so of what is known so far
+abbrev pub without_first_ended : NumbersSoFar → NumbersSoFar
+without_first_ended n = without_first_of n n.ended

@@ -1,0 +1,62 @@
+-- Access units as a receiver gives them out (RFC 6184, 5.1; RFC 7798, 4.1; RFC 9328, 4.1; ours).
+use Rattle.std.specs.Prelude.{ℕ, Bool, false, ◌&&◌, ◌||◌, not, List}
+use Rattle.h26x_core.specs.declared.extra.CodecExtra.{CodecExtra}
+use Rattle.h26x_core.specs.declared.extra.CodecExtra.TheVariants as extras
+use Rattle.h26x_frames.specs.AccessUnit.{AccessUnitValue}
+use Rattle.h26x_access_units.specs.declared.numbers.UnitNumbers.{UnitNumbers}
+use Rattle.h26x_access_units.specs.declared.unit.ReceivedUnit.{ReceivedUnit}
+
+-- an access unit as it is given out, its bytes as a list
+pub record ReceivedUnitValue : Type 0 where
+  pub timestamp : ℕ
+  pub bytes : List ℕ
+  pub extra : CodecExtra
+  pub is_whole : Bool
+  pub is_clean : Bool
+  pub continues : Bool
+  pub first : ℕ
+  pub last : ℕ
+  pub missing : ℕ
+
+-- that of the code
+abbrev pub received_unit_value : ReceivedUnit → ReceivedUnitValue
+received_unit_value unit = record {
+  timestamp = unit.timestamp;
+  bytes = unit.bytes.items;
+  extra = unit.extra;
+  is_whole = unit.is_whole;
+  is_clean = unit.is_clean;
+  continues = unit.continues;
+  first = unit.first;
+  last = unit.last;
+  missing = unit.missing;
+}
+
+-- whether a keyframe is told of
+abbrev pub is_keyframe : CodecExtra → Bool
+is_keyframe extras.None = false
+is_keyframe (extras.H264 extra) = extra.is_keyframe
+is_keyframe (extras.H265 extra) = extra.is_keyframe
+is_keyframe (extras.H266 extra) = extra.is_keyframe
+
+-- whether nothing is missing in an access unit, nor was since a keyframe, or it is one
+abbrev pub clean_with : Bool → AccessUnitValue → Bool
+clean_with was_clean unit = unit.is_whole && (is_keyframe unit.extra || was_clean)
+
+-- whether an access unit is told to be whole: it doesn't go on with another one
+abbrev pub whole_with : AccessUnitValue → UnitNumbers → Bool
+whole_with unit numbers = unit.is_whole && not numbers.continues
+
+-- an access unit with its numbers
+abbrev pub received_unit : Bool → AccessUnitValue → UnitNumbers → ReceivedUnitValue
+received_unit was_clean unit numbers = record {
+  timestamp = unit.timestamp;
+  bytes = unit.bytes;
+  extra = unit.extra;
+  is_whole = whole_with unit numbers;
+  is_clean = clean_with was_clean unit;
+  continues = numbers.continues;
+  first = numbers.first;
+  last = numbers.last;
+  missing = numbers.missing;
+}

@@ -1,0 +1,151 @@
+-- What a receiver of packets that come in any order does (RFC 3550, 5.1; ours).
+use Rattle.std.specs.Prelude.{◌≡◌, ℕ, ◌==◌, Bool, true, false, ◌&&◌, if◌then◌else◌, List, [], ◌∷◌, Option, Some, None, Result, Ok, Err, MatchBool}
+use Rattle.h26x_core.specs.declared.error.PacketError.{PacketError}
+use Rattle.h26x_core.specs.declared.error.PacketError.TheVariants.{OutOfMemory}
+use Rattle.h26x_model.specs.Receive.DepacketizerState.{DepacketizerState}
+use Rattle.h26x_receiver.specs.declared.received.Received.{Received}
+use Rattle.h26x_receiver.specs.Sequenced.{skip_answer}
+use Rattle.h26x_frames.specs.Rtp.{RtpBody}
+use Rattle.h26x_frames.specs.AccessUnit.{AccessUnitValue, UnitDepacketization, none_open, open_depacketization, IsUnitAnswer, after_rtp, after_unit_skip, after_end}
+use Rattle.h26x_access_units.specs.declared.config.AccessUnitConfig.{AccessUnitConfig}
+use Rattle.h26x_access_units.specs.declared.counts.Counts.{Counts}
+use Rattle.h26x_access_units.specs.declared.numbers.NumbersSoFar.{NumbersSoFar}
+use Rattle.h26x_access_units.specs.declared.pushed.Pushed.{Pushed}
+use Rattle.h26x_access_units.specs.Counts.{no_counts, counted_push, counted_due, counted_unit}
+use Rattle.h26x_access_units.specs.JitterBuffer.{JitterState, jitter_answer, after_jitter, due_packet, without_due, fresh_jitter}
+use Rattle.h26x_access_units.specs.Numbers.{fresh_numbers, bears_nothing, numbers_after, after_last, first_ended, without_first_ended}
+use Rattle.h26x_access_units.specs.ReceivedUnit.{ReceivedUnitValue, received_unit, clean_with, whole_with}
+
+-- what a receiver is to contracts: what waits; the receiver of access units, those that ended and
+-- weren't given out; their numbers; whether nothing was missing since a keyframe; the counts; and the
+-- limits on an open run and on an open access unit
+pub record Reception : Type 0 where
+  pub waiting : JitterState
+  pub frames : UnitDepacketization
+  pub numbers : NumbersSoFar
+  pub is_clean : Bool
+  pub counts : Counts
+  pub run_limit : ℕ
+  pub unit_limit : ℕ
+
+-- these
+abbrev pub reception : JitterState → UnitDepacketization → NumbersSoFar → Bool → Counts → ℕ → ℕ →
+    Reception
+reception waiting frames numbers is_clean counts run_limit unit_limit = record {
+  waiting = waiting;
+  frames = frames;
+  numbers = numbers;
+  is_clean = is_clean;
+  counts = counts;
+  run_limit = run_limit;
+  unit_limit = unit_limit;
+}
+
+-- before any packet came
+abbrev pub fresh_reception : AccessUnitConfig → DepacketizerState → Reception
+fresh_reception config state = reception (fresh_jitter config)
+    (open_depacketization state None none_open []) fresh_numbers false no_counts config.run_limit
+    config.unit_limit
+
+-- before any packet of another sender came
+abbrev pub restarted : Reception → Reception
+restarted s = record s {
+  waiting = fresh_jitter s.waiting.config;
+  frames = open_depacketization s.frames.state None none_open [];
+  numbers = fresh_numbers;
+  is_clean = false;
+}
+
+-- after a packet came, at this tick, that is answered so
+abbrev pub after_reception : ℕ → Reception → ℕ × RtpBody → Pushed → Reception
+after_reception now s p answer = record s {
+  waiting = after_jitter now s.waiting p answer;
+  counts = counted_push s.counts answer;
+}
+
+-- what is answered for a packet that is given to the receiver of access units: one that bears nothing
+-- is skipped
+abbrev pub IsAnswerTo : ℕ → UnitDepacketization → ℕ × RtpBody → Result Received PacketError →
+    Type 0
+IsAnswerTo most s p answer = MatchBool (bears_nothing p.1.payload)
+    (answer ≡ Ok (skip_answer s.expected p.0)) (IsUnitAnswer most s p answer)
+
+-- that receiver afterwards
+abbrev pub frames_after : ℕ → ℕ → UnitDepacketization → ℕ × RtpBody →
+    Result Received PacketError → UnitDepacketization
+frames_after most limit s p answer =
+    if bears_nothing p.1.payload then after_unit_skip s p.0 else after_rtp most limit s p answer
+
+-- after a packet that was due and was answered so: it waits no more
+abbrev pub after_due : Reception → ℕ × RtpBody → Result Received PacketError → Reception
+after_due s p answer = record s {
+  waiting = without_due s.waiting;
+  frames = frames_after s.run_limit s.unit_limit s.frames p answer;
+  numbers = numbers_after s.numbers p answer;
+  counts = counted_due s.counts p.1.payload answer;
+}
+
+-- a packet that was due was taken, or passed over
+pub record IsDueTaken (now : ℕ) (s new : Reception) : Type 0 where
+  pub packet : ℕ × RtpBody
+  pub answer : Result Received PacketError
+  pub due : due_packet now s.waiting ≡ Some packet
+  pub answered : IsAnswerTo s.run_limit s.frames packet answer
+  pub room : answer ≡ Err OutOfMemory → ⊥
+  pub stands : new ≡ after_due s packet answer
+
+-- packets that were due were taken, one after the other, as long as no access unit had ended
+pub data IsDrained (now : ℕ) (s : Reception) : Reception → Type 0 where
+  none : IsDrained now s s
+  more : {t u : Reception} → IsDrained now s t → t.frames.ended ≡ [] → IsDueTaken now t u →
+      IsDrained now s u
+
+-- after the end of the stream: the access unit that was open ended, and any number is next
+abbrev pub after_finish : Reception → Reception
+after_finish s = record s {
+  waiting = fresh_jitter s.waiting.config;
+  frames = after_end s.frames;
+  numbers = after_last s.numbers;
+}
+
+-- whether a list has no entry
+abbrev pub has_no_unit : List AccessUnitValue → Bool
+has_no_unit [] = true
+has_no_unit (unit ∷ units) = false
+
+-- at the end of the stream, once no access unit that ended is left, the one that is open ends
+abbrev pub ended_if_over : Reception → Reception
+ended_if_over s =
+    if has_no_unit s.frames.ended && s.waiting.is_over then after_finish s else s
+
+-- the first access unit that ended
+abbrev pub given_of : Reception → List AccessUnitValue → Option ReceivedUnitValue
+given_of s [] = None
+given_of s (unit ∷ units) = Some (received_unit s.is_clean unit (first_ended s.numbers))
+
+-- so of a receiver
+abbrev pub given : Reception → Option ReceivedUnitValue
+given s = given_of s s.frames.ended
+
+-- once it is given out
+abbrev pub without_given_of : Reception → List AccessUnitValue → Reception
+without_given_of s [] = s
+without_given_of s (unit ∷ units) = record s {
+  frames = record s.frames { ended = units };
+  numbers = without_first_ended s.numbers;
+  is_clean = clean_with s.is_clean unit;
+  counts = counted_unit s.counts (whole_with unit (first_ended s.numbers));
+}
+
+-- so of a receiver
+abbrev pub without_given : Reception → Reception
+without_given s = without_given_of s s.frames.ended
+
+-- The next access unit: packets that were due were taken until one ended or none was due, and the
+-- first that ended is given out.
+pub record IsNext (now : ℕ) (s new : Reception) (unit : Option ReceivedUnitValue) : Type 0 where
+  pub drained : Reception
+  pub taken : IsDrained now s drained
+  pub until : drained.frames.ended ≡ [] → due_packet now drained.waiting ≡ None
+  pub unit_is : unit ≡ given (ended_if_over drained)
+  pub stands : new ≡ without_given (ended_if_over drained)

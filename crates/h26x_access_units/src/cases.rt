@@ -1,0 +1,40 @@
+//! Worked cases of the definitions, each the contract of a function without a result.
+
+ghost use Rattle.std.specs.Prelude.{◌≡◌, ℕ, List, true, false, ◌-◌, ◌^◌, None, Some, [], ◌∷◌};
+ghost use Rattle.h26x_access_units.specs.Arrival.{arrival_of, without_number, deadline_of, has_waited};
+ghost use Rattle.h26x_access_units.specs.Missing.{missing_numbers};
+ghost use Rattle.h26x_access_units.specs.Numbers.{missing_sum};
+ghost use Rattle.h26x_access_units.specs.Counts.{count_up};
+
+/// A packet that came 16 ticks before they go round, and may wait for 100: the 84th is the last.
+pub fn ticks_that_go_round()
+    ensures deadline { deadline_of 100 (arrival_of 5 0xfffffff0 ∷ []) ≡ Some 84 }
+    ensures not_yet { has_waited 100 83 (arrival_of 5 0xfffffff0 ∷ []) ≡ false }
+    ensures just { has_waited 100 84 (arrival_of 5 0xfffffff0 ∷ arrival_of 6 80 ∷ []) ≡ true }
+    ensures at_once { has_waited 0 7 (arrival_of 5 7 ∷ []) ≡ true }
+    ensures never { has_waited 0xffffffff 6 (arrival_of 5 7 ∷ []) ≡ false }
+    ensures none { deadline_of 100 [] ≡ None }
+    ensures no_time { deadline_of 0xffffffff (arrival_of 5 7 ∷ []) ≡ None }
+{}
+
+/// The arrival of a packet that goes is dropped, wherever it stands.
+pub fn arrivals_that_stay()
+    ensures second { without_number 6 (arrival_of 5 1 ∷ arrival_of 6 2 ∷ arrival_of 4 3 ∷ [])
+        ≡ arrival_of 5 1 ∷ arrival_of 4 3 ∷ [] }
+    ensures none { without_number 7 (arrival_of 5 1 ∷ []) ≡ arrival_of 5 1 ∷ [] }
+{}
+
+/// Where 65534 is due, and 65535, 1 and 2 wait.
+pub fn numbers_that_are_missing()
+    ensures round { missing_numbers {A = List ℕ} (Some 65534)
+        ((65535, []) ∷ (1, []) ∷ (2, []) ∷ []) ≡ 65534 ∷ 0 ∷ [] }
+    ensures due { missing_numbers {A = List ℕ} (Some 7) ((7, []) ∷ []) ≡ [] }
+    ensures none { missing_numbers {A = List ℕ} None [] ≡ [] }
+{}
+
+/// Counts stay at the largest that there is.
+pub fn counts_at_their_end()
+    ensures below { count_up (2 ^ 64 - 2) 1 ≡ 2 ^ 64 - 1 }
+    ensures at { count_up (2 ^ 64 - 1) 1 ≡ 2 ^ 64 - 1 }
+    ensures missing { missing_sum (2 ^ 32 - 2) 5 ≡ 2 ^ 32 - 1 }
+{}

@@ -1,0 +1,309 @@
+//! A receiver that takes packets as they come and gives out access units.
+
+ghost use Rattle.std.specs.Prelude.{◌≡◌, ◌^◌, ◌<◌, ◌≤◌, ◌↔◌, IsTrue, true, false, not, [], None, Err, IfOk, OnOk, OnErr, MatchBool, map};
+ghost use Rattle.std.specs.Option.{option_map};
+ghost use Rattle.h26x_frames.specs.Rtp.{rtp_body};
+ghost use Rattle.h26x_frames.specs.AccessUnit.{access_unit_value, open_depacketization};
+ghost use Rattle.h26x_access_units.specs.Arrival.{deadline_of};
+ghost use Rattle.h26x_access_units.specs.JitterBuffer.{jitter_answer, due_packet};
+ghost use Rattle.h26x_access_units.specs.Missing.{missing_numbers};
+ghost use Rattle.h26x_access_units.specs.ReceivedUnit.{received_unit_value};
+ghost use Rattle.h26x_access_units.specs.Reception.{fresh_reception, after_reception, has_no_unit, ended_if_over, restarted, given, without_given, frames_after, IsAnswerTo, IsDueTaken, IsDrained, IsNext};
+
+use crate::config::AccessUnitConfig;
+use crate::counts::Counts;
+use crate::jitter::JitterBuffer;
+use crate::numbers::NumbersSoFar;
+use crate::pushed::Pushed;
+use crate::unit::{ReceivedUnit, is_keyframe};
+use h26x_core::PacketError;
+use h26x_frames::{AccessUnit, FrameReceiver, RtpPacket};
+use h26x_receiver::{Received, RunDepacketizer, SequencedDepacketizer};
+use std::alloc::Global;
+
+/// Takes RTP packets as they come and gives out access units.
+#[derive(Debug, Drop)]
+pub struct AccessUnitReceiver<D: RunDepacketizer> {
+    waiting: JitterBuffer,
+    frames: FrameReceiver<D>,
+    ended: Vec<AccessUnit>,
+    numbers: NumbersSoFar,
+    is_clean: bool,
+    counts: Counts,
+}
+
+/// Whether an answer says that memory lacks.
+fn is_want_of_memory(received: &Result<Received, PacketError>) -> bool
+    ensures { IsTrue result ↔ (received.now ≡ Err PacketError.OutOfMemory) }
+{
+    matches!(received, Err(PacketError::OutOfMemory))
+}
+
+/// Gives a packet that is due to the receiver of access units; one without a payload is skipped.
+fn take_packet<D: RunDepacketizer>(
+    frames: &mut FrameReceiver<D>,
+    packet: &RtpPacket<'_>,
+    ended: &mut Vec<AccessUnit>,
+) -> Result<Received, PacketError>
+    ensures answer { IsAnswerTo frames.old.packets.run_limit (open_depacketization
+        (D.state frames.old.packets.depacketizer) frames.old.packets.expected frames.old.unit
+        (map access_unit_value ended.old.items)) packet.now result }
+    ensures after { open_depacketization (D.state frames.new.packets.depacketizer)
+        frames.new.packets.expected frames.new.unit (map access_unit_value ended.new.items)
+        ≡ frames_after frames.old.packets.run_limit frames.old.unit_limit (open_depacketization
+        (D.state frames.old.packets.depacketizer) frames.old.packets.expected frames.old.unit
+        (map access_unit_value ended.old.items)) packet.now result }
+    ensures limit { frames.new.packets.run_limit ≡ frames.old.packets.run_limit }
+    ensures unit_limit { frames.new.unit_limit ≡ frames.old.unit_limit }
+{
+    if packet.payload.is_empty() {
+        Ok(frames.skip(packet.sequence))
+    } else {
+        frames.receive(packet, ended)
+    }
+}
+
+/// What a receiver is to contracts.
+pub trait Receives: Drop {
+    ghost use Rattle.h26x_access_units.specs.Reception.{Reception};
+
+    ghost reception: { Self → Reception };
+
+    /// What it has counted.
+    fn counts(&self) -> Counts
+        ensures { result ≡ (reception self.now).counts };
+}
+
+impl<D: RunDepacketizer> Receives for AccessUnitReceiver<D> {
+    ghost use Rattle.std.specs.Prelude.{map};
+    ghost use Rattle.h26x_frames.specs.AccessUnit.{access_unit_value, open_depacketization};
+    ghost use Rattle.h26x_access_units.specs.Reception.{reception};
+
+    ghost reception = { λ r. reception r.waiting (open_depacketization
+        (D.state r.frames.packets.depacketizer) r.frames.packets.expected r.frames.unit
+        (map access_unit_value r.ended.items)) r.numbers r.is_clean r.counts
+        r.frames.packets.run_limit r.frames.unit_limit };
+
+    fn counts(&self) -> Counts {
+        self.counts
+    }
+}
+
+impl<D: RunDepacketizer> AccessUnitReceiver<D> {
+    /// A receiver with these settings over a depacketizer, which takes any sequence number as the
+    /// first. A run that is open in `depacketizer` is not used. It takes no memory.
+    pub fn new(alloc: Global, depacketizer: D, config: AccessUnitConfig) -> Self
+        requires some { 0 < config.window }
+        requires half { config.window ≤ 2 ^ 14 }
+        ensures { let r = ⟦<AccessUnitReceiver<D> as Receives>⟧.reception in
+            r result ≡ fresh_reception config (D.state depacketizer) }
+    {
+        let packets = SequencedDepacketizer::new(alloc, depacketizer, config.run_limit);
+        AccessUnitReceiver {
+            waiting: JitterBuffer::new(alloc, config),
+            frames: FrameReceiver::new(alloc, packets, config.unit_limit),
+            ended: Vec::new(alloc),
+            numbers: NumbersSoFar::none(),
+            is_clean: false,
+            counts: Counts::none(),
+        }
+    }
+
+    /// Takes a packet that came at this tick, and copies it if it is to wait. One without a payload
+    /// came and bears nothing. Without memory all stays as it was, and it can be given again.
+    pub fn push(&mut self, now: u32, packet: &RtpPacket<'_>) -> Result<Pushed, PacketError>
+        ensures answer { let r = ⟦<AccessUnitReceiver<D> as Receives>⟧.reception in
+            IfOk result (λ answer.
+            answer ≡ jitter_answer (r self.old).waiting packet.now) }
+        ensures after { let r = ⟦<AccessUnitReceiver<D> as Receives>⟧.reception in
+            IfOk result (λ answer.
+            r self.new ≡ after_reception now (r self.old) packet.now answer) }
+        ensures memory { OnErr result (result ≡ Err PacketError.OutOfMemory) }
+        ensures kept { let r = ⟦<AccessUnitReceiver<D> as Receives>⟧.reception in
+            OnErr result (r self.new ≡ r self.old) }
+    {
+        let pushed = self.waiting.push(now, packet)?;
+        self.counts.push(pushed);
+        Ok(pushed)
+    }
+
+    /// Passes over a number that came and bears nothing of the stream, as padding alone, FEC or
+    /// another payload type: it isn't missing.
+    pub fn skip(&mut self, now: u32, sequence: u16) -> Result<Pushed, PacketError>
+        ensures answer { let r = ⟦<AccessUnitReceiver<D> as Receives>⟧.reception in
+            IfOk result (λ answer.
+            answer ≡ jitter_answer (r self.old).waiting (sequence, rtp_body 0 false [])) }
+        ensures after { let r = ⟦<AccessUnitReceiver<D> as Receives>⟧.reception in
+            IfOk result (λ answer.
+            r self.new ≡ after_reception now (r self.old) (sequence, rtp_body 0 false []) answer) }
+        ensures memory { OnErr result (result ≡ Err PacketError.OutOfMemory) }
+        ensures kept { let r = ⟦<AccessUnitReceiver<D> as Receives>⟧.reception in
+            OnErr result (r self.new ≡ r self.old) }
+    {
+        let packet = RtpPacket {
+            sequence,
+            timestamp: 0,
+            marker: false,
+            payload: &[],
+        };
+        self.push(now, &packet)
+    }
+
+    /// Takes the packet that is due, if one is, or passes over it where it is refused.
+    fn take_due(&mut self, now: u32) -> Result<bool, PacketError>
+        ensures taken { let r = ⟦<AccessUnitReceiver<D> as Receives>⟧.reception in
+            IfOk result (λ took. MatchBool took (IsDueTaken now (r self.old) (r self.new))
+            ((due_packet now (r self.old).waiting ≡ None) × (r self.new ≡ r self.old))) }
+        ensures memory { OnErr result (result ≡ Err PacketError.OutOfMemory) }
+        ensures kept { let r = ⟦<AccessUnitReceiver<D> as Receives>⟧.reception in
+            OnErr result (r self.new ≡ r self.old) }
+    {
+        let packet = match self.waiting.first_due(now) {
+            Some(held) => held.packet(),
+            None => return Ok(false),
+        };
+        let received = take_packet(&mut self.frames, &packet, &mut self.ended);
+        if is_want_of_memory(&received) {
+            return Err(PacketError::OutOfMemory);
+        }
+        self.numbers.note(&packet, &received);
+        self.counts.note(&packet, &received);
+        let _ = self.waiting.pop_first();
+        Ok(true)
+    }
+
+    /// Takes packets that are due until an access unit has ended, or none is due.
+    fn drain(&mut self, now: u32) -> Result<(), PacketError>
+        ensures drained { let r = ⟦<AccessUnitReceiver<D> as Receives>⟧.reception in
+            IsDrained now (r self.old) (r self.new) }
+        ensures until { let r = ⟦<AccessUnitReceiver<D> as Receives>⟧.reception in
+            OnOk result ((r self.new).frames.ended ≡ [] →
+            due_packet now (r self.new).waiting ≡ None) }
+        ensures memory { OnErr result (result ≡ Err PacketError.OutOfMemory) }
+    {
+        while !self.has_ended() && self.take_due(now)? {}
+        Ok(())
+    }
+
+    /// Whether an access unit has ended and wasn't given out.
+    fn has_ended(&self) -> bool
+        ensures { let r = ⟦<AccessUnitReceiver<D> as Receives>⟧.reception in
+            result ≡ not (has_no_unit (r self.now).frames.ended) }
+    {
+        !self.ended.is_empty()
+    }
+
+    /// At the end of the stream, once no access unit that ended is left, ends the one that is open.
+    fn end_if_over(&mut self) -> Result<(), PacketError>
+        ensures ended { let r = ⟦<AccessUnitReceiver<D> as Receives>⟧.reception in
+            OnOk result (r self.new ≡ ended_if_over (r self.old)) }
+        ensures memory { OnErr result (result ≡ Err PacketError.OutOfMemory) }
+        ensures kept { let r = ⟦<AccessUnitReceiver<D> as Receives>⟧.reception in
+            OnErr result (r self.new ≡ r self.old) }
+    {
+        if self.ended.is_empty() && self.waiting.is_over() {
+            self.frames.end(&mut self.ended)?;
+            self.numbers.end();
+            self.waiting.restart();
+        }
+        Ok(())
+    }
+
+    /// Gives out the first access unit that ended.
+    fn give(&mut self) -> Option<ReceivedUnit>
+        ensures unit { let r = ⟦<AccessUnitReceiver<D> as Receives>⟧.reception in
+            option_map received_unit_value result ≡ given (r self.old) }
+        ensures after { let r = ⟦<AccessUnitReceiver<D> as Receives>⟧.reception in
+            r self.new ≡ without_given (r self.old) }
+    {
+        if self.ended.is_empty() {
+            return None;
+        }
+        let unit = self.ended.remove(0);
+        let numbers = self.numbers.give();
+        let is_whole = unit.is_whole && !numbers.continues;
+        self.is_clean = unit.is_whole && (is_keyframe(unit.extra) || self.is_clean);
+        self.counts.unit(is_whole);
+        Some(ReceivedUnit {
+            timestamp: unit.timestamp,
+            bytes: unit.bytes,
+            extra: unit.extra,
+            is_whole,
+            is_clean: self.is_clean,
+            continues: numbers.continues,
+            first: numbers.first,
+            last: numbers.last,
+            missing: numbers.missing,
+        })
+    }
+
+    /// The next access unit, if one has ended at this tick: takes packets that are due until one ends.
+    /// One that is refused is passed over, and counted. Call it until it gives out none.
+    ///
+    /// Without memory the error is `OutOfMemory`: what was taken before stays taken, and the packet for
+    /// which memory lacks is due still.
+    pub fn next(&mut self, now: u32) -> Result<Option<ReceivedUnit>, PacketError>
+        ensures next { let r = ⟦<AccessUnitReceiver<D> as Receives>⟧.reception in
+            IfOk result (λ unit.
+            IsNext now (r self.old) (r self.new) (option_map received_unit_value unit)) }
+        ensures memory { OnErr result (result ≡ Err PacketError.OutOfMemory) }
+        ensures kept { let r = ⟦<AccessUnitReceiver<D> as Receives>⟧.reception in
+            OnErr result (IsDrained now (r self.old) (r self.new)) }
+    {
+        self.drain(now)?;
+        self.end_if_over()?;
+        Ok(self.give())
+    }
+
+    /// At the end of a stream: all that waits is due, and once it was taken the access unit that is
+    /// open ends, not known to be whole. `next` gives all of it out, and then any number is the next.
+    pub fn finish(&mut self)
+        ensures { let r = ⟦<AccessUnitReceiver<D> as Receives>⟧.reception in
+            r self.new ≡ record (r self.old) {
+              waiting = record (r self.old).waiting { is_over = true };
+            } }
+    {
+        self.waiting.finish();
+    }
+
+    /// Drops all that waits or is open, and access units that weren't taken, and takes any number as
+    /// the next: for another sender (SSRC). What was counted stays. It takes no memory.
+    pub fn restart(&mut self)
+        ensures { let r = ⟦<AccessUnitReceiver<D> as Receives>⟧.reception in
+            r self.new ≡ restarted (r self.old) }
+    {
+        self.waiting.restart();
+        self.frames.restart();
+        self.ended.clear();
+        self.numbers = NumbersSoFar::none();
+        self.is_clean = false;
+    }
+
+    /// Takes back an access unit that was given out, for its memory: a later one is written there.
+    pub fn give_back(&mut self, unit: ReceivedUnit)
+        ensures { let r = ⟦<AccessUnitReceiver<D> as Receives>⟧.reception in
+            r self.new ≡ r self.old }
+    {
+        self.frames.give_back(unit.into_access_unit());
+    }
+
+    /// The numbers that are missing before packets that wait and still could come, in order: for a NACK
+    /// (RFC 4585, 6.2.1). Of a stream that begins the first of them are those of the window before the
+    /// first packet that came, which may never have been sent.
+    pub fn missing(&self) -> Result<Vec<u16>, PacketError>
+        ensures numbers { let r = ⟦<AccessUnitReceiver<D> as Receives>⟧.reception in
+            IfOk result (λ numbers. numbers.items ≡ missing_numbers
+            (r self.now).waiting.buffer.due (r self.now).waiting.buffer.held) }
+        ensures memory { OnErr result (result ≡ Err PacketError.OutOfMemory) }
+    {
+        Ok(self.waiting.missing()?)
+    }
+
+    /// When to call `next` again at the latest, in the caller's ticks, if packets wait.
+    pub fn deadline(&self) -> Option<u32>
+        ensures { let r = ⟦<AccessUnitReceiver<D> as Receives>⟧.reception in
+            result ≡ deadline_of (r self.now).waiting.config.max_wait (r self.now).waiting.arrivals }
+    {
+        self.waiting.deadline()
+    }
+}

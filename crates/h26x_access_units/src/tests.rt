@@ -1,0 +1,236 @@
+//! A stream as a network brings it, step by step.
+
+use super::*;
+use h26x_core::PacketError;
+use h26x_frames::RtpPacket;
+use h264_payload::H264Depacketizer;
+use std::alloc::Global;
+
+/// The settings of the tests: a window of 4 packets, a wait of 100 ticks, 20 bytes.
+fn config() -> AccessUnitConfig {
+    AccessUnitConfig {
+        window: 4,
+        far: 0,
+        max_wait: 100,
+        held_limit: 20,
+        run_limit: 1000,
+        unit_limit: 1000,
+    }
+}
+
+/// What a caller does, and what it is to see.
+enum Step<'a> {
+    /// A packet comes at a tick, and is answered so.
+    Push(u32, u16, u32, bool, &'a [u8], Pushed),
+    /// A number comes at a tick that bears nothing.
+    Skip(u32, u16, Pushed),
+    /// At a tick there is an access unit: its timestamp, how many bytes it has, whether it is whole,
+    /// clean and goes on, its first and last number, and how many are missing.
+    Unit(u32, u32, usize, [bool; 3], u16, u16, u32),
+    /// At a tick there is none.
+    None(u32),
+    /// The deadline.
+    Deadline(Option<u32>),
+    /// The numbers that are missing.
+    Missing(&'a [u16]),
+    /// The stream ends, or another one begins.
+    Finish,
+    Restart,
+}
+
+/// Whether an access unit is the one that is wanted.
+fn is_wanted(unit: &ReceivedUnit, timestamp: u32, len: usize, told: [bool; 3]) -> bool {
+    unit.timestamp == timestamp
+        && unit.bytes.len() == len
+        && unit.is_whole == told[0]
+        && unit.is_clean == told[1]
+        && unit.continues == told[2]
+}
+
+/// Does the steps, and answers the place of the first that went otherwise.
+fn walk(alloc: Global, steps: &[Step<'_>]) -> Result<Option<usize>, PacketError> {
+    let depacketizer = H264Depacketizer::new(alloc);
+    let mut receiver = AccessUnitReceiver::new(alloc, depacketizer, config());
+    for (place, step) in steps.iter().enumerate() {
+        let is_as_wanted = match step {
+            Step::Push(now, sequence, timestamp, marker, payload, answer) => {
+                let packet = RtpPacket {
+                    sequence: *sequence,
+                    timestamp: *timestamp,
+                    marker: *marker,
+                    payload,
+                };
+                receiver.push(*now, &packet)? == *answer
+            }
+            Step::Skip(now, sequence, answer) => receiver.skip(*now, *sequence)? == *answer,
+            Step::Unit(now, timestamp, len, told, first, last, missing) => {
+                match receiver.next(*now)? {
+                    Some(unit) => {
+                        let is_it = is_wanted(&unit, *timestamp, *len, *told)
+                            && unit.first == *first
+                            && unit.last == *last
+                            && unit.missing == *missing;
+                        receiver.give_back(unit);
+                        is_it
+                    }
+                    None => false,
+                }
+            }
+            Step::None(now) => receiver.next(*now)?.is_none(),
+            Step::Deadline(at) => receiver.deadline() == *at,
+            Step::Missing(numbers) => receiver.missing()?.as_slice() == *numbers,
+            Step::Finish => {
+                receiver.finish();
+                true
+            }
+            Step::Restart => {
+                receiver.restart();
+                true
+            }
+        };
+        if !is_as_wanted {
+            return Ok(Some(place));
+        }
+    }
+    Ok(None)
+}
+
+/// A keyframe's slice, another slice, and the fragments of a keyframe's slice of three bytes (RFC
+/// 6184, 5.6 and 5.8).
+const KEY: &[u8] = &[0x65, 1];
+
+const SLICE: &[u8] = &[0x61, 2];
+
+const START: &[u8] = &[0x7c, 0x85, 1];
+
+const MIDDLE: &[u8] = &[0x7c, 0x05, 2];
+
+const END: &[u8] = &[0x7c, 0x45, 3];
+
+const LONG: &[u8] = &[0x61, 2, 2, 2, 2, 2, 2, 2, 2, 2, 2, 2, 2, 2, 2];
+
+const NOTHING: &[u8] = &[];
+
+#[test]
+fn a_stream_that_begins_waits(rt: HostRuntime) -> Result<(), PacketError> {
+    let at = walk(
+        rt.alloc(),
+        &[
+            Step::Deadline(None),
+            Step::Push(7, 65534, 0, true, KEY, Pushed::Held),
+            Step::None(7),
+            Step::Deadline(Some(107)),
+            Step::None(106),
+            Step::Unit(107, 0, 6, [false, false, false], 65534, 65534, 0),
+            Step::Push(108, 65535, 3000, true, KEY, Pushed::Held),
+            Step::Unit(108, 3000, 6, [true, true, false], 65535, 65535, 0),
+            Step::Push(109, 0, 6000, true, SLICE, Pushed::Held),
+            Step::Unit(109, 6000, 6, [true, true, false], 0, 0, 0),
+            Step::None(109),
+        ],
+    )?;
+    assert!(rt; at.is_none(), "{at:?}");
+    Ok(())
+}
+
+#[test]
+fn packets_missing_late_and_twice(rt: HostRuntime) -> Result<(), PacketError> {
+    let at = walk(
+        rt.alloc(),
+        &[
+            Step::Push(0, 10, 0, true, KEY, Pushed::Held),
+            Step::Unit(100, 0, 6, [false, false, false], 10, 10, 0),
+            // The middle fragment comes last, the first one twice.
+            Step::Push(100, 11, 3000, false, START, Pushed::Held),
+            Step::None(100),
+            Step::Push(101, 13, 3000, true, END, Pushed::Held),
+            Step::Push(101, 13, 3000, true, END, Pushed::Twice),
+            Step::Push(101, 11, 3000, false, START, Pushed::Late(1)),
+            Step::None(101),
+            Step::Missing(&[12]),
+            Step::Push(102, 12, 3000, false, MIDDLE, Pushed::Held),
+            Step::Missing(&[]),
+            Step::Unit(102, 3000, 8, [true, true, false], 11, 13, 0),
+            // 14 and 16 are missing: 18 is a window, less one, ahead of 15.
+            Step::Push(103, 15, 6000, true, SLICE, Pushed::Held),
+            Step::Push(104, 17, 9000, true, SLICE, Pushed::Held),
+            Step::Missing(&[14, 16]),
+            Step::None(104),
+            Step::Push(105, 18, 12000, true, SLICE, Pushed::Held),
+            Step::Unit(105, 6000, 6, [false, false, false], 15, 15, 1),
+            Step::None(105),
+            Step::Deadline(Some(204)),
+            Step::Unit(204, 9000, 6, [false, false, false], 17, 17, 1),
+            Step::Unit(204, 12000, 6, [true, false, false], 18, 18, 0),
+            Step::None(204),
+            Step::Push(205, 16, 9000, true, SLICE, Pushed::Late(3)),
+        ],
+    )?;
+    assert!(rt; at.is_none(), "{at:?}");
+    Ok(())
+}
+
+#[test]
+fn markers_and_numbers_that_bear_nothing(rt: HostRuntime) -> Result<(), PacketError> {
+    let at = walk(
+        rt.alloc(),
+        &[
+            Step::Push(0, 10, 0, true, KEY, Pushed::Held),
+            Step::Unit(100, 0, 6, [false, false, false], 10, 10, 0),
+            // A marker on each slice.
+            Step::Push(100, 11, 3000, true, KEY, Pushed::Held),
+            Step::Push(100, 12, 3000, true, SLICE, Pushed::Held),
+            Step::Unit(100, 3000, 6, [true, true, false], 11, 11, 0),
+            Step::Unit(100, 3000, 6, [false, true, true], 12, 12, 0),
+            // Padding alone in a fragmented unit, and a number of another payload type.
+            Step::Push(100, 13, 6000, false, START, Pushed::Held),
+            Step::Push(100, 14, 6000, true, NOTHING, Pushed::Held),
+            Step::Skip(100, 15, Pushed::Held),
+            Step::Push(100, 16, 6000, false, MIDDLE, Pushed::Held),
+            Step::Push(100, 17, 6000, false, END, Pushed::Held),
+            // No marker: the next timestamp ends it.
+            Step::Push(100, 18, 9000, true, SLICE, Pushed::Held),
+            Step::Unit(100, 6000, 8, [true, true, false], 13, 17, 0),
+            Step::Unit(100, 9000, 6, [true, true, false], 18, 18, 0),
+            Step::None(100),
+        ],
+    )?;
+    assert!(rt; at.is_none(), "{at:?}");
+    Ok(())
+}
+
+#[test]
+fn limits_ends_and_restarts(rt: HostRuntime) -> Result<(), PacketError> {
+    let at = walk(
+        rt.alloc(),
+        &[
+            // 15 bytes wait, then 30, which is past 20: none more, and the first are due.
+            Step::Push(0, 10, 0, false, LONG, Pushed::Held),
+            Step::None(0),
+            Step::Push(0, 11, 0, false, LONG, Pushed::Held),
+            Step::Push(0, 12, 0, true, LONG, Pushed::Full),
+            Step::None(0),
+            Step::Push(0, 12, 0, true, LONG, Pushed::Held),
+            Step::Unit(0, 0, 57, [false, false, false], 10, 12, 0),
+            // At the end what waits is due, and the open access unit ends.
+            Step::Push(0, 14, 3000, false, KEY, Pushed::Held),
+            Step::None(0),
+            Step::Finish,
+            Step::Unit(0, 3000, 6, [false, false, false], 14, 14, 1),
+            Step::None(0),
+            // Ticks that go round.
+            Step::Push(0xffff_fff0, 5, 0, true, KEY, Pushed::Held),
+            Step::Deadline(Some(0x54)),
+            Step::None(0x53),
+            Step::Unit(0x54, 0, 6, [false, false, false], 5, 5, 0),
+            // A sender that begins anew 20,000 back.
+            Step::Push(0x55, 45541, 3000, true, KEY, Pushed::Late(20_001)),
+            Step::Restart,
+            Step::Push(0x55, 45541, 3000, true, KEY, Pushed::Held),
+            Step::Finish,
+            Step::Unit(0x55, 3000, 6, [false, false, false], 45541, 45541, 0),
+        ],
+    )?;
+    assert!(rt; at.is_none(), "{at:?}");
+    Ok(())
+}
