@@ -29,6 +29,8 @@ ADDED = {
     "AccessUnit": "Clone PartialEq Eq Hash", "OpenAccessUnit": "Clone PartialEq Eq", "OpenUnit": "Clone PartialEq Eq",
     "OpenText": "Clone", "OpenRun": "Clone", "ReorderBuffer": "Clone", "NumberOrder": "Clone", "Parted": "Clone",
     "NotHeld": "Clone PartialEq Eq Hash", "NotHeldReason": "Hash",
+    "ReceivedUnit": "Clone PartialEq Eq Hash", "NotPushed": "Clone PartialEq Eq Hash", "NotPushedReason": "Hash",
+    "AccessUnitConfig": "Hash", "Counts": "Hash",
     "CodecParameters": "Clone PartialEq Eq Hash", "FormatParameters": "Clone PartialEq Eq Hash",
     "OtherParameter": "Clone PartialEq Eq Hash", "H264Parameter": "PartialOrd Ord Hash",
     "H265Parameter": "PartialOrd Ord Hash", "H266Parameter": "PartialOrd Ord Hash",

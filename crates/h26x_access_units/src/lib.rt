@@ -21,5 +21,5 @@ pub use counts::Counts;
 pub use jitter::JitterBuffer;
 pub use numbers::UnitNumbers;
 pub use pushed::{NotPushed, NotPushedReason, Pushed};
-pub use receiver::AccessUnitReceiver;
+pub use receiver::{AccessUnitReceiver, Receives};
 pub use unit::ReceivedUnit;

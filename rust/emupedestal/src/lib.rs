@@ -35,8 +35,8 @@
 //! [`H265ProfileTierLevel`] and [`H266ProfileTierLevel`] read profiles and levels out of SDP, and with the feature
 //! `sdp` the module `sdp` all parameters of a format.
 //!
-//! A [`ReorderBuffer`] puts packets in their order, and a [`FrameReceiver`] behind it gives out whole
-//! pictures with their timestamps. [`access_units`] cuts a stream in Annex B form, or behind lengths, into
+//! An [`AccessUnitReceiver`] takes packets as a network brings them and gives out pictures, each with what is
+//! known of it. It is a [`ReorderBuffer`], which puts packets in their order, and a [`FrameReceiver`] behind it. [`access_units`] cuts a stream in Annex B form, or behind lengths, into
 //! access units, also one that is read piece by piece.
 //!
 //! No call panics on bytes, whatever they are.
@@ -109,6 +109,7 @@ compile_error!("`usize` has 64 bits where this is proved, and 32 where it is onl
 
 extern crate alloc;
 
+pub mod access_unit_receiver;
 pub mod access_units;
 mod codec_depacketizer;
 mod codec_packetizer;
@@ -144,6 +145,7 @@ mod take_all;
 #[cfg(all(test, feature = "std"))]
 mod tests;
 
+pub use access_unit_receiver::AccessUnitReceiver;
 pub use codec_depacketizer::CodecDepacketizer;
 pub use codec_packetizer::CodecPacketizer;
 pub use depacketizer::{H264Depacketizer, H265Depacketizer, H266Depacketizer};

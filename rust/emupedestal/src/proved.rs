@@ -4,6 +4,7 @@ pub mod h264_payload;
 pub mod h265_packets;
 pub mod h265_payload;
 pub mod h266_payload;
+pub mod h26x_access_units;
 pub mod h26x_codec;
 pub mod h26x_core;
 pub mod h26x_cut;

@@ -1,5 +1,6 @@
 //! Tests of every call. Expected packets and units are written out by hand from the RFCs.
 
+mod access_unit_receiver;
 mod access_units;
 mod caveats;
 mod codecs;

@@ -154,6 +154,27 @@ impl ReorderBuffer {
         self.held.is_empty()
     }
 
+    /// The number that is due: the next one to go where none is missing. None before a packet came.
+    pub fn due(&self) -> Option<u16> {
+        self.held.due()
+    }
+
+    /// The first of the packets held, which stays: one that is taken elsewhere, where memory may lack,
+    /// is looked at here and popped once it was taken.
+    pub fn first(&self) -> Option<&HeldPacket> {
+        self.held.first()
+    }
+
+    /// The number of the packet at a place of those held, in their order, the first at 0.
+    pub(crate) fn number_at(&self, place: usize) -> u16 {
+        self.held.number_at(place)
+    }
+
+    /// Whether the first of the packets held may go, so that `pop` gives it out.
+    pub fn is_ready(&self) -> bool {
+        self.held.is_ready()
+    }
+
     /// Takes a packet, and copies it. Without memory the buffer stays as it was, and the packet can be
     /// given again.
     pub(crate) fn try_push(&mut self, packet: &RtpPacket<'_>) -> Result<Pushed, AllocError> {

@@ -39,6 +39,24 @@ impl<T: Numbered> NumberOrder<T> {
         self.held.is_empty()
     }
 
+    /// The number that is due, if a packet came.
+    #[inline]
+    pub(crate) fn due(&self) -> Option<u16> {
+        self.due
+    }
+
+    /// The first packet.
+    #[inline]
+    pub(crate) fn first(&self) -> Option<&T> {
+        self.held.first()
+    }
+
+    /// The number of the packet at a place.
+    #[inline]
+    pub(crate) fn number_at(&self, place: usize) -> u16 {
+        self.held.get(place).sequence()
+    }
+
     /// How far ahead of a number the packet at a place is.
     #[inline]
     fn ahead_at(&self, due: u16, place: usize) -> u16 {
@@ -119,7 +137,7 @@ impl<T: Numbered> NumberOrder<T> {
 
     /// Whether the first packet may go.
     #[inline]
-    fn is_ready(&self) -> bool {
+    pub(crate) fn is_ready(&self) -> bool {
         match (self.due, self.held.first(), self.held.last()) {
             (Some(due), Some(first), Some(last)) => {
                 let number = first.sequence();

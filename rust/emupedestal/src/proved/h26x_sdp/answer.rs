@@ -43,7 +43,8 @@ pub enum Role {
     OperationPoint,
 }
 
-/// The rules by which formats of a codec are answered.
+/// The rules by which formats of a codec are answered: what each parameter is, and what two formats
+/// agree on.
 pub trait CodecRules: CodecParameter {
     /// What each parameter is, in the order of the table.
     fn roles() -> &'static [Role];
@@ -106,7 +107,9 @@ pub(crate) fn holds(need: Option<u64>, room: Option<u64>) -> bool {
 /// Whether two values of a kind are one.
 fn same_value(kind: Kind, a: &[u8], b: &[u8]) -> bool {
     match kind {
-        Kind::Number { .. } => same_number(kind.number_of(a), kind.number_of(b)),
+        Kind::Number { .. } | Kind::HexadecimalNumber { .. } => {
+            same_number(kind.number_of(a), kind.number_of(b))
+        }
         Kind::Hexadecimal { .. } => same_name(a, b),
         Kind::TxMode | Kind::Units | Kind::Text => a == b,
     }
@@ -283,8 +286,9 @@ fn answer_by<P: CodecRules>(
 }
 
 impl<P: CodecRules> CodecParameters<P> {
-    /// The answer to these parameters of an offer, by the first of ours that gives one; `None` where
-    /// none does.
+    /// The answer to these parameters of an offered format, by the first of ours that gives one; `None`
+    /// where none does. It is for both directions, and for unicast (RFC 6184, section 8.2.2; RFC 7798,
+    /// section 7.2.2; RFC 9328, section 7.3.2).
     pub(crate) fn answer(
         &self,
         ours: &[CodecParameters<P>],
@@ -299,7 +303,8 @@ impl<P: CodecRules> CodecParameters<P> {
 }
 
 /// The answer to an offer: of its formats, in its order of preference, the first that one of ours
-/// answers, with its payload type; `None` where no two have a configuration in common.
+/// answers, with its payload type; `None` where no two have a configuration in common (RFC 3264,
+/// section 6.1). To take more than one format, ask each for its answer.
 pub(crate) fn answer_to<P: CodecRules>(
     offer: &[Format<P>],
     ours: &[CodecParameters<P>],

@@ -6,8 +6,8 @@ use crate::proved::h26x_sdp::answer::{Terms, copy_of, holds};
 use crate::proved::h26x_sdp::codec::{CodecParameter, CodecParameters};
 use crate::support::AllocError;
 
-/// The parameters of the level, of the highest level that is received, and of packets that bear decoding
-/// order numbers.
+/// The parameters of the level, of the highest level that is received, and of packets that bear
+/// decoding order numbers.
 #[derive(Debug, Clone, Copy)]
 pub(crate) struct LevelParameters<P> {
     /// The level.

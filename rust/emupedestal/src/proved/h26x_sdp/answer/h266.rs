@@ -57,7 +57,8 @@ fn has_layers(it: &H266Parameters) -> bool {
         || (same_number(profile, Some(81)) || same_number(profile, Some(113)))
 }
 
-/// Whether the answer has the offer's `sprop-vps`, where it's configuration too: of a profile with layers.
+/// Whether the answer has the offer's `sprop-vps`, where it's configuration too: of a profile with
+/// layers.
 fn keeps_vps(offered: &H266Parameters, own: &H266Parameters, terms: &Terms) -> bool {
     let ours = if terms.sets {
         own.value(H266Parameter::SpropVps)

@@ -1,0 +1,160 @@
+//! Access units over a network: packets as they come, in any order, some lost and some twice, and out of
+//! them pictures, each with what is known of it.
+//!
+//! ```
+//! use emupedestal::access_unit_receiver::{AccessUnitConfig, AccessUnitReceiver};
+//! use emupedestal::{Codec, RtpPacket};
+//!
+//! let config = AccessUnitConfig { window: 4, max_wait: 100, ..AccessUnitConfig::default() };
+//! let mut receiver = AccessUnitReceiver::new(Codec::H264, config);
+//! // Two fragments of a unit, which come in the other order, and a unit of the next picture.
+//! let packets: [(u16, u32, bool, &[u8]); 3] = [
+//!     (8, 3000, true, &[0x7c, 0x45, 2]),
+//!     (7, 3000, false, &[0x7c, 0x85, 1]),
+//!     (9, 6000, true, &[0x61, 9]),
+//! ];
+//! for (sequence, timestamp, marker, payload) in packets {
+//!     receiver.push(0, &RtpPacket { sequence, timestamp, marker, payload })?;
+//! }
+//! // Packets before the first may still come, so it is waited for these.
+//! assert!(receiver.next_unit(0)?.is_none());
+//! assert_eq!(receiver.deadline(), Some(100));
+//! let first = receiver.next_unit(100)?.unwrap();
+//! assert_eq!(first.bytes, [0, 0, 0, 1, 0x65, 1, 2]);
+//! let second = receiver.next_unit(100)?.unwrap();
+//! assert_eq!((second.timestamp, second.first, second.is_whole), (6000, 9, true));
+//! # Ok::<(), emupedestal::PacketError>(())
+//! ```
+
+use crate::proved::h26x_access_units::AccessUnitReceiver as Units;
+use crate::proved::h26x_access_units::Receives as _;
+use crate::proved::h26x_receiver::AnyPayloadDepacketizer;
+use crate::{Codec, PacketError, RtpPacket};
+use alloc::vec::Vec;
+
+pub use crate::proved::h26x_access_units::{AccessUnitConfig, Counts, Pushed, ReceivedUnit};
+
+/// A window of 512 packets and no limit on the time; a number 3000 or more away is a stray (RFC 3550,
+/// A.1); 8 MB for what waits and for an open access unit, and 4 MB for an open unit.
+impl Default for AccessUnitConfig {
+    fn default() -> Self {
+        AccessUnitConfig {
+            window: 512,
+            far: 3000,
+            max_wait: u32::MAX,
+            held_limit: 8_000_000,
+            run_limit: 4_000_000,
+            unit_limit: 8_000_000,
+        }
+    }
+}
+
+/// A receiver of any codec that takes packets as a network brings them and gives out access units: a
+/// [`ReorderBuffer`](crate::ReorderBuffer) with a time and a limit on bytes, and a
+/// [`FrameReceiver`](crate::FrameReceiver) behind it.
+///
+/// `now` is the caller's clock, in ticks of his own, which goes round at 2^32 and never goes back. Push what
+/// comes; take access units until there is none; and do so again when [`deadline`](Self::deadline) says.
+#[derive(Debug)]
+pub struct AccessUnitReceiver {
+    inner: Units<AnyPayloadDepacketizer>,
+    codec: Codec,
+}
+
+impl AccessUnitReceiver {
+    /// A receiver that takes any sequence number as the first, reads no decoding order numbers and writes start
+    /// codes.
+    ///
+    /// # Panics
+    ///
+    /// Where the window is 0 or over 16384.
+    pub fn new(codec: Codec, config: AccessUnitConfig) -> Self {
+        Self::with_settings(codec, false, false, config)
+    }
+
+    /// The same, with whether packets bear decoding order numbers (those of H.264 bear none), and whether units
+    /// are written behind lengths of four bytes.
+    ///
+    /// # Panics
+    ///
+    /// Where the window is 0 or over 16384.
+    pub fn with_settings(
+        codec: Codec,
+        has_donl: bool,
+        is_avc: bool,
+        config: AccessUnitConfig,
+    ) -> Self {
+        assert!(
+            (1..=1 << 14).contains(&config.window),
+            "a window has 1 to 16384 packets"
+        );
+        let mut depacketizer = AnyPayloadDepacketizer::new(codec);
+        depacketizer.with_donl(has_donl);
+        depacketizer.is_avc = is_avc;
+        AccessUnitReceiver {
+            inner: Units::new(depacketizer, config),
+            codec,
+        }
+    }
+
+    /// Its codec.
+    pub fn codec(&self) -> Codec {
+        self.codec
+    }
+
+    /// Takes a packet that came at this tick, and copies it if it is to wait. One without a payload came and
+    /// bears nothing, as for [`skip`](Self::skip). The error is `OutOfMemory` alone; all stays as it was then,
+    /// and the packet can be given again.
+    pub fn push(&mut self, now: u32, packet: &RtpPacket<'_>) -> Result<Pushed, PacketError> {
+        self.inner.try_push(now, packet)
+    }
+
+    /// Passes over a number that came and bears nothing of the stream, as that of padding alone, of forward
+    /// error correction or of another payload type: so it isn't missing.
+    pub fn skip(&mut self, now: u32, sequence: u16) -> Result<Pushed, PacketError> {
+        self.inner.skip(now, sequence)
+    }
+
+    /// The next access unit, if one has ended at this tick. Call it until there is none. A packet that is
+    /// refused is passed over and counted.
+    ///
+    /// The error is `OutOfMemory` alone: the packet for which memory lacks is due still.
+    pub fn next_unit(&mut self, now: u32) -> Result<Option<ReceivedUnit>, PacketError> {
+        self.inner.next(now)
+    }
+
+    /// The numbers that are missing before packets that wait, in order: those to ask the sender for again (NACK, RFC
+    /// 4585, 6.2.1). The error is `OutOfMemory` alone.
+    pub fn missing(&self) -> Result<Vec<u16>, PacketError> {
+        self.inner.missing()
+    }
+
+    /// When to call [`next_unit`](Self::next_unit) again at the latest, if packets wait and there is a
+    /// `max_wait`.
+    pub fn deadline(&self) -> Option<u32> {
+        self.inner.deadline()
+    }
+
+    /// At the end of a stream: all that waits is due, and once it was taken the open access unit ends, not known
+    /// to be whole. [`next_unit`](Self::next_unit) gives all of it, and then any number is the next.
+    pub fn finish(&mut self) {
+        self.inner.finish();
+    }
+
+    /// For another sender (SSRC): drops all that waits or is open, and takes any number as the next. What was
+    /// counted stays.
+    pub fn restart(&mut self) {
+        self.inner.restart();
+    }
+
+    /// What was counted since it was made.
+    pub fn counts(&self) -> Counts {
+        self.inner.counts()
+    }
+
+    /// Takes an access unit's memory back, for a later one: of those that are given back the largest of at most
+    /// `unit_limit` bytes is kept.
+    pub fn give_back(&mut self, unit: ReceivedUnit) {
+        self.inner.give_back(unit);
+    }
+}

@@ -1,0 +1,22 @@
+// Made from crates/h26x_access_units/src/lib.rt by tools/to-rust.
+
+//! RTP packets as they come from a network, in any order, some lost and some twice, and out of them
+//! access units of H.264, H.265 or H.266, one after the other: a jitter buffer with a window, a time
+//! and a limit on bytes before a receiver of access units.
+mod arrival;
+mod config;
+mod counts;
+mod jitter;
+mod numbers;
+mod pushed;
+mod receiver;
+mod unit;
+
+pub use arrival::Arrival;
+pub use config::AccessUnitConfig;
+pub use counts::Counts;
+pub use jitter::JitterBuffer;
+pub use numbers::UnitNumbers;
+pub use pushed::{NotPushed, NotPushedReason, Pushed};
+pub use receiver::{AccessUnitReceiver, Receives};
+pub use unit::ReceivedUnit;

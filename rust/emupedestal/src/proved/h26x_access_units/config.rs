@@ -1,0 +1,24 @@
+// Made from crates/h26x_access_units/src/config.rt by tools/to-rust.
+
+//! A caller's settings.
+
+/// A caller's settings of a receiver of access units: for how long it waits for a packet that is
+/// missing, and how much memory it holds.
+#[derive(Debug, Clone, Copy, PartialEq, Eq, Hash)]
+pub struct AccessUnitConfig {
+    /// A packet that is missing is waited for until one came so many places, less one, ahead of it, 1
+    /// to 2^14.
+    pub window: u16,
+    /// A number so far or farther from the one that is due, ahead or behind, is a stray, which waits
+    /// alone until the number behind it comes (RFC 3550, A.1); 0: none is.
+    pub far: u16,
+    /// A packet that is missing is waited for so long at most after one behind it came, in the
+    /// caller's ticks, which go round at 2^32; `u32::MAX`: by the window alone.
+    pub max_wait: u32,
+    /// How many bytes of payloads may wait. Past that none is waited for.
+    pub held_limit: usize,
+    /// How many bytes an open NAL unit may hold from a packet to the next.
+    pub run_limit: usize,
+    /// How many bytes an open access unit may hold from a packet to the next.
+    pub unit_limit: usize,
+}

@@ -1,0 +1,118 @@
+// Made from crates/h26x_access_units/src/counts.rt by tools/to-rust.
+
+//! What a receiver counts.
+
+use crate::proved::h26x_access_units::numbers::missing_told;
+use crate::proved::h26x_access_units::pushed::Pushed;
+use crate::proved::h26x_core::PacketError;
+use crate::proved::h26x_frames::RtpPacket;
+use crate::proved::h26x_receiver::Received;
+
+/// What a receiver has counted since it was made. Each count stays at 2^64 - 1.
+#[derive(Debug, Clone, Copy, PartialEq, Eq, Hash)]
+pub struct Counts {
+    /// Packets that were taken, and not refused.
+    pub taken: u64,
+    /// Numbers that are missing before packets that were taken, and before numbers that were skipped.
+    pub lost: u64,
+    /// Packets that came after their place was passed.
+    pub late: u64,
+    /// Packets that came while one with their number waited.
+    pub twice: u64,
+    /// Packets whose number was too far from the one that was due.
+    pub stray: u64,
+    /// Packets that were refused for what they are.
+    pub refused: u64,
+    /// Numbers that came and bear nothing.
+    pub skipped: u64,
+    /// How often the stream began anew.
+    pub anew: u64,
+    /// Access units that were given out.
+    pub units: u64,
+    /// Those of them that are known to be whole.
+    pub whole: u64,
+    /// NAL units that were given up, since they were longer than the limit.
+    pub units_given_up: u64,
+}
+
+/// How many open NAL units were given up.
+fn given_up(received: Received) -> u64 {
+    match received {
+        Received::TooLong(_) => 1,
+        Received::InOrder | Received::Gap(_) | Received::Late(_) => 0,
+    }
+}
+
+impl Counts {
+    /// Nothing was counted.
+    pub(crate) fn none() -> Self {
+        Counts {
+            taken: 0,
+            lost: 0,
+            late: 0,
+            twice: 0,
+            stray: 0,
+            refused: 0,
+            skipped: 0,
+            anew: 0,
+            units: 0,
+            whole: 0,
+            units_given_up: 0,
+        }
+    }
+
+    /// Counts what became of a packet that was given to a receiver.
+    pub(crate) fn try_push(&mut self, pushed: Pushed) {
+        match pushed {
+            Pushed::Late(_) => self.late = self.late.saturating_add(1),
+            Pushed::Twice => self.twice = self.twice.saturating_add(1),
+            Pushed::Stray => self.stray = self.stray.saturating_add(1),
+            Pushed::Anew => self.anew = self.anew.saturating_add(1),
+            Pushed::Held | Pushed::Full => {}
+        }
+    }
+
+    /// Counts what became of a packet that was due.
+    fn answer(&mut self, received: &Result<Received, PacketError>) {
+        match received {
+            Ok(Received::Late(_)) => self.late = self.late.saturating_add(1),
+            Ok(received) => {
+                let missing = u64::from(missing_told(*received));
+                self.taken = self.taken.saturating_add(1);
+                self.lost = self.lost.saturating_add(missing);
+                self.units_given_up = self.units_given_up.saturating_add(given_up(*received));
+            }
+            Err(_) => self.refused = self.refused.saturating_add(1),
+        }
+    }
+
+    /// Counts what became of a number that bears nothing.
+    fn skip(&mut self, received: Received) {
+        match received {
+            Received::Late(_) => self.late = self.late.saturating_add(1),
+            _ => {
+                let missing = u64::from(missing_told(received));
+                self.skipped = self.skipped.saturating_add(1);
+                self.lost = self.lost.saturating_add(missing);
+            }
+        }
+    }
+
+    /// Counts what became of a packet that was due.
+    pub(crate) fn note(
+        &mut self,
+        packet: &RtpPacket<'_>,
+        received: &Result<Received, PacketError>,
+    ) {
+        match received {
+            Ok(received) if packet.payload.is_empty() => self.skip(*received),
+            _ => self.answer(received),
+        }
+    }
+
+    /// Counts an access unit that is given out.
+    pub(crate) fn unit(&mut self, is_whole: bool) {
+        self.units = self.units.saturating_add(1);
+        self.whole = self.whole.saturating_add(u64::from(is_whole));
+    }
+}

@@ -1,0 +1,215 @@
+// Made from crates/h26x_access_units/src/jitter.rt by tools/to-rust.
+
+//! Packets that wait for those before them, by a window, by time and by bytes.
+
+use crate::proved::h26x_access_units::arrival::{Arrival, drop_number};
+use crate::proved::h26x_access_units::config::AccessUnitConfig;
+use crate::proved::h26x_access_units::pushed::{NotPushed, NotPushedReason, Pushed, as_not_pushed};
+use crate::proved::h26x_frames::{self, HeldPacket, ReorderBuffer, RtpPacket};
+use crate::support::AllocError;
+use crate::support::TryVec;
+use alloc::collections::VecDeque;
+use alloc::vec::Vec;
+
+/// Appends numbers from one on, so many.
+fn append_numbers(numbers: &mut Vec<u16>, first: u16, count: u16) -> Result<(), AllocError> {
+    let mut number = first;
+    for _ in 0..count {
+        numbers.try_push(number)?;
+        number = number.wrapping_add(1);
+    }
+    Ok(())
+}
+
+/// Packets that wait for those before them, in the order of their sequence numbers (RFC 3550, 5.1),
+/// as in a [`ReorderBuffer`]: until those have come, or a window of packets has passed, or one has
+/// waited for so long, or more bytes wait than a limit.
+#[derive(Debug)]
+pub struct JitterBuffer {
+    config: AccessUnitConfig,
+    buffer: ReorderBuffer,
+    arrivals: VecDeque<Arrival>,
+    bytes: usize,
+    is_over: bool,
+}
+
+impl JitterBuffer {
+    /// One in which no packet waits, and that takes any number as the first. It takes no memory.
+    pub(crate) fn new(config: AccessUnitConfig) -> Self {
+        JitterBuffer {
+            config,
+            buffer: ReorderBuffer::new(config.window),
+            arrivals: VecDeque::new(),
+            bytes: 0,
+            is_over: false,
+        }
+    }
+
+    /// How many packets wait.
+    pub fn len(&self) -> usize {
+        self.buffer.len()
+    }
+
+    /// Whether none waits.
+    pub fn is_empty(&self) -> bool {
+        self.buffer.is_empty()
+    }
+
+    /// How many bytes of payloads wait.
+    pub fn bytes_len(&self) -> usize {
+        self.bytes
+    }
+
+    /// How many bytes wait with so many more, where these may wait.
+    fn bytes_with(&self, len: usize) -> Option<usize> {
+        if self.bytes > self.config.held_limit {
+            None
+        } else {
+            self.bytes.checked_add(len)
+        }
+    }
+
+    /// Takes a packet that came at this tick, and copies it if it is to wait. Without memory all stays
+    /// as it was, and the packet can be given again.
+    pub(crate) fn try_push(
+        &mut self,
+        now: u32,
+        packet: &RtpPacket<'_>,
+    ) -> Result<Pushed, AllocError> {
+        let bytes = match self.bytes_with(packet.payload.len()) {
+            Some(bytes) => bytes,
+            None => return Ok(Pushed::Full),
+        };
+        self.arrivals.try_reserve(1)?;
+        match self.buffer.try_push(packet)? {
+            crate::proved::h26x_frames::Pushed::Held => {
+                self.bytes = bytes;
+                self.arrivals.push_back(Arrival {
+                    number: packet.sequence,
+                    at: now,
+                });
+                Ok(Pushed::Held)
+            }
+            crate::proved::h26x_frames::Pushed::Late(count) => Ok(Pushed::Late(count)),
+            crate::proved::h26x_frames::Pushed::Twice => Ok(Pushed::Twice),
+        }
+    }
+
+    /// Takes a packet that has memory of its own, and copies nothing of it. One that doesn't wait comes
+    /// back as it was given, with the reason, and all stays as it was.
+    pub fn push_held(&mut self, now: u32, packet: HeldPacket) -> Result<(), NotPushed> {
+        let bytes = match self.bytes_with(packet.payload.len()) {
+            Some(bytes) => bytes,
+            None => {
+                return Err(NotPushed {
+                    packet,
+                    reason: NotPushedReason::Full,
+                });
+            }
+        };
+        if self.arrivals.try_reserve(1).is_err() {
+            return Err(NotPushed {
+                packet,
+                reason: NotPushedReason::OutOfMemory,
+            });
+        }
+        let arrival = Arrival {
+            number: packet.sequence,
+            at: now,
+        };
+        match self.buffer.push_held(packet) {
+            Ok(()) => {
+                self.bytes = bytes;
+                self.arrivals.push_back(arrival);
+                Ok(())
+            }
+            Err(not_held) => Err(NotPushed {
+                packet: not_held.packet,
+                reason: as_not_pushed(not_held.reason),
+            }),
+        }
+    }
+
+    /// Whether the first packet isn't to wait for those before it.
+    fn is_pressed(&self, now: u32) -> bool {
+        self.is_over || self.bytes > self.config.held_limit || self.has_waited(now)
+    }
+
+    /// Whether the packet that waits longest has waited long enough.
+    fn has_waited(&self, now: u32) -> bool {
+        match self.arrivals.front() {
+            Some(arrival) => {
+                let max_wait = self.config.max_wait;
+                max_wait != u32::MAX && now.wrapping_sub(arrival.at) >= max_wait
+            }
+            None => false,
+        }
+    }
+
+    /// The packet that is due at this tick, if one is. It stays until it is popped.
+    pub fn first_due(&self, now: u32) -> Option<&HeldPacket> {
+        if self.is_pressed(now) || self.buffer.is_ready() {
+            self.buffer.first()
+        } else {
+            None
+        }
+    }
+
+    /// The first packet, due or not.
+    pub fn pop_first(&mut self) -> Option<HeldPacket> {
+        match self.buffer.pop_first() {
+            Some(packet) => {
+                drop_number(&mut self.arrivals, packet.sequence);
+                self.bytes -= packet.payload.len();
+                Some(packet)
+            }
+            None => None,
+        }
+    }
+
+    /// The numbers that are missing before packets that wait, in order, from the one that is due on: for
+    /// a NACK (RFC 4585, 6.2.1). Of a stream that begins the first of them are those of the window
+    /// before the first packet that came.
+    pub(crate) fn missing(&self) -> Result<Vec<u16>, AllocError> {
+        let mut numbers = Vec::new();
+        let mut from = match self.buffer.due() {
+            Some(due) => due,
+            None => return Ok(numbers),
+        };
+        for place in 0..self.buffer.len() {
+            let number = self.buffer.number_at(place);
+            append_numbers(&mut numbers, from, number.wrapping_sub(from))?;
+            from = number.wrapping_add(1);
+        }
+        Ok(numbers)
+    }
+
+    /// When a packet will have waited for as long as one may, in the caller's ticks: none where none
+    /// waits, or no time is set.
+    pub fn deadline(&self) -> Option<u32> {
+        match self.arrivals.front() {
+            Some(arrival) if self.config.max_wait != u32::MAX => {
+                Some(arrival.at.wrapping_add(self.config.max_wait))
+            }
+            _ => None,
+        }
+    }
+
+    /// Whether the stream has ended.
+    pub fn is_over(&self) -> bool {
+        self.is_over
+    }
+
+    /// At the end of a stream: all that waits is due.
+    pub fn finish(&mut self) {
+        self.is_over = true;
+    }
+
+    /// Drops all that waits, and takes any number as the next: for another sender.
+    pub fn restart(&mut self) {
+        self.buffer.restart();
+        self.arrivals.clear();
+        self.bytes = 0;
+        self.is_over = false;
+    }
+}

@@ -1,0 +1,159 @@
+// Made from crates/h26x_access_units/src/numbers.rt by tools/to-rust.
+
+//! The sequence numbers of the packets of access units.
+
+use crate::proved::h26x_core::PacketError;
+use crate::proved::h26x_frames::RtpPacket;
+use crate::proved::h26x_receiver::Received;
+
+/// The sequence numbers of the packets of an access unit.
+#[derive(Debug, Clone, Copy, PartialEq, Eq)]
+pub struct UnitNumbers {
+    /// The timestamp of its packets.
+    pub timestamp: u32,
+    /// The number of the first packet that came of it.
+    pub first: u16,
+    /// The number of the last one.
+    pub last: u16,
+    /// How many numbers are missing between the access unit before and the end of this one.
+    pub missing: u32,
+    /// Whether a marker ended one of its timestamp right before it.
+    pub continues: bool,
+}
+
+impl UnitNumbers {
+    /// Those of an access unit of which no packet came.
+    pub(crate) const NONE: Self = UnitNumbers {
+        timestamp: 0,
+        first: 0,
+        last: 0,
+        missing: 0,
+        continues: false,
+    };
+}
+
+/// The numbers of the access unit that is open, and of those that ended last.
+#[derive(Debug, Clone, Copy, PartialEq, Eq)]
+pub(crate) struct NumbersSoFar {
+    /// Those of the access unit that is open.
+    pub unit: Option<UnitNumbers>,
+    /// The timestamp of the access unit that the packet before ended by its marker.
+    pub marked: Option<u32>,
+    /// How many are missing since the last packet, before numbers that were skipped.
+    pub skipped_gap: u32,
+    /// Those of the access unit that another timestamp ended, until it is given out.
+    pub ended: Option<UnitNumbers>,
+    /// Those of the access unit that the marker ended, until it is given out.
+    pub ended_by_marker: Option<UnitNumbers>,
+}
+
+/// How many numbers an answer tells to be missing.
+pub(crate) fn missing_told(received: Received) -> u16 {
+    match received {
+        Received::Gap(missing) | Received::TooLong(missing) => missing,
+        Received::InOrder | Received::Late(_) => 0,
+    }
+}
+
+impl NumbersSoFar {
+    /// Before any packet.
+    pub(crate) fn none() -> Self {
+        NumbersSoFar {
+            unit: None,
+            marked: None,
+            skipped_gap: 0,
+            ended: None,
+            ended_by_marker: None,
+        }
+    }
+
+    /// The numbers of a packet's access unit, once it came, with so many missing before it.
+    fn of_unit(&self, packet: &RtpPacket<'_>, missing: u32) -> UnitNumbers {
+        let (sequence, timestamp) = (packet.sequence, packet.timestamp);
+        match self.unit {
+            Some(unit) if unit.timestamp == timestamp => UnitNumbers {
+                last: sequence,
+                missing: unit.missing.saturating_add(missing),
+                ..unit
+            },
+            _ => UnitNumbers {
+                timestamp,
+                first: sequence,
+                last: sequence,
+                missing,
+                continues: self.marked == Some(timestamp),
+            },
+        }
+    }
+
+    /// A number was skipped, and so many are missing before it.
+    pub(crate) fn skip(&mut self, missing: u16) {
+        self.skipped_gap = self.skipped_gap.saturating_add(u32::from(missing));
+    }
+
+    /// A packet was taken, and so many are missing before it.
+    pub(crate) fn take(&mut self, packet: &RtpPacket<'_>, missing: u16) {
+        let missing = self.skipped_gap.saturating_add(u32::from(missing));
+        let unit = self.of_unit(packet, missing);
+        let ended = match self.unit {
+            Some(unit) if unit.timestamp != packet.timestamp => Some(unit),
+            _ => None,
+        };
+        *self = if packet.marker {
+            NumbersSoFar {
+                unit: None,
+                marked: Some(packet.timestamp),
+                skipped_gap: 0,
+                ended,
+                ended_by_marker: Some(unit),
+            }
+        } else {
+            NumbersSoFar {
+                unit: Some(unit),
+                marked: None,
+                skipped_gap: 0,
+                ended,
+                ended_by_marker: None,
+            }
+        };
+    }
+
+    /// Notes what became of a packet that was due.
+    pub(crate) fn note(
+        &mut self,
+        packet: &RtpPacket<'_>,
+        received: &Result<Received, PacketError>,
+    ) {
+        match received {
+            Ok(received) if packet.payload.is_empty() => self.skip(missing_told(*received)),
+            Ok(received) if received.is_taken() => self.take(packet, missing_told(*received)),
+            _ => {}
+        }
+    }
+
+    /// The stream has ended, and with it the access unit that is open.
+    pub(crate) fn end(&mut self) {
+        *self = NumbersSoFar {
+            unit: None,
+            marked: None,
+            skipped_gap: 0,
+            ended: self.unit,
+            ended_by_marker: None,
+        };
+    }
+
+    /// Those of the first access unit that ended, which is given out.
+    pub(crate) fn give(&mut self) -> UnitNumbers {
+        match self.ended {
+            Some(numbers) => {
+                self.ended = None;
+                numbers
+            }
+            None => {
+                let numbers = self.ended_by_marker.unwrap_or(UnitNumbers::NONE);
+                self.ended_by_marker = None;
+                numbers
+            }
+        }
+    }
+}

@@ -1,0 +1,62 @@
+// Made from crates/h26x_access_units/src/pushed.rt by tools/to-rust.
+
+//! What became of a packet that was given to a receiver.
+
+use crate::proved::h26x_frames::{HeldPacket, NotHeldReason};
+
+/// What became of a packet that was given to a receiver.
+#[derive(Debug, Clone, Copy, PartialEq, Eq, Hash)]
+pub enum Pushed {
+    /// It waits for those before it, or to be taken.
+    Held,
+
+    /// It is dropped: its number is so far behind the one that is due.
+    Late(u16),
+
+    /// It is dropped: a packet with its number waits.
+    Twice,
+
+    /// It waits alone, in the place of another one: its number is too far from the one that is due.
+    Stray,
+
+    /// It follows the one that waited alone: the stream begins anew with both. What waited of the old
+    /// numbers is dropped.
+    Anew,
+
+    /// It is dropped: more bytes wait than the limit. The caller is to take access units first.
+    Full,
+}
+
+/// Why a packet that was given by value doesn't wait.
+#[derive(Debug, Clone, Copy, PartialEq, Eq, Hash)]
+pub enum NotPushedReason {
+    /// Its number is so far behind the one that is due.
+    Late(u16),
+
+    /// A packet with its number waits.
+    Twice,
+
+    /// More bytes wait than the limit. The caller is to take access units first.
+    Full,
+
+    /// There is no memory for one more place. It can be given again.
+    OutOfMemory,
+}
+
+/// A packet that was given by value and doesn't wait, as it was given.
+#[derive(Debug, Clone, PartialEq, Eq, Hash)]
+pub struct NotPushed {
+    /// The packet.
+    pub packet: HeldPacket,
+    /// Why it doesn't wait.
+    pub reason: NotPushedReason,
+}
+
+/// Why a packet doesn't wait, by what a reorder buffer says.
+pub(crate) fn as_not_pushed(reason: NotHeldReason) -> NotPushedReason {
+    match reason {
+        NotHeldReason::Late(count) => NotPushedReason::Late(count),
+        NotHeldReason::Twice => NotPushedReason::Twice,
+        NotHeldReason::OutOfMemory => NotPushedReason::OutOfMemory,
+    }
+}

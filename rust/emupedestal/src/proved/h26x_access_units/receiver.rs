@@ -1,0 +1,195 @@
+// Made from crates/h26x_access_units/src/receiver.rt by tools/to-rust.
+
+//! A receiver that takes packets as they come and gives out access units.
+
+use crate::proved::h26x_access_units::config::AccessUnitConfig;
+use crate::proved::h26x_access_units::counts::Counts;
+use crate::proved::h26x_access_units::jitter::JitterBuffer;
+use crate::proved::h26x_access_units::numbers::NumbersSoFar;
+use crate::proved::h26x_access_units::pushed::Pushed;
+use crate::proved::h26x_access_units::unit::{ReceivedUnit, is_keyframe};
+use crate::proved::h26x_core::PacketError;
+use crate::proved::h26x_frames::{AccessUnit, FrameReceiver, RtpPacket};
+use crate::proved::h26x_receiver::{Received, RunDepacketizer, SequencedDepacketizer};
+use alloc::vec::Vec;
+
+/// Takes RTP packets as they come and gives out access units.
+#[derive(Debug)]
+pub struct AccessUnitReceiver<D: RunDepacketizer> {
+    waiting: JitterBuffer,
+    frames: FrameReceiver<D>,
+    ended: Vec<AccessUnit>,
+    numbers: NumbersSoFar,
+    is_clean: bool,
+    counts: Counts,
+}
+
+/// Whether an answer says that memory lacks.
+fn is_want_of_memory(received: &Result<Received, PacketError>) -> bool {
+    matches!(received, Err(PacketError::OutOfMemory))
+}
+
+/// Gives a packet that is due to the receiver of access units; one without a payload is skipped.
+fn take_packet<D: RunDepacketizer>(
+    frames: &mut FrameReceiver<D>,
+    packet: &RtpPacket<'_>,
+    ended: &mut Vec<AccessUnit>,
+) -> Result<Received, PacketError> {
+    if packet.payload.is_empty() {
+        Ok(frames.skip(packet.sequence))
+    } else {
+        frames.receive(packet, ended)
+    }
+}
+
+/// What a receiver is to contracts.
+pub trait Receives {
+    /// What it has counted.
+    fn counts(&self) -> Counts;
+}
+
+impl<D: RunDepacketizer> Receives for AccessUnitReceiver<D> {
+    fn counts(&self) -> Counts {
+        self.counts
+    }
+}
+
+impl<D: RunDepacketizer> AccessUnitReceiver<D> {
+    /// A receiver with these settings over a depacketizer, which takes any sequence number as the
+    /// first. A run that is open in `depacketizer` is not used. It takes no memory.
+    pub(crate) fn new(depacketizer: D, config: AccessUnitConfig) -> Self {
+        let packets = SequencedDepacketizer::new(depacketizer, config.run_limit);
+        AccessUnitReceiver {
+            waiting: JitterBuffer::new(config),
+            frames: FrameReceiver::new(packets, config.unit_limit),
+            ended: Vec::new(),
+            numbers: NumbersSoFar::none(),
+            is_clean: false,
+            counts: Counts::none(),
+        }
+    }
+
+    /// Takes a packet that came at this tick, and copies it if it is to wait. One without a payload
+    /// came and bears nothing. Without memory all stays as it was, and it can be given again.
+    pub fn try_push(&mut self, now: u32, packet: &RtpPacket<'_>) -> Result<Pushed, PacketError> {
+        let pushed = self.waiting.try_push(now, packet)?;
+        self.counts.try_push(pushed);
+        Ok(pushed)
+    }
+
+    /// Passes over a number that came and bears nothing of the stream, as padding alone, FEC or
+    /// another payload type: it isn't missing.
+    pub fn skip(&mut self, now: u32, sequence: u16) -> Result<Pushed, PacketError> {
+        let packet = RtpPacket {
+            sequence,
+            timestamp: 0,
+            marker: false,
+            payload: &[],
+        };
+        self.try_push(now, &packet)
+    }
+
+    /// Takes the packet that is due, if one is, or passes over it where it is refused.
+    fn take_due(&mut self, now: u32) -> Result<bool, PacketError> {
+        let packet = match self.waiting.first_due(now) {
+            Some(held) => held.packet(),
+            None => return Ok(false),
+        };
+        let received = take_packet(&mut self.frames, &packet, &mut self.ended);
+        if is_want_of_memory(&received) {
+            return Err(PacketError::OutOfMemory);
+        }
+        self.numbers.note(&packet, &received);
+        self.counts.note(&packet, &received);
+        let _ = self.waiting.pop_first();
+        Ok(true)
+    }
+
+    /// Takes packets that are due until an access unit has ended, or none is due.
+    fn drain(&mut self, now: u32) -> Result<(), PacketError> {
+        while !self.has_ended() && self.take_due(now)? {}
+        Ok(())
+    }
+
+    /// Whether an access unit has ended and wasn't given out.
+    fn has_ended(&self) -> bool {
+        !self.ended.is_empty()
+    }
+
+    /// At the end of the stream, once no access unit that ended is left, ends the one that is open.
+    fn end_if_over(&mut self) -> Result<(), PacketError> {
+        if self.ended.is_empty() && self.waiting.is_over() {
+            self.frames.end(&mut self.ended)?;
+            self.numbers.end();
+            self.waiting.restart();
+        }
+        Ok(())
+    }
+
+    /// Gives out the first access unit that ended.
+    fn give(&mut self) -> Option<ReceivedUnit> {
+        if self.ended.is_empty() {
+            return None;
+        }
+        let unit = self.ended.remove(0);
+        let numbers = self.numbers.give();
+        let is_whole = unit.is_whole && !numbers.continues;
+        self.is_clean = unit.is_whole && (is_keyframe(unit.extra) || self.is_clean);
+        self.counts.unit(is_whole);
+        Some(ReceivedUnit {
+            timestamp: unit.timestamp,
+            bytes: unit.bytes,
+            extra: unit.extra,
+            is_whole,
+            is_clean: self.is_clean,
+            continues: numbers.continues,
+            first: numbers.first,
+            last: numbers.last,
+            missing: numbers.missing,
+        })
+    }
+
+    /// The next access unit, if one has ended at this tick: takes packets that are due until one ends.
+    /// One that is refused is passed over, and counted. Call it until it gives out none.
+    ///
+    /// Without memory the error is `OutOfMemory`: what was taken before stays taken, and the packet for
+    /// which memory lacks is due still.
+    pub fn next(&mut self, now: u32) -> Result<Option<ReceivedUnit>, PacketError> {
+        self.drain(now)?;
+        self.end_if_over()?;
+        Ok(self.give())
+    }
+
+    /// At the end of a stream: all that waits is due, and once it was taken the access unit that is
+    /// open ends, not known to be whole. `next` gives all of it out, and then any number is the next.
+    pub fn finish(&mut self) {
+        self.waiting.finish();
+    }
+
+    /// Drops all that waits or is open, and access units that weren't taken, and takes any number as
+    /// the next: for another sender (SSRC). What was counted stays. It takes no memory.
+    pub fn restart(&mut self) {
+        self.waiting.restart();
+        self.frames.restart();
+        self.ended.clear();
+        self.numbers = NumbersSoFar::none();
+        self.is_clean = false;
+    }
+
+    /// Takes back an access unit that was given out, for its memory: a later one is written there.
+    pub fn give_back(&mut self, unit: ReceivedUnit) {
+        self.frames.give_back(unit.into_access_unit());
+    }
+
+    /// The numbers that are missing before packets that wait and still could come, in order: for a NACK
+    /// (RFC 4585, 6.2.1). Of a stream that begins the first of them are those of the window before the
+    /// first packet that came, which may never have been sent.
+    pub fn missing(&self) -> Result<Vec<u16>, PacketError> {
+        Ok(self.waiting.missing()?)
+    }
+
+    /// When to call `next` again at the latest, in the caller's ticks, if packets wait.
+    pub fn deadline(&self) -> Option<u32> {
+        self.waiting.deadline()
+    }
+}

@@ -1,0 +1,287 @@
+//! Access units of packets that a network loses, repeats and reorders (RFC 3550, 5.1 and A.1). Expected units are
+//! written out by hand, and drawn packets go through a buffer and a receiver beside it.
+
+use super::bytes;
+use crate::access_unit_receiver::{AccessUnitConfig, AccessUnitReceiver, Pushed, ReceivedUnit};
+use crate::{
+    Codec, CodecExtra, FrameReceiver, H264CodecExtra, PacketError, ReorderBuffer, RtpPacket,
+};
+
+fn config(window: u16, max_wait: u32) -> AccessUnitConfig {
+    AccessUnitConfig {
+        window,
+        far: 0,
+        max_wait,
+        held_limit: 1000,
+        run_limit: 1000,
+        unit_limit: 1000,
+    }
+}
+
+fn receiver(window: u16, max_wait: u32) -> AccessUnitReceiver {
+    AccessUnitReceiver::new(Codec::H264, config(window, max_wait))
+}
+
+fn push(
+    it: &mut AccessUnitReceiver,
+    now: u32,
+    packet: (u16, u32, bool, &str),
+) -> Result<Pushed, PacketError> {
+    let (sequence, timestamp, marker, payload) = packet;
+    let payload = bytes(payload);
+    it.push(
+        now,
+        &RtpPacket {
+            sequence,
+            timestamp,
+            marker,
+            payload: &payload,
+        },
+    )
+}
+
+/// All access units that have ended at a tick.
+fn units(it: &mut AccessUnitReceiver, now: u32) -> Vec<ReceivedUnit> {
+    core::iter::from_fn(|| it.next_unit(now).unwrap()).collect()
+}
+
+/// Of each its timestamp, numbers, how many are missing, and whether it is whole and clean.
+fn told(units: &[ReceivedUnit]) -> Vec<(u32, u16, u16, u32, bool, bool)> {
+    let of = |it: &ReceivedUnit| {
+        (
+            it.timestamp,
+            it.first,
+            it.last,
+            it.missing,
+            it.is_whole,
+            it.is_clean,
+        )
+    };
+    units.iter().map(of).collect()
+}
+
+#[test]
+fn packets_in_any_order_across_the_end_of_numbers() {
+    let mut it = receiver(2, u32::MAX);
+    for packet in [
+        (65534, 10, true, "65aa"),
+        (0, 20, true, "7c4102"),
+        (65535, 20, false, "7c8101"),
+        (1, 30, true, "61cc"),
+    ] {
+        assert_eq!(push(&mut it, 0, packet), Ok(Pushed::Held));
+    }
+    let units = units(&mut it, 0);
+    // Whether a packet came before the first isn't known.
+    let wanted = [
+        (10, 65534, 65534, 0, false, false),
+        (20, 65535, 0, 0, true, false),
+        (30, 1, 1, 0, true, false),
+    ];
+    assert_eq!(told(&units), wanted);
+    assert_eq!(units[1].bytes, bytes("00000001 610102"));
+    assert_eq!(
+        units[0].extra,
+        CodecExtra::H264(H264CodecExtra { is_keyframe: true })
+    );
+    let counts = it.counts();
+    assert_eq!((counts.taken, counts.units, counts.whole), (4, 3, 2));
+}
+
+#[test]
+fn a_packet_that_is_missing_is_waited_for_so_long() {
+    // The clock goes round within the wait.
+    let start = u32::MAX - 5;
+    let mut it = receiver(100, 10);
+    push(&mut it, start, (7, 10, true, "65aa")).unwrap();
+    assert_eq!(it.deadline(), Some(start.wrapping_add(10)));
+    assert!(units(&mut it, start.wrapping_add(9)).is_empty());
+    assert_eq!(
+        told(&units(&mut it, start.wrapping_add(10))),
+        [(10, 7, 7, 0, false, false)]
+    );
+    assert_eq!(it.deadline(), None);
+    // Of 8 and 9, which are missing, 9 comes late.
+    push(&mut it, 20, (10, 30, true, "61cc")).unwrap();
+    push(&mut it, 25, (13, 40, true, "61dd")).unwrap();
+    assert_eq!(it.missing().unwrap(), [8, 9, 11, 12]);
+    push(&mut it, 26, (11, 40, false, "61ee")).unwrap();
+    push(&mut it, 26, (12, 40, false, "")).unwrap();
+    assert_eq!(it.missing().unwrap(), [8, 9]);
+    assert_eq!(it.deadline(), Some(30));
+    assert!(units(&mut it, 29).is_empty());
+    let wanted = [(30, 10, 10, 2, false, false), (40, 11, 13, 0, true, false)];
+    assert_eq!(told(&units(&mut it, 30)), wanted);
+    assert_eq!(
+        push(&mut it, 31, (9, 20, true, "61bb")),
+        Ok(Pushed::Late(3))
+    );
+    assert_eq!((it.counts().lost, it.counts().late), (2, 1));
+}
+
+#[test]
+fn padding_is_not_missing() {
+    let mut it = receiver(1, u32::MAX);
+    push(&mut it, 0, (1, 10, true, "65aa")).unwrap();
+    push(&mut it, 0, (2, 20, false, "7c8101")).unwrap();
+    assert_eq!(push(&mut it, 0, (3, 20, false, "")), Ok(Pushed::Held));
+    assert_eq!(it.skip(0, 4), Ok(Pushed::Held));
+    push(&mut it, 0, (5, 20, true, "7c4102")).unwrap();
+    let units = units(&mut it, 0);
+    assert_eq!(told(&units[1..]), [(20, 2, 5, 0, true, false)]);
+    assert_eq!(units[1].bytes, bytes("00000001 610102"));
+    assert_eq!((it.counts().skipped, it.counts().lost), (2, 0));
+}
+
+#[test]
+fn markers_on_each_slice_and_timestamps_that_go_on() {
+    let mut it = receiver(1, u32::MAX);
+    for packet in [
+        (1, 10, true, "65aa"),
+        (2, 20, true, "61bb"),
+        (3, 20, true, "61cc"),
+        (4, 30, false, "61dd"),
+        (5, 30, false, "61ee"),
+        (6, 40, true, "61ff"),
+    ] {
+        push(&mut it, 0, packet).unwrap();
+    }
+    let units = units(&mut it, 0);
+    let continues: Vec<bool> = units.iter().map(|it| it.continues).collect();
+    assert_eq!(continues, [false, false, true, false, false]);
+    // The second part of a picture isn't known to be whole, as the first isn't, of which nobody knows yet.
+    assert!(!units[2].is_whole);
+    assert_eq!(
+        told(&units[3..]),
+        [(30, 4, 5, 0, true, false), (40, 6, 6, 0, true, false)]
+    );
+}
+
+#[test]
+fn clean_since_a_whole_keyframe() {
+    let mut it = receiver(1, u32::MAX);
+    for packet in [
+        (1, 10, true, "61aa"),
+        (2, 20, true, "65bb"),
+        (3, 30, true, "61cc"),
+        (5, 50, true, "61dd"),
+        (6, 60, true, "61ee"),
+        (7, 70, true, "65ff"),
+    ] {
+        push(&mut it, 0, packet).unwrap();
+    }
+    let clean: Vec<bool> = units(&mut it, 0).iter().map(|it| it.is_clean).collect();
+    assert_eq!(clean, [false, true, true, false, false, true]);
+}
+
+#[test]
+fn the_end_of_a_stream_and_another_sender() {
+    let mut it = receiver(100, u32::MAX);
+    push(&mut it, 0, (7, 10, true, "65aa")).unwrap();
+    push(&mut it, 0, (9, 20, false, "61bb")).unwrap();
+    assert!(units(&mut it, 0).is_empty());
+    it.finish();
+    let wanted = [(10, 7, 7, 0, false, false), (20, 9, 9, 1, false, false)];
+    assert_eq!(told(&units(&mut it, 0)), wanted);
+    push(&mut it, 0, (40000, 30, false, "61cc")).unwrap();
+    it.restart();
+    it.finish();
+    assert!(units(&mut it, 0).is_empty());
+    assert_eq!(it.deadline(), None);
+}
+
+#[test]
+fn more_bytes_than_the_limit() {
+    let mut it = AccessUnitReceiver::new(
+        Codec::H264,
+        AccessUnitConfig {
+            held_limit: 5,
+            ..config(100, u32::MAX)
+        },
+    );
+    push(&mut it, 0, (7, 10, true, "61010203")).unwrap();
+    assert!(units(&mut it, 0).is_empty());
+    push(&mut it, 0, (8, 20, true, "61040506")).unwrap();
+    assert_eq!(push(&mut it, 0, (9, 30, true, "61")), Ok(Pushed::Full));
+    // The first goes, and then no more wait than the limit.
+    assert_eq!(told(&units(&mut it, 0)).len(), 2);
+    assert_eq!(push(&mut it, 0, (9, 30, true, "61")), Ok(Pushed::Held));
+}
+
+#[test]
+#[should_panic(expected = "a window has 1 to 16384 packets")]
+fn a_window_that_is_none() {
+    receiver(0, 0);
+}
+
+/// A step of a generator by Marsaglia (xorshift).
+fn draw(state: &mut u64) -> u64 {
+    *state ^= *state << 13;
+    *state ^= *state >> 7;
+    *state ^= *state << 17;
+    *state
+}
+
+/// Drawn packets, lost, twice and in another order: with no time, no far number and no empty payload it gives what a
+/// buffer and a receiver behind it give.
+#[test]
+fn drawn_packets_beside_a_buffer_and_a_receiver() {
+    let mut state = 0x9e37_79b9_7f4a_7c15;
+    for round in 0..200 {
+        let window = 1 + (draw(&mut state) % 9) as u16;
+        let limits = AccessUnitConfig {
+            held_limit: usize::MAX,
+            ..config(window, u32::MAX)
+        };
+        let mut it = AccessUnitReceiver::new(Codec::H264, limits);
+        let (mut buffer, mut frames) = (
+            ReorderBuffer::new(window),
+            FrameReceiver::new(Codec::H264, 1000, 1000),
+        );
+        let (mut got, mut wanted) = (Vec::new(), Vec::new());
+        for place in 0..60u16 {
+            let jump = (draw(&mut state) % 6) as u16;
+            let sequence = 65500u16
+                .wrapping_add(round)
+                .wrapping_add(place)
+                .wrapping_sub(jump);
+            let of = u64::from(sequence).wrapping_mul(0x9e37_79b9) >> 3;
+            let payload: &[u8] = [
+                &[0x61, 1][..],
+                &[0x7c, 0x81, 2],
+                &[0x7c, 0x01, 3],
+                &[0x7c, 0x41, 4],
+                &[0x65, 5],
+                &[0x7f, 6],
+            ][(of % 6) as usize];
+            let packet = RtpPacket {
+                sequence,
+                timestamp: u32::from(sequence / 4),
+                marker: sequence % 4 == 3 && of % 5 > 0,
+                payload,
+            };
+            it.push(0, &packet).unwrap();
+            buffer.push(&packet).unwrap();
+            got.extend(units(&mut it, 0));
+            while let Some(held) = buffer.pop() {
+                let _ = frames.receive(&held.packet(), &mut wanted);
+            }
+        }
+        it.finish();
+        got.extend(units(&mut it, 0));
+        while let Some(held) = buffer.pop_first() {
+            let _ = frames.receive(&held.packet(), &mut wanted);
+        }
+        frames.end(&mut wanted).unwrap();
+        let parts = |timestamp, bytes: &[u8], extra| (timestamp, bytes.to_vec(), extra);
+        let got: Vec<_> = got
+            .iter()
+            .map(|it| parts(it.timestamp, &it.bytes, it.extra))
+            .collect();
+        let wanted: Vec<_> = wanted
+            .iter()
+            .map(|it| parts(it.timestamp, &it.bytes, it.extra))
+            .collect();
+        assert_eq!(got, wanted, "round {round}");
+    }
+}
