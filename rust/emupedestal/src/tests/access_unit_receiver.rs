@@ -114,7 +114,7 @@ fn a_packet_that_is_missing_is_waited_for_so_long() {
     assert_eq!(told(&units(&mut it, 30)), wanted);
     assert_eq!(
         push(&mut it, 31, (9, 20, true, "61bb")),
-        Ok(Pushed::Late(3))
+        Ok(Pushed::Late(5))
     );
     assert_eq!((it.counts().lost, it.counts().late), (2, 1));
 }
