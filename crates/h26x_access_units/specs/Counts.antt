@@ -36,6 +36,10 @@ counted_push c pushes.Stray = record c { stray = count_up c.stray 1 }
 counted_push c pushes.Anew = record c { anew = count_up c.anew 1 }
 counted_push c answer = c
 
+-- packets of old numbers that were dropped
+abbrev pub counted_dropped : Counts → ℕ → Counts
+counted_dropped c dropped = record c { lost = count_up c.lost dropped }
+
 -- whether an answer says that an open NAL unit was given up
 abbrev pub given_up : Received → ℕ
 given_up (TooLong n) = 1

@@ -1,5 +1,6 @@
 -- Packets that wait for those before them: by a window, by time and by bytes (RFC 3550, 5.1; ours).
-use Rattle.std.specs.Prelude.{◌≡◌, ℕ, ◌+◌, ◌<◌, ◌≤◌, ◌^◌, ◌==◌, nat_lt, nat_le, Bool, true, false, ◌||◌, if◌then◌else◌, List, [], ◌∷◌, ◌++◌, length, Option, Some, None, slice_get}
+use Rattle.std.specs.Prelude.{◌≡◌, ℕ, ◌+◌, ◌<◌, ◌≤◌, ◌^◌, ◌==◌, nat_lt, nat_le, Bool, true, false, ◌||◌, ◌&&◌, if◌then◌else◌, List, [], ◌∷◌, ◌++◌, length, Option, Some, None, slice_get}
+use Rattle.h26x_receiver.specs.Sequence.{distance_ahead}
 use Rattle.h26x_frames.specs.Rtp.{RtpBody}
 use Rattle.h26x_frames.specs.ReorderBuffer.{BufferState, fresh_buffer, push_answer, after_push, next_packet, without_first}
 use Rattle.h26x_access_units.specs.declared.arrival.Arrival.{Arrival}
@@ -40,11 +41,13 @@ abbrev pub held_bytes : List (ℕ × RtpBody) → ℕ
 held_bytes [] = 0
 held_bytes (p ∷ held) = length p.1.payload + held_bytes held
 
--- of what waits the bytes are counted, and its window is that of the settings
+-- of what waits the bytes are counted, and its window is that of the settings, which is in range
 pub record IsCounted (config : AccessUnitConfig) (buffer : BufferState RtpBody) (bytes : ℕ) : Type 0
   where
     pub count : bytes ≡ held_bytes buffer.held
     pub window : buffer.window ≡ config.window
+    pub some : 0 < config.window
+    pub half : config.window ≤ 2 ^ 14
 
 -- whether more bytes wait than the limit
 abbrev pub is_past_limit : JitterState → Bool
@@ -60,6 +63,13 @@ abbrev pub jitter_answer : JitterState → ℕ × RtpBody → Pushed
 jitter_answer j p =
     if is_full j (length p.1.payload) then pushes.Full
     else as_pushed (push_answer j.buffer p.0)
+
+-- whether a number is so far from the one that is due, ahead or behind, or farther (RFC 3550, A.1)
+abbrev pub is_far : ℕ → Option ℕ → ℕ → Bool
+is_far far None number = false
+is_far far (Some due) number =
+    if far == 0 then false
+    else nat_le far (distance_ahead due number) && nat_le far (distance_ahead number due)
 
 -- a packet more waits, which came at this tick
 abbrev pub with_packet : ℕ → JitterState → ℕ × RtpBody → JitterState

@@ -1,9 +1,10 @@
 -- What a receiver of packets that come in any order does (RFC 3550, 5.1; ours).
-use Rattle.std.specs.Prelude.{◌≡◌, ℕ, ◌==◌, Bool, true, false, ◌&&◌, if◌then◌else◌, List, [], ◌∷◌, Option, Some, None, Result, Ok, Err, MatchBool}
+use Rattle.std.specs.Prelude.{◌≡◌, ℕ, ◌==◌, Bool, true, false, ◌&&◌, if◌then◌else◌, List, [], ◌∷◌, length, Option, Some, None, Result, Ok, Err, MatchBool}
 use Rattle.h26x_core.specs.declared.error.PacketError.{PacketError}
 use Rattle.h26x_core.specs.declared.error.PacketError.TheVariants.{OutOfMemory}
 use Rattle.h26x_model.specs.Receive.DepacketizerState.{DepacketizerState}
 use Rattle.h26x_receiver.specs.declared.received.Received.{Received}
+use Rattle.h26x_receiver.specs.Sequence.{next_sequence_number}
 use Rattle.h26x_receiver.specs.Sequenced.{skip_answer}
 use Rattle.h26x_frames.specs.Rtp.{RtpBody}
 use Rattle.h26x_frames.specs.AccessUnit.{AccessUnitValue, UnitDepacketization, none_open, open_depacketization, IsUnitAnswer, after_rtp, after_unit_skip, after_end}
@@ -11,16 +12,20 @@ use Rattle.h26x_access_units.specs.declared.config.AccessUnitConfig.{AccessUnitC
 use Rattle.h26x_access_units.specs.declared.counts.Counts.{Counts}
 use Rattle.h26x_access_units.specs.declared.numbers.NumbersSoFar.{NumbersSoFar}
 use Rattle.h26x_access_units.specs.declared.pushed.Pushed.{Pushed}
-use Rattle.h26x_access_units.specs.Counts.{no_counts, counted_push, counted_due, counted_unit}
-use Rattle.h26x_access_units.specs.JitterBuffer.{JitterState, jitter_answer, after_jitter, due_packet, without_due, fresh_jitter}
+use Rattle.h26x_access_units.specs.declared.pushed.Pushed.TheVariants as pushes
+use Rattle.h26x_access_units.specs.Counts.{no_counts, counted_push, counted_dropped, counted_due, counted_unit}
+use Rattle.h26x_access_units.specs.JitterBuffer.{JitterState, is_far, jitter_answer, after_jitter, due_packet, without_due, fresh_jitter}
 use Rattle.h26x_access_units.specs.Numbers.{fresh_numbers, bears_nothing, numbers_after, after_last, first_ended, without_first_ended}
 use Rattle.h26x_access_units.specs.ReceivedUnit.{ReceivedUnitValue, received_unit, clean_with, whole_with}
 
--- what a receiver is to contracts: what waits; the receiver of access units, those that ended and
+-- what a receiver is to contracts: what waits, and the packet that waits alone; whether the stream has
+-- begun anew, so that the access unit that is open is to end; the receiver of access units, those that ended and
 -- weren't given out; their numbers; whether nothing was missing since a keyframe; the counts; and the
 -- limits on an open run and on an open access unit
 pub record Reception : Type 0 where
   pub waiting : JitterState
+  pub stray : Option (ℕ × RtpBody)
+  pub is_anew : Bool
   pub frames : UnitDepacketization
   pub numbers : NumbersSoFar
   pub is_clean : Bool
@@ -29,10 +34,12 @@ pub record Reception : Type 0 where
   pub unit_limit : ℕ
 
 -- these
-abbrev pub reception : JitterState → UnitDepacketization → NumbersSoFar → Bool → Counts → ℕ → ℕ →
-    Reception
-reception waiting frames numbers is_clean counts run_limit unit_limit = record {
+abbrev pub reception : JitterState → Option (ℕ × RtpBody) → Bool → UnitDepacketization →
+    NumbersSoFar → Bool → Counts → ℕ → ℕ → Reception
+reception waiting stray is_anew frames numbers is_clean counts run_limit unit_limit = record {
   waiting = waiting;
+  stray = stray;
+  is_anew = is_anew;
   frames = frames;
   numbers = numbers;
   is_clean = is_clean;
@@ -43,7 +50,7 @@ reception waiting frames numbers is_clean counts run_limit unit_limit = record {
 
 -- before any packet came
 abbrev pub fresh_reception : AccessUnitConfig → DepacketizerState → Reception
-fresh_reception config state = reception (fresh_jitter config)
+fresh_reception config state = reception (fresh_jitter config) None false
     (open_depacketization state None none_open []) fresh_numbers false no_counts config.run_limit
     config.unit_limit
 
@@ -51,13 +58,47 @@ fresh_reception config state = reception (fresh_jitter config)
 abbrev pub restarted : Reception → Reception
 restarted s = record s {
   waiting = fresh_jitter s.waiting.config;
+  stray = None;
+  is_anew = false;
   frames = open_depacketization s.frames.state None none_open [];
   numbers = fresh_numbers;
   is_clean = false;
 }
 
+-- whether a number is the one behind the packet that waits alone
+abbrev pub follows : Option (ℕ × RtpBody) → ℕ → Bool
+follows None number = false
+follows (Some stray) number = number == next_sequence_number stray.0
+
+-- what is answered for a packet: one that is too far from the one that is due waits alone, and where
+-- the next such one follows it the stream begins anew
+abbrev pub reception_answer : Reception → ℕ × RtpBody → Pushed
+reception_answer s p =
+    if is_far s.waiting.config.far s.waiting.buffer.due p.0
+    then (if follows s.stray p.0 then pushes.Anew else pushes.Stray)
+    else jitter_answer s.waiting p
+
+-- what waits once a packet came, by its answer
+abbrev pub pushed_to : ℕ → JitterState → ℕ × RtpBody → JitterState
+pushed_to now j p = after_jitter now j p (jitter_answer j p)
+
+-- what waits of a stream that begins anew with a packet that waited alone and the next one
+abbrev pub anew_of : ℕ → AccessUnitConfig → Option (ℕ × RtpBody) → ℕ × RtpBody → JitterState
+anew_of now config None p = pushed_to now (fresh_jitter config) p
+anew_of now config (Some stray) p = pushed_to now (pushed_to now (fresh_jitter config) stray) p
+
 -- after a packet came, at this tick, that is answered so
 abbrev pub after_reception : ℕ → Reception → ℕ × RtpBody → Pushed → Reception
+after_reception now s p pushes.Stray = record s {
+  stray = Some p;
+  counts = counted_push s.counts pushes.Stray;
+}
+after_reception now s p pushes.Anew = record s {
+  waiting = anew_of now s.waiting.config s.stray p;
+  stray = None;
+  is_anew = true;
+  counts = counted_dropped (counted_push s.counts pushes.Anew) (length s.waiting.buffer.held);
+}
 after_reception now s p answer = record s {
   waiting = after_jitter now s.waiting p answer;
   counts = counted_push s.counts answer;
@@ -113,6 +154,13 @@ abbrev pub has_no_unit : List AccessUnitValue → Bool
 has_no_unit [] = true
 has_no_unit (unit ∷ units) = false
 
+-- where the stream has begun anew, and no access unit that ended is left, the one that is open ends
+abbrev pub ended_if_anew : Reception → Reception
+ended_if_anew s =
+    if has_no_unit s.frames.ended && s.is_anew
+    then record s { is_anew = false; frames = after_end s.frames; numbers = after_last s.numbers }
+    else s
+
 -- at the end of the stream, once no access unit that ended is left, the one that is open ends
 abbrev pub ended_if_over : Reception → Reception
 ended_if_over s =
@@ -141,11 +189,12 @@ without_given_of s (unit ∷ units) = record s {
 abbrev pub without_given : Reception → Reception
 without_given s = without_given_of s s.frames.ended
 
--- The next access unit: packets that were due were taken until one ended or none was due, and the
+-- The next access unit: where the stream has begun anew the one that was open ends; packets that were
+-- due were taken until one ended or none was due, and the
 -- first that ended is given out.
 pub record IsNext (now : ℕ) (s new : Reception) (unit : Option ReceivedUnitValue) : Type 0 where
   pub drained : Reception
-  pub taken : IsDrained now s drained
+  pub taken : IsDrained now (ended_if_anew s) drained
   pub until : drained.frames.ended ≡ [] → due_packet now drained.waiting ≡ None
   pub unit_is : unit ≡ given (ended_if_over drained)
   pub stands : new ≡ without_given (ended_if_over drained)

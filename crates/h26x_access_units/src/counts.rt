@@ -1,7 +1,7 @@
 //! What a receiver counts.
 
 ghost use Rattle.std.specs.Prelude.{◌≡◌};
-ghost use Rattle.h26x_access_units.specs.Counts.{no_counts, given_up, counted_answer, counted_skip, counted_due, counted_push, counted_unit};
+ghost use Rattle.h26x_access_units.specs.Counts.{no_counts, given_up, counted_answer, counted_skip, counted_due, counted_push, counted_dropped, counted_unit};
 
 use crate::numbers::missing_told;
 use crate::pushed::Pushed;
@@ -77,6 +77,13 @@ impl Counts {
             Pushed::Anew => self.anew = self.anew.saturating_add(1),
             Pushed::Held | Pushed::Full => {}
         }
+    }
+
+    /// Counts packets of old numbers that are dropped.
+    pub(crate) fn drop(&mut self, dropped: usize)
+        ensures { self.new ≡ counted_dropped self.old dropped }
+    {
+        self.lost = self.lost.saturating_add(dropped as u64);
     }
 
     /// Counts what became of a packet that was due.

@@ -6,7 +6,7 @@ ghost use Rattle.h26x_frames.specs.ReorderBuffer.{numbered_packet};
 ghost use Rattle.h26x_access_units.specs.Arrival.{deadline_of, has_waited};
 ghost use Rattle.h26x_access_units.specs.Pushed.{IsNotPushedReason};
 ghost use Rattle.h26x_access_units.specs.Missing.{numbers_from, missing_numbers};
-ghost use Rattle.h26x_access_units.specs.JitterBuffer.{with_packet, fresh_jitter, held_bytes, is_past_limit, is_full, is_pressed, jitter_answer, after_jitter, due_packet, without_due};
+ghost use Rattle.h26x_access_units.specs.JitterBuffer.{with_packet, is_far, fresh_jitter, held_bytes, is_past_limit, is_full, is_pressed, jitter_answer, after_jitter, due_packet, without_due};
 
 use crate::arrival::{Arrival, drop_number};
 use crate::config::AccessUnitConfig;
@@ -64,6 +64,31 @@ impl JitterBuffer {
             arrivals: VecDeque::new(alloc),
             bytes: 0,
             is_over: false,
+        }
+    }
+
+    /// The settings.
+    pub fn config(&self) -> AccessUnitConfig
+        ensures settings { result ≡ self.now.config }
+        ensures some { 0 < result.window }
+        ensures half { result.window ≤ 2 ^ 14 }
+    {
+        self.config
+    }
+
+    /// Whether a number is so far from the one that is due, ahead or behind, that it is a stray (RFC
+    /// 3550, A.1).
+    pub fn is_far(&self, number: u16) -> bool
+        ensures { result ≡ is_far self.now.config.far self.now.buffer.due number }
+    {
+        match self.buffer.due() {
+            Some(due) => {
+                let far = self.config.far;
+                let ahead = number.wrapping_sub(due);
+                let behind = due.wrapping_sub(number);
+                far != 0 && ahead >= far && behind >= far
+            }
+            None => false,
         }
     }
 

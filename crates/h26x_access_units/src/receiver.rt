@@ -1,14 +1,14 @@
 //! A receiver that takes packets as they come and gives out access units.
 
-ghost use Rattle.std.specs.Prelude.{◌≡◌, ◌^◌, ◌<◌, ◌≤◌, ◌↔◌, IsTrue, true, false, not, [], None, Err, IfOk, OnOk, OnErr, MatchBool, map};
+ghost use Rattle.std.specs.Prelude.{◌≡◌, ◌^◌, ◌<◌, ◌≤◌, ◌↔◌, ◌⊎◌, IsTrue, true, false, not, [], None, Err, IfOk, OnOk, OnErr, MatchBool, map};
 ghost use Rattle.std.specs.Option.{option_map};
 ghost use Rattle.h26x_frames.specs.Rtp.{rtp_body};
 ghost use Rattle.h26x_frames.specs.AccessUnit.{access_unit_value, open_depacketization};
 ghost use Rattle.h26x_access_units.specs.Arrival.{deadline_of};
-ghost use Rattle.h26x_access_units.specs.JitterBuffer.{jitter_answer, due_packet};
+ghost use Rattle.h26x_access_units.specs.JitterBuffer.{is_far, due_packet};
 ghost use Rattle.h26x_access_units.specs.Missing.{missing_numbers};
 ghost use Rattle.h26x_access_units.specs.ReceivedUnit.{received_unit_value};
-ghost use Rattle.h26x_access_units.specs.Reception.{fresh_reception, after_reception, has_no_unit, ended_if_over, restarted, given, without_given, frames_after, IsAnswerTo, IsDueTaken, IsDrained, IsNext};
+ghost use Rattle.h26x_access_units.specs.Reception.{fresh_reception, reception_answer, after_reception, has_no_unit, ended_if_anew, ended_if_over, restarted, given, without_given, frames_after, IsAnswerTo, IsDueTaken, IsDrained, IsNext};
 
 use crate::config::AccessUnitConfig;
 use crate::counts::Counts;
@@ -17,7 +17,7 @@ use crate::numbers::NumbersSoFar;
 use crate::pushed::Pushed;
 use crate::unit::{ReceivedUnit, is_keyframe};
 use h26x_core::PacketError;
-use h26x_frames::{AccessUnit, FrameReceiver, RtpPacket};
+use h26x_frames::{AccessUnit, FrameReceiver, HeldPacket, RtpPacket};
 use h26x_receiver::{Received, RunDepacketizer, SequencedDepacketizer};
 use std::alloc::Global;
 
@@ -25,6 +25,9 @@ use std::alloc::Global;
 #[derive(Debug, Drop)]
 pub struct AccessUnitReceiver<D: RunDepacketizer> {
     waiting: JitterBuffer,
+    stray: Option<HeldPacket>,
+    is_anew: bool,
+    alloc: Global,
     frames: FrameReceiver<D>,
     ended: Vec<AccessUnit>,
     numbers: NumbersSoFar,
@@ -76,10 +79,13 @@ pub trait Receives: Drop {
 
 impl<D: RunDepacketizer> Receives for AccessUnitReceiver<D> {
     ghost use Rattle.std.specs.Prelude.{map};
+    ghost use Rattle.std.specs.Option.{option_map};
+    ghost use Rattle.h26x_frames.specs.ReorderBuffer.{numbered_packet};
     ghost use Rattle.h26x_frames.specs.AccessUnit.{access_unit_value, open_depacketization};
     ghost use Rattle.h26x_access_units.specs.Reception.{reception};
 
-    ghost reception = { λ r. reception r.waiting (open_depacketization
+    ghost reception = { λ r. reception r.waiting (option_map numbered_packet r.stray) r.is_anew
+        (open_depacketization
         (D.state r.frames.packets.depacketizer) r.frames.packets.expected r.frames.unit
         (map access_unit_value r.ended.items)) r.numbers r.is_clean r.counts
         r.frames.packets.run_limit r.frames.unit_limit };
@@ -101,6 +107,9 @@ impl<D: RunDepacketizer> AccessUnitReceiver<D> {
         let packets = SequencedDepacketizer::new(alloc, depacketizer, config.run_limit);
         AccessUnitReceiver {
             waiting: JitterBuffer::new(alloc, config),
+            stray: None,
+            is_anew: false,
+            alloc,
             frames: FrameReceiver::new(alloc, packets, config.unit_limit),
             ended: Vec::new(alloc),
             numbers: NumbersSoFar::none(),
@@ -113,8 +122,7 @@ impl<D: RunDepacketizer> AccessUnitReceiver<D> {
     /// came and bears nothing. Without memory all stays as it was, and it can be given again.
     pub fn push(&mut self, now: u32, packet: &RtpPacket<'_>) -> Result<Pushed, PacketError>
         ensures answer { let r = ⟦<AccessUnitReceiver<D> as Receives>⟧.reception in
-            IfOk result (λ answer.
-            answer ≡ jitter_answer (r self.old).waiting packet.now) }
+            IfOk result (λ answer. answer ≡ reception_answer (r self.old) packet.now) }
         ensures after { let r = ⟦<AccessUnitReceiver<D> as Receives>⟧.reception in
             IfOk result (λ answer.
             r self.new ≡ after_reception now (r self.old) packet.now answer) }
@@ -122,9 +130,51 @@ impl<D: RunDepacketizer> AccessUnitReceiver<D> {
         ensures kept { let r = ⟦<AccessUnitReceiver<D> as Receives>⟧.reception in
             OnErr result (r self.new ≡ r self.old) }
     {
+        if self.waiting.is_far(packet.sequence) {
+            return self.push_far(now, packet);
+        }
         let pushed = self.waiting.push(now, packet)?;
         self.counts.push(pushed);
         Ok(pushed)
+    }
+
+    /// Takes a packet that is too far from the one that is due.
+    fn push_far(&mut self, now: u32, packet: &RtpPacket<'_>) -> Result<Pushed, PacketError>
+        requires { let r = ⟦<AccessUnitReceiver<D> as Receives>⟧.reception in
+            is_far (r self.old).waiting.config.far (r self.old).waiting.buffer.due packet.now.0
+            ≡ true }
+        ensures answer { let r = ⟦<AccessUnitReceiver<D> as Receives>⟧.reception in
+            IfOk result (λ answer. answer ≡ reception_answer (r self.old) packet.now) }
+        ensures after { let r = ⟦<AccessUnitReceiver<D> as Receives>⟧.reception in
+            IfOk result (λ answer.
+            r self.new ≡ after_reception now (r self.old) packet.now answer) }
+        ensures memory { OnErr result (result ≡ Err PacketError.OutOfMemory) }
+        ensures kept { let r = ⟦<AccessUnitReceiver<D> as Receives>⟧.reception in
+            OnErr result (r self.new ≡ r self.old) }
+    {
+        match &self.stray {
+            Some(stray) if packet.sequence == stray.sequence.wrapping_add(1) => {
+                let mut waiting = JitterBuffer::new(self.alloc, self.waiting.config());
+                let _ = waiting.push(now, &stray.packet())?;
+                let _ = waiting.push(now, packet)?;
+                self.counts.push(Pushed::Anew);
+                self.counts.drop(self.waiting.len());
+                self.waiting = waiting;
+                self.stray = None;
+                self.is_anew = true;
+                Ok(Pushed::Anew)
+            }
+            _ => {
+                self.stray = Some(HeldPacket::new(
+                    packet.sequence,
+                    packet.timestamp,
+                    packet.marker,
+                    Vec::from_slice(self.alloc, packet.payload)?,
+                ));
+                self.counts.push(Pushed::Stray);
+                Ok(Pushed::Stray)
+            }
+        }
     }
 
     /// Passes over a number that came and bears nothing of the stream, as padding alone, FEC or
@@ -132,7 +182,7 @@ impl<D: RunDepacketizer> AccessUnitReceiver<D> {
     pub fn skip(&mut self, now: u32, sequence: u16) -> Result<Pushed, PacketError>
         ensures answer { let r = ⟦<AccessUnitReceiver<D> as Receives>⟧.reception in
             IfOk result (λ answer.
-            answer ≡ jitter_answer (r self.old).waiting (sequence, rtp_body 0 false [])) }
+            answer ≡ reception_answer (r self.old) (sequence, rtp_body 0 false [])) }
         ensures after { let r = ⟦<AccessUnitReceiver<D> as Receives>⟧.reception in
             IfOk result (λ answer.
             r self.new ≡ after_reception now (r self.old) (sequence, rtp_body 0 false []) answer) }
@@ -170,6 +220,22 @@ impl<D: RunDepacketizer> AccessUnitReceiver<D> {
         self.counts.note(&packet, &received);
         let _ = self.waiting.pop_first();
         Ok(true)
+    }
+
+    /// Where the stream has begun anew, and no access unit that ended is left, ends the open one.
+    fn end_if_anew(&mut self) -> Result<(), PacketError>
+        ensures ended { let r = ⟦<AccessUnitReceiver<D> as Receives>⟧.reception in
+            OnOk result (r self.new ≡ ended_if_anew (r self.old)) }
+        ensures memory { OnErr result (result ≡ Err PacketError.OutOfMemory) }
+        ensures kept { let r = ⟦<AccessUnitReceiver<D> as Receives>⟧.reception in
+            OnErr result (r self.new ≡ r self.old) }
+    {
+        if self.ended.is_empty() && self.is_anew {
+            self.frames.end(&mut self.ended)?;
+            self.numbers.end();
+            self.is_anew = false;
+        }
+        Ok(())
     }
 
     /// Takes packets that are due until an access unit has ended, or none is due.
@@ -248,8 +314,10 @@ impl<D: RunDepacketizer> AccessUnitReceiver<D> {
             IsNext now (r self.old) (r self.new) (option_map received_unit_value unit)) }
         ensures memory { OnErr result (result ≡ Err PacketError.OutOfMemory) }
         ensures kept { let r = ⟦<AccessUnitReceiver<D> as Receives>⟧.reception in
-            OnErr result (IsDrained now (r self.old) (r self.new)) }
+            OnErr result ((r self.new ≡ r self.old)
+            ⊎ IsDrained now (ended_if_anew (r self.old)) (r self.new)) }
     {
+        self.end_if_anew()?;
         self.drain(now)?;
         self.end_if_over()?;
         Ok(self.give())
@@ -273,6 +341,8 @@ impl<D: RunDepacketizer> AccessUnitReceiver<D> {
             r self.new ≡ restarted (r self.old) }
     {
         self.waiting.restart();
+        self.stray = None;
+        self.is_anew = false;
         self.frames.restart();
         self.ended.clear();
         self.numbers = NumbersSoFar::none();

@@ -6,11 +6,12 @@ use h26x_frames::RtpPacket;
 use h264_payload::H264Depacketizer;
 use std::alloc::Global;
 
-/// The settings of the tests: a window of 4 packets, a wait of 100 ticks, 20 bytes.
-fn config() -> AccessUnitConfig {
+/// The settings of the tests: a window of 4 packets, a wait of 100 ticks, 20 bytes; a number so far from
+/// the one due is a stray.
+fn config(far: u16) -> AccessUnitConfig {
     AccessUnitConfig {
         window: 4,
-        far: 0,
+        far,
         max_wait: 100,
         held_limit: 20,
         run_limit: 1000,
@@ -48,9 +49,9 @@ fn is_wanted(unit: &ReceivedUnit, timestamp: u32, len: usize, told: [bool; 3]) -
 }
 
 /// Does the steps, and answers the place of the first that went otherwise.
-fn walk(alloc: Global, steps: &[Step<'_>]) -> Result<Option<usize>, PacketError> {
+fn walk(alloc: Global, far: u16, steps: &[Step<'_>]) -> Result<Option<usize>, PacketError> {
     let depacketizer = H264Depacketizer::new(alloc);
-    let mut receiver = AccessUnitReceiver::new(alloc, depacketizer, config());
+    let mut receiver = AccessUnitReceiver::new(alloc, depacketizer, config(far));
     for (place, step) in steps.iter().enumerate() {
         let is_as_wanted = match step {
             Step::Push(now, sequence, timestamp, marker, payload, answer) => {
@@ -115,6 +116,7 @@ const NOTHING: &[u8] = &[];
 fn a_stream_that_begins_waits(rt: HostRuntime) -> Result<(), PacketError> {
     let at = walk(
         rt.alloc(),
+        0,
         &[
             Step::Deadline(None),
             Step::Push(7, 65534, 0, true, KEY, Pushed::Held),
@@ -137,6 +139,7 @@ fn a_stream_that_begins_waits(rt: HostRuntime) -> Result<(), PacketError> {
 fn packets_missing_late_and_twice(rt: HostRuntime) -> Result<(), PacketError> {
     let at = walk(
         rt.alloc(),
+        0,
         &[
             Step::Push(0, 10, 0, true, KEY, Pushed::Held),
             Step::Unit(100, 0, 6, [false, false, false], 10, 10, 0),
@@ -174,6 +177,7 @@ fn packets_missing_late_and_twice(rt: HostRuntime) -> Result<(), PacketError> {
 fn markers_and_numbers_that_bear_nothing(rt: HostRuntime) -> Result<(), PacketError> {
     let at = walk(
         rt.alloc(),
+        0,
         &[
             Step::Push(0, 10, 0, true, KEY, Pushed::Held),
             Step::Unit(100, 0, 6, [false, false, false], 10, 10, 0),
@@ -203,6 +207,7 @@ fn markers_and_numbers_that_bear_nothing(rt: HostRuntime) -> Result<(), PacketEr
 fn limits_ends_and_restarts(rt: HostRuntime) -> Result<(), PacketError> {
     let at = walk(
         rt.alloc(),
+        0,
         &[
             // 15 bytes wait, then 30, which is past 20: none more, and the first are due.
             Step::Push(0, 10, 0, false, LONG, Pushed::Held),
@@ -229,6 +234,34 @@ fn limits_ends_and_restarts(rt: HostRuntime) -> Result<(), PacketError> {
             Step::Push(0x55, 45541, 3000, true, KEY, Pushed::Held),
             Step::Finish,
             Step::Unit(0x55, 3000, 6, [false, false, false], 45541, 45541, 0),
+        ],
+    )?;
+    assert!(rt; at.is_none(), "{at:?}");
+    Ok(())
+}
+
+#[test]
+fn strays_and_a_stream_that_begins_anew(rt: HostRuntime) -> Result<(), PacketError> {
+    let at = walk(
+        rt.alloc(),
+        100,
+        &[
+            Step::Push(0, 10, 0, true, KEY, Pushed::Held),
+            Step::Unit(100, 0, 6, [false, false, false], 10, 10, 0),
+            // 11 is due: 110 is 99 ahead, and 111 a stray, and so is 10,111 in its place.
+            Step::Push(100, 111, 3000, true, SLICE, Pushed::Stray),
+            Step::Push(100, 10_111, 3000, true, SLICE, Pushed::Stray),
+            Step::Push(100, 112, 3000, true, SLICE, Pushed::Stray),
+            Step::Push(100, 11, 3000, false, SLICE, Pushed::Held),
+            Step::None(100),
+            // A sender that begins anew 20,000 back: the open access unit ends.
+            Step::Push(100, 45_547, 6000, true, KEY, Pushed::Stray),
+            Step::Push(100, 45_548, 9000, true, SLICE, Pushed::Anew),
+            Step::Unit(100, 3000, 6, [false, false, false], 11, 11, 0),
+            Step::None(100),
+            Step::Unit(200, 6000, 6, [false, false, false], 45_547, 45_547, 0),
+            Step::Unit(200, 9000, 6, [true, false, false], 45_548, 45_548, 0),
+            Step::None(200),
         ],
     )?;
     assert!(rt; at.is_none(), "{at:?}");

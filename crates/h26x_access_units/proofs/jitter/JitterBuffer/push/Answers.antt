@@ -18,4 +18,6 @@ invariant_of-self-in-Held c =
     record {
       count = bytes ∙ sym (push_bytes b p is) ∙ ap (λ (b : BufferState RtpBody). held_bytes b.held) (sym after);
       window = ap (λ (b : BufferState RtpBody). b.window) after ∙ push_window b p ∙ c.self.invariant.window;
+      some = c.self.invariant.some;
+      half = c.self.invariant.half;
     }

@@ -1,4 +1,6 @@
 use Rattle.std.proofs.Common.{◌≡◌, ◌∙◌, ap, sym, map, ℕ, Some}
+use Rattle.std.specs.Option.{option_map}
+use Rattle.h26x_frames.specs.ReorderBuffer.{numbered_packet}
 use Rattle.h26x_frames.specs.Rtp.{RtpBody}
 use Rattle.h26x_frames.specs.AccessUnit.{access_unit_value, open_depacketization}
 use Rattle.h26x_access_units.specs.Reception.{reception}
@@ -18,7 +20,7 @@ returns-clause-taken g c =
       answered = c.take_packet-received.ensures.answer;
       room = λ bad. absurd (let h = c.is_want_of_memory.ensures.1 bad in cc);
       stands = due_stands
-          (reception old.waiting (open_depacketization (state old.frames.packets.depacketizer) old.frames.packets.expected old.frames.unit (map access_unit_value old.ended.items)) old.numbers old.is_clean old.counts old.frames.packets.run_limit old.frames.unit_limit)
+          (reception old.waiting (option_map numbered_packet old.stray) old.is_anew (open_depacketization (state old.frames.packets.depacketizer) old.frames.packets.expected old.frames.unit (map access_unit_value old.ended.items)) old.numbers old.is_clean old.counts old.frames.packets.run_limit old.frames.unit_limit)
           c.packet-packet.result c.take_packet-received.result c.pop_first.new.self (open_depacketization (state frames.packets.depacketizer) frames.packets.expected frames.unit (map access_unit_value ended.items))
           c.note.new.self c.note-2.new.self frames.packets.run_limit frames.unit_limit
           c.pop_first.ensures.after c.take_packet-received.ensures.after c.note.ensures c.note-2.ensures c.take_packet-received.ensures.limit c.take_packet-received.ensures.unit_limit;
