@@ -18,3 +18,4 @@ pub mod KeptH264Lemmas
 pub mod ByLevelLemmas
 pub mod TieredLemmas
 pub mod TieredAgainLemmas
+pub mod StreamLemmas

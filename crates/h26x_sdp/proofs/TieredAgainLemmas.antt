@@ -5,6 +5,7 @@ use Rattle.std.specs.Option.{option_map, option_and_then, option_or}
 use Rattle.std.specs.Cmp.Lexicographic.{pointwise, other_text}
 use Rattle.h26x_sdp.specs.declared.kind.Kind.{Kind}
 use Rattle.h26x_sdp.specs.declared.kind.Kind.TheVariants.{Units}
+use Rattle.h26x_sdp.specs.UnitTypes.{h266_vps}
 use Rattle.h26x_sdp.specs.declared.answer.Role.TheVariants as role
 use Rattle.h26x_sdp.specs.declared.answer.by_level.Levels.{Levels}
 use Rattle.h26x_sdp.specs.Kinds.{fault_in, number_of}
@@ -146,7 +147,7 @@ h265_again offered own answer of_offered of_own holds_own h =
     (again_of h265.rules offered own found more.twice refl of_offered of_own parts.0 through more.same (more.sets, more.level_sets))
 
 -- sets are the same as themselves
-sets_themselves : (value : Option (List ℕ)) → same_if_given Units value value ≡ true
+sets_themselves : (value : Option (List ℕ)) → same_if_given (Units h266_vps) value value ≡ true
 sets_themselves None = refl
 sets_themselves (Some value) = by_test (pointwise nat_eq value value) (λ same. same) (λ other. absurd (other_text value value (sym other) refl))
 
@@ -165,12 +166,12 @@ h266_again offered own answer of_offered of_own holds_own h =
     let more = terms_again h266.rules h266.by h266_describes offered own found of_offered of_own agreed holds_own in
     let at_vps : 11 < 20 = omega arith in
     let vps = row_of_answer h266.rules offered own found 11 role.Sets refl of_offered of_own at_vps refl in
-    let same : same_if_given Units (h266.vps_of it) (only_if more.twice.sets (h266.vps_of own)) ≡ true =
-    ap (λ v. same_if_given Units v (only_if more.twice.sets (h266.vps_of own))) vps
-    ∙ ap (λ t. same_if_given Units (only_if found.sets (h266.vps_of own)) (only_if t (h266.vps_of own))) more.sets
+    let same : same_if_given (Units h266_vps) (h266.vps_of it) (only_if more.twice.sets (h266.vps_of own)) ≡ true =
+    ap (λ v. same_if_given (Units h266_vps) v (only_if more.twice.sets (h266.vps_of own))) vps
+    ∙ ap (λ t. same_if_given (Units h266_vps) (only_if found.sets (h266.vps_of own)) (only_if t (h266.vps_of own))) more.sets
     ∙ sets_themselves (only_if found.sets (h266.vps_of own)) in
     let keeps : h266.keeps_vps it own more.twice ≡ true =
-    or_true (not (h266.has_layers it)) (same_if_given Units (h266.vps_of it) (only_if more.twice.sets (h266.vps_of own))) same in
+    or_true (not (h266.has_layers it)) (same_if_given (Units h266_vps) (h266.vps_of it) (only_if more.twice.sets (h266.vps_of own))) same in
     let through : h266.terms it own ≡ Some more.twice =
     ap (option_and_then (h266.if_keeps_vps it own)) more.is ∙ ap (λ t. cond t (Some more.twice) None) keeps in
     subst (IsAnsweredAgain h266.rules (λ _. false) own) (sym is)

@@ -52,7 +52,7 @@ same_value (HexadecimalNumber most) a b = same_number (number_of (HexadecimalNum
     (number_of (HexadecimalNumber most) b)
 same_value (Hexadecimal bytes) a b = same_name a b
 same_value TxMode a b = pointwise nat_eq a b
-same_value Units a b = pointwise nat_eq a b
+same_value (Units types) a b = pointwise nat_eq a b
 same_value Text a b = pointwise nat_eq a b
 
 -- the same of values that may be absent, or of the defaults in their place

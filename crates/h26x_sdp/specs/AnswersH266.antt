@@ -2,6 +2,7 @@
 use Rattle.std.specs.Prelude.{ℕ, ◌==◌, Bool, not, ◌||◌, if◌then◌else◌, List, [], ◌∷◌, Option, Some, None}
 use Rattle.std.specs.Option.{option_and_then}
 use Rattle.h26x_sdp.specs.declared.kind.Kind.TheVariants.{Units}
+use Rattle.h26x_sdp.specs.UnitTypes.{h266_vps}
 use Rattle.h26x_sdp.specs.declared.answer.Role.{Role}
 use Rattle.h26x_sdp.specs.declared.answer.Role.TheVariants as role
 use Rattle.h26x_sdp.specs.declared.h266.H266Parameter.{H266Parameter}
@@ -53,8 +54,8 @@ vps_of it = value_at it.values (row_place p.SpropVps)
 
 -- of a profile with layers sprop-vps is configuration too (section 7.3.2.2): the answer has the offer's
 abbrev pub keeps_vps : FormatParameters → FormatParameters → Terms → Bool
-keeps_vps offered own terms = not (has_layers offered) || same_if_given Units (vps_of offered)
-    (only_if terms.sets (vps_of own))
+keeps_vps offered own terms = not (has_layers offered)
+    || same_if_given (Units h266_vps) (vps_of offered) (only_if terms.sets (vps_of own))
 
 abbrev pub if_keeps_vps : FormatParameters → FormatParameters → Terms → Option Terms
 if_keeps_vps offered own terms = if keeps_vps offered own terms then Some terms else None

@@ -4,6 +4,7 @@ use Rattle.h26x_sdp.specs.declared.kind.Kind.TheVariants.{Number, Hexadecimal, U
 use Rattle.h26x_sdp.specs.declared.h264.H264Parameter.{H264Parameter}
 use Rattle.h26x_sdp.specs.declared.h264.H264Parameter.TheVariants as p
 use Rattle.h26x_sdp.specs.Tables.{ParameterRow}
+use Rattle.h26x_sdp.specs.UnitTypes.{h264_sets}
 
 abbrev pub row_place : H264Parameter → ℕ
 row_place p.ProfileLevelId = 0
@@ -47,7 +48,7 @@ rows =
     record { name = codes "max-dpb"; kind = Number 0 18446744073709551615; default = None } ∷
     record { name = codes "max-br"; kind = Number 0 18446744073709551615; default = None } ∷
     record { name = codes "redundant-pic-cap"; kind = Number 0 1; default = Some (codes "0") } ∷
-    record { name = codes "sprop-parameter-sets"; kind = Units; default = None } ∷
+    record { name = codes "sprop-parameter-sets"; kind = Units h264_sets; default = None } ∷
     record { name = codes "sprop-level-parameter-sets"; kind = Text; default = None } ∷
     record {
       name = codes "use-level-src-parameter-sets";

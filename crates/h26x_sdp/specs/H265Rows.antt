@@ -4,6 +4,7 @@ use Rattle.h26x_sdp.specs.declared.kind.Kind.TheVariants.{Number, Hexadecimal, H
 use Rattle.h26x_sdp.specs.declared.h265.H265Parameter.{H265Parameter}
 use Rattle.h26x_sdp.specs.declared.h265.H265Parameter.TheVariants as p
 use Rattle.h26x_sdp.specs.Tables.{ParameterRow}
+use Rattle.h26x_sdp.specs.UnitTypes.{h265_pps, h265_sei, h265_sps, h265_vps}
 
 abbrev pub row_place : H265Parameter → ℕ
 row_place p.ProfileSpace = 0
@@ -59,10 +60,10 @@ rows =
     record { name = codes "recv-sub-layer-id"; kind = Number 0 6; default = None } ∷
     record { name = codes "max-recv-level-id"; kind = Number 0 255; default = None } ∷
     record { name = codes "tx-mode"; kind = TxMode; default = Some (codes "SRST") } ∷
-    record { name = codes "sprop-vps"; kind = Units; default = None } ∷
-    record { name = codes "sprop-sps"; kind = Units; default = None } ∷
-    record { name = codes "sprop-pps"; kind = Units; default = None } ∷
-    record { name = codes "sprop-sei"; kind = Units; default = None } ∷
+    record { name = codes "sprop-vps"; kind = Units h265_vps; default = None } ∷
+    record { name = codes "sprop-sps"; kind = Units h265_sps; default = None } ∷
+    record { name = codes "sprop-pps"; kind = Units h265_pps; default = None } ∷
+    record { name = codes "sprop-sei"; kind = Units h265_sei; default = None } ∷
     record { name = codes "max-lsr"; kind = Number 0 18446744073709551615; default = None } ∷
     record { name = codes "max-lps"; kind = Number 0 4294967295; default = None } ∷
     record { name = codes "max-cpb"; kind = Number 0 18446744073709551615; default = None } ∷

@@ -4,6 +4,7 @@ use Rattle.h26x_sdp.specs.declared.kind.Kind.TheVariants.{Number, Units, Text}
 use Rattle.h26x_sdp.specs.declared.h266.H266Parameter.{H266Parameter}
 use Rattle.h26x_sdp.specs.declared.h266.H266Parameter.TheVariants as p
 use Rattle.h26x_sdp.specs.Tables.{ParameterRow}
+use Rattle.h26x_sdp.specs.UnitTypes.{h266_dci, h266_pps, h266_sei, h266_sps, h266_vps}
 
 abbrev pub row_place : H266Parameter → ℕ
 row_place p.ProfileId = 0
@@ -34,18 +35,18 @@ rows =
     record { name = codes "profile-id"; kind = Number 0 127; default = Some (codes "1") } ∷
     record { name = codes "tier-flag"; kind = Number 0 1; default = Some (codes "0") } ∷
     record { name = codes "sub-profile-id"; kind = Text; default = None } ∷
-    record { name = codes "interop-constraints"; kind = Text; default = None } ∷
+    record { name = codes "interop-constraints"; kind = Text; default = Some (codes "gA==") } ∷
     record { name = codes "level-id"; kind = Number 0 255; default = Some (codes "51") } ∷
     record { name = codes "sprop-sublayer-id"; kind = Number 0 6; default = Some (codes "6") } ∷
     record { name = codes "sprop-ols-id"; kind = Number 0 256; default = None } ∷
     record { name = codes "recv-sublayer-id"; kind = Number 0 6; default = None } ∷
     record { name = codes "recv-ols-id"; kind = Number 0 256; default = None } ∷
     record { name = codes "max-recv-level-id"; kind = Number 0 255; default = None } ∷
-    record { name = codes "sprop-dci"; kind = Units; default = None } ∷
-    record { name = codes "sprop-vps"; kind = Units; default = None } ∷
-    record { name = codes "sprop-sps"; kind = Units; default = None } ∷
-    record { name = codes "sprop-pps"; kind = Units; default = None } ∷
-    record { name = codes "sprop-sei"; kind = Units; default = None } ∷
+    record { name = codes "sprop-dci"; kind = Units h266_dci; default = None } ∷
+    record { name = codes "sprop-vps"; kind = Units h266_vps; default = None } ∷
+    record { name = codes "sprop-sps"; kind = Units h266_sps; default = None } ∷
+    record { name = codes "sprop-pps"; kind = Units h266_pps; default = None } ∷
+    record { name = codes "sprop-sei"; kind = Units h266_sei; default = None } ∷
     record { name = codes "max-lsr"; kind = Number 0 18446744073709551615; default = None } ∷
     record { name = codes "max-fps"; kind = Number 0 18446744073709551615; default = None } ∷
     record {

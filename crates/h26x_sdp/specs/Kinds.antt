@@ -6,6 +6,7 @@ use Rattle.std.specs.Char.{digit_value}
 use Rattle.std.specs.Str.Parse.{digits_value}
 use Rattle.std.specs.Cmp.Lexicographic.{pointwise}
 use Rattle.h26x_sdp.specs.declared.kind.Kind.{Kind}
+use Rattle.h26x_sdp.specs.declared.unit_types.UnitTypes.{UnitTypes}
 use Rattle.h26x_sdp.specs.declared.kind.Kind.TheVariants.{Number, HexadecimalNumber, Hexadecimal, TxMode, Units, Text}
 use Rattle.h26x_sdp.specs.declared.error.Fault.{Fault}
 use Rattle.h26x_sdp.specs.declared.error.Fault.TheVariants.{NotANumber, OutOfRange, NotHexadecimal, NotTxMode}
@@ -45,7 +46,7 @@ fault_in (HexadecimalNumber most) value = range_fault 0 most (hexadecimal_number
 fault_in (Hexadecimal bytes) value =
     if length value == 2 * bytes && are_digits_of 16 value then None else Some NotHexadecimal
 fault_in TxMode value = if is_tx_mode value then None else Some NotTxMode
-fault_in Units value = None
+fault_in (Units types) value = None
 fault_in Text value = None
 
 -- the number that a value of a kind says, if the kind is a number's
@@ -54,13 +55,14 @@ number_of (Number least most) value = result_ok (number_in value)
 number_of (HexadecimalNumber most) value = result_ok (hexadecimal_number_in value)
 number_of (Hexadecimal bytes) value = None
 number_of TxMode value = None
-number_of Units value = None
+number_of (Units types) value = None
 number_of Text value = None
 
-abbrev pub is_units : Kind → Bool
-is_units (Number least most) = false
-is_units (HexadecimalNumber most) = false
-is_units (Hexadecimal bytes) = false
-is_units TxMode = false
-is_units Units = true
-is_units Text = false
+-- the types of the units of a kind, if it is units
+abbrev pub unit_types : Kind → Option UnitTypes
+unit_types (Number least most) = None
+unit_types (HexadecimalNumber most) = None
+unit_types (Hexadecimal bytes) = None
+unit_types TxMode = None
+unit_types (Units types) = Some types
+unit_types Text = None

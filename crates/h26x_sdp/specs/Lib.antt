@@ -10,8 +10,11 @@ pub mod Parameters
 pub mod H264Rows
 pub mod H265Rows
 pub mod H266Rows
+pub mod UnitTypes
 pub mod Units
 pub mod UnitsViews
+pub mod FromStream
+pub mod FromStreamViews
 pub mod RtpMaps
 pub mod Answers
 pub mod AnswersViews

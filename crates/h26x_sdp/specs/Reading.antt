@@ -1,6 +1,6 @@
 -- Parameters by a table of what each of them is (RFC 6184, section 8.1; RFC 7798, section 7.1; RFC
 -- 9328, section 7.2).
-use Rattle.std.specs.Prelude.{ℕ, ◌+◌, if◌then◌else◌, List, [], ◌∷◌, ◌++◌, length, replicate, slice_set, slice_index_or, Option, Some, None, is_some, Result, Ok, Err}
+use Rattle.std.specs.Prelude.{ℕ, ◌+◌, ◌^◌, nat_lt, if◌then◌else◌, List, [], ◌∷◌, ◌++◌, length, replicate, slice_set, slice_index_or, Option, Some, None, is_some, Result, Ok, Err}
 use Rattle.std.specs.Option.{option_and_then, option_or}
 use Rattle.h26x_sdp.specs.declared.kind.Kind.{Kind}
 use Rattle.h26x_sdp.specs.declared.error.Fault.{Fault}
@@ -24,6 +24,10 @@ none_of rows = record { values = replicate rows None; others = [] }
 abbrev pub value_at : List (Option (List ℕ)) → ℕ → Option (List ℕ)
 value_at values row = slice_index_or values row None
 
+-- parameters with one more
+abbrev pub with_one : ℕ → List ℕ → FormatParameters → FormatParameters
+with_one row value it = record it { values = slice_set it.values row (Some value) }
+
 -- the number of a row, if its value is given and its kind is a number's
 abbrev pub number_at : List ParameterRow → FormatParameters → ℕ → Option ℕ
 number_at rows it row = option_and_then (number_of (row_at rows row).kind) (value_at it.values row)
@@ -35,6 +39,11 @@ value_or_default rows it row = option_or (value_at it.values row) (row_at rows r
 abbrev pub number_or_default : List ParameterRow → FormatParameters → ℕ → Option ℕ
 number_or_default rows it row =
     option_and_then (number_of (row_at rows row).kind) (value_or_default rows it row)
+
+-- a number, where it is of 32 bits
+abbrev pub number_of_32_bits : Option ℕ → Option ℕ
+number_of_32_bits None = None
+number_of_32_bits (Some number) = if nat_lt number (2 ^ 32) then Some number else None
 
 -- a value that is given, where nothing is wrong with it
 abbrev pub with_value : ℕ → FormatParameters → ℕ → List ℕ → Option Fault →

@@ -1,13 +1,14 @@
 -- NAL units in base64 (RFC 6184, section 8.1; RFC 7798, section 7.1; RFC 9328, section 7.2).
 use Rattle.std.specs.Prelude.{ℕ, ◌+◌, ◌<◌, ◌==◌, Bool, if◌then◌else◌, List, [], ◌∷◌, length, map, Option, None, Result, Ok, Err}
 use Rattle.std.specs.List.{slice_split, join_with_byte, AllByRecursion}
-use Rattle.std.specs.Option.{option_map}
+use Rattle.std.specs.Option.{option_map, option_and_then}
 use Rattle.base64.specs.Engines.{standard}
 use Rattle.base64.specs.GeneralPurpose.{encode_of, decode_of, IsBytes}
 use Rattle.base64.specs.declared.decode.DecodeError.{DecodeError}
 use Rattle.h26x_sdp.specs.declared.error.UnitsError.{UnitsError}
 use Rattle.h26x_sdp.specs.declared.error.UnitsError.TheVariants.{NotBase64, Empty}
-use Rattle.h26x_sdp.specs.Kinds.{is_units}
+use Rattle.h26x_sdp.specs.Kinds.{unit_types}
+use Rattle.h26x_sdp.specs.UnitTypes.{of_types}
 use Rattle.h26x_sdp.specs.Tables.{ParameterRow, row_at}
 use Rattle.h26x_sdp.specs.Reading.{FormatParameters, value_at}
 
@@ -48,11 +49,14 @@ units_from place (text ∷ rest) = unit_before (unit_in place text) (units_from 
 abbrev pub sprop_units : List ℕ → Result (List (List ℕ)) UnitsError
 sprop_units text = units_from 0 (pieces text)
 
--- the units of a row's value, if it's given and its kind is units
+-- the units of a row's value, if it's given and its kind is units: where each is of a type that the
+-- parameter is for, and holds no start code
 abbrev pub units_at : List ParameterRow → FormatParameters → ℕ →
     Option (Result (List (List ℕ)) UnitsError)
 units_at rows it row =
-    if is_units (row_at rows row).kind then option_map sprop_units (value_at it.values row) else None
+    option_and_then (λ types.
+    option_map (λ text. of_types types (sprop_units text)) (value_at it.values row))
+    (unit_types (row_at rows row).kind)
 
 -- what may stand as units: some, each of some bytes
 pub record AreSpropUnits (units : List (List ℕ)) : Type 0 where

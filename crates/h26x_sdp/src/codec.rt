@@ -1,9 +1,9 @@
 //! The format parameters of a codec, by the table of them that its RFC registers.
 
-ghost use Rattle.std.specs.Prelude.{◌≡◌, ℕ, List, Ok, Some, None, IfOk, MatchResult, MatchOption, map};
+ghost use Rattle.std.specs.Prelude.{◌≡◌, ◌<◌, ℕ, List, Ok, Some, None, IfOk, MatchResult, MatchOption, length, map};
 ghost use Rattle.h26x_sdp.specs.Tables.{ParameterRow};
 ghost use Rattle.h26x_sdp.specs.TableViews.{row_view};
-ghost use Rattle.h26x_sdp.specs.Reading.{read_of, all_of, value_at, number_at, value_or_default, number_or_default};
+ghost use Rattle.h26x_sdp.specs.Reading.{read_of, all_of, none_of, with_one, value_at, number_at, value_or_default, number_or_default};
 ghost use Rattle.h26x_sdp.specs.ParametersViews.{Fails, other_view};
 ghost use Rattle.h26x_sdp.specs.Written.{written};
 ghost use Rattle.h26x_sdp.specs.Units.{units_at};
@@ -70,6 +70,25 @@ impl<P: CodecParameter> CodecParameters<P> {
         })
     }
 
+    /// None of the parameters.
+    pub(crate) fn none(alloc: Global) -> Result<Self, AllocError>
+        ensures { IfOk result (λ it. it ≡ none_of (length P.rows)) }
+    {
+        let parameters = parameters::none_of(alloc, P::rows().len())?;
+        Ok(CodecParameters {
+            parameters,
+            of: PhantomData,
+        })
+    }
+
+    /// Gives a parameter a value.
+    pub(crate) fn put(&mut self, parameter: P, value: Vec<u8>)
+        requires { P.place parameter < length P.rows }
+        ensures { self.new ≡ with_one (P.place parameter) value.items self.old }
+    {
+        parameters::put(&mut self.parameters.values, parameter.place(), value);
+    }
+
     /// Writes the value of an `a=fmtp` line: the parameters in the RFC's order, and the others behind
     /// them. It is read as the same parameters.
     pub fn write(&self, alloc: Global) -> Result<Vec<u8>, AllocError>
@@ -119,7 +138,11 @@ impl<P: CodecParameter> CodecParameters<P> {
     }
 
     /// The NAL units of a parameter, out of base64; `None` where it's absent, and for those that aren't
-    /// units. What is refused first is told, with its place among the units.
+    /// units.
+    ///
+    /// What is refused first is told, with its place among the units: a text that is no base64 or
+    /// has no byte, and where all are units, one that is of no type that the parameter is for, or has
+    /// a start code inside.
     pub fn units(&self, alloc: Global, parameter: P) -> Result<Option<Vec<Vec<u8>>>, UnitsError>
         ensures { SaysUnits result (units_at P.rows self.now (P.place parameter)) }
     {
@@ -127,10 +150,14 @@ impl<P: CodecParameter> CodecParameters<P> {
         else {
             return Ok(None);
         };
-        if !row.kind.is_units() {
+        let Some(types) = row.kind.unit_types() else {
             return Ok(None);
+        };
+        let units = read_units(alloc, value)?;
+        match types.fault_in(units.as_slice()) {
+            Some(error) => Err(error),
+            None => Ok(Some(units)),
         }
-        Ok(Some(read_units(alloc, value)?))
     }
 
     /// The parameters that the RFC doesn't have, in their order.

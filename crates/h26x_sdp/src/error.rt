@@ -67,6 +67,14 @@ pub enum UnitsError {
     #[error("unit {place} is empty")]
     Empty { place: usize },
 
+    /// The unit at this place, counted from 0, is of no type that the parameter is for.
+    #[error("unit {place} is of another type")]
+    OtherType { place: usize },
+
+    /// The unit at this place, counted from 0, has a start code, `00 00 01`, inside.
+    #[error("unit {place} has a start code inside")]
+    StartCode { place: usize },
+
     /// The allocator had no memory.
     #[error("out of memory")]
     OutOfMemory,
@@ -91,5 +99,52 @@ impl<T: Drop> From<AllocFailed<T>> for UnitsError {
 
     fn from(_e: AllocFailed<T>) -> UnitsError {
         UnitsError::OutOfMemory
+    }
+}
+
+/// Why units say no parameters. A refused call changes nothing.
+#[derive(Debug, Clone, Copy, PartialEq, Eq, Error)]
+pub enum StreamError {
+    /// No parameter set that says a profile and a level stands before the first slice.
+    #[error("no parameter set says a profile and a level")]
+    NoParameterSet,
+
+    /// The first that would say them ends before they do.
+    #[error("a parameter set is too short")]
+    ShortParameterSet,
+
+    /// The first SPS of H.266 doesn't say them: sps_ptl_dpb_hrd_params_present_flag is 0.
+    #[error("the parameter set says no profile")]
+    NoProfile,
+
+    /// The first SPS of H.266 has general constraints (gci_present_flag is 1), which this crate
+    /// doesn't read.
+    #[error("the parameter set has general constraints")]
+    GeneralConstraints,
+
+    /// The allocator had no memory.
+    #[error("out of memory")]
+    OutOfMemory,
+}
+
+impl From<AllocError> for StreamError {
+    ghost use Rattle.std.specs.Prelude.{◌≡◌};
+    ghost use Rattle.h26x_sdp.specs.declared.error.StreamError.TheVariants.{OutOfMemory};
+
+    ghost from_gives = { λ _ e. e ≡ OutOfMemory };
+
+    fn from(_e: AllocError) -> StreamError {
+        StreamError::OutOfMemory
+    }
+}
+
+impl<T: Drop> From<AllocFailed<T>> for StreamError {
+    ghost use Rattle.std.specs.Prelude.{◌≡◌};
+    ghost use Rattle.h26x_sdp.specs.declared.error.StreamError.TheVariants.{OutOfMemory};
+
+    ghost from_gives = { λ _ e. e ≡ OutOfMemory };
+
+    fn from(_e: AllocFailed<T>) -> StreamError {
+        StreamError::OutOfMemory
     }
 }

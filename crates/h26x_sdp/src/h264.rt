@@ -5,6 +5,7 @@ ghost use Rattle.std.specs.Prelude.{◌≡◌};
 use crate::codec::{CodecParameter, CodecParameters};
 use crate::kind::{BITS_15, BITS_32, BITS_64, FLAG, Kind};
 use crate::table::ParameterRow;
+use crate::unit_types::H264_SETS;
 
 /// A format parameter of H.264, in the order in which they are written (RFC 6184, section 8.1).
 #[derive(Debug, Clone, Copy, PartialEq, Eq)]
@@ -131,7 +132,7 @@ static ROWS: [ParameterRow; 23] = [
     },
     ParameterRow {
         name: b"sprop-parameter-sets",
-        kind: Kind::Units,
+        kind: Kind::Units(H264_SETS),
         default: None,
     },
     ParameterRow {

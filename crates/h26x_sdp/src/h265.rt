@@ -5,6 +5,7 @@ ghost use Rattle.std.specs.Prelude.{◌≡◌};
 use crate::codec::{CodecParameter, CodecParameters};
 use crate::kind::{BITS_8, BITS_15, BITS_32, BITS_64, FLAG, Kind, SUB_LAYER};
 use crate::table::ParameterRow;
+use crate::unit_types::{H265_PPS, H265_SEI, H265_SPS, H265_VPS};
 
 /// A format parameter of H.265, in the order in which they are written (RFC 7798, section 7.1).
 #[derive(Debug, Clone, Copy, PartialEq, Eq)]
@@ -146,22 +147,22 @@ static ROWS: [ParameterRow; 30] = [
     },
     ParameterRow {
         name: b"sprop-vps",
-        kind: Kind::Units,
+        kind: Kind::Units(H265_VPS),
         default: None,
     },
     ParameterRow {
         name: b"sprop-sps",
-        kind: Kind::Units,
+        kind: Kind::Units(H265_SPS),
         default: None,
     },
     ParameterRow {
         name: b"sprop-pps",
-        kind: Kind::Units,
+        kind: Kind::Units(H265_PPS),
         default: None,
     },
     ParameterRow {
         name: b"sprop-sei",
-        kind: Kind::Units,
+        kind: Kind::Units(H265_SEI),
         default: None,
     },
     ParameterRow {
@@ -262,6 +263,21 @@ impl CodecParameter for H265Parameter {
 
     fn place(self) -> usize {
         self as usize
+    }
+}
+
+impl CodecParameters<H265Parameter> {
+    ghost use Rattle.h26x_sdp.specs.Reading.{number_or_default, number_of_32_bits};
+    ghost use Rattle.h26x_sdp.specs.H265Rows as spec;
+    ghost use Rattle.h26x_sdp.specs.declared.h265.H265Parameter.TheVariants.{SpropMaxDonDiff};
+
+    /// What packetizers and receivers are configured for: `sprop-max-don-diff`, or 0 where it's
+    /// absent. Where it is over 0, units bear decoding order numbers (RFC 7798, section 7.1).
+    pub fn max_don_diff(&self) -> Option<u32>
+        ensures { result ≡ number_of_32_bits
+            (number_or_default spec.rows self.now (spec.row_place SpropMaxDonDiff)) }
+    {
+        u32::try_from(self.number_or_default(H265Parameter::SpropMaxDonDiff)?).ok()
     }
 }
 

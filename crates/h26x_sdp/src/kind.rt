@@ -4,6 +4,7 @@ ghost use Rattle.std.specs.Prelude.{◌≡◌, ◌≤◌};
 ghost use Rattle.h26x_sdp.specs.Kinds as spec;
 
 use crate::error::Fault;
+use crate::unit_types::UnitTypes;
 use std::str;
 
 /// What the value of a parameter is.
@@ -17,8 +18,8 @@ pub enum Kind {
     Hexadecimal { bytes: u8 },
     /// `SRST`, `MRST` or `MRMT` (RFC 7798, section 7.1).
     TxMode,
-    /// NAL units in base64, with `,` between them, which `read_units` looks into.
-    Units,
+    /// NAL units of these types in base64, with `,` between them, which `units` looks into.
+    Units(UnitTypes),
     /// A text that no rule of this crate looks into.
     Text,
 }
@@ -83,15 +84,18 @@ impl Kind {
                     Some(Fault::NotTxMode)
                 }
             }
-            Kind::Units | Kind::Text => None,
+            Kind::Units(_) | Kind::Text => None,
         }
     }
 
-    /// Whether the kind is units.
-    pub(crate) fn is_units(self) -> bool
-        ensures { result ≡ spec.is_units self }
+    /// The types of the units, if the kind is units.
+    pub(crate) fn unit_types(self) -> Option<UnitTypes>
+        ensures { result ≡ spec.unit_types self }
     {
-        matches!(self, Kind::Units)
+        match self {
+            Kind::Units(types) => Some(types),
+            _ => None,
+        }
     }
 
     /// The number that a value says, if the kind is a number's.
@@ -101,7 +105,7 @@ impl Kind {
         match self {
             Kind::Number { .. } => number_in(value).ok(),
             Kind::HexadecimalNumber { .. } => hexadecimal_number_in(value).ok(),
-            Kind::Hexadecimal { .. } | Kind::TxMode | Kind::Units | Kind::Text => None,
+            Kind::Hexadecimal { .. } | Kind::TxMode | Kind::Units(_) | Kind::Text => None,
         }
     }
 }

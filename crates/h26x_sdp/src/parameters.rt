@@ -45,7 +45,7 @@ pub(crate) fn none_of(alloc: Global, rows: usize) -> Result<FormatParameters, Al
 }
 
 /// Puts a value in its place.
-fn put(values: &mut Vec<Option<Vec<u8>>>, place: usize, value: Vec<u8>)
+pub(crate) fn put(values: &mut Vec<Option<Vec<u8>>>, place: usize, value: Vec<u8>)
     requires { place < vec_len values.old }
     ensures { values_view values.new ≡ slice_set (values_view values.old) place (Some value.items) }
 {

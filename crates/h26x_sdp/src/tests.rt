@@ -383,6 +383,8 @@ fn lines_of_h266(rt: HostRuntime) -> Result<(), Fail> {
     all_refused::<H266Parameter>(&rt, rt.alloc(), &H266_REFUSED);
     let none = H266Parameters::read(rt.alloc(), b"")?;
     all_defaults(&rt, &none, &H266_DEFAULTS);
+    let constraints = none.value_or_default(H266Parameter::InteropConstraints);
+    assert!(rt; constraints == Some(b"gA=="));
     let format = H266Parameters::read(rt.alloc(), b"depack-buf-cap=4294967295")?;
     let room = format.number(H266Parameter::DepackBufCap);
     assert!(rt; (room, format.number(H266Parameter::MaxLsr)) == (Some(4294967295), None));

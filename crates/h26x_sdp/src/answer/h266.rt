@@ -9,6 +9,7 @@ use crate::answer::by_level::{LevelParameters, terms_by_level};
 use crate::answer::{CodecRules, Role, Terms, same_if_given, same_number};
 use crate::h266::{H266Parameter, H266Parameters};
 use crate::kind::Kind;
+use crate::unit_types::H266_VPS;
 use std::alloc::{AllocError, Global};
 
 /// What each parameter is, in the order of the table.
@@ -72,7 +73,12 @@ fn keeps_vps(offered: &H266Parameters, own: &H266Parameters, terms: &Terms) -> b
     } else {
         None
     };
-    !has_layers(offered) || same_if_given(Kind::Units, offered.value(H266Parameter::SpropVps), ours)
+    !has_layers(offered)
+        || same_if_given(
+            Kind::Units(H266_VPS),
+            offered.value(H266Parameter::SpropVps),
+            ours,
+        )
 }
 
 /// The terms of two formats of one configuration.

@@ -1,0 +1,186 @@
+//! What streams say of themselves: the sets of two real ones, and of one by hand.
+
+use crate::{
+    CodecParameter, CodecParameters, H264Parameter, H265Parameter, H266Parameter, StreamError,
+    UnitsError, fits_single_units, h264_of_payload, h264_of_units, h265_of_payload, h265_of_units,
+    h266_of_payload, h266_of_units,
+};
+use std::alloc::Global;
+use std::process::Abort;
+use std::test::Fail;
+
+/// The sets of an H.264 stream of x264: Constrained Baseline, level 1, as ffprobe tells.
+const H264_SPS: &[u8] =
+    b"\x67\x42\xc0\x0a\xd9\x09\x6c\x04\x40\x00\x00\x03\x00\x40\x00\x00\x0c\x83\xc4\x89\x92";
+
+const H264_PPS: &[u8] = b"\x68\xcb\x81\x12\xc8";
+
+/// The sets of an H.265 stream of x265: Main 10, level 2, as ffprobe tells.
+const H265_VPS: &[u8] =
+    b"\x40\x01\x0c\x01\xff\xff\x02\x20\x00\x00\x03\x00\x90\x00\x00\x03\x00\x00\x03\x00\x3c\x95\x94\x09";
+
+const H265_SPS: &[u8] =
+    b"\x42\x01\x01\x02\x20\x00\x00\x03\x00\x90\x00\x00\x03\x00\x00\x03\x00\x3c\xa0\x16\x20\x24\x4d\x96\x56\x59\x24\xca\xf0\x16\x80\x80\x00\x00\x03\x00\x80\x00\x00\x0c\x84";
+
+const H265_PPS: &[u8] = b"\x44\x01\xc1\x72\xb4\x62\x40";
+
+/// An SPS of H.266 by hand: Main 10, Main tier, level 3.1, frames alone, without general constraints.
+const H266_SPS: &[u8] = b"\x00\x79\x00\x0d\x02\x33\x80";
+
+/// What FFmpeg 5.1 wrote of these streams (`-sdp_file`), and the same in the RFCs' order, with what it
+/// left out in the second.
+const H264_LINE: &str =
+    "packetization-mode=1; sprop-parameter-sets=Z0LACtkJbARAAAADAEAAAAyDxImS,aMuBEsg=; profile-level-id=42C00A";
+
+const H264_WRITTEN: &str =
+    "profile-level-id=42C00A;sprop-parameter-sets=Z0LACtkJbARAAAADAEAAAAyDxImS,aMuBEsg=";
+
+const H265_LINE: &str =
+    "sprop-vps=QAEMAf//AiAAAAMAkAAAAwAAAwA8lZQJ; sprop-sps=QgEBAiAAAAMAkAAAAwAAAwA8oBYgJE2WVlkkyvAWgIAAAAMAgAAADIQ=; sprop-pps=RAHBcrRiQA==";
+
+const H265_WRITTEN: &str =
+    "profile-space=0;profile-id=2;tier-flag=0;level-id=60;interop-constraints=900000000000;profile-compatibility-indicator=20000000;sprop-vps=QAEMAf//AiAAAAMAkAAAAwAAAwA8lZQJ;sprop-sps=QgEBAiAAAAMAkAAAAwAAAwA8oBYgJE2WVlkkyvAWgIAAAAMAgAAADIQ=;sprop-pps=RAHBcrRiQA==";
+
+/// Lines, parameters whose units are refused, and why.
+const H264_NO_UNITS: [(&str, H264Parameter, UnitsError); 3] = [
+    (
+        "sprop-parameter-sets=Z0LACg==,ZQ==",
+        H264Parameter::SpropParameterSets,
+        UnitsError::OtherType { place: 1 },
+    ),
+    (
+        "sprop-parameter-sets=aMs=,ZwAAAQ==",
+        H264Parameter::SpropParameterSets,
+        UnitsError::StartCode { place: 1 },
+    ),
+    // what is no unit comes before what is another's
+    (
+        "sprop-parameter-sets=ZQ==,x",
+        H264Parameter::SpropParameterSets,
+        UnitsError::NotBase64 { place: 1 },
+    ),
+];
+
+const H265_NO_UNITS: [(&str, H265Parameter, UnitsError); 3] = [
+    (
+        "sprop-vps=QgE=",
+        H265Parameter::SpropVps,
+        UnitsError::OtherType { place: 0 },
+    ),
+    // a header that isn't whole
+    (
+        "sprop-vps=QAE=,QA==",
+        H265Parameter::SpropVps,
+        UnitsError::OtherType { place: 1 },
+    ),
+    // type 41
+    (
+        "sprop-sei=TgE=,UAE=,UgE=",
+        H265Parameter::SpropSei,
+        UnitsError::OtherType { place: 2 },
+    ),
+];
+
+const H266_NO_UNITS: [(&str, H266Parameter, UnitsError); 3] = [
+    (
+        "sprop-dci=AHE=",
+        H266Parameter::SpropDci,
+        UnitsError::OtherType { place: 0 },
+    ),
+    (
+        "sprop-vps=AHE=,AHk=",
+        H266Parameter::SpropVps,
+        UnitsError::OtherType { place: 1 },
+    ),
+    // types 23, 24 and 25
+    (
+        "sprop-sei=ALk=,AME=,AMk=",
+        H266Parameter::SpropSei,
+        UnitsError::OtherType { place: 2 },
+    ),
+];
+
+/// The units of each line's parameter are refused.
+fn no_units<P: CodecParameter>(
+    rt: &impl Abort,
+    alloc: Global,
+    lines: &[(&str, P, UnitsError)],
+) -> Result<(), Fail> {
+    for (line, parameter, want) in lines {
+        let format = CodecParameters::<P>::read(alloc, line.as_bytes())?;
+        assert!(rt; format.units(alloc, *parameter).err() == Some(*want));
+    }
+    Ok(())
+}
+
+#[test]
+fn units_of_another_type(rt: HostRuntime) -> Result<(), Fail> {
+    no_units(&rt, rt.alloc(), &H264_NO_UNITS)?;
+    no_units(&rt, rt.alloc(), &H265_NO_UNITS)?;
+    no_units(&rt, rt.alloc(), &H266_NO_UNITS)?;
+    let format = CodecParameters::<H264Parameter>::read(rt.alloc(), H264_LINE.as_bytes())?;
+    let sets = format.units(rt.alloc(), H264Parameter::SpropParameterSets)?;
+    assert!(rt; sets.map(|units| units.len()) == Some(2));
+    Ok(())
+}
+
+#[test]
+fn stream_of_h264(rt: HostRuntime) -> Result<(), Fail> {
+    let alloc = rt.alloc();
+    let slice: &[u8] = b"\x65\x88";
+    let text = h264_of_units(alloc, &[H264_SPS, H264_PPS, slice, H264_PPS])?.write(alloc)?;
+    assert!(rt; text.as_slice() == H264_WRITTEN.as_bytes());
+    let bytes = b"\x00\x00\x00\x01\x67\x00\x00\x03\x01\x00\x00\x01\x65";
+    let text = h264_of_payload(alloc, bytes)?.write(alloc)?;
+    assert!(rt;
+        text.as_slice() == "profile-level-id=000001;sprop-parameter-sets=ZwAAAwE=".as_bytes()
+    );
+    let none = Some(StreamError::NoParameterSet);
+    assert!(rt; h264_of_units(alloc, &[H264_PPS, slice, H264_SPS]).err() == none);
+    let short = Some(StreamError::ShortParameterSet);
+    assert!(rt; h264_of_units(alloc, &[&H264_SPS[..3], H264_SPS]).err() == short);
+    Ok(())
+}
+
+#[test]
+fn stream_of_h265(rt: HostRuntime) -> Result<(), Fail> {
+    let alloc = rt.alloc();
+    let units = [H265_VPS, H265_SPS, H265_PPS, b"\x26\x01\xaf", H265_PPS];
+    let format = h265_of_units(alloc, &units)?;
+    let text = format.write(alloc)?;
+    assert!(rt; text.as_slice() == H265_WRITTEN.as_bytes());
+    let read = CodecParameters::<H265Parameter>::read(alloc, H265_LINE.as_bytes())?;
+    let sps = H265Parameter::SpropSps;
+    assert!(rt; read.value(sps) == format.value(sps));
+    // a VPS alone says the same profile, and a set of a higher layer none
+    let format = h265_of_payload(alloc, H265_VPS)?;
+    let id = H265Parameter::InteropConstraints;
+    assert!(rt; format.value(id) == Some(b"900000000000") && format.value(sps) == None);
+    let none = Some(StreamError::NoParameterSet);
+    assert!(rt; h265_of_units(alloc, &[b"\x42\x09\x01\x02"]).err() == none);
+    let short = Some(StreamError::ShortParameterSet);
+    assert!(rt; h265_of_units(alloc, &[&H265_SPS[..17], H265_VPS]).err() == short);
+    Ok(())
+}
+
+#[test]
+fn stream_of_h266(rt: HostRuntime) -> Result<(), Fail> {
+    let alloc = rt.alloc();
+    let text = h266_of_units(alloc, &[H266_SPS, b"\x00\x39", H266_SPS])?.write(alloc)?;
+    let want =
+        b"profile-id=1;tier-flag=0;interop-constraints=gA==;level-id=51;sprop-sps=AHkADQIzgA==";
+    assert!(rt; text.as_slice() == want.as_slice());
+    let format = h266_of_payload(alloc, H266_SPS)?;
+    assert!(rt; format.number(H266Parameter::LevelId) == Some(51));
+    let no_profile = Some(StreamError::NoProfile);
+    assert!(rt; h266_of_units(alloc, &[b"\x00\x79\x00\x0c\x02\x33\x80"]).err() == no_profile);
+    let general = Some(StreamError::GeneralConstraints);
+    assert!(rt; h266_of_units(alloc, &[b"\x00\x79\x00\x0d\x02\x33\xa0"]).err() == general);
+    Ok(())
+}
+
+#[test]
+fn single_units_alone(rt: HostRuntime) {
+    let payload = b"\x00\x00\x01\x67\x42\xc0\x00\x00\x01\x68\xcb";
+    assert!(rt; fits_single_units(payload, 3) && !fits_single_units(payload, 2));
+}
