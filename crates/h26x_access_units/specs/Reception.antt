@@ -19,9 +19,9 @@ use Rattle.h26x_access_units.specs.Numbers.{fresh_numbers, bears_nothing, number
 use Rattle.h26x_access_units.specs.ReceivedUnit.{ReceivedUnitValue, received_unit, clean_with, whole_with}
 
 -- what a receiver is to contracts: what waits, and the packet that waits alone; whether the stream has
--- begun anew, so that the access unit that is open is to end; the receiver of access units, those that ended and
--- weren't given out; their numbers; whether nothing was missing since a keyframe; the counts; and the
--- limits on an open run and on an open access unit
+-- begun anew, so that the access unit that is open is to end; the receiver of access units, those that
+-- ended and weren't given out; their numbers; whether nothing was missing since a keyframe; the counts;
+-- and the limits on an open run and on an open access unit
 pub record Reception : Type 0 where
   pub waiting : JitterState
   pub stray : Option (ℕ × RtpBody)

@@ -6,8 +6,8 @@ use h26x_frames::RtpPacket;
 use h264_payload::H264Depacketizer;
 use std::alloc::Global;
 
-/// The settings of the tests: a window of 4 packets, a wait of 100 ticks, 20 bytes; a number so far from
-/// the one due is a stray.
+/// The settings of the tests: a window of 4 packets, a wait of 100 ticks, 20 bytes; a number so far
+/// from the one due is a stray.
 fn config(far: u16) -> AccessUnitConfig {
     AccessUnitConfig {
         window: 4,

@@ -20,7 +20,8 @@ const H265_VPS: &[u8] =
     b"\x40\x01\x0c\x01\xff\xff\x02\x20\x00\x00\x03\x00\x90\x00\x00\x03\x00\x00\x03\x00\x3c\x95\x94\x09";
 
 const H265_SPS: &[u8] =
-    b"\x42\x01\x01\x02\x20\x00\x00\x03\x00\x90\x00\x00\x03\x00\x00\x03\x00\x3c\xa0\x16\x20\x24\x4d\x96\x56\x59\x24\xca\xf0\x16\x80\x80\x00\x00\x03\x00\x80\x00\x00\x0c\x84";
+    b"\x42\x01\x01\x02\x20\x00\x00\x03\x00\x90\x00\x00\x03\x00\x00\x03\x00\x3c\xa0\x16\x20\x24\
+      \x4d\x96\x56\x59\x24\xca\xf0\x16\x80\x80\x00\x00\x03\x00\x80\x00\x00\x0c\x84";
 
 const H265_PPS: &[u8] = b"\x44\x01\xc1\x72\xb4\x62\x40";
 
@@ -30,16 +31,20 @@ const H266_SPS: &[u8] = b"\x00\x79\x00\x0d\x02\x33\x80";
 /// What FFmpeg 5.1 wrote of these streams (`-sdp_file`), and the same in the RFCs' order, with what it
 /// left out in the second.
 const H264_LINE: &str =
-    "packetization-mode=1; sprop-parameter-sets=Z0LACtkJbARAAAADAEAAAAyDxImS,aMuBEsg=; profile-level-id=42C00A";
+    "packetization-mode=1; sprop-parameter-sets=Z0LACtkJbARAAAADAEAAAAyDxImS,aMuBEsg=; \
+      profile-level-id=42C00A";
 
 const H264_WRITTEN: &str =
     "profile-level-id=42C00A;sprop-parameter-sets=Z0LACtkJbARAAAADAEAAAAyDxImS,aMuBEsg=";
 
-const H265_LINE: &str =
-    "sprop-vps=QAEMAf//AiAAAAMAkAAAAwAAAwA8lZQJ; sprop-sps=QgEBAiAAAAMAkAAAAwAAAwA8oBYgJE2WVlkkyvAWgIAAAAMAgAAADIQ=; sprop-pps=RAHBcrRiQA==";
+const H265_LINE: &str = "sprop-vps=QAEMAf//AiAAAAMAkAAAAwAAAwA8lZQJ; \
+      sprop-sps=QgEBAiAAAAMAkAAAAwAAAwA8oBYgJE2WVlkkyvAWgIAAAAMAgAAADIQ=; \
+      sprop-pps=RAHBcrRiQA==";
 
 const H265_WRITTEN: &str =
-    "profile-space=0;profile-id=2;tier-flag=0;level-id=60;interop-constraints=900000000000;profile-compatibility-indicator=20000000;sprop-vps=QAEMAf//AiAAAAMAkAAAAwAAAwA8lZQJ;sprop-sps=QgEBAiAAAAMAkAAAAwAAAwA8oBYgJE2WVlkkyvAWgIAAAAMAgAAADIQ=;sprop-pps=RAHBcrRiQA==";
+    "profile-space=0;profile-id=2;tier-flag=0;level-id=60;interop-constraints=900000000000;\
+      profile-compatibility-indicator=20000000;sprop-vps=QAEMAf//AiAAAAMAkAAAAwAAAwA8lZQJ;\
+      sprop-sps=QgEBAiAAAAMAkAAAAwAAAwA8oBYgJE2WVlkkyvAWgIAAAAMAgAAADIQ=;sprop-pps=RAHBcrRiQA==";
 
 /// Lines, parameters whose units are refused, and why.
 const H264_NO_UNITS: [(&str, H264Parameter, UnitsError); 3] = [
