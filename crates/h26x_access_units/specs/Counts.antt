@@ -6,6 +6,8 @@ use Rattle.h26x_receiver.specs.declared.received.Received.TheVariants.{TooLong, 
 use Rattle.h26x_access_units.specs.declared.counts.Counts.{Counts}
 use Rattle.h26x_access_units.specs.declared.pushed.Pushed.{Pushed}
 use Rattle.h26x_access_units.specs.declared.pushed.Pushed.TheVariants as pushes
+use Rattle.h26x_access_units.specs.declared.pushed.NotPushedReason.{NotPushedReason}
+use Rattle.h26x_access_units.specs.declared.pushed.NotPushedReason.TheVariants as reasons
 use Rattle.h26x_access_units.specs.Numbers.{missing_told, bears_nothing}
 
 -- nothing was counted
@@ -35,6 +37,12 @@ counted_push c pushes.Twice = record c { twice = count_up c.twice 1 }
 counted_push c pushes.Stray = record c { stray = count_up c.stray 1 }
 counted_push c pushes.Anew = record c { anew = count_up c.anew 1 }
 counted_push c answer = c
+
+-- one that came back with this reason
+abbrev pub counted_reason : Counts → NotPushedReason → Counts
+counted_reason c (reasons.Late n) = record c { late = count_up c.late 1 }
+counted_reason c reasons.Twice = record c { twice = count_up c.twice 1 }
+counted_reason c reason = c
 
 -- packets of old numbers that were dropped
 abbrev pub counted_dropped : Counts → ℕ → Counts

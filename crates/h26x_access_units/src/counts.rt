@@ -1,10 +1,10 @@
 //! What a receiver counts.
 
 ghost use Rattle.std.specs.Prelude.{◌≡◌};
-ghost use Rattle.h26x_access_units.specs.Counts.{no_counts, given_up, counted_answer, counted_skip, counted_due, counted_push, counted_dropped, counted_unit};
+ghost use Rattle.h26x_access_units.specs.Counts.{no_counts, given_up, counted_answer, counted_skip, counted_due, counted_push, counted_reason, counted_dropped, counted_unit};
 
 use crate::numbers::missing_told;
-use crate::pushed::Pushed;
+use crate::pushed::{NotPushedReason, Pushed};
 use h26x_core::PacketError;
 use h26x_frames::RtpPacket;
 use h26x_receiver::Received;
@@ -76,6 +76,17 @@ impl Counts {
             Pushed::Stray => self.stray = self.stray.saturating_add(1),
             Pushed::Anew => self.anew = self.anew.saturating_add(1),
             Pushed::Held | Pushed::Full => {}
+        }
+    }
+
+    /// Counts a packet that comes back.
+    pub(crate) fn not_pushed(&mut self, reason: NotPushedReason)
+        ensures { self.new ≡ counted_reason self.old reason }
+    {
+        match reason {
+            NotPushedReason::Late(_) => self.late = self.late.saturating_add(1),
+            NotPushedReason::Twice => self.twice = self.twice.saturating_add(1),
+            NotPushedReason::Full | NotPushedReason::OutOfMemory => {}
         }
     }
 

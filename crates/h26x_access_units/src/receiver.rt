@@ -1,8 +1,11 @@
 //! A receiver that takes packets as they come and gives out access units.
 
-ghost use Rattle.std.specs.Prelude.{◌≡◌, ◌^◌, ◌<◌, ◌≤◌, ◌↔◌, ◌⊎◌, IsTrue, true, false, not, [], None, Err, IfOk, OnOk, OnErr, MatchBool, map};
+ghost use Rattle.std.specs.Prelude.{◌≡◌, ◌^◌, ◌<◌, ◌≤◌, ◌↔◌, ◌⊎◌, IsTrue, true, false, not, [], None, Err, IfOk, OnOk, OnErr, IfErr, MatchBool, map};
 ghost use Rattle.std.specs.Option.{option_map};
 ghost use Rattle.h26x_frames.specs.Rtp.{rtp_body};
+ghost use Rattle.h26x_frames.specs.ReorderBuffer.{numbered_packet};
+ghost use Rattle.h26x_access_units.specs.Pushed.{IsNotPushedReason};
+ghost use Rattle.h26x_access_units.specs.Counts.{counted_reason};
 ghost use Rattle.h26x_frames.specs.AccessUnit.{access_unit_value, open_depacketization};
 ghost use Rattle.h26x_access_units.specs.Arrival.{deadline_of};
 ghost use Rattle.h26x_access_units.specs.JitterBuffer.{is_far, due_packet};
@@ -14,7 +17,7 @@ use crate::config::AccessUnitConfig;
 use crate::counts::Counts;
 use crate::jitter::JitterBuffer;
 use crate::numbers::NumbersSoFar;
-use crate::pushed::Pushed;
+use crate::pushed::{NotPushed, NotPushedReason, Pushed};
 use crate::unit::{ReceivedUnit, is_keyframe};
 use h26x_core::PacketError;
 use h26x_frames::{AccessUnit, FrameReceiver, HeldPacket, RtpPacket};
@@ -173,6 +176,42 @@ impl<D: RunDepacketizer> AccessUnitReceiver<D> {
                 ));
                 self.counts.push(Pushed::Stray);
                 Ok(Pushed::Stray)
+            }
+        }
+    }
+
+    /// Takes a packet that has memory of its own, and copies nothing of it, but of a stray. One that
+    /// doesn't wait comes back as it was given, with the reason.
+    pub fn push_held(&mut self, now: u32, packet: HeldPacket) -> Result<Pushed, NotPushed>
+        ensures answer { let r = ⟦<AccessUnitReceiver<D> as Receives>⟧.reception in
+            IfOk result (λ answer.
+            answer ≡ reception_answer (r self.old) (numbered_packet packet)) }
+        ensures after { let r = ⟦<AccessUnitReceiver<D> as Receives>⟧.reception in
+            IfOk result (λ answer.
+            r self.new ≡ after_reception now (r self.old) (numbered_packet packet) answer) }
+        ensures back { IfErr result (λ it. it.packet ≡ packet) }
+        ensures reason { let r = ⟦<AccessUnitReceiver<D> as Receives>⟧.reception in
+            IfErr result (λ it. IsNotPushedReason
+            (reception_answer (r self.old) (numbered_packet packet)) it.reason) }
+        ensures kept { let r = ⟦<AccessUnitReceiver<D> as Receives>⟧.reception in
+            IfErr result (λ it. r self.new ≡ record (r self.old) {
+              counts = counted_reason (r self.old).counts it.reason;
+            }) }
+    {
+        if self.waiting.is_far(packet.sequence) {
+            return match self.push_far(now, &packet.packet()) {
+                Ok(pushed) => Ok(pushed),
+                Err(_) => Err(NotPushed {
+                    packet,
+                    reason: NotPushedReason::OutOfMemory,
+                }),
+            };
+        }
+        match self.waiting.push_held(now, packet) {
+            Ok(()) => Ok(Pushed::Held),
+            Err(not_pushed) => {
+                self.counts.not_pushed(not_pushed.reason);
+                Err(not_pushed)
             }
         }
     }
