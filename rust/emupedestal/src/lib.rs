@@ -124,16 +124,11 @@ mod packets;
 mod profile;
 // What a caller above doesn't reach stays, as it was proved, and so do forms that Rust has shorter.
 #[allow(dead_code, missing_docs, unused_imports)]
-#[allow(
-    clippy::explicit_auto_deref,
-    clippy::explicit_counter_loop,
-    clippy::manual_unwrap_or_default
-)]
-#[allow(
-    clippy::mem_replace_option_with_some,
-    clippy::needless_lifetimes,
-    clippy::ptr_arg
-)]
+#[allow(clippy::explicit_auto_deref, clippy::explicit_counter_loop)]
+#[allow(clippy::manual_map, clippy::manual_unwrap_or_default)]
+#[allow(clippy::mem_replace_option_with_some, clippy::needless_lifetimes)]
+#[allow(clippy::needless_range_loop, clippy::nonminimal_bool)]
+#[allow(clippy::ptr_arg, clippy::question_mark)]
 mod proved;
 #[cfg(feature = "sdp")]
 pub mod sdp;

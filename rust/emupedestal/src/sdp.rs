@@ -20,6 +20,8 @@
 //! # Ok::<(), Box<dyn std::error::Error>>(())
 //! ```
 //!
+//! [`CodecParameters::answer`] and [`Format::answer_to`] answer an offer (RFC 3264, section 6).
+//!
 //! What is read: names without regard to case, white space round `;` and `=`, parts that are blank, a `;` inside
 //! braces; each value is looked at by what the RFC says of it, and what the RFC doesn't have is kept. What is
 //! written: the RFC's parameters in its order, and the others behind them. It is read as the same parameters, for
@@ -27,6 +29,7 @@
 //!
 //! The first fault is told with the place of its parameter ([`ParametersError`]).
 
+mod answer;
 mod fault;
 mod getters;
 mod h264;
@@ -40,6 +43,7 @@ mod stored;
 
 pub use crate::proved::h26x_sdp::{Fault, ParametersError, RtpMapError, UnitsError};
 pub use crate::proved::h26x_sdp::{H264Parameter, H265Parameter, H266Parameter};
+pub use answer::{Format, OutOfMemory};
 pub use fault::SetError;
 pub use h264::H264Parameters;
 pub use h265::H265Parameters;

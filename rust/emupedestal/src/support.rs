@@ -9,6 +9,8 @@ use core::fmt;
 #[cfg(feature = "sdp")]
 pub mod base64;
 #[cfg(feature = "sdp")]
+pub mod hex;
+#[cfg(feature = "sdp")]
 mod texts;
 
 #[cfg(feature = "sdp")]

@@ -16,6 +16,8 @@ mod quiet;
 mod refusals;
 #[cfg(feature = "sdp")]
 mod sdp;
+#[cfg(feature = "sdp")]
+mod sdp_answers;
 mod sequenced;
 mod shown;
 #[cfg(feature = "serde")]

@@ -60,6 +60,9 @@ fn check_format<P: Parameter>(text: &str, value: &str, which: usize) {
             check_read(&format, &pairs);
             check_written(&format);
             check_set(&format, value, which);
+            if let Ok(own) = value.parse() {
+                check_answer(&format, &own);
+            }
         }
         Err(error) => {
             assert_eq!(held, 0, "what is refused leaves nothing");
@@ -144,6 +147,47 @@ fn check_set<P: Parameter>(format: &CodecParameters<P>, value: &str, which: usiz
         }
         Err(_) => assert_eq!(changed, *format),
     }
+}
+
+/// Parameters of an answer that depend on what the other end says of them.
+const SETS: [&str; 7] = [
+    "sprop-parameter-sets",
+    "sprop-level-parameter-sets",
+    "sprop-dci",
+    "sprop-vps",
+    "sprop-sps",
+    "sprop-pps",
+    "sprop-sei",
+];
+
+/// An answer is written and read as the same, has our own others, and is answered with itself but for its sets, where
+/// units are sent in decoding order.
+fn check_answer<P: Parameter>(offered: &CodecParameters<P>, own: &CodecParameters<P>) {
+    let ours = std::slice::from_ref(own);
+    let Some(answer) = offered.answer(ours).expect("memory") else {
+        return;
+    };
+    check_written(&answer);
+    assert!(answer.others().eq(own.others()));
+    let above = |name, least| {
+        let number = P::of_name(name).and_then(|it| answer.number(it));
+        number.is_some_and(|it| it > least)
+    };
+    if above("packetization-mode", 1) || above("sprop-max-don-diff", 0) {
+        return;
+    }
+    let again = answer
+        .answer(ours)
+        .expect("memory")
+        .expect("an answer to the answer");
+    let is_set = |it: &(&str, &str)| SETS.contains(&it.0);
+    let without = |it: &CodecParameters<P>| {
+        let given = it.iter().filter(|it| !is_set(it));
+        given
+            .map(|(name, value)| format!("{name}={value};"))
+            .collect::<String>()
+    };
+    assert_eq!(without(&again), without(&answer));
 }
 
 /// The bytes of base64 with its padding (RFC 4648, section 4), bit by bit.

@@ -10,7 +10,7 @@ use core::hash::Hash;
 use core::str::{self, FromStr};
 
 /// A format parameter of one of the codecs: [`H264Parameter`], [`H265Parameter`] or [`H266Parameter`], and no other.
-pub trait Parameter: proved::CodecParameter + fmt::Debug + Eq + Hash + 'static {
+pub trait Parameter: proved::CodecRules + fmt::Debug + Eq + Hash + 'static {
     /// All of them, in the order in which they are written.
     fn all() -> &'static [Self];
 
@@ -57,7 +57,7 @@ parameters!(H264Parameter, H265Parameter, H266Parameter);
 #[derive(Clone, PartialEq, Eq, Hash)]
 pub struct CodecParameters<P: Parameter> {
     /// Read of a text, so that each slice of it is one.
-    of: proved::CodecParameters<P>,
+    pub(super) of: proved::CodecParameters<P>,
 }
 
 /// A slice of a text.

@@ -1,0 +1,107 @@
+//! Answers to offers.
+
+use super::{CodecParameters, Parameter};
+use crate::support::AllocError;
+use core::error::Error;
+use core::fmt;
+use core::slice;
+
+/// There was no memory. Nothing has changed.
+#[derive(Debug, Clone, Copy, PartialEq, Eq, Hash)]
+pub struct OutOfMemory;
+
+impl fmt::Display for OutOfMemory {
+    fn fmt(&self, f: &mut fmt::Formatter<'_>) -> fmt::Result {
+        f.write_str("out of memory")
+    }
+}
+
+impl Error for OutOfMemory {}
+
+impl From<AllocError> for OutOfMemory {
+    fn from(_: AllocError) -> Self {
+        OutOfMemory
+    }
+}
+
+/// A payload type and the parameters of its format, as an offer has several of them.
+#[derive(Debug, Clone, PartialEq, Eq, Hash)]
+pub struct Format<P: Parameter> {
+    /// The payload type.
+    pub payload_type: u8,
+    /// What an `a=fmtp` line says of it.
+    pub parameters: CodecParameters<P>,
+}
+
+impl<P: Parameter> CodecParameters<P> {
+    /// The answer to these parameters of an offer, by the first of ours that gives one; `None` where none does (RFC
+    /// 3264, section 6; RFC 6184, section 8.2.2; RFC 7798, section 7.2.2; RFC 9328, section 7.3.2).
+    ///
+    /// Profile, packetization mode and what else is of both directions are as offered and as ours; the level is the
+    /// lower one, or our own where both ends allow each direction its own; the rest is ours. What each end may send
+    /// then fits what the other said that it receives.
+    ///
+    /// ```
+    /// use emupedestal::sdp::H264Parameters;
+    ///
+    /// let offered: H264Parameters = "profile-level-id=42e01f;packetization-mode=1".parse()?;
+    /// let ours = ["profile-level-id=64001f;packetization-mode=1", "profile-level-id=42e015;packetization-mode=1"];
+    /// let ours = ours.map(|it| it.parse().expect("our own"));
+    /// let answer = offered.answer(&ours)?.expect("one in common");
+    /// assert_eq!(answer.to_string(), "profile-level-id=42e015;packetization-mode=1");
+    /// # Ok::<(), Box<dyn std::error::Error>>(())
+    /// ```
+    ///
+    /// # Errors
+    ///
+    /// Where memory lacks.
+    pub fn answer(&self, ours: &[Self]) -> Result<Option<Self>, OutOfMemory> {
+        for own in ours {
+            if let Some(of) = self.of.answer(slice::from_ref(&own.of))? {
+                return Ok(Some(CodecParameters { of }));
+            }
+        }
+        Ok(None)
+    }
+}
+
+impl<P: Parameter> Format<P> {
+    /// The answer to an offer: of its formats, in its order of preference, the first that one of ours answers, with its
+    /// payload type; `None` where no two have a configuration in common.
+    ///
+    /// ```
+    /// use emupedestal::sdp::{Format, H264Parameter};
+    ///
+    /// let format = |payload_type, line: &str| {
+    ///     let parameters = line.parse().expect("parameters");
+    ///     Format::<H264Parameter> { payload_type, parameters }
+    /// };
+    /// let offer = [
+    ///     format(102, "level-asymmetry-allowed=1;packetization-mode=1;profile-level-id=42001f"),
+    ///     format(106, "level-asymmetry-allowed=1;packetization-mode=1;profile-level-id=42e01f"),
+    /// ];
+    /// let ours = ["profile-level-id=42e034;level-asymmetry-allowed=1;packetization-mode=1".parse()?];
+    /// let answer = Format::answer_to(&offer, &ours)?.expect("one in common");
+    /// assert_eq!((answer.payload_type, answer.parameters.profile_level_id()), (106, [0x42, 0xe0, 0x34]));
+    /// # Ok::<(), Box<dyn std::error::Error>>(())
+    /// ```
+    ///
+    /// # Errors
+    ///
+    /// Where memory lacks.
+    pub fn answer_to(
+        offer: &[Self],
+        ours: &[CodecParameters<P>],
+    ) -> Result<Option<Self>, OutOfMemory> {
+        for offered in offer {
+            if let Some(parameters) = offered.parameters.answer(ours)? {
+                let payload_type = offered.payload_type;
+                return Ok(Some(Format {
+                    payload_type,
+                    parameters,
+                }));
+            }
+        }
+        Ok(None)
+    }
+}
