@@ -20,7 +20,10 @@
 //! # Ok::<(), Box<dyn std::error::Error>>(())
 //! ```
 //!
-//! [`CodecParameters::answer`] and [`Format::answer_to`] answer an offer (RFC 3264, section 6).
+//! [`CodecParameters::answer`] and [`Format::answer_to`] answer an offer (RFC 3264, section 6), and
+//! [`H264Parameters::of_payload`](CodecParameters::of_payload), and the same of the others, is what a sender says of its
+//! stream. For what depends on it, `packetization-mode` 0 needs [`fits_single_units`], and `sprop-max-don-diff` goes to
+//! [`CodecPacketizer::configure_for`](crate::CodecPacketizer::configure_for).
 //!
 //! What is read: names without regard to case, white space round `;` and `=`, parts that are blank, a `;` inside
 //! braces; each value is looked at by what the RFC says of it, and what the RFC doesn't have is kept. What is
@@ -31,6 +34,7 @@
 
 mod answer;
 mod fault;
+mod from_stream;
 mod getters;
 mod h264;
 mod h265;
@@ -41,7 +45,8 @@ mod rtp_map;
 #[cfg(feature = "serde")]
 mod stored;
 
-pub use crate::proved::h26x_sdp::{Fault, ParametersError, RtpMapError, UnitsError};
+pub use crate::proved::h26x_sdp::fits_single_units;
+pub use crate::proved::h26x_sdp::{Fault, ParametersError, RtpMapError, StreamError, UnitsError};
 pub use crate::proved::h26x_sdp::{H264Parameter, H265Parameter, H266Parameter};
 pub use answer::{Format, OutOfMemory};
 pub use fault::SetError;

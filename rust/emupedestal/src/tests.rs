@@ -18,6 +18,8 @@ mod refusals;
 mod sdp;
 #[cfg(feature = "sdp")]
 mod sdp_answers;
+#[cfg(feature = "sdp")]
+mod sdp_streams;
 mod sequenced;
 mod shown;
 #[cfg(feature = "serde")]

@@ -5,9 +5,9 @@ use crate::errors::Failure;
 use crate::frames::{DESTINATION, SOURCE};
 use emupedestal::Codec;
 use emupedestal::access_units::{is_parameter_set_type, is_slice_type, unit_type};
-use emupedestal::sdp::{
-    CodecParameters, H264Parameter, H265Parameter, H266Parameter, Parameter, RtpMap, SetError,
-};
+use emupedestal::sdp::{CodecParameters, Parameter, RtpMap, SetError};
+use emupedestal::sdp::{H264Parameter, H264Parameters, H265Parameter, H265Parameters};
+use emupedestal::sdp::{H266Parameter, H266Parameters};
 
 /// So many parameter sets are described at most.
 const MOST: usize = 64;
@@ -75,37 +75,23 @@ impl Description {
     }
 
     fn of_h264(&self) -> Result<String, SetError> {
-        let mut format = CodecParameters::default();
-        if let Some([_, profile_idc, profile_iop, level_idc, ..]) = self.set(7) {
-            let id = format!("{profile_idc:02x}{profile_iop:02x}{level_idc:02x}");
-            format.set(H264Parameter::ProfileLevelId, &id)?;
-        }
+        let mut format = match H264Parameters::of_units(&self.units()) {
+            Ok(format) => format,
+            Err(_) => self.of_sets(&[(H264Parameter::SpropParameterSets, &[7, 8])])?,
+        };
         format.set(H264Parameter::PacketizationMode, "1")?;
-        self.put_sets(&mut format, H264Parameter::SpropParameterSets, &[7, 8])?;
         Ok(format.to_string())
     }
 
-    /// General profile, tier and level stand behind the first three bytes of an SPS (H.265, 7.3.2.2.1 and 7.3.3).
     fn of_h265(&self, asked: &Send) -> Result<String, SetError> {
-        let mut format = CodecParameters::default();
-        let sps = self.set(33).map(without_emulation);
-        if let Some([_, _, _, profile, _, _, _, _, constraints @ .., level]) =
-            sps.as_deref().and_then(|it| it.first_chunk::<15>())
-        {
-            let digits = constraints.map(|byte| format!("{byte:02X}")).concat();
-            for (parameter, value) in [
-                (H265Parameter::ProfileSpace, (profile >> 6).to_string()),
-                (H265Parameter::ProfileId, (profile & 0x1f).to_string()),
-                (H265Parameter::TierFlag, (profile >> 5 & 1).to_string()),
-                (H265Parameter::LevelId, level.to_string()),
-                (H265Parameter::InteropConstraints, digits),
-            ] {
-                format.set(parameter, &value)?;
-            }
-        }
-        self.put_sets(&mut format, H265Parameter::SpropVps, &[32])?;
-        self.put_sets(&mut format, H265Parameter::SpropSps, &[33])?;
-        self.put_sets(&mut format, H265Parameter::SpropPps, &[34])?;
+        let mut format = match H265Parameters::of_units(&self.units()) {
+            Ok(format) => format,
+            Err(_) => self.of_sets(&[
+                (H265Parameter::SpropVps, &[32]),
+                (H265Parameter::SpropSps, &[33]),
+                (H265Parameter::SpropPps, &[34]),
+            ])?,
+        };
         if asked.has_donl {
             format.set(H265Parameter::SpropMaxDonDiff, "1")?;
             format.set(H265Parameter::SpropDepackBufNalus, "1")?;
@@ -114,26 +100,15 @@ impl Description {
         Ok(format.to_string())
     }
 
-    /// General profile, tier and level stand behind the first four bytes of an SPS that has them (H.266, 7.3.2.4 and
-    /// 7.3.3.1).
     fn of_h266(&self, asked: &Send) -> Result<String, SetError> {
-        let mut format = CodecParameters::default();
-        let sps = self.set(15).map(without_emulation);
-        match sps.as_deref() {
-            Some([_, _, _, present, profile, level, ..]) if present & 1 == 1 => {
-                for (parameter, value) in [
-                    (H266Parameter::ProfileId, (profile >> 1).to_string()),
-                    (H266Parameter::TierFlag, (profile & 1).to_string()),
-                    (H266Parameter::LevelId, level.to_string()),
-                ] {
-                    format.set(parameter, &value)?;
-                }
-            }
-            _ => {}
-        }
-        self.put_sets(&mut format, H266Parameter::SpropVps, &[14])?;
-        self.put_sets(&mut format, H266Parameter::SpropSps, &[15])?;
-        self.put_sets(&mut format, H266Parameter::SpropPps, &[16])?;
+        let mut format = match H266Parameters::of_units(&self.units()) {
+            Ok(format) => format,
+            Err(_) => self.of_sets(&[
+                (H266Parameter::SpropVps, &[14]),
+                (H266Parameter::SpropSps, &[15]),
+                (H266Parameter::SpropPps, &[16]),
+            ])?,
+        };
         if asked.has_donl {
             format.set(H266Parameter::SpropMaxDonDiff, "1")?;
             format.set(H266Parameter::SpropDepackBufBytes, &self.buffer())?;
@@ -141,45 +116,30 @@ impl Description {
         Ok(format.to_string())
     }
 
-    /// The first set of a type.
-    fn set(&self, of: u8) -> Option<&[u8]> {
-        let is_it = |it: &&Vec<u8>| unit_type(self.codec, it) == Some(of);
-        self.sets.iter().find(is_it).map(Vec::as_slice)
+    fn units(&self) -> Vec<&[u8]> {
+        self.sets.iter().map(Vec::as_slice).collect()
     }
 
-    /// Gives a format the sets of these types, if there are any.
-    fn put_sets<P: Parameter>(
-        &self,
-        format: &mut CodecParameters<P>,
-        parameter: P,
-        types: &[u8],
-    ) -> Result<(), SetError> {
-        let is_it = |it: &&Vec<u8>| unit_type(self.codec, it).is_some_and(|it| types.contains(&it));
-        let sets: Vec<Vec<u8>> = self.sets.iter().filter(is_it).cloned().collect();
-        match sets[..] {
-            [] => Ok(()),
-            _ => format.set_units(parameter, &sets),
+    /// The sets alone, of these types, where none of them says a profile and a level.
+    fn of_sets<P: Parameter>(&self, kinds: &[(P, &[u8])]) -> Result<CodecParameters<P>, SetError> {
+        let mut format = CodecParameters::default();
+        for (parameter, types) in kinds {
+            let is_it = |it: &&Vec<u8>| {
+                let unit_type = unit_type(self.codec, it);
+                unit_type.is_some_and(|it| types.contains(&it))
+            };
+            let sets: Vec<Vec<u8>> = self.sets.iter().filter(is_it).cloned().collect();
+            if !sets.is_empty() {
+                format.set_units(*parameter, &sets)?;
+            }
         }
+        Ok(format)
     }
 
     /// How many bytes a receiver holds that puts units in order: those of the one that waits and of the next.
     fn buffer(&self) -> String {
         (2 * self.longest).clamp(1, u32::MAX as usize).to_string()
     }
-}
-
-/// The first bytes of a unit without those that keep start codes away (H.265, 7.3.1.1).
-fn without_emulation(unit: &[u8]) -> Vec<u8> {
-    let (mut bytes, mut zeros) = (Vec::new(), 0);
-    for &byte in unit.iter().take(32) {
-        if byte == 3 && zeros >= 2 {
-            zeros = 0;
-            continue;
-        }
-        zeros = if byte == 0 { zeros + 1 } else { 0 };
-        bytes.push(byte);
-    }
-    bytes
 }
 
 /// So many pictures in so many seconds, as a number with a point (RFC 8866, 6.13).

@@ -2,8 +2,9 @@
 
 use crate::held::held_by;
 use crate::input::Input;
-use emupedestal::Codec;
+use emupedestal::access_units::{is_slice_type, unit_type};
 use emupedestal::sdp::*;
+use emupedestal::{Codec, units};
 
 /// So many bytes more than a text of the same length may be held of what is read: the lists of a format's values.
 const FRONT: isize = 4096;
@@ -22,6 +23,69 @@ pub fn check(codec: Codec, input: &mut Input) {
     }
     check_units(&value);
     check_payload_type(&text);
+}
+
+/// What a stream says of itself, out of its bytes and out of its units, and whether these fit packets of their own.
+pub fn check_stream(codec: Codec, input: &mut Input) {
+    let limit = usize::from(input.byte());
+    let payload = input.rest();
+    let units: Vec<&[u8]> = units(codec, payload).collect();
+    match codec {
+        Codec::H264 => {
+            let of_units = H264Parameters::of_units(&units);
+            check_said(codec, H264Parameters::of_payload(payload), of_units, &units);
+            let is_short = units.iter().all(|unit| unit.len() <= limit);
+            assert_eq!(fits_single_units(payload, limit), is_short);
+        }
+        Codec::H265 => {
+            let of_units = H265Parameters::of_units(&units);
+            check_said(codec, H265Parameters::of_payload(payload), of_units, &units);
+        }
+        Codec::H266 => {
+            let of_units = H266Parameters::of_units(&units);
+            check_said(codec, H266Parameters::of_payload(payload), of_units, &units);
+        }
+    }
+}
+
+/// Both say the same; the sets are those before the first slice, by their types.
+fn check_said<P: Parameter>(
+    codec: Codec,
+    said: Result<CodecParameters<P>, StreamError>,
+    of_units: Result<CodecParameters<P>, StreamError>,
+    units: &[&[u8]],
+) {
+    assert_eq!(said, of_units);
+    let Ok(format) = said else {
+        return;
+    };
+    check_written(&format);
+    let type_of = |unit: &[u8]| unit_type(codec, unit);
+    let is_slice = |unit: &&&[u8]| type_of(unit).is_some_and(|it| is_slice_type(codec, it));
+    let before: Vec<&[u8]> = units
+        .iter()
+        .take_while(|it| !is_slice(it))
+        .copied()
+        .collect();
+    let names: &[(&str, &[u8])] = match codec {
+        Codec::H264 => &[("sprop-parameter-sets", &[7, 8])],
+        Codec::H265 => &[
+            ("sprop-vps", &[32]),
+            ("sprop-sps", &[33]),
+            ("sprop-pps", &[34]),
+        ],
+        Codec::H266 => &[
+            ("sprop-vps", &[14]),
+            ("sprop-sps", &[15]),
+            ("sprop-pps", &[16]),
+        ],
+    };
+    for (name, types) in names {
+        let is_of = |unit: &&&[u8]| type_of(unit).is_some_and(|it| types.contains(&it));
+        let wanted: Vec<Vec<u8>> = before.iter().filter(is_of).map(|it| it.to_vec()).collect();
+        let parameter = P::of_name(name).expect("a known one");
+        assert_eq!(format.units(parameter), Ok(wanted));
+    }
 }
 
 /// The parameters of a text: parts between `;` that stand outside braces, none of them blank, and of each what stands

@@ -1,5 +1,5 @@
-//! Streams in Annex B form or behind lengths, whole and read in pieces, what SDP says of profiles and levels, and its
-//! format parameters.
+//! Streams in Annex B form or behind lengths, whole and read in pieces, what SDP says of profiles and levels, its
+//! format parameters, and what streams say of these.
 //!
 //! A byte of [`Settings`], whose further bits say what the rest is.
 
@@ -11,6 +11,7 @@ pub fn run(data: &[u8]) {
     let settings = Settings::read(&mut input);
     match settings.more & 7 {
         4 => sdp::check(settings.codec, &mut input),
+        5 => sdp::check_stream(settings.codec, &mut input),
         more => run_other(more & 3, settings, input),
     }
 }

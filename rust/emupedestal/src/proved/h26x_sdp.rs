@@ -8,6 +8,7 @@
 mod answer;
 mod codec;
 mod error;
+mod from_stream;
 mod h264;
 mod h265;
 mod h266;
@@ -15,13 +16,19 @@ mod kind;
 mod pairs;
 mod parameters;
 mod rtp_map;
+mod single_units;
 mod table;
+mod unescaped;
+mod unit_types;
 mod units;
 
 pub(crate) use answer::answer_to;
 pub use answer::{CodecRules, Format, Role, Terms};
 pub use codec::{CodecParameter, CodecParameters};
-pub use error::{Fault, ParametersError, UnitsError};
+pub use error::{Fault, ParametersError, StreamError, UnitsError};
+pub use from_stream::{
+    h264_of_payload, h264_of_units, h265_of_payload, h265_of_units, h266_of_payload, h266_of_units,
+};
 pub use h264::{H264Parameter, H264Parameters};
 pub use h265::{H265Parameter, H265Parameters};
 pub use h266::{H266Parameter, H266Parameters};
@@ -30,6 +37,8 @@ pub(crate) use pairs::push_pair;
 pub use pairs::{Pair, Pairs, closes, pairs_of};
 pub use parameters::OtherParameter;
 pub use rtp_map::{Encoding, RtpMap, RtpMapError};
+pub use single_units::fits_single_units;
 pub use table::{ParameterRow, row_of, same_name};
+pub use unit_types::UnitTypes;
 pub use units::read_units;
 pub(crate) use units::write_units;

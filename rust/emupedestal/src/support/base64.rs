@@ -59,6 +59,13 @@ impl Standard {
         Ok(bytes)
     }
 
+    /// The text of bytes.
+    pub fn encode<T: AsRef<[u8]>>(&self, bytes: T) -> Result<String, AllocError> {
+        let mut text = String::new();
+        self.encode_string(bytes.as_ref(), &mut text)?;
+        Ok(text)
+    }
+
     /// Appends the text of bytes to another.
     pub fn encode_string(&self, bytes: &[u8], text: &mut String) -> Result<(), AllocError> {
         text.try_reserve(BASE64.encode_len(bytes.len()))?;

@@ -9,17 +9,18 @@ use crate::program::{Folder, cut, small_streams};
 const FORMATS: [(&str, &str); 3] = [
     (
         "h264",
-        "profile-level-id=42c00a;sprop-parameter-sets=Z0LACtkJbARAAAADAEAAAAyDxImS,aMuBEsg=;packetization-mode=1",
+        "profile-level-id=42C00A;sprop-parameter-sets=Z0LACtkJbARAAAADAEAAAAyDxImS,aMuBEsg=;packetization-mode=1",
     ),
     (
         "h265",
         "profile-space=0;profile-id=2;tier-flag=0;level-id=60;interop-constraints=900000000000;\
+         profile-compatibility-indicator=20000000;\
          sprop-vps=QAEMAf//AiAAAAMAkAAAAwAAAwA8lZQJ;\
          sprop-sps=QgEBAiAAAAMAkAAAAwAAAwA8oBYgJE2WVlkkyvAWgIAAAAMAgAAADIQ=;sprop-pps=RAHBcrRiQA==",
     ),
     (
         "h266",
-        "profile-id=1;tier-flag=0;level-id=3;sprop-vps=AHEQAQIDBAUGBwgJCgsMDQ4PEBESExQ=;\
+        "profile-id=1;tier-flag=0;interop-constraints=BA==;level-id=3;sprop-vps=AHEQAQIDBAUGBwgJCgsMDQ4PEBESExQ=;\
          sprop-sps=AHkNAQIDBAUGBwgJCgsMDQ4PEBESExQVFhcYGRobHB0eHyAhIiMkJSYnKCkqKywtLi8wMTIzNDU2Nzg5Ojs8;\
          sprop-pps=AIFCAQIDBAUGBwgJCgsM",
     ),
@@ -304,11 +305,11 @@ fn descriptions_that_are_refused() {
         // A slice, and a set with a start code in it.
         (
             &format!("{video}H264/90000\r\na=fmtp:96 sprop-parameter-sets=Z2QAKA==,ZYg="),
-            "sprop-parameter-sets: unit 1 is no parameter set of it",
+            "sprop-parameter-sets: unit 1 is of another type",
         ),
         (
             &format!("{video}H264/90000\r\na=fmtp:96 sprop-parameter-sets=Z2QAKAAAAWU="),
-            "sprop-parameter-sets: unit 0 is no parameter set of it",
+            "sprop-parameter-sets: unit 0 has a start code inside",
         ),
     ];
     for (text, said) in rows {

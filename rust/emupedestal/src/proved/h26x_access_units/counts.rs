@@ -72,6 +72,11 @@ impl Counts {
         }
     }
 
+    /// Counts packets of old numbers that are dropped.
+    pub(crate) fn drop(&mut self, dropped: usize) {
+        self.lost = self.lost.saturating_add(dropped as u64);
+    }
+
     /// Counts what became of a packet that was due.
     fn answer(&mut self, received: &Result<Received, PacketError>) {
         match received {

@@ -45,6 +45,25 @@ impl JitterBuffer {
         }
     }
 
+    /// The settings.
+    pub fn config(&self) -> AccessUnitConfig {
+        self.config
+    }
+
+    /// Whether a number is so far from the one that is due, ahead or behind, that it is a stray (RFC
+    /// 3550, A.1).
+    pub fn is_far(&self, number: u16) -> bool {
+        match self.buffer.due() {
+            Some(due) => {
+                let far = self.config.far;
+                let ahead = number.wrapping_sub(due);
+                let behind = due.wrapping_sub(number);
+                far != 0 && ahead >= far && behind >= far
+            }
+            None => false,
+        }
+    }
+
     /// How many packets wait.
     pub fn len(&self) -> usize {
         self.buffer.len()

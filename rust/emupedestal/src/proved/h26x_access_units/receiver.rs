@@ -9,14 +9,17 @@ use crate::proved::h26x_access_units::numbers::NumbersSoFar;
 use crate::proved::h26x_access_units::pushed::Pushed;
 use crate::proved::h26x_access_units::unit::{ReceivedUnit, is_keyframe};
 use crate::proved::h26x_core::PacketError;
-use crate::proved::h26x_frames::{AccessUnit, FrameReceiver, RtpPacket};
+use crate::proved::h26x_frames::{AccessUnit, FrameReceiver, HeldPacket, RtpPacket};
 use crate::proved::h26x_receiver::{Received, RunDepacketizer, SequencedDepacketizer};
+use crate::support::TryVec;
 use alloc::vec::Vec;
 
 /// Takes RTP packets as they come and gives out access units.
 #[derive(Debug)]
 pub struct AccessUnitReceiver<D: RunDepacketizer> {
     waiting: JitterBuffer,
+    stray: Option<HeldPacket>,
+    is_anew: bool,
     frames: FrameReceiver<D>,
     ended: Vec<AccessUnit>,
     numbers: NumbersSoFar,
@@ -61,6 +64,8 @@ impl<D: RunDepacketizer> AccessUnitReceiver<D> {
         let packets = SequencedDepacketizer::new(depacketizer, config.run_limit);
         AccessUnitReceiver {
             waiting: JitterBuffer::new(config),
+            stray: None,
+            is_anew: false,
             frames: FrameReceiver::new(packets, config.unit_limit),
             ended: Vec::new(),
             numbers: NumbersSoFar::none(),
@@ -72,9 +77,39 @@ impl<D: RunDepacketizer> AccessUnitReceiver<D> {
     /// Takes a packet that came at this tick, and copies it if it is to wait. One without a payload
     /// came and bears nothing. Without memory all stays as it was, and it can be given again.
     pub fn try_push(&mut self, now: u32, packet: &RtpPacket<'_>) -> Result<Pushed, PacketError> {
+        if self.waiting.is_far(packet.sequence) {
+            return self.push_far(now, packet);
+        }
         let pushed = self.waiting.try_push(now, packet)?;
         self.counts.try_push(pushed);
         Ok(pushed)
+    }
+
+    /// Takes a packet that is too far from the one that is due.
+    fn push_far(&mut self, now: u32, packet: &RtpPacket<'_>) -> Result<Pushed, PacketError> {
+        match &self.stray {
+            Some(stray) if packet.sequence == stray.sequence.wrapping_add(1) => {
+                let mut waiting = JitterBuffer::new(self.waiting.config());
+                let _ = waiting.try_push(now, &stray.packet())?;
+                let _ = waiting.try_push(now, packet)?;
+                self.counts.try_push(Pushed::Anew);
+                self.counts.drop(self.waiting.len());
+                self.waiting = waiting;
+                self.stray = None;
+                self.is_anew = true;
+                Ok(Pushed::Anew)
+            }
+            _ => {
+                self.stray = Some(HeldPacket::new(
+                    packet.sequence,
+                    packet.timestamp,
+                    packet.marker,
+                    Vec::try_from_slice(packet.payload)?,
+                ));
+                self.counts.try_push(Pushed::Stray);
+                Ok(Pushed::Stray)
+            }
+        }
     }
 
     /// Passes over a number that came and bears nothing of the stream, as padding alone, FEC or
@@ -103,6 +138,16 @@ impl<D: RunDepacketizer> AccessUnitReceiver<D> {
         self.counts.note(&packet, &received);
         let _ = self.waiting.pop_first();
         Ok(true)
+    }
+
+    /// Where the stream has begun anew, and no access unit that ended is left, ends the open one.
+    fn end_if_anew(&mut self) -> Result<(), PacketError> {
+        if self.ended.is_empty() && self.is_anew {
+            self.frames.end(&mut self.ended)?;
+            self.numbers.end();
+            self.is_anew = false;
+        }
+        Ok(())
     }
 
     /// Takes packets that are due until an access unit has ended, or none is due.
@@ -155,6 +200,7 @@ impl<D: RunDepacketizer> AccessUnitReceiver<D> {
     /// Without memory the error is `OutOfMemory`: what was taken before stays taken, and the packet for
     /// which memory lacks is due still.
     pub fn next(&mut self, now: u32) -> Result<Option<ReceivedUnit>, PacketError> {
+        self.end_if_anew()?;
         self.drain(now)?;
         self.end_if_over()?;
         Ok(self.give())
@@ -170,6 +216,8 @@ impl<D: RunDepacketizer> AccessUnitReceiver<D> {
     /// the next: for another sender (SSRC). What was counted stays. It takes no memory.
     pub fn restart(&mut self) {
         self.waiting.restart();
+        self.stray = None;
+        self.is_anew = false;
         self.frames.restart();
         self.ended.clear();
         self.numbers = NumbersSoFar::none();

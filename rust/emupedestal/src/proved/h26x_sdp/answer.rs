@@ -111,7 +111,7 @@ fn same_value(kind: Kind, a: &[u8], b: &[u8]) -> bool {
             same_number(kind.number_of(a), kind.number_of(b))
         }
         Kind::Hexadecimal { .. } => same_name(a, b),
-        Kind::TxMode | Kind::Units | Kind::Text => a == b,
+        Kind::TxMode | Kind::Units(_) | Kind::Text => a == b,
     }
 }
 

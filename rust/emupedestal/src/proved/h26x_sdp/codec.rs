@@ -42,6 +42,20 @@ impl<P: CodecParameter> CodecParameters<P> {
         })
     }
 
+    /// None of the parameters.
+    pub(crate) fn none() -> Result<Self, AllocError> {
+        let parameters = parameters::none_of(P::rows().len())?;
+        Ok(CodecParameters {
+            parameters,
+            of: PhantomData,
+        })
+    }
+
+    /// Gives a parameter a value.
+    pub(crate) fn put(&mut self, parameter: P, value: Vec<u8>) {
+        parameters::put(&mut self.parameters.values, parameter.place(), value);
+    }
+
     /// Writes the value of an `a=fmtp` line: the parameters in the RFC's order, and the others behind
     /// them. It is read as the same parameters.
     pub(crate) fn write(&self) -> Result<Vec<u8>, AllocError> {
@@ -77,16 +91,24 @@ impl<P: CodecParameter> CodecParameters<P> {
     }
 
     /// The NAL units of a parameter, out of base64; `None` where it's absent, and for those that aren't
-    /// units. What is refused first is told, with its place among the units.
+    /// units.
+    ///
+    /// What is refused first is told, with its place among the units: a text that is no base64 or
+    /// has no byte, and where all are units, one that is of no type that the parameter is for, or has
+    /// a start code inside.
     pub fn units(&self, parameter: P) -> Result<Option<Vec<Vec<u8>>>, UnitsError> {
         let (Some(row), Some(value)) = (P::rows().get(parameter.place()), self.value(parameter))
         else {
             return Ok(None);
         };
-        if !row.kind.is_units() {
+        let Some(types) = row.kind.unit_types() else {
             return Ok(None);
+        };
+        let units = read_units(value)?;
+        match types.fault_in(units.as_slice()) {
+            Some(error) => Err(error),
+            None => Ok(Some(units)),
         }
-        Ok(Some(read_units(value)?))
     }
 
     /// The parameters that the RFC doesn't have, in their order.

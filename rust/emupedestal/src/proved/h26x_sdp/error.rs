@@ -64,6 +64,12 @@ pub enum UnitsError {
     /// The unit at this place, counted from 0, has no byte.
     Empty { place: usize },
 
+    /// The unit at this place, counted from 0, is of no type that the parameter is for.
+    OtherType { place: usize },
+
+    /// The unit at this place, counted from 0, has a start code, `00 00 01`, inside.
+    StartCode { place: usize },
+
     /// The allocator had no memory.
     OutOfMemory,
 }
@@ -73,6 +79,8 @@ impl core::fmt::Display for UnitsError {
         match self {
             UnitsError::NotBase64 { place } => write!(f, "unit {place} is no base64"),
             UnitsError::Empty { place } => write!(f, "unit {place} is empty"),
+            UnitsError::OtherType { place } => write!(f, "unit {place} is of another type"),
+            UnitsError::StartCode { place } => write!(f, "unit {place} has a start code inside"),
             UnitsError::OutOfMemory => write!(f, "out of memory"),
         }
     }
@@ -83,5 +91,48 @@ impl core::error::Error for UnitsError {}
 impl From<AllocError> for UnitsError {
     fn from(_e: AllocError) -> UnitsError {
         UnitsError::OutOfMemory
+    }
+}
+
+/// Why units say no parameters. A refused call changes nothing.
+#[derive(Debug, Clone, Copy, PartialEq, Eq)]
+#[non_exhaustive]
+pub enum StreamError {
+    /// No parameter set that says a profile and a level stands before the first slice.
+    NoParameterSet,
+
+    /// The first that would say them ends before they do.
+    ShortParameterSet,
+
+    /// The first SPS of H.266 doesn't say them: sps_ptl_dpb_hrd_params_present_flag is 0.
+    NoProfile,
+
+    /// The first SPS of H.266 has general constraints (gci_present_flag is 1), which this crate
+    /// doesn't read.
+    GeneralConstraints,
+
+    /// The allocator had no memory.
+    OutOfMemory,
+}
+
+impl core::fmt::Display for StreamError {
+    fn fmt(&self, f: &mut core::fmt::Formatter<'_>) -> core::fmt::Result {
+        match self {
+            StreamError::NoParameterSet => write!(f, "no parameter set says a profile and a level"),
+            StreamError::ShortParameterSet => write!(f, "a parameter set is too short"),
+            StreamError::NoProfile => write!(f, "the parameter set says no profile"),
+            StreamError::GeneralConstraints => {
+                write!(f, "the parameter set has general constraints")
+            }
+            StreamError::OutOfMemory => write!(f, "out of memory"),
+        }
+    }
+}
+
+impl core::error::Error for StreamError {}
+
+impl From<AllocError> for StreamError {
+    fn from(_e: AllocError) -> StreamError {
+        StreamError::OutOfMemory
     }
 }

@@ -5,6 +5,7 @@
 use crate::proved::h26x_sdp::codec::{CodecParameter, CodecParameters};
 use crate::proved::h26x_sdp::kind::{BITS_15, BITS_32, BITS_64, FLAG, Kind};
 use crate::proved::h26x_sdp::table::ParameterRow;
+use crate::proved::h26x_sdp::unit_types::H264_SETS;
 
 /// A format parameter of H.264, in the order in which they are written (RFC 6184, section 8.1).
 #[non_exhaustive]
@@ -161,7 +162,7 @@ static ROWS: [ParameterRow; 23] = [
     },
     ParameterRow {
         name: b"sprop-parameter-sets",
-        kind: Kind::Units,
+        kind: Kind::Units(H264_SETS),
         default: None,
     },
     ParameterRow {

@@ -5,6 +5,7 @@
 use crate::proved::h26x_sdp::codec::{CodecParameter, CodecParameters};
 use crate::proved::h26x_sdp::kind::{BITS_8, BITS_15, BITS_32, BITS_64, FLAG, Kind, SUB_LAYER};
 use crate::proved::h26x_sdp::table::ParameterRow;
+use crate::proved::h26x_sdp::unit_types::{H265_PPS, H265_SEI, H265_SPS, H265_VPS};
 
 /// A format parameter of H.265, in the order in which they are written (RFC 7798, section 7.1).
 #[non_exhaustive]
@@ -183,22 +184,22 @@ static ROWS: [ParameterRow; 30] = [
     },
     ParameterRow {
         name: b"sprop-vps",
-        kind: Kind::Units,
+        kind: Kind::Units(H265_VPS),
         default: None,
     },
     ParameterRow {
         name: b"sprop-sps",
-        kind: Kind::Units,
+        kind: Kind::Units(H265_SPS),
         default: None,
     },
     ParameterRow {
         name: b"sprop-pps",
-        kind: Kind::Units,
+        kind: Kind::Units(H265_PPS),
         default: None,
     },
     ParameterRow {
         name: b"sprop-sei",
-        kind: Kind::Units,
+        kind: Kind::Units(H265_SEI),
         default: None,
     },
     ParameterRow {
@@ -293,6 +294,14 @@ impl CodecParameter for H265Parameter {
 
     fn place(self) -> usize {
         self as usize
+    }
+}
+
+impl CodecParameters<H265Parameter> {
+    /// What packetizers and receivers are configured for: `sprop-max-don-diff`, or 0 where it's
+    /// absent. Where it is over 0, units bear decoding order numbers (RFC 7798, section 7.1).
+    pub fn max_don_diff(&self) -> Option<u32> {
+        u32::try_from(self.number_or_default(H265Parameter::SpropMaxDonDiff)?).ok()
     }
 }
 

@@ -5,6 +5,7 @@
 use crate::proved::h26x_sdp::codec::{CodecParameter, CodecParameters};
 use crate::proved::h26x_sdp::kind::{BITS_8, BITS_15, BITS_32, BITS_64, FLAG, Kind, SUB_LAYER};
 use crate::proved::h26x_sdp::table::ParameterRow;
+use crate::proved::h26x_sdp::unit_types::{H266_DCI, H266_PPS, H266_SEI, H266_SPS, H266_VPS};
 
 /// A format parameter of H.266, in the order in which they are written (RFC 9328, sections 7.1
 /// and 7.2).
@@ -15,10 +16,11 @@ pub enum H266Parameter {
     ProfileId,
     /// `tier-flag`: general_tier_flag: 0 Main tier, 1 High tier. Where it's absent 0.
     TierFlag,
-    /// `sub-profile-id`: the sub-profiles, with `,` between them.
+    /// `sub-profile-id`: the sub-profiles in base64 without padding, with `,` between them.
     SubProfileId,
-    /// `interop-constraints`: the constraints of the stream: frames alone, multilayer,
-    /// general_constraints_info( ).
+    /// `interop-constraints`: the constraints of the stream in base64: frames alone, multilayer and
+    /// general_constraints_info( ). Where it's absent gA==: frames alone, one layer, and no general
+    /// ones.
     InteropConstraints,
     /// `level-id`: general_level_idc, 16 times the level's major number and three times its minor
     /// one. Where it's absent 51: level 3.1.
@@ -37,7 +39,7 @@ pub enum H266Parameter {
     /// `max-recv-level-id`: the highest level that is received, as in `level-id`. Where it's
     /// absent, `level-id`.
     MaxRecvLevelId,
-    /// `sprop-dci`: the decoding capability information in base64.
+    /// `sprop-dci`: the unit of decoding capability information in base64.
     SpropDci,
     /// `sprop-vps`: video parameter sets in base64, with `,` between them.
     SpropVps,
@@ -113,7 +115,7 @@ static ROWS: [ParameterRow; 20] = [
     ParameterRow {
         name: b"interop-constraints",
         kind: Kind::Text,
-        default: None,
+        default: Some(b"gA=="),
     },
     ParameterRow {
         name: b"level-id",
@@ -153,27 +155,27 @@ static ROWS: [ParameterRow; 20] = [
     },
     ParameterRow {
         name: b"sprop-dci",
-        kind: Kind::Units,
+        kind: Kind::Units(H266_DCI),
         default: None,
     },
     ParameterRow {
         name: b"sprop-vps",
-        kind: Kind::Units,
+        kind: Kind::Units(H266_VPS),
         default: None,
     },
     ParameterRow {
         name: b"sprop-sps",
-        kind: Kind::Units,
+        kind: Kind::Units(H266_SPS),
         default: None,
     },
     ParameterRow {
         name: b"sprop-pps",
-        kind: Kind::Units,
+        kind: Kind::Units(H266_PPS),
         default: None,
     },
     ParameterRow {
         name: b"sprop-sei",
-        kind: Kind::Units,
+        kind: Kind::Units(H266_SEI),
         default: None,
     },
     ParameterRow {
@@ -213,6 +215,14 @@ impl CodecParameter for H266Parameter {
 
     fn place(self) -> usize {
         self as usize
+    }
+}
+
+impl CodecParameters<H266Parameter> {
+    /// What packetizers and receivers are configured for: `sprop-max-don-diff`, or 0 where it's
+    /// absent. Where it is over 0, units bear decoding order numbers (RFC 9328, section 7.2).
+    pub fn max_don_diff(&self) -> Option<u32> {
+        u32::try_from(self.number_or_default(H266Parameter::SpropMaxDonDiff)?).ok()
     }
 }
 

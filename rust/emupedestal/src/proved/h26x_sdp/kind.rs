@@ -3,6 +3,7 @@
 //! What the value of a parameter is.
 
 use crate::proved::h26x_sdp::error::Fault;
+use crate::proved::h26x_sdp::unit_types::UnitTypes;
 use core::str;
 
 /// What the value of a parameter is.
@@ -16,8 +17,8 @@ pub enum Kind {
     Hexadecimal { bytes: u8 },
     /// `SRST`, `MRST` or `MRMT` (RFC 7798, section 7.1).
     TxMode,
-    /// NAL units in base64, with `,` between them, which `read_units` looks into.
-    Units,
+    /// NAL units of these types in base64, with `,` between them, which `units` looks into.
+    Units(UnitTypes),
     /// A text that no rule of this crate looks into.
     Text,
 }
@@ -80,13 +81,16 @@ impl Kind {
                     Some(Fault::NotTxMode)
                 }
             }
-            Kind::Units | Kind::Text => None,
+            Kind::Units(_) | Kind::Text => None,
         }
     }
 
-    /// Whether the kind is units.
-    pub(crate) fn is_units(self) -> bool {
-        matches!(self, Kind::Units)
+    /// The types of the units, if the kind is units.
+    pub(crate) fn unit_types(self) -> Option<UnitTypes> {
+        match self {
+            Kind::Units(types) => Some(types),
+            _ => None,
+        }
     }
 
     /// The number that a value says, if the kind is a number's.
@@ -94,7 +98,7 @@ impl Kind {
         match self {
             Kind::Number { .. } => number_in(value).ok(),
             Kind::HexadecimalNumber { .. } => hexadecimal_number_in(value).ok(),
-            Kind::Hexadecimal { .. } | Kind::TxMode | Kind::Units | Kind::Text => None,
+            Kind::Hexadecimal { .. } | Kind::TxMode | Kind::Units(_) | Kind::Text => None,
         }
     }
 }

@@ -49,7 +49,7 @@ pub(crate) fn none_of(rows: usize) -> Result<FormatParameters, AllocError> {
 }
 
 /// Puts a value in its place.
-fn put(values: &mut Vec<Option<Vec<u8>>>, place: usize, value: Vec<u8>) {
+pub(crate) fn put(values: &mut Vec<Option<Vec<u8>>>, place: usize, value: Vec<u8>) {
     values[place] = Some(value);
 }
 

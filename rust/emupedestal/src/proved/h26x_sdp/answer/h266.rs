@@ -6,6 +6,7 @@ use crate::proved::h26x_sdp::answer::by_level::{LevelParameters, terms_by_level}
 use crate::proved::h26x_sdp::answer::{CodecRules, Role, Terms, same_if_given, same_number};
 use crate::proved::h26x_sdp::h266::{H266Parameter, H266Parameters};
 use crate::proved::h26x_sdp::kind::Kind;
+use crate::proved::h26x_sdp::unit_types::H266_VPS;
 use crate::support::AllocError;
 
 /// What each parameter is, in the order of the table.
@@ -65,7 +66,12 @@ fn keeps_vps(offered: &H266Parameters, own: &H266Parameters, terms: &Terms) -> b
     } else {
         None
     };
-    !has_layers(offered) || same_if_given(Kind::Units, offered.value(H266Parameter::SpropVps), ours)
+    !has_layers(offered)
+        || same_if_given(
+            Kind::Units(H266_VPS),
+            offered.value(H266Parameter::SpropVps),
+            ours,
+        )
 }
 
 /// The terms of two formats of one configuration.

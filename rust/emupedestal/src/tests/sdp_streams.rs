@@ -1,0 +1,125 @@
+//! What streams say of themselves: by hand from their parameter sets (Rec. ITU-T H.264, 7.3.2.1.1; H.265, 7.3.3; H.266,
+//! 7.3.2.4 and 7.3.3.1), and as FFmpeg 5.1.9 wrote it of the same sets.
+
+use super::bytes;
+use crate::sdp::*;
+
+/// Units behind start codes of three bytes.
+fn payload(units: &[Vec<u8>]) -> Vec<u8> {
+    units
+        .iter()
+        .flat_map(|unit| [&[0, 0, 1], &unit[..]].concat())
+        .collect()
+}
+
+#[test]
+fn streams_of_h264() {
+    let slice = bytes("65 88 84");
+    for (id, sets) in [
+        ("42C00A", "Z0LACtkJbARAAAADAEAAAAyDxImS,aMuBEsg="),
+        ("64001F", "Z2QAH6zZQUH7ARAAAAMAEAAAAwMg8YMZYA==,aOvjyyLA"),
+    ] {
+        let units = [
+            read_units(sets).unwrap(),
+            vec![slice.clone(), bytes("67 01 02 03")],
+        ]
+        .concat();
+        let slices: Vec<&[u8]> = units.iter().map(Vec::as_slice).collect();
+        let format = H264Parameters::of_units(&slices).unwrap();
+        let wanted = format!("profile-level-id={id};sprop-parameter-sets={sets}");
+        assert_eq!(format.to_string(), wanted);
+        assert_eq!(H264Parameters::of_payload(&payload(&units)), Ok(format));
+    }
+    let refused = |units: &[&[u8]]| H264Parameters::of_units(units).unwrap_err();
+    assert_eq!(refused(&[]), StreamError::NoParameterSet);
+    assert_eq!(
+        refused(&[&slice, &bytes("67 42 c0 1f")]),
+        StreamError::NoParameterSet
+    );
+    assert_eq!(
+        refused(&[&bytes("68 ce"), &slice]),
+        StreamError::NoParameterSet
+    );
+    assert_eq!(
+        refused(&[&bytes("67 42 c0")]),
+        StreamError::ShortParameterSet
+    );
+    let said = "no parameter set says a profile and a level";
+    assert_eq!(StreamError::NoParameterSet.to_string(), said);
+}
+
+#[test]
+fn streams_of_h265() {
+    let (vps, sps) = (
+        "QAEMAf//AWAAAAMAkAAAAwAAAwA8lZgJ",
+        "QgEBAWAAAAMAkAAAAwAAAwA8oAoIDxZZWaSTK8BaAgAAAwACAAADADIQ",
+    );
+    let pps = "RAHBcrRiQA==";
+    let units = read_units(&format!("{vps},{sps},{pps}")).unwrap();
+    let format = H265Parameters::of_payload(&payload(&units)).unwrap();
+    let general = "profile-space=0;profile-id=1;tier-flag=0;level-id=60;interop-constraints=900000000000;\
+        profile-compatibility-indicator=60000000";
+    let wanted = format!("{general};sprop-vps={vps};sprop-sps={sps};sprop-pps={pps}");
+    assert_eq!(format.to_string(), wanted);
+    // Of a VPS alone, behind its four bytes.
+    let format = H265Parameters::of_units(&[&units[0]]).unwrap();
+    assert_eq!(format.to_string(), format!("{general};sprop-vps={vps}"));
+    assert_eq!(
+        H265Parameters::of_units(&[&units[2]]),
+        Err(StreamError::NoParameterSet)
+    );
+    assert_eq!(
+        H265Parameters::of_units(&[&units[1][..10]]),
+        Err(StreamError::ShortParameterSet)
+    );
+}
+
+#[test]
+fn streams_of_h266() {
+    let sps = bytes("00 79 00 0b 02 33 80 80");
+    let pps = bytes("00 81 00 80");
+    let format = H266Parameters::of_payload(&payload(&[sps.clone(), pps])).unwrap();
+    let wanted = "profile-id=1;tier-flag=0;interop-constraints=gA==;level-id=51;sprop-sps=AHkACwIzgIA=;sprop-pps=AIEAgA==";
+    assert_eq!(format.to_string(), wanted);
+    let refused = |unit: &str| H266Parameters::of_units(&[&bytes(unit)]).unwrap_err();
+    assert_eq!(refused("00 81 00"), StreamError::NoParameterSet);
+    assert_eq!(refused("00 79 00 0b 02 33"), StreamError::ShortParameterSet);
+    assert_eq!(refused("00 79 00 0a 02 33 80"), StreamError::NoProfile);
+    assert_eq!(
+        refused("00 79 00 0b 02 33 a0"),
+        StreamError::GeneralConstraints
+    );
+}
+
+/// Units of a set are looked at by their type, and for start codes.
+#[test]
+fn units_of_other_types() {
+    let of = |text: &str| {
+        text.parse::<H264Parameters>()
+            .unwrap()
+            .sprop_parameter_sets()
+    };
+    assert_eq!(
+        of("sprop-parameter-sets=Z0I=,ZYg="),
+        Err(UnitsError::OtherType { place: 1 })
+    );
+    assert_eq!(
+        of("sprop-parameter-sets=ZwAAAWU="),
+        Err(UnitsError::StartCode { place: 0 })
+    );
+    let format: H265Parameters = "sprop-vps=QgEB;sprop-sei=TgEF".parse().unwrap();
+    assert_eq!(format.sprop_vps(), Err(UnitsError::OtherType { place: 0 }));
+    assert_eq!(format.sprop_sei(), Ok(vec![bytes("4e 01 05")]));
+}
+
+/// Where `packetization-mode` is 0 (RFC 6184, 6.2).
+#[test]
+fn payloads_of_single_units() {
+    let stream = payload(&[
+        bytes("67 42 c0 1f"),
+        bytes("68 ce"),
+        bytes("65 88 84 21 03"),
+    ]);
+    assert!(fits_single_units(&stream, 5) && !fits_single_units(&stream, 4));
+    assert!(fits_single_units(&[], 0));
+}
