@@ -29,10 +29,13 @@
 use crate::proved::h26x_access_units::AccessUnitReceiver as Units;
 use crate::proved::h26x_access_units::Receives as _;
 use crate::proved::h26x_receiver::AnyPayloadDepacketizer;
-use crate::{Codec, PacketError, RtpPacket};
+use crate::{Codec, HeldPacket, PacketError, RtpPacket};
 use alloc::vec::Vec;
+use core::fmt;
 
-pub use crate::proved::h26x_access_units::{AccessUnitConfig, Counts, Pushed, ReceivedUnit};
+pub use crate::proved::h26x_access_units::{
+    AccessUnitConfig, Counts, NotPushed, NotPushedReason, Pushed, ReceivedUnit,
+};
 
 /// A window of 512 packets and no limit on the time; a number 3000 or more away is a stray (RFC 3550,
 /// A.1); 8 MB for what waits and for an open access unit, and 4 MB for an open unit.
@@ -48,6 +51,21 @@ impl Default for AccessUnitConfig {
         }
     }
 }
+
+impl fmt::Display for NotPushed {
+    fn fmt(&self, f: &mut fmt::Formatter<'_>) -> fmt::Result {
+        match self.reason {
+            NotPushedReason::Late(behind) => {
+                write!(f, "the packet is {behind} behind the one that is due")
+            }
+            NotPushedReason::Twice => f.write_str("a packet with its number waits"),
+            NotPushedReason::Full => f.write_str("more bytes wait than the limit"),
+            NotPushedReason::OutOfMemory => f.write_str("out of memory"),
+        }
+    }
+}
+
+impl core::error::Error for NotPushed {}
 
 /// A receiver of any codec that takes packets as a network brings them and gives out access units: a
 /// [`ReorderBuffer`](crate::ReorderBuffer) with a time and a limit on bytes, and a
@@ -107,6 +125,12 @@ impl AccessUnitReceiver {
     /// and the packet can be given again.
     pub fn push(&mut self, now: u32, packet: &RtpPacket<'_>) -> Result<Pushed, PacketError> {
         self.inner.try_push(now, packet)
+    }
+
+    /// Takes a packet that has memory of its own, and copies nothing of it, but of a stray. One that doesn't wait comes
+    /// back as it was given, with the reason.
+    pub fn push_held(&mut self, now: u32, packet: HeldPacket) -> Result<Pushed, NotPushed> {
+        self.inner.push_held(now, packet)
     }
 
     /// Passes over a number that came and bears nothing of the stream, as that of padding alone, of forward

@@ -2,9 +2,12 @@
 //! written out by hand, and drawn packets go through a buffer and a receiver beside it.
 
 use super::bytes;
-use crate::access_unit_receiver::{AccessUnitConfig, AccessUnitReceiver, Pushed, ReceivedUnit};
+use crate::access_unit_receiver::{
+    AccessUnitConfig, AccessUnitReceiver, NotPushedReason, Pushed, ReceivedUnit,
+};
 use crate::{
-    Codec, CodecExtra, FrameReceiver, H264CodecExtra, PacketError, ReorderBuffer, RtpPacket,
+    Codec, CodecExtra, FrameReceiver, H264CodecExtra, HeldPacket, PacketError, ReorderBuffer,
+    RtpPacket,
 };
 
 fn config(window: u16, max_wait: u32) -> AccessUnitConfig {
@@ -206,6 +209,47 @@ fn more_bytes_than_the_limit() {
     // The first goes, and then no more wait than the limit.
     assert_eq!(told(&units(&mut it, 0)).len(), 2);
     assert_eq!(push(&mut it, 0, (9, 30, true, "61")), Ok(Pushed::Held));
+}
+
+#[test]
+fn packets_by_value() {
+    let mut it = receiver(1, u32::MAX);
+    let packet = HeldPacket::new(7, 10, true, bytes("610102"));
+    assert_eq!(it.push_held(0, packet).unwrap(), Pushed::Held);
+    let twice = it
+        .push_held(0, HeldPacket::new(7, 10, true, bytes("6103")))
+        .unwrap_err();
+    assert_eq!(twice.reason, NotPushedReason::Twice);
+    assert_eq!(twice.to_string(), "a packet with its number waits");
+    assert_eq!(twice.packet.into_payload(), bytes("6103"));
+    assert_eq!(units(&mut it, 0)[0].bytes, bytes("00000001 610102"));
+    let late = it
+        .push_held(0, HeldPacket::new(6, 10, true, bytes("61")))
+        .unwrap_err();
+    assert_eq!(late.reason, NotPushedReason::Late(2));
+}
+
+#[test]
+fn strays_and_a_stream_that_begins_anew() {
+    let limits = AccessUnitConfig {
+        far: 3000,
+        ..config(1, u32::MAX)
+    };
+    let mut it = AccessUnitReceiver::new(Codec::H264, limits);
+    push(&mut it, 0, (7, 10, true, "65aa")).unwrap();
+    assert_eq!(units(&mut it, 0).len(), 1);
+    // A stray makes nothing late: 8 is due, and 3008 is 3000 ahead of it.
+    assert_eq!(push(&mut it, 0, (3008, 90, true, "61ee")), Ok(Pushed::Stray));
+    assert_eq!(push(&mut it, 0, (8, 20, false, "61bb")), Ok(Pushed::Held));
+    assert!(units(&mut it, 0).is_empty());
+    // A sender that begins anew far behind: the first waits alone, the second begins the stream, and what was open
+    // ends.
+    assert_eq!(push(&mut it, 0, (45000, 30, true, "65cc")), Ok(Pushed::Stray));
+    assert_eq!(push(&mut it, 0, (45001, 40, true, "61dd")), Ok(Pushed::Anew));
+    let units = units(&mut it, 0);
+    let numbers: Vec<_> = units.iter().map(|it| (it.timestamp, it.first)).collect();
+    assert_eq!(numbers, [(20, 8), (30, 45000), (40, 45001)]);
+    assert_eq!((it.counts().stray, it.counts().anew), (2, 1));
 }
 
 #[test]

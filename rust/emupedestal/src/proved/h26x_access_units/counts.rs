@@ -3,7 +3,7 @@
 //! What a receiver counts.
 
 use crate::proved::h26x_access_units::numbers::missing_told;
-use crate::proved::h26x_access_units::pushed::Pushed;
+use crate::proved::h26x_access_units::pushed::{NotPushedReason, Pushed};
 use crate::proved::h26x_core::PacketError;
 use crate::proved::h26x_frames::RtpPacket;
 use crate::proved::h26x_receiver::Received;
@@ -69,6 +69,15 @@ impl Counts {
             Pushed::Stray => self.stray = self.stray.saturating_add(1),
             Pushed::Anew => self.anew = self.anew.saturating_add(1),
             Pushed::Held | Pushed::Full => {}
+        }
+    }
+
+    /// Counts a packet that comes back.
+    pub(crate) fn not_pushed(&mut self, reason: NotPushedReason) {
+        match reason {
+            NotPushedReason::Late(_) => self.late = self.late.saturating_add(1),
+            NotPushedReason::Twice => self.twice = self.twice.saturating_add(1),
+            NotPushedReason::Full | NotPushedReason::OutOfMemory => {}
         }
     }
 

@@ -186,8 +186,8 @@ impl JitterBuffer {
         }
     }
 
-    /// The numbers that are missing before packets that wait, in order, from the one that is due on: for
-    /// a NACK (RFC 4585, 6.2.1). Of a stream that begins the first of them are those of the window
+    /// The numbers that are missing before packets that wait, in order, from the one that is due on:
+    /// for a NACK (RFC 4585, 6.2.1). Of a stream that begins the first of them are those of the window
     /// before the first packet that came.
     pub(crate) fn missing(&self) -> Result<Vec<u16>, AllocError> {
         let mut numbers = Vec::new();

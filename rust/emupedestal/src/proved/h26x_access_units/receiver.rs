@@ -6,7 +6,7 @@ use crate::proved::h26x_access_units::config::AccessUnitConfig;
 use crate::proved::h26x_access_units::counts::Counts;
 use crate::proved::h26x_access_units::jitter::JitterBuffer;
 use crate::proved::h26x_access_units::numbers::NumbersSoFar;
-use crate::proved::h26x_access_units::pushed::Pushed;
+use crate::proved::h26x_access_units::pushed::{NotPushed, NotPushedReason, Pushed};
 use crate::proved::h26x_access_units::unit::{ReceivedUnit, is_keyframe};
 use crate::proved::h26x_core::PacketError;
 use crate::proved::h26x_frames::{AccessUnit, FrameReceiver, HeldPacket, RtpPacket};
@@ -108,6 +108,27 @@ impl<D: RunDepacketizer> AccessUnitReceiver<D> {
                 ));
                 self.counts.try_push(Pushed::Stray);
                 Ok(Pushed::Stray)
+            }
+        }
+    }
+
+    /// Takes a packet that has memory of its own, and copies nothing of it, but of a stray. One that
+    /// doesn't wait comes back as it was given, with the reason.
+    pub fn push_held(&mut self, now: u32, packet: HeldPacket) -> Result<Pushed, NotPushed> {
+        if self.waiting.is_far(packet.sequence) {
+            return match self.push_far(now, &packet.packet()) {
+                Ok(pushed) => Ok(pushed),
+                Err(_) => Err(NotPushed {
+                    packet,
+                    reason: NotPushedReason::OutOfMemory,
+                }),
+            };
+        }
+        match self.waiting.push_held(now, packet) {
+            Ok(()) => Ok(Pushed::Held),
+            Err(not_pushed) => {
+                self.counts.not_pushed(not_pushed.reason);
+                Err(not_pushed)
             }
         }
     }
