@@ -58,14 +58,14 @@ first_sets types (unit ∷ rest) =
 
 -- how many zeros stand before what follows a byte, as far as two
 abbrev pub zeros_behind : ℕ → ℕ → ℕ
-zeros_behind zeros byte = if byte == 0 then (if zeros == 0 then 1 else 2) else 0
+zeros_behind before byte = if byte == 0 then (if before == 0 then 1 else 2) else 0
 
 -- bytes behind so many zeros, without each 03 that stands behind two
 abbrev pub unescaped_behind : ℕ → List ℕ → List ℕ
-unescaped_behind zeros [] = []
-unescaped_behind zeros (byte ∷ rest) =
-    if (zeros == 2) && (byte == 3) then unescaped_behind 0 rest
-    else byte ∷ unescaped_behind (zeros_behind zeros byte) rest
+unescaped_behind before [] = []
+unescaped_behind before (byte ∷ rest) =
+    if (before == 2) && (byte == 3) then unescaped_behind 0 rest
+    else byte ∷ unescaped_behind (zeros_behind before byte) rest
 
 -- what a unit says behind its header: its bytes without emulation_prevention_three_byte (Rec. ITU-T
 -- H.264, section 7.3.1; H.265 and H.266, section 7.3.1.1)
