@@ -432,6 +432,21 @@ static void check_receive(void)
                           given.why));
 }
 
+STUB(receiver_skip);
+uint32_t proved_receiver_skip(h26x_receiver *r, uint16_t sequence, uint32_t *received, uint16_t *count)
+{
+    expect(r == &receiver && sequence == (uint16_t)given.value);
+    is_output(received, given.number);
+    is_output(count, given.missing);
+    return answer();
+}
+
+static void check_receiver_skip(void)
+{
+    give(NUMBER | MISSING);
+    hands_on(h26x_receiver_skip(&receiver, (uint16_t)given.value, given.number, given.missing));
+}
+
 /* ---- The packets that H.265 shows ---- */
 
 STUB(h265_part_copy);
@@ -600,6 +615,7 @@ int main(void)
     in_each_case(check_written_copy);
     in_each_case(check_receiver_free);
     in_each_case(check_receive);
+    in_each_case(check_receiver_skip);
     in_each_case(check_h265_part_copy);
     in_each_case(check_h265_paci_packet);
     in_each_case(check_is_partition_head);
