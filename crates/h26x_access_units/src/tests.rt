@@ -1,5 +1,7 @@
 //! A stream as a network brings it, step by step.
 
+ghost use Rattle.std.specs.Prelude.{◌≡◌};
+
 use super::*;
 use h26x_core::PacketError;
 use h26x_frames::RtpPacket;
@@ -8,7 +10,9 @@ use std::alloc::Global;
 
 /// The settings of the tests: a window of 4 packets, a wait of 100 ticks, 20 bytes; a number so far
 /// from the one due is a stray.
-fn config(far: u16) -> AccessUnitConfig {
+fn config(far: u16) -> AccessUnitConfig
+    ensures { result.window ≡ 4 }
+{
     AccessUnitConfig {
         window: 4,
         far,
