@@ -198,8 +198,8 @@ fn markers_and_numbers_that_bear_nothing(rt: HostRuntime) -> Result<(), PacketEr
             Step::Push(100, 17, 6000, false, END, Pushed::Held),
             // No marker: the next timestamp ends it.
             Step::Push(100, 18, 9000, true, SLICE, Pushed::Held),
-            Step::Unit(100, 6000, 8, [true, false, false], 13, 17, 0),
-            Step::Unit(100, 9000, 6, [true, false, false], 18, 18, 0),
+            Step::Unit(100, 6000, 8, [true, true, false], 13, 17, 0),
+            Step::Unit(100, 9000, 6, [true, true, false], 18, 18, 0),
             Step::None(100),
         ],
     )?;
