@@ -60,7 +60,7 @@ pub extern "C" fn h26x_depacketizer_clone(alloc: Global, d: &ConstHandle, made: 
 {
     let copy = match d.get() {
         Endpoint::Receiving(it) => it.clone(alloc),
-        Endpoint::Sending(_) | Endpoint::Sequenced(_) => return WRONG_END,
+        _ => return WRONG_END,
     };
     match copy {
         Ok(copy) => put(alloc, Endpoint::Receiving(copy), made),
@@ -103,7 +103,7 @@ pub extern "C" fn h26x_depacketizer_set_numbers(d: &mut Handle, numbers: bool) -
             it.depacketizer.with_donl(numbers);
             OK
         }
-        Endpoint::Sending(_) | Endpoint::Sequenced(_) => WRONG_END,
+        _ => WRONG_END,
     }
 }
 
@@ -178,7 +178,7 @@ pub extern "C" fn h26x_written_copy(d: &ConstHandle, to: &mut [u8]) -> usize
     match d.get() {
         Endpoint::Receiving(it) => copy_where_room(it.written(), to),
         Endpoint::Sequenced(it) => copy_where_room(it.written(), to),
-        Endpoint::Sending(_) => copy_where_room(&[], to),
+        _ => copy_where_room(&[], to),
     }
 }
 
@@ -195,6 +195,6 @@ pub extern "C" fn h26x_give_up_run(d: &mut Handle) -> u32
             it.depacketizer.give_up_run();
             OK
         }
-        Endpoint::Sending(_) | Endpoint::Sequenced(_) => WRONG_END,
+        _ => WRONG_END,
     }
 }

@@ -59,7 +59,7 @@ pub extern "C" fn h26x_packetizer_clone(alloc: Global, p: &ConstHandle, made: &m
 {
     let copy = match p.get() {
         Endpoint::Sending(it) => it.clone(alloc),
-        Endpoint::Receiving(_) | Endpoint::Sequenced(_) => return WRONG_END,
+        _ => return WRONG_END,
     };
     match copy {
         Ok(copy) => put(alloc, Endpoint::Sending(copy), made),
@@ -97,7 +97,7 @@ pub extern "C" fn h26x_packetizer_set_numbers(p: &mut Handle, numbers: bool) -> 
             it.packetizer.with_donl(numbers);
             OK
         }
-        Endpoint::Receiving(_) | Endpoint::Sequenced(_) => WRONG_END,
+        _ => WRONG_END,
     }
 }
 
@@ -126,7 +126,7 @@ pub extern "C" fn h26x_packetizer_set_max_size(p: &mut Handle, bytes: u16) -> u3
             it.packetizer.with_max_packet_size(bytes);
             OK
         }
-        Endpoint::Receiving(_) | Endpoint::Sequenced(_) => WRONG_END,
+        _ => WRONG_END,
     }
 }
 
@@ -163,7 +163,7 @@ pub extern "C" fn h26x_packetize(
                 Err(_) => OUT_OF_MEMORY,
             }
         }
-        Endpoint::Receiving(_) | Endpoint::Sequenced(_) => {
+        _ => {
             *count = 0;
             WRONG_END
         }
@@ -204,7 +204,7 @@ pub extern "C" fn h26x_packetize_unit(
                 Err(_) => OUT_OF_MEMORY,
             }
         }
-        Endpoint::Receiving(_) | Endpoint::Sequenced(_) => {
+        _ => {
             *count = 0;
             WRONG_END
         }
@@ -236,7 +236,7 @@ pub extern "C" fn h26x_packets_size(
     *size = 0;
     let made = match p.get() {
         Endpoint::Sending(it) => it.packetizer.packets_size(mtu, payload, headroom),
-        Endpoint::Receiving(_) | Endpoint::Sequenced(_) => return WRONG_END,
+        _ => return WRONG_END,
     };
     match made {
         Ok(taken) => {
@@ -285,7 +285,7 @@ pub extern "C" fn h26x_packetize_into(
                 .packetize_to_memory(mtu, payload, headroom, to, ends);
             code_of_placement(made, count, size)
         }
-        Endpoint::Receiving(_) | Endpoint::Sequenced(_) => {
+        _ => {
             *count = 0;
             *size = 0;
             WRONG_END
@@ -330,7 +330,7 @@ pub extern "C" fn h26x_packetize_unit_into(
                 .packetize_unit_to_memory(mtu, unit, headroom, to, ends);
             code_of_placement(made, count, size)
         }
-        Endpoint::Receiving(_) | Endpoint::Sequenced(_) => {
+        _ => {
             *count = 0;
             *size = 0;
             WRONG_END
@@ -345,7 +345,7 @@ pub extern "C" fn h26x_packet_count(p: &ConstHandle) -> usize
 {
     match p.get() {
         Endpoint::Sending(it) => it.count(),
-        Endpoint::Receiving(_) | Endpoint::Sequenced(_) => 0,
+        _ => 0,
     }
 }
 
@@ -356,7 +356,7 @@ pub extern "C" fn h26x_packet_len(p: &ConstHandle, i: usize) -> usize
 {
     match p.get() {
         Endpoint::Sending(it) => it.packet(i).len(),
-        Endpoint::Receiving(_) | Endpoint::Sequenced(_) => 0,
+        _ => 0,
     }
 }
 
@@ -367,7 +367,7 @@ pub extern "C" fn h26x_packets_len(p: &ConstHandle) -> usize
 {
     match p.get() {
         Endpoint::Sending(it) => it.bytes_len(),
-        Endpoint::Receiving(_) | Endpoint::Sequenced(_) => 0,
+        _ => 0,
     }
 }
 
@@ -379,7 +379,7 @@ pub extern "C" fn h26x_packet_copy(p: &ConstHandle, i: usize, to: &mut [u8]) -> 
 {
     match p.get() {
         Endpoint::Sending(it) => copy_where_room(it.packet(i), to),
-        Endpoint::Receiving(_) | Endpoint::Sequenced(_) => copy_where_room(&[], to),
+        _ => copy_where_room(&[], to),
     }
 }
 
@@ -398,6 +398,6 @@ pub extern "C" fn h26x_packets_copy(
 {
     match p.get() {
         Endpoint::Sending(it) => it.copy_packets(first, to, ends),
-        Endpoint::Receiving(_) | Endpoint::Sequenced(_) => 0,
+        _ => 0,
     }
 }

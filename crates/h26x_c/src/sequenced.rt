@@ -61,7 +61,7 @@ pub extern "C" fn h26x_receiver_clone(alloc: Global, r: &ConstHandle, made: &mut
 {
     let copy = match r.get() {
         Endpoint::Sequenced(it) => it.clone(alloc),
-        Endpoint::Sending(_) | Endpoint::Receiving(_) => return WRONG_END,
+        _ => return WRONG_END,
     };
     match copy {
         Ok(copy) => put(alloc, Endpoint::Sequenced(copy), made),
@@ -93,7 +93,7 @@ pub extern "C" fn h26x_receiver_set_numbers(r: &mut Handle, numbers: bool) -> u3
             it.with_donl(numbers);
             OK
         }
-        Endpoint::Sending(_) | Endpoint::Receiving(_) => WRONG_END,
+        _ => WRONG_END,
     }
 }
 
@@ -110,7 +110,7 @@ pub extern "C" fn h26x_receiver_set_avc(r: &mut Handle, is_avc: bool) -> u32
             it.with_avc(is_avc);
             OK
         }
-        Endpoint::Sending(_) | Endpoint::Receiving(_) => WRONG_END,
+        _ => WRONG_END,
     }
 }
 
@@ -210,7 +210,7 @@ pub extern "C" fn h26x_receiver_skip(
             (*received, *count) = numbers_of(it.skip(sequence));
             OK
         }
-        Endpoint::Sending(_) | Endpoint::Receiving(_) => WRONG_END,
+        _ => WRONG_END,
     }
 }
 
@@ -227,7 +227,7 @@ pub extern "C" fn h26x_receiver_restart(r: &mut Handle) -> u32
             it.restart();
             OK
         }
-        Endpoint::Sending(_) | Endpoint::Receiving(_) => WRONG_END,
+        _ => WRONG_END,
     }
 }
 
@@ -238,6 +238,6 @@ pub extern "C" fn h26x_receiver_run_len(r: &ConstHandle) -> usize
 {
     match r.get() {
         Endpoint::Sequenced(it) => it.run_len(),
-        Endpoint::Sending(_) | Endpoint::Receiving(_) => 0,
+        _ => 0,
     }
 }

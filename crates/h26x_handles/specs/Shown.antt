@@ -73,14 +73,20 @@ abbrev pub any_depacketizer_parts : AnyDepacketizer → List Part
 any_depacketizer_parts depacketizer = elim (any_depacketizer_shown depacketizer)
     [ None ↦ [] | Some it ↦ payload_parts it ]
 
+-- whether it is a depacketizer or a receiver of packets, whose packets can be shown
+abbrev pub may_show : Endpoint → Bool
+may_show (e.Receiving it) = true
+may_show (e.Sequenced it) = true
+may_show it = false
+
 -- what an endpoint shows
 abbrev pub endpoint_shown : Endpoint → Option H265Payload
-endpoint_shown (e.Sending it) = None
 endpoint_shown (e.Receiving it) = any_depacketizer_shown it.depacketizer
 endpoint_shown (e.Sequenced it) = any_depacketizer_shown it.depacketizer
+endpoint_shown it = None
 
 -- the parts of what an endpoint shows
 abbrev pub endpoint_parts : Endpoint → List Part
-endpoint_parts (e.Sending it) = []
 endpoint_parts (e.Receiving it) = any_depacketizer_parts it.depacketizer
 endpoint_parts (e.Sequenced it) = any_depacketizer_parts it.depacketizer
+endpoint_parts it = []

@@ -64,27 +64,23 @@ after_told_packet is_avc it extra packet = after_packets
 -- the packetizer at an endpoint
 abbrev pub endpoint_packetizer_state : Endpoint → Option PacketizerState
 endpoint_packetizer_state (e.Sending it) = Some (any_packetizer_state it.packetizer)
-endpoint_packetizer_state (e.Receiving it) = None
-endpoint_packetizer_state (e.Sequenced it) = None
+endpoint_packetizer_state it = None
 
 -- the packets of its last call
 abbrev pub endpoint_packets : Endpoint → List (List ℕ)
 endpoint_packets (e.Sending it) = it.packets
-endpoint_packets (e.Receiving it) = []
-endpoint_packets (e.Sequenced it) = []
+endpoint_packets it = []
 
 -- the depacketizer at an endpoint, which writes lengths or start codes as it is told
 abbrev pub endpoint_depacketizer_state : Bool → Endpoint → Option DepacketizerState
-endpoint_depacketizer_state is_avc (e.Sending it) = None
 endpoint_depacketizer_state is_avc (e.Receiving it) =
     Some (told_depacketizer_state is_avc it.depacketizer)
-endpoint_depacketizer_state is_avc (e.Sequenced it) = None
+endpoint_depacketizer_state is_avc it = None
 
 -- the receiver of packets with their sequence numbers at an endpoint
 abbrev pub endpoint_receiver : Endpoint → Option SequencedEndpoint
-endpoint_receiver (e.Sending it) = None
-endpoint_receiver (e.Receiving it) = None
 endpoint_receiver (e.Sequenced it) = Some it
+endpoint_receiver it = None
 
 -- such a receiver before it takes a packet, with what was told so far
 abbrev pub receiver_at_work : SequencedEndpoint → CodecExtra → SequencedDepacketization
@@ -112,27 +108,24 @@ receiver_run_len it = run_len (any_depacketizer_state it.depacketizer).run
 
 -- what the depacketizer of such a receiver is to the definitions
 abbrev pub endpoint_receiver_state : Endpoint → Option DepacketizerState
-endpoint_receiver_state (e.Sending it) = None
-endpoint_receiver_state (e.Receiving it) = None
 endpoint_receiver_state (e.Sequenced it) = Some (any_depacketizer_state it.depacketizer)
+endpoint_receiver_state it = None
 
 -- the number that it expects next, if it took a packet
 abbrev pub endpoint_expected : Endpoint → Option ℕ
-endpoint_expected (e.Sending it) = None
-endpoint_expected (e.Receiving it) = None
 endpoint_expected (e.Sequenced it) = it.expected
+endpoint_expected it = None
 
 -- how many bytes its open run holds
 abbrev pub endpoint_run_len : Endpoint → ℕ
-endpoint_run_len (e.Sending it) = 0
-endpoint_run_len (e.Receiving it) = 0
 endpoint_run_len (e.Sequenced it) = receiver_run_len it
+endpoint_run_len it = 0
 
 -- what the last packet that it took completed, and had no room where it was to be written
 abbrev pub endpoint_written : Endpoint → List ℕ
-endpoint_written (e.Sending it) = []
 endpoint_written (e.Receiving it) = it.written
 endpoint_written (e.Sequenced it) = it.written
+endpoint_written it = []
 
 abbrev pub endpoint_codec : Endpoint → Codec
 endpoint_codec (e.Sending it) = any_packetizer_codec it.packetizer
@@ -141,20 +134,17 @@ endpoint_codec (e.Sequenced it) = any_depacketizer_codec it.depacketizer
 
 abbrev pub is_sending : Endpoint → Bool
 is_sending (e.Sending it) = true
-is_sending (e.Receiving it) = false
-is_sending (e.Sequenced it) = false
+is_sending it = false
 
 -- whether it receives packets without their sequence numbers
 abbrev pub is_receiving : Endpoint → Bool
-is_receiving (e.Sending it) = false
 is_receiving (e.Receiving it) = true
-is_receiving (e.Sequenced it) = false
+is_receiving it = false
 
 -- whether it receives packets with their sequence numbers
 abbrev pub is_sequenced : Endpoint → Bool
-is_sequenced (e.Sending it) = false
-is_sequenced (e.Receiving it) = false
 is_sequenced (e.Sequenced it) = true
+is_sequenced it = false
 
 -- an endpoint without packets, or without what was completed
 abbrev pub endpoint_without_output : Endpoint → Endpoint
@@ -173,54 +163,51 @@ place_packets (Some it) = endpoint_packets it
 
 -- an endpoint whose depacketizer reads numbers or not
 abbrev pub endpoint_with_donl : Bool → Endpoint → Endpoint
-endpoint_with_donl has_donl (e.Sending it) = e.Sending it
 endpoint_with_donl has_donl (e.Receiving it) = e.Receiving (record it {
   depacketizer = any_depacketizer_with_donl has_donl it.depacketizer;
 })
 endpoint_with_donl has_donl (e.Sequenced it) = e.Sequenced (record it {
   depacketizer = any_depacketizer_with_donl has_donl it.depacketizer;
 })
+endpoint_with_donl has_donl it = it
 
 -- an endpoint whose receiver writes units behind lengths or behind start codes
 abbrev pub endpoint_with_avc : Bool → Endpoint → Endpoint
-endpoint_with_avc is_avc (e.Sending it) = e.Sending it
-endpoint_with_avc is_avc (e.Receiving it) = e.Receiving it
 endpoint_with_avc is_avc (e.Sequenced it) = e.Sequenced (record it {
   depacketizer = any_depacketizer_with_avc is_avc it.depacketizer;
 })
+endpoint_with_avc is_avc it = it
 
 -- an endpoint whose depacketizer has no run open
 abbrev pub endpoint_without_run : Endpoint → Endpoint
-endpoint_without_run (e.Sending it) = e.Sending it
 endpoint_without_run (e.Receiving it) = e.Receiving
     (record it { depacketizer = any_depacketizer_with_run None it.depacketizer })
 endpoint_without_run (e.Sequenced it) = e.Sequenced
     (record it { depacketizer = any_depacketizer_with_run None it.depacketizer })
+endpoint_without_run it = it
 
 -- an endpoint whose receiver takes any sequence number as the next, and has no run open
 abbrev pub endpoint_restarted : Endpoint → Endpoint
-endpoint_restarted (e.Sending it) = e.Sending it
-endpoint_restarted (e.Receiving it) = e.Receiving it
 endpoint_restarted (e.Sequenced it) = e.Sequenced (record it {
   depacketizer = any_depacketizer_with_run None it.depacketizer;
   expected = None;
 })
+endpoint_restarted it = it
 
 -- an endpoint whose receiver passes over a number that bears nothing of the stream
 abbrev pub endpoint_after_skip : ℕ → Endpoint → Endpoint
-endpoint_after_skip number (e.Sending it) = e.Sending it
-endpoint_after_skip number (e.Receiving it) = e.Receiving it
 endpoint_after_skip number (e.Sequenced it) = e.Sequenced (receiver_after_skip it number)
+endpoint_after_skip number it = it
 
 -- an endpoint whose depacketizer shows a packet
 abbrev pub endpoint_showing : List ℕ → Endpoint → Endpoint
-endpoint_showing packet (e.Sending it) = e.Sending it
 endpoint_showing packet (e.Receiving it) = e.Receiving (record it {
   depacketizer = any_depacketizer_showing packet it.depacketizer;
 })
 endpoint_showing packet (e.Sequenced it) = e.Sequenced (record it {
   depacketizer = any_depacketizer_showing packet it.depacketizer;
 })
+endpoint_showing packet it = it
 
 -- an endpoint with a new depacketizer
 abbrev pub fresh_receiving_endpoint : Codec → Bool → Endpoint
