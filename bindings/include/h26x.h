@@ -10,11 +10,11 @@
  * `const` before a handle: the call only looks at it, and any number of threads may make such calls of one handle at
  * once while none changes it.
  *
- * What may be NULL: a buffer, which then has length 0 whatever is said to be its length or its room; the pointer to a
- * number that isn't wanted (count, size, written, extra, received, why, number, len, begin, end, profile, level); and
- * the pointer in a handle that is freed, which is then no handle: so set it to {0} and free it in any case. The calls
- * whose names end in _close free a handle and write NULL into it; they are functions of this header over _free, and no
- * exports.
+ * What may be NULL: a buffer, which then has length 0 whatever is said to be its length or its room; the pointer to
+ * what isn't wanted (count, size, written, extra, received, pushed, behind, unit, counts, at, why, number, len, begin,
+ * end, profile, level); and the pointer in a handle that is freed, which is then no handle: so set it to {0} and free it
+ * in any case. The calls whose names end in _close free a handle and write NULL into it; they are functions of this
+ * header over _free, and no exports.
  *
  * What a caller owes, since nothing checks it:
  * - a handle is one that a _new or _clone wrote, and was not freed since;
@@ -93,10 +93,11 @@ enum h26x_code {
     H26X_AVC_UNIT_TOO_LONG = 7,       /* behind lengths: a unit of over 4,294,967,295 bytes */
     H26X_OUT_OF_MEMORY = 8,
     H26X_UNKNOWN_CODEC = 9,
-    H26X_WRONG_END = 10,              /* a packetizer, a depacketizer or a receiver where another of these is wanted */
+    H26X_WRONG_END = 10,              /* a handle of one kind where another is wanted */
     H26X_NOT_OF_THIS_CODEC = 11,      /* decoding order numbers or a largest size for H.264 */
-    H26X_OUT_OF_RANGE = 12,           /* a largest size under 4 */
-    H26X_NO_ROOM = 13                 /* packets, or their ends, don't fit in the caller's memory */
+    H26X_OUT_OF_RANGE = 12,           /* a largest size under 4, a window of 0 or over 16384 */
+    H26X_NO_ROOM = 13,                /* what is to be written doesn't fit in the caller's memory */
+    H26X_NOTHING_YET = 14             /* no access unit has ended */
 };
 
 /* A code in words, without a full stop; never NULL. */
@@ -353,6 +354,128 @@ H26X_API uint32_t h26x_receiver_restart(h26x_receiver *r);
 /* How many bytes of data the open unit holds, up to the limit; 0 where none is open, and for a handle of another
  * kind. */
 H26X_API size_t h26x_receiver_run_len(const h26x_receiver *r);
+
+/* ---- Receiving access units, of packets as a network brings them ---- */
+
+/* Packets wait for those before them by their numbers, and go into a receiver in order; what it writes between two
+ * markers, or of one timestamp, is an access unit. So packets may be lost, come twice and in any order. */
+typedef struct { void *at; } h26x_access_units;
+
+/* What a caller sets. Ticks are his own: `now` in the calls below, max_wait and the deadline are in them. They go round
+ * at 2^32, and never back. */
+typedef struct {
+    uint32_t codec;
+    uint32_t max_wait;    /* a missing packet is waited for so long at most after one behind it came; UINT32_MAX: by the
+                           * window alone */
+    uint16_t window;      /* it is waited for until one came so many places, less one, ahead of it; 1 to 16384 */
+    uint16_t far_away;    /* a number so far or farther from the one that is due, ahead or behind, waits alone until the
+                           * next such number follows it, and then the stream begins anew with both (RFC 3550, A.1, has
+                           * 3000); 0: none is too far, and one behind is late */
+    bool numbers;         /* packets bear decoding order numbers (H.265 and H.266) */
+    bool avc;             /* units are written behind lengths of four bytes, else behind 00 00 00 01 */
+    size_t held_limit;    /* bytes of payloads that may wait; past that none is waited for */
+    size_t run_limit;     /* bytes of data that an open unit may hold from a packet to the next */
+    size_t unit_limit;    /* bytes that an open access unit may hold from a packet to the next */
+} h26x_access_units_config;
+
+/* What became of a packet that was given. */
+enum h26x_pushed {
+    H26X_HELD = 0,        /* it waits for those before it, or to be taken */
+    H26X_PUSHED_LATE = 1, /* dropped: *behind is how far it is behind the one that is due; of all others *behind is 0 */
+    H26X_TWICE = 2,       /* dropped: a packet with its number waits */
+    H26X_FULL = 3,        /* dropped: more than held_limit bytes wait. Take access units, and give it again */
+    H26X_STRAY = 4,       /* it waits alone, in the place of another such packet */
+    H26X_ANEW = 5         /* it follows the one that waited alone: the stream begins anew, and what waited of the old
+                           * numbers is dropped */
+};
+
+/* What is told of an access unit. */
+typedef struct {
+    size_t len;           /* its bytes */
+    uint32_t timestamp;   /* of its packets */
+    uint32_t missing;     /* how many numbers are missing between the access unit before and its end */
+    uint16_t first, last; /* the numbers of the first packet that came of it and of the last */
+    uint8_t extra;        /* 0 nothing told, 1 units but none of a keyframe, 2 a keyframe among them */
+    bool is_whole;        /* it is known that nothing of it is missing */
+    bool is_clean;        /* nor is anything since a keyframe of which nothing is: a decoder that began there goes on.
+                           * False: ask the sender for a keyframe */
+    bool continues;       /* a marker ended one of its timestamp right before it, as where a peer sets the marker on each
+                           * slice */
+} h26x_access_unit;
+
+/* What was counted since it was made. Each count stays at 2^64 - 1. */
+typedef struct {
+    uint64_t taken;          /* packets that were taken, and not refused */
+    uint64_t lost;           /* numbers that are missing before packets that were taken or numbers that were skipped */
+    uint64_t late;           /* packets that came after their place was passed */
+    uint64_t twice;          /* packets that came while one with their number waited */
+    uint64_t stray;          /* packets whose number was too far from the one that was due */
+    uint64_t refused;        /* packets that were refused for what they are */
+    uint64_t skipped;        /* numbers that came and bear nothing */
+    uint64_t anew;           /* how often the stream began anew */
+    uint64_t units;          /* access units that were given out */
+    uint64_t whole;          /* those of them that are known to be whole */
+    uint64_t units_given_up; /* NAL units that were longer than run_limit */
+} h26x_access_units_counts;
+
+/* A receiver of access units that takes any number as the first. H26X_UNKNOWN_CODEC, H26X_NOT_OF_THIS_CODEC (numbers for
+ * H.264), H26X_OUT_OF_RANGE (a window of 0 or over 16384), H26X_OUT_OF_MEMORY. */
+H26X_API uint32_t h26x_access_units_new(const h26x_access_units_config *config, h26x_access_units *made) H26X_MUST_USE;
+
+/* Frees it with all that waits. A handle of NULL is nothing to be freed. */
+H26X_API void h26x_access_units_free(h26x_access_units u);
+
+/* The same, and writes NULL into the handle, so that it may be closed again. A pointer of NULL is nothing to be freed
+ * either. */
+static inline void h26x_access_units_close(h26x_access_units *u)
+{
+    if (u != NULL) {
+        const h26x_access_units it = *u;
+        u->at = NULL;
+        h26x_access_units_free(it);
+    }
+}
+
+/* Takes a packet that came at this tick, and copies it where it waits; *pushed and *behind tell what became of it. One
+ * without a payload came and bears nothing, as h26x_access_units_skip has it. Then call h26x_access_units_next until it
+ * has none. H26X_OUT_OF_MEMORY changes nothing, so the packet can be given again; H26X_WRONG_END. Both leave *pushed and
+ * *behind. */
+H26X_API uint32_t h26x_access_units_push(h26x_access_units *u, uint32_t now, uint16_t sequence, uint32_t timestamp,
+                                         bool marker, const uint8_t *payload, size_t payload_len, uint32_t *pushed,
+                                         uint16_t *behind) H26X_MUST_USE;
+
+/* Passes over a number that came and bears nothing of the stream: padding alone, as congestion control sends it, forward
+ * error correction, another payload type. So it isn't missing. The answers are those of h26x_access_units_push. */
+H26X_API uint32_t h26x_access_units_skip(h26x_access_units *u, uint32_t now, uint16_t sequence, uint32_t *pushed,
+                                         uint16_t *behind) H26X_MUST_USE;
+
+/* The next access unit, if one has ended at this tick: its bytes to the front of `to`, and *unit. H26X_NOTHING_YET where
+ * none has. H26X_NO_ROOM where it doesn't fit in `room` bytes: *unit is told, `to` is left, and the access unit is kept
+ * for the next call. H26X_OUT_OF_MEMORY: the packet for which memory lacks is due still, and nothing is lost.
+ * H26X_WRONG_END. Packets that are refused are passed over and counted. All but H26X_OK and H26X_NO_ROOM leave *unit. */
+H26X_API uint32_t h26x_access_units_next(h26x_access_units *u, uint32_t now, uint8_t *to, size_t room,
+                                         h26x_access_unit *unit) H26X_MUST_USE;
+
+/* Whether packets wait and there is a max_wait; *at is then the tick at which to call h26x_access_units_next at the
+ * latest, and else left. False for a handle of another kind. */
+H26X_API bool h26x_access_units_deadline(const h26x_access_units *u, uint32_t *at);
+
+/* The numbers that are missing before packets that wait, in order: those to ask the sender for again (NACK; RFC 4585,
+ * 6.2.1). *count is how many they are, and the first ones go to the front of `numbers`, up to `numbers_room` of them; the
+ * rest of it is left. H26X_OUT_OF_MEMORY and H26X_WRONG_END write 0 to *count and leave `numbers`. */
+H26X_API uint32_t h26x_access_units_missing(const h26x_access_units *u, uint16_t *numbers, size_t numbers_room,
+                                            size_t *count) H26X_MUST_USE;
+
+/* At the end of a stream: all that waits is due, and once it was taken the open access unit ends, not known to be whole.
+ * h26x_access_units_next gives all of it, and then any number is the next. H26X_WRONG_END. */
+H26X_API uint32_t h26x_access_units_finish(h26x_access_units *u);
+
+/* For another sender (SSRC): drops all that waits or is open, and takes any number as the next. An access unit that had
+ * no room, and what was counted, stay. H26X_WRONG_END. */
+H26X_API uint32_t h26x_access_units_restart(h26x_access_units *u);
+
+/* What was counted. H26X_WRONG_END leaves *counts. */
+H26X_API uint32_t h26x_access_units_count(const h26x_access_units *u, h26x_access_units_counts *counts);
 
 /* ---- The packets that a depacketizer or a receiver of H.265 shows ---- */
 
