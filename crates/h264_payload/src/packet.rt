@@ -6,6 +6,7 @@ ghost use Rattle.h26x_model.specs.Payload.Reading.{Refused};
 ghost use Rattle.h26x_payload.specs.DepacketizerView.{IsReadAs};
 ghost use Rattle.h264_payload.specs.H264.{h264, reference_bits, stap_units};
 
+use crate::laws;
 use crate::packetizer::H264;
 use crate::stap::check_stap;
 use h26x_core::{
@@ -57,6 +58,10 @@ impl PacketReader for H264 {
 
     fn is_last(self, marker: bool, _packet: &[u8]) -> bool {
         marker
+    }
+
+    fn format_meets_the_facts() {
+        laws::meets_the_facts();
     }
 }
 

@@ -12,6 +12,7 @@ ghost use Rattle.h265_payload.specs.Packet.{IsShownBy};
 ghost use Rattle.h265_payload.specs.Shown.{units_in};
 
 use crate::aggregate::check_aggregate;
+use crate::laws;
 use crate::packetizer::{H265, header_of};
 use h26x_core::{H265FragmentationUnitHeader, H265NALUHeader, PacketError};
 use h26x_payload::{Fragment, PacketReader, Parts, ends_access_unit, may_begin_access_unit};
@@ -68,6 +69,10 @@ impl PacketReader for H265 {
 
     fn is_last(self, marker: bool, packet: &[u8]) -> bool {
         ends_access_unit(is_fragment(packet), marker, packet)
+    }
+
+    fn format_meets_the_facts() {
+        laws::meets_the_facts();
     }
 }
 

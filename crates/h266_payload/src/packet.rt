@@ -10,6 +10,7 @@ ghost use Rattle.h266_payload.specs.H266.{h266_header, h266, has_packet_type};
 ghost use Rattle.h266_payload.specs.Packet.{aggregate_units, rest_behind_donl};
 
 use crate::aggregate::check_aggregate;
+use crate::laws;
 use crate::packetizer::{H266, header_of, with_type};
 use h26x_core::{H266FragmentationUnitHeader, PacketError};
 use h26x_payload::{Fragment, PacketReader, Parts, ends_access_unit, may_begin_access_unit};
@@ -82,6 +83,10 @@ impl PacketReader for H266 {
 
     fn is_last(self, marker: bool, packet: &[u8]) -> bool {
         ends_access_unit(is_fragment(packet), marker, packet)
+    }
+
+    fn format_meets_the_facts() {
+        laws::meets_the_facts();
     }
 }
 

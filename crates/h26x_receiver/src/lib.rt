@@ -26,5 +26,5 @@ pub use any::AnyDepacketizer;
 pub use any_payload::AnyPayloadDepacketizer;
 pub use delivery::receive_all;
 pub use received::Received;
-pub use run::{LawfulReader, RunDepacketizer, take_run};
+pub use run::{RunDepacketizer, take_run};
 pub use sequenced::SequencedDepacketizer;

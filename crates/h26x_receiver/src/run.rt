@@ -12,9 +12,7 @@ ghost use Rattle.h265_payload.specs.Shown.{shown};
 
 use h26x_core::{CodecExtra, Depacketizer, PacketError};
 use h26x_payload::{OpenRun, OpenText, PacketReader, PayloadDepacketizer, RunRule, UnitSink};
-use h264_payload::H264;
-use h265_payload::{H265, H265Depacketizer};
-use h266_payload::H266;
+use h265_payload::H265Depacketizer;
 use std::alloc::Global;
 
 /// A depacketizer whose open run may be measured, exchanged and given up: those of the codecs, and a
@@ -121,33 +119,7 @@ pub fn take_run<D: RunDepacketizer>(alloc: Global, depacketizer: &mut D) -> Open
     run
 }
 
-/// A codec whose format meets the facts on which the laws of every format stand, whatever its
-/// setting.
-pub trait LawfulReader: PacketReader {
-    /// A law.
-    fn format_meets_the_facts()
-        ensures { (codec : Self) → IsPayloadFormat (Self.format codec) };
-}
-
-impl LawfulReader for H264 {
-    fn format_meets_the_facts() {
-        h264_payload::laws::meets_the_facts();
-    }
-}
-
-impl LawfulReader for H265 {
-    fn format_meets_the_facts() {
-        h265_payload::laws::meets_the_facts();
-    }
-}
-
-impl LawfulReader for H266 {
-    fn format_meets_the_facts() {
-        h266_payload::laws::meets_the_facts();
-    }
-}
-
-impl<C: LawfulReader> RunDepacketizer for PayloadDepacketizer<C> {
+impl<C: PacketReader> RunDepacketizer for PayloadDepacketizer<C> {
     ghost state = { λ it. depacketizer_state (C.format it.codec) it };
 
     ghost with_run = { λ run it. record it { run = run } };

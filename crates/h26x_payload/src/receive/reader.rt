@@ -1,6 +1,7 @@
 //! How one codec's packets are read.
 
 ghost use Rattle.std.specs.Prelude.{◌≡◌, ℕ, Bool, List, IfOk, IfErr};
+ghost use Rattle.h26x_model.specs.Payload.Facts.{IsPayloadFormat};
 ghost use Rattle.h26x_model.specs.Payload.Reading.{Refused};
 ghost use Rattle.h26x_payload.specs.DepacketizerView.{IsReadAs};
 
@@ -28,4 +29,8 @@ pub trait PacketReader: Aggregate {
     /// Whether a packet is the last of an access unit, with the marker bit of its RTP packet given.
     fn is_last(self, marker: bool, packet: &[u8]) -> bool
         ensures { result ≡ ends self marker packet.now };
+
+    /// A law: whatever the setting, the format meets the facts on which the laws of every format stand.
+    fn format_meets_the_facts()
+        ensures { (codec : Self) → IsPayloadFormat (Self.format codec) };
 }

@@ -6,9 +6,7 @@ use crate::proved::h26x_core::{CodecExtra, Depacketizer, PacketError};
 use crate::proved::h26x_payload::{
     OpenRun, OpenText, PacketReader, PayloadDepacketizer, RunRule, UnitSink,
 };
-use crate::proved::h264_payload::H264;
-use crate::proved::h265_payload::{H265, H265Depacketizer};
-use crate::proved::h266_payload::H266;
+use crate::proved::h265_payload::H265Depacketizer;
 
 /// A depacketizer whose open run may be measured, exchanged and given up: those of the codecs, and a
 /// caller's own that implements this.
@@ -56,17 +54,7 @@ pub fn take_run<D: RunDepacketizer>(depacketizer: &mut D) -> OpenRun {
     run
 }
 
-/// A codec whose format meets the facts on which the laws of every format stand, whatever its
-/// setting.
-pub trait LawfulReader: PacketReader {}
-
-impl LawfulReader for H264 {}
-
-impl LawfulReader for H265 {}
-
-impl LawfulReader for H266 {}
-
-impl<C: LawfulReader> RunDepacketizer for PayloadDepacketizer<C> {
+impl<C: PacketReader> RunDepacketizer for PayloadDepacketizer<C> {
     fn run_len(&self) -> usize {
         self.run_len()
     }

@@ -30,7 +30,7 @@ pub fn h26x_depacketizer_new(codec: u32, numbers: bool, made: &mut MaybeUninit<P
 pub fn h26x_depacketizer_clone(d: &ConstHandle, made: &mut MaybeUninit<Place>) -> u32 {
     let copy = match d.get() {
         Endpoint::Receiving(it) => it.try_clone(),
-        Endpoint::Sending(_) | Endpoint::Sequenced(_) => return WRONG_END,
+        _ => return WRONG_END,
     };
     match copy {
         Ok(copy) => put(Endpoint::Receiving(copy), made),
@@ -61,7 +61,7 @@ pub fn h26x_depacketizer_set_numbers(d: &mut Handle, numbers: bool) -> u32 {
             it.depacketizer.with_donl(numbers);
             OK
         }
-        Endpoint::Sending(_) | Endpoint::Sequenced(_) => WRONG_END,
+        _ => WRONG_END,
     }
 }
 
@@ -97,7 +97,7 @@ pub fn h26x_written_copy(d: &ConstHandle, to: &mut [u8]) -> usize {
     match d.get() {
         Endpoint::Receiving(it) => copy_where_room(it.written(), to),
         Endpoint::Sequenced(it) => copy_where_room(it.written(), to),
-        Endpoint::Sending(_) => copy_where_room(&[], to),
+        _ => copy_where_room(&[], to),
     }
 }
 
@@ -108,6 +108,6 @@ pub fn h26x_give_up_run(d: &mut Handle) -> u32 {
             it.depacketizer.give_up_run();
             OK
         }
-        Endpoint::Sending(_) | Endpoint::Sequenced(_) => WRONG_END,
+        _ => WRONG_END,
     }
 }

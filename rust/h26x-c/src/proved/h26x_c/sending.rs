@@ -29,7 +29,7 @@ pub fn h26x_packetizer_new(codec: u32, numbers: bool, made: &mut MaybeUninit<Pla
 pub fn h26x_packetizer_clone(p: &ConstHandle, made: &mut MaybeUninit<Place>) -> u32 {
     let copy = match p.get() {
         Endpoint::Sending(it) => it.try_clone(),
-        Endpoint::Receiving(_) | Endpoint::Sequenced(_) => return WRONG_END,
+        _ => return WRONG_END,
     };
     match copy {
         Ok(copy) => put(Endpoint::Sending(copy), made),
@@ -52,7 +52,7 @@ pub fn h26x_packetizer_set_numbers(p: &mut Handle, numbers: bool) -> u32 {
             it.packetizer.with_donl(numbers);
             OK
         }
-        Endpoint::Receiving(_) | Endpoint::Sequenced(_) => WRONG_END,
+        _ => WRONG_END,
     }
 }
 
@@ -69,7 +69,7 @@ pub fn h26x_packetizer_set_max_size(p: &mut Handle, bytes: u16) -> u32 {
             it.packetizer.with_max_packet_size(bytes);
             OK
         }
-        Endpoint::Receiving(_) | Endpoint::Sequenced(_) => WRONG_END,
+        _ => WRONG_END,
     }
 }
 
@@ -89,7 +89,7 @@ pub fn h26x_packetize(
                 Err(_) => OUT_OF_MEMORY,
             }
         }
-        Endpoint::Receiving(_) | Endpoint::Sequenced(_) => {
+        _ => {
             count.write(0);
             WRONG_END
         }
@@ -113,7 +113,7 @@ pub fn h26x_packetize_unit(
                 Err(_) => OUT_OF_MEMORY,
             }
         }
-        Endpoint::Receiving(_) | Endpoint::Sequenced(_) => {
+        _ => {
             count.write(0);
             WRONG_END
         }
@@ -134,7 +134,7 @@ pub fn h26x_packets_size(
     size.write(0);
     let made = match p.get() {
         Endpoint::Sending(it) => it.packetizer.packets_size(mtu, payload, headroom),
-        Endpoint::Receiving(_) | Endpoint::Sequenced(_) => return WRONG_END,
+        _ => return WRONG_END,
     };
     match made {
         Ok(taken) => {
@@ -165,7 +165,7 @@ pub fn h26x_packetize_into(
                 .packetize_to_memory(mtu, payload, headroom, to, ends);
             code_of_placement(made, count, size)
         }
-        Endpoint::Receiving(_) | Endpoint::Sequenced(_) => {
+        _ => {
             count.write(0);
             size.write(0);
             WRONG_END
@@ -191,7 +191,7 @@ pub fn h26x_packetize_unit_into(
                 .packetize_unit_to_memory(mtu, unit, headroom, to, ends);
             code_of_placement(made, count, size)
         }
-        Endpoint::Receiving(_) | Endpoint::Sequenced(_) => {
+        _ => {
             count.write(0);
             size.write(0);
             WRONG_END
@@ -203,7 +203,7 @@ pub fn h26x_packetize_unit_into(
 pub fn h26x_packet_count(p: &ConstHandle) -> usize {
     match p.get() {
         Endpoint::Sending(it) => it.count(),
-        Endpoint::Receiving(_) | Endpoint::Sequenced(_) => 0,
+        _ => 0,
     }
 }
 
@@ -211,7 +211,7 @@ pub fn h26x_packet_count(p: &ConstHandle) -> usize {
 pub fn h26x_packet_len(p: &ConstHandle, i: usize) -> usize {
     match p.get() {
         Endpoint::Sending(it) => it.packet(i).len(),
-        Endpoint::Receiving(_) | Endpoint::Sequenced(_) => 0,
+        _ => 0,
     }
 }
 
@@ -219,7 +219,7 @@ pub fn h26x_packet_len(p: &ConstHandle, i: usize) -> usize {
 pub fn h26x_packets_len(p: &ConstHandle) -> usize {
     match p.get() {
         Endpoint::Sending(it) => it.bytes_len(),
-        Endpoint::Receiving(_) | Endpoint::Sequenced(_) => 0,
+        _ => 0,
     }
 }
 
@@ -227,7 +227,7 @@ pub fn h26x_packets_len(p: &ConstHandle) -> usize {
 pub fn h26x_packet_copy(p: &ConstHandle, i: usize, to: &mut [u8]) -> usize {
     match p.get() {
         Endpoint::Sending(it) => copy_where_room(it.packet(i), to),
-        Endpoint::Receiving(_) | Endpoint::Sequenced(_) => copy_where_room(&[], to),
+        _ => copy_where_room(&[], to),
     }
 }
 
@@ -241,6 +241,6 @@ pub fn h26x_packets_copy(
 ) -> usize {
     match p.get() {
         Endpoint::Sending(it) => it.copy_packets(first, to, ends),
-        Endpoint::Receiving(_) | Endpoint::Sequenced(_) => 0,
+        _ => 0,
     }
 }

@@ -34,7 +34,7 @@ pub fn h26x_receiver_new(
 pub fn h26x_receiver_clone(r: &ConstHandle, made: &mut MaybeUninit<Place>) -> u32 {
     let copy = match r.get() {
         Endpoint::Sequenced(it) => it.try_clone(),
-        Endpoint::Sending(_) | Endpoint::Receiving(_) => return WRONG_END,
+        _ => return WRONG_END,
     };
     match copy {
         Ok(copy) => put(Endpoint::Sequenced(copy), made),
@@ -57,7 +57,7 @@ pub fn h26x_receiver_set_numbers(r: &mut Handle, numbers: bool) -> u32 {
             it.with_donl(numbers);
             OK
         }
-        Endpoint::Sending(_) | Endpoint::Receiving(_) => WRONG_END,
+        _ => WRONG_END,
     }
 }
 
@@ -68,7 +68,7 @@ pub fn h26x_receiver_set_avc(r: &mut Handle, is_avc: bool) -> u32 {
             it.with_avc(is_avc);
             OK
         }
-        Endpoint::Sending(_) | Endpoint::Receiving(_) => WRONG_END,
+        _ => WRONG_END,
     }
 }
 
@@ -121,7 +121,7 @@ pub fn h26x_receiver_skip(
             }
             OK
         }
-        Endpoint::Sending(_) | Endpoint::Receiving(_) => WRONG_END,
+        _ => WRONG_END,
     }
 }
 
@@ -132,7 +132,7 @@ pub fn h26x_receiver_restart(r: &mut Handle) -> u32 {
             it.restart();
             OK
         }
-        Endpoint::Sending(_) | Endpoint::Receiving(_) => WRONG_END,
+        _ => WRONG_END,
     }
 }
 
@@ -140,6 +140,6 @@ pub fn h26x_receiver_restart(r: &mut Handle) -> u32 {
 pub fn h26x_receiver_run_len(r: &ConstHandle) -> usize {
     match r.get() {
         Endpoint::Sequenced(it) => it.run_len(),
-        Endpoint::Sending(_) | Endpoint::Receiving(_) => 0,
+        _ => 0,
     }
 }

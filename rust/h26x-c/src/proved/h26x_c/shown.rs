@@ -28,7 +28,7 @@ pub fn h26x_h265_shown(d: &ConstHandle, shown: &mut MaybeUninit<Shown>) -> u32 {
     match d.get() {
         Endpoint::Receiving(it) => show(&it.depacketizer, shown),
         Endpoint::Sequenced(it) => show(it.depacketizer(), shown),
-        Endpoint::Sending(_) => WRONG_END,
+        _ => WRONG_END,
     }
 }
 
@@ -54,7 +54,7 @@ pub fn h26x_h265_part_copy(
     match d.get() {
         Endpoint::Receiving(it) => copy_part(shown_part(&it.depacketizer, i), to, number),
         Endpoint::Sequenced(it) => copy_part(shown_part(it.depacketizer(), i), to, number),
-        Endpoint::Sending(_) => copy_part(Part::part_without_don(&[]), to, number),
+        _ => copy_part(Part::part_without_don(&[]), to, number),
     }
 }
 

@@ -1,4 +1,0 @@
-use Rattle.h26x_receiver.proofs.run.H266LawfulReader.format_meets_the_facts.Goals as goal
-
-pub returns : goal.returns
-returns c = λ codec. c.meets_the_facts.ensures codec.has_donl
