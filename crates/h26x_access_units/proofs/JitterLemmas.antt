@@ -5,8 +5,8 @@ use Rattle.std.proofs.lemmas.Bool.Decides.{nat_tests}
 use Rattle.h26x_receiver.specs.Sequence.{distance_ahead, is_late}
 use Rattle.h26x_frames.specs.Rtp.{RtpBody}
 use Rattle.h26x_frames.specs.ReorderBuffer.{BufferState, due_at, put_packet, is_number_held, push_answer, after_push}
-use Rattle.h26x_frames.specs.declared.buffer.Pushed.{Pushed}
-use Rattle.h26x_frames.specs.declared.buffer.Pushed.TheVariants as pushes
+use Rattle.h26x_frames.specs.declared.pushed.Pushed.{Pushed}
+use Rattle.h26x_frames.specs.declared.pushed.Pushed.TheVariants as pushes
 use Rattle.h26x_access_units.specs.JitterBuffer.{held_bytes}
 
 -- a packet whose number is not held adds its bytes

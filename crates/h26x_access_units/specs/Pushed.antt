@@ -1,7 +1,7 @@
 -- What becomes of packets that are given to a receiver (ours).
 use Rattle.std.specs.Prelude.{◌≡◌, ◌⊎◌}
-use Rattle.h26x_frames.specs.declared.buffer.Pushed.{Pushed}
-use Rattle.h26x_frames.specs.declared.buffer.Pushed.TheVariants as frames
+use Rattle.h26x_frames.specs.declared.pushed.Pushed.{Pushed}
+use Rattle.h26x_frames.specs.declared.pushed.Pushed.TheVariants as frames
 use Rattle.h26x_frames.specs.declared.buffer.NotHeldReason.{NotHeldReason}
 use Rattle.h26x_frames.specs.declared.buffer.NotHeldReason.TheVariants as held
 use Rattle.h26x_access_units.specs.declared.pushed.Pushed as own

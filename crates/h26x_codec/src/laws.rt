@@ -20,6 +20,7 @@ ghost use Rattle.h26x_codec.specs.Repeating.{zero_rule};
 
 use crate::codec::Codec;
 use crate::depacketizer::CodecDepacketizer;
+use crate::formats::formats_meet_the_facts;
 use crate::packetizer::CodecPacketizer;
 use h26x_payload::packetizer_states as payload_packetizer_states;
 
@@ -61,16 +62,6 @@ pub fn depacketizer_states(depacketizer: &CodecDepacketizer)
         CodecDepacketizer::H266(_) => h266_payload::laws::meets_the_facts(),
         CodecDepacketizer::Boxed(_) => {}
     }
-}
-
-/// The format of each codec meets the facts on which the laws of every format stand, with decoding
-/// order numbers and without.
-pub fn formats_meet_the_facts()
-    ensures { (codec : Codec) (has_donl : Bool) → IsPayloadFormat (codec_format codec has_donl) }
-{
-    h264_payload::laws::meets_the_facts();
-    h265_payload::laws::meets_the_facts();
-    h266_payload::laws::meets_the_facts();
 }
 
 /// What was sent at one limit, with nothing dropped for its size, is sent again.

@@ -19,6 +19,7 @@ mod carried;
 mod cases;
 mod codec;
 mod depacketizer;
+pub mod formats;
 pub mod laws;
 mod packetizer;
 mod plain;

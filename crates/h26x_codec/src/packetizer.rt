@@ -16,7 +16,7 @@ ghost use Rattle.h26x_payload.specs.PacketizerView.{packetizer_state};
 ghost use Rattle.h26x_model.specs.Send.PacketizerState.{packetizer_meaning};
 
 use crate::codec::Codec;
-use crate::laws::formats_meet_the_facts;
+use crate::formats::formats_meet_the_facts;
 use h26x_core::{PacketError, Packetizer};
 use h26x_payload::PacketBuffer;
 use h264_payload::H264Packetizer;

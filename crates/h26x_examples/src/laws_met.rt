@@ -45,7 +45,7 @@ ghost use Rattle.h26x_frames.specs.Reordering.{IsReordered, in_order};
 ghost use Rattle.h26x_frames.specs.Rtp.{RtpBody};
 ghost use Rattle.h26x_frames.specs.StampedCalls.{StampedCall, AreStreamed, AreApart, AreUnitsWithin, AreUnitsGiven, brought_mask, IsBroughtStream, IsStream, IsSentIfWhole, call_packets, packets_len, sent_bodies, sent_unit, sent_units, unit_left, units_left};
 
-use h26x_codec::laws::formats_meet_the_facts;
+use h26x_codec::formats::formats_meet_the_facts;
 
 /// No packet of a plan is longer than the limit of the call that sends it.
 pub fn packets_within_limits()

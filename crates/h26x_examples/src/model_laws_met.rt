@@ -24,7 +24,7 @@ ghost use Rattle.h266_payload.specs.AggregateHeader.{IsHeadedBySets};
 ghost use Rattle.h26x_codec.specs.Codec.{codec_format};
 ghost use Rattle.h26x_codec.specs.declared.codec.Codec.{Codec};
 
-use h26x_codec::laws::formats_meet_the_facts;
+use h26x_codec::formats::formats_meet_the_facts;
 
 /// Entries are groups and a rest, and are so in one way.
 pub fn groups_of_entries()

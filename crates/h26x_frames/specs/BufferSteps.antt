@@ -1,8 +1,8 @@
 -- What a buffer of packets gives out, whatever comes and whoever takes out (ours).
 use Rattle.std.specs.Prelude.{◌≡◌, ℕ, ◌^◌, ◌<◌, Bool, true, false, if◌then◌else◌, List, [], ◌∷◌, ◌++◌, IsPermutation}
 use Rattle.h26x_receiver.specs.Sequence.{next_sequence_number, distance_ahead}
-use Rattle.h26x_frames.specs.declared.buffer.Pushed.{Pushed}
-use Rattle.h26x_frames.specs.declared.buffer.Pushed.TheVariants as pushes
+use Rattle.h26x_frames.specs.declared.pushed.Pushed.{Pushed}
+use Rattle.h26x_frames.specs.declared.pushed.Pushed.TheVariants as pushes
 use Rattle.h26x_frames.specs.Rtp.{RtpBody}
 use Rattle.h26x_frames.specs.ReorderBuffer.{BufferState, push_answer, after_push, without_first}
 

@@ -5,8 +5,8 @@ use Rattle.h26x_receiver.specs.Sequence.{next_sequence_number, distance_ahead, d
 use Rattle.h26x_frames.specs.Reordering.{in_order, IsReordered}
 use Rattle.h26x_frames.specs.Rtp.{RtpBody, rtp_body}
 use Rattle.h26x_frames.specs.declared.buffer.HeldPacket.{HeldPacket}
-use Rattle.h26x_frames.specs.declared.buffer.Pushed.{Pushed}
-use Rattle.h26x_frames.specs.declared.buffer.Pushed.TheVariants as pushes
+use Rattle.h26x_frames.specs.declared.pushed.Pushed.{Pushed}
+use Rattle.h26x_frames.specs.declared.pushed.Pushed.TheVariants as pushes
 use Rattle.h26x_frames.specs.declared.buffer.NotHeldReason.{NotHeldReason}
 use Rattle.h26x_frames.specs.declared.buffer.NotHeldReason.TheVariants as reasons
 

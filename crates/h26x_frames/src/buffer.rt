@@ -8,6 +8,7 @@ ghost use Rattle.h26x_frames.specs.ReorderBuffer as spec;
 
 use crate::order::NumberOrder;
 use crate::packet::RtpPacket;
+use crate::pushed::Pushed;
 use std::alloc::{AllocError, Global};
 use std::marker::Model;
 
@@ -76,19 +77,6 @@ impl HeldPacket {
             payload: &self.payload,
         }
     }
-}
-
-/// What became of a packet that was given to a buffer.
-#[derive(Debug, Clone, Copy, PartialEq, Eq)]
-pub enum Pushed {
-    /// It is held, until those before it have come or the window has passed.
-    Held,
-
-    /// It is not held: its number is so far behind the one that is due.
-    Late(u16),
-
-    /// It is not held: a packet with its number is.
-    Twice,
 }
 
 /// Why a packet that was given to a buffer by value isn't held.

@@ -16,7 +16,7 @@ ghost use Rattle.h26x_frames.specs.AccessUnit.{AccessUnitValue, empty_unit, unit
 ghost use Rattle.h26x_frames.specs.AnyUnits.{any_units_left};
 ghost use Rattle.h26x_frames.specs.StampedCalls.{stamped_call, call_packets, sent_bodies, unit_left, units_left, sent_unit, sent_units, packets_len, AreApart, AreUnitsWithin, IsGivenOut, IsStream, IsBroughtStream, IsSentIfWhole, AreAccessUnitsLeft};
 
-use crate::buffer::Pushed;
+use crate::pushed::Pushed;
 use h26x_receiver::Received;
 
 /// Places that come in another order, one of them twice.

@@ -12,13 +12,15 @@ mod numbered;
 mod order;
 mod packet;
 mod parted;
+mod pushed;
 mod receiver;
 mod reorder;
 mod spare;
 
 pub use access_unit::{AccessUnit, OpenAccessUnit};
-pub use buffer::{HeldPacket, NotHeld, NotHeldReason, Pushed, ReorderBuffer};
+pub use buffer::{HeldPacket, NotHeld, NotHeldReason, ReorderBuffer};
 pub use frames::receive_frames;
 pub use packet::RtpPacket;
+pub use pushed::Pushed;
 pub use receiver::FrameReceiver;
 pub use reorder::reorder_all;

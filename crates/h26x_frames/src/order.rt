@@ -7,9 +7,9 @@ ghost use Rattle.h26x_frames.specs.Rtp.{RtpBody};
 ghost use Rattle.h26x_frames.specs.NumberOrder.{IsPlaceAmong, IsPlaceOf};
 ghost use Rattle.h26x_frames.specs.ReorderBuffer.{fresh_buffer, is_number_held, push_answer, after_push, next_packet, without_first, AreHeldInOrder};
 
-use crate::buffer::Pushed;
 use crate::numbered::Numbered;
 use crate::parted::Parted;
+use crate::pushed::Pushed;
 use std::alloc::{AllocFailed, Global};
 use std::marker::Model;
 

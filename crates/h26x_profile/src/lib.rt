@@ -11,6 +11,7 @@
 mod bit_pattern;
 mod fmtp;
 mod h264;
+mod h264_profile_level;
 mod h265;
 mod h266;
 pub mod laws;
@@ -19,7 +20,8 @@ mod profile_tier_level;
 mod table;
 
 pub use bit_pattern::BitPattern;
-pub use h264::{H264LevelIdc, H264Profile, H264ProfileIdc, H264ProfileLevel};
+pub use h264::{H264LevelIdc, H264Profile, H264ProfileIdc};
+pub use h264_profile_level::H264ProfileLevel;
 pub use h265::{H265Level, H265Profile, H265ProfileTierLevel, H265Tier};
 pub use h266::{H266Level, H266Profile, H266ProfileTierLevel, H266Tier};
 pub use numbered::Numbered;

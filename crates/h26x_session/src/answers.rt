@@ -4,7 +4,7 @@ ghost use Rattle.std.specs.Prelude.{◌≤◌, length, OnOk};
 ghost use Rattle.std.specs.Io.KnownBytes.{Appends};
 ghost use Rattle.hex.specs.Hex.{encode_lower};
 
-use crate::session::RunError;
+use crate::error::RunError;
 use crate::to_digits::write_lower;
 use h26x_codec::Carried;
 use h26x_core::{CodecExtra, PacketError};

@@ -5,6 +5,7 @@
 pub mod answers;
 mod cases;
 pub mod digits;
+mod error;
 mod from_digits;
 pub mod laws;
 mod line;
@@ -14,4 +15,5 @@ mod settings;
 mod tests;
 mod to_digits;
 
-pub use session::{RunError, run};
+pub use error::RunError;
+pub use session::run;

@@ -2,42 +2,15 @@
 
 use crate::answers::Answers;
 use crate::digits::Digits;
+use crate::error::RunError;
 use crate::line::{Line, read_line};
 use crate::settings::{set_avc, set_numbers, set_size};
 use h26x_codec::{Codec, CodecDepacketizer, CodecPacketizer, carry};
 use h26x_core::{CodecExtra, Depacketizer, Packetizer};
 use memchr::memchr;
-use std::alloc::{AllocError, Global};
+use std::alloc::Global;
 use std::io;
 use std::io::{Read, Write};
-use thiserror::Error;
-
-/// Why the program ends before it has answered every line.
-#[derive(Debug, Clone, Copy, PartialEq, Eq, Error)]
-pub enum RunError {
-    /// The input can't be read.
-    #[error("h26x: read failed")]
-    Read,
-
-    /// An answer can't be written.
-    #[error("h26x: write failed")]
-    Write,
-
-    /// No memory for the input, for a line's bytes or for the buffer of the answers.
-    #[error("h26x: no memory")]
-    OutOfMemory,
-}
-
-impl From<AllocError> for RunError {
-    ghost use Rattle.std.specs.Prelude.{◌≡◌};
-    ghost use Rattle.h26x_session.specs.declared.session.RunError.TheVariants.{OutOfMemory};
-
-    ghost from_gives = { λ _ e. e ≡ OutOfMemory };
-
-    fn from(_e: AllocError) -> RunError {
-        RunError::OutOfMemory
-    }
-}
 
 /// A failed read, which may be for want of memory.
 fn read_error(error: io::Error) -> RunError {

@@ -1,6 +1,6 @@
 //! What stands behind a packet's header and its number.
 
-ghost use Rattle.std.specs.Prelude.{◌≡◌, ◌≤◌, ◌+◌, ◌++◌, min, length, vec_len, vec_capacity};
+ghost use Rattle.std.specs.Prelude.{◌≡◌, ◌≤◌, ◌+◌, ◌++◌, replicate, min, length, vec_len, vec_capacity};
 ghost use Rattle.h26x_payload.specs.Sending.{body_bytes};
 
 use crate::send::sets::Sets;
@@ -49,4 +49,39 @@ impl<'a> Body<'a> {
             Body::Sets { sets, gap } => sets.copy_to(gap, to),
         }
     }
+}
+
+/// Writes bytes, where there is room for them.
+#[inline(always)]
+fn put_part(part: &[u8], bytes: &mut Vec<u8>)
+    requires room { vec_len bytes.old + length part.now ≤ vec_capacity bytes.old }
+    ensures written { bytes.new.items ≡ bytes.old.items ++ part.now }
+    ensures len { vec_len bytes.new ≡ vec_len bytes.old + length part.now }
+    ensures capacity { vec_capacity bytes.old ≤ vec_capacity bytes.new }
+{
+    if !part.is_empty() {
+        bytes.extend_from_slice(part).unwrap();
+    }
+}
+
+/// Writes a packet of these parts behind its headroom, where there is room for it.
+#[inline(always)]
+pub(crate) fn put_packet(
+    headroom: usize,
+    header: &[u8],
+    donl: &[u8],
+    body: Body<'_>,
+    bytes: &mut Vec<u8>,
+)
+    requires room { vec_len bytes.old + (headroom + (length header.now + (length donl.now
+        + length (body_bytes body)))) ≤ vec_capacity bytes.old }
+    ensures written { bytes.new.items ≡ bytes.old.items ++ (replicate headroom 0
+        ++ (header.now ++ (donl.now ++ body_bytes body.entry))) }
+{
+    if headroom > 0 {
+        bytes.resize(bytes.len() + headroom, 0).unwrap();
+    }
+    put_part(header, bytes);
+    put_part(donl, bytes);
+    body.put(bytes);
 }

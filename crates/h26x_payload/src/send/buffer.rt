@@ -8,7 +8,7 @@ ghost use Rattle.h26x_payload.specs.Sending.{body_bytes, contents};
 mod cases;
 mod loan;
 
-use crate::send::body::Body;
+use crate::send::body::{Body, put_packet};
 use crate::send::buffer_packets::BufferPackets;
 use crate::send::sink::PacketSink;
 use std::alloc::{AllocError, Global};
@@ -58,41 +58,6 @@ fn bounds_of(headroom: usize, bytes: &[u8], ends: &[usize], place: usize) -> (us
     let end = ends[place];
     let start = end_of_first(ends, place) + headroom;
     (start, end)
-}
-
-/// Writes bytes, where there is room for them.
-#[inline(always)]
-fn put_part(part: &[u8], bytes: &mut Vec<u8>)
-    requires room { vec_len bytes.old + length part.now ≤ vec_capacity bytes.old }
-    ensures written { bytes.new.items ≡ bytes.old.items ++ part.now }
-    ensures len { vec_len bytes.new ≡ vec_len bytes.old + length part.now }
-    ensures capacity { vec_capacity bytes.old ≤ vec_capacity bytes.new }
-{
-    if !part.is_empty() {
-        bytes.extend_from_slice(part).unwrap();
-    }
-}
-
-/// Writes a packet of these parts behind its headroom, where there is room for it.
-#[inline(always)]
-pub(crate) fn put_packet(
-    headroom: usize,
-    header: &[u8],
-    donl: &[u8],
-    body: Body<'_>,
-    bytes: &mut Vec<u8>,
-)
-    requires room { vec_len bytes.old + (headroom + (length header.now + (length donl.now
-        + length (body_bytes body)))) ≤ vec_capacity bytes.old }
-    ensures written { bytes.new.items ≡ bytes.old.items ++ (replicate headroom 0
-        ++ (header.now ++ (donl.now ++ body_bytes body.entry))) }
-{
-    if headroom > 0 {
-        bytes.resize(bytes.len() + headroom, 0).unwrap();
-    }
-    put_part(header, bytes);
-    put_part(donl, bytes);
-    body.put(bytes);
 }
 
 impl PacketBuffer {

@@ -4,8 +4,7 @@ ghost use Rattle.std.specs.Prelude.{◌≡◌, ◌≤◌, ◌+◌, ◌++◌, ◌
 ghost use Rattle.h26x_payload.specs.Buffer.{PacketBufferView};
 ghost use Rattle.h26x_payload.specs.Sending.{body_bytes};
 
-use crate::send::body::Body;
-use crate::send::buffer::put_packet;
+use crate::send::body::{Body, put_packet};
 use std::alloc::AllocError;
 
 /// How many packets a list takes room for at first.

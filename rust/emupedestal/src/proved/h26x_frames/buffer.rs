@@ -4,6 +4,7 @@
 
 use crate::proved::h26x_frames::order::NumberOrder;
 use crate::proved::h26x_frames::packet::RtpPacket;
+use crate::proved::h26x_frames::pushed::Pushed;
 use crate::support::AllocError;
 use crate::support::TryVec;
 use alloc::vec::Vec;
@@ -69,19 +70,6 @@ impl HeldPacket {
             payload: &self.payload,
         }
     }
-}
-
-/// What became of a packet that was given to a buffer.
-#[derive(Debug, Clone, Copy, PartialEq, Eq, Hash)]
-pub enum Pushed {
-    /// It is held, until those before it have come or the window has passed.
-    Held,
-
-    /// It is not held: its number is so far behind the one that is due.
-    Late(u16),
-
-    /// It is not held: a packet with its number is.
-    Twice,
 }
 
 /// Why a packet that was given to a buffer by value isn't held.

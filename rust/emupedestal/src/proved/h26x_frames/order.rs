@@ -2,9 +2,9 @@
 
 //! Packets in the order of their sequence numbers, until they may go.
 
-use crate::proved::h26x_frames::buffer::Pushed;
 use crate::proved::h26x_frames::numbered::Numbered;
 use crate::proved::h26x_frames::parted::Parted;
+use crate::proved::h26x_frames::pushed::Pushed;
 use crate::support::AllocFailed;
 
 /// How far ahead of the number that is due a number is taken as behind it: half of the circle (RFC

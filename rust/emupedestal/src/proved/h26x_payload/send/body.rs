@@ -42,3 +42,28 @@ impl<'a> Body<'a> {
         }
     }
 }
+
+/// Writes bytes, where there is room for them.
+#[inline(always)]
+fn put_part(part: &[u8], bytes: &mut Vec<u8>) {
+    if !part.is_empty() {
+        bytes.append_bytes(part);
+    }
+}
+
+/// Writes a packet of these parts behind its headroom, where there is room for it.
+#[inline(always)]
+pub(crate) fn put_packet(
+    headroom: usize,
+    header: &[u8],
+    donl: &[u8],
+    body: Body<'_>,
+    bytes: &mut Vec<u8>,
+) {
+    if headroom > 0 {
+        bytes.resize(bytes.len() + headroom, 0);
+    }
+    put_part(header, bytes);
+    put_part(donl, bytes);
+    body.put(bytes);
+}

@@ -4,11 +4,10 @@
 
 mod loan;
 
-use crate::proved::h26x_payload::send::body::Body;
+use crate::proved::h26x_payload::send::body::{Body, put_packet};
 use crate::proved::h26x_payload::send::buffer_packets::BufferPackets;
 use crate::proved::h26x_payload::send::sink::PacketSink;
 use crate::support::AllocError;
-use crate::support::AppendBytes;
 use alloc::vec::Vec;
 use core::mem;
 
@@ -43,31 +42,6 @@ fn bounds_of(headroom: usize, _bytes: &[u8], ends: &[usize], place: usize) -> (u
     let end = ends[place];
     let start = end_of_first(ends, place) + headroom;
     (start, end)
-}
-
-/// Writes bytes, where there is room for them.
-#[inline(always)]
-fn put_part(part: &[u8], bytes: &mut Vec<u8>) {
-    if !part.is_empty() {
-        bytes.append_bytes(part);
-    }
-}
-
-/// Writes a packet of these parts behind its headroom, where there is room for it.
-#[inline(always)]
-pub(crate) fn put_packet(
-    headroom: usize,
-    header: &[u8],
-    donl: &[u8],
-    body: Body<'_>,
-    bytes: &mut Vec<u8>,
-) {
-    if headroom > 0 {
-        bytes.resize(bytes.len() + headroom, 0);
-    }
-    put_part(header, bytes);
-    put_part(donl, bytes);
-    body.put(bytes);
 }
 
 impl PacketBuffer {

@@ -2,8 +2,7 @@
 
 //! Where packets go.
 
-use crate::proved::h26x_payload::send::body::Body;
-use crate::proved::h26x_payload::send::buffer::put_packet;
+use crate::proved::h26x_payload::send::body::{Body, put_packet};
 use crate::support::AllocError;
 use crate::support::TryVec;
 use alloc::vec::Vec;

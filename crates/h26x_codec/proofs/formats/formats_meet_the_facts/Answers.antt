@@ -6,7 +6,7 @@ use Rattle.h266_payload.specs.H266.{h266}
 use Rattle.h26x_codec.specs.Codec.{codec_format}
 use Rattle.h26x_codec.specs.declared.codec.Codec.{Codec}
 use Rattle.h26x_codec.specs.declared.codec.Codec.TheVariants as c
-use Rattle.h26x_codec.proofs.laws.formats_meet_the_facts.Goals as goal
+use Rattle.h26x_codec.proofs.formats.formats_meet_the_facts.Goals as goal
 
 -- each codec's format does
 each : IsPayloadFormat h264 → ((b : Bool) → IsPayloadFormat (h265 b)) → ((b : Bool) → IsPayloadFormat (h266 b)) → (codec : Codec) (has_donl : Bool) →
