@@ -14,7 +14,7 @@ use Rattle.h26x_sdp.specs.Parameters.{AreValues, AreParameters}
 use Rattle.h26x_sdp.specs.Reading.{FormatParameters, value_at, value_or_default}
 use Rattle.h26x_sdp.specs.H264Rows.{rows, row_place}
 use Rattle.h26x_sdp.specs.Answers.{Terms, only_if, answered_values, answered, are_symmetric, common_terms, answer_by, same_number, holds}
-use Rattle.h26x_sdp.specs.AnswersH264.{roles, rules, number, is_set, id_of, profile_level_id_of, profile_level_id_text, at_level_of, level_rank, same_profile, highest_of, highest_rank, is_interleaved, can_deinterleave, can_order, both_asymmetric, answer_level, answer_id, rank_back, with_sets, with_level_sets, terms_at, terms_of_ids, terms}
+use Rattle.h26x_sdp.specs.AnswersH264.{roles, rules, number, is_on, id_of, profile_level_id_of, profile_level_id_text, at_level_of, level_rank, same_profile, highest_of, highest_rank, is_interleaved, can_deinterleave, can_order, both_asymmetric, answer_level, answer_id, rank_back, may_tell_sets, with_level_sets, terms_at, terms_of_ids, terms}
 use Rattle.h26x_sdp.specs.AllowedH264.{IsSameProfile, IsH264Answer, MaySend, rank_to_use}
 use Rattle.h26x_sdp.proofs.PartLemmas.{by_test}
 use Rattle.h26x_sdp.proofs.AnswersLemmas.{answered_at, answer_parts}
@@ -149,11 +149,11 @@ pub asymmetry_kept : (offered own answer : FormatParameters) → value_at answer
 asymmetry_kept offered own answer here = by_test (both_asymmetric offered own)
     (λ both.
     let same : value_at answer.values 13 ≡ value_at own.values 13 = here ∙ ap (λ t. only_if t (value_at own.values 13)) both in
-    ap (λ n. is_set offered p.LevelAsymmetryAllowed && is_one n) (number_same answer own p.LevelAsymmetryAllowed same))
+    ap (λ n. is_on offered p.LevelAsymmetryAllowed && is_one n) (number_same answer own p.LevelAsymmetryAllowed same))
     (λ not_both.
     let none : value_at answer.values 13 ≡ None = here ∙ ap (λ t. only_if t (value_at own.values 13)) not_both in
-    ap (λ v. is_set offered p.LevelAsymmetryAllowed && is_one (option_and_then (number_of (row_at rows 13).kind) (option_or v (row_at rows 13).default))) none
-    ∙ and_false (is_set offered p.LevelAsymmetryAllowed) ∙ sym not_both)
+    ap (λ v. is_on offered p.LevelAsymmetryAllowed && is_one (option_and_then (number_of (row_at rows 13).kind) (option_or v (row_at rows 13).default))) none
+    ∙ and_false (is_on offered p.LevelAsymmetryAllowed) ∙ sym not_both)
 
 -- the level of the answer isn't above the offer's, where not both ends allow it
 pub lower : (asymmetric : Bool) (a b : ProfileLevelId) → asymmetric ≡ false → level_rank (answer_level asymmetric a b) ≤ level_rank a
@@ -176,20 +176,20 @@ pub present : (belongs : Bool) (value own : Option (List ℕ)) → value ≡ onl
 present belongs value own here passes = here ∙ ap (λ t. only_if t own) passes
 
 -- parameter sets are of one kind
-one_kind_only : (offered : FormatParameters) (back answer own : ℕ) → (with_sets offered back answer own ≡ false) ⊎ (with_level_sets offered back answer ≡ false)
+one_kind_only : (offered : FormatParameters) (back answer own : ℕ) → (may_tell_sets offered back answer own ≡ false) ⊎ (with_level_sets offered back answer ≡ false)
 one_kind_only offered back answer own = by_test (back == answer)
-    (λ same. inr (ap (λ t. not (is_set offered p.InBandParameterSets) && (is_set offered p.UseLevelSrcParameterSets && not t)) same
-    ∙ ap (λ t. not (is_set offered p.InBandParameterSets) && t) (and_false (is_set offered p.UseLevelSrcParameterSets))
-    ∙ and_false (not (is_set offered p.InBandParameterSets))))
-    (λ other. inl (ap (λ t. not (is_set offered p.InBandParameterSets) && (t && (answer == own))) other
-    ∙ and_false (not (is_set offered p.InBandParameterSets))))
+    (λ same. inr (ap (λ t. not (is_on offered p.InBandParameterSets) && (is_on offered p.UseLevelSrcParameterSets && not t)) same
+    ∙ ap (λ t. not (is_on offered p.InBandParameterSets) && t) (and_false (is_on offered p.UseLevelSrcParameterSets))
+    ∙ and_false (not (is_on offered p.InBandParameterSets))))
+    (λ other. inl (ap (λ t. not (is_on offered p.InBandParameterSets) && (t && (answer == own))) other
+    ∙ and_false (not (is_on offered p.InBandParameterSets))))
 
 -- and none where they are to be sent in band
-none_in_band : (offered : FormatParameters) (back answer own : ℕ) → is_set offered p.InBandParameterSets ≡ true
-    → (with_sets offered back answer own ≡ false) × (with_level_sets offered back answer ≡ false)
+none_in_band : (offered : FormatParameters) (back answer own : ℕ) → is_on offered p.InBandParameterSets ≡ true
+    → (may_tell_sets offered back answer own ≡ false) × (with_level_sets offered back answer ≡ false)
 none_in_band offered back answer own in_band = (
   ap (λ t. not t && ((back == answer) && (answer == own))) in_band,
-  ap (λ t. not t && (is_set offered p.UseLevelSrcParameterSets && not (back == answer))) in_band,
+  ap (λ t. not t && (is_on offered p.UseLevelSrcParameterSets && not (back == answer))) in_band,
 )
 
 -- interleaved formats can both be put in order
@@ -232,7 +232,7 @@ allowed offered own answer of_offered of_own h =
     let interleaved : is_interleaved answer ≡ is_interleaved offered = ap (λ n. same_number n (Some 2)) mode in
     let both = asymmetry_kept offered own answer (at.asymmetry ∙ ap (λ (t : Terms). only_if t.asymmetric (value_at own.values 13)) agreed.is) in
     let reorders : found.reorders ≡ is_interleaved offered = ap (λ (t : Terms). t.reorders) agreed.is in
-    let sets : found.sets ≡ with_sets offered back (level_rank level) (level_rank b) = ap (λ (t : Terms). t.sets) agreed.is in
+    let sets : found.sets ≡ may_tell_sets offered back (level_rank level) (level_rank b) = ap (λ (t : Terms). t.sets) agreed.is in
     let level_sets : found.level_sets ≡ with_level_sets offered back (level_rank level) = ap (λ (t : Terms). t.level_sets) agreed.is in
     let order : is_interleaved answer ≡ false → found.reorders ≡ false = λ fails. reorders ∙ sym interleaved ∙ fails in
     let reordered : is_interleaved answer ≡ true → found.reorders ≡ true = λ passes. reorders ∙ sym interleaved ∙ passes in

@@ -19,7 +19,7 @@ use Rattle.h26x_sdp.specs.Reading.{FormatParameters, value_at}
 use Rattle.h26x_sdp.specs.H264Rows.{rows}
 use Rattle.h26x_sdp.specs.Answers.{Terms, only_if, same_number, answered, answered_values, are_symmetric, answer_by, common_terms}
 use Rattle.h26x_sdp.specs.AnsweredAgain.{IsAnsweredAgain}
-use Rattle.h26x_sdp.specs.AnswersH264.{roles, rules, profile_level_id_text, at_level_of, level_rank, answer_id, answer_level, both_asymmetric, id_of, is_set, is_interleaved, can_deinterleave, can_order, same_profile, terms, terms_at, terms_of_ids}
+use Rattle.h26x_sdp.specs.AnswersH264.{roles, rules, profile_level_id_text, at_level_of, level_rank, answer_id, answer_level, both_asymmetric, id_of, is_on, is_interleaved, can_deinterleave, can_order, same_profile, terms, terms_at, terms_of_ids}
 use Rattle.h26x_sdp.specs.AllowedH264.{is_sets_row}
 use Rattle.h26x_sdp.proofs.PartLemmas.{by_test}
 use Rattle.h26x_sdp.proofs.AnswersLemmas.{answer_parts}
@@ -110,12 +110,12 @@ asymmetric_again : (offered own answer : FormatParameters) → value_at answer.v
 asymmetric_again offered own answer here = by_test (both_asymmetric offered own)
     (λ both.
     let same : value_at answer.values 13 ≡ value_at own.values 13 = here ∙ ap (λ t. only_if t (value_at own.values 13)) both in
-    let set = (and_parts (is_set offered p.LevelAsymmetryAllowed) (is_set own p.LevelAsymmetryAllowed) both).1 in
-    ap (λ n. is_one n && is_set own p.LevelAsymmetryAllowed) (number_same answer own p.LevelAsymmetryAllowed same)
-    ∙ both_true (is_set own p.LevelAsymmetryAllowed) (is_set own p.LevelAsymmetryAllowed) set set ∙ sym both)
+    let set = (and_parts (is_on offered p.LevelAsymmetryAllowed) (is_on own p.LevelAsymmetryAllowed) both).1 in
+    ap (λ n. is_one n && is_on own p.LevelAsymmetryAllowed) (number_same answer own p.LevelAsymmetryAllowed same)
+    ∙ both_true (is_on own p.LevelAsymmetryAllowed) (is_on own p.LevelAsymmetryAllowed) set set ∙ sym both)
     (λ not_both.
     let none : value_at answer.values 13 ≡ None = here ∙ ap (λ t. only_if t (value_at own.values 13)) not_both in
-    ap (λ v. is_one (option_and_then (number_of (row_at rows 13).kind) (option_or v (row_at rows 13).default)) && is_set own p.LevelAsymmetryAllowed) none
+    ap (λ v. is_one (option_and_then (number_of (row_at rows 13).kind) (option_or v (row_at rows 13).default)) && is_on own p.LevelAsymmetryAllowed) none
     ∙ sym not_both)
 
 -- what is answered can be put in order again

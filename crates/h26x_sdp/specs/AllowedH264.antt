@@ -6,7 +6,7 @@ use Rattle.h26x_sdp.specs.declared.h264.H264Parameter.TheVariants as p
 use Rattle.h26x_sdp.specs.declared.answer.h264.ProfileLevelId.{ProfileLevelId}
 use Rattle.h26x_sdp.specs.Reading.{FormatParameters, value_at}
 use Rattle.h26x_sdp.specs.H264Rows.{row_place}
-use Rattle.h26x_sdp.specs.AnswersH264.{number, is_set, id_of, profile_flags, level_rank, highest_rank, is_interleaved, can_deinterleave, both_asymmetric}
+use Rattle.h26x_sdp.specs.AnswersH264.{number, is_on, id_of, profile_flags, level_rank, highest_rank, is_interleaved, can_deinterleave, both_asymmetric}
 
 -- a parameter is absent
 abbrev pub IsAbsent : FormatParameters → H264Parameter → Type 0
@@ -30,7 +30,7 @@ pub record IsH264Answer (offered answer : FormatParameters) : Type 0 where
   pub mode : number answer p.PacketizationMode ≡ number offered p.PacketizationMode
   pub level : both_asymmetric offered answer ≡ false → level_rank ours ≤ level_rank theirs
   pub one_kind : IsAbsent answer p.SpropParameterSets ⊎ IsAbsent answer p.SpropLevelParameterSets
-  pub in_band : is_set offered p.InBandParameterSets ≡ true →
+  pub in_band : is_on offered p.InBandParameterSets ≡ true →
       IsAbsent answer p.SpropParameterSets × IsAbsent answer p.SpropLevelParameterSets
   pub in_order : is_interleaved answer ≡ false → IsAbsent answer p.SpropInterleavingDepth
       × IsAbsent answer p.SpropDeintBufReq × IsAbsent answer p.SpropInitBufTime

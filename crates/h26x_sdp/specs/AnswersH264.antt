@@ -111,8 +111,8 @@ at_level_of a b = record {
 abbrev pub number : FormatParameters → H264Parameter → Option ℕ
 number it parameter = number_or_default rows it (row_place parameter)
 
-abbrev pub is_set : FormatParameters → H264Parameter → Bool
-is_set it parameter = same_number (number it parameter) (Some 1)
+abbrev pub is_on : FormatParameters → H264Parameter → Bool
+is_on it parameter = same_number (number it parameter) (Some 1)
 
 abbrev pub id_of : FormatParameters → Option ProfileLevelId
 id_of it = option_and_then profile_level_id_of
@@ -156,8 +156,8 @@ can_order offered own = not (is_interleaved offered)
 
 -- whether both ends allow a level for each direction
 abbrev pub both_asymmetric : FormatParameters → FormatParameters → Bool
-both_asymmetric offered own = is_set offered p.LevelAsymmetryAllowed
-    && is_set own p.LevelAsymmetryAllowed
+both_asymmetric offered own = is_on offered p.LevelAsymmetryAllowed
+    && is_on own p.LevelAsymmetryAllowed
 
 -- whose level the answer has: our own, where each direction has its own, and else the lower one
 abbrev pub answer_level : Bool → ProfileLevelId → ProfileLevelId → ProfileLevelId
@@ -178,15 +178,15 @@ rank_back offered asymmetric a level =
 
 -- parameter sets of the answer's level: where they aren't to be sent in band, the level to use is the
 -- answer's, and our own are of that level
-abbrev pub with_sets : FormatParameters → ℕ → ℕ → ℕ → Bool
-with_sets offered back answer own = not (is_set offered p.InBandParameterSets)
+abbrev pub may_tell_sets : FormatParameters → ℕ → ℕ → ℕ → Bool
+may_tell_sets offered back answer own = not (is_on offered p.InBandParameterSets)
     && ((back == answer) && (answer == own))
 
 -- those of other levels: where they aren't to be sent in band, the offerer uses them, and the level to
 -- use isn't the answer's
 abbrev pub with_level_sets : FormatParameters → ℕ → ℕ → Bool
-with_level_sets offered back answer = not (is_set offered p.InBandParameterSets)
-    && (is_set offered p.UseLevelSrcParameterSets && not (back == answer))
+with_level_sets offered back answer = not (is_on offered p.InBandParameterSets)
+    && (is_on offered p.UseLevelSrcParameterSets && not (back == answer))
 
 -- the terms at a level
 abbrev pub terms_at : FormatParameters → Bool → ProfileLevelId → ProfileLevelId → ProfileLevelId →
@@ -196,7 +196,7 @@ terms_at offered asymmetric a b level = record {
   highest = None;
   asymmetric = asymmetric;
   reorders = is_interleaved offered;
-  sets = with_sets offered (rank_back offered asymmetric a level) (level_rank level) (level_rank b);
+  sets = may_tell_sets offered (rank_back offered asymmetric a level) (level_rank level) (level_rank b);
   level_sets = with_level_sets offered (rank_back offered asymmetric a level) (level_rank level);
 }
 

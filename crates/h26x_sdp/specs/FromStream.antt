@@ -30,17 +30,17 @@ slices H265 = record { encoding = H265; first = 0; last = 31 }
 slices H266 = record { encoding = H266; first = 0; last = 11 }
 
 -- the layer of a unit, which H.264 doesn't have
-abbrev pub layer_of : Encoding → List ℕ → ℕ
-layer_of H264 unit = 0
-layer_of H265 [] = 0
-layer_of H265 (high ∷ []) = 0
-layer_of H265 (high ∷ low ∷ rest) = h265_unit.layer_id high low
-layer_of H266 [] = 0
-layer_of H266 (high ∷ rest) = h266_unit.layer_id high
+abbrev pub unit_layer : Encoding → List ℕ → ℕ
+unit_layer H264 unit = 0
+unit_layer H265 [] = 0
+unit_layer H265 (high ∷ []) = 0
+unit_layer H265 (high ∷ low ∷ rest) = h265_unit.layer_id high low
+unit_layer H266 [] = 0
+unit_layer H266 (high ∷ rest) = h266_unit.layer_id high
 
 -- whether a unit is of one of these types, and of the lowest layer
 abbrev pub is_base : UnitTypes → List ℕ → Bool
-is_base types unit = is_of types unit && (layer_of types.encoding unit == 0)
+is_base types unit = is_of types unit && (unit_layer types.encoding unit == 0)
 
 -- the first set of a type and of the lowest layer, before the first slice
 abbrev pub first_set : UnitTypes → List (List ℕ) → Option (List ℕ)
@@ -112,13 +112,13 @@ h264_of_units units =
 -- the twelve bytes of profile_tier_level( ) from general_profile_space to general_level_idc: they
 -- begin behind one byte of an SPS, and behind four of a VPS (Rec. ITU-T H.265, sections 7.3.2.1,
 -- 7.3.2.2.1 and 7.3.3)
-abbrev pub without_front : ℕ → Result (List ℕ) StreamError → Result (List ℕ) StreamError
-without_front many (Err error) = Err error
-without_front many (Ok bytes) = Ok (drop many bytes)
+abbrev pub behind_front : ℕ → Result (List ℕ) StreamError → Result (List ℕ) StreamError
+behind_front many (Err error) = Err error
+behind_front many (Ok bytes) = Ok (drop many bytes)
 
 abbrev pub h265_profile_in : Option (List ℕ) → Option (List ℕ) → Result (List ℕ) StreamError
-h265_profile_in (Some sps) vps = without_front 1 (set_bytes 2 13 (Some sps))
-h265_profile_in None vps = without_front 4 (set_bytes 2 16 vps)
+h265_profile_in (Some sps) vps = behind_front 1 (set_bytes 2 13 (Some sps))
+h265_profile_in None vps = behind_front 4 (set_bytes 2 16 vps)
 
 abbrev pub h265_profile : List (List ℕ) → Result (List ℕ) StreamError
 h265_profile units = h265_profile_in (first_set h265_sps units) (first_set h265_vps units)

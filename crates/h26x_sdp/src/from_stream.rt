@@ -41,8 +41,8 @@ fn slices(encoding: Encoding) -> UnitTypes
 }
 
 /// A unit's layer, which H.264 doesn't have.
-fn layer_of(encoding: Encoding, unit: &[u8]) -> u8
-    ensures { result ≡ spec.layer_of encoding unit.now }
+fn unit_layer(encoding: Encoding, unit: &[u8]) -> u8
+    ensures { result ≡ spec.unit_layer encoding unit.now }
 {
     match (encoding, unit) {
         (Encoding::H265, [high, low, ..]) => (high & 0x01) * 32 + (low >> 3 & 0x1f),
@@ -55,7 +55,7 @@ fn layer_of(encoding: Encoding, unit: &[u8]) -> u8
 fn is_base(types: UnitTypes, unit: &[u8]) -> bool
     ensures { result ≡ spec.is_base types unit.now }
 {
-    types.has(unit) && layer_of(types.encoding, unit) == 0
+    types.has(unit) && unit_layer(types.encoding, unit) == 0
 }
 
 /// The first set of a type and of the lowest layer, before the first slice.

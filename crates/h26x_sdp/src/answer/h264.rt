@@ -196,8 +196,8 @@ fn flagged_rank(flag: u8, level_idc: u8) -> u16
 }
 
 /// Whether a flag is 1.
-fn is_set(it: &H264Parameters, parameter: H264Parameter) -> bool
-    ensures { result ≡ spec.is_set it.now parameter }
+fn is_on(it: &H264Parameters, parameter: H264Parameter) -> bool
+    ensures { result ≡ spec.is_on it.now parameter }
 {
     same_number(it.number_or_default(parameter), Some(1))
 }
@@ -250,8 +250,8 @@ fn can_order(offered: &H264Parameters, own: &H264Parameters) -> bool
 fn both_asymmetric(offered: &H264Parameters, own: &H264Parameters) -> bool
     ensures { result ≡ spec.both_asymmetric offered.now own.now }
 {
-    is_set(offered, H264Parameter::LevelAsymmetryAllowed)
-        && is_set(own, H264Parameter::LevelAsymmetryAllowed)
+    is_on(offered, H264Parameter::LevelAsymmetryAllowed)
+        && is_on(own, H264Parameter::LevelAsymmetryAllowed)
 }
 
 /// Whose level the answer has: our own, where each direction has its own, and else the lower one.
@@ -297,18 +297,18 @@ fn rank_back(
 }
 
 /// Whether the answer has parameter sets of its level.
-fn with_sets(offered: &H264Parameters, back: u16, answer: u16, own: u16) -> bool
-    ensures { result ≡ spec.with_sets offered.now back answer own }
+fn may_tell_sets(offered: &H264Parameters, back: u16, answer: u16, own: u16) -> bool
+    ensures { result ≡ spec.may_tell_sets offered.now back answer own }
 {
-    !is_set(offered, H264Parameter::InBandParameterSets) && (back == answer && answer == own)
+    !is_on(offered, H264Parameter::InBandParameterSets) && (back == answer && answer == own)
 }
 
 /// Whether the answer has parameter sets of other levels.
 fn with_level_sets(offered: &H264Parameters, back: u16, answer: u16) -> bool
     ensures { result ≡ spec.with_level_sets offered.now back answer }
 {
-    !is_set(offered, H264Parameter::InBandParameterSets)
-        && (is_set(offered, H264Parameter::UseLevelSrcParameterSets) && !(back == answer))
+    !is_on(offered, H264Parameter::InBandParameterSets)
+        && (is_on(offered, H264Parameter::UseLevelSrcParameterSets) && !(back == answer))
 }
 
 /// The terms at a level.
@@ -329,7 +329,7 @@ fn terms_at(
         highest: None,
         asymmetric,
         reorders: is_interleaved(offered),
-        sets: with_sets(offered, back, level.level_rank(), b.level_rank()),
+        sets: may_tell_sets(offered, back, level.level_rank(), b.level_rank()),
         level_sets: with_level_sets(offered, back, level.level_rank()),
     })
 }

@@ -35,7 +35,7 @@ fn slices(encoding: Encoding) -> UnitTypes {
 }
 
 /// A unit's layer, which H.264 doesn't have.
-fn layer_of(encoding: Encoding, unit: &[u8]) -> u8 {
+fn unit_layer(encoding: Encoding, unit: &[u8]) -> u8 {
     match (encoding, unit) {
         (Encoding::H265, [high, low, ..]) => (high & 0x01) * 32 + (low >> 3 & 0x1f),
         (Encoding::H266, [high, ..]) => high & 0x3f,
@@ -45,7 +45,7 @@ fn layer_of(encoding: Encoding, unit: &[u8]) -> u8 {
 
 /// Whether a unit is of one of these types, and of the lowest layer.
 fn is_base(types: UnitTypes, unit: &[u8]) -> bool {
-    types.has(unit) && layer_of(types.encoding, unit) == 0
+    types.has(unit) && unit_layer(types.encoding, unit) == 0
 }
 
 /// The first set of a type and of the lowest layer, before the first slice.

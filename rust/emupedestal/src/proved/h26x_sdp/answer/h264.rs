@@ -166,7 +166,7 @@ fn flagged_rank(flag: u8, level_idc: u8) -> u16 {
 }
 
 /// Whether a flag is 1.
-fn is_set(it: &H264Parameters, parameter: H264Parameter) -> bool {
+fn is_on(it: &H264Parameters, parameter: H264Parameter) -> bool {
     same_number(it.number_or_default(parameter), Some(1))
 }
 
@@ -206,8 +206,8 @@ fn can_order(offered: &H264Parameters, own: &H264Parameters) -> bool {
 
 /// Whether both ends allow a level for each direction.
 fn both_asymmetric(offered: &H264Parameters, own: &H264Parameters) -> bool {
-    is_set(offered, H264Parameter::LevelAsymmetryAllowed)
-        && is_set(own, H264Parameter::LevelAsymmetryAllowed)
+    is_on(offered, H264Parameter::LevelAsymmetryAllowed)
+        && is_on(own, H264Parameter::LevelAsymmetryAllowed)
 }
 
 /// Whose level the answer has: our own, where each direction has its own, and else the lower one.
@@ -246,14 +246,14 @@ fn rank_back(
 }
 
 /// Whether the answer has parameter sets of its level.
-fn with_sets(offered: &H264Parameters, back: u16, answer: u16, own: u16) -> bool {
-    !is_set(offered, H264Parameter::InBandParameterSets) && (back == answer && answer == own)
+fn may_tell_sets(offered: &H264Parameters, back: u16, answer: u16, own: u16) -> bool {
+    !is_on(offered, H264Parameter::InBandParameterSets) && (back == answer && answer == own)
 }
 
 /// Whether the answer has parameter sets of other levels.
 fn with_level_sets(offered: &H264Parameters, back: u16, answer: u16) -> bool {
-    !is_set(offered, H264Parameter::InBandParameterSets)
-        && (is_set(offered, H264Parameter::UseLevelSrcParameterSets) && !(back == answer))
+    !is_on(offered, H264Parameter::InBandParameterSets)
+        && (is_on(offered, H264Parameter::UseLevelSrcParameterSets) && !(back == answer))
 }
 
 /// The terms at a level.
@@ -270,7 +270,7 @@ fn terms_at(
         highest: None,
         asymmetric,
         reorders: is_interleaved(offered),
-        sets: with_sets(offered, back, level.level_rank(), b.level_rank()),
+        sets: may_tell_sets(offered, back, level.level_rank(), b.level_rank()),
         level_sets: with_level_sets(offered, back, level.level_rank()),
     })
 }
