@@ -367,10 +367,12 @@ typedef struct {
     uint32_t codec;
     uint32_t max_wait;    /* a missing packet is waited for so long at most after one behind it came; UINT32_MAX: by the
                            * window alone */
-    uint16_t window;      /* it is waited for until one came so many places, less one, ahead of it; 1 to 16384 */
-    uint16_t far_away;    /* a number so far or farther from the one that is due, ahead or behind, waits alone until the
-                           * next such number follows it, and then the stream begins anew with both (RFC 3550, A.1, has
-                           * 3000); 0: none is too far, and one behind is late */
+    uint16_t window;      /* packets missing before one that waits are waited for until one came so many places, less
+                           * one, ahead of it; 1 to 16384 */
+    uint16_t far_away;    /* a number so far or farther ahead of the newest that waits (where none waits, of the one that
+                           * is due), and so far behind the one that is due, waits alone until the next such number
+                           * follows it, and then the stream begins anew with both, whatever held_limit is (RFC 3550,
+                           * A.1, has 3000); 0: none is too far, and one behind is late */
     bool numbers;         /* packets bear decoding order numbers (H.265 and H.266) */
     bool avc;             /* units are written behind lengths of four bytes, else behind 00 00 00 01 */
     size_t held_limit;    /* bytes of payloads that may wait; past that none is waited for */

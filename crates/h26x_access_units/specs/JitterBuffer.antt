@@ -1,7 +1,7 @@
 -- Packets that wait for those before them: by a window, by time and by bytes (RFC 3550, 5.1; ours).
-use Rattle.std.specs.Prelude.{◌≡◌, ℕ, ◌+◌, ◌<◌, ◌≤◌, ◌^◌, ◌==◌, nat_lt, nat_le, Bool, true, false, ◌||◌, ◌&&◌, if◌then◌else◌, List, [], ◌∷◌, ◌++◌, length, Option, Some, None, slice_get}
+use Rattle.std.specs.Prelude.{◌≡◌, ℕ, ◌+◌, ◌<◌, ◌≤◌, ◌-◌, ◌^◌, ◌==◌, nat_lt, nat_le, Bool, true, false, ◌||◌, ◌&&◌, if◌then◌else◌, List, [], ◌∷◌, ◌++◌, length, Option, Some, None, slice_get, slice_index_or}
 use Rattle.h26x_receiver.specs.Sequence.{distance_ahead}
-use Rattle.h26x_frames.specs.Rtp.{RtpBody}
+use Rattle.h26x_frames.specs.Rtp.{RtpBody, rtp_body}
 use Rattle.h26x_frames.specs.ReorderBuffer.{BufferState, fresh_buffer, push_answer, after_push, next_packet, without_first}
 use Rattle.h26x_access_units.specs.declared.arrival.Arrival.{Arrival}
 use Rattle.h26x_access_units.specs.declared.config.AccessUnitConfig.{AccessUnitConfig}
@@ -36,6 +36,10 @@ fresh_jitter config = record {
   is_over = false;
 }
 
+-- settings with this limit on the bytes that wait
+abbrev pub with_held_limit : ℕ → AccessUnitConfig → AccessUnitConfig
+with_held_limit limit config = record config { held_limit = limit }
+
 -- how many bytes of payloads packets have
 abbrev pub held_bytes : List (ℕ × RtpBody) → ℕ
 held_bytes [] = 0
@@ -64,12 +68,27 @@ jitter_answer j p =
     if is_full j (length p.1.payload) then pushes.Full
     else as_pushed (push_answer j.buffer p.0)
 
--- whether a number is so far from the one that is due, ahead or behind, or farther (RFC 3550, A.1)
-abbrev pub is_far : ℕ → Option ℕ → ℕ → Bool
-is_far far None number = false
-is_far far (Some due) number =
-    if far == 0 then false
-    else nat_le far (distance_ahead due number) && nat_le far (distance_ahead number due)
+-- the number of the last packet that waits, or the one that is due where none waits
+abbrev pub newest_of : ℕ → List (ℕ × RtpBody) → ℕ
+newest_of due held =
+    if length held == 0 then due
+    else (slice_index_or held (length held - 1) (0, rtp_body 0 false [])).0
+
+-- whether a number is so far ahead of another one, and so far behind the one that is due, or farther,
+-- and not between them
+abbrev pub is_outside : ℕ → ℕ → ℕ → ℕ → Bool
+is_outside far due newest number =
+    nat_lt (distance_ahead due newest) (distance_ahead due number)
+    && (nat_le far (distance_ahead newest number) && nat_le far (distance_ahead number due))
+
+-- whether a number is so far ahead of the newest that waits, or of the one that is due, and so far
+-- behind the one that is due, or farther (RFC 3550, A.1); where that is 0 none is
+abbrev pub is_far : ℕ → BufferState RtpBody → ℕ → Bool
+is_far far buffer number = elim buffer.due [
+  | None ↦ false
+  | Some due ↦ if far == 0 then false
+      else is_outside far due (newest_of due buffer.held) number
+]
 
 -- a packet more waits, which came at this tick
 abbrev pub with_packet : ℕ → JitterState → ℕ × RtpBody → JitterState

@@ -1,5 +1,5 @@
 -- What a receiver of packets that come in any order does (RFC 3550, 5.1; ours).
-use Rattle.std.specs.Prelude.{◌≡◌, ℕ, ◌==◌, Bool, true, false, ◌&&◌, if◌then◌else◌, List, [], ◌∷◌, length, Option, Some, None, Result, Ok, Err, MatchBool}
+use Rattle.std.specs.Prelude.{◌≡◌, ℕ, ◌-◌, ◌^◌, ◌==◌, Bool, true, false, ◌&&◌, if◌then◌else◌, List, [], ◌∷◌, length, Option, Some, None, Result, Ok, Err, MatchBool}
 use Rattle.h26x_core.specs.declared.error.PacketError.{PacketError}
 use Rattle.h26x_core.specs.declared.error.PacketError.TheVariants.{OutOfMemory}
 use Rattle.h26x_model.specs.Receive.DepacketizerState.{DepacketizerState}
@@ -14,7 +14,7 @@ use Rattle.h26x_access_units.specs.declared.numbers.NumbersSoFar.{NumbersSoFar}
 use Rattle.h26x_access_units.specs.declared.pushed.Pushed.{Pushed}
 use Rattle.h26x_access_units.specs.declared.pushed.Pushed.TheVariants as pushes
 use Rattle.h26x_access_units.specs.Counts.{no_counts, counted_push, counted_dropped, counted_due, counted_unit}
-use Rattle.h26x_access_units.specs.JitterBuffer.{JitterState, is_far, jitter_answer, after_jitter, due_packet, without_due, fresh_jitter}
+use Rattle.h26x_access_units.specs.JitterBuffer.{JitterState, is_far, jitter_answer, after_jitter, due_packet, without_due, fresh_jitter, with_held_limit}
 use Rattle.h26x_access_units.specs.Numbers.{fresh_numbers, bears_nothing, numbers_after, after_last, first_ended, without_first_ended}
 use Rattle.h26x_access_units.specs.ReceivedUnit.{ReceivedUnitValue, received_unit, clean_with, whole_with}
 
@@ -74,7 +74,7 @@ follows (Some stray) number = number == next_sequence_number stray.0
 -- the next such one follows it the stream begins anew
 abbrev pub reception_answer : Reception → ℕ × RtpBody → Pushed
 reception_answer s p =
-    if is_far s.waiting.config.far s.waiting.buffer.due p.0
+    if is_far s.waiting.config.far s.waiting.buffer p.0
     then (if follows s.stray p.0 then pushes.Anew else pushes.Stray)
     else jitter_answer s.waiting p
 
@@ -82,10 +82,14 @@ reception_answer s p =
 abbrev pub pushed_to : ℕ → JitterState → ℕ × RtpBody → JitterState
 pushed_to now j p = after_jitter now j p (jitter_answer j p)
 
--- what waits of a stream that begins anew with a packet that waited alone and the next one
+-- what waits of a stream that begins anew with a packet that waited alone and the next one: both,
+-- whatever the limit
 abbrev pub anew_of : ℕ → AccessUnitConfig → Option (ℕ × RtpBody) → ℕ × RtpBody → JitterState
 anew_of now config None p = pushed_to now (fresh_jitter config) p
-anew_of now config (Some stray) p = pushed_to now (pushed_to now (fresh_jitter config) stray) p
+anew_of now config (Some stray) p = record
+    (pushed_to now (pushed_to now (fresh_jitter (with_held_limit (2 ^ 64 - 1) config)) stray) p) {
+      config = config;
+    }
 
 -- after a packet came, at this tick, that is answered so
 abbrev pub after_reception : ℕ → Reception → ℕ × RtpBody → Pushed → Reception

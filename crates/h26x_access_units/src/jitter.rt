@@ -6,7 +6,7 @@ ghost use Rattle.h26x_frames.specs.ReorderBuffer.{numbered_packet};
 ghost use Rattle.h26x_access_units.specs.Arrival.{deadline_of, has_waited};
 ghost use Rattle.h26x_access_units.specs.Pushed.{IsNotPushedReason};
 ghost use Rattle.h26x_access_units.specs.Missing.{numbers_from, missing_numbers};
-ghost use Rattle.h26x_access_units.specs.JitterBuffer.{with_packet, is_far, fresh_jitter, held_bytes, is_past_limit, is_full, is_pressed, jitter_answer, after_jitter, due_packet, without_due};
+ghost use Rattle.h26x_access_units.specs.JitterBuffer.{with_packet, newest_of, is_far, with_held_limit, fresh_jitter, held_bytes, is_past_limit, is_full, is_pressed, jitter_answer, after_jitter, due_packet, without_due};
 
 use crate::arrival::{Arrival, drop_number};
 use crate::config::AccessUnitConfig;
@@ -76,19 +76,38 @@ impl JitterBuffer {
         self.config
     }
 
-    /// Whether a number is so far from the one that is due, ahead or behind, that it is a stray (RFC
-    /// 3550, A.1).
-    pub fn is_far(&self, number: u16) -> bool
-        ensures { result ≡ is_far self.now.config.far self.now.buffer.due number }
+    /// Has another limit on the bytes that wait from now on.
+    pub(crate) fn set_held_limit(&mut self, limit: usize)
+        ensures { self.new ≡ record self.old { config = with_held_limit limit self.old.config } }
     {
+        self.config.held_limit = limit;
+    }
+
+    /// The number of the last packet that waits, or the one that is due where none waits.
+    fn newest(&self, due: u16) -> u16
+        ensures { result ≡ newest_of due self.now.buffer.held }
+    {
+        match self.buffer.len() {
+            0 => due,
+            len => self.buffer.number_at(len - 1),
+        }
+    }
+
+    /// Whether a number is so far ahead of the newest that waits, or of the one that is due where none
+    /// waits, and so far behind the one that is due, that it is a stray (RFC 3550, A.1).
+    pub fn is_far(&self, number: u16) -> bool
+        ensures { result ≡ is_far self.now.config.far self.now.buffer number }
+    {
+        let far = self.config.far;
         match self.buffer.due() {
-            Some(due) => {
-                let far = self.config.far;
-                let ahead = number.wrapping_sub(due);
+            Some(due) if far != 0 => {
+                let newest = self.newest(due);
+                let is_between = number.wrapping_sub(due) <= newest.wrapping_sub(due);
+                let ahead = number.wrapping_sub(newest);
                 let behind = due.wrapping_sub(number);
-                far != 0 && ahead >= far && behind >= far
+                !is_between && ahead >= far && behind >= far
             }
-            None => false,
+            _ => false,
         }
     }
 

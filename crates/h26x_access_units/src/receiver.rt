@@ -144,7 +144,7 @@ impl<D: RunDepacketizer> AccessUnitReceiver<D> {
     /// Takes a packet that is too far from the one that is due.
     fn push_far(&mut self, now: u32, packet: &RtpPacket<'_>) -> Result<Pushed, PacketError>
         requires { let r = ⟦<AccessUnitReceiver<D> as Receives>⟧.reception in
-            is_far (r self.old).waiting.config.far (r self.old).waiting.buffer.due packet.now.0
+            is_far (r self.old).waiting.config.far (r self.old).waiting.buffer packet.now.0
             ≡ true }
         ensures answer { let r = ⟦<AccessUnitReceiver<D> as Receives>⟧.reception in
             IfOk result (λ answer. answer ≡ reception_answer (r self.old) packet.now) }
@@ -157,9 +157,18 @@ impl<D: RunDepacketizer> AccessUnitReceiver<D> {
     {
         match &self.stray {
             Some(stray) if packet.sequence == stray.sequence.wrapping_add(1) => {
-                let mut waiting = JitterBuffer::new(self.alloc, self.waiting.config());
+                // (both wait, whatever the limit)
+                let config = self.waiting.config();
+                let mut waiting = JitterBuffer::new(
+                    self.alloc,
+                    AccessUnitConfig {
+                        held_limit: usize::MAX,
+                        ..config
+                    },
+                );
                 let _ = waiting.push(now, &stray.packet())?;
                 let _ = waiting.push(now, packet)?;
+                waiting.set_held_limit(config.held_limit);
                 self.counts.push(Pushed::Anew);
                 self.counts.drop(self.waiting.len());
                 self.waiting = waiting;

@@ -271,3 +271,39 @@ fn strays_and_a_stream_that_begins_anew(rt: HostRuntime) -> Result<(), PacketErr
     assert!(rt; at.is_none(), "{at:?}");
     Ok(())
 }
+
+#[test]
+fn strays_by_the_newest_that_waits(rt: HostRuntime) -> Result<(), PacketError> {
+    let at = walk(
+        rt.alloc(),
+        6,
+        &[
+            // 7 is due, so 13 is 6 ahead of it, and 1 ahead of the newest.
+            Step::Push(0, 10, 0, true, KEY, Pushed::Held),
+            Step::Push(0, 11, 3000, true, SLICE, Pushed::Held),
+            Step::Push(0, 12, 6000, true, SLICE, Pushed::Held),
+            Step::Push(0, 13, 9000, true, SLICE, Pushed::Held),
+            Step::Unit(0, 0, 6, [false, false, false], 10, 10, 0),
+            Step::Unit(0, 3000, 6, [true, false, false], 11, 11, 0),
+            Step::Unit(0, 6000, 6, [true, false, false], 12, 12, 0),
+            Step::Unit(0, 9000, 6, [true, false, false], 13, 13, 0),
+            // 14 is due, and none waits. Both wait, though the first alone is past 20 bytes.
+            Step::Push(0, 20, 12000, true, &[0x61; 25], Pushed::Stray),
+            Step::Push(0, 21, 15000, true, SLICE, Pushed::Anew),
+            Step::Unit(0, 12000, 29, [false, false, false], 20, 20, 0),
+            Step::Unit(0, 15000, 6, [true, false, false], 21, 21, 0),
+            // 22 is due: 31 is 9 ahead of it, and 5 of the newest, and 23 is between them.
+            Step::Push(0, 26, 21000, true, SLICE, Pushed::Held),
+            Step::Push(0, 31, 24000, true, SLICE, Pushed::Held),
+            Step::Push(0, 37, 27000, true, SLICE, Pushed::Stray),
+            Step::Push(0, 23, 18000, true, SLICE, Pushed::Held),
+            Step::Push(0, 16, 27000, true, SLICE, Pushed::Stray),
+            Step::Push(0, 17, 27000, true, SLICE, Pushed::Late(5)),
+            Step::Unit(0, 18000, 6, [false, false, false], 23, 23, 1),
+            Step::Unit(0, 21000, 6, [false, false, false], 26, 26, 2),
+            Step::None(0),
+        ],
+    )?;
+    assert!(rt; at.is_none(), "{at:?}");
+    Ok(())
+}
