@@ -11,7 +11,7 @@ ghost use Rattle.h26x_codec.specs.Codec.{codec_format};
 ghost use Rattle.h26x_receiver.specs.AnyPayloadDepacketizer.{any_payload_state, any_payload_depacketization, codec_begins, codec_ends};
 
 use crate::run::RunDepacketizer;
-use h26x_codec::{Codec, laws};
+use h26x_codec::{Codec, formats};
 use h26x_core::{CodecExtra, Depacketizer, PacketError};
 use h26x_payload::{
     DonlFormat, OpenRun, OpenText, PacketReader, PayloadFormat, RunRule, UnitSink, out_size_hint,
@@ -280,7 +280,7 @@ impl RunDepacketizer for AnyPayloadDepacketizer {
     ghost taken_beside = { λ packet run it. refl };
 
     fn meets_the_facts(&self) {
-        laws::formats_meet_the_facts();
+        formats::formats_meet_the_facts();
     }
 
     fn run_len(&self) -> usize {
