@@ -6,11 +6,12 @@
 /// missing, and how much memory it holds.
 #[derive(Debug, Clone, Copy, PartialEq, Eq, Hash)]
 pub struct AccessUnitConfig {
-    /// A packet that is missing is waited for until one came so many places, less one, ahead of it, 1
-    /// to 2^14.
+    /// Packets that are missing before one that waits are waited for until one came so many places,
+    /// less one, ahead of it, 1 to 2^14.
     pub window: u16,
-    /// A number so far or farther from the one that is due, ahead or behind, is a stray, which waits
-    /// alone until the number behind it comes (RFC 3550, A.1); 0: none is.
+    /// A number so far or farther ahead of the newest that waits (where none waits, of the one that is
+    /// due), and so far behind the one that is due, is a stray, which waits alone until the number
+    /// behind it comes (RFC 3550, A.1); 0: none is.
     pub far: u16,
     /// A packet that is missing is waited for so long at most after one behind it came, in the
     /// caller's ticks, which go round at 2^32; `u32::MAX`: by the window alone.

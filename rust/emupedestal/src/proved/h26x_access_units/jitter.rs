@@ -50,17 +50,32 @@ impl JitterBuffer {
         self.config
     }
 
-    /// Whether a number is so far from the one that is due, ahead or behind, that it is a stray (RFC
-    /// 3550, A.1).
+    /// Has another limit on the bytes that wait from now on.
+    pub(crate) fn set_held_limit(&mut self, limit: usize) {
+        self.config.held_limit = limit;
+    }
+
+    /// The number of the last packet that waits, or the one that is due where none waits.
+    fn newest(&self, due: u16) -> u16 {
+        match self.buffer.len() {
+            0 => due,
+            len => self.buffer.number_at(len - 1),
+        }
+    }
+
+    /// Whether a number is so far ahead of the newest that waits, or of the one that is due where none
+    /// waits, and so far behind the one that is due, that it is a stray (RFC 3550, A.1).
     pub fn is_far(&self, number: u16) -> bool {
+        let far = self.config.far;
         match self.buffer.due() {
-            Some(due) => {
-                let far = self.config.far;
-                let ahead = number.wrapping_sub(due);
+            Some(due) if far != 0 => {
+                let newest = self.newest(due);
+                let is_between = number.wrapping_sub(due) <= newest.wrapping_sub(due);
+                let ahead = number.wrapping_sub(newest);
                 let behind = due.wrapping_sub(number);
-                far != 0 && ahead >= far && behind >= far
+                !is_between && ahead >= far && behind >= far
             }
-            None => false,
+            _ => false,
         }
     }
 

@@ -89,9 +89,15 @@ impl<D: RunDepacketizer> AccessUnitReceiver<D> {
     fn push_far(&mut self, now: u32, packet: &RtpPacket<'_>) -> Result<Pushed, PacketError> {
         match &self.stray {
             Some(stray) if packet.sequence == stray.sequence.wrapping_add(1) => {
-                let mut waiting = JitterBuffer::new(self.waiting.config());
+                // (both wait, whatever the limit)
+                let config = self.waiting.config();
+                let mut waiting = JitterBuffer::new(AccessUnitConfig {
+                    held_limit: usize::MAX,
+                    ..config
+                });
                 let _ = waiting.try_push(now, &stray.packet())?;
                 let _ = waiting.try_push(now, packet)?;
+                waiting.set_held_limit(config.held_limit);
                 self.counts.try_push(Pushed::Anew);
                 self.counts.drop(self.waiting.len());
                 self.waiting = waiting;
