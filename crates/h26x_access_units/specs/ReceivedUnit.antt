@@ -1,5 +1,5 @@
 -- Access units as a receiver gives them out (RFC 6184, 5.1; RFC 7798, 4.1; RFC 9328, 4.1; ours).
-use Rattle.std.specs.Prelude.{ℕ, Bool, false, ◌&&◌, ◌||◌, not, List}
+use Rattle.std.specs.Prelude.{ℕ, Bool, false, ◌&&◌, ◌||◌, not, if◌then◌else◌, List}
 use Rattle.h26x_core.specs.declared.extra.CodecExtra.{CodecExtra}
 use Rattle.h26x_core.specs.declared.extra.CodecExtra.TheVariants as extras
 use Rattle.h26x_frames.specs.AccessUnit.{AccessUnitValue}
@@ -39,9 +39,10 @@ is_keyframe (extras.H264 extra) = extra.is_keyframe
 is_keyframe (extras.H265 extra) = extra.is_keyframe
 is_keyframe (extras.H266 extra) = extra.is_keyframe
 
--- whether nothing is missing in an access unit, nor was since a keyframe, or it is one
-abbrev pub clean_with : Bool → AccessUnitValue → Bool
-clean_with was_clean unit = unit.is_whole && (is_keyframe unit.extra || was_clean)
+-- whether nothing is missing in an access unit, nor was since a keyframe, or one begins with it
+abbrev pub clean_with : Bool → AccessUnitValue → UnitNumbers → Bool
+clean_with was_clean unit numbers = unit.is_whole
+    && (if numbers.continues then was_clean else is_keyframe unit.extra || was_clean)
 
 -- whether an access unit is told to be whole: it doesn't go on with another one
 abbrev pub whole_with : AccessUnitValue → UnitNumbers → Bool
@@ -54,7 +55,7 @@ received_unit was_clean unit numbers = record {
   bytes = unit.bytes;
   extra = unit.extra;
   is_whole = whole_with unit numbers;
-  is_clean = clean_with was_clean unit;
+  is_clean = clean_with was_clean unit numbers;
   continues = numbers.continues;
   first = numbers.first;
   last = numbers.last;

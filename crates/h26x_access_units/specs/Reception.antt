@@ -121,11 +121,16 @@ abbrev pub frames_after : ℕ → ℕ → UnitDepacketization → ℕ × RtpBody
 frames_after most limit s p answer =
     if bears_nothing p.1.payload then after_unit_skip s p.0 else after_rtp most limit s p answer
 
+-- the same once it forgot that a marker ended the last access unit: what goes on with that may be
+-- known to be whole too
+abbrev pub marker_forgotten : UnitDepacketization → UnitDepacketization
+marker_forgotten s = record s { closed = None }
+
 -- after a packet that was due and was answered so: it waits no more
 abbrev pub after_due : Reception → ℕ × RtpBody → Result Received PacketError → Reception
 after_due s p answer = record s {
   waiting = without_due s.waiting;
-  frames = frames_after s.run_limit s.unit_limit s.frames p answer;
+  frames = marker_forgotten (frames_after s.run_limit s.unit_limit s.frames p answer);
   numbers = numbers_after s.numbers p answer;
   counts = counted_due s.counts p.1.payload answer;
 }
@@ -185,7 +190,7 @@ without_given_of s [] = s
 without_given_of s (unit ∷ units) = record s {
   frames = record s.frames { ended = units };
   numbers = without_first_ended s.numbers;
-  is_clean = clean_with s.is_clean unit;
+  is_clean = clean_with s.is_clean unit (first_ended s.numbers);
   counts = counted_unit s.counts (whole_with unit (first_ended s.numbers));
 }
 

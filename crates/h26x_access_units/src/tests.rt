@@ -189,7 +189,7 @@ fn markers_and_numbers_that_bear_nothing(rt: HostRuntime) -> Result<(), PacketEr
             Step::Push(100, 11, 3000, true, KEY, Pushed::Held),
             Step::Push(100, 12, 3000, true, SLICE, Pushed::Held),
             Step::Unit(100, 3000, 6, [true, true, false], 11, 11, 0),
-            Step::Unit(100, 3000, 6, [false, false, true], 12, 12, 0),
+            Step::Unit(100, 3000, 6, [false, true, true], 12, 12, 0),
             // Padding alone in a fragmented unit, and a number of another payload type.
             Step::Push(100, 13, 6000, false, START, Pushed::Held),
             Step::Push(100, 14, 6000, true, NOTHING, Pushed::Held),

@@ -208,6 +208,14 @@ impl OpenAccessUnit {
         }
     }
 
+    /// Forgets that a marker ended the last one.
+    #[inline]
+    pub(crate) fn forget_marker(&mut self)
+        ensures { self.new ≡ record self.old { closed = None } }
+    {
+        self.closed = None;
+    }
+
     /// Whether it is known that nothing of its access unit is missing before a packet.
     #[inline]
     pub(crate) fn follows(&self, expected: Option<u16>, packet: &RtpPacket<'_>) -> bool
