@@ -235,9 +235,9 @@ impl<D: RunDepacketizer> FrameReceiver<D> {
         received
     }
 
-    /// Forgets that a marker ended the last access unit, so that one of its timestamp that goes on right
-    /// behind it may be known to be whole too: for a caller who asks that of each part, as where a sender
-    /// sets the marker on each slice. It takes no memory.
+    /// Forgets that a marker ended the last access unit, so that one of its timestamp that goes on
+    /// right behind it may be known to be whole too: for a caller who asks that of each part, as where
+    /// a sender sets the marker on each slice. It takes no memory.
     #[inline]
     pub fn forget_marker(&mut self)
         ensures { self.new ≡ record self.old { unit = record self.old.unit { closed = None } } }

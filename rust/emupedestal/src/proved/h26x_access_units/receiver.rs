@@ -161,6 +161,7 @@ impl<D: RunDepacketizer> AccessUnitReceiver<D> {
         if is_want_of_memory(&received) {
             return Err(PacketError::OutOfMemory);
         }
+        self.frames.forget_marker();
         self.numbers.note(&packet, &received);
         self.counts.note(&packet, &received);
         let _ = self.waiting.pop_first();
@@ -206,7 +207,8 @@ impl<D: RunDepacketizer> AccessUnitReceiver<D> {
         let unit = self.ended.remove(0);
         let numbers = self.numbers.give();
         let is_whole = unit.is_whole && !numbers.continues;
-        self.is_clean = unit.is_whole && (is_keyframe(unit.extra) || self.is_clean);
+        let is_keyframe = is_keyframe(unit.extra) && !numbers.continues;
+        self.is_clean = unit.is_whole && (is_keyframe || self.is_clean);
         self.counts.unit(is_whole);
         Some(ReceivedUnit {
             timestamp: unit.timestamp,

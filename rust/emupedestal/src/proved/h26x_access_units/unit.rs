@@ -19,8 +19,8 @@ pub struct ReceivedUnit {
     /// Whether it is known that nothing of it is missing.
     pub is_whole: bool,
     /// Whether nothing was missing since a keyframe of which nothing is missing, or in that: a decoder
-    /// that began there can go on. Behind one that isn't known to be whole, as one that goes on with
-    /// another, it is false until the next such keyframe.
+    /// that began there can go on. Where something is missing it is false until the next such keyframe.
+    /// One that goes on with another can be clean, though it isn't known to be whole.
     pub is_clean: bool,
     /// Whether a marker ended one of its timestamp right before it, as where a peer sets the marker on
     /// each slice. It isn't known to be whole then.

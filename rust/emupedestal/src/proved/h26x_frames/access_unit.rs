@@ -170,6 +170,12 @@ impl OpenAccessUnit {
         }
     }
 
+    /// Forgets that a marker ended the last one.
+    #[inline]
+    pub(crate) fn forget_marker(&mut self) {
+        self.closed = None;
+    }
+
     /// Whether it is known that nothing of its access unit is missing before a packet.
     #[inline]
     pub(crate) fn follows(&self, expected: Option<u16>, packet: &RtpPacket<'_>) -> bool {

@@ -136,6 +136,14 @@ impl<D: RunDepacketizer> FrameReceiver<D> {
         received
     }
 
+    /// Forgets that a marker ended the last access unit, so that one of its timestamp that goes on
+    /// right behind it may be known to be whole too: for a caller who asks that of each part, as where
+    /// a sender sets the marker on each slice. It takes no memory.
+    #[inline]
+    pub fn forget_marker(&mut self) {
+        self.unit.forget_marker();
+    }
+
     /// At the end of a stream: appends the access unit that is open, which isn't known to be whole,
     /// and gives up the open run. Any sequence number may be the next.
     ///
