@@ -1,4 +1,4 @@
-//! The README's first example in code.
+//! The first example of `h264_payload`'s page: both ends.
 
 use h26x_core::{CodecExtra, Depacketizer, PacketError, Packetizer};
 use h264_payload::{H264Depacketizer, H264Packetizer};

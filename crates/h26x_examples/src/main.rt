@@ -1,5 +1,5 @@
 //! A program that sends an Annex B stream, receives it again and tells what it had; and, as tests,
-//! the code of the README and of the documents.
+//! the code of the documents.
 //!
 //! `h26x_examples CODEC [FILE]` reads the file, or standard input where none is named; the codec is
 //! `h264`, `h265` or `h266`.
