@@ -12,7 +12,7 @@ use Rattle.h26x_access_units.specs.declared.numbers.NumbersSoFar.{NumbersSoFar}
 use Rattle.h26x_access_units.specs.Counts.{counted_due}
 use Rattle.h26x_access_units.specs.Numbers.{numbers_after}
 use Rattle.h26x_access_units.specs.JitterBuffer.{JitterState, is_pressed, due_packet, without_due}
-use Rattle.h26x_access_units.specs.Reception.{Reception, reception, frames_after, after_due, has_no_unit, IsDueTaken, IsDrained, none, more}
+use Rattle.h26x_access_units.specs.Reception.{Reception, reception, frames_after, marker_forgotten, after_due, has_no_unit, IsDueTaken, IsDrained, none, more}
 
 -- where nothing is held nothing is ready
 none_ready : (window : ℕ) (due : Option ℕ) → first_ready {A = RtpBody} window due [] ≡ None
@@ -34,15 +34,15 @@ taken_falls now s t it =
 
 -- what stands after a packet that was due, by its parts
 pub due_stands : (s : Reception) (p : ℕ × RtpBody) (a : Result Received PacketError) (waiting : JitterState) (frames : UnitDepacketization) (numbers : NumbersSoFar) (counts : Counts) (run unit : ℕ) →
-    waiting ≡ without_due s.waiting → frames ≡ frames_after s.run_limit s.unit_limit s.frames p a → numbers ≡ numbers_after s.numbers p a → counts ≡ counted_due s.counts p.1.payload a →
+    waiting ≡ without_due s.waiting → frames ≡ marker_forgotten (frames_after s.run_limit s.unit_limit s.frames p a) → numbers ≡ numbers_after s.numbers p a → counts ≡ counted_due s.counts p.1.payload a →
     run ≡ s.run_limit → unit ≡ s.unit_limit → reception waiting s.stray s.is_anew frames numbers s.is_clean counts run unit ≡ after_due s p a
 due_stands s p a waiting frames numbers counts run unit w f n c r u =
     ap (λ (x : JitterState). reception x s.stray s.is_anew frames numbers s.is_clean counts run unit) w
     ∙ ap (λ (x : UnitDepacketization). reception (without_due s.waiting) s.stray s.is_anew x numbers s.is_clean counts run unit) f
-    ∙ ap (λ (x : NumbersSoFar). reception (without_due s.waiting) s.stray s.is_anew (frames_after s.run_limit s.unit_limit s.frames p a) x s.is_clean counts run unit) n
-    ∙ ap (λ (x : Counts). reception (without_due s.waiting) s.stray s.is_anew (frames_after s.run_limit s.unit_limit s.frames p a) (numbers_after s.numbers p a) s.is_clean x run unit) c
-    ∙ ap (λ (x : ℕ). reception (without_due s.waiting) s.stray s.is_anew (frames_after s.run_limit s.unit_limit s.frames p a) (numbers_after s.numbers p a) s.is_clean (counted_due s.counts p.1.payload a) x unit) r
-    ∙ ap (λ (x : ℕ). reception (without_due s.waiting) s.stray s.is_anew (frames_after s.run_limit s.unit_limit s.frames p a) (numbers_after s.numbers p a) s.is_clean (counted_due s.counts p.1.payload a) s.run_limit x) u
+    ∙ ap (λ (x : NumbersSoFar). reception (without_due s.waiting) s.stray s.is_anew (marker_forgotten (frames_after s.run_limit s.unit_limit s.frames p a)) x s.is_clean counts run unit) n
+    ∙ ap (λ (x : Counts). reception (without_due s.waiting) s.stray s.is_anew (marker_forgotten (frames_after s.run_limit s.unit_limit s.frames p a)) (numbers_after s.numbers p a) s.is_clean x run unit) c
+    ∙ ap (λ (x : ℕ). reception (without_due s.waiting) s.stray s.is_anew (marker_forgotten (frames_after s.run_limit s.unit_limit s.frames p a)) (numbers_after s.numbers p a) s.is_clean (counted_due s.counts p.1.payload a) x unit) r
+    ∙ ap (λ (x : ℕ). reception (without_due s.waiting) s.stray s.is_anew (marker_forgotten (frames_after s.run_limit s.unit_limit s.frames p a)) (numbers_after s.numbers p a) s.is_clean (counted_due s.counts p.1.payload a) s.run_limit x) u
 
 -- before any was taken
 pub none_more : (now : ℕ) (s : Reception) → IsDrained now s s

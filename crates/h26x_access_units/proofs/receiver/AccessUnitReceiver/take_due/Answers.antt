@@ -3,7 +3,8 @@ use Rattle.std.specs.Option.{option_map}
 use Rattle.h26x_frames.specs.ReorderBuffer.{numbered_packet}
 use Rattle.h26x_frames.specs.Rtp.{RtpBody}
 use Rattle.h26x_frames.specs.AccessUnit.{access_unit_value, open_depacketization}
-use Rattle.h26x_access_units.specs.Reception.{reception}
+use Rattle.h26x_frames.specs.declared.receiver.FrameReceiver.{FrameReceiver}
+use Rattle.h26x_access_units.specs.Reception.{reception, marker_forgotten}
 use Rattle.h26x_access_units.proofs.ReceptionLemmas.{due_stands}
 use Rattle.h26x_access_units.proofs.receiver.AccessUnitReceiver.take_due.Goals as goal
 
@@ -13,6 +14,8 @@ returns-clause-taken g c =
     let state = g.D.RunDepacketizer.state in
     let frames = c.take_packet-received.new.frames in
     let ended = c.take_packet-received.new.ended in
+    let forgot = c.forget_marker.new.self in
+    let at = λ (it : FrameReceiver _). open_depacketization (state it.packets.depacketizer) it.packets.expected it.unit (map access_unit_value ended.items) in
     record {
       packet = c.packet-packet.result;
       answer = c.take_packet-received.result;
@@ -21,7 +24,9 @@ returns-clause-taken g c =
       room = λ bad. absurd (let h = c.is_want_of_memory.ensures.1 bad in cc);
       stands = due_stands
           (reception old.waiting (option_map numbered_packet old.stray) old.is_anew (open_depacketization (state old.frames.packets.depacketizer) old.frames.packets.expected old.frames.unit (map access_unit_value old.ended.items)) old.numbers old.is_clean old.counts old.frames.packets.run_limit old.frames.unit_limit)
-          c.packet-packet.result c.take_packet-received.result c.pop_first.new.self (open_depacketization (state frames.packets.depacketizer) frames.packets.expected frames.unit (map access_unit_value ended.items))
-          c.note.new.self c.note-2.new.self frames.packets.run_limit frames.unit_limit
-          c.pop_first.ensures.after c.take_packet-received.ensures.after c.note.ensures c.note-2.ensures c.take_packet-received.ensures.limit c.take_packet-received.ensures.unit_limit;
+          c.packet-packet.result c.take_packet-received.result c.pop_first.new.self (at forgot)
+          c.note.new.self c.note-2.new.self forgot.packets.run_limit forgot.unit_limit
+          c.pop_first.ensures.after (ap at c.forget_marker.ensures ∙ ap marker_forgotten c.take_packet-received.ensures.after) c.note.ensures c.note-2.ensures
+          (ap (λ (it : FrameReceiver _). it.packets.run_limit) c.forget_marker.ensures ∙ c.take_packet-received.ensures.limit)
+          (ap (λ (it : FrameReceiver _). it.unit_limit) c.forget_marker.ensures ∙ c.take_packet-received.ensures.unit_limit);
     }
