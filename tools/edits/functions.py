@@ -40,20 +40,47 @@ def function_at(text, place):
     return around[-1] if around else None
 
 
+def outer_of(lines, line):
+    """The lines, counted from 0, in which the items around this one begin, the innermost first."""
+    indent = len(HEAD.match(lines[line - 1])[1])
+    for at in range(line - 2, -1, -1):
+        its = len(lines[at]) - len(lines[at].lstrip())
+        if lines[at].strip() and its < indent and OUTER.match(lines[at]):
+            yield at
+            indent = its
+
+
 def path_of(file, text, line):
     """The path below its crate of the function that begins in this line of a file."""
     lines = text.split("\n")
-    head = HEAD.match(lines[line - 1])
-    indent, inside = len(head[1]), []
-    for at in range(line - 2, -1, -1):
-        its = len(lines[at]) - len(lines[at].lstrip())
-        outer = OUTER.match(lines[at]) if lines[at].strip() and its < indent else None
-        if outer:
-            inside.insert(0, name_of_impl(head_of(lines, at)) if outer[1] else outer[2])
-            indent = its
+    inside = [HEAD.match(lines[line - 1])[2]]
+    for at in outer_of(lines, line):
+        outer = OUTER.match(lines[at])
+        inside.insert(0, name_of_impl(head_of(lines, at)) if outer[1] else outer[2])
     modules = file[len("src/") : -len(".rt")].split("/")
     modules = [] if modules in (["lib"], ["main"]) else modules
-    return "::".join([*modules, *inside, head[2]])
+    return "::".join([*modules, *inside])
+
+
+def may_stand_twice(text, number):
+    """Whether a function can stand beside itself under another name: it is no trait's, in no cycle of
+    calls, and has no function in it, nor is it in one."""
+    lines, found = text.split("\n"), functions(text)
+    first, last = found[number]
+    others = found[:number] + found[number + 1 :]
+    if any(its_first <= last and first <= its_last for its_first, its_last in others):
+        return False
+    if "#[cycle" in "\n".join(lines[first_of_item(text, first) - 1 : first]):
+        return False
+    heads = [head_of(lines, at) for at in outer_of(lines, first)]
+    return not any(re.search(r"\btrait\b", it) or parted_at_for(it)[1] for it in heads)
+
+
+def renamed(lines, name):
+    """The lines of a function's item under another name."""
+    at = next(at for at, line in enumerate(lines) if HEAD.match(line))
+    first, end = HEAD.match(lines[at]).span(2)
+    return [*lines[:at], lines[at][:first] + name + lines[at][end:], *lines[at + 1 :]]
 
 
 def head_of(lines, at):

@@ -18,12 +18,17 @@ ENDED = re.compile(r"^only=\d+ (?:proved|holes)=\d+$", re.M)
 
 @dataclasses.dataclass
 class Target:
-    """A function that is to be refused: its path, and its lines in the edited file."""
+    """A function that is to be refused: its path, its lines in the edited file, and which of the
+    function's bodies it is."""
 
     path: str
     file: str
     first: int
     last: int
+    body: int = 0
+
+    def function(self):
+        return self.path.removesuffix(f"_wrong_{self.body}")
 
     def is_named(self, name):
         """Whether a name is the function's or that of a closure in it, whichever module names it."""
@@ -73,12 +78,12 @@ def refusal(said, crate, target):
         return None
     found = goals(said, target)
     if found:
-        return f"{target.path}: {', '.join(found)}"
+        return f"{target.function()}: {', '.join(found)}"
     searched = [it for it in refused if "`search` did not prove" in it]
     if searched:
-        return f"{target.path}: {re.search(r'did not prove ([^;]*)', searched[0])[1]}"
+        return f"{target.function()}: {re.search(r'did not prove ([^;]*)', searched[0])[1]}"
     answers, _ = proof_errors(said, target)
-    return f"{target.path}: the answer to {answers[0][:140]}" if answers else None
+    return f"{target.function()}: the answer to {answers[0][:140]}" if answers else None
 
 
 def other_reason(said, crate, target):
