@@ -5,8 +5,6 @@ pub(crate) mod by_level;
 pub(crate) mod h264;
 pub(crate) mod h265;
 pub(crate) mod h266;
-#[cfg(test)]
-mod tests;
 
 ghost use Rattle.std.specs.Prelude.{◌≡◌, List, Option, IfOk, length, map, vec_len};
 ghost use Rattle.std.specs.Option.{option_map, option_or};

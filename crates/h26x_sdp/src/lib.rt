@@ -40,8 +40,3 @@ pub use single_units::fits_single_units;
 pub use table::{ParameterRow, row_of, same_name};
 pub use unit_types::UnitTypes;
 pub use units::{read_units, write_units};
-
-#[cfg(test)]
-mod stream_tests;
-#[cfg(test)]
-mod tests;

@@ -1,6 +1,6 @@
 //! Values of lines, their parameters as they are written, and what is wrong with values.
 
-use crate::{
+use h26x_sdp::{
     CodecParameter, CodecParameters, Encoding, Fault, H264Parameter, H264Parameters, H265Parameter,
     H265Parameters, H266Parameter, H266Parameters, Kind, ParametersError, RtpMap, RtpMapError,
     UnitsError, closes, pairs_of, push_pair, read_units, write_units,

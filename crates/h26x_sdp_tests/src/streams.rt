@@ -1,6 +1,6 @@
 //! What streams say of themselves: the sets of two real ones, and of one by hand.
 
-use crate::{
+use h26x_sdp::{
     CodecParameter, CodecParameters, H264Parameter, H265Parameter, H266Parameter, StreamError,
     UnitsError, fits_single_units, h264_of_payload, h264_of_units, h265_of_payload, h265_of_units,
     h266_of_payload, h266_of_units,

@@ -1,6 +1,6 @@
 //! Offers as ends make them and those of the RFCs, and what is answered.
 
-use crate::{
+use h26x_sdp::{
     CodecParameters, CodecRules, Format, H264Parameter, H265Parameter, H266Parameter,
     ParametersError, answer_to,
 };
