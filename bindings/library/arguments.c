@@ -23,6 +23,13 @@ PROVED(written_copy);
 PROVED(receiver_free);
 PROVED(receive);
 PROVED(receiver_skip);
+PROVED(access_units_free);
+PROVED(access_units_push);
+PROVED(access_units_skip);
+PROVED(access_units_next);
+PROVED(access_units_deadline);
+PROVED(access_units_missing);
+PROVED(access_units_count);
 PROVED(h265_part_copy);
 PROVED(h265_paci_packet);
 PROVED(is_partition_head);
@@ -49,10 +56,12 @@ PROVED(h264_profile_level);
 /* In the place of a buffer of length 0, which is neither read nor written. */
 static uint8_t no_bytes[1];
 static size_t no_ends[1];
+static uint16_t no_numbers[1];
 
 /* A buffer and its length, as two arguments: NULL has length 0, whatever the caller says. */
 #define BYTES(at, len) WANTED(at, no_bytes), (at) != NULL ? (len) : 0
 #define ENDS(at, len) WANTED(at, no_ends), (at) != NULL ? (len) : 0
+#define NUMBERS(at, len) WANTED(at, no_numbers), (at) != NULL ? (len) : 0
 
 /* ---- Sending ---- */
 
@@ -191,6 +200,59 @@ uint32_t h26x_receiver_skip(h26x_receiver *r, uint16_t sequence, uint32_t *recei
     uint16_t unwanted_count;
     return proved_receiver_skip(r, sequence, WANTED(received, &unwanted_received),
                                 WANTED(count, &unwanted_count));
+}
+
+/* ---- Receiving access units ---- */
+
+void h26x_access_units_free(h26x_access_units u)
+{
+    if (u.at != NULL)
+        proved_access_units_free(u);
+}
+
+uint32_t h26x_access_units_push(h26x_access_units *u, uint32_t now, uint16_t sequence, uint32_t timestamp,
+                                bool marker, const uint8_t *payload, size_t payload_len, uint32_t *pushed,
+                                uint16_t *behind)
+{
+    uint32_t unwanted_pushed;
+    uint16_t unwanted_behind;
+    return proved_access_units_push(u, now, sequence, timestamp, marker, BYTES(payload, payload_len),
+                                    WANTED(pushed, &unwanted_pushed), WANTED(behind, &unwanted_behind));
+}
+
+uint32_t h26x_access_units_skip(h26x_access_units *u, uint32_t now, uint16_t sequence, uint32_t *pushed,
+                                uint16_t *behind)
+{
+    uint32_t unwanted_pushed;
+    uint16_t unwanted_behind;
+    return proved_access_units_skip(u, now, sequence, WANTED(pushed, &unwanted_pushed),
+                                    WANTED(behind, &unwanted_behind));
+}
+
+uint32_t h26x_access_units_next(h26x_access_units *u, uint32_t now, uint8_t *to, size_t room,
+                                h26x_access_unit *unit)
+{
+    h26x_access_unit unwanted;
+    return proved_access_units_next(u, now, BYTES(to, room), WANTED(unit, &unwanted));
+}
+
+bool h26x_access_units_deadline(const h26x_access_units *u, uint32_t *at)
+{
+    uint32_t unwanted;
+    return proved_access_units_deadline(u, WANTED(at, &unwanted));
+}
+
+uint32_t h26x_access_units_missing(const h26x_access_units *u, uint16_t *numbers, size_t numbers_room,
+                                   size_t *count)
+{
+    size_t unwanted;
+    return proved_access_units_missing(u, NUMBERS(numbers, numbers_room), WANTED(count, &unwanted));
+}
+
+uint32_t h26x_access_units_count(const h26x_access_units *u, h26x_access_units_counts *counts)
+{
+    h26x_access_units_counts unwanted;
+    return proved_access_units_count(u, WANTED(counts, &unwanted));
 }
 
 /* ---- The packets that H.265 shows ---- */

@@ -43,9 +43,11 @@ const char *h26x_strerror(uint32_t code)
     case H26X_NOT_OF_THIS_CODEC:
         return "the codec has no such setting";
     case H26X_OUT_OF_RANGE:
-        return "the number is too small";
+        return "the number is out of range";
     case H26X_NO_ROOM:
         return "the output has no room for it";
+    case H26X_NOTHING_YET:
+        return "no access unit has ended";
     default:
         return "unknown code";
     }

@@ -4,7 +4,8 @@
 |---|---|---|
 | `#[unsafe(no_mangle)] pub extern "C" fn h26x_x(..)` | `pub fn h26x_x(..)` of the same body; in a module `exports` of the crate a function of C's form that calls it | the body stays safe, and all that C gives is taken in one file |
 | `x: &[u8]` of an export | `x: *const u8, x_len: usize`, then `bytes(x, x_len)` | NULL has length 0 |
-| `to: &mut [u8]`, `ends: &mut [usize]`, `packet: &mut [u8]` | the same, as `room`, `ends_room` and `packet_len`, then `room(..)` | as the header names them |
+| `to: &mut [u8]`, `ends: &mut [usize]`, `numbers: &mut [u16]`, `packet: &mut [u8]` | the same, as `room`, `ends_room`, `numbers_room` and `packet_len`, then `room(..)` | as the header names them |
+| `x: &Config` of an export | `x: *const Config`, then `shared(x)` | it is there |
 | `x: &mut usize`, and the other types of `OUTPUTS`, which nothing reads; of all functions of the crates that C reaches | `x: &mut MaybeUninit<usize>`, `*x = y` is `x.write(y)`; of an export `x: *mut usize`, then `output(x, ..)` | C leaves it uninitialised; NULL isn't wanted |
 | `extra: &mut u8` of an export, which it reads | `extra: *mut u8`, then `in_out(extra, ..)` | NULL is read as 0 |
 | `x: &mut Place`, `x: &mut Handle`, `x: &ConstHandle` | `x: *mut Place`, then `made(x)`; `x: *mut Handle`, then `lent(x)`; `x: *const ConstHandle`, then `shared(x)` | they are there |
@@ -26,7 +27,9 @@ REACHED = {"h26x_handles", "h26x_c"}
 UNSAFE = {"h26x_c"}
 NUMBERS = {"u8", "u16", "u32", "usize"}
 # What a call writes for C. `Place` is where a handle is written.
-OUTPUTS = NUMBERS | {"Refusal", "Shown", "Place"}
+OUTPUTS = NUMBERS | {"Refusal", "Shown", "Place", "UnitTold", "Counts"}
+# What a call only looks at: a handle, and what a caller sets.
+LOOKED_AT = {"ConstHandle", "Config"}
 # What the header says is in and out: C gives a number there, and of no other output.
 IN_OUT = {"extra"}
 # Parameters that the header names otherwise.
@@ -186,9 +189,11 @@ class Exports:
         used = "\n".join(calls)
         uses = ["use crate::pointers;"] if "pointers::" in used else []
         uses += ["use core::mem::MaybeUninit;"] if "MaybeUninit" in used else []
-        kinds = {"ConstHandle": "const_handle::ConstHandle", "Handle": "handle::Handle", "Place": "place::Place", "Shown": "shown::Shown"}
-        uses += [f"pub use super::{path};" for kind, path in kinds.items() if re.search(rf"\b{kind}\b", used)]
-        uses += ["pub use crate::proved::h26x_handles::code::Refusal;"] if "Refusal" in used else []
+        kinds = {"ConstHandle": "const_handle", "Handle": "handle", "Place": "place", "Shown": "shown",
+                 "Config": "access_units", "Counts": "access_units"}
+        uses += [f"pub use super::{file}::{kind};" for kind, file in kinds.items() if re.search(rf"\b{kind}\b", used)]
+        below = {"Refusal": "code", "UnitTold": "access_units"}
+        uses += [f"pub use crate::proved::h26x_handles::{file}::{kind};" for kind, file in below.items() if kind in used]
         return "\n".join([HEAD, *uses, "", *calls])
 
     def call(self, place, function):
@@ -196,8 +201,9 @@ class Exports:
         taken, given, first = [], [], []
         for name, kind in parameters(function):
             name = NAMES.get(name.lstrip("_"), name.lstrip("_"))
-            items = re.fullmatch(r"& (mut )?\[(u8|usize)\]", kind)
+            items = re.fullmatch(r"& (mut )?\[(u8|u16|usize)\]", kind)
             output = re.fullmatch(r"& mut (?:MaybeUninit < (\w+) >|(\w+))", kind)
+            looked_at = re.fullmatch(r"& (\w+)", kind)
             if items and items[1]:
                 room = f"{name}_room" if items[2] != "u8" else "room" if name == "to" else f"{name}_len"
                 taken.append(f"{name}: *mut {items[2]}, {room}: usize")
@@ -208,8 +214,8 @@ class Exports:
             elif output and (output[1] == "Place" or output[2] == "Handle"):
                 taken.append(f"{name}: *mut {output[1] or output[2]}")
                 given.append(f"pointers::{'made' if output[1] else 'lent'}({name})")
-            elif kind == "& ConstHandle":
-                taken.append(f"{name}: *const ConstHandle")
+            elif looked_at and looked_at[1] in LOOKED_AT:
+                taken.append(f"{name}: *const {looked_at[1]}")
                 given.append(f"pointers::shared({name})")
             elif output and output[1] in OUTPUTS:
                 taken.append(f"{name}: *mut {output[1]}")

@@ -3,3 +3,4 @@ pub mod Packets
 pub mod Profiles
 pub mod Owned
 pub mod Lent
+pub mod AccessUnits

@@ -54,6 +54,10 @@ out_of_range = 12
 abbrev pub no_room : ℕ
 no_room = 13
 
+-- no access unit has ended
+abbrev pub nothing_yet : ℕ
+nothing_yet = 14
+
 -- the refusal of a packet with a code and two numbers, if the code is of one
 abbrev pub refusal_of : ℕ → ℕ → ℕ → Option PacketError
 refusal_of code first second =

@@ -11,6 +11,10 @@ with_front bytes room = if nat_le (length bytes) (length room)
 abbrev pub without_room : {A : Type 0} → List A → List A → List A
 without_room bytes room = if nat_le (length bytes) (length room) then [] else bytes
 
+-- a buffer with the first entries of a list at its front, as many as it has room for
+abbrev pub with_first : {A : Type 0} → List A → List A → List A
+with_first entries room = take (length room) entries ++ drop (length entries) room
+
 -- the packet with a number, counted from 0; past the last one without bytes
 abbrev pub nth_packet : ℕ → List (List ℕ) → List ℕ
 nth_packet i packets = elim (slice_get packets i) [ None ↦ [] | Some packet ↦ packet ]

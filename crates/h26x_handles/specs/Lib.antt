@@ -4,3 +4,5 @@ pub mod Endpoint
 pub mod States
 pub mod Shown
 pub mod PlacementAnswer
+pub mod AccessUnitEndpoint
+pub mod AccessUnits

@@ -131,6 +131,7 @@ abbrev pub endpoint_codec : Endpoint → Codec
 endpoint_codec (e.Sending it) = any_packetizer_codec it.packetizer
 endpoint_codec (e.Receiving it) = any_depacketizer_codec it.depacketizer
 endpoint_codec (e.Sequenced it) = any_depacketizer_codec it.depacketizer
+endpoint_codec (e.AccessUnits it) = it.codec
 
 abbrev pub is_sending : Endpoint → Bool
 is_sending (e.Sending it) = true
@@ -151,6 +152,7 @@ abbrev pub endpoint_without_output : Endpoint → Endpoint
 endpoint_without_output (e.Sending it) = e.Sending (record it { packets = [] })
 endpoint_without_output (e.Receiving it) = e.Receiving (record it { written = [] })
 endpoint_without_output (e.Sequenced it) = e.Sequenced (record it { written = [] })
+endpoint_without_output it = it
 
 -- the same of a place, into which an endpoint was put or not
 abbrev pub place_packetizer_state : Option Endpoint → Option PacketizerState

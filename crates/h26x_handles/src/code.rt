@@ -29,11 +29,14 @@ pub const WRONG_END: u32 = 10;
 /// The codec has no such setting.
 pub const NOT_OF_THIS_CODEC: u32 = 11;
 
-/// A number is too small.
+/// A number is too small or too large.
 pub const OUT_OF_RANGE: u32 = 12;
 
 /// What is to be written doesn't fit; nothing changed.
 pub const NO_ROOM: u32 = 13;
+
+/// No access unit has ended.
+pub const NOTHING_YET: u32 = 14;
 
 /// The two numbers of a refusal.
 #[repr(C)]

@@ -2,9 +2,10 @@
 
 ghost use Rattle.std.specs.Prelude.{◌≡◌, ◌≤◌, length, take, drop};
 ghost use Rattle.std.specs.List.{concat};
-ghost use Rattle.h26x_handles.specs.Copies.{with_front, without_room, end_offsets, AreMost, AreCopied};
+ghost use Rattle.h26x_handles.specs.Copies.{with_front, with_first, without_room, end_offsets, AreMost, AreCopied};
 
 use h26x_payload::PacketBuffer;
+use std::cmp;
 use std::mem;
 
 /// Copies bytes to the front of a buffer where there is room for them; how many they are.
@@ -32,6 +33,17 @@ pub fn put_or_keep(bytes: &mut Vec<u8>, to: &mut [u8], kept: &mut Vec<u8>) -> us
         mem::swap(kept, bytes);
     }
     len
+}
+
+/// Copies the first numbers to the front of a buffer, as many as there is room for; how many they all
+/// are.
+pub fn copy_first(numbers: &[u16], to: &mut [u16]) -> usize
+    ensures count { result ≡ length numbers.now }
+    ensures copied { to.new ≡ with_first numbers.now to.old }
+{
+    let len = cmp::min(numbers.len(), to.len());
+    to[..len].copy_from_slice(&numbers[..len]);
+    numbers.len()
 }
 
 /// Where packets end that have no headroom.

@@ -1,5 +1,6 @@
 //! What stands behind a handle.
 
+use crate::access_units::AnyAccessUnitEndpoint;
 use crate::receiving::ReceivingEndpoint;
 use crate::sending::SendingEndpoint;
 use crate::sequenced::SequencedEndpoint;
@@ -13,4 +14,6 @@ pub enum Endpoint {
     Receiving(ReceivingEndpoint),
     /// It receives packets with their sequence numbers.
     Sequenced(SequencedEndpoint),
+    /// It receives access units, of packets as a network brings them.
+    AccessUnits(AnyAccessUnitEndpoint),
 }

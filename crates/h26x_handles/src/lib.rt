@@ -1,9 +1,11 @@
 //! What stands behind a handle of the C library: a packetizer with the packets of its last call, or
 //! a depacketizer, or a receiver of packets with their sequence numbers, each with what its last
-//! packet completed and had no room for in the caller's memory; the numbers by which calls answer,
-//! and the copies into a caller's buffers.
+//! packet completed and had no room for in the caller's memory; or a receiver of access units, with
+//! the one that had no room; the numbers by which calls answer, and the copies into a caller's
+//! buffers.
 #![tactic(auto)]
 
+pub mod access_units;
 pub mod cases;
 pub mod code;
 pub mod copy;

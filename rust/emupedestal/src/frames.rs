@@ -1,7 +1,6 @@
 //! Access units from packets that a network loses, repeats and reorders.
 
 use crate::proved::h26x_frames::FrameReceiver as Frames;
-use crate::proved::h26x_payload::OpenText;
 use crate::proved::h26x_receiver::{AnyPayloadDepacketizer, SequencedDepacketizer};
 use crate::sequenced::{copied, expect_the_same};
 use crate::{
@@ -32,15 +31,6 @@ impl fmt::Display for NotHeld {
 }
 
 impl core::error::Error for NotHeld {}
-
-/// Where the run stands makes no difference.
-impl PartialEq for OpenText {
-    fn eq(&self, other: &Self) -> bool {
-        self.text() == other.text() && self.run() == other.run()
-    }
-}
-
-impl Eq for OpenText {}
 
 /// A receiver of any codec that gives out access units, by the timestamps and markers of their packets
 /// (RFC 6184, 5.1; RFC 7798, 4.1; RFC 9328, 4.1), and tells of each whether it is known to be whole.

@@ -1,7 +1,8 @@
 //! What the proved modules ask of Rattle's std and Rust's lacks: fallible calls of lists, and the error of a
 //! request for memory. Such a call answers an error where memory lacks, and changes nothing then; behind its
-//! `try_reserve` std's own call takes no memory.
+//! `try_reserve` std's own call takes no memory. And when two open texts are equal.
 
+use crate::proved::h26x_payload::OpenText;
 use alloc::collections::{TryReserveError, VecDeque};
 use alloc::vec::Vec;
 use core::fmt;
@@ -15,6 +16,15 @@ mod texts;
 
 #[cfg(feature = "sdp")]
 pub use texts::{TryText, try_format};
+
+/// Where the run stands makes no difference.
+impl PartialEq for OpenText {
+    fn eq(&self, other: &Self) -> bool {
+        self.text() == other.text() && self.run() == other.run()
+    }
+}
+
+impl Eq for OpenText {}
 
 /// There was no memory.
 #[derive(Debug, Clone, Copy, PartialEq, Eq)]

@@ -44,8 +44,9 @@ pub extern "C" fn h26x_strerror(code: u32) -> *const c_char {
         9 => c"no codec has this number",
         10 => c"the handle is of another kind",
         11 => c"the codec has no such setting",
-        12 => c"the number is too small",
+        12 => c"the number is out of range",
         13 => c"the output has no room for it",
+        14 => c"no access unit has ended",
         _ => c"unknown code",
     };
     text.as_ptr()

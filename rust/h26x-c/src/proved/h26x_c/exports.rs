@@ -5,13 +5,160 @@
 //! A caller owes what the header says. So a pointer is NULL, where it may be, or that of a buffer of the length
 //! behind it, of a handle or of an output, which nothing else reads or writes while the call runs.
 
+pub use super::access_units::Config;
+pub use super::access_units::Counts;
 pub use super::const_handle::ConstHandle;
 pub use super::handle::Handle;
 pub use super::place::Place;
 pub use super::shown::Shown;
 use crate::pointers;
+pub use crate::proved::h26x_handles::access_units::UnitTold;
 pub use crate::proved::h26x_handles::code::Refusal;
 use core::mem::MaybeUninit;
+
+#[unsafe(no_mangle)]
+pub unsafe extern "C" fn h26x_access_units_new(config: *const Config, made: *mut Place) -> u32 {
+    // SAFETY: a caller owes what the header says.
+    unsafe {
+        super::access_units::h26x_access_units_new(pointers::shared(config), pointers::made(made))
+    }
+}
+
+#[unsafe(no_mangle)]
+pub unsafe extern "C" fn h26x_access_units_free(u: Handle) {
+    if u.ptr.is_null() {
+        return;
+    }
+    super::access_units::h26x_access_units_free(u)
+}
+
+#[unsafe(no_mangle)]
+pub unsafe extern "C" fn h26x_access_units_push(
+    u: *mut Handle,
+    now: u32,
+    sequence: u16,
+    timestamp: u32,
+    marker: bool,
+    payload: *const u8,
+    payload_len: usize,
+    pushed: *mut u32,
+    behind: *mut u16,
+) -> u32 {
+    let mut no_pushed = MaybeUninit::uninit();
+    let mut no_behind = MaybeUninit::uninit();
+    // SAFETY: a caller owes what the header says.
+    unsafe {
+        super::access_units::h26x_access_units_push(
+            pointers::lent(u),
+            now,
+            sequence,
+            timestamp,
+            marker,
+            pointers::bytes(payload, payload_len),
+            pointers::output(pushed, &mut no_pushed),
+            pointers::output(behind, &mut no_behind),
+        )
+    }
+}
+
+#[unsafe(no_mangle)]
+pub unsafe extern "C" fn h26x_access_units_skip(
+    u: *mut Handle,
+    now: u32,
+    sequence: u16,
+    pushed: *mut u32,
+    behind: *mut u16,
+) -> u32 {
+    let mut no_pushed = MaybeUninit::uninit();
+    let mut no_behind = MaybeUninit::uninit();
+    // SAFETY: a caller owes what the header says.
+    unsafe {
+        super::access_units::h26x_access_units_skip(
+            pointers::lent(u),
+            now,
+            sequence,
+            pointers::output(pushed, &mut no_pushed),
+            pointers::output(behind, &mut no_behind),
+        )
+    }
+}
+
+#[unsafe(no_mangle)]
+pub unsafe extern "C" fn h26x_access_units_next(
+    u: *mut Handle,
+    now: u32,
+    to: *mut u8,
+    room: usize,
+    unit: *mut UnitTold,
+) -> u32 {
+    let mut no_unit = MaybeUninit::uninit();
+    // SAFETY: a caller owes what the header says.
+    unsafe {
+        super::access_units::h26x_access_units_next(
+            pointers::lent(u),
+            now,
+            pointers::room(to, room),
+            pointers::output(unit, &mut no_unit),
+        )
+    }
+}
+
+#[unsafe(no_mangle)]
+pub unsafe extern "C" fn h26x_access_units_deadline(u: *const ConstHandle, at: *mut u32) -> bool {
+    let mut no_at = MaybeUninit::uninit();
+    // SAFETY: a caller owes what the header says.
+    unsafe {
+        super::access_units::h26x_access_units_deadline(
+            pointers::shared(u),
+            pointers::output(at, &mut no_at),
+        )
+    }
+}
+
+#[unsafe(no_mangle)]
+pub unsafe extern "C" fn h26x_access_units_missing(
+    u: *const ConstHandle,
+    numbers: *mut u16,
+    numbers_room: usize,
+    count: *mut usize,
+) -> u32 {
+    let mut no_count = MaybeUninit::uninit();
+    // SAFETY: a caller owes what the header says.
+    unsafe {
+        super::access_units::h26x_access_units_missing(
+            pointers::shared(u),
+            pointers::room(numbers, numbers_room),
+            pointers::output(count, &mut no_count),
+        )
+    }
+}
+
+#[unsafe(no_mangle)]
+pub unsafe extern "C" fn h26x_access_units_finish(u: *mut Handle) -> u32 {
+    // SAFETY: a caller owes what the header says.
+    unsafe { super::access_units::h26x_access_units_finish(pointers::lent(u)) }
+}
+
+#[unsafe(no_mangle)]
+pub unsafe extern "C" fn h26x_access_units_restart(u: *mut Handle) -> u32 {
+    // SAFETY: a caller owes what the header says.
+    unsafe { super::access_units::h26x_access_units_restart(pointers::lent(u)) }
+}
+
+#[unsafe(no_mangle)]
+pub unsafe extern "C" fn h26x_access_units_count(
+    u: *const ConstHandle,
+    counts: *mut Counts,
+) -> u32 {
+    let mut no_counts = MaybeUninit::uninit();
+    // SAFETY: a caller owes what the header says.
+    unsafe {
+        super::access_units::h26x_access_units_count(
+            pointers::shared(u),
+            pointers::output(counts, &mut no_counts),
+        )
+    }
+}
 
 #[unsafe(no_mangle)]
 pub unsafe extern "C" fn h26x_h265_paci_packet(

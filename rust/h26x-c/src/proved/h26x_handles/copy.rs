@@ -4,6 +4,7 @@
 
 use crate::proved::h26x_payload::PacketBuffer;
 use alloc::vec::Vec;
+use core::cmp;
 use core::mem;
 
 /// Copies bytes to the front of a buffer where there is room for them; how many they are.
@@ -24,6 +25,14 @@ pub fn put_or_keep(bytes: &mut Vec<u8>, to: &mut [u8], kept: &mut Vec<u8>) -> us
         mem::swap(kept, bytes);
     }
     len
+}
+
+/// Copies the first numbers to the front of a buffer, as many as there is room for; how many they all
+/// are.
+pub fn copy_first(numbers: &[u16], to: &mut [u16]) -> usize {
+    let len = cmp::min(numbers.len(), to.len());
+    to[..len].copy_from_slice(&numbers[..len]);
+    numbers.len()
 }
 
 /// Where packets end that have no headroom.

@@ -1,0 +1,325 @@
+//! The calls of a receiver of access units, of packets as a network brings them.
+
+ghost use Rattle.std.specs.Prelude.{◌≡◌, ◌≢◌, ◌⊎◌, ◌<◌, ◌≤◌, ◌^◌, ℕ, [], true, false, Some, None, Ok, Err, length};
+ghost use Rattle.h26x_codec.specs.declared.codec.Codec.{Codec};
+ghost use Rattle.h26x_frames.specs.Rtp.{rtp_body};
+ghost use Rattle.h26x_handles.specs.AccessUnitEndpoint.{AccessUnitEndpoint, pushed_numbers, units_push_answer};
+ghost use Rattle.h26x_handles.specs.AccessUnits.{is_access_units, endpoint_units, endpoint_after_push, endpoint_deadline, endpoint_missing, endpoint_finished, endpoint_units_restarted};
+ghost use Rattle.h26x_handles.specs.Codes.{ok, out_of_memory, wrong_end};
+ghost use Rattle.h26x_handles.specs.Copies.{with_first};
+ghost use Rattle.h26x_c.specs.AccessUnits.{config_codec_or_code, fresh_units_with, units_config, counts_told, IsNextCode, IsNextWithoutMemory};
+
+use crate::const_handle::ConstHandle;
+use crate::handle::Handle;
+use crate::place::{Place, put};
+use h26x_access_units::{self, AccessUnitConfig, Pushed};
+use h26x_core::PacketError;
+use h26x_frames::RtpPacket;
+use h26x_handles::access_units::{
+    AnyAccessUnitEndpoint, UnitTold, code_of_next, numbers_of_push, units_codec_wanted,
+};
+use h26x_handles::code::{OK, OUT_OF_MEMORY, WRONG_END};
+use h26x_handles::endpoint::Endpoint;
+use std::alloc::Global;
+
+/// What a caller sets.
+#[repr(C)]
+#[derive(Clone, Copy)]
+pub struct Config {
+    pub codec: u32,
+    pub max_wait: u32,
+    pub window: u16,
+    pub far_away: u16,
+    pub numbers: bool,
+    pub avc: bool,
+    pub held_limit: usize,
+    pub run_limit: usize,
+    pub unit_limit: usize,
+}
+
+/// What was counted.
+#[repr(C)]
+#[derive(Clone, Copy)]
+pub struct Counts {
+    pub taken: u64,
+    pub lost: u64,
+    pub late: u64,
+    pub twice: u64,
+    pub stray: u64,
+    pub refused: u64,
+    pub skipped: u64,
+    pub anew: u64,
+    pub units: u64,
+    pub whole: u64,
+    pub units_given_up: u64,
+}
+
+/// The settings of a receiver.
+fn settings(config: &Config) -> AccessUnitConfig
+    ensures { result ≡ units_config config.now }
+{
+    AccessUnitConfig {
+        window: config.window,
+        far: config.far_away,
+        max_wait: config.max_wait,
+        held_limit: config.held_limit,
+        run_limit: config.run_limit,
+        unit_limit: config.unit_limit,
+    }
+}
+
+/// What was counted, as C is told it.
+fn counts_told(counts: h26x_access_units::Counts) -> Counts
+    ensures { result ≡ counts_told counts }
+{
+    Counts {
+        taken: counts.taken,
+        lost: counts.lost,
+        late: counts.late,
+        twice: counts.twice,
+        stray: counts.stray,
+        refused: counts.refused,
+        skipped: counts.skipped,
+        anew: counts.anew,
+        units: counts.units,
+        whole: counts.whole,
+        units_given_up: counts.units_given_up,
+    }
+}
+
+/// Makes a receiver that takes any sequence number as the first.
+#[unsafe(no_mangle)]
+pub extern "C" fn h26x_access_units_new(alloc: Global, config: &Config, made: &mut Place) -> u32
+    ensures refused { (code : ℕ) → config_codec_or_code config.now ≡ Err code → result ≡ code }
+    ensures answer { (c : Codec) → config_codec_or_code config.now ≡ Ok c →
+        (result ≡ ok) ⊎ (result ≡ out_of_memory) }
+    ensures made { (c : Codec) → config_codec_or_code config.now ≡ Ok c → result ≡ ok →
+        made.new.value ≡ Some (fresh_units_with c config.now) }
+    ensures kept { result ≢ ok → made.new ≡ made.old }
+{
+    match units_codec_wanted(config.codec, config.numbers, config.window) {
+        Ok(codec) => put(
+            alloc,
+            Endpoint::AccessUnits(AnyAccessUnitEndpoint::new(
+                alloc,
+                codec,
+                config.numbers,
+                config.avc,
+                settings(config),
+            )),
+            made,
+        ),
+        Err(code) => code,
+    }
+}
+
+/// Frees a receiver of access units.
+#[unsafe(no_mangle)]
+pub extern "C" fn h26x_access_units_free(u: Handle) {
+    drop(u.into_box());
+}
+
+/// The code of what became of a packet that was given, and its numbers.
+fn code_of_push(
+    answer: Result<Pushed, PacketError>,
+    pushed: &mut u32,
+    behind: &mut u16,
+) -> u32
+    ensures ok { (it : Pushed) → answer ≡ Ok it →
+        (result ≡ ok) × ((pushed.new, behind.new) ≡ pushed_numbers it) }
+    ensures none { (e : PacketError) → answer ≡ Err e → (result ≡ out_of_memory)
+        × ((pushed.new ≡ pushed.old) × (behind.new ≡ behind.old)) }
+{
+    match answer {
+        Ok(it) => {
+            (*pushed, *behind) = numbers_of_push(it);
+            OK
+        }
+        Err(_) => OUT_OF_MEMORY,
+    }
+}
+
+/// Takes a packet that came at this tick.
+#[unsafe(no_mangle)]
+pub extern "C" fn h26x_access_units_push(
+    u: &mut Handle,
+    now: u32,
+    sequence: u16,
+    timestamp: u32,
+    marker: bool,
+    payload: &[u8],
+    pushed: &mut u32,
+    behind: &mut u16,
+) -> u32
+    ensures wrong { is_access_units u.old.value ≡ false → result ≡ wrong_end }
+    ensures answer { is_access_units u.old.value ≡ true → (result ≡ ok) ⊎ (result ≡ out_of_memory) }
+    ensures told { (it : AccessUnitEndpoint) → endpoint_units u.old.value ≡ Some it → result ≡ ok →
+        (pushed.new, behind.new) ≡ pushed_numbers
+        (units_push_answer it (sequence, rtp_body timestamp marker payload.now)) }
+    ensures after { result ≡ ok → u.new.value
+        ≡ endpoint_after_push now (sequence, rtp_body timestamp marker payload.now) u.old.value }
+    ensures kept { result ≢ ok → u.new.value ≡ u.old.value }
+    ensures kept_told { result ≢ ok → (pushed.new ≡ pushed.old) × (behind.new ≡ behind.old) }
+{
+    let packet = RtpPacket {
+        sequence,
+        timestamp,
+        marker,
+        payload,
+    };
+    match u.get_mut() {
+        Endpoint::AccessUnits(it) => code_of_push(it.push(now, &packet), pushed, behind),
+        _ => WRONG_END,
+    }
+}
+
+/// Passes over a number that came at this tick and bears nothing of the stream.
+#[unsafe(no_mangle)]
+pub extern "C" fn h26x_access_units_skip(
+    u: &mut Handle,
+    now: u32,
+    sequence: u16,
+    pushed: &mut u32,
+    behind: &mut u16,
+) -> u32
+    ensures wrong { is_access_units u.old.value ≡ false → result ≡ wrong_end }
+    ensures answer { is_access_units u.old.value ≡ true → (result ≡ ok) ⊎ (result ≡ out_of_memory) }
+    ensures told { (it : AccessUnitEndpoint) → endpoint_units u.old.value ≡ Some it → result ≡ ok →
+        (pushed.new, behind.new) ≡ pushed_numbers
+        (units_push_answer it (sequence, rtp_body 0 false [])) }
+    ensures after { result ≡ ok → u.new.value
+        ≡ endpoint_after_push now (sequence, rtp_body 0 false []) u.old.value }
+    ensures kept { result ≢ ok → u.new.value ≡ u.old.value }
+    ensures kept_told { result ≢ ok → (pushed.new ≡ pushed.old) × (behind.new ≡ behind.old) }
+{
+    match u.get_mut() {
+        Endpoint::AccessUnits(it) => code_of_push(it.skip(now, sequence), pushed, behind),
+        _ => WRONG_END,
+    }
+}
+
+/// The next access unit, if one has ended at this tick.
+#[unsafe(no_mangle)]
+pub extern "C" fn h26x_access_units_next(
+    u: &mut Handle,
+    now: u32,
+    to: &mut [u8],
+    unit: &mut UnitTold,
+) -> u32
+    ensures wrong { is_access_units u.old.value ≡ false → (result ≡ wrong_end)
+        × (u.new.value ≡ u.old.value) }
+    ensures kept { is_access_units u.old.value ≡ false → (to.new ≡ to.old)
+        × (unit.new ≡ unit.old) }
+    ensures given { (it : AccessUnitEndpoint) → endpoint_units u.old.value ≡ Some it →
+        result ≢ out_of_memory →
+        IsNextCode now it u.new.value to.old to.new result unit.old unit.new }
+    ensures taken { (it : AccessUnitEndpoint) → endpoint_units u.old.value ≡ Some it →
+        result ≡ out_of_memory → IsNextWithoutMemory now it u.new.value }
+    ensures none { result ≡ out_of_memory → (to.new ≡ to.old) × (unit.new ≡ unit.old) }
+{
+    match u.get_mut() {
+        Endpoint::AccessUnits(it) => match it.next(now, to) {
+            Ok(answer) => code_of_next(answer, unit),
+            Err(_) => OUT_OF_MEMORY,
+        },
+        _ => WRONG_END,
+    }
+}
+
+/// When to ask for the next access unit at the latest, if packets wait.
+#[unsafe(no_mangle)]
+pub extern "C" fn h26x_access_units_deadline(u: &ConstHandle, at: &mut u32) -> bool
+    ensures tick { (tick : ℕ) → endpoint_deadline u.now.value ≡ Some tick →
+        (result ≡ true) × (at.new ≡ tick) }
+    ensures none { endpoint_deadline u.now.value ≡ None → (result ≡ false) × (at.new ≡ at.old) }
+{
+    let deadline = match u.get() {
+        Endpoint::AccessUnits(it) => it.deadline(),
+        _ => None,
+    };
+    match deadline {
+        Some(tick) => {
+            *at = tick;
+            true
+        }
+        None => false,
+    }
+}
+
+/// Copies the numbers that are missing before packets that wait, as many as there is room for.
+#[unsafe(no_mangle)]
+pub extern "C" fn h26x_access_units_missing(
+    u: &ConstHandle,
+    numbers: &mut [u16],
+    count: &mut usize,
+) -> u32
+    ensures wrong { is_access_units u.now.value ≡ false → result ≡ wrong_end }
+    ensures answer { is_access_units u.now.value ≡ true → (result ≡ ok) ⊎ (result ≡ out_of_memory) }
+    ensures count { result ≡ ok → count.new ≡ length (endpoint_missing u.now.value) }
+    ensures copied { result ≡ ok →
+        numbers.new ≡ with_first (endpoint_missing u.now.value) numbers.old }
+    ensures none { result ≢ ok → (count.new ≡ 0) × (numbers.new ≡ numbers.old) }
+{
+    *count = 0;
+    match u.get() {
+        Endpoint::AccessUnits(it) => match it.missing(numbers) {
+            Ok(all) => {
+                *count = all;
+                OK
+            }
+            Err(_) => OUT_OF_MEMORY,
+        },
+        _ => WRONG_END,
+    }
+}
+
+/// At the end of a stream: all that waits is due, and then the open access unit ends.
+#[unsafe(no_mangle)]
+pub extern "C" fn h26x_access_units_finish(u: &mut Handle) -> u32
+    ensures wrong { is_access_units u.old.value ≡ false → (result ≡ wrong_end)
+        × (u.new.value ≡ u.old.value) }
+    ensures finished { is_access_units u.old.value ≡ true → (result ≡ ok)
+        × (u.new.value ≡ endpoint_finished u.old.value) }
+{
+    match u.get_mut() {
+        Endpoint::AccessUnits(it) => {
+            it.finish();
+            OK
+        }
+        _ => WRONG_END,
+    }
+}
+
+/// Drops all that waits or is open, and takes any sequence number as the next.
+#[unsafe(no_mangle)]
+pub extern "C" fn h26x_access_units_restart(u: &mut Handle) -> u32
+    ensures wrong { is_access_units u.old.value ≡ false → (result ≡ wrong_end)
+        × (u.new.value ≡ u.old.value) }
+    ensures restarted { is_access_units u.old.value ≡ true → (result ≡ ok)
+        × (u.new.value ≡ endpoint_units_restarted u.old.value) }
+{
+    match u.get_mut() {
+        Endpoint::AccessUnits(it) => {
+            it.restart();
+            OK
+        }
+        _ => WRONG_END,
+    }
+}
+
+/// What was counted.
+#[unsafe(no_mangle)]
+pub extern "C" fn h26x_access_units_count(u: &ConstHandle, counts: &mut Counts) -> u32
+    ensures wrong { is_access_units u.now.value ≡ false → result ≡ wrong_end }
+    ensures counts { (it : AccessUnitEndpoint) → endpoint_units u.now.value ≡ Some it →
+        (result ≡ ok) × (counts.new ≡ counts_told it.reception.counts) }
+    ensures kept { result ≢ ok → counts.new ≡ counts.old }
+{
+    match u.get() {
+        Endpoint::AccessUnits(it) => {
+            *counts = counts_told(it.counts());
+            OK
+        }
+        _ => WRONG_END,
+    }
+}

@@ -1,0 +1,144 @@
+-- A receiver of access units behind a handle, and the access unit that had no room where it was to be
+-- written (ours).
+use Rattle.std.specs.Prelude.{◌≡◌, ◌⊎◌, ℕ, ◌^◌, ◌==◌, ◌||◌, nat_le, nat_lt, Bool, if◌then◌else◌, List, length, Option, Some, None, Result, Ok, Err, MatchOption}
+use Rattle.h26x_access_units.specs.declared.config.AccessUnitConfig.{AccessUnitConfig}
+use Rattle.h26x_access_units.specs.declared.pushed.Pushed.{Pushed}
+use Rattle.h26x_access_units.specs.declared.pushed.Pushed.TheVariants as pushes
+use Rattle.h26x_access_units.specs.Arrival.{deadline_of}
+use Rattle.h26x_access_units.specs.Missing.{missing_numbers}
+use Rattle.h26x_access_units.specs.ReceivedUnit.{ReceivedUnitValue}
+use Rattle.h26x_access_units.specs.Reception.{Reception, fresh_reception, reception_answer, after_reception, restarted, ended_if_anew, IsDrained, IsNext}
+use Rattle.h26x_codec.specs.Codec.{codec_format}
+use Rattle.h26x_codec.specs.declared.codec.Codec.{Codec}
+use Rattle.h26x_frames.specs.Rtp.{RtpBody}
+use Rattle.h26x_handles.specs.Codes.{codec_or_code, extra_number, ok, no_room, nothing_yet, out_of_range}
+use Rattle.h26x_handles.specs.Copies.{with_front}
+use Rattle.h26x_handles.specs.declared.access_units.NextAnswer.{NextAnswer}
+use Rattle.h26x_handles.specs.declared.access_units.NextAnswer.TheVariants as answers
+use Rattle.h26x_handles.specs.declared.access_units.UnitTold.{UnitTold}
+
+-- a codec, a receiver of its packets, and the access unit that had no room, until it is given out
+pub record AccessUnitEndpoint : Type 0 where
+  pub codec : Codec
+  pub reception : Reception
+  pub left : Option ReceivedUnitValue
+
+-- the codec of one that is to be made, or the code that says why there is none: as of a depacketizer,
+-- and a window is of 1 to 2^14 places
+abbrev pub units_codec_or_code : ℕ → Bool → ℕ → Result Codec ℕ
+units_codec_or_code number has_donl window = elim (codec_or_code number has_donl) [
+  | Err code ↦ Err code
+  | Ok codec ↦ if window == 0 || nat_lt (2 ^ 14) window then Err out_of_range else Ok codec
+]
+
+-- before any packet came
+abbrev pub fresh_access_units : Codec → Bool → Bool → AccessUnitConfig → AccessUnitEndpoint
+fresh_access_units codec has_donl is_avc config = record {
+  codec = codec;
+  reception = fresh_reception config (record {
+    format = codec_format codec has_donl;
+    is_avc = is_avc;
+    run = None;
+  });
+  left = None;
+}
+
+-- the same with another state of its receiver
+abbrev pub units_with_reception : Reception → AccessUnitEndpoint → AccessUnitEndpoint
+units_with_reception reception it = record it { reception = reception }
+
+-- what is answered for a packet
+abbrev pub units_push_answer : AccessUnitEndpoint → ℕ × RtpBody → Pushed
+units_push_answer it p = reception_answer it.reception p
+
+-- after a packet came, at this tick
+abbrev pub units_after_push : ℕ → ℕ × RtpBody → AccessUnitEndpoint → AccessUnitEndpoint
+units_after_push now p it = units_with_reception
+    (after_reception now it.reception p (units_push_answer it p)) it
+
+-- the numbers of what became of a packet: which of the six it is, and how far it is behind
+abbrev pub pushed_numbers : Pushed → ℕ × ℕ
+pushed_numbers pushes.Held = (0, 0)
+pushed_numbers (pushes.Late behind) = (1, behind)
+pushed_numbers pushes.Twice = (2, 0)
+pushed_numbers pushes.Full = (3, 0)
+pushed_numbers pushes.Stray = (4, 0)
+pushed_numbers pushes.Anew = (5, 0)
+
+-- what is told of an access unit
+abbrev pub unit_told : ReceivedUnitValue → UnitTold
+unit_told unit = record {
+  len = length unit.bytes;
+  timestamp = unit.timestamp;
+  missing = unit.missing;
+  first = unit.first;
+  last = unit.last;
+  extra = extra_number unit.extra;
+  is_whole = unit.is_whole;
+  is_clean = unit.is_clean;
+  continues = unit.continues;
+}
+
+-- what is answered where this access unit, or none, is the next: whether a buffer has room for it
+abbrev pub next_answer : Option ReceivedUnitValue → List ℕ → NextAnswer
+next_answer None to = answers.NothingYet
+next_answer (Some unit) to = if nat_le (length unit.bytes) (length to)
+    then answers.Written (unit_told unit) else answers.NoRoom (unit_told unit)
+
+-- that buffer then
+abbrev pub with_unit : Option ReceivedUnitValue → List ℕ → List ℕ
+with_unit None to = to
+with_unit (Some unit) to = with_front unit.bytes to
+
+-- what has no room there
+abbrev pub unit_without_room : Option ReceivedUnitValue → List ℕ → Option ReceivedUnitValue
+unit_without_room None to = None
+unit_without_room (Some unit) to =
+    if nat_le (length unit.bytes) (length to) then None else Some unit
+
+-- an access unit, or none, is the next: the one that had no room before, or what the receiver gives out
+abbrev pub IsNextUnit : ℕ → AccessUnitEndpoint → Reception → Option ReceivedUnitValue → Type 0
+IsNextUnit now it reception unit = MatchOption it.left (IsNext now it.reception reception unit)
+    (λ kept. (unit ≡ Some kept) × (reception ≡ it.reception))
+
+-- The next access unit goes to a buffer where it has room there, and else stays for the next call.
+pub record IsUnitGiven (now : ℕ) (it new : AccessUnitEndpoint) (to new_to : List ℕ)
+    (answer : NextAnswer) : Type 0 where
+  pub unit : Option ReceivedUnitValue
+  pub is_next : IsNextUnit now it new.reception unit
+  pub stands : new ≡ record it { reception = new.reception; left = unit_without_room unit to }
+  pub put : new_to ≡ with_unit unit to
+  pub answered : answer ≡ next_answer unit to
+
+-- Without memory nothing changed, or packets were taken that were due, none of them lost; and no access
+-- unit waits for room, since that one wants no memory.
+pub record IsOutOfMemory (now : ℕ) (it new : AccessUnitEndpoint) : Type 0 where
+  pub none : it.left ≡ None
+  pub stands : new ≡ units_with_reception new.reception it
+  pub taken : (new.reception ≡ it.reception)
+      ⊎ IsDrained now (ended_if_anew it.reception) new.reception
+
+-- the code of an answer, and what is told of the access unit, if one is
+abbrev pub next_numbers : NextAnswer → UnitTold → ℕ × UnitTold
+next_numbers answers.NothingYet told = (nothing_yet, told)
+next_numbers (answers.NoRoom unit) told = (no_room, unit)
+next_numbers (answers.Written unit) told = (ok, unit)
+
+-- when it is to be asked again at the latest, if packets wait
+abbrev pub units_deadline : AccessUnitEndpoint → Option ℕ
+units_deadline it =
+    deadline_of it.reception.waiting.config.max_wait it.reception.waiting.arrivals
+
+-- the numbers that are missing before packets that wait
+abbrev pub units_missing : AccessUnitEndpoint → List ℕ
+units_missing it =
+    missing_numbers it.reception.waiting.buffer.due it.reception.waiting.buffer.held
+
+-- at the end of the stream: all that waits is due
+abbrev pub units_finished : AccessUnitEndpoint → AccessUnitEndpoint
+units_finished it = units_with_reception
+    (record it.reception { waiting = record it.reception.waiting { is_over = true } }) it
+
+-- for another sender; an access unit that had no room stays
+abbrev pub units_restarted : AccessUnitEndpoint → AccessUnitEndpoint
+units_restarted it = units_with_reception (restarted it.reception) it

@@ -1,0 +1,259 @@
+//! A receiver of access units, of packets as a network brings them, and the access unit that had no
+//! room where it was to be written.
+
+ghost use Rattle.std.specs.Prelude.{◌≡◌, ◌≢◌, ◌<◌, ◌≤◌, ◌^◌, [], false, None, Err, IfOk, IsOk, OnErr, length};
+ghost use Rattle.h26x_access_units.specs.ReceivedUnit.{received_unit_value};
+ghost use Rattle.h26x_access_units.specs.Reception.{reception_answer, after_reception};
+ghost use Rattle.h26x_frames.specs.Rtp.{rtp_body};
+ghost use Rattle.h26x_handles.specs.AccessUnitEndpoint.{units_codec_or_code, fresh_access_units, units_with_reception, pushed_numbers, unit_told, next_answer, with_unit, unit_without_room, units_push_answer, units_after_push, IsUnitGiven, IsOutOfMemory, next_numbers, units_deadline, units_missing, units_finished, units_restarted};
+ghost use Rattle.h26x_handles.specs.Copies.{with_first};
+
+use crate::code::{NO_ROOM, NOTHING_YET, OK, OUT_OF_RANGE, codec_wanted, number_of};
+use crate::copy::{copy_first, copy_where_room};
+use h26x_access_units::{
+    AccessUnitConfig, AccessUnitReceiver, Counts, Pushed, ReceivedUnit, Receives,
+};
+use h26x_codec::Codec;
+use h26x_core::PacketError;
+use h26x_frames::RtpPacket;
+use h26x_receiver::AnyPayloadDepacketizer;
+use std::alloc::Global;
+use std::marker::Model;
+
+/// What is told of an access unit.
+#[repr(C)]
+#[derive(Clone, Copy)]
+pub struct UnitTold {
+    pub len: usize,
+    pub timestamp: u32,
+    pub missing: u32,
+    pub first: u16,
+    pub last: u16,
+    pub extra: u8,
+    pub is_whole: bool,
+    pub is_clean: bool,
+    pub continues: bool,
+}
+
+/// What came of a call for the next access unit.
+#[derive(Clone, Copy)]
+pub enum NextAnswer {
+    /// None has ended.
+    NothingYet,
+    /// It has no room, and is kept for the next call.
+    NoRoom(UnitTold),
+    /// It is written.
+    Written(UnitTold),
+}
+
+/// The codec of a receiver that is to be made, or why there is none.
+pub fn units_codec_wanted(number: u32, has_donl: bool, window: u16) -> Result<Codec, u32>
+    ensures { result ≡ units_codec_or_code number has_donl window }
+{
+    let codec = codec_wanted(number, has_donl)?;
+    if window == 0 || window > 1 << 14 {
+        return Err(OUT_OF_RANGE);
+    }
+    Ok(codec)
+}
+
+/// The numbers of what became of a packet: which of the six it is, and how far it is behind.
+pub fn numbers_of_push(pushed: Pushed) -> (u32, u16)
+    ensures { result ≡ pushed_numbers pushed }
+{
+    match pushed {
+        Pushed::Held => (0, 0),
+        Pushed::Late(behind) => (1, behind),
+        Pushed::Twice => (2, 0),
+        Pushed::Full => (3, 0),
+        Pushed::Stray => (4, 0),
+        Pushed::Anew => (5, 0),
+    }
+}
+
+/// The code of what came of a call for the next access unit, and what is told of it, if one is.
+pub fn code_of_next(answer: NextAnswer, told: &mut UnitTold) -> u32
+    ensures { (result, told.new) ≡ next_numbers answer told.old }
+{
+    match answer {
+        NextAnswer::NothingYet => NOTHING_YET,
+        NextAnswer::NoRoom(unit) => {
+            *told = unit;
+            NO_ROOM
+        }
+        NextAnswer::Written(unit) => {
+            *told = unit;
+            OK
+        }
+    }
+}
+
+/// What is told of an access unit.
+fn told_of(unit: &ReceivedUnit) -> UnitTold
+    ensures { result ≡ unit_told (received_unit_value unit.now) }
+{
+    UnitTold {
+        len: unit.bytes.len(),
+        timestamp: unit.timestamp,
+        missing: unit.missing,
+        first: unit.first,
+        last: unit.last,
+        extra: number_of(unit.extra),
+        is_whole: unit.is_whole,
+        is_clean: unit.is_clean,
+        continues: unit.continues,
+    }
+}
+
+/// A receiver of access units of a codec, and the access unit that had no room where it was to be
+/// written.
+#[derive(Drop)]
+pub struct AccessUnitEndpoint<R: Receives> {
+    codec: Codec,
+    receiver: R,
+    left: Option<ReceivedUnit>,
+}
+
+impl<R: Receives> Model for AccessUnitEndpoint<R> {
+    ghost use Rattle.std.specs.Option.{option_map};
+    ghost use Rattle.h26x_access_units.specs.ReceivedUnit.{received_unit_value};
+    ghost use Rattle.h26x_handles.specs.AccessUnitEndpoint.{AccessUnitEndpoint};
+
+    ghost Value = { AccessUnitEndpoint };
+
+    ghost view = { λ it. record {
+      codec = it.codec;
+      reception = R.reception it.receiver;
+      left = option_map received_unit_value it.left;
+    } };
+}
+
+/// A receiver of access units of a codec that is chosen when it is made.
+pub type AnyAccessUnitEndpoint = AccessUnitEndpoint<AccessUnitReceiver<AnyPayloadDepacketizer>>;
+
+impl AccessUnitEndpoint<AccessUnitReceiver<AnyPayloadDepacketizer>> {
+    /// A receiver that takes any sequence number as the first.
+    pub fn new(
+        alloc: Global,
+        codec: Codec,
+        has_donl: bool,
+        is_avc: bool,
+        config: AccessUnitConfig,
+    ) -> Self
+        requires some { 0 < config.window }
+        requires half { config.window ≤ 2 ^ 14 }
+        ensures { result ≡ fresh_access_units codec has_donl is_avc config }
+    {
+        let mut depacketizer = AnyPayloadDepacketizer::new(alloc, codec);
+        depacketizer.with_donl(has_donl);
+        depacketizer.is_avc = is_avc;
+        AccessUnitEndpoint {
+            codec,
+            receiver: AccessUnitReceiver::new(alloc, depacketizer, config),
+            left: None,
+        }
+    }
+
+    /// Takes a packet that came at this tick, and copies it where it waits. Without memory all stays as
+    /// it was, and it can be given again.
+    pub fn push(&mut self, now: u32, packet: &RtpPacket<'_>) -> Result<Pushed, PacketError>
+        ensures answer { IfOk result (λ answer. answer ≡ units_push_answer self.old packet.now) }
+        ensures after { IfOk result (λ answer.
+            self.new ≡ units_after_push now packet.now self.old) }
+        ensures memory { OnErr result (result ≡ Err PacketError.OutOfMemory) }
+        ensures kept { OnErr result (self.new ≡ self.old) }
+    {
+        self.receiver.push(now, packet)
+    }
+
+    /// Passes over a number that came and bears nothing of the stream: it isn't missing.
+    pub fn skip(&mut self, now: u32, sequence: u16) -> Result<Pushed, PacketError>
+        ensures answer { IfOk result (λ answer.
+            answer ≡ units_push_answer self.old (sequence, rtp_body 0 false [])) }
+        ensures after { IfOk result (λ answer.
+            self.new ≡ units_after_push now (sequence, rtp_body 0 false []) self.old) }
+        ensures memory { OnErr result (result ≡ Err PacketError.OutOfMemory) }
+        ensures kept { OnErr result (self.new ≡ self.old) }
+    {
+        self.receiver.skip(now, sequence)
+    }
+
+    /// The next access unit, if one has ended at this tick: the one that had no room, or what the
+    /// receiver gives out. It goes to the caller's memory where there is room for it, and else is kept
+    /// for the next call. Without memory the packet for which it lacks is due still.
+    pub fn next(&mut self, now: u32, to: &mut [u8]) -> Result<NextAnswer, PacketError>
+        ensures given { IfOk result (λ answer.
+            IsUnitGiven now self.old self.new to.old to.new answer) }
+        ensures memory { OnErr result (result ≡ Err PacketError.OutOfMemory) }
+        ensures taken { OnErr result (IsOutOfMemory now self.old self.new) }
+        ensures kept_to { OnErr result (to.new ≡ to.old) }
+    {
+        let unit = match self.left.take() {
+            Some(unit) => unit,
+            None => match self.receiver.next(now)? {
+                Some(unit) => unit,
+                None => return Ok(NextAnswer::NothingYet),
+            },
+        };
+        Ok(self.give(unit, to))
+    }
+
+    /// Gives out an access unit where there is room for it, and takes its memory back; else keeps it.
+    fn give(&mut self, unit: ReceivedUnit, to: &mut [u8]) -> NextAnswer
+        requires { self.old.left ≡ None }
+        ensures answer { result ≡ next_answer (Some (received_unit_value unit)) to.old }
+        ensures put { to.new ≡ with_unit (Some (received_unit_value unit)) to.old }
+        ensures after { self.new ≡ record self.old {
+          left = unit_without_room (Some (received_unit_value unit)) to.old;
+        } }
+    {
+        let told = told_of(&unit);
+        if copy_where_room(&unit.bytes, to) > to.len() {
+            self.left = Some(unit);
+            return NextAnswer::NoRoom(told);
+        }
+        self.receiver.give_back(unit);
+        NextAnswer::Written(told)
+    }
+
+    /// When to ask for the next access unit at the latest, in the caller's ticks, if packets wait.
+    pub fn deadline(&self) -> Option<u32>
+        ensures { result ≡ units_deadline self.now }
+    {
+        self.receiver.deadline()
+    }
+
+    /// Copies the numbers that are missing before packets that wait, in order, as many as there is room
+    /// for; how many they all are.
+    pub fn missing(&self, to: &mut [u16]) -> Result<usize, PacketError>
+        ensures count { IfOk result (λ count. count ≡ length (units_missing self.now)) }
+        ensures copied { IfOk result (λ count. to.new ≡ with_first (units_missing self.now) to.old) }
+        ensures memory { OnErr result (result ≡ Err PacketError.OutOfMemory) }
+        ensures kept_to { OnErr result (to.new ≡ to.old) }
+    {
+        let numbers = self.receiver.missing()?;
+        Ok(copy_first(&numbers, to))
+    }
+
+    /// At the end of a stream: all that waits is due, and then the open access unit ends.
+    pub fn finish(&mut self)
+        ensures { self.new ≡ units_finished self.old }
+    {
+        self.receiver.finish();
+    }
+
+    /// Drops all that waits or is open, and takes any number as the next: for another sender (SSRC). The
+    /// access unit that had no room stays.
+    pub fn restart(&mut self)
+        ensures { self.new ≡ units_restarted self.old }
+    {
+        self.receiver.restart();
+    }
+
+    /// What was counted.
+    pub fn counts(&self) -> Counts
+        ensures { result ≡ self.now.reception.counts }
+    {
+        self.receiver.counts()
+    }
+}
