@@ -20,7 +20,8 @@
 
 #define NAMES(X)                                                                                   \
     X(version) X(codec_name) X(strerror) X(packetizer_new) X(depacketizer_new) X(receiver_new)     \
-    X(packetizer_free) X(depacketizer_free) X(receiver_free) X(h265_paci_packet)                   \
+    X(access_units_new) X(packetizer_free) X(depacketizer_free) X(receiver_free)                   \
+    X(access_units_free) X(h265_paci_packet)                                                       \
     X(is_partition_head) X(is_partition_tail) X(detect_keyframe) X(detect_h264_nalu) X(next_unit)  \
     X(set_lowest_header)                                                                           \
     X(unit_is_plain) X(out_size_hint) X(h264_profile_level) X(h265_is_known) X(h266_is_known)      \
@@ -29,7 +30,9 @@
     X(packet_len) X(packets_len) X(packet_copy) X(packets_copy) X(depacketizer_clone)              \
     X(depacketizer_same) X(depacketizer_set_numbers) X(depacketize) X(written_copy) X(give_up_run) \
     X(receiver_clone) X(receiver_set_numbers) X(receiver_set_avc) X(receive) X(receiver_restart)   \
-    X(receiver_skip) X(receiver_run_len) X(h265_shown) X(h265_part_copy)
+    X(receiver_skip) X(receiver_run_len) X(h265_shown) X(h265_part_copy) X(access_units_push)      \
+    X(access_units_skip) X(access_units_next) X(access_units_deadline) X(access_units_missing)     \
+    X(access_units_finish) X(access_units_restart) X(access_units_count)
 
 struct library {
 #define POINTER(name) __typeof__(h26x_##name) *name;
@@ -80,7 +83,7 @@ static struct library opened(const char *path)
 
 /* ---- What a call is given ---- */
 
-enum kind { NONE, PACKETIZER, DEPACKETIZER, RECEIVER };
+enum kind { NONE, PACKETIZER, DEPACKETIZER, RECEIVER, ACCESS_UNITS };
 
 /* A handle of each library, of one kind. */
 struct held {
@@ -90,9 +93,12 @@ struct held {
     void *at[2];
 };
 
-enum { HELD = 6, ENDS = 512 };
+enum { HELD = 8, ENDS = 512, MISSING = 64, NUMBERS = 30 };
 
 static struct held held[HELD];
+
+/* The tick, which goes on from call to call, and round. */
+static uint32_t tick = UINT32_MAX - 1000;
 
 /* What is drawn for a call. `wants` has a bit for each output that isn't NULL. */
 struct drawn {
@@ -102,8 +108,9 @@ struct drawn {
     bool numbers, avc;
     size_t mtu, headroom, room, ends_room, len, extension_len;
     const uint8_t *bytes, *extension;
-    bool has_to, has_ends;
+    bool has_to, has_ends, marker;
     uint16_t sequence;
+    uint32_t tick;
 };
 
 static struct bytes input, extension;
@@ -113,9 +120,13 @@ static enum call draw_call(const struct held *h)
     static const enum call often[] = {CALL_packetize,   CALL_packetize_unit,      CALL_packetize_into,
                                       CALL_depacketize, CALL_packetize_unit_into, CALL_receive,
                                       CALL_depacketize, CALL_packets_copy,        CALL_receive};
-    const enum call call = one_in(2) ? (enum call)below(CALLS) : often[below(9)];
+    static const enum call often_of_units[] = {CALL_access_units_push, CALL_access_units_push,
+                                               CALL_access_units_next};
+    const enum call call = one_in(2) ? (enum call)below(CALLS)
+        : h->kind == ACCESS_UNITS    ? often_of_units[below(3)]
+                                     : often[below(9)];
     if (call >= CALL_packetizer_clone && h->kind == NONE)
-        return CALL_packetizer_new + below(3);
+        return CALL_packetizer_new + below(4);
     return call;
 }
 
@@ -156,16 +167,19 @@ static struct drawn draw_all(void)
     d.has_to = !one_in(16), d.has_ends = !one_in(16);
     d.bytes = one_in(40) ? NULL : input.at, d.len = input.len;
     d.extension = one_in(8) ? NULL : extension.at, d.extension_len = extension.len;
-    d.sequence = (uint16_t)(h->sequence + (one_in(12) ? below(8) - 4 : 0));
+    d.sequence = (uint16_t)(h->sequence + (one_in(12) ? below(8) - 4 : one_in(60) ? draw() : 0));
+    d.marker = one_in(3);
+    d.tick = tick += one_in(4) ? below(40) : 0;
     return d;
 }
 
 /* ---- What a call answers ---- */
 
 struct answer {
-    uint64_t result, numbers[8];
+    uint64_t result, numbers[NUMBERS];
     uint8_t to[MOST];
     size_t ends[ENDS];
+    uint16_t missing[MISSING];
     char text[128];
 };
 
@@ -182,8 +196,10 @@ static void add(uint64_t it)
 static void add_answer(const struct answer *a)
 {
     add(a->result);
-    for (size_t i = 0; i < 8; i++)
+    for (size_t i = 0; i < NUMBERS; i++)
         add(a->numbers[i]);
+    for (size_t i = 0; i < MISSING; i++)
+        add(a->missing[i]);
     for (size_t i = 0; i < ENDS && a->ends[i] != SIZE_MAX; i++)
         add(a->ends[i]);
     for (size_t i = 0; i < 2000; i++)
@@ -197,7 +213,7 @@ static void show_difference(enum call call)
     const struct answer *a = &answers[0], *b = &answers[1];
     printf("DIFFERENCE: h26x_%s: %llu and %llu\n", names[call], (unsigned long long)a->result,
            (unsigned long long)b->result);
-    for (size_t i = 0; i < 8; i++)
+    for (size_t i = 0; i < NUMBERS; i++)
         if (a->numbers[i] != b->numbers[i])
             printf("  number %zu: %llu and %llu\n", i, (unsigned long long)a->numbers[i],
                    (unsigned long long)b->numbers[i]);
@@ -205,6 +221,8 @@ static void show_difference(enum call call)
         printf("  other bytes\n");
     if (memcmp(a->ends, b->ends, sizeof a->ends) != 0)
         printf("  other ends\n");
+    if (memcmp(a->missing, b->missing, sizeof a->missing) != 0)
+        printf("  other missing numbers\n");
 }
 
 /* ---- The calls ---- */
@@ -218,14 +236,17 @@ struct outputs {
     h26x_refusal why;
     h26x_h265_packet shown;
     uint8_t profile, level;
+    h26x_access_unit unit;
+    h26x_access_units_counts counts;
 };
 
 #define WANTED(bit, output) ((d->wants >> (bit) & 1) != 0 ? (output) : NULL)
 
-/* `at` are a packetizer, a depacketizer and a receiver by one pointer, as another one is. */
+/* `at` are a packetizer, a depacketizer and receivers by one pointer, as another one is. */
 #define P &(h26x_packetizer){d->h->at[s]}
 #define D &(h26x_depacketizer){d->h->at[s]}
 #define R &(h26x_receiver){{d->h->at[s]}}
+#define U &(h26x_access_units){d->h->at[s]}
 
 static uint64_t sends(int s, const struct drawn *d, struct answer *a, struct outputs *o)
 {
@@ -301,6 +322,47 @@ static uint64_t receives(int s, const struct drawn *d, struct answer *a, struct 
     }
 }
 
+static uint64_t receives_units(int s, const struct drawn *d, struct answer *a, struct outputs *o)
+{
+    const struct library *l = &libraries[s];
+    switch (d->call) {
+    case CALL_access_units_push:
+        return l->access_units_push(U, d->tick, d->sequence, d->sequence / 4 * 3000u, d->marker, d->bytes,
+                                    d->len, WANTED(4, &o->number), WANTED(5, &o->gap));
+    case CALL_access_units_skip:
+        return l->access_units_skip(U, d->tick, d->sequence, WANTED(4, &o->number), WANTED(5, &o->gap));
+    case CALL_access_units_next:
+        return l->access_units_next(U, d->tick, d->has_to ? a->to : NULL, d->room, WANTED(6, &o->unit));
+    case CALL_access_units_deadline:
+        return l->access_units_deadline(U, WANTED(4, &o->number));
+    case CALL_access_units_missing:
+        return l->access_units_missing(U, d->has_to ? a->missing : NULL, d->x % 3 ? d->y % MISSING : 0,
+                                       WANTED(0, &o->count));
+    case CALL_access_units_finish:
+        return l->access_units_finish(U);
+    case CALL_access_units_restart:
+        return l->access_units_restart(U);
+    default:
+        return l->access_units_count(U, WANTED(7, &o->counts));
+    }
+}
+
+/* Settings, of which most are those of a receiver. */
+static h26x_access_units_config config_of(const struct drawn *d)
+{
+    return (h26x_access_units_config){
+        .codec = d->codec,
+        .max_wait = d->x % 4 == 0 ? UINT32_MAX : d->y % 200,
+        .window = d->x % 7 == 0 ? d->y & 0xffff : 1 + d->y % 8,
+        .far_away = d->z % 2 ? 0 : 1 + d->z % 300,
+        .numbers = d->numbers,
+        .avc = d->avc,
+        .held_limit = d->z % 5 ? SIZE_MAX : d->x % 3000,
+        .run_limit = d->y % 5 ? SIZE_MAX : d->z % 2000,
+        .unit_limit = d->x % 5 ? SIZE_MAX : d->z % 4000,
+    };
+}
+
 /* Three bytes of which many are a profile and a level. */
 static uint32_t profile_level_id(const struct drawn *d)
 {
@@ -363,7 +425,12 @@ static void *makes(int s, const struct drawn *d, struct answer *a)
     h26x_packetizer p = {NULL};
     h26x_depacketizer e = {NULL};
     h26x_receiver r = {{NULL}};
+    h26x_access_units u = {NULL};
+    const h26x_access_units_config config = config_of(d);
     switch (d->call) {
+    case CALL_access_units_new:
+        a->result = l->access_units_new(&config, &u);
+        return u.at;
     case CALL_packetizer_new:
         a->result = l->packetizer_new(d->codec, d->numbers, &p);
         return p.at;
@@ -397,6 +464,8 @@ static enum kind kind_made(enum call call)
     case CALL_receiver_new:
     case CALL_receiver_clone:
         return RECEIVER;
+    case CALL_access_units_new:
+        return ACCESS_UNITS;
     default:
         return NONE;
     }
@@ -406,7 +475,8 @@ static enum kind kind_made(enum call call)
 static void *give(int s, const struct drawn *d)
 {
     struct answer *a = &answers[s];
-    struct outputs o = {11, 12, d->wants >> 8 & 1 ? d->x % 3 : 0, 13, 14, {15, 16}, {17, 18, 19, 20}, 21, 22};
+    struct outputs o = {
+        11, 12, d->wants >> 8 & 1 ? d->x % 3 : 0, 13, 14, {15, 16}, {17, 18, 19, 20}, 21, 22, {.len = 23}, {.taken = 24}};
     void *made = NULL;
     *a = (struct answer){.result = 0};
     memset(a->to, 0xee, sizeof a->to);
@@ -421,12 +491,20 @@ static void *give(int s, const struct drawn *d)
         a->result = looks(s, d, a, &o);
     else if (d->call < CALL_depacketizer_clone)
         a->result = sends(s, d, a, &o);
-    else
+    else if (d->call < CALL_access_units_push)
         a->result = receives(s, d, a, &o);
-    const uint64_t numbers[] = {
+    else
+        a->result = receives_units(s, d, a, &o);
+    const h26x_access_unit *unit = &o.unit;
+    const h26x_access_units_counts *counts = &o.counts;
+    const uint64_t numbers[NUMBERS] = {
         o.count, o.size, o.extra, o.number, (uint64_t)o.gap << 16 | (uint64_t)o.profile << 8 | o.level,
         o.why.first ^ (uint64_t)o.why.second << 32,
-        (uint64_t)o.shown.kind << 32 | (uint64_t)o.shown.header << 16 | o.shown.word, o.shown.parts};
+        (uint64_t)o.shown.kind << 32 | (uint64_t)o.shown.header << 16 | o.shown.word, o.shown.parts,
+        unit->len, unit->timestamp, unit->missing, unit->first, unit->last, unit->extra, unit->is_whole,
+        unit->is_clean, unit->continues, counts->taken, counts->lost, counts->late, counts->twice,
+        counts->stray, counts->refused, counts->skipped, counts->anew, counts->units, counts->whole,
+        counts->units_given_up};
     memcpy(a->numbers, numbers, sizeof numbers);
     return made;
 }
@@ -444,6 +522,8 @@ static void put_down(struct held *h, enum kind kind)
             libraries[s].depacketizer_free((h26x_depacketizer){at});
         if (kind == RECEIVER)
             libraries[s].receiver_free((h26x_receiver){{at}});
+        if (kind == ACCESS_UNITS)
+            libraries[s].access_units_free((h26x_access_units){at});
     }
     h->kind = NONE;
 }
@@ -478,7 +558,7 @@ static void keep_packets(const struct drawn *d)
 static bool same(const struct drawn *d)
 {
     void *made[2];
-    if (d->call >= CALL_packetizer_free && d->call <= CALL_receiver_free) {
+    if (d->call >= CALL_packetizer_free && d->call <= CALL_access_units_free) {
         if (d->h->kind == NONE)
             put_down(d->h, PACKETIZER + (d->call - CALL_packetizer_free));
         else if (one_in(3))
@@ -494,7 +574,7 @@ static bool same(const struct drawn *d)
     }
     add_answer(&answers[0]);
     keep_packets(d);
-    if (d->call == CALL_receive && answers[0].result == H26X_OK)
+    if ((d->call == CALL_receive || d->call == CALL_access_units_push) && answers[0].result == H26X_OK)
         d->h->sequence = d->sequence + 1;
     if (made[0] != NULL)
         take_up(d, made);

@@ -62,11 +62,15 @@ struct bytes {
 static h26x_packetizer packetizer;
 static h26x_depacketizer depacketizer;
 static h26x_receiver receiver;
+static h26x_access_units access_units;
 
 /* Where there is something, what there is. */
 static struct {
     uint8_t in[ROOM], extension[ROOM], to[ROOM];
     size_t ends[ROOM], first, second;
+    uint16_t numbers[ROOM];
+    h26x_access_unit unit;
+    h26x_access_units_counts counts;
     uint8_t small, small_too;
     uint16_t missing;
     uint32_t number;
@@ -77,6 +81,10 @@ static struct {
 static struct {
     struct bytes in, extension, to;
     size_t *ends, ends_room;
+    uint16_t *numbers;
+    size_t numbers_room;
+    h26x_access_unit *unit;
+    h26x_access_units_counts *counts;
     size_t *first, *second;
     uint8_t *small, *small_too;
     uint16_t *missing;
@@ -98,7 +106,10 @@ enum {
     SMALL_TOO = 128,
     MISSING = 256,
     NUMBER = 512,
-    WHY = 1024
+    WHY = 1024,
+    NUMBERS = 2048,
+    UNIT = 4096,
+    COUNTS = 8192
 };
 
 static size_t handed_on;
@@ -125,6 +136,9 @@ static void give(unsigned which)
     given.missing = ANY(which & MISSING, &there.missing);
     given.number = ANY(which & NUMBER, &there.number);
     given.why = ANY(which & WHY, &there.why);
+    given.numbers = ANY(which & NUMBERS, there.numbers);
+    given.unit = ANY(which & UNIT, &there.unit);
+    given.counts = ANY(which & COUNTS, &there.counts);
     if ((which & IN) != 0)
         given.in.len = any_len(given.in.at);
     if ((which & EXTENSION) != 0)
@@ -133,6 +147,8 @@ static void give(unsigned which)
         given.to.len = any_len(given.to.at);
     if ((which & ENDS) != 0)
         given.ends_room = any_len(given.ends);
+    if ((which & NUMBERS) != 0)
+        given.numbers_room = any_len(given.numbers);
     given.value = nondet_size();
     given.other_value = given.value / 2;
     given.answer = (uint32_t)given.value;
@@ -172,6 +188,13 @@ static void writes_to(uint8_t *at, size_t len)
 static void writes_ends(size_t *at, size_t len)
 {
     is_buffer(at, len, given.ends, given.ends_room);
+    if (len != 0)
+        at[0] = at[len - 1] = 1;
+}
+
+static void writes_numbers(uint16_t *at, size_t len)
+{
+    is_buffer(at, len, given.numbers, given.numbers_room);
     if (len != 0)
         at[0] = at[len - 1] = 1;
 }
@@ -447,6 +470,122 @@ static void check_receiver_skip(void)
     hands_on(h26x_receiver_skip(&receiver, (uint16_t)given.value, given.number, given.missing));
 }
 
+/* ---- Receiving access units ---- */
+
+STUB(access_units_free);
+void proved_access_units_free(h26x_access_units u)
+{
+    expect(u.at == &there);
+    handed_on++;
+}
+
+static void check_access_units_free(void)
+{
+    h26x_access_units u = {nondet_bool() ? &there : NULL};
+    handed_on = 0;
+    h26x_access_units_free(u);
+    expect(handed_on == (u.at != NULL));
+}
+
+STUB(access_units_push);
+uint32_t proved_access_units_push(h26x_access_units *u, uint32_t now, uint16_t sequence,
+                                  uint32_t timestamp, bool marker, const uint8_t *payload,
+                                  size_t payload_len, uint32_t *pushed, uint16_t *behind)
+{
+    expect(u == &access_units && now == (uint32_t)given.value && sequence == (uint16_t)given.other_value);
+    expect(timestamp == (uint32_t)given.other_value && marker == (given.value != 0));
+    reads(payload, payload_len, given.in);
+    is_output(pushed, given.number);
+    is_output(behind, given.missing);
+    return answer();
+}
+
+static void check_access_units_push(void)
+{
+    give(IN | NUMBER | MISSING);
+    hands_on(h26x_access_units_push(&access_units, (uint32_t)given.value, (uint16_t)given.other_value,
+                                    (uint32_t)given.other_value, given.value != 0, given.in.at,
+                                    given.in.len, given.number, given.missing));
+}
+
+STUB(access_units_skip);
+uint32_t proved_access_units_skip(h26x_access_units *u, uint32_t now, uint16_t sequence, uint32_t *pushed,
+                                  uint16_t *behind)
+{
+    expect(u == &access_units && now == (uint32_t)given.value && sequence == (uint16_t)given.other_value);
+    is_output(pushed, given.number);
+    is_output(behind, given.missing);
+    return answer();
+}
+
+static void check_access_units_skip(void)
+{
+    give(NUMBER | MISSING);
+    hands_on(h26x_access_units_skip(&access_units, (uint32_t)given.value, (uint16_t)given.other_value,
+                                    given.number, given.missing));
+}
+
+STUB(access_units_next);
+uint32_t proved_access_units_next(h26x_access_units *u, uint32_t now, uint8_t *to, size_t room,
+                                  h26x_access_unit *unit)
+{
+    expect(u == &access_units && now == (uint32_t)given.value);
+    writes_to(to, room);
+    is_output(unit, given.unit);
+    return answer();
+}
+
+static void check_access_units_next(void)
+{
+    give(TO | UNIT);
+    hands_on(h26x_access_units_next(&access_units, (uint32_t)given.value, given.to.at, given.to.len,
+                                    given.unit));
+}
+
+STUB(access_units_deadline);
+bool proved_access_units_deadline(const h26x_access_units *u, uint32_t *at)
+{
+    expect(u == &access_units);
+    is_output(at, given.number);
+    return answer() != 0;
+}
+
+static void check_access_units_deadline(void)
+{
+    give(NUMBER);
+    hands_on_bool(h26x_access_units_deadline(&access_units, given.number));
+}
+
+STUB(access_units_missing);
+uint32_t proved_access_units_missing(const h26x_access_units *u, uint16_t *numbers, size_t numbers_room,
+                                     size_t *count)
+{
+    expect(u == &access_units);
+    writes_numbers(numbers, numbers_room);
+    is_output(count, given.first);
+    return answer();
+}
+
+static void check_access_units_missing(void)
+{
+    give(NUMBERS | FIRST);
+    hands_on(h26x_access_units_missing(&access_units, given.numbers, given.numbers_room, given.first));
+}
+
+STUB(access_units_count);
+uint32_t proved_access_units_count(const h26x_access_units *u, h26x_access_units_counts *counts)
+{
+    expect(u == &access_units);
+    is_output(counts, given.counts);
+    return answer();
+}
+
+static void check_access_units_count(void)
+{
+    give(COUNTS);
+    hands_on(h26x_access_units_count(&access_units, given.counts));
+}
+
 /* ---- The packets that H.265 shows ---- */
 
 STUB(h265_part_copy);
@@ -616,6 +755,13 @@ int main(void)
     in_each_case(check_receiver_free);
     in_each_case(check_receive);
     in_each_case(check_receiver_skip);
+    in_each_case(check_access_units_free);
+    in_each_case(check_access_units_push);
+    in_each_case(check_access_units_skip);
+    in_each_case(check_access_units_next);
+    in_each_case(check_access_units_deadline);
+    in_each_case(check_access_units_missing);
+    in_each_case(check_access_units_count);
     in_each_case(check_h265_part_copy);
     in_each_case(check_h265_paci_packet);
     in_each_case(check_is_partition_head);

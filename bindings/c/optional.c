@@ -204,24 +204,31 @@ static void check_frees(struct tally *t)
     h26x_packetizer p;
     h26x_depacketizer d;
     h26x_receiver r;
+    h26x_access_units u;
     expect(t, h26x_packetizer_new(H26X_H264, false, &p) == H26X_OK);
     expect(t, h26x_depacketizer_new(H26X_H265, false, &d) == H26X_OK);
     expect(t, h26x_receiver_new(H26X_H266, false, false, 9, &r) == H26X_OK);
+    expect(t, h26x_access_units_new(&(h26x_access_units_config){.codec = H26X_H266, .window = 1}, &u)
+                  == H26X_OK);
     for (int i = 0; i < 2; i++) {
         h26x_packetizer_free((h26x_packetizer){NULL});
         h26x_depacketizer_free((h26x_depacketizer){NULL});
         h26x_receiver_free((h26x_receiver){{NULL}});
+        h26x_access_units_free((h26x_access_units){NULL});
         h26x_packetizer_close(NULL);
         h26x_depacketizer_close(NULL);
         h26x_receiver_close(NULL);
+        h26x_access_units_close(NULL);
         h26x_packetizer_close(&p);
         h26x_depacketizer_close(&d);
         h26x_receiver_close(&r);
-        expect(t, p.at == NULL && d.at == NULL && r.at.at == NULL);
+        h26x_access_units_close(&u);
+        expect(t, p.at == NULL && d.at == NULL && r.at.at == NULL && u.at == NULL);
     }
     h26x_packetizer_free(p);
     h26x_depacketizer_free(d);
     h26x_receiver_free(r);
+    h26x_access_units_free(u);
 }
 
 /* Each code has words of its own, and so does a number that is none. */

@@ -297,6 +297,51 @@ static void refuse_receiving_sequenced(const struct codec *c)
     h26x_receiver_free(r);
 }
 
+/* Packets as a network brings them: one that is refused can be given again, and an access unit for which
+ * memory lacks is given out by a later call; one that had no room, without memory. */
+static void refuse_receiving_units(const struct codec *c)
+{
+    const h26x_access_units_config config = {
+        .codec = c->number, .max_wait = 50, .window = 8, .held_limit = ROOM, .run_limit = ROOM, .unit_limit = ROOM};
+    h26x_packetizer p;
+    h26x_access_units u = {NULL};
+    h26x_access_unit told = {.len = 9};
+    h26x_access_units_counts counts;
+    size_t count, missing = 9, wanted = c->sets_len + 2 + 4 + c->unit_header + DATA;
+    uint32_t pushed = 9, at = 9;
+    uint16_t behind = 9, numbers[8] = {9};
+    expect(h26x_packetizer_new(c->number, false, &p) == H26X_OK);
+    expect(h26x_packetize(&p, LIMIT, (const uint8_t *)c->sets, c->sets_len, &count) == H26X_OK);
+    expect(h26x_packetize(&p, LIMIT, unit, c->unit_header + DATA, &count) == H26X_OK && count == 4);
+    refuse_each(h26x_access_units_new(&config, &u), u.at == NULL);
+    without_memory(h26x_access_units_next(&u, 0, to, ROOM, &told) == H26X_NOTHING_YET);
+    for (size_t i = count; i-- > 0;) {
+        const size_t len = h26x_packet_copy(&p, i, packet, sizeof packet);
+        pushed = behind = 9;
+        refuse_each(h26x_access_units_push(&u, 7, 10 + i, 3000, i == 3, packet, len, &pushed, &behind),
+                    pushed == 9 && behind == 9);
+        expect(pushed == H26X_HELD && behind == 0);
+    }
+    pushed = 9;
+    refuse_each(h26x_access_units_skip(&u, 7, 16, &pushed, &behind), pushed == 9);
+    refuse_each(h26x_access_units_missing(&u, numbers, 8, &missing), missing == 0 && numbers[0] == 9);
+    expect(missing == 6 && numbers[0] == 6 && numbers[4] == 14 && numbers[5] == 15);
+    without_memory(h26x_access_units_deadline(&u, &at) && at == 57);
+    refuse_each(h26x_access_units_next(&u, 57, to, ROOM, &told), told.len == 9);
+    expect(told.len == wanted && memcmp(to + wanted - c->unit_header - DATA, unit, c->unit_header + DATA) == 0);
+
+    /* One that has no room. */
+    refuse_each(h26x_access_units_push(&u, 60, 17, 6000, true, unit, 9, NULL, NULL), true);
+    expect(h26x_access_units_next(&u, 60, to, 12, &told) == H26X_NO_ROOM && told.len == 13);
+    without_memory(h26x_access_units_next(&u, 60, to, 12, &told) == H26X_NO_ROOM);
+    without_memory(h26x_access_units_restart(&u) == H26X_OK);
+    without_memory(h26x_access_units_next(&u, 60, to, 13, &told) == H26X_OK && told.first == 17);
+    without_memory(h26x_access_units_finish(&u) == H26X_OK);
+    without_memory(h26x_access_units_count(&u, &counts) == H26X_OK && counts.taken == 5 && counts.units == 2);
+    h26x_packetizer_free(p);
+    h26x_access_units_free(u);
+}
+
 static void refuse_packing(void)
 {
     size_t len = 0;
@@ -329,6 +374,7 @@ int main(void)
         refuse_placing(c);
         refuse_receiving(c);
         refuse_receiving_sequenced(c);
+        refuse_receiving_units(c);
         look_without_memory(c);
     }
     refuse_packing();

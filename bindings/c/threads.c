@@ -43,6 +43,7 @@ struct shared {
     h26x_packetizer packets;
     h26x_depacketizer open;
     h26x_receiver receiving;
+    h26x_access_units waiting;
 };
 
 static struct shared shared[3];
@@ -77,6 +78,36 @@ static void carry(h26x_packetizer *p, h26x_receiver *r, uint16_t *sequence, cons
     work->units++;
 }
 
+static h26x_access_units units_of(const struct codec *c)
+{
+    const h26x_access_units_config config = {
+        .codec = c->number, .max_wait = 100, .window = PACKETS, .held_limit = SIZE_MAX, .run_limit = UNIT,
+        .unit_limit = SIZE_MAX};
+    h26x_access_units u;
+    expect(h26x_access_units_new(&config, &u) == H26X_OK);
+    return u;
+}
+
+/* Sends a unit in packets, which come in the other order, and takes it as an access unit. */
+static void carry_reversed(h26x_packetizer *p, h26x_access_units *u, const struct codec *c, struct work *work)
+{
+    uint8_t unit[UNIT + 2], to[UNIT + 6], packet[100];
+    const size_t len = make_unit(c, work->byte, unit);
+    size_t count;
+    h26x_access_unit told;
+    expect(h26x_packetize(p, sizeof packet, unit, len, &count) == H26X_OK && count <= PACKETS && count > 1);
+    for (size_t i = count; i-- > 0;) {
+        const size_t packet_len = h26x_packet_copy(p, i, packet, sizeof packet);
+        uint32_t pushed;
+        expect(h26x_access_units_push(u, 0, (uint16_t)(65500 + i), 0, i + 1 == count, packet, packet_len, &pushed,
+                                      NULL) == H26X_OK);
+        expect(pushed == H26X_HELD);
+    }
+    expect(h26x_access_units_next(u, 100, to, sizeof to, &told) == H26X_OK && told.len == len + 4);
+    expect(memcmp(to + 4, unit, len) == 0);
+    work->units++;
+}
+
 static void with_own_ends(const struct codec *c, struct work *work)
 {
     h26x_packetizer p;
@@ -86,8 +117,11 @@ static void with_own_ends(const struct codec *c, struct work *work)
     expect(h26x_receiver_new(c->number, false, false, UNIT, &r) == H26X_OK);
     for (int i = 0; i < 3; i++)
         carry(&p, &r, &sequence, c, work);
+    h26x_access_units u = units_of(c);
+    carry_reversed(&p, &u, c, work);
     h26x_packetizer_free(p);
     h26x_receiver_free(r);
+    h26x_access_units_free(u);
 }
 
 /* The ends that all have, with the lock; copies of them without. */
@@ -117,6 +151,12 @@ static void ask_shared_ends(const struct shared *s, const struct codec *c)
     h26x_depacketizer d;
     h26x_receiver r;
     h26x_h265_packet shown;
+    h26x_access_units_counts counts;
+    uint16_t numbers[2];
+    uint32_t at;
+    expect(h26x_access_units_deadline(&s->waiting, &at) && at == 107);
+    expect(h26x_access_units_missing(&s->waiting, numbers, 2, &count) == H26X_OK && count == PACKETS);
+    expect(h26x_access_units_count(&s->waiting, &counts) == H26X_OK && counts.taken == 0);
     expect(h26x_packet_count(&s->packets) > 2 && h26x_packets_len(&s->packets) > UNIT);
     expect(h26x_packet_len(&s->packets, 1) == sizeof packet);
     expect(h26x_packet_copy(&s->packets, 1, packet, sizeof packet) == sizeof packet);
@@ -181,6 +221,9 @@ static void begin(struct shared *s, const struct codec *c)
     expect(h26x_packetize_unit(&s->packets, sizeof packet, unit, len, &count) == H26X_OK);
     expect(h26x_packet_copy(&s->packets, 0, packet, sizeof packet) == sizeof packet);
     expect(h26x_depacketize(&s->open, false, packet, sizeof packet, NULL, 0, NULL, &told, NULL) == H26X_OK);
+    s->waiting = units_of(c);
+    expect(h26x_access_units_push(&s->waiting, 7, 7, 0, true, packet, sizeof packet, NULL, NULL) == H26X_OK);
+    expect(h26x_access_units_push(&s->waiting, 7, 9, 0, true, packet, sizeof packet, NULL, NULL) == H26X_OK);
     expect(h26x_receive(&s->receiving, 7, packet, sizeof packet, NULL, 0, NULL, &told, NULL, NULL, NULL) == H26X_OK);
 }
 
@@ -191,6 +234,7 @@ static void end(struct shared *s)
     h26x_depacketizer_free(s->open);
     h26x_receiver_free(s->receiver);
     h26x_receiver_free(s->receiving);
+    h26x_access_units_free(s->waiting);
     expect(pthread_mutex_destroy(&s->lock) == 0);
 }
 
@@ -211,7 +255,7 @@ int main(void)
     }
     for (size_t i = 0; i < 3; i++)
         end(&shared[i]);
-    expect(units == THREADS * ROUNDS * 3 * 5);
+    expect(units == THREADS * ROUNDS * 3 * 6);
     printf("%zu units came through, in %d threads\n", units, (int)THREADS);
     return 0;
 }

@@ -227,7 +227,8 @@ impl AccessUnitEndpoint<AccessUnitReceiver<AnyPayloadDepacketizer>> {
     /// for; how many they all are.
     pub fn missing(&self, to: &mut [u16]) -> Result<usize, PacketError>
         ensures count { IfOk result (λ count. count ≡ length (units_missing self.now)) }
-        ensures copied { IfOk result (λ count. to.new ≡ with_first (units_missing self.now) to.old) }
+        ensures copied { IfOk result (λ count.
+            to.new ≡ with_first (units_missing self.now) to.old) }
         ensures memory { OnErr result (result ≡ Err PacketError.OutOfMemory) }
         ensures kept_to { OnErr result (to.new ≡ to.old) }
     {
@@ -242,8 +243,8 @@ impl AccessUnitEndpoint<AccessUnitReceiver<AnyPayloadDepacketizer>> {
         self.receiver.finish();
     }
 
-    /// Drops all that waits or is open, and takes any number as the next: for another sender (SSRC). The
-    /// access unit that had no room stays.
+    /// Drops all that waits or is open, and takes any number as the next: for another sender (SSRC).
+    /// The access unit that had no room stays.
     pub fn restart(&mut self)
         ensures { self.new ≡ units_restarted self.old }
     {

@@ -54,10 +54,10 @@ fn cases(function: &str) -> Vec<(Option<&'static str>, Option<String>)> {
 #[test]
 fn words_of_codes() {
     let cases = cases("*h26x_strerror");
-    assert_eq!(cases.len(), 15);
+    assert_eq!(cases.len(), 16);
     for (name, answer) in cases {
         assert_eq!(
-            text(h26x_strerror(name.map_or(14, number))),
+            text(h26x_strerror(name.map_or(15, number))),
             answer,
             "{name:?}"
         );
@@ -108,6 +108,18 @@ fn structs_of_the_header() {
     assert_eq!((offset_of!(Shown, kind), offset_of!(Shown, header)), (0, 4));
     assert_eq!((offset_of!(Shown, word), offset_of!(Shown, parts)), (6, 8));
     assert_eq!(size_of::<Shown>(), 8 + word);
+    assert_eq!((offset_of!(UnitTold, len), offset_of!(UnitTold, timestamp)), (0, word));
+    assert_eq!((offset_of!(UnitTold, missing), offset_of!(UnitTold, first)), (word + 4, word + 8));
+    assert_eq!((offset_of!(UnitTold, last), offset_of!(UnitTold, extra)), (word + 10, word + 12));
+    assert_eq!((offset_of!(UnitTold, is_whole), offset_of!(UnitTold, is_clean)), (word + 13, word + 14));
+    assert_eq!((offset_of!(UnitTold, continues), size_of::<UnitTold>()), (word + 15, word + 16));
+    assert_eq!((offset_of!(Config, codec), offset_of!(Config, max_wait)), (0, 4));
+    assert_eq!((offset_of!(Config, window), offset_of!(Config, far_away)), (8, 10));
+    assert_eq!((offset_of!(Config, numbers), offset_of!(Config, avc)), (12, 13));
+    assert_eq!((offset_of!(Config, held_limit), offset_of!(Config, run_limit)), (16, 16 + word));
+    assert_eq!((offset_of!(Config, unit_limit), size_of::<Config>()), (16 + 2 * word, 16 + 3 * word));
+    assert_eq!((offset_of!(Counts, lost), offset_of!(Counts, units_given_up)), (8, 80));
+    assert_eq!(size_of::<Counts>(), 88);
 }
 
 /// NULL is a buffer of length 0, whatever length is said, an output that isn't wanted, and nothing to be freed.

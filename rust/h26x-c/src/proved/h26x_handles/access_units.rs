@@ -175,8 +175,8 @@ impl AccessUnitEndpoint<AccessUnitReceiver<AnyPayloadDepacketizer>> {
         self.receiver.finish();
     }
 
-    /// Drops all that waits or is open, and takes any number as the next: for another sender (SSRC). The
-    /// access unit that had no room stays.
+    /// Drops all that waits or is open, and takes any number as the next: for another sender (SSRC).
+    /// The access unit that had no room stays.
     pub fn restart(&mut self) {
         self.receiver.restart();
     }
