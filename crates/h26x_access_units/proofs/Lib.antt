@@ -1,4 +1,5 @@
-pub mod ArrivalLemmas
+pub mod PassedLemmas
+pub mod WaitingLemmas
 pub mod JitterLemmas
 pub mod ReceptionLemmas
 pub mod MissingLemmas

@@ -2,12 +2,12 @@
 use Rattle.std.specs.Prelude.{◌≡◌, ℕ, ◌+◌, ◌<◌, ◌≤◌, ◌-◌, ◌^◌, ◌==◌, nat_lt, nat_le, Bool, true, false, ◌||◌, ◌&&◌, if◌then◌else◌, List, [], ◌∷◌, ◌++◌, length, Option, Some, None, slice_get, slice_index_or}
 use Rattle.h26x_receiver.specs.Sequence.{distance_ahead}
 use Rattle.h26x_frames.specs.Rtp.{RtpBody, rtp_body}
-use Rattle.h26x_frames.specs.ReorderBuffer.{BufferState, fresh_buffer, push_answer, after_push, next_packet, without_first}
+use Rattle.h26x_frames.specs.ReorderBuffer.{BufferState, fresh_buffer, push_answer, after_push, next_packet, without_first, IsHeldInOrder}
 use Rattle.h26x_access_units.specs.declared.arrival.Arrival.{Arrival}
 use Rattle.h26x_access_units.specs.declared.config.AccessUnitConfig.{AccessUnitConfig}
 use Rattle.h26x_access_units.specs.declared.pushed.Pushed.{Pushed}
 use Rattle.h26x_access_units.specs.declared.pushed.Pushed.TheVariants as pushes
-use Rattle.h26x_access_units.specs.Arrival.{arrival_of, without_number, has_waited}
+use Rattle.h26x_access_units.specs.Arrival.{arrival_of, without_number, is_first_passed, has_waited, AreArrivals}
 use Rattle.h26x_access_units.specs.Pushed.{as_pushed}
 
 -- what waits: the settings, the packets in the order of their numbers, when they came, in the order
@@ -45,13 +45,17 @@ abbrev pub held_bytes : List (ℕ × RtpBody) → ℕ
 held_bytes [] = 0
 held_bytes (p ∷ held) = length p.1.payload + held_bytes held
 
--- of what waits the bytes are counted, and its window is that of the settings, which is in range
-pub record IsCounted (config : AccessUnitConfig) (buffer : BufferState RtpBody) (bytes : ℕ) : Type 0
-  where
-    pub count : bytes ≡ held_bytes buffer.held
-    pub window : buffer.window ≡ config.window
-    pub some : 0 < config.window
-    pub half : config.window ≤ 2 ^ 14
+-- Of what waits the bytes are counted; its window is that of the settings, which is in range; it is in
+-- order, and so are the arrivals, among them some of packets that went, but none of these first.
+pub record IsJitterBuffer (config : AccessUnitConfig) (buffer : BufferState RtpBody)
+    (arrivals : List Arrival) (from bytes : ℕ) : Type 0 where
+  pub count : bytes ≡ held_bytes buffer.held
+  pub window : buffer.window ≡ config.window
+  pub some : 0 < config.window
+  pub half : config.window ≤ 2 ^ 14
+  pub order : IsHeldInOrder buffer.due buffer.held
+  pub kept : AreArrivals from buffer.due buffer.held arrivals
+  pub first : is_first_passed buffer.due arrivals ≡ false
 
 -- whether more bytes wait than the limit
 abbrev pub is_past_limit : JitterState → Bool

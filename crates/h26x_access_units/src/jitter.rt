@@ -8,7 +8,7 @@ ghost use Rattle.h26x_access_units.specs.Pushed.{IsNotPushedReason};
 ghost use Rattle.h26x_access_units.specs.Missing.{numbers_from, missing_numbers};
 ghost use Rattle.h26x_access_units.specs.JitterBuffer.{with_packet, newest_of, is_far, with_held_limit, fresh_jitter, held_bytes, is_past_limit, is_full, is_pressed, jitter_answer, after_jitter, due_packet, without_due};
 
-use crate::arrival::{Arrival, drop_number};
+use crate::arrival::{Arrival, from_at, let_go};
 use crate::config::AccessUnitConfig;
 use crate::pushed::{NotPushed, NotPushedReason, Pushed, as_not_pushed};
 use h26x_frames::{self, HeldPacket, ReorderBuffer, RtpPacket};
@@ -36,19 +36,22 @@ pub struct JitterBuffer {
     config: AccessUnitConfig,
     buffer: ReorderBuffer,
     arrivals: VecDeque<Arrival>,
+    from: u16,
     bytes: usize,
     is_over: bool,
 }
 
 impl Model for JitterBuffer {
     ghost use Rattle.h26x_access_units.specs.Pushed.{IsNotPushedReason};
-    ghost use Rattle.h26x_access_units.specs.JitterBuffer.{JitterState, IsCounted, jitter_state};
+    ghost use Rattle.h26x_access_units.specs.Arrival.{not_passed};
+    ghost use Rattle.h26x_access_units.specs.JitterBuffer.{JitterState, IsJitterBuffer, jitter_state};
 
     ghost Value = { JitterState };
 
-    ghost view = { λ j. jitter_state j.config j.buffer j.arrivals.items j.is_over };
+    ghost view = { λ j. jitter_state j.config j.buffer
+        (not_passed j.buffer.due j.arrivals.items) j.is_over };
 
-    ghost invariant = { λ j. IsCounted j.config j.buffer j.bytes };
+    ghost invariant = { λ j. IsJitterBuffer j.config j.buffer j.arrivals.items j.from j.bytes };
 }
 
 impl JitterBuffer {
@@ -62,6 +65,7 @@ impl JitterBuffer {
             config,
             buffer: ReorderBuffer::new(alloc, config.window),
             arrivals: VecDeque::new(alloc),
+            from: 0,
             bytes: 0,
             is_over: false,
         }
@@ -160,6 +164,7 @@ impl JitterBuffer {
         match self.buffer.push(packet)? {
             h26x_frames::Pushed::Held => {
                 self.bytes = bytes;
+                self.from = from_at(&self.arrivals, self.from, self.buffer.due());
                 self.arrivals.push_back_reserved(Arrival {
                     number: packet.sequence,
                     at: now,
@@ -204,6 +209,7 @@ impl JitterBuffer {
         match self.buffer.push_held(packet) {
             Ok(()) => {
                 self.bytes = bytes;
+                self.from = from_at(&self.arrivals, self.from, self.buffer.due());
                 self.arrivals.push_back_reserved(arrival);
                 Ok(())
             }
@@ -250,9 +256,10 @@ impl JitterBuffer {
         ensures packet { option_map numbered_packet result ≡ slice_get self.old.buffer.held 0 }
         ensures after { self.new ≡ without_due self.old }
     {
+        let due = self.buffer.due().unwrap_or(0);
         match self.buffer.pop_first() {
             Some(packet) => {
-                drop_number(&mut self.arrivals, packet.sequence);
+                self.from = let_go(&mut self.arrivals, self.from, due, packet.sequence);
                 self.bytes -= packet.payload.len();
                 Some(packet)
             }

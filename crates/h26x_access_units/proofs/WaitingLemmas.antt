@@ -1,0 +1,138 @@
+-- Packets that wait and their arrivals, where one comes and where one goes.
+use Rattle.std.proofs.Common.{◌≡◌, ◌∙◌, ap, sym, subst, refl, ℕ, ◌+◌, ◌<◌, true, false, List, [], ◌∷◌, ◌++◌, length, Option, Some, None, arith}
+use Rattle.std.specs.Prelude.{slice_get}
+use Rattle.std.specs.Option.{unwrap_or}
+use Rattle.h26x_receiver.specs.Sequence.{next_sequence_number, is_late}
+use Rattle.h26x_frames.specs.Rtp.{RtpBody}
+use Rattle.h26x_frames.specs.ReorderBuffer.{BufferState, buffer_state, due_at, put_packet, is_number_held, push_answer, after_push, without_first, IsHeldInOrder}
+use Rattle.h26x_frames.specs.declared.pushed.Pushed.TheVariants as pushes
+use Rattle.h26x_frames.proofs.BufferLemmas.{order_at, put_in_order, rest_in_order}
+use Rattle.h26x_access_units.specs.declared.arrival.Arrival.{Arrival}
+use Rattle.h26x_access_units.specs.Arrival.{arrival_of, without_number, not_passed, is_first_passed, from_at, AreArrivals, IsLetGo}
+use Rattle.h26x_access_units.proofs.PassedLemmas.{one_waits, first_stays, one_kept, early_is}
+use Rattle.h26x_access_units.specs.JitterBuffer.{held_bytes, without_arrival_of}
+
+-- a packet that is held is neither late nor held before
+pub held_is : (b : BufferState RtpBody) (number : ℕ) → push_answer b number ≡ pushes.Held →
+    (is_late (Some (due_at b.window b.due number)) number ≡ false) × (is_number_held number b.held ≡ false)
+held_is b number is =
+    let due = due_at b.window b.due number in
+    elim (is_late (Some due) number) as (λ l. is_late (Some due) number ≡ l → (is_late (Some due) number ≡ false) × (is_number_held number b.held ≡ false)) [
+      | true ↦ λ e. absurd (let bad = rw e at is in cc)
+      | false ↦ λ e. elim (is_number_held number b.held) as (λ t. is_number_held number b.held ≡ t → (is_late (Some due) number ≡ false) × (is_number_held number b.held ≡ false)) [
+        | true ↦ λ t. absurd (let bad = rw (e, t) at is in cc)
+        | false ↦ λ t. (e, t)
+      ] refl
+    ] refl
+
+-- what stands once a packet came that waits
+pub record Comes (from now : ℕ) (due : Option ℕ) (arrivals : List Arrival) (p : ℕ × RtpBody) (new : BufferState RtpBody) : Type 0 where
+  pub order : IsHeldInOrder new.due new.held
+  pub kept : AreArrivals (from_at from new.due arrivals) new.due new.held (arrivals ++ arrival_of p.0 now ∷ [])
+  pub first : is_first_passed new.due (arrivals ++ arrival_of p.0 now ∷ []) ≡ false
+  pub waits : not_passed new.due (arrivals ++ arrival_of p.0 now ∷ []) ≡ not_passed due arrivals ++ arrival_of p.0 now ∷ []
+
+comes_to : (window from now : ℕ) (due : Option ℕ) (held : List (ℕ × RtpBody)) (arrivals : List Arrival) (p : ℕ × RtpBody) → p.0 < 65536 →
+    is_late (Some (due_at window due p.0)) p.0 ≡ false → is_number_held p.0 held ≡ false → IsHeldInOrder due held → AreArrivals from due held arrivals → is_first_passed due arrivals ≡ false →
+    Comes from now due arrivals p (buffer_state window (Some (due_at window due p.0)) (put_packet (due_at window due p.0) p held))
+comes_to window from now due held arrivals p small early absent order kept first =
+    let d = due_at window due p.0 in
+    let at = order_at window due p.0 held order in
+    let in_order : IsHeldInOrder (Some d) (put_packet d p held) = (at.0, put_in_order d 0 p held at.0 small (omega arith) (early_is d p.0 early) at.1) in
+    let none = one_kept d d now p held small early absent [] (record { small = at.0; span = omega arith; each = tt; own = tt }) in
+    by due arrivals early at.0 in_order none kept first
+  where
+    by : (due : Option ℕ) (arrivals : List Arrival) → is_late (Some (due_at window due p.0)) p.0 ≡ false → due_at window due p.0 < 65536 →
+        IsHeldInOrder (Some (due_at window due p.0)) (put_packet (due_at window due p.0) p held) →
+        AreArrivals (due_at window due p.0) (Some (due_at window due p.0)) (put_packet (due_at window due p.0) p held) (arrival_of p.0 now ∷ []) →
+        AreArrivals from due held arrivals → is_first_passed due arrivals ≡ false →
+        Comes from now due arrivals p (buffer_state window (Some (due_at window due p.0)) (put_packet (due_at window due p.0) p held))
+    by None [] early d in_order none kept first = record { order = in_order; kept = none; first = early; waits = one_waits (Some (due_at window None p.0)) [] (arrival_of p.0 now) early }
+    by None (a ∷ arrivals) early d in_order none kept first = absurd (let bad = kept in cc)
+    by (Some due) [] early d in_order none kept first = record { order = in_order; kept = none; first = early; waits = one_waits (Some due) [] (arrival_of p.0 now) early }
+    by (Some due) (a ∷ arrivals) early d in_order none kept first = record {
+      order = in_order;
+      kept = one_kept from due now p held small early absent (a ∷ arrivals) kept;
+      first = first_stays (Some due) (a ∷ arrivals) (arrival_of p.0 now) early first;
+      waits = one_waits (Some due) (a ∷ arrivals) (arrival_of p.0 now) early;
+    }
+
+comes : (b : BufferState RtpBody) (from now : ℕ) (arrivals : List Arrival) (p : ℕ × RtpBody) → p.0 < 65536 → push_answer b p.0 ≡ pushes.Held →
+    IsHeldInOrder b.due b.held → AreArrivals from b.due b.held arrivals → is_first_passed b.due arrivals ≡ false → Comes from now b.due arrivals p (after_push b p)
+comes b from now arrivals p small is order kept first =
+    let new = held_is b p.0 is in
+    let due = due_at b.window b.due p.0 in
+    let stands : after_push b p ≡ buffer_state b.window (Some due) (put_packet due p b.held) = rw new.0 refl in
+    subst (Comes from now b.due arrivals p) (sym stands) (comes_to b.window from now b.due b.held arrivals p small new.0 new.1 order kept first)
+
+-- so of a buffer, of since when, and of arrivals that are these
+pub record Came (due : Option ℕ) (old : List Arrival) (now number : ℕ) (b : BufferState RtpBody) (from : ℕ) (new : List Arrival) : Type 0 where
+  pub order : IsHeldInOrder b.due b.held
+  pub kept : AreArrivals from b.due b.held new
+  pub first : is_first_passed b.due new ≡ false
+  pub waits : not_passed b.due new ≡ not_passed due old ++ arrival_of number now ∷ []
+
+pub came : (b n : BufferState RtpBody) (from since now : ℕ) (old new : List Arrival) (p : ℕ × RtpBody) → p.0 < 65536 → push_answer b p.0 ≡ pushes.Held →
+    IsHeldInOrder b.due b.held → AreArrivals from b.due b.held old → is_first_passed b.due old ≡ false →
+    n ≡ after_push b p → since ≡ from_at from n.due old → new ≡ old ++ arrival_of p.0 now ∷ [] → Came b.due old now p.0 n since new
+came b n from since now old new p small is order kept first stands from_is items =
+    let it = subst (Comes from now b.due old p) (sym stands) (comes b from now old p small is order kept first) in
+    subst (λ (l : List Arrival). Came b.due old now p.0 n since l) (sym items)
+    (subst (λ (f : ℕ). Came b.due old now p.0 n f (old ++ arrival_of p.0 now ∷ [])) (sym from_is)
+    (record { order = it.order; kept = it.kept; first = it.first; waits = it.waits }))
+
+-- what stands once the first packet went
+pub record Went (b : BufferState RtpBody) (p : ℕ × RtpBody) : Type 0 where
+  pub held : b.held ≡ p ∷ (without_first b).held
+  pub due : (without_first b).due ≡ Some (next_sequence_number p.0)
+  pub window : (without_first b).window ≡ b.window
+
+pub first_went : (b : BufferState RtpBody) (p : ℕ × RtpBody) → slice_get b.held 0 ≡ Some p → Went b p
+first_went b p is = by b.held is
+  where
+    by : (held : List (ℕ × RtpBody)) → slice_get held 0 ≡ Some p → Went (buffer_state b.window b.due held) p
+    by [] is = absurd (let bad = is in cc)
+    by (q ∷ held) is =
+        let same : q ≡ p = cc in
+        record { held = ap (λ (x : ℕ × RtpBody). x ∷ held) same; due = ap (λ (x : ℕ × RtpBody). Some (next_sequence_number x.0)) same; window = refl }
+
+record Goes (due : Option ℕ) (since : ℕ) (p : ℕ × RtpBody) (held : List (ℕ × RtpBody)) (arrivals new : List Arrival) : Type 0 where
+  order : IsHeldInOrder (Some (next_sequence_number p.0)) held
+  kept : AreArrivals since (Some (next_sequence_number p.0)) held new
+  first : is_first_passed (Some (next_sequence_number p.0)) new ≡ false
+  waits : not_passed (Some (next_sequence_number p.0)) new ≡ without_number p.0 (not_passed due arrivals)
+
+goes_on : (due : Option ℕ) (from since : ℕ) (p : ℕ × RtpBody) (held : List (ℕ × RtpBody)) (arrivals new : List Arrival) → IsHeldInOrder due (p ∷ held) → AreArrivals from due (p ∷ held) arrivals →
+    IsLetGo from (unwrap_or due 0) p.0 arrivals since new → Goes due since p held arrivals new
+goes_on None from since p held arrivals new order kept it = absurd (let bad = order in cc)
+goes_on (Some due) from since p held arrivals new order kept it = record {
+  order = rest_in_order (Some due) p held order;
+  kept = it.kept p.1 held order.1 kept;
+  first = it.first;
+  waits = it.waits p.1 held order.1 kept;
+}
+
+-- so of a buffer and arrivals that are these
+pub record WentOn (b n : BufferState RtpBody) (p : ℕ × RtpBody) (since : ℕ) (old new : List Arrival) : Type 0 where
+  pub order : IsHeldInOrder n.due n.held
+  pub kept : AreArrivals since n.due n.held new
+  pub first : is_first_passed n.due new ≡ false
+  pub waits : not_passed n.due new ≡ without_arrival_of b.held (not_passed b.due old)
+  pub window : n.window ≡ b.window
+  pub bytes : held_bytes b.held ≡ length p.1.payload + held_bytes n.held
+
+pub went_on : (b n : BufferState RtpBody) (p : ℕ × RtpBody) (from since : ℕ) (old new : List Arrival) → slice_get b.held 0 ≡ Some p → n ≡ without_first b →
+    IsHeldInOrder b.due b.held → AreArrivals from b.due b.held old → IsLetGo from (unwrap_or b.due 0) p.0 old since new → WentOn b n p since old new
+went_on b n p from since old new is stands order kept it =
+    let went = first_went b p is in
+    let held : b.held ≡ p ∷ n.held = went.held ∙ ap (λ (x : BufferState RtpBody). p ∷ x.held) (sym stands) in
+    let due : n.due ≡ Some (next_sequence_number p.0) = ap (λ (x : BufferState RtpBody). x.due) stands ∙ went.due in
+    let goes = goes_on b.due from since p n.held old new (subst (IsHeldInOrder b.due) held order) (subst (λ (l : List (ℕ × RtpBody)). AreArrivals from b.due l old) held kept) it in
+    record {
+      order = subst (λ (d : Option ℕ). IsHeldInOrder d n.held) (sym due) goes.order;
+      kept = subst (λ (d : Option ℕ). AreArrivals since d n.held new) (sym due) goes.kept;
+      first = subst (λ (d : Option ℕ). is_first_passed d new ≡ false) (sym due) goes.first;
+      waits = ap (λ (d : Option ℕ). not_passed d new) due ∙ goes.waits ∙ sym (ap (λ (l : List (ℕ × RtpBody)). without_arrival_of l (not_passed b.due old)) held);
+      window = ap (λ (x : BufferState RtpBody). x.window) stands ∙ went.window;
+      bytes = ap held_bytes held;
+    }
