@@ -33,8 +33,8 @@ is_timestamp None timestamp = false
 is_timestamp (Some marked) timestamp = marked == timestamp
 
 -- the numbers of an access unit of which a packet is the first
-abbrev pub numbers_from : Option ℕ → ℕ × RtpBody → ℕ → UnitNumbers
-numbers_from marked p missing = record {
+abbrev pub begun_numbers : Option ℕ → ℕ × RtpBody → ℕ → UnitNumbers
+begun_numbers marked p missing = record {
   timestamp = p.1.timestamp;
   first = p.0;
   last = p.0;
@@ -51,10 +51,10 @@ numbers_to unit p missing = record unit {
 
 -- the numbers of a packet's access unit: the one that is open, where it has its timestamp
 abbrev pub numbers_with : Option UnitNumbers → Option ℕ → ℕ × RtpBody → ℕ → UnitNumbers
-numbers_with None marked p missing = numbers_from marked p missing
+numbers_with None marked p missing = begun_numbers marked p missing
 numbers_with (Some unit) marked p missing =
     if unit.timestamp == p.1.timestamp then numbers_to unit p missing
-    else numbers_from marked p missing
+    else begun_numbers marked p missing
 
 -- so of what is known so far
 abbrev pub unit_numbers : NumbersSoFar → ℕ × RtpBody → ℕ → UnitNumbers
@@ -105,24 +105,24 @@ abbrev pub after_last : NumbersSoFar → NumbersSoFar
 after_last n = record fresh_numbers { ended = n.unit }
 
 -- those of an access unit of which no packet came
-abbrev pub no_numbers : UnitNumbers
-no_numbers = record { timestamp = 0; first = 0; last = 0; missing = 0; continues = false }
+abbrev pub numbers_of_none : UnitNumbers
+numbers_of_none = record { timestamp = 0; first = 0; last = 0; missing = 0; continues = false }
 
 -- those of the first access unit that ended
 abbrev pub first_of_ended : Option UnitNumbers → Option UnitNumbers → UnitNumbers
 first_of_ended (Some numbers) other = numbers
 first_of_ended None (Some numbers) = numbers
-first_of_ended None None = no_numbers
+first_of_ended None None = numbers_of_none
 
 -- so of what is known so far
 abbrev pub first_ended : NumbersSoFar → UnitNumbers
 first_ended n = first_of_ended n.ended n.ended_by_marker
 
 -- once it is given out
-abbrev pub without_first_of : NumbersSoFar → Option UnitNumbers → NumbersSoFar
-without_first_of n (Some numbers) = record n { ended = None }
-without_first_of n None = record n { ended_by_marker = None }
+abbrev pub without_ended_of : NumbersSoFar → Option UnitNumbers → NumbersSoFar
+without_ended_of n (Some numbers) = record n { ended = None }
+without_ended_of n None = record n { ended_by_marker = None }
 
 -- so of what is known so far
 abbrev pub without_first_ended : NumbersSoFar → NumbersSoFar
-without_first_ended n = without_first_of n n.ended
+without_first_ended n = without_ended_of n n.ended

@@ -66,16 +66,16 @@ restarted s = record s {
 }
 
 -- whether a number is the one behind the packet that waits alone
-abbrev pub follows : Option (ℕ × RtpBody) → ℕ → Bool
-follows None number = false
-follows (Some stray) number = number == next_sequence_number stray.0
+abbrev pub is_behind_stray : Option (ℕ × RtpBody) → ℕ → Bool
+is_behind_stray None number = false
+is_behind_stray (Some stray) number = number == next_sequence_number stray.0
 
 -- what is answered for a packet: one that is too far from the one that is due waits alone, and where
 -- the next such one follows it the stream begins anew
 abbrev pub reception_answer : Reception → ℕ × RtpBody → Pushed
 reception_answer s p =
     if is_far s.waiting.config.far s.waiting.buffer p.0
-    then (if follows s.stray p.0 then pushes.Anew else pushes.Stray)
+    then (if is_behind_stray s.stray p.0 then pushes.Anew else pushes.Stray)
     else jitter_answer s.waiting p
 
 -- what waits once a packet came, by its answer
@@ -176,13 +176,13 @@ ended_if_over s =
     if has_no_unit s.frames.ended && s.waiting.is_over then after_finish s else s
 
 -- the first access unit that ended
-abbrev pub given_of : Reception → List AccessUnitValue → Option ReceivedUnitValue
-given_of s [] = None
-given_of s (unit ∷ units) = Some (received_unit s.is_clean unit (first_ended s.numbers))
+abbrev pub unit_given_of : Reception → List AccessUnitValue → Option ReceivedUnitValue
+unit_given_of s [] = None
+unit_given_of s (unit ∷ units) = Some (received_unit s.is_clean unit (first_ended s.numbers))
 
 -- so of a receiver
-abbrev pub given : Reception → Option ReceivedUnitValue
-given s = given_of s s.frames.ended
+abbrev pub unit_given : Reception → Option ReceivedUnitValue
+unit_given s = unit_given_of s s.frames.ended
 
 -- once it is given out
 abbrev pub without_given_of : Reception → List AccessUnitValue → Reception
@@ -205,5 +205,5 @@ pub record IsNext (now : ℕ) (s new : Reception) (unit : Option ReceivedUnitVal
   pub drained : Reception
   pub taken : IsDrained now (ended_if_anew s) drained
   pub until : drained.frames.ended ≡ [] → due_packet now drained.waiting ≡ None
-  pub unit_is : unit ≡ given (ended_if_over drained)
+  pub unit_is : unit ≡ unit_given (ended_if_over drained)
   pub stands : new ≡ without_given (ended_if_over drained)

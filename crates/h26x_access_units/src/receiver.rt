@@ -6,12 +6,12 @@ ghost use Rattle.h26x_frames.specs.Rtp.{rtp_body};
 ghost use Rattle.h26x_frames.specs.ReorderBuffer.{numbered_packet};
 ghost use Rattle.h26x_access_units.specs.Pushed.{IsNotPushedReason};
 ghost use Rattle.h26x_access_units.specs.Counts.{counted_reason};
-ghost use Rattle.h26x_frames.specs.AccessUnit.{access_unit_value, open_depacketization};
+ghost use Rattle.h26x_frames.specs.Receiver.{frames_at};
 ghost use Rattle.h26x_access_units.specs.Arrival.{deadline_of};
 ghost use Rattle.h26x_access_units.specs.JitterBuffer.{is_far, due_packet};
 ghost use Rattle.h26x_access_units.specs.Missing.{missing_numbers};
 ghost use Rattle.h26x_access_units.specs.ReceivedUnit.{received_unit_value};
-ghost use Rattle.h26x_access_units.specs.Reception.{fresh_reception, reception_answer, after_reception, has_no_unit, ended_if_anew, ended_if_over, restarted, given, without_given, frames_after, IsAnswerTo, IsDueTaken, IsDrained, IsNext};
+ghost use Rattle.h26x_access_units.specs.Reception.{fresh_reception, reception_answer, after_reception, has_no_unit, ended_if_anew, ended_if_over, restarted, unit_given, without_given, frames_after, IsAnswerTo, IsDueTaken, IsDrained, IsNext};
 
 use crate::config::AccessUnitConfig;
 use crate::counts::Counts;
@@ -51,14 +51,11 @@ fn take_packet<D: RunDepacketizer>(
     packet: &RtpPacket<'_>,
     ended: &mut Vec<AccessUnit>,
 ) -> Result<Received, PacketError>
-    ensures answer { IsAnswerTo frames.old.packets.run_limit (open_depacketization
-        (D.state frames.old.packets.depacketizer) frames.old.packets.expected frames.old.unit
-        (map access_unit_value ended.old.items)) packet.now result }
-    ensures after { open_depacketization (D.state frames.new.packets.depacketizer)
-        frames.new.packets.expected frames.new.unit (map access_unit_value ended.new.items)
-        ≡ frames_after frames.old.packets.run_limit frames.old.unit_limit (open_depacketization
-        (D.state frames.old.packets.depacketizer) frames.old.packets.expected frames.old.unit
-        (map access_unit_value ended.old.items)) packet.now result }
+    ensures answer { IsAnswerTo frames.old.packets.run_limit
+        (frames_at D.state frames.old ended.old.items) packet.now result }
+    ensures after { frames_at D.state frames.new ended.new.items
+        ≡ frames_after frames.old.packets.run_limit frames.old.unit_limit
+        (frames_at D.state frames.old ended.old.items) packet.now result }
     ensures limit { frames.new.packets.run_limit ≡ frames.old.packets.run_limit }
     ensures unit_limit { frames.new.unit_limit ≡ frames.old.unit_limit }
 {
@@ -81,16 +78,13 @@ pub trait Receives: Drop {
 }
 
 impl<D: RunDepacketizer> Receives for AccessUnitReceiver<D> {
-    ghost use Rattle.std.specs.Prelude.{map};
     ghost use Rattle.std.specs.Option.{option_map};
     ghost use Rattle.h26x_frames.specs.ReorderBuffer.{numbered_packet};
-    ghost use Rattle.h26x_frames.specs.AccessUnit.{access_unit_value, open_depacketization};
+    ghost use Rattle.h26x_frames.specs.Receiver.{frames_at};
     ghost use Rattle.h26x_access_units.specs.Reception.{reception};
 
     ghost reception = { λ r. reception r.waiting (option_map numbered_packet r.stray) r.is_anew
-        (open_depacketization
-        (D.state r.frames.packets.depacketizer) r.frames.packets.expected r.frames.unit
-        (map access_unit_value r.ended.items)) r.numbers r.is_clean r.counts
+        (frames_at D.state r.frames r.ended.items) r.numbers r.is_clean r.counts
         r.frames.packets.run_limit r.frames.unit_limit };
 
     fn counts(&self) -> Counts {
@@ -327,7 +321,7 @@ impl<D: RunDepacketizer> AccessUnitReceiver<D> {
     /// Gives out the first access unit that ended.
     fn give(&mut self) -> Option<ReceivedUnit>
         ensures unit { let r = ⟦<AccessUnitReceiver<D> as Receives>⟧.reception in
-            option_map received_unit_value result ≡ given (r self.old) }
+            option_map received_unit_value result ≡ unit_given (r self.old) }
         ensures after { let r = ⟦<AccessUnitReceiver<D> as Receives>⟧.reception in
             r self.new ≡ without_given (r self.old) }
     {

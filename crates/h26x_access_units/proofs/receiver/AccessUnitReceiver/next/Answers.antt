@@ -2,7 +2,7 @@ use Rattle.std.proofs.Common.{◌∙◌, ap, subst, map}
 use Rattle.std.specs.Option.{option_map}
 use Rattle.h26x_frames.specs.ReorderBuffer.{numbered_packet}
 use Rattle.h26x_frames.specs.AccessUnit.{access_unit_value, open_depacketization}
-use Rattle.h26x_access_units.specs.Reception.{Reception, reception, given, without_given, IsDrained}
+use Rattle.h26x_access_units.specs.Reception.{Reception, reception, unit_given, without_given, IsDrained}
 use Rattle.h26x_access_units.proofs.receiver.AccessUnitReceiver.next.Goals as goal
 
 pub returns-clause-next : goal.returns-clause-next
@@ -13,6 +13,6 @@ returns-clause-next g c =
       drained = drained;
       taken = subst (λ (s : Reception). IsDrained c.args.now s drained) c.in_ok-end_if_anew.ensures.ended c.drain.ensures.drained;
       until = c.in_ok-drain.ensures.until;
-      unit_is = c.give.ensures.unit ∙ ap given c.in_ok-end_if_over.ensures.ended;
+      unit_is = c.give.ensures.unit ∙ ap unit_given c.in_ok-end_if_over.ensures.ended;
       stands = c.give.ensures.after ∙ ap without_given c.in_ok-end_if_over.ensures.ended;
     }
