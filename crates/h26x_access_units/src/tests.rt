@@ -133,6 +133,15 @@ fn a_stream_that_begins_waits(rt: HostRuntime) -> Result<(), PacketError> {
             Step::Push(109, 0, 6000, true, SLICE, Pushed::Held),
             Step::Unit(109, 6000, 6, [true, true, false], 0, 0, 0),
             Step::None(109),
+            // Another one begins in the middle of a fragmented unit: nothing of that is written.
+            Step::Restart,
+            Step::Push(110, 700, 9000, false, MIDDLE, Pushed::Held),
+            Step::Push(110, 701, 9000, true, END, Pushed::Held),
+            Step::Push(110, 702, 12000, true, KEY, Pushed::Held),
+            Step::Missing(&[697, 698, 699]),
+            Step::None(209),
+            Step::Unit(210, 9000, 0, [false, false, false], 700, 701, 0),
+            Step::Unit(210, 12000, 6, [true, true, false], 702, 702, 0),
         ],
     )?;
     assert!(rt; at.is_none(), "{at:?}");
@@ -201,6 +210,23 @@ fn markers_and_numbers_that_bear_nothing(rt: HostRuntime) -> Result<(), PacketEr
             Step::Unit(100, 6000, 8, [true, true, false], 13, 17, 0),
             Step::Unit(100, 9000, 6, [true, true, false], 18, 18, 0),
             Step::None(100),
+            // A marker on a middle fragment: neither half is written.
+            Step::Push(101, 19, 12000, false, START, Pushed::Held),
+            Step::Push(101, 20, 12000, true, MIDDLE, Pushed::Held),
+            Step::Push(101, 21, 12000, false, END, Pushed::Held),
+            Step::Push(101, 22, 15000, true, SLICE, Pushed::Held),
+            Step::Unit(101, 12000, 0, [false, false, false], 19, 20, 0),
+            Step::Unit(101, 12000, 0, [false, false, true], 21, 21, 0),
+            Step::Unit(101, 15000, 6, [true, false, false], 22, 22, 0),
+            // Equal timestamps without a marker are one, and behind a marker go on with it.
+            Step::Push(102, 23, 18000, false, KEY, Pushed::Held),
+            Step::Push(102, 24, 18000, false, SLICE, Pushed::Held),
+            Step::Push(102, 25, 21000, true, SLICE, Pushed::Held),
+            Step::Push(102, 26, 21000, true, KEY, Pushed::Held),
+            Step::Unit(102, 18000, 12, [true, true, false], 23, 24, 0),
+            Step::Unit(102, 21000, 6, [true, true, false], 25, 25, 0),
+            Step::Unit(102, 21000, 6, [false, true, true], 26, 26, 0),
+            Step::None(102),
         ],
     )?;
     assert!(rt; at.is_none(), "{at:?}");
@@ -302,6 +328,42 @@ fn strays_by_the_newest_that_waits(rt: HostRuntime) -> Result<(), PacketError> {
             Step::Unit(0, 18000, 6, [false, false, false], 23, 23, 1),
             Step::Unit(0, 21000, 6, [false, false, false], 26, 26, 2),
             Step::None(0),
+        ],
+    )?;
+    assert!(rt; at.is_none(), "{at:?}");
+    Ok(())
+}
+
+#[test]
+fn a_window_sent_backwards(rt: HostRuntime) -> Result<(), PacketError> {
+    let at = walk(
+        rt.alloc(),
+        0,
+        &[
+            Step::Push(0, 10, 0, true, KEY, Pushed::Held),
+            Step::Unit(100, 0, 6, [false, false, false], 10, 10, 0),
+            Step::Push(101, 14, 12000, true, SLICE, Pushed::Held),
+            Step::Push(102, 13, 9000, true, SLICE, Pushed::Held),
+            Step::Push(103, 12, 6000, true, SLICE, Pushed::Held),
+            Step::None(103),
+            Step::Missing(&[11]),
+            Step::Push(104, 11, 3000, true, SLICE, Pushed::Held),
+            // The one that came first waits longest, though those before it go first.
+            Step::Unit(104, 3000, 6, [true, false, false], 11, 11, 0),
+            Step::Deadline(Some(201)),
+            Step::Push(105, 17, 18000, true, SLICE, Pushed::Held),
+            Step::Unit(105, 6000, 6, [true, false, false], 12, 12, 0),
+            Step::Push(106, 16, 15000, true, SLICE, Pushed::Held),
+            Step::Push(106, 12, 6000, true, SLICE, Pushed::Late(1)),
+            Step::Unit(106, 9000, 6, [true, false, false], 13, 13, 0),
+            Step::Deadline(Some(201)),
+            Step::Unit(106, 12000, 6, [true, false, false], 14, 14, 0),
+            Step::None(106),
+            Step::Deadline(Some(205)),
+            Step::Unit(205, 15000, 6, [false, false, false], 16, 16, 1),
+            Step::Unit(205, 18000, 6, [true, false, false], 17, 17, 0),
+            Step::Deadline(None),
+            Step::None(205),
         ],
     )?;
     assert!(rt; at.is_none(), "{at:?}");
