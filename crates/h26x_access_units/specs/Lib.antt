@@ -6,3 +6,4 @@ pub mod Counts
 pub mod ReceivedUnit
 pub mod Reception
 pub mod Missing
+pub mod Limits

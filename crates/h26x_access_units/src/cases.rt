@@ -1,10 +1,17 @@
 //! Worked cases of the definitions, each the contract of a function without a result.
 
 ghost use Rattle.std.specs.Prelude.{◌≡◌, ℕ, List, true, false, ◌-◌, ◌^◌, None, Some, [], ◌∷◌};
-ghost use Rattle.h26x_access_units.specs.Arrival.{arrival_of, without_number, deadline_of, has_waited};
+ghost use Rattle.h26x_access_units.specs.Arrival.{arrival_of, without_number, not_passed, is_first_passed, deadline_of, has_waited};
 ghost use Rattle.h26x_access_units.specs.Missing.{missing_numbers};
 ghost use Rattle.h26x_access_units.specs.Numbers.{missing_sum};
 ghost use Rattle.h26x_access_units.specs.Counts.{count_up};
+ghost use Rattle.h26x_model.specs.Receive.DepacketizerState.{DepacketizerState};
+ghost use Rattle.h26x_receiver.specs.Sequence.{is_late};
+ghost use Rattle.h26x_frames.specs.Rtp.{rtp_body};
+ghost use Rattle.h26x_frames.specs.ReorderBuffer.{IsHeldInOrder};
+ghost use Rattle.h26x_access_units.specs.declared.config.AccessUnitConfig.{AccessUnitConfig};
+ghost use Rattle.h26x_access_units.specs.Reception.{fresh_reception};
+ghost use Rattle.h26x_access_units.specs.Limits.{IsWithinLimits};
 
 /// A packet that came 16 ticks before they go round, and may wait for 100: the 84th is the last.
 pub fn ticks_that_go_round()
@@ -30,6 +37,31 @@ pub fn numbers_that_are_missing()
         ((65535, []) ∷ (1, []) ∷ (2, []) ∷ []) ≡ 65534 ∷ 0 ∷ [] }
     ensures due { missing_numbers {A = List ℕ} (Some 7) ((7, []) ∷ []) ≡ [] }
     ensures none { missing_numbers {A = List ℕ} None [] ≡ [] }
+{}
+
+/// What waits is in order up to the last number that isn't late: where 65534 is due, 32765.
+pub fn what_waits_at_the_edges()
+    ensures order { IsHeldInOrder (Some 65534) ((65534, rtp_body 0 false [])
+        ∷ (32765, rtp_body 0 false []) ∷ []) }
+    ensures late { is_late (Some 65534) 32765 ≡ false }
+    ensures over { is_late (Some 65534) 32766 ≡ true }
+{}
+
+/// A packet that waits alone is as long as packets may be, or longer.
+pub fn a_stray_at_the_limit()
+    ensures at { (config : AccessUnitConfig) (state : DepacketizerState) → IsWithinLimits 2
+        (record (fresh_reception config state) { stray = Some (5, rtp_body 0 false (1 ∷ 2 ∷ [])) }) }
+    ensures over { (config : AccessUnitConfig) (state : DepacketizerState) → IsWithinLimits 1
+        (record (fresh_reception config state) { stray = Some (5, rtp_body 0 false (1 ∷ 2 ∷ [])) })
+        → ⊥ }
+{}
+
+/// Where 9 is due and the arrivals of 7 and 8 stand behind that of 10, which waits: only that does.
+pub fn arrivals_of_those_that_went()
+    ensures waits { not_passed (Some 9) (arrival_of 10 1 ∷ arrival_of 8 2 ∷ arrival_of 7 3 ∷ [])
+        ≡ arrival_of 10 1 ∷ [] }
+    ensures none_due { not_passed None (arrival_of 10 1 ∷ []) ≡ arrival_of 10 1 ∷ [] }
+    ensures first { is_first_passed (Some 9) (arrival_of 8 2 ∷ arrival_of 10 1 ∷ []) ≡ true }
 {}
 
 /// Counts stay at the largest that there is.

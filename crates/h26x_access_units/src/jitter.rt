@@ -5,7 +5,7 @@ ghost use Rattle.std.specs.Option.{option_map};
 ghost use Rattle.h26x_frames.specs.ReorderBuffer.{numbered_packet};
 ghost use Rattle.h26x_access_units.specs.Arrival.{deadline_of, has_waited};
 ghost use Rattle.h26x_access_units.specs.Pushed.{IsNotPushedReason};
-ghost use Rattle.h26x_access_units.specs.Missing.{numbers_from, missing_numbers};
+ghost use Rattle.h26x_access_units.specs.Missing.{numbers_from, missing_numbers, AreExactlyMissing};
 ghost use Rattle.h26x_access_units.specs.JitterBuffer.{with_packet, newest_of, is_far, with_held_limit, fresh_jitter, held_bytes, is_past_limit, is_full, is_pressed, jitter_answer, after_jitter, due_packet, without_due};
 
 use crate::arrival::{Arrival, from_at, let_go};
@@ -271,8 +271,12 @@ impl JitterBuffer {
     /// for a NACK (RFC 4585, 6.2.1). Of a stream that begins the first of them are those of the window
     /// before the first packet that came.
     pub fn missing(&self) -> Result<Vec<u16>, AllocError>
-        ensures { IfOk result (λ numbers.
+        ensures numbers { IfOk result (λ numbers.
             numbers.items ≡ missing_numbers self.now.buffer.due self.now.buffer.held) }
+
+        // Exactly those up to the last that waits that don't wait.
+        ensures exact { IfOk result (λ numbers.
+            AreExactlyMissing self.now.buffer.due self.now.buffer.held numbers.items) }
     {
         let mut numbers = Vec::new(*self.arrivals.allocator());
         let mut from = match self.buffer.due() {

@@ -8,6 +8,7 @@ mod cases;
 mod config;
 mod counts;
 mod jitter;
+pub mod laws;
 mod numbers;
 mod pushed;
 mod receiver;

@@ -9,7 +9,7 @@ ghost use Rattle.h26x_access_units.specs.Counts.{counted_reason};
 ghost use Rattle.h26x_frames.specs.Receiver.{frames_at};
 ghost use Rattle.h26x_access_units.specs.Arrival.{deadline_of};
 ghost use Rattle.h26x_access_units.specs.JitterBuffer.{is_far, due_packet};
-ghost use Rattle.h26x_access_units.specs.Missing.{missing_numbers};
+ghost use Rattle.h26x_access_units.specs.Missing.{missing_numbers, AreExactlyMissing};
 ghost use Rattle.h26x_access_units.specs.ReceivedUnit.{received_unit_value};
 ghost use Rattle.h26x_access_units.specs.Reception.{fresh_reception, reception_answer, after_reception, has_no_unit, ended_if_anew, ended_if_over, restarted, unit_given, without_given, frames_after, IsAnswerTo, IsDueTaken, IsDrained, IsNext};
 
@@ -408,6 +408,11 @@ impl<D: RunDepacketizer> AccessUnitReceiver<D> {
         ensures numbers { let r = ⟦<AccessUnitReceiver<D> as Receives>⟧.reception in
             IfOk result (λ numbers. numbers.items ≡ missing_numbers
             (r self.now).waiting.buffer.due (r self.now).waiting.buffer.held) }
+
+        // Exactly those up to the last that waits that don't wait.
+        ensures exact { let r = ⟦<AccessUnitReceiver<D> as Receives>⟧.reception in
+            IfOk result (λ numbers. AreExactlyMissing (r self.now).waiting.buffer.due
+            (r self.now).waiting.buffer.held numbers.items) }
         ensures memory { OnErr result (result ≡ Err PacketError.OutOfMemory) }
     {
         Ok(self.waiting.missing()?)

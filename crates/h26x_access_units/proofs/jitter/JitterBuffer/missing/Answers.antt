@@ -1,5 +1,10 @@
-use Rattle.std.proofs.Common.{◌∙◌, ◌<◌, ℕ, length, false, [], arith}
+use Rattle.std.proofs.Common.{rules, ◌≡◌, ◌∙◌, ◌<◌, ◌≤◌, ◌++◌, ap, sym, ℕ, List, Option, Some, length, drop, subst, false, [], arith}
+use Rattle.std.proofs.lemmas.List.{append-nil, drop_all}
 use Rattle.h26x_frames.specs.Rtp.{RtpBody, rtp_body}
+use Rattle.h26x_frames.specs.ReorderBuffer.{IsHeldInOrder}
+use Rattle.h26x_access_units.specs.JitterBuffer.{JitterState}
+use Rattle.h26x_access_units.specs.Missing.{missing_before, missing_numbers}
+use Rattle.h26x_access_units.proofs.ExactLemmas.{exact_of}
 use Rattle.h26x_access_units.proofs.MissingLemmas.{up_to}
 use Rattle.h26x_access_units.proofs.jitter.JitterBuffer.missing.Goals as goal
 
@@ -10,3 +15,21 @@ loop-place-preserved c =
     let in_range : c.loop-place.place < length held = omega arith in
     c.loop-place.invariant
     ∙ up_to c.loop-place.numbers.items c.append_numbers.new.numbers.items c.loop-place.from c.number_at-number.result c.loop-place.place held d in_range (c.number_at-number.ensures d) c.in_ok-append_numbers.ensures
+
+pub returns-clause-exact : goal.returns-clause-exact
+returns-clause-exact c =
+    let now = c.args.self.now.buffer in
+    let held = c.self.inside.buffer.held in
+    let from = c.loop-place.from in
+    let numbers = c.loop-place.numbers.items in
+    let end : length held ≤ c.loop-place.place = omega arith in
+    let due : c.self.inside.buffer.due ≡ Some c.in-Some.due = search rules in
+    let fresh : c.new-numbers.result.items ≡ [] = search rules in
+    let is : numbers ≡ missing_numbers now.due now.held =
+    sym (append-nil numbers)
+    ∙ sym (ap (λ (l : List (ℕ × RtpBody)). numbers ++ missing_before from l) (drop_all c.loop-place.place held end))
+    ∙ sym c.loop-place.invariant
+    ∙ ap (λ (l : List ℕ). l ++ missing_before c.in-Some.due held) fresh
+    ∙ ap (λ (d : Option ℕ). missing_numbers d held) (sym due)
+    ∙ ap (λ (j : JitterState). missing_numbers j.buffer.due j.buffer.held) c.self.view_is in
+    exact_of now.due now.held numbers (subst (λ (j : JitterState). IsHeldInOrder j.buffer.due j.buffer.held) c.self.view_is c.self.invariant.order) is

@@ -1,0 +1,239 @@
+-- What a receiver holds stays within its limits.
+use Rattle.std.proofs.Common.{◌≡◌, ap, sym, subst, refl, ℕ, ◌+◌, ◌≤◌, Bool, true, false, cond, List, [], ◌∷◌, length, Option, Some, None, Result, Ok, Err, arith}
+use Rattle.std.specs.Prelude.{◌==◌, ◌||◌, ◌&&◌, nat_lt, nat_le, max}
+use Rattle.std.specs.Option.{option_map}
+use Rattle.std.proofs.lemmas.Bool.Decides.{nat_tests}
+use Rattle.h26x_core.specs.declared.error.PacketError.{PacketError}
+use Rattle.h26x_model.specs.Receive.DepacketizerState.{DepacketizerState}
+use Rattle.h26x_model.specs.Receive.RunLimit.{run_len, run_within}
+use Rattle.h26x_receiver.specs.declared.received.Received.{Received}
+use Rattle.h26x_receiver.specs.declared.received.Received.TheVariants as received
+use Rattle.h26x_receiver.specs.Sequence.{distance_ahead, is_late}
+use Rattle.h26x_receiver.specs.Sequenced.{is_run_kept, after_sequenced_packet}
+use Rattle.h26x_frames.specs.Rtp.{RtpBody}
+use Rattle.h26x_frames.specs.ReorderBuffer.{BufferState, due_at, put_packet, push_answer, after_push, without_first_of}
+use Rattle.h26x_frames.specs.declared.pushed.Pushed as buffers
+use Rattle.h26x_frames.specs.declared.pushed.Pushed.TheVariants as frames
+use Rattle.h26x_frames.specs.AccessUnit.{AccessUnitValue, UnitDepacketization, unit_len, unit_within, whole_if, taken_by, after_rtp, after_taken_rtp, after_unit_skip}
+use Rattle.h26x_access_units.specs.declared.config.AccessUnitConfig.{AccessUnitConfig}
+use Rattle.h26x_access_units.specs.declared.pushed.Pushed.{Pushed}
+use Rattle.h26x_access_units.specs.declared.pushed.Pushed.TheVariants as pushes
+use Rattle.h26x_access_units.specs.Numbers.{bears_nothing}
+use Rattle.h26x_access_units.specs.JitterBuffer.{JitterState, held_bytes, is_full, is_far, jitter_answer, after_jitter, with_held_limit, fresh_jitter}
+use Rattle.h26x_access_units.specs.Pushed.{as_pushed}
+use Rattle.h26x_access_units.specs.Reception.{Reception, reception_answer, after_reception, is_behind_stray, pushed_to, anew_of, frames_after, IsDueTaken, IsDrained, none, more, ended_if_anew, ended_if_over, has_no_unit, without_given, without_given_of, fresh_reception, IsNext}
+use Rattle.h26x_access_units.specs.ReceivedUnit.{ReceivedUnitValue}
+use Rattle.h26x_access_units.specs.Limits.{stray_len, IsWithinLimits}
+
+-- a packet adds no more than its bytes
+put_adds : (due : ℕ) (p : ℕ × RtpBody) (held : List (ℕ × RtpBody)) → held_bytes (put_packet due p held) ≤ held_bytes held + length p.1.payload
+put_adds due p [] = omega arith
+put_adds due p (q ∷ held) =
+    let rest = put_adds due p held in
+    elim (nat_lt (distance_ahead due p.0) (distance_ahead due q.0)) as (λ b. nat_lt (distance_ahead due p.0) (distance_ahead due q.0) ≡ b → held_bytes (put_packet due p (q ∷ held)) ≤ held_bytes (q ∷ held) + length p.1.payload) [
+      | true ↦ λ e. rw e (omega arith)
+      | false ↦ λ e. elim (p.0 == q.0) as (λ b. (p.0 == q.0) ≡ b → held_bytes (put_packet due p (q ∷ held)) ≤ held_bytes (q ∷ held) + length p.1.payload) [
+        | true ↦ λ s. rw (e, s) (omega arith)
+        | false ↦ λ s. rw (e, s) (omega (arith, rest))
+      ] refl
+    ] refl
+
+push_adds : (b : BufferState RtpBody) (p : ℕ × RtpBody) → held_bytes (after_push b p).held ≤ held_bytes b.held + length p.1.payload
+push_adds b p =
+    let due = due_at b.window b.due p.0 in
+    elim (is_late (Some due) p.0) as (λ l. is_late (Some due) p.0 ≡ l → held_bytes (after_push b p).held ≤ held_bytes b.held + length p.1.payload) [
+      | true ↦ λ e. rw e (omega arith)
+      | false ↦ λ e. rw e (put_adds due p b.held)
+    ] refl
+
+answered_adds : (now : ℕ) (j : JitterState) (p : ℕ × RtpBody) (answer : Pushed) → held_bytes (after_jitter now j p answer).buffer.held ≤ held_bytes j.buffer.held + length p.1.payload
+answered_adds now j p pushes.Held = push_adds j.buffer p
+answered_adds now j p (pushes.Late n) = omega arith
+answered_adds now j p pushes.Twice = omega arith
+answered_adds now j p pushes.Stray = omega arith
+answered_adds now j p pushes.Anew = omega arith
+answered_adds now j p pushes.Full = omega arith
+
+config_stays : (now : ℕ) (j : JitterState) (p : ℕ × RtpBody) (answer : Pushed) → (after_jitter now j p answer).config ≡ j.config
+config_stays now j p pushes.Held = refl
+config_stays now j p (pushes.Late n) = refl
+config_stays now j p pushes.Twice = refl
+config_stays now j p pushes.Stray = refl
+config_stays now j p pushes.Anew = refl
+config_stays now j p pushes.Full = refl
+
+-- a packet waits only where what waits is within the limit
+waits_within : (now : ℕ) (j : JitterState) (p : ℕ × RtpBody) (most : ℕ) → length p.1.payload ≤ most → held_bytes j.buffer.held ≤ max j.config.held_limit most + most →
+    held_bytes (after_jitter now j p (jitter_answer j p)).buffer.held ≤ max j.config.held_limit most + most
+waits_within now j p most len within =
+    elim (is_full j (length p.1.payload)) as (λ f. is_full j (length p.1.payload) ≡ f → held_bytes (after_jitter now j p (jitter_answer j p)).buffer.held ≤ max j.config.held_limit most + most) [
+      | true ↦ λ e. rw e within
+      | false ↦ λ e.
+          let limit : held_bytes j.buffer.held ≤ j.config.held_limit = not_past e in
+          let adds = answered_adds now j p (jitter_answer j p) in
+          omega (arith, limit, adds, len)
+    ] refl
+  where
+    not_past : is_full j (length p.1.payload) ≡ false → held_bytes j.buffer.held ≤ j.config.held_limit
+    not_past e = elim (nat_lt j.config.held_limit (held_bytes j.buffer.held)) as (λ t. nat_lt j.config.held_limit (held_bytes j.buffer.held) ≡ t → (t || nat_le 18446744073709551616 (held_bytes j.buffer.held + length p.1.payload)) ≡ false → held_bytes j.buffer.held ≤ j.config.held_limit) [
+      | true ↦ λ t f. absurd (let bad = f in cc)
+      | false ↦ λ t f. grind (arith, nat_tests)
+    ] refl e
+
+-- of a stream that begins anew no more than two packets wait
+anew_adds : (now : ℕ) (config : AccessUnitConfig) (stray : Option (ℕ × RtpBody)) (p : ℕ × RtpBody) → held_bytes (anew_of now config stray p).buffer.held ≤ stray_len stray + length p.1.payload
+anew_adds now config None p = answered_adds now (fresh_jitter config) p (jitter_answer (fresh_jitter config) p)
+anew_adds now config (Some stray) p =
+    let fresh = fresh_jitter (with_held_limit 18446744073709551615 config) in
+    let one = answered_adds now fresh stray (jitter_answer fresh stray) in
+    let first = pushed_to now fresh stray in
+    let two = answered_adds now first p (jitter_answer first p) in
+    omega (arith, one, two)
+
+anew_config : (now : ℕ) (config : AccessUnitConfig) (stray : Option (ℕ × RtpBody)) (p : ℕ × RtpBody) → (anew_of now config stray p).config ≡ config
+anew_config now config None p = config_stays now (fresh_jitter config) p (jitter_answer (fresh_jitter config) p)
+anew_config now config (Some stray) p = refl
+
+-- a packet that comes
+answer_within : (now : ℕ) (s : Reception) (p : ℕ × RtpBody) (most : ℕ) → length p.1.payload ≤ most → IsWithinLimits most s →
+    IsWithinLimits most (after_reception now s p pushes.Anew)
+answer_within now s p most len is = record {
+  waiting =
+      let adds = anew_adds now s.waiting.config s.stray p in
+      let same = ap (λ (c : AccessUnitConfig). c.held_limit) (anew_config now s.waiting.config s.stray p) in
+      let alone = is.stray in
+      omega (arith, adds, alone, len, same);
+  stray = omega arith;
+  run = is.run;
+  unit = is.unit;
+}
+
+held_within : (now : ℕ) (s : Reception) (p : ℕ × RtpBody) (most : ℕ) (answer : Pushed) → IsWithinLimits most s →
+    held_bytes (after_jitter now s.waiting p answer).buffer.held ≤ max s.waiting.config.held_limit most + most →
+    (answer ≡ pushes.Stray → ⊥) → (answer ≡ pushes.Anew → ⊥) → IsWithinLimits most (after_reception now s p answer)
+held_within now s p most pushes.Held is bytes stray anew = record { waiting = bytes; stray = is.stray; run = is.run; unit = is.unit }
+held_within now s p most (pushes.Late n) is bytes stray anew = record { waiting = bytes; stray = is.stray; run = is.run; unit = is.unit }
+held_within now s p most pushes.Twice is bytes stray anew = record { waiting = bytes; stray = is.stray; run = is.run; unit = is.unit }
+held_within now s p most pushes.Full is bytes stray anew = record { waiting = bytes; stray = is.stray; run = is.run; unit = is.unit }
+held_within now s p most pushes.Stray is bytes stray anew = absurd (stray refl)
+held_within now s p most pushes.Anew is bytes stray anew = absurd (anew refl)
+
+not_stray : (j : JitterState) (p : ℕ × RtpBody) → jitter_answer j p ≡ pushes.Stray → ⊥
+not_stray j p = by (is_full j (length p.1.payload)) (push_answer j.buffer p.0)
+  where
+    by : (f : Bool) (answer : buffers.Pushed) → cond f pushes.Full (as_pushed answer) ≡ pushes.Stray → ⊥
+    by true answer e = absurd (let bad = e in cc)
+    by false frames.Held e = absurd (let bad = e in cc)
+    by false (frames.Late n) e = absurd (let bad = e in cc)
+    by false frames.Twice e = absurd (let bad = e in cc)
+
+not_anew : (j : JitterState) (p : ℕ × RtpBody) → jitter_answer j p ≡ pushes.Anew → ⊥
+not_anew j p = by (is_full j (length p.1.payload)) (push_answer j.buffer p.0)
+  where
+    by : (f : Bool) (answer : buffers.Pushed) → cond f pushes.Full (as_pushed answer) ≡ pushes.Anew → ⊥
+    by true answer e = absurd (let bad = e in cc)
+    by false frames.Held e = absurd (let bad = e in cc)
+    by false (frames.Late n) e = absurd (let bad = e in cc)
+    by false frames.Twice e = absurd (let bad = e in cc)
+
+pub push_within : (most now : ℕ) (s : Reception) (p : ℕ × RtpBody) → length p.1.payload ≤ most → IsWithinLimits most s → IsWithinLimits most (after_reception now s p (reception_answer s p))
+push_within most now s p len is =
+    elim (is_far s.waiting.config.far s.waiting.buffer p.0) as (λ f. is_far s.waiting.config.far s.waiting.buffer p.0 ≡ f → IsWithinLimits most (after_reception now s p (cond f (cond (is_behind_stray s.stray p.0) pushes.Anew pushes.Stray) (jitter_answer s.waiting p)))) [
+      | true ↦ λ e. elim (is_behind_stray s.stray p.0) as (λ b. IsWithinLimits most (after_reception now s p (cond b pushes.Anew pushes.Stray))) [
+        | true ↦ answer_within now s p most len is
+        | false ↦ record { waiting = is.waiting; stray = len; run = is.run; unit = is.unit }
+      ]
+      | false ↦ λ e. held_within now s p most (jitter_answer s.waiting p) is (waits_within now s.waiting p most len is.waiting) (not_stray s.waiting p) (not_anew s.waiting p)
+    ] refl
+
+-- a run is given up past its limit, and the text of an access unit past its own
+run_is_within : (most : ℕ) (run : Option (List ℕ)) → run_len (run_within most run) ≤ most
+run_is_within most None = omega arith
+run_is_within most (Some run) = elim (nat_lt most (length run)) as (λ b. nat_lt most (length run) ≡ b → run_len (cond b None (Some run)) ≤ most) [
+  | true ↦ λ e. omega arith
+  | false ↦ λ e. grind (arith, nat_tests)
+] refl
+
+text_is_within : (limit : ℕ) (unit : Option AccessUnitValue) → unit_len (unit_within limit unit) ≤ limit
+text_is_within limit None = omega arith
+text_is_within limit (Some unit) = elim (nat_lt limit (length unit.bytes)) as (λ b. nat_lt limit (length unit.bytes) ≡ b → unit_len (unit_within limit (Some unit)) ≤ limit) [
+  | true ↦ λ e. rw e (omega arith)
+  | false ↦ λ e. rw e (grind (arith, nat_tests))
+] refl
+
+-- a receiver of access units within these limits
+record AreWithin (most limit : ℕ) (s : UnitDepacketization) : Type 0 where
+  run : run_len s.state.run ≤ most
+  unit : unit_len s.unit ≤ limit
+
+taken_within : (most limit : ℕ) (s : UnitDepacketization) (p : ℕ × RtpBody) → AreWithin most limit (record (after_taken_rtp most s p) { unit = unit_within limit (after_taken_rtp most s p).unit })
+taken_within most limit s p = record {
+  run = run_is_within most (after_sequenced_packet (taken_by s p.1.timestamp) p.0 p.1.payload).state.run;
+  unit = text_is_within limit (after_taken_rtp most s p).unit;
+}
+
+answered_within : (most limit : ℕ) (s : UnitDepacketization) (p : ℕ × RtpBody) (answer : Result Received PacketError) → AreWithin most limit s → AreWithin most limit (after_rtp most limit s p answer)
+answered_within most limit s p (Ok (received.Late n)) is = is
+answered_within most limit s p (Ok received.InOrder) is = taken_within most limit s p
+answered_within most limit s p (Ok (received.Gap n)) is = taken_within most limit s p
+answered_within most limit s p (Ok (received.TooLong n)) is = taken_within most limit s p
+answered_within most limit s p (Err error) is = is
+
+same_len : (unit : Option AccessUnitValue) → unit_len (option_map (whole_if false) unit) ≡ unit_len unit
+same_len None = refl
+same_len (Some unit) = refl
+
+skipped_within : (most limit : ℕ) (s : UnitDepacketization) (number : ℕ) → AreWithin most limit s → AreWithin most limit (after_unit_skip s number)
+skipped_within most limit s number is = elim (is_run_kept s.expected number) as (λ b. is_run_kept s.expected number ≡ b → AreWithin most limit (after_unit_skip s number)) [
+  | true ↦ λ e. rw e (record { run = is.run; unit = is.unit })
+  | false ↦ λ e. rw e (record { run = omega arith; unit = let same = same_len s.unit in let at = is.unit in omega (arith, same, at) })
+] refl
+
+frames_within : (most limit : ℕ) (s : UnitDepacketization) (p : ℕ × RtpBody) (answer : Result Received PacketError) → AreWithin most limit s → AreWithin most limit (frames_after most limit s p answer)
+frames_within most limit s p answer is = elim (bears_nothing p.1.payload) as (λ b. AreWithin most limit (cond b (after_unit_skip s p.0) (after_rtp most limit s p answer))) [
+  | true ↦ skipped_within most limit s p.0 is
+  | false ↦ answered_within most limit s p answer is
+]
+
+-- a packet that goes takes its bytes with it
+goes_bytes : (window : ℕ) (due : Option ℕ) (held : List (ℕ × RtpBody)) → held_bytes (without_first_of window due held).held ≤ held_bytes held
+goes_bytes window due [] = omega arith
+goes_bytes window due (p ∷ held) = omega arith
+
+due_within : (most now : ℕ) (s t : Reception) → IsDueTaken now s t → IsWithinLimits most s → IsWithinLimits most t
+due_within most now s t it is =
+    let frames = frames_within s.run_limit s.unit_limit s.frames it.packet it.answer (record { run = is.run; unit = is.unit }) in
+    let less = goes_bytes s.waiting.buffer.window s.waiting.buffer.due s.waiting.buffer.held in
+    let at = is.waiting in
+    subst (IsWithinLimits most) (sym it.stands) (record { waiting = omega (arith, less, at); stray = is.stray; run = frames.run; unit = frames.unit })
+
+pub drained_within : (most now : ℕ) (s t : Reception) → IsDrained now s t → IsWithinLimits most s → IsWithinLimits most t
+drained_within most now s t none is = is
+drained_within most now s t (more before empty taken) is = due_within most now _ t taken (drained_within most now s _ before is)
+
+pub anew_within : (most : ℕ) (s : Reception) → IsWithinLimits most s → IsWithinLimits most (ended_if_anew s)
+anew_within most s is = elim (has_no_unit s.frames.ended && s.is_anew) as (λ b. (has_no_unit s.frames.ended && s.is_anew) ≡ b → IsWithinLimits most (ended_if_anew s)) [
+  | true ↦ λ e. rw e (record { waiting = is.waiting; stray = is.stray; run = omega arith; unit = omega arith })
+  | false ↦ λ e. rw e is
+] refl
+
+over_within : (most : ℕ) (s : Reception) → IsWithinLimits most s → IsWithinLimits most (ended_if_over s)
+over_within most s is = elim (has_no_unit s.frames.ended && s.waiting.is_over) as (λ b. (has_no_unit s.frames.ended && s.waiting.is_over) ≡ b → IsWithinLimits most (ended_if_over s)) [
+  | true ↦ λ e. rw e (record { waiting = omega arith; stray = is.stray; run = omega arith; unit = omega arith })
+  | false ↦ λ e. rw e is
+] refl
+
+given_within : (most : ℕ) (s : Reception) → IsWithinLimits most s → IsWithinLimits most (without_given s)
+given_within most s is = by s.frames.ended
+  where
+    by : (ended : List AccessUnitValue) → IsWithinLimits most (without_given_of s ended)
+    by [] = is
+    by (unit ∷ units) = record { waiting = is.waiting; stray = is.stray; run = is.run; unit = is.unit }
+
+pub fresh_within : (most : ℕ) (config : AccessUnitConfig) (state : DepacketizerState) → IsWithinLimits most (fresh_reception config state)
+fresh_within most config state = record { waiting = omega arith; stray = omega arith; run = omega arith; unit = omega arith }
+
+pub next_within : (most now : ℕ) (s new : Reception) (unit : Option ReceivedUnitValue) → IsNext now s new unit → IsWithinLimits most s → IsWithinLimits most new
+next_within most now s new unit it is =
+    subst (IsWithinLimits most) (sym it.stands)
+    (given_within most (ended_if_over it.drained) (over_within most it.drained (drained_within most now (ended_if_anew s) it.drained it.taken (anew_within most s is))))
