@@ -231,7 +231,7 @@ static void check_markers(struct tally *t, const struct packets *p)
     gives(&it, 100, p->key_unit, .timestamp = 3000, .first = 11, .last = 11, .extra = KEY,
           .is_whole = true, .is_clean = true);
     gives(&it, 100, p->slice_unit, .timestamp = 3000, .first = 12, .last = 12, .extra = SLICE,
-          .continues = true);
+          .is_clean = true, .continues = true);
     holds(&it, 100, 13, 6000, false, p->start);
     holds(&it, 100, 14, 6000, true, "");
     skips(&it, 100, 15, H26X_HELD, 0);

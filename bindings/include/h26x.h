@@ -415,7 +415,7 @@ typedef struct {
     uint64_t refused;        /* packets that were refused for what they are */
     uint64_t skipped;        /* numbers that came and bear nothing */
     uint64_t anew;           /* how often the stream began anew */
-    uint64_t units;          /* access units that were given out */
+    uint64_t units;          /* access units that ended and were told of */
     uint64_t whole;          /* those of them that are known to be whole */
     uint64_t units_given_up; /* NAL units that were longer than run_limit */
 } h26x_access_units_counts;

@@ -4,6 +4,9 @@
 
 use alloc::collections::VecDeque;
 
+/// Half of the circle of sequence numbers: so far ahead a number counts as behind (RFC 1982, 3.2).
+const HALF: u16 = 0x8000;
+
 /// When a packet came that waits.
 #[derive(Debug, Clone, Copy, PartialEq, Eq)]
 pub struct Arrival {
@@ -13,19 +16,58 @@ pub struct Arrival {
     pub at: u32,
 }
 
-/// Where the first arrival of this number stands.
-fn place_of(arrivals: &VecDeque<Arrival>, number: u16) -> Option<usize> {
-    for place in 0..arrivals.len() {
-        if arrivals[place].number == number {
-            return Some(place);
-        }
-    }
-    None
+/// Whether a number is behind the one that is due.
+fn is_passed(due: u16, number: u16) -> bool {
+    number.wrapping_sub(due) >= HALF
 }
 
-/// Drops the first arrival of this number. Mostly it is the first of all.
-pub(crate) fn drop_number(arrivals: &mut VecDeque<Arrival>, number: u16) {
-    if let Some(place) = place_of(arrivals, number) {
-        let _ = arrivals.remove(place);
+/// Whether the packet went whose arrival stands first.
+fn is_first_passed(arrivals: &VecDeque<Arrival>, due: u16) -> bool {
+    match arrivals.front() {
+        Some(arrival) => is_passed(due, arrival.number),
+        None => false,
+    }
+}
+
+/// Drops arrivals of packets that went, as long as such a one stands first.
+fn drop_front(arrivals: &mut VecDeque<Arrival>, due: u16) {
+    while is_first_passed(arrivals, due) {
+        let _ = arrivals.pop_front();
+    }
+}
+
+/// Drops arrivals of packets that went, wherever they stand.
+fn drop_passed(arrivals: &mut VecDeque<Arrival>, due: u16) {
+    arrivals.retain(|arrival| !is_passed(due, arrival.number));
+}
+
+/// Where by the next packet half of the circle would have gone since the number `from` was due, drops
+/// arrivals of packets that went; the answer is the number since which others may have gone.
+fn make_room(arrivals: &mut VecDeque<Arrival>, from: u16, due: u16, number: u16) -> u16 {
+    let gone = u32::from(due.wrapping_sub(from)) + u32::from(number.wrapping_sub(due));
+    if gone >= u32::from(HALF) {
+        drop_passed(arrivals, due);
+        due
+    } else {
+        from
+    }
+}
+
+/// The packet of this number goes, where it is the first of those that wait by its number. Its arrival
+/// stays until it stands first, so that none is looked for. Arrivals of packets that went since the
+/// number `from` was due may stand there, and afterwards since the one that is answered.
+pub(crate) fn let_go(arrivals: &mut VecDeque<Arrival>, from: u16, due: u16, number: u16) -> u16 {
+    let since = make_room(arrivals, from, due, number);
+    drop_front(arrivals, number.wrapping_add(1));
+    since
+}
+
+/// The number since which others may have gone, once one more arrival stands behind these: where none
+/// stands there, the one that is due then.
+pub(crate) fn from_at(arrivals: &VecDeque<Arrival>, from: u16, due: Option<u16>) -> u16 {
+    if arrivals.is_empty() {
+        due.unwrap_or(0)
+    } else {
+        from
     }
 }

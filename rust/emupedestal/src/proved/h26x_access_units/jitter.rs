@@ -2,7 +2,7 @@
 
 //! Packets that wait for those before them, by a window, by time and by bytes.
 
-use crate::proved::h26x_access_units::arrival::{Arrival, drop_number};
+use crate::proved::h26x_access_units::arrival::{Arrival, from_at, let_go};
 use crate::proved::h26x_access_units::config::AccessUnitConfig;
 use crate::proved::h26x_access_units::pushed::{NotPushed, NotPushedReason, Pushed, as_not_pushed};
 use crate::proved::h26x_frames::{self, HeldPacket, ReorderBuffer, RtpPacket};
@@ -29,6 +29,7 @@ pub struct JitterBuffer {
     config: AccessUnitConfig,
     buffer: ReorderBuffer,
     arrivals: VecDeque<Arrival>,
+    from: u16,
     bytes: usize,
     is_over: bool,
 }
@@ -40,6 +41,7 @@ impl JitterBuffer {
             config,
             buffer: ReorderBuffer::new(config.window),
             arrivals: VecDeque::new(),
+            from: 0,
             bytes: 0,
             is_over: false,
         }
@@ -118,6 +120,7 @@ impl JitterBuffer {
         match self.buffer.try_push(packet)? {
             crate::proved::h26x_frames::Pushed::Held => {
                 self.bytes = bytes;
+                self.from = from_at(&self.arrivals, self.from, self.buffer.due());
                 self.arrivals.push_back(Arrival {
                     number: packet.sequence,
                     at: now,
@@ -154,6 +157,7 @@ impl JitterBuffer {
         match self.buffer.push_held(packet) {
             Ok(()) => {
                 self.bytes = bytes;
+                self.from = from_at(&self.arrivals, self.from, self.buffer.due());
                 self.arrivals.push_back(arrival);
                 Ok(())
             }
@@ -191,9 +195,10 @@ impl JitterBuffer {
 
     /// The first packet, due or not.
     pub fn pop_first(&mut self) -> Option<HeldPacket> {
+        let due = self.buffer.due().unwrap_or(0);
         match self.buffer.pop_first() {
             Some(packet) => {
-                drop_number(&mut self.arrivals, packet.sequence);
+                self.from = let_go(&mut self.arrivals, self.from, due, packet.sequence);
                 self.bytes -= packet.payload.len();
                 Some(packet)
             }
