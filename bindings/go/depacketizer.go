@@ -11,14 +11,14 @@ import (
 // beforeUnit is how many bytes stand before a unit: a start code, or its length.
 const beforeUnit = 4
 
-// Told is what is told of the units that a packet completed.
+// Told is what is told of the units that a packet completed, or of those of an access unit.
 type Told uint8
 
 // What is told.
 const (
-	// NoUnits: the packet completed none.
+	// NoUnits: there are none.
 	NoUnits Told = 0
-	// NoKeyframe: it completed units, none of them of a keyframe.
+	// NoKeyframe: there are units, none of them of a keyframe.
 	NoKeyframe Told = 1
 	// Keyframe: a unit of a keyframe is among them: of an IDR picture (H.264), an IRAP picture (H.265), an
 	// IDR or a CRA picture (H.266). A recovery point without one (intra refresh, gradual decoding refresh)

@@ -45,10 +45,12 @@ const (
 	// ErrNotOfThisCodec: H.264 has no decoding order numbers, no largest packet size, and shows no
 	// packets; H.266 shows none.
 	ErrNotOfThisCodec Code = C.H26X_NOT_OF_THIS_CODEC
-	// ErrOutOfRange: a largest packet size is under 4.
+	// ErrOutOfRange: a largest packet size is under 4, or a window is negative or over 16384.
 	ErrOutOfRange Code = C.H26X_OUT_OF_RANGE
 	// ErrNoRoom: what is written doesn't fit. No call here answers it.
 	ErrNoRoom Code = C.H26X_NO_ROOM
+	// ErrNothingYet: no access unit has ended. No call here answers it.
+	ErrNothingYet Code = C.H26X_NOTHING_YET
 )
 
 // Error is the code in the library's words.

@@ -57,7 +57,7 @@ type Received struct {
 //
 // It writes no unit of which a packet is missing, whatever a network loses, delays or brings twice, as long
 // as gaps and delays are of fewer than 32768 packets. Packets must come in their order, since one behind a
-// later one is late: put a jitter buffer before it where a network changes the order.
+// later one is late: where a network changes the order use an [AccessUnitReceiver].
 type Receiver struct {
 	mu       sync.RWMutex
 	codec    Codec

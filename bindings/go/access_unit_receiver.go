@@ -1,0 +1,384 @@
+package h26x
+
+// #include <h26x.h>
+import "C"
+
+import (
+	"math"
+	"runtime"
+	"strconv"
+	"sync"
+	"unsafe"
+)
+
+// An RTPPacket is what a packet's header says of it, and its payload (RFC 3550, 5.1). Of Pion's rtp.Packet these are
+// SequenceNumber, Timestamp, Marker and Payload.
+type RTPPacket struct {
+	Sequence  uint16
+	Timestamp uint32
+	Marker    bool
+	Payload   []byte
+}
+
+// A Pushed is what became of a packet that was given to an AccessUnitReceiver.
+type Pushed uint32
+
+// What becomes of a packet.
+const (
+	// Held: it waits for those before it, or to be taken.
+	Held Pushed = C.H26X_HELD
+	// PushedLate: dropped: it came after its place was passed.
+	PushedLate Pushed = C.H26X_PUSHED_LATE
+	// Twice: dropped: a packet with its number waits.
+	Twice Pushed = C.H26X_TWICE
+	// Full: dropped: more bytes wait than the limit. Take access units, and give it again.
+	Full Pushed = C.H26X_FULL
+	// Stray: its number is too far from the one that is due: it waits alone, in the place of another such packet.
+	Stray Pushed = C.H26X_STRAY
+	// Anew: it follows the one that waited alone: the stream begins anew, and what waited of the old numbers is
+	// dropped.
+	Anew Pushed = C.H26X_ANEW
+)
+
+// String is its name.
+func (p Pushed) String() string {
+	switch p {
+	case Held:
+		return "Held"
+	case PushedLate:
+		return "PushedLate"
+	case Twice:
+		return "Twice"
+	case Full:
+		return "Full"
+	case Stray:
+		return "Stray"
+	case Anew:
+		return "Anew"
+	default:
+		return "Pushed(" + strconv.FormatUint(uint64(p), 10) + ")"
+	}
+}
+
+// An AccessUnitConfig is a caller's settings of an AccessUnitReceiver. What is 0 is as it says there; so a negative
+// number is how a 0 is asked for.
+type AccessUnitConfig struct {
+	// Window: a missing packet is waited for until one came so many places, less one, ahead of it, up to 16384.
+	// 0: 512.
+	Window int
+	// Far: a number so far or farther from the one that is due, ahead or behind, waits alone until the next such number
+	// follows it, and then the stream begins anew with both (RFC 3550, A.1). 0: 3000; negative: none is too far, and
+	// one behind is late.
+	Far int
+	// MaxWait: a missing packet is waited for so many ticks at most after one behind it came. 0, or 2^32 - 1 and more:
+	// by the window alone; negative: not at all.
+	MaxWait int
+	// HeldLimit is how many bytes of payloads may wait; past that none is waited for. 0: 8,000,000.
+	HeldLimit int
+	// RunLimit is how many bytes of data an open unit may hold from a packet to the next. 0: 4,000,000.
+	RunLimit int
+	// UnitLimit is how many bytes an open access unit may hold from a packet to the next. 0: 8,000,000.
+	UnitLimit int
+	// DONL: packets bear decoding order numbers (H.265 and H.266).
+	DONL bool
+	// AVC: units are written behind lengths of four bytes, else behind 00 00 00 01.
+	AVC bool
+}
+
+// An AccessUnit is an access unit, and what is told of it.
+type AccessUnit struct {
+	// Timestamp is that of its packets.
+	Timestamp uint32
+	// Data is its units, each behind 00 00 00 01 or behind its length: none of which a packet is missing.
+	Data []byte
+	Told Told
+	// IsWhole: it is known that nothing of it is missing.
+	IsWhole bool
+	// IsClean: nor is anything since a keyframe of which nothing is: a decoder that began there goes on. Where it is
+	// false ask the sender for a keyframe.
+	IsClean bool
+	// Continues: a marker ended one of its timestamp right before it, as where a peer sets the marker on each slice.
+	Continues bool
+	// First and Last are the numbers of the first packet that came of it and of the last.
+	First, Last uint16
+	// Missing is how many numbers are missing between the access unit before and its end.
+	Missing uint32
+}
+
+// Counts are what an AccessUnitReceiver has counted since it was made. Each stays at 2^64 - 1.
+type Counts struct {
+	// Taken: packets that were taken, and not refused.
+	Taken uint64
+	// Lost: numbers that are missing before packets that were taken or numbers that were skipped.
+	Lost uint64
+	// Late: packets that came after their place was passed.
+	Late uint64
+	// Twice: packets that came while one with their number waited.
+	Twice uint64
+	// Stray: packets whose number was too far from the one that was due.
+	Stray uint64
+	// Refused: packets that were refused for what they are.
+	Refused uint64
+	// Skipped: numbers that came and bear nothing.
+	Skipped uint64
+	// Anew: how often the stream began anew.
+	Anew uint64
+	// Units: access units that were given out.
+	Units uint64
+	// Whole: those of them that are known to be whole.
+	Whole uint64
+	// UnitsGivenUp: NAL units that were longer than the run's limit.
+	UnitsGivenUp uint64
+}
+
+// An AccessUnitReceiver takes packets as a network brings them, some lost, some twice and in any order, and gives out
+// access units.
+//
+// `now` is the caller's clock, in ticks of his own, which goes round at 2^32 and never goes back. Push what comes; take
+// access units until there is none; and do so again at the Deadline.
+type AccessUnitReceiver struct {
+	mu    sync.RWMutex
+	codec Codec
+	call  *receivingUnits
+}
+
+// receivingUnits is what C is given: it has no pointer of Go's. It is nil where the AccessUnitReceiver is closed.
+type receivingUnits struct {
+	handle C.h26x_access_units
+	pushed C.uint32_t
+	behind C.uint16_t
+	unit   C.h26x_access_unit
+}
+
+// NewAccessUnitReceiver makes a receiver that takes any sequence number as the first. Its errors are ErrUnknownCodec,
+// ErrNotOfThisCodec where DONL is set for H.264, ErrOutOfRange where the window is negative or over 16384, and
+// ErrOutOfMemory.
+func NewAccessUnitReceiver(codec Codec, config AccessUnitConfig) (*AccessUnitReceiver, error) {
+	call, settings := new(receivingUnits), config.settings(codec)
+	if err := refusedBy(C.h26x_access_units_new(&settings, &call.handle)); err != nil {
+		return nil, err
+	}
+	r := &AccessUnitReceiver{codec: codec, call: call}
+	runtime.SetFinalizer(r, (*AccessUnitReceiver).Close)
+	return r, nil
+}
+
+func (c AccessUnitConfig) settings(codec Codec) C.h26x_access_units_config {
+	return C.h26x_access_units_config{
+		codec:      C.uint32_t(codec),
+		max_wait:   C.uint32_t(setting(c.MaxWait, math.MaxUint32, math.MaxUint32)),
+		window:     C.uint16_t(setting(c.Window, 512, math.MaxUint16)),
+		far_away:   C.uint16_t(setting(c.Far, 3000, math.MaxUint16)),
+		numbers:    C.bool(c.DONL),
+		avc:        C.bool(c.AVC),
+		held_limit: C.size_t(setting(c.HeldLimit, 8_000_000, math.MaxInt)),
+		run_limit:  C.size_t(setting(c.RunLimit, 4_000_000, math.MaxInt)),
+		unit_limit: C.size_t(setting(c.UnitLimit, 8_000_000, math.MaxInt)),
+	}
+}
+
+// setting is the number, up to the largest; 0 where it is negative, and another one where it is 0.
+func setting(number int, other, largest int64) int64 {
+	switch {
+	case number == 0:
+		return other
+	case number < 0:
+		return 0
+	case int64(number) > largest:
+		return largest
+	default:
+		return int64(number)
+	}
+}
+
+// Close frees what the library holds, and answers nil. It may be called again.
+func (r *AccessUnitReceiver) Close() error {
+	r.mu.Lock()
+	defer r.mu.Unlock()
+	if r.call != nil {
+		C.h26x_access_units_free(r.call.handle)
+		r.call = nil
+		runtime.SetFinalizer(r, nil)
+	}
+	return nil
+}
+
+// Codec is its codec.
+func (r *AccessUnitReceiver) Codec() Codec { return r.codec }
+
+// Push takes a packet that came at this tick, and copies it where it waits. It answers what became of it, and where it
+// is late how far it is behind the one that is due. One without a payload came and bears nothing, as Skip has it. Then
+// call Next until it has none.
+//
+// Its errors are ErrOutOfMemory, which changes nothing, so that the packet can be given again, and ErrClosed.
+func (r *AccessUnitReceiver) Push(now uint32, packet RTPPacket) (pushed Pushed, behind uint16, err error) {
+	r.mu.Lock()
+	defer r.mu.Unlock()
+	call := r.call
+	if call == nil {
+		return 0, 0, ErrClosed
+	}
+	code := C.h26x_access_units_push(&call.handle, C.uint32_t(now), C.uint16_t(packet.Sequence),
+		C.uint32_t(packet.Timestamp), C.bool(packet.Marker), at(packet.Payload), C.size_t(len(packet.Payload)),
+		&call.pushed, &call.behind)
+	return call.became(code)
+}
+
+// Skip passes over a number that came and bears nothing of the stream, as that of padding alone, of forward error
+// correction or of another payload type: so it isn't missing. What it answers is that of Push.
+func (r *AccessUnitReceiver) Skip(now uint32, sequence uint16) (pushed Pushed, behind uint16, err error) {
+	r.mu.Lock()
+	defer r.mu.Unlock()
+	call := r.call
+	if call == nil {
+		return 0, 0, ErrClosed
+	}
+	code := C.h26x_access_units_skip(&call.handle, C.uint32_t(now), C.uint16_t(sequence), &call.pushed, &call.behind)
+	return call.became(code)
+}
+
+// became is what a call told of a packet.
+func (call *receivingUnits) became(code C.uint32_t) (Pushed, uint16, error) {
+	if code != C.H26X_OK {
+		return 0, 0, refusedBy(code)
+	}
+	return Pushed(call.pushed), uint16(call.behind), nil
+}
+
+// Next is the next access unit, if one has ended at this tick, in memory that is the caller's; else nil. Call it until
+// there is none. Packets that are refused are passed over, and counted.
+//
+// Its errors are ErrOutOfMemory, of which nothing is lost, so that the call can be made again, and ErrClosed.
+func (r *AccessUnitReceiver) Next(now uint32) (*AccessUnit, error) {
+	unit := new(AccessUnit)
+	if ended, err := r.NextInto(now, unit); !ended {
+		return nil, err
+	}
+	return unit, nil
+}
+
+// NextInto writes the next access unit, if one has ended at this tick, to unit, whose Data's memory it uses again where
+// there is room in that, and answers whether one had; else unit stays. What stands at Next holds here too.
+func (r *AccessUnitReceiver) NextInto(now uint32, unit *AccessUnit) (bool, error) {
+	r.mu.Lock()
+	defer r.mu.Unlock()
+	call := r.call
+	if call == nil {
+		return false, ErrClosed
+	}
+	room := unit.Data[:cap(unit.Data)]
+	code := call.next(now, room)
+	if code == C.H26X_NO_ROOM {
+		room = make([]byte, larger(int(call.unit.len), 2*len(room)))
+		code = call.next(now, room)
+	}
+	switch code {
+	case C.H26X_OK:
+		*unit = call.told(room[:call.unit.len])
+		return true, nil
+	case C.H26X_NOTHING_YET:
+		return false, nil
+	default:
+		return false, refusedBy(code)
+	}
+}
+
+func (call *receivingUnits) next(now uint32, room []byte) C.uint32_t {
+	return C.h26x_access_units_next(&call.handle, C.uint32_t(now), at(room), C.size_t(len(room)), &call.unit)
+}
+
+// told is what the last call told of an access unit, with its bytes.
+func (call *receivingUnits) told(data []byte) AccessUnit {
+	return AccessUnit{
+		Timestamp: uint32(call.unit.timestamp),
+		Data:      data,
+		Told:      Told(call.unit.extra),
+		IsWhole:   bool(call.unit.is_whole),
+		IsClean:   bool(call.unit.is_clean),
+		Continues: bool(call.unit.continues),
+		First:     uint16(call.unit.first),
+		Last:      uint16(call.unit.last),
+		Missing:   uint32(call.unit.missing),
+	}
+}
+
+// Deadline is the tick at which to call Next at the latest, if packets wait and there is a MaxWait. Behind Close there is
+// none.
+func (r *AccessUnitReceiver) Deadline() (tick uint32, ok bool) {
+	r.mu.RLock()
+	defer r.mu.RUnlock()
+	if r.call == nil {
+		return 0, false
+	}
+	told := new(C.uint32_t)
+	ok = bool(C.h26x_access_units_deadline(&r.call.handle, told))
+	return uint32(*told), ok
+}
+
+// Missing is the numbers that are missing before packets that wait, in order: those to ask the sender for again (NACK;
+// RFC 4585, 6.2.1). Its errors are ErrOutOfMemory and ErrClosed.
+func (r *AccessUnitReceiver) Missing() ([]uint16, error) {
+	r.mu.RLock()
+	defer r.mu.RUnlock()
+	if r.call == nil {
+		return nil, ErrClosed
+	}
+	count := new(C.size_t)
+	if err := refusedBy(C.h26x_access_units_missing(&r.call.handle, nil, 0, count)); err != nil || *count == 0 {
+		return nil, err
+	}
+	numbers := make([]uint16, int(*count))
+	first := (*C.uint16_t)(unsafe.Pointer(&numbers[0]))
+	if err := refusedBy(C.h26x_access_units_missing(&r.call.handle, first, *count, count)); err != nil {
+		return nil, err
+	}
+	return numbers, nil
+}
+
+// Finish is for the end of a stream: all that waits is due, and once it was taken the open access unit ends, not known
+// to be whole. Next gives all of it, and then any number is the next. Its error is ErrClosed.
+func (r *AccessUnitReceiver) Finish() error {
+	r.mu.Lock()
+	defer r.mu.Unlock()
+	if r.call == nil {
+		return ErrClosed
+	}
+	return refusedBy(C.h26x_access_units_finish(&r.call.handle))
+}
+
+// Restart is for another sender (SSRC): it drops all that waits or is open, and takes any number as the next. What was
+// counted stays. Its error is ErrClosed.
+func (r *AccessUnitReceiver) Restart() error {
+	r.mu.Lock()
+	defer r.mu.Unlock()
+	if r.call == nil {
+		return ErrClosed
+	}
+	return refusedBy(C.h26x_access_units_restart(&r.call.handle))
+}
+
+// Counts is what was counted. Its error is ErrClosed.
+func (r *AccessUnitReceiver) Counts() (Counts, error) {
+	r.mu.RLock()
+	defer r.mu.RUnlock()
+	if r.call == nil {
+		return Counts{}, ErrClosed
+	}
+	told := new(C.h26x_access_units_counts)
+	if err := refusedBy(C.h26x_access_units_count(&r.call.handle, told)); err != nil {
+		return Counts{}, err
+	}
+	return Counts{
+		Taken:        uint64(told.taken),
+		Lost:         uint64(told.lost),
+		Late:         uint64(told.late),
+		Twice:        uint64(told.twice),
+		Stray:        uint64(told.stray),
+		Refused:      uint64(told.refused),
+		Skipped:      uint64(told.skipped),
+		Anew:         uint64(told.anew),
+		Units:        uint64(told.units),
+		Whole:        uint64(told.whole),
+		UnitsGivenUp: uint64(told.units_given_up),
+	}, nil
+}
