@@ -68,7 +68,7 @@ type AccessUnitConfig struct {
 	Window int
 	// Far: a number so far or farther from the one that is due, ahead or behind, waits alone until the next such number
 	// follows it, and then the stream begins anew with both (RFC 3550, A.1). 0: 3000; negative: none is too far, and
-	// one behind is late.
+	// one behind is late. Choose it above the window, since the first packet is as far ahead as that.
 	Far int
 	// MaxWait: a missing packet is waited for so many ticks at most after one behind it came. 0, or 2^32 - 1 and more:
 	// by the window alone; negative: not at all.
