@@ -15,7 +15,7 @@ import (
 )
 
 // closedCalls are calls of what is closed.
-func closedCalls(p *h26x.Packetizer, d *h26x.Depacketizer, r *h26x.Receiver) map[string]func() error {
+func closedCalls(p *h26x.Packetizer, d *h26x.Depacketizer, r *h26x.Receiver, u *h26x.AccessUnitReceiver) map[string]func() error {
 	unit := []byte{2, 1, 3, 4, 5}
 	return map[string]func() error{
 		"Packetize":         func() error { _, err := p.Packetize(99, unit); return err },
@@ -39,13 +39,23 @@ func closedCalls(p *h26x.Packetizer, d *h26x.Depacketizer, r *h26x.Receiver) map
 		"Restart":           func() error { return r.Restart() },
 		"r.Clone":           func() error { _, err := r.Clone(); return err },
 		"r.Shown":           func() error { _, err := r.Shown(); return err },
+		"r.Skip":            func() error { _, _, err := r.Skip(1); return err },
+		"Push":              func() error { _, _, err := u.Push(0, h26x.RTPPacket{Payload: unit}); return err },
+		"u.Skip":            func() error { _, _, err := u.Skip(0, 1); return err },
+		"Next":              func() error { _, err := u.Next(0); return err },
+		"NextInto":          func() error { _, err := u.NextInto(0, new(h26x.AccessUnit)); return err },
+		"Missing":           func() error { _, err := u.Missing(); return err },
+		"Finish":            func() error { return u.Finish() },
+		"u.Restart":         func() error { return u.Restart() },
+		"Counts":            func() error { _, err := u.Counts(); return err },
 	}
 }
 
 func TestWhatIsClosedMakesNoCall(t *testing.T) {
 	p, d, r := newPacketizer(t, h26x.H265, false), newDepacketizer(t, h26x.H265, false, false),
 		newReceiver(t, h26x.H265, 9, false, false)
-	for name, call := range closedCalls(p, d, r) {
+	u := newAccessUnitReceiver(t, h26x.H265, h26x.AccessUnitConfig{MaxWait: 9})
+	for name, call := range closedCalls(p, d, r, u) {
 		if err := call(); err != nil {
 			t.Errorf("%s: %v", name, err)
 		}
@@ -55,16 +65,17 @@ func TestWhatIsClosedMakesNoCall(t *testing.T) {
 		done(t, p.Close())
 		done(t, d.Close())
 		done(t, r.Close())
+		done(t, u.Close())
 	}
-	for name, call := range closedCalls(p, d, r) {
+	for name, call := range closedCalls(p, d, r, u) {
 		if err := call(); !errors.Is(err, h26x.ErrClosed) {
 			t.Errorf("%s: %v", name, err)
 		}
 	}
-	if p.Payload(99, []byte{2, 1, 3}) != nil || r.RunLen() != 0 {
+	if _, ok := u.Deadline(); ok || p.Payload(99, []byte{2, 1, 3}) != nil || r.RunLen() != 0 {
 		t.Error("a call is made")
 	}
-	for name, call := range closedCalls(new(h26x.Packetizer), new(h26x.Depacketizer), new(h26x.Receiver)) {
+	for name, call := range closedCalls(new(h26x.Packetizer), new(h26x.Depacketizer), new(h26x.Receiver), new(h26x.AccessUnitReceiver)) {
 		if err := call(); !errors.Is(err, h26x.ErrClosed) {
 			t.Errorf("%s of a zero value: %v", name, err)
 		}
@@ -100,6 +111,29 @@ func TestMemoryIsGivenBack(t *testing.T) {
 		}
 	}
 	// The open units are 400 MiB together.
+	if more := resident(t) - before; more > 150<<20 {
+		t.Errorf("%d bytes more", more)
+	}
+}
+
+// So it is of packets that wait.
+func TestMemoryOfWhatWaitsIsGivenBack(t *testing.T) {
+	packet, before := append(some("61"), make([]byte, 1<<16)...), resident(t)
+	for n := 0; n < 400; n++ {
+		u, err := h26x.NewAccessUnitReceiver(h26x.H264, h26x.AccessUnitConfig{})
+		done(t, err)
+		for i := uint16(0); i < 16; i++ {
+			pushes(t, u, 0, i, 0, false, packet, h26x.Held)
+		}
+		if n%2 == 0 {
+			u.Close()
+		}
+		if n%10 == 0 {
+			runtime.GC()
+			time.Sleep(time.Millisecond)
+		}
+	}
+	// They are 400 MiB together.
 	if more := resident(t) - before; more > 150<<20 {
 		t.Errorf("%d bytes more", more)
 	}
@@ -171,6 +205,63 @@ func TestGoroutinesThatLook(t *testing.T) {
 	group.Wait()
 }
 
+// A number is taken once, and an access unit is given out once, in one piece, while others look.
+func TestGoroutinesOfAccessUnits(t *testing.T) {
+	const goroutines, packets = 4, 1000
+	u := newAccessUnitReceiver(t, h26x.H264, h26x.AccessUnitConfig{MaxWait: 1 << 20})
+	var group sync.WaitGroup
+	var mu sync.Mutex
+	given := map[uint16]int{}
+	take := func() {
+		for {
+			unit, err := u.Next(0)
+			if err != nil {
+				t.Error(err)
+			}
+			if unit == nil {
+				return
+			}
+			if unit.First != unit.Last || !bytes.Equal(unit.Data[5:], bytes.Repeat([]byte{byte(unit.First)}, 1000)) {
+				t.Error("bytes of another access unit")
+			}
+			mu.Lock()
+			given[unit.First]++
+			mu.Unlock()
+		}
+	}
+	for n := 0; n < goroutines; n++ {
+		group.Add(1)
+		go func() {
+			defer group.Done()
+			for i := uint16(0); i < packets; i++ {
+				payload := append([]byte{0x61}, bytes.Repeat([]byte{byte(i)}, 1000)...)
+				_, _, err := u.Push(0, h26x.RTPPacket{Sequence: i, Timestamp: uint32(i), Marker: true, Payload: payload})
+				if _, again := u.Missing(); err != nil || again != nil {
+					t.Error(err, again)
+				}
+				if counted, err := u.Counts(); err != nil || counted.Taken > packets {
+					t.Error("other counts")
+				}
+				if tick, ok := u.Deadline(); ok && tick != 1<<20 {
+					t.Error("another deadline")
+				}
+				take()
+			}
+		}()
+	}
+	group.Wait()
+	done(t, u.Finish())
+	take()
+	if len(given) != packets {
+		t.Errorf("%d access units", len(given))
+	}
+	for number, times := range given {
+		if times != 1 {
+			t.Errorf("%d is given out %d times", number, times)
+		}
+	}
+}
+
 func TestClosingWhileAnotherCalls(t *testing.T) {
 	for n := 0; n < 50; n++ {
 		d, unit := newDepacketizer(t, h26x.H264, false, false), bytes.Repeat([]byte{0x61}, 2000)
@@ -217,6 +308,26 @@ func TestNoMemoryForEachPacket(t *testing.T) {
 	}
 }
 
+// The same of access units, of which the memory is used again.
+func TestNoMemoryForEachAccessUnit(t *testing.T) {
+	u, sequence := newAccessUnitReceiver(t, h26x.H264, h26x.AccessUnitConfig{Window: 1}), uint16(0)
+	packet, unit := append([]byte{0x61}, make([]byte, 1199)...), h26x.AccessUnit{}
+	run := func() {
+		_, _, err := u.Push(0, h26x.RTPPacket{Sequence: sequence, Timestamp: uint32(sequence), Marker: true, Payload: packet})
+		if err != nil {
+			t.Fatal(err)
+		}
+		sequence++
+		if ended, err := u.NextInto(0, &unit); !ended || err != nil || !bytes.Equal(unit.Data[4:], packet) {
+			t.Fatal("another access unit", err)
+		}
+	}
+	run()
+	if times := testing.AllocsPerRun(20, run); times > 0 {
+		t.Errorf("%v allocations", times)
+	}
+}
+
 func BenchmarkPacketizeInto(b *testing.B) {
 	p, err := h26x.NewPacketizer(h26x.H264)
 	if err != nil {
@@ -244,6 +355,22 @@ func BenchmarkReceive(b *testing.B) {
 	b.ReportAllocs()
 	for i := 0; i < b.N; i++ {
 		if _, _, err := r.Append(out, uint16(i), packet); err != nil {
+			b.Fatal(err)
+		}
+	}
+}
+
+func BenchmarkAccessUnits(b *testing.B) {
+	u := newAccessUnitReceiver(b, h26x.H264, h26x.AccessUnitConfig{Window: 16})
+	packet, unit := append([]byte{0x61}, make([]byte, 1199)...), h26x.AccessUnit{}
+	b.SetBytes(int64(len(packet)))
+	b.ReportAllocs()
+	for i := 0; i < b.N; i++ {
+		it := h26x.RTPPacket{Sequence: uint16(i), Timestamp: uint32(i / 10), Marker: i%10 == 9, Payload: packet}
+		if _, _, err := u.Push(0, it); err != nil {
+			b.Fatal(err)
+		}
+		if _, err := u.NextInto(0, &unit); err != nil {
 			b.Fatal(err)
 		}
 	}

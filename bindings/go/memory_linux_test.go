@@ -11,26 +11,41 @@ import (
 	"emupedestal/h26x"
 )
 
-// Want of memory is an error, and changes nothing. The test runs itself again as a process with little memory.
-func TestWantOfMemory(t *testing.T) {
-	if os.Getenv("H26X_TEST_LITTLE_MEMORY") == "" {
-		again := exec.Command(os.Args[0], "-test.run=^TestWantOfMemory$", "-test.v")
-		again.Env = append(os.Environ(), "H26X_TEST_LITTLE_MEMORY=1")
-		if told, err := again.CombinedOutput(); err != nil || !strings.Contains(string(told), "--- PASS: TestWantOfMemory") {
-			t.Fatalf("%v: %s", err, told)
-		}
-		return
+// again runs this test again as a process of its own, and answers whether that is this one.
+func again(t *testing.T) bool {
+	t.Helper()
+	if os.Getenv("H26X_TEST_LITTLE_MEMORY") != "" {
+		return true
 	}
-	d, packet := newDepacketizer(t, h26x.H264, false, false), append(some("7c85"), make([]byte, 60000)...)
-	out := make([]byte, 0, 2*len(packet))
-	_, _, err := d.Append(out, packet)
-	done(t, err)
+	again := exec.Command(os.Args[0], "-test.run=^"+t.Name()+"$", "-test.v")
+	again.Env = append(os.Environ(), "H26X_TEST_LITTLE_MEMORY=1")
+	if told, err := again.CombinedOutput(); err != nil || !strings.Contains(string(told), "--- PASS: "+t.Name()) {
+		t.Fatalf("%v: %s", err, told)
+	}
+	return false
+}
+
+// littleMemory leaves this process 64 MiB more.
+func littleMemory(t *testing.T) {
+	t.Helper()
 	told, err := os.ReadFile("/proc/self/statm")
 	done(t, err)
 	pages, err := strconv.ParseUint(strings.Fields(string(told))[0], 10, 64)
 	done(t, err)
 	limit := pages*uint64(os.Getpagesize()) + 64<<20
 	done(t, syscall.Setrlimit(syscall.RLIMIT_AS, &syscall.Rlimit{Cur: limit, Max: limit}))
+}
+
+// Want of memory is an error, and changes nothing. The test runs itself again as a process with little memory.
+func TestWantOfMemory(t *testing.T) {
+	if !again(t) {
+		return
+	}
+	d, packet := newDepacketizer(t, h26x.H264, false, false), append(some("7c85"), make([]byte, 60000)...)
+	out := make([]byte, 0, 2*len(packet))
+	_, _, err := d.Append(out, packet)
+	done(t, err)
+	littleMemory(t)
 	packet[1] = 0x05
 	for n := 0; err == nil && n < 5000; n++ {
 		_, _, err = d.Append(out, packet)
@@ -42,4 +57,36 @@ func TestWantOfMemory(t *testing.T) {
 	done(t, d.GiveUpRun())
 	takes(t, d, "7c8501", "", h26x.NoUnits)
 	takes(t, d, "7c4502", "00000001 650102", h26x.Keyframe)
+}
+
+// So it is of packets that wait: one that is refused can be given again.
+func TestWantOfMemoryForWhatWaits(t *testing.T) {
+	if !again(t) {
+		return
+	}
+	u := newAccessUnitReceiver(t, h26x.H264, h26x.AccessUnitConfig{Window: 1 << 14, Far: -1, HeldLimit: 1 << 30})
+	packet, sequence := append(some("61"), make([]byte, 60000)...), uint16(0)
+	push := func() error {
+		_, _, err := u.Push(0, h26x.RTPPacket{Sequence: sequence, Payload: packet})
+		return err
+	}
+	littleMemory(t)
+	var err error
+	for ; err == nil && sequence < 5000; sequence++ {
+		err = push()
+	}
+	refuses(t, err, h26x.ErrOutOfMemory)
+	sequence--
+	refuses(t, push(), h26x.ErrOutOfMemory)
+	// It names those before the first, where there is memory for that.
+	if numbers, err := u.Missing(); err == nil && len(numbers) != 1<<14-1 {
+		t.Errorf("%d are missing", len(numbers))
+	}
+	done(t, u.Restart())
+	done(t, push())
+	done(t, u.Finish())
+	unit, err := u.Next(0)
+	done(t, err)
+	same(t, unit.Data, annexB(packet))
+	counts(t, u, h26x.Counts{Taken: 1, Units: 1})
 }
