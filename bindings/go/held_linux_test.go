@@ -70,3 +70,118 @@ func TestWhatAPeerMakesAReceiverHold(t *testing.T) {
 		}
 	}
 }
+
+const (
+	// What may wait in a receiver of access units, and how long an open one may be.
+	smallHeldLimit, smallUnitLimit = 1 << 20, 100_000
+	// What each packet that waits takes beside its payload.
+	besidePayload = 200
+	// What a receiver may hold: what waits, with a packet more and a stray, an access unit that is open and one that is
+	// kept, with a packet; each in memory that may be twice as long.
+	accessUnitsMost = 2*(smallHeldLimit+2*longestPacket) + besidePayload<<14 + 4*(smallUnitLimit+2*longestPacket)
+)
+
+// No packets make a receiver of access units hold more, by what waits, by strays and by what is open.
+func TestWhatAPeerMakesAnAccessUnitReceiverHold(t *testing.T) {
+	var receivers [hostileReceivers]*h26x.AccessUnitReceiver
+	for i := range receivers {
+		receivers[i] = newAccessUnitReceiver(t, h26x.H265, h26x.AccessUnitConfig{
+			Window: 1 << 14, Far: 20000, HeldLimit: smallHeldLimit, RunLimit: smallRunLimit, UnitLimit: smallUnitLimit,
+		})
+	}
+	unit := h26x.AccessUnit{Data: make([]byte, 0, 4*longestPacket)}
+	before := resident(t)
+	for _, u := range receivers {
+		peer := hostilePeer{t: t, to: u}
+		peer.leavesGaps()
+		peer.jumps()
+		for _, takes := range []bool{false, true} {
+			peer.neverEnds(takes, &unit)
+		}
+		more := resident(t) - before
+		if most := hostileReceivers*accessUnitsMost + besideReceivers; more > most {
+			t.Fatalf("%d bytes are held, and %d may be", more, most)
+		}
+	}
+	for _, u := range receivers {
+		done(t, u.Finish())
+		for ended := true; ended; {
+			var err error
+			ended, err = u.NextInto(0, &unit)
+			done(t, err)
+		}
+	}
+}
+
+// hostilePeer sends packets that are there to be held.
+type hostilePeer struct {
+	t        *testing.T
+	to       *h26x.AccessUnitReceiver
+	sequence uint16
+	seen     map[h26x.Pushed]int
+}
+
+func (p *hostilePeer) sends(timestamp uint32, payload []byte) {
+	p.t.Helper()
+	pushed, _, err := p.to.Push(0, h26x.RTPPacket{Sequence: p.sequence, Timestamp: timestamp, Payload: payload})
+	done(p.t, err)
+	if p.seen == nil {
+		p.seen = map[h26x.Pushed]int{}
+	}
+	p.seen[pushed]++
+}
+
+// leavesGaps: long packets behind each of which one is missing, and then short ones without a payload, for which no
+// limit on bytes stands.
+func (p *hostilePeer) leavesGaps() {
+	long := append(some("0201"), make([]byte, longestPacket-2)...)
+	for n := 0; n < 1500; n++ {
+		p.sends(uint32(n), long)
+		p.sequence += 2
+	}
+	if p.seen[h26x.Full] < 1400 {
+		p.t.Errorf("%v of packets past the limit", p.seen)
+	}
+	done(p.t, p.to.Restart())
+	for n := 0; n < 1<<14; n++ {
+		p.sends(0, nil)
+		p.sequence++
+	}
+	done(p.t, p.to.Restart())
+}
+
+// jumps: strays, and streams that begin anew.
+func (p *hostilePeer) jumps() {
+	long := append(some("0201"), make([]byte, longestPacket-2)...)
+	for n := 0; n < 300; n++ {
+		p.sends(uint32(n), long)
+		p.sequence += uint16(1 + n%2*9998)
+	}
+	if p.seen[h26x.Stray] < 100 || p.seen[h26x.Anew] < 100 {
+		p.t.Errorf("%v of packets that jump", p.seen)
+	}
+	done(p.t, p.to.Restart())
+}
+
+// neverEnds: an access unit without an end, of long units, of many empty ones, and of a unit without an end.
+func (p *hostilePeer) neverEnds(takes bool, unit *h26x.AccessUnit) {
+	start := append(some("620193"), make([]byte, longestPacket-3)...)
+	middle := append(some("620113"), make([]byte, longestPacket-3)...)
+	long := append(some("0201"), make([]byte, longestPacket-2)...)
+	sends := func(packet []byte) {
+		p.sends(7, packet)
+		p.sequence++
+		if takes {
+			_, err := p.to.NextInto(0, unit)
+			done(p.t, err)
+		}
+	}
+	for n := 0; n < 150; n++ {
+		sends(long)
+		sends(aggregate(32700, 0))
+	}
+	sends(start)
+	for n := 0; n < 300; n++ {
+		sends(middle)
+	}
+}
