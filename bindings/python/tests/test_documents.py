@@ -16,7 +16,10 @@ from rfc import STREAMS, stream
 HERE = Path(__file__).parents[1]
 
 
-@pytest.mark.parametrize("name", ["", ".packetizer", ".depacketizer", ".receiver", ".look", ".profile"])
+DOCUMENTED = ("packetizer", "depacketizer", "receiver", "access_unit_receiver", "look", "profile")
+
+
+@pytest.mark.parametrize("name", ["", *("." + name for name in DOCUMENTED)])
 def test_examples_in_the_documentation(name: str) -> None:
     ran = doctest.testmod(import_module("h26x" + name))
     assert ran.attempted > 0 and ran.failed == 0

@@ -25,6 +25,7 @@ CODES = {
     11: h26x.NotOfThisCodec,
     12: h26x.OutOfRange,
     13: h26x.NoRoom,
+    14: h26x.NothingYet,
 }
 
 
@@ -40,7 +41,7 @@ def test_each_code_is_an_error_of_its_own(code: int) -> None:
 
 
 def test_each_has_words_of_its_own() -> None:
-    assert len({str(errors.error_of(code)) for code in CODES}) == 13
+    assert len({str(errors.error_of(code)) for code in CODES}) == 14
     assert str(errors.error_of(8)) == "out of memory"
     assert isinstance(errors.error_of(8), MemoryError)
     text = "an H.264 packet of this type is not handled (type 31)"

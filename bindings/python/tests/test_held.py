@@ -1,10 +1,11 @@
 """How much memory a peer can make receivers hold."""
 
 import os
+from collections import Counter
 from typing import Iterator
 
 import pytest
-from h26x import Codec, Receiver
+from h26x import AccessUnitConfig, AccessUnitReceiver, Codec, Pushed, Receiver, RtpPacket
 
 #: The longest packet that UDP brings, and the limit on an open unit.
 PACKET = 65507
@@ -59,3 +60,79 @@ def test_no_packets_make_a_receiver_hold_more() -> None:
     for receiver in receivers:
         receiver.restart()
         assert receiver.run_len == 0
+
+
+#: What may wait in a receiver of access units, and how long an open one may be.
+HELD_LIMIT = 1 << 20
+UNIT_LIMIT = 100_000
+#: What each packet that waits takes beside its payload.
+BESIDE_PAYLOAD = 200
+#: What a receiver may hold: what waits, with a packet more and a stray; an access unit that is open, one
+#: that is kept, and the memory that it is written to, with a packet; each in memory twice as long.
+UNITS_MOST = 2 * (HELD_LIMIT + 2 * PACKET) + (BESIDE_PAYLOAD << 14) + 6 * (UNIT_LIMIT + 2 * PACKET)
+
+LONG = b"\x02\x01" + bytes(PACKET - 2)
+
+
+class Peer:
+    """Sends packets that are there to be held."""
+
+    def __init__(self, to: AccessUnitReceiver) -> None:
+        self.to, self.sequence = to, 0
+        self.seen: "Counter[Pushed]" = Counter()
+
+    def sends(self, timestamp: int, payload: bytes) -> None:
+        """Sends a packet, and counts what becomes of it."""
+        packet = RtpPacket(self.sequence & 65535, timestamp, False, payload)
+        self.seen[self.to.push(0, packet)[0]] += 1
+
+    def leaves_gaps(self) -> None:
+        """Long packets behind each of which one is missing, and then some without a payload, for which no
+        limit on bytes stands."""
+        for n in range(1500):
+            self.sends(n, LONG)
+            self.sequence += 2
+        assert self.seen[Pushed.FULL] > 1400
+        self.to.restart()
+        for _ in range(1 << 14):
+            self.sends(0, b"")
+            self.sequence += 1
+        self.to.restart()
+
+    def jumps(self) -> None:
+        """Strays, and streams that begin anew."""
+        for n in range(300):
+            self.sends(n, LONG)
+            self.sequence += 1 + n % 2 * 9998
+        assert self.seen[Pushed.STRAY] > 100 and self.seen[Pushed.ANEW] > 100
+        self.to.restart()
+
+    def never_ends(self, takes: bool) -> None:
+        """An access unit without an end, of long units, of many empty ones, and of a unit without an end."""
+        middle = b"\x62\x01\x13" + bytes(PACKET - 3)
+        packets = [LONG, aggregate(32700, 0)] * 150 + [b"\x62\x01\x93" + middle[3:]] + [middle] * 300
+        for packet in packets:
+            self.sends(7, packet)
+            self.sequence += 1
+            if takes:
+                assert self.to.next_unit(0) is None
+
+
+def test_no_packets_make_a_receiver_of_access_units_hold_more() -> None:
+    limits = AccessUnitConfig(
+        window=1 << 14,
+        far=20000,
+        held_limit=HELD_LIMIT,
+        run_limit=RUN_LIMIT,
+        unit_limit=UNIT_LIMIT,
+    )
+    receivers = [AccessUnitReceiver(Codec.H265, limits) for _ in range(RECEIVERS)]
+    before = resident()
+    for receiver in receivers:
+        peer = Peer(receiver)
+        peer.leaves_gaps()
+        peer.jumps()
+        peer.never_ends(takes=False)
+        peer.never_ends(takes=True)
+        more, most = resident() - before, RECEIVERS * UNITS_MOST + BESIDE_RECEIVERS
+        assert more <= most, f"{RECEIVERS} receivers hold {more} bytes, and {most} may be"

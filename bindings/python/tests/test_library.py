@@ -4,7 +4,16 @@ import os
 import re
 import subprocess
 import sys
-from ctypes import c_bool, c_char_p, c_size_t, c_uint8, c_uint16, c_uint32, c_void_p
+from ctypes import (
+    c_bool,
+    c_char_p,
+    c_size_t,
+    c_uint8,
+    c_uint16,
+    c_uint32,
+    c_uint64,
+    c_void_p,
+)
 from pathlib import Path
 from typing import Any, Dict, List
 
@@ -21,28 +30,42 @@ TYPES: Dict[str, Any] = {
     "uint8_t": c_uint8,
     "uint16_t": c_uint16,
     "uint32_t": c_uint32,
+    "uint64_t": c_uint64,
     "size_t": c_size_t,
     "const char *": c_char_p,
     "const uint8_t *": c_char_p,
+    "uint8_t *": _library._BYTE,
     "uint16_t *": _library._SHORT,
     "uint32_t *": _library._WORD,
+    "size_t *": _library._SIZE,
     "h26x_refusal *": _library._WHY,
     "h26x_h265_packet *": _library._SHOWN,
+    "const h26x_access_units_config *": _library._CONFIG,
+    "h26x_access_unit *": _library._UNIT,
+    "h26x_access_units_counts *": _library._COUNTS,
 }
 
 #: A pointer to one number, or to as many as there is room for: told apart by the name.
-ROOMS = {"to": c_void_p, "ends": c_void_p}
+ROOMS = {"to": c_void_p, "ends": c_void_p, "numbers": c_void_p}
+
+#: The structs of the header that are more than a handle.
+STRUCTS: Dict[str, Any] = {
+    "h26x_refusal": _library.Refusal,
+    "h26x_h265_packet": _library.ShownPacket,
+    "h26x_access_units_config": _library.UnitsConfig,
+    "h26x_access_unit": _library.UnitTold,
+    "h26x_access_units_counts": _library.UnitsCounts,
+}
+
+HANDLES = ("h26x_packetizer", "h26x_depacketizer", "h26x_receiver", "h26x_access_units")
 
 
 def ctype(declared: str, name: str) -> Any:
     """The type of an argument."""
-    if re.fullmatch(r"(const )?h26x_(packetizer|depacketizer|receiver) \*", declared):
-        return _library._HANDLE
-    if declared in ("h26x_packetizer", "h26x_depacketizer", "h26x_receiver"):
-        return _library.Handle
-    if declared in ("uint8_t *", "size_t *"):
-        one = _library._BYTE if declared == "uint8_t *" else _library._SIZE
-        return ROOMS.get(name, one)
+    if re.sub("^const | \\*$", "", declared) in HANDLES:
+        return _library._HANDLE if declared.endswith("*") else _library.Handle
+    if declared in ("uint8_t *", "uint16_t *", "size_t *") and name in ROOMS:
+        return ROOMS[name]
     return TYPES[declared]
 
 
@@ -69,6 +92,21 @@ def test_calls_are_declared_as_in_the_header() -> None:
     for name, (restype, argtypes) in wanted.items():
         call = getattr(_library.library, "h26x_" + name)
         assert call.restype is restype and call.argtypes == argtypes
+
+
+def test_structs_are_declared_as_in_the_header() -> None:
+    if not HEADER.is_file():
+        pytest.skip("the header lies beside the package in its repository")
+    text = re.sub(r"/\*.*?\*/", "", HEADER.read_text(), flags=re.S)
+    found = {name: body for body, name in re.findall(r"typedef struct {([^}]*)} (\w+);", text)}
+    assert found.keys() == STRUCTS.keys() | set(HANDLES)
+    for name, struct in STRUCTS.items():
+        wanted = [
+            (field, TYPES[declared])
+            for declared, fields in re.findall(r"(\w+) ([\w, ]+);", found[name])
+            for field in fields.split(", ")
+        ]
+        assert struct._fields_ == wanted
 
 
 def test_versions() -> None:

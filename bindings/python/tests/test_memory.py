@@ -13,10 +13,12 @@ from typing import Any, Callable, List, Type
 import pytest
 from digits import FRAGMENTS, some
 from h26x import (
+    AccessUnitReceiver,
     Codec,
     Depacketizer,
     Packetizer,
     Receiver,
+    RtpPacket,
     _library,
     detect_keyframe,
     is_partition_head,
@@ -93,7 +95,12 @@ def made(kind: Type[Owner]) -> Any:
     return kind(Codec.H264, 99) if kind is Receiver else kind(Codec.H264)  # type: ignore[call-arg]
 
 
-KINDS = [(Packetizer, "packetizer"), (Depacketizer, "depacketizer"), (Receiver, "receiver")]
+KINDS = [
+    (Packetizer, "packetizer"),
+    (Depacketizer, "depacketizer"),
+    (Receiver, "receiver"),
+    (AccessUnitReceiver, "access_units"),
+]
 
 
 @pytest.mark.parametrize("kind, name", KINDS)
@@ -116,7 +123,7 @@ def test_each_handle_is_freed_once(
     assert len(freed) == 1
     # What isn't closed is freed with the object, and a copy has a handle of its own.
     one = made(kind)
-    another = copy.copy(one)
+    another = made(kind) if kind is AccessUnitReceiver else copy.copy(one)
     assert len(freed) == 1
     del one
     gc.collect()
@@ -129,8 +136,8 @@ def test_each_handle_is_freed_once(
 def closed_calls() -> List[Callable[[], Any]]:
     """Calls of objects that are closed."""
     packetizer, depacketizer = Packetizer(Codec.H265), Depacketizer(Codec.H265)
-    receiver = Receiver(Codec.H265, 9)
-    for one in (packetizer, depacketizer, receiver):
+    receiver, access_units = Receiver(Codec.H265, 9), AccessUnitReceiver(Codec.H265)
+    for one in (packetizer, depacketizer, receiver, access_units):
         one.close()
     return [
         lambda: packetizer.packetize(1500, b"\2\1\3"),
@@ -156,6 +163,16 @@ def closed_calls() -> List[Callable[[], Any]]:
         receiver.shown,
         receiver.copy,
         lambda: receiver.__enter__().receive(1, b"\2\1\3"),
+        lambda: receiver.skip(1),
+        lambda: access_units.push(0, RtpPacket(1, 0, True, b"\2\1\3")),
+        lambda: access_units.skip(0, 1),
+        lambda: access_units.next_unit(0),
+        lambda: list(access_units.units(0)),
+        access_units.deadline,
+        access_units.missing,
+        access_units.finish,
+        access_units.restart,
+        access_units.counts,
     ]
 
 
@@ -183,6 +200,19 @@ def test_memory_is_given_back() -> None:
     assert after.ru_maxrss - before.ru_maxrss < 100_000
 
 
+def test_memory_of_what_waits_is_given_back() -> None:
+    packet, before = b"\x61" + bytes(1 << 16), resource.getrusage(resource.RUSAGE_SELF)
+    for n in range(400):
+        receiver = AccessUnitReceiver(Codec.H264)
+        for sequence in range(16):
+            receiver.push(0, RtpPacket(sequence, 0, False, packet))
+        if n % 2 > 0:
+            receiver.close()
+    after = resource.getrusage(resource.RUSAGE_SELF)
+    # They are 400 MiB together. The numbers are kilobytes.
+    assert after.ru_maxrss - before.ru_maxrss < 100_000
+
+
 WANT = """
 import resource, h26x
 depacketizer = h26x.Depacketizer(h26x.Codec.H264)
@@ -204,14 +234,41 @@ print(refused, depacketizer.depacketize(b"\\x7c\\x45\\2").data.hex())
 """
 
 
+#: The same of packets that wait: one that is refused can be given again.
+WANT_OF_WAITING = """
+import resource, h26x
+limits = h26x.AccessUnitConfig(window=1 << 14, far=0, held_limit=1 << 30)
+receiver = h26x.AccessUnitReceiver(h26x.Codec.H264, limits)
+size = int(open("/proc/self/statm").read().split()[0]) * resource.getpagesize()
+resource.setrlimit(resource.RLIMIT_AS, (size + (64 << 20), size + (64 << 20)))
+payload, refused, sequence = b"\\x61" + bytes(60000), 0, 0
+while sequence < 5000 and refused < 3:
+    try:
+        pushed, _ = receiver.push(0, h26x.RtpPacket(sequence, 0, False, payload))
+        assert pushed is h26x.Pushed.HELD
+        sequence += 1
+    except h26x.OutOfMemory as why:
+        assert str(why) == "out of memory"
+        refused += 1
+receiver.restart()
+receiver.push(0, h26x.RtpPacket(sequence, 0, False, payload))
+receiver.finish()
+assert receiver.next_unit(0).data == bytes(3) + b"\\1" + payload
+print(refused, receiver.counts() == h26x.Counts(taken=1, units=1))
+"""
+
+
 @pytest.mark.skipif(sys.platform != "linux", reason="it limits memory as Linux does")
-def test_want_of_memory_is_an_error() -> None:
+@pytest.mark.parametrize(
+    "program, wanted", [(WANT, "3 00000001650102\n"), (WANT_OF_WAITING, "3 True\n")]
+)
+def test_want_of_memory_is_an_error(program: str, wanted: str) -> None:
     environment = dict(os.environ, PYTHONPATH=os.pathsep.join(sys.path))
     environment["H26X_LIBRARY"] = _library.library._name
     ran = subprocess.run(
-        [sys.executable, "-c", WANT], env=environment, capture_output=True, text=True, timeout=60
+        [sys.executable, "-c", program], env=environment, capture_output=True, text=True, timeout=60
     )
-    assert (ran.stdout, ran.stderr) == ("3 00000001650102\n", "")
+    assert (ran.stdout, ran.stderr) == (wanted, "")
 
 
 def test_a_long_answer_leaves_the_next_ones_right(codec: Codec) -> None:

@@ -1,17 +1,24 @@
 """Real streams there and back, whole and through losses, repeats and swaps."""
 
 import random
-from typing import Dict, List, NamedTuple, Sequence, Tuple
+from dataclasses import replace
+from typing import Dict, List, NamedTuple, Sequence, Set, Tuple
 
 import pytest
 from digits import FRAGMENTS
 from h26x import (
+    AccessUnit,
+    AccessUnitConfig,
+    AccessUnitReceiver,
     Codec,
+    Counts,
     Depacketizer,
     Outcome,
     Packetizer,
     PacketError,
+    Pushed,
     Receiver,
+    RtpPacket,
     detect_keyframe,
     is_partition_head,
     is_partition_tail,
@@ -176,6 +183,118 @@ def test_through_losses(codec: Codec, mtu: int, rates: Rates) -> None:
         for n, wanted in zip(coming, answers):
             assert receiver.receive(first + n & 65535, packets[n])[:3] == wanted
     assert (lost > 0) == (rates != Rates(0, 200, 0))
+
+
+class SentUnit(NamedTuple):
+    """An access unit: the packets that hold it, and its units in these."""
+
+    first: int
+    last: int
+    units: List[Placed]
+
+
+def sent_units(codec: Codec, mtu: int) -> Tuple[List[bytes], List[SentUnit]]:
+    """The packets of a stream, and its access units, each of two slices with what is before them."""
+    packets: List[bytes] = []
+    found: List[SentUnit] = []
+    parts = access_units(codec)
+    with Packetizer(codec) as packetizer:
+        for n in range(0, len(parts), 2):
+            first = len(packets)
+            packets += packetizer.packetize(mtu, b"".join(parts[n : n + 2]))
+            moved = [
+                Placed(one.first + first, one.last + first, one.unit)
+                for one in placed(codec, packets[first:])
+            ]
+            found.append(SentUnit(first, len(packets) - 1, moved))
+    return packets, found
+
+
+def timestamp_of(unit: int) -> int:
+    """That of an access unit: they go round in the middle of a stream."""
+    return 0xFFFF_0000 + unit * 3000 & 0xFFFF_FFFF
+
+
+def left(codec: Codec, found: Sequence[SentUnit], came: Set[int], first: int) -> List[AccessUnit]:
+    """The access units that must be given out where these packets came, computed from these alone: of
+    each what its units are of which each packet came. It is whole where each came, with the one before,
+    and clean since a whole keyframe."""
+    given: List[AccessUnit] = []
+    before, is_clean = -1, False
+    for n, sent_unit in enumerate(found):
+        numbers = range(sent_unit.first, sent_unit.last + 1)
+        there = [number for number in numbers if number in came]
+        if not there:
+            continue
+        before = there[0] - 1 if not given else before
+        units_ = [
+            one.unit
+            for one in sent_unit.units
+            if all(number in came for number in range(one.first, one.last + 1))
+        ]
+        is_whole = len(there) == len(numbers) and numbers[0] - 1 in came
+        is_keyframe = any(is_key(codec, unit) for unit in units_)
+        is_clean = is_whole and (is_keyframe or is_clean)
+        given.append(
+            AccessUnit(
+                timestamp=timestamp_of(n),
+                data=annex_b(units_),
+                keyframe=is_keyframe if units_ else None,
+                is_whole=is_whole,
+                is_clean=is_clean,
+                continues=False,
+                first=first + there[0] & 65535,
+                last=first + there[-1] & 65535,
+                missing=there[-1] - before - len(there),
+            )
+        )
+        before = there[-1]
+    return given
+
+
+#: By a window, and by the time that a packet is waited for.
+CONFIGS = (AccessUnitConfig(window=16), AccessUnitConfig(max_wait=30))
+
+
+@pytest.mark.parametrize("rates", [Rates(0, 0, 0), Rates(100, 0, 0), Rates(0, 200, 0), Rates(20, 50, 200)])
+@pytest.mark.parametrize("config", CONFIGS, ids=["window", "time"])
+@pytest.mark.parametrize("mtu", MTUS)
+def test_access_units_through_losses(
+    codec: Codec, mtu: int, config: AccessUnitConfig, rates: Rates
+) -> None:
+    packets, found = sent_units(codec, mtu)
+    of = {n: unit for unit, one in enumerate(found) for n in range(one.first, one.last + 1)}
+    whole = 0
+    for seed in range(5):
+        coming = network(len(packets), rates, seed)
+        # The numbers and the ticks go round in the middle of the stream.
+        first, start = 65536 - len(packets) // 2, 2**32 - len(coming) // 2
+        receiver, came = AccessUnitReceiver(codec, config), set()
+        given: List[AccessUnit] = []
+        for time, n in enumerate(coming, start):
+            now, unit = time & 0xFFFF_FFFF, of[n]
+            marker = n == found[unit].last
+            pushed, _ = receiver.push(
+                now, RtpPacket(first + n & 65535, timestamp_of(unit), marker, packets[n])
+            )
+            assert pushed in ((Pushed.TWICE, Pushed.LATE) if n in came else (Pushed.HELD,))
+            came.add(n)
+            given += receiver.units(now)
+        receiver.finish()
+        given += receiver.units(now)
+        wanted = left(codec, found, came, first)
+        assert given == wanted
+        counts, wholes = receiver.counts(), sum(unit.is_whole for unit in wanted)
+        assert counts.late + counts.twice == len(coming) - len(came)
+        assert replace(counts, late=0, twice=0) == Counts(
+            taken=len(came),
+            lost=max(came) - min(came) + 1 - len(came),
+            units=len(wanted),
+            whole=wholes,
+        )
+        whole += wholes
+    # Of the first nobody knows whether one was missing before it.
+    assert (whole < 5 * (len(found) - 1)) == (rates.lost > 0)
 
 
 def test_a_lost_fragment_damages_a_unit_of_a_depacketizer(codec: Codec) -> None:

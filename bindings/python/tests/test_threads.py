@@ -1,9 +1,18 @@
 """One object in several threads: calls release the interpreter's lock, and each has the handle alone."""
 
 import threading
+from collections import Counter
 from typing import Callable, List
 
-from h26x import Codec, Depacketizer, Packetizer, Receiver
+from h26x import (
+    AccessUnitConfig,
+    AccessUnitReceiver,
+    Codec,
+    Depacketizer,
+    Packetizer,
+    Receiver,
+    RtpPacket,
+)
 
 
 def together(*work: Callable[[], None]) -> None:
@@ -69,6 +78,29 @@ def test_each_number_is_taken_once() -> None:
     # One that was behind is late, so none is written twice.
     assert len(taken) == len(set(taken)) and len(answers) == 3000
     assert taken[-1] == b"\0\0\0\1\x61" + (999).to_bytes(2, "big")
+
+
+def test_each_access_unit_is_given_out_once() -> None:
+    receiver = AccessUnitReceiver(Codec.H264, AccessUnitConfig(max_wait=1 << 20))
+    given: List[int] = []
+
+    def takes() -> None:
+        for unit in receiver.units(0):
+            assert unit.first == unit.last
+            assert unit.data == b"\0\0\0\1\x61" + bytes([unit.first & 255]) * 1000
+            given.append(unit.first)
+
+    def receives() -> None:
+        for n in range(1000):
+            receiver.push(0, RtpPacket(n, n, True, b"\x61" + bytes([n & 255]) * 1000))
+            assert receiver.deadline() in (None, 1 << 20)
+            assert len(receiver.missing()) < 1000 and receiver.counts().taken <= 1000
+            takes()
+
+    together(receives, receives, receives)
+    receiver.finish()
+    takes()
+    assert Counter(given) == Counter(range(1000))
 
 
 def test_comparing_while_another_thread_does() -> None:

@@ -1,8 +1,9 @@
 """H.264, H.265 and H.266 as RTP payloads (RFC 6184, RFC 7798, RFC 9328), over the library libh26x.
 
 A Packetizer cuts encoded video into RTP payloads within a limit. A Depacketizer puts the units
-together again, and a Receiver does where packets come with their sequence numbers and some may be
-missing. RTP's own header is the caller's.
+together again, a Receiver does where packets come with their sequence numbers and some may be missing,
+and an AccessUnitReceiver gives out access units of packets that come in any order. RTP's own header is
+the caller's.
 
 >>> frame = bytes.fromhex("00000001 6742c01f 00000001 68ce 00000001 658884")  # SPS, PPS, IDR slice
 >>> with Packetizer(Codec.H264) as packetizer:
@@ -27,6 +28,14 @@ system finds it. It is proved to meet its contracts; this package is only tested
 """
 
 from ._library import library as _loaded
+from .access_unit_receiver import (
+    AccessUnit,
+    AccessUnitConfig,
+    AccessUnitReceiver,
+    Counts,
+    Pushed,
+    RtpPacket,
+)
 from .codec import Codec
 from .depacketizer import Depacketizer, Units
 from .errors import (
@@ -36,6 +45,7 @@ from .errors import (
     H266Corrupted,
     NaluTypeNotHandled,
     NoRoom,
+    NothingYet,
     NotOfThisCodec,
     OutOfMemory,
     OutOfRange,
@@ -89,8 +99,12 @@ def origin() -> str:
 
 
 __all__ = [
+    "AccessUnit",
+    "AccessUnitConfig",
+    "AccessUnitReceiver",
     "AvcUnitTooLong",
     "Codec",
+    "Counts",
     "Depacketizer",
     "Error",
     "H264Level",
@@ -106,6 +120,7 @@ __all__ = [
     "NaluTypeNotHandled",
     "NoRoom",
     "NotOfThisCodec",
+    "NothingYet",
     "Outcome",
     "OutOfMemory",
     "OutOfRange",
@@ -113,8 +128,10 @@ __all__ = [
     "PacketError",
     "Packetizer",
     "Part",
+    "Pushed",
     "Received",
     "Receiver",
+    "RtpPacket",
     "ShortPacket",
     "ShownPacket",
     "StapATooLong",

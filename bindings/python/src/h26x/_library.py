@@ -14,6 +14,7 @@ from ctypes import (
     c_uint8,
     c_uint16,
     c_uint32,
+    c_uint64,
     c_void_p,
 )
 from typing import Any, Dict, List, Tuple
@@ -23,7 +24,7 @@ MAJOR, MINOR = 0, 1
 
 
 class Handle(Structure):
-    """A packetizer, a depacketizer or a receiver: each is a struct of one pointer."""
+    """A packetizer, a depacketizer or a receiver of either kind: each is a struct of one pointer."""
 
     _fields_ = [("at", c_void_p)]
 
@@ -45,6 +46,59 @@ class ShownPacket(Structure):
     ]
 
 
+class UnitsConfig(Structure):
+    """What a caller sets of a receiver of access units."""
+
+    _fields_ = [
+        ("codec", c_uint32),
+        ("max_wait", c_uint32),
+        ("window", c_uint16),
+        ("far_away", c_uint16),
+        ("numbers", c_bool),
+        ("avc", c_bool),
+        ("held_limit", c_size_t),
+        ("run_limit", c_size_t),
+        ("unit_limit", c_size_t),
+    ]
+
+
+class UnitTold(Structure):
+    """What is told of an access unit."""
+
+    _fields_ = [
+        ("len", c_size_t),
+        ("timestamp", c_uint32),
+        ("missing", c_uint32),
+        ("first", c_uint16),
+        ("last", c_uint16),
+        ("extra", c_uint8),
+        ("is_whole", c_bool),
+        ("is_clean", c_bool),
+        ("continues", c_bool),
+    ]
+
+
+class UnitsCounts(Structure):
+    """What a receiver of access units counts."""
+
+    _fields_ = [
+        (name, c_uint64)
+        for name in (
+            "taken",
+            "lost",
+            "late",
+            "twice",
+            "stray",
+            "refused",
+            "skipped",
+            "anew",
+            "units",
+            "whole",
+            "units_given_up",
+        )
+    ]
+
+
 _HANDLE = POINTER(Handle)
 _SIZE = POINTER(c_size_t)
 _BYTE = POINTER(c_uint8)
@@ -52,6 +106,9 @@ _SHORT = POINTER(c_uint16)
 _WORD = POINTER(c_uint32)
 _WHY = POINTER(Refusal)
 _SHOWN = POINTER(ShownPacket)
+_CONFIG = POINTER(UnitsConfig)
+_UNIT = POINTER(UnitTold)
+_COUNTS = POINTER(UnitsCounts)
 # Bytes that a call reads are a `bytes` object, which nobody changes meanwhile. Those that it writes
 # are an address.
 _IN = (c_char_p, c_size_t)
@@ -107,6 +164,19 @@ CALLS: Dict[str, Tuple[Any, List[Any]]] = {
     "receiver_skip": (c_uint32, [_HANDLE, c_uint16, _WORD, _SHORT]),
     "receiver_restart": _DO,
     "receiver_run_len": (c_size_t, [_HANDLE]),
+    "access_units_new": (c_uint32, [_CONFIG, _HANDLE]),
+    "access_units_free": _FREE,
+    "access_units_push": (
+        c_uint32,
+        [_HANDLE, c_uint32, c_uint16, c_uint32, c_bool, *_IN, _WORD, _SHORT],
+    ),
+    "access_units_skip": (c_uint32, [_HANDLE, c_uint32, c_uint16, _WORD, _SHORT]),
+    "access_units_next": (c_uint32, [_HANDLE, c_uint32, *_OUT, _UNIT]),
+    "access_units_deadline": (c_bool, [_HANDLE, _WORD]),
+    "access_units_missing": (c_uint32, [_HANDLE, *_OUT, _SIZE]),
+    "access_units_finish": _DO,
+    "access_units_restart": _DO,
+    "access_units_count": (c_uint32, [_HANDLE, _COUNTS]),
     "h265_shown": (c_uint32, [_HANDLE, _SHOWN]),
     "h265_part_copy": (c_size_t, [_HANDLE, c_size_t, *_OUT, _WORD]),
     "h265_paci_packet": (c_uint32, [*_IN, *_IN, *_OUT, _SIZE]),

@@ -16,7 +16,7 @@ from .shown import ShownPacket, shown_of
 _BEFORE_UNIT = 4
 
 #: What the library tells of units.
-_KEYFRAME = {0: None, 1: False, 2: True}
+KEYFRAME = {0: None, 1: False, 2: True}
 
 
 class Units(NamedTuple):
@@ -69,7 +69,7 @@ class Taking(Owner):
         )
         if code != 0:
             raise error_of(code, self._why.first, self._why.second)
-        return Units(self._data(), _KEYFRAME[self._extra.value])
+        return Units(self._data(), KEYFRAME[self._extra.value])
 
     def _more(self) -> Any:
         """What more a call tells."""

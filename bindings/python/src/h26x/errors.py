@@ -125,7 +125,7 @@ class NotOfThisCodec(Error, ValueError):
 
 
 class OutOfRange(Error, ValueError):
-    """A largest packet size is under 4."""
+    """A largest packet size is under 4, or a window is 0 or over 16384."""
 
     code = 12
 
@@ -149,6 +149,12 @@ class NoRoom(Error):
         return f" ({self.count} packets, {self.size} bytes)"
 
 
+class NothingYet(Error):
+    """No access unit has ended. No call here raises it."""
+
+    code = 14
+
+
 _ERRORS: Dict[int, Type[Error]] = {
     error.code: error
     for error in (
@@ -165,6 +171,7 @@ _ERRORS: Dict[int, Type[Error]] = {
         NotOfThisCodec,
         OutOfRange,
         NoRoom,
+        NothingYet,
     )
 }
 

@@ -46,7 +46,7 @@ class Receiver(Taking):
 
     It writes no unit of which a packet is missing, whatever a network loses, delays or brings twice, as
     long as gaps and delays are of fewer than 32768 packets. Packets must come in their order, since one
-    behind a later one is late: put a buffer before it where a network changes the order.
+    behind a later one is late: where a network changes the order use an AccessUnitReceiver.
 
     One object may be used by several threads; one call at a time runs.
 

@@ -1,0 +1,296 @@
+"""Access units over a network: packets as they come, in any order, some lost and some twice."""
+
+from __future__ import annotations
+
+from ctypes import byref, c_size_t, c_uint16, c_uint32
+from dataclasses import dataclass
+from enum import IntEnum
+from typing import Any, Iterator, List, NamedTuple, NoReturn, Optional, Tuple
+
+from ._handle import Owner
+from ._library import Handle, UnitsConfig, UnitsCounts, UnitTold, library
+from ._memory import Buffer, Room, as_bytes, number
+from .codec import Codec, codec_of
+from .depacketizer import KEYFRAME
+from .errors import NoRoom, NothingYet, check
+
+_TICKS = 2**32 - 1
+_EACH_NUMBER = 2
+
+
+class RtpPacket(NamedTuple):
+    """What a packet's header says of it, and its payload (RFC 3550, 5.1)."""
+
+    sequence: int
+    timestamp: int
+    marker: bool
+    payload: Buffer
+
+
+class Pushed(IntEnum):
+    """What became of a packet that was given to an AccessUnitReceiver."""
+
+    #: It waits for those before it, or to be taken.
+    HELD = 0
+    #: Dropped: it came after its place was passed.
+    LATE = 1
+    #: Dropped: a packet with its number waits.
+    TWICE = 2
+    #: Dropped: more bytes wait than the limit. Take access units, and give it again.
+    FULL = 3
+    #: Its number is too far from the one that is due: it waits alone, in the place of another such
+    #: packet.
+    STRAY = 4
+    #: It follows the one that waited alone: the stream begins anew, and what waited of the old numbers
+    #: is dropped.
+    ANEW = 5
+
+
+@dataclass(frozen=True)
+class AccessUnitConfig:
+    """A caller's settings of an AccessUnitReceiver."""
+
+    #: A missing packet is waited for until one came so many places, less one, ahead of it: 1 to 16384.
+    window: int = 512
+    #: A number so far or farther from the one that is due, ahead or behind, waits alone until the next
+    #: such number follows it, and then the stream begins anew with both (RFC 3550, A.1). 0: none is too
+    #: far, and one behind is late. Choose it above the window, since the first packet is as far ahead.
+    far: int = 3000
+    #: A missing packet is waited for so many ticks at most after one behind it came. None: by the
+    #: window alone.
+    max_wait: Optional[int] = None
+    #: How many bytes of payloads may wait; past that none is waited for.
+    held_limit: int = 8_000_000
+    #: How many bytes of data an open unit may hold from a packet to the next.
+    run_limit: int = 4_000_000
+    #: How many bytes an open access unit may hold from a packet to the next.
+    unit_limit: int = 8_000_000
+
+
+@dataclass(frozen=True)
+class AccessUnit:
+    """An access unit, and what is told of it."""
+
+    #: That of its packets.
+    timestamp: int
+    #: Its units, each behind 00 00 00 01 or behind its length: none of which a packet is missing.
+    data: bytes
+    #: Whether a unit of a keyframe is among them; None where there is no unit. See `Units.keyframe`.
+    keyframe: Optional[bool]
+    #: It is known that nothing of it is missing.
+    is_whole: bool
+    #: Nor is anything since a keyframe of which nothing is: a decoder that began there goes on. Where it
+    #: is False ask the sender for a keyframe.
+    is_clean: bool
+    #: A marker ended one of its timestamp right before it, as where a peer sets the marker on each slice.
+    continues: bool
+    #: The number of the first packet that came of it.
+    first: int
+    #: The number of the last.
+    last: int
+    #: How many numbers are missing between the access unit before and its end.
+    missing: int
+
+
+@dataclass(frozen=True)
+class Counts:
+    """What an AccessUnitReceiver has counted since it was made. Each stays at 2^64 - 1."""
+
+    #: Packets that were taken, and not refused.
+    taken: int = 0
+    #: Numbers that are missing before packets that were taken or numbers that were skipped.
+    lost: int = 0
+    #: Packets that came after their place was passed.
+    late: int = 0
+    #: Packets that came while one with their number waited.
+    twice: int = 0
+    #: Packets whose number was too far from the one that was due.
+    stray: int = 0
+    #: Packets that were refused for what they are.
+    refused: int = 0
+    #: Numbers that came and bear nothing.
+    skipped: int = 0
+    #: How often the stream began anew.
+    anew: int = 0
+    #: Access units that were given out.
+    units: int = 0
+    #: Those of them that are known to be whole.
+    whole: int = 0
+    #: NAL units that were longer than the run's limit.
+    units_given_up: int = 0
+
+
+class AccessUnitReceiver(Owner):
+    """Takes packets as a network brings them, some lost, some twice and in any order, and gives out
+    access units.
+
+    `now` is the caller's clock, in ticks of his own, which goes round at 2^32 and never goes back. Push
+    what comes; take access units until there is none; and do so again at the `deadline`.
+
+    One object may be used by several threads; one call at a time runs.
+
+    >>> receiver = AccessUnitReceiver(Codec.H264, AccessUnitConfig(window=4, max_wait=100))
+    >>> for packet in (  # two fragments of a unit, in the other order, and a unit of the next picture
+    ...     RtpPacket(8, 3000, True, b"|E\\x02"),
+    ...     RtpPacket(7, 3000, False, b"|\\x85\\x01"),
+    ...     RtpPacket(9, 6000, True, b"a\\x09"),
+    ... ):
+    ...     outcome, _ = receiver.push(0, packet)
+    >>> receiver.next_unit(0)  # packets before the first may still come
+    >>> receiver.deadline()
+    100
+    >>> [(unit.timestamp, unit.data.hex(), unit.is_whole) for unit in receiver.units(100)]
+    [(3000, '00000001650102', False), (6000, '000000016109', True)]
+    """
+
+    _FREE = library.h26x_access_units_free
+
+    def __init__(
+        self,
+        codec: int,
+        config: AccessUnitConfig = AccessUnitConfig(),
+        *,
+        donl: bool = False,
+        avc: bool = False,
+    ) -> None:
+        """A receiver that takes any sequence number as the first. `donl` and `avc` are those of a
+        Depacketizer. Raises UnknownCodec, NotOfThisCodec, OutOfRange or OutOfMemory."""
+        self._codec = codec_of(codec)
+        wanted = UnitsConfig(
+            codec=self._codec,
+            max_wait=_TICKS if config.max_wait is None else _tick("max_wait", config.max_wait),
+            window=number("window", config.window, 65535),
+            far_away=number("far", config.far, 65535),
+            numbers=donl,
+            avc=avc,
+            held_limit=number("held_limit", config.held_limit),
+            run_limit=number("run_limit", config.run_limit),
+            unit_limit=number("unit_limit", config.unit_limit),
+        )
+        made = Handle()
+        check(library.h26x_access_units_new(byref(wanted), byref(made)))
+        self._room, self._unit = Room(), UnitTold()
+        self._own(made)
+
+    @property
+    def codec(self) -> Codec:
+        """Its codec."""
+        return self._codec
+
+    def push(self, now: int, packet: RtpPacket) -> Tuple[Pushed, int]:
+        """Takes a packet that came at this tick, and copies it where it waits. Answers what became of
+        it, and where it is late how far it is behind the one that is due; else 0. One without a payload
+        came and bears nothing, as `skip` has it. Then take access units until there is none.
+
+        Raises OutOfMemory, which changes nothing: the packet can be given again.
+        """
+        payload = as_bytes(packet.payload)
+        return self._push(
+            library.h26x_access_units_push,
+            _tick("now", now),
+            number("sequence", packet.sequence, 65535),
+            _tick("timestamp", packet.timestamp),
+            packet.marker,
+            payload,
+            len(payload),
+        )
+
+    def skip(self, now: int, sequence: int) -> Tuple[Pushed, int]:
+        """Passes over a number that came and bears nothing of the stream, as that of padding alone, of
+        forward error correction or of another payload type: so it isn't missing. What it answers is that
+        of `push`."""
+        given = (_tick("now", now), number("sequence", sequence, 65535))
+        return self._push(library.h26x_access_units_skip, *given)
+
+    def _push(self, call: Any, *arguments: Any) -> Tuple[Pushed, int]:
+        pushed, behind = c_uint32(), c_uint16()
+        check(self._with_handle(call, *arguments, byref(pushed), byref(behind)))
+        return Pushed(pushed.value), behind.value
+
+    def next_unit(self, now: int) -> Optional[AccessUnit]:
+        """The next access unit, if one has ended at this tick; else None. Call it until there is none.
+        Packets that are refused are passed over, and counted.
+
+        Raises OutOfMemory, of which nothing is lost: the call can be made again.
+        """
+        tick = _tick("now", now)
+        with self._lock:
+            code = self._next(tick)
+            if code == NoRoom.code:
+                self._room.grow(self._unit.len)
+                code = self._next(tick)
+            if code == NothingYet.code:
+                return None
+            check(code)
+            return self._given()
+
+    def _next(self, now: int) -> int:
+        """Has the next access unit written, for who has the lock."""
+        room, unit = self._room, byref(self._unit)
+        code: int = library.h26x_access_units_next(
+            self._live(), now, room.address, room.size, unit
+        )
+        return code
+
+    def _given(self) -> AccessUnit:
+        """What was written."""
+        unit = self._unit
+        return AccessUnit(
+            timestamp=unit.timestamp,
+            data=self._room.copy(0, unit.len),
+            keyframe=KEYFRAME[unit.extra],
+            is_whole=unit.is_whole,
+            is_clean=unit.is_clean,
+            continues=unit.continues,
+            first=unit.first,
+            last=unit.last,
+            missing=unit.missing,
+        )
+
+    def units(self, now: int) -> Iterator[AccessUnit]:
+        """All access units that have ended at this tick: `next_unit` until there is none."""
+        while (unit := self.next_unit(now)) is not None:
+            yield unit
+
+    def deadline(self) -> Optional[int]:
+        """The tick at which to take access units at the latest, if packets wait and there is a
+        `max_wait`; else None."""
+        at = c_uint32()
+        return at.value if self._with_handle(library.h26x_access_units_deadline, byref(at)) else None
+
+    def missing(self) -> List[int]:
+        """The numbers that are missing before packets that wait, in order: those to ask the sender for
+        again (NACK; RFC 4585, 6.2.1). Raises OutOfMemory."""
+        count, call = c_size_t(), library.h26x_access_units_missing
+        with self._lock:
+            check(call(self._live(), None, 0, byref(count)))
+            if count.value == 0:
+                return []
+            room = Room()
+            room.grow(count.value * _EACH_NUMBER)
+            check(call(self._live(), room.address, count.value, byref(count)))
+        return room.view[: count.value * _EACH_NUMBER].cast("H").tolist()
+
+    def finish(self) -> None:
+        """At the end of a stream: all that waits is due, and once it was taken the open access unit
+        ends, not known to be whole. `units` gives all of it, and then any number is the next."""
+        check(self._with_handle(library.h26x_access_units_finish))
+
+    def restart(self) -> None:
+        """For another sender (SSRC): drops all that waits or is open, and takes any number as the next.
+        What was counted stays."""
+        check(self._with_handle(library.h26x_access_units_restart))
+
+    def counts(self) -> Counts:
+        """What was counted."""
+        told = UnitsCounts()
+        check(self._with_handle(library.h26x_access_units_count, byref(told)))
+        return Counts(**{name: getattr(told, name) for name, _ in UnitsCounts._fields_})
+
+    def __copy__(self) -> NoReturn:
+        """The library has no copy of it."""
+        raise TypeError(f"a {type(self).__name__} has no copy")
+
+
+def _tick(name: str, value: int) -> int:
+    return number(name, value, _TICKS)

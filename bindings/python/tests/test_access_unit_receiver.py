@@ -1,0 +1,395 @@
+"""Access units of packets that come in any order, some lost and some twice.
+
+Expected answers are written out by the definitions of crates/h26x_access_units: which packet is due, what
+is told of an access unit, what is counted.
+"""
+
+import copy
+import pickle
+from dataclasses import replace
+from typing import Any, Callable, Dict, List, Tuple
+
+import pytest
+from digits import FRAGMENTS, many, some
+from h26x import (
+    AccessUnit,
+    AccessUnitConfig,
+    AccessUnitReceiver,
+    Codec,
+    Counts,
+    NotOfThisCodec,
+    OutOfRange,
+    Pushed,
+    RtpPacket,
+    UnknownCodec,
+)
+from rfc import annex_b, is_key
+
+HELD, LATE, TWICE = Pushed.HELD, Pushed.LATE, Pushed.TWICE
+FULL, STRAY, ANEW = Pushed.FULL, Pushed.STRAY, Pushed.ANEW
+
+#: A window of 4 packets, a wait of 100 ticks and 20 bytes of payloads; no number is too far.
+SMALL = AccessUnitConfig(
+    window=4, far=0, max_wait=100, held_limit=20, run_limit=1000, unit_limit=1000
+)
+AT_ONCE = replace(SMALL, window=1)
+
+#: Units of a keyframe and of none, which are packets as they stand.
+PICTURES: Dict[Codec, Tuple[bytes, bytes]] = {
+    codec: (many(digits)[0], many(digits)[1])
+    for codec, digits in (
+        (Codec.H264, "6501|6102"),
+        (Codec.H265, "260101|020102"),
+        (Codec.H266, "003901|000102"),
+    )
+}
+
+
+def pushes(
+    receiver: AccessUnitReceiver,
+    now: int,
+    packet: Tuple[int, int, bool, bytes],
+    wanted: Pushed = HELD,
+    behind: int = 0,
+) -> None:
+    """Gives a packet, and compares what became of it."""
+    assert receiver.push(now, RtpPacket(*packet)) == (wanted, behind)
+
+
+def gives(receiver: AccessUnitReceiver, now: int, *wanted: AccessUnit) -> None:
+    """Compares all access units that have ended at a tick."""
+    assert list(receiver.units(now)) == list(wanted)
+    assert receiver.next_unit(now) is None
+
+
+def one(codec: Codec, timestamp: int, sequence: int, unit: bytes, **told: Any) -> AccessUnit:
+    """An access unit of one packet, not known to be whole but where it is told."""
+    there = AccessUnit(
+        timestamp=timestamp,
+        data=annex_b([unit]),
+        keyframe=is_key(codec, unit),
+        is_whole=False,
+        is_clean=False,
+        continues=False,
+        first=sequence,
+        last=sequence,
+        missing=0,
+    )
+    return replace(there, **told)
+
+
+def test_packets_missing_late_and_twice(codec: Codec) -> None:
+    """The numbers and the ticks go round, and each packet is waited for so long, or by the window."""
+    receiver, (start, middle, end, whole) = AccessUnitReceiver(codec, SMALL), FRAGMENTS[codec]
+    key, slice_ = PICTURES[codec]
+    assert receiver.deadline() is None
+    pushes(receiver, 0xFFFF_FFF0, (65534, 0, True, key))
+    # Packets before the first may come still.
+    gives(receiver, 0xFFFF_FFF0)
+    assert receiver.missing() == [65531, 65532, 65533]
+    assert receiver.deadline() == 0x54
+    gives(receiver, 0x53)
+    # Nobody knows whether one is missing before the first.
+    gives(receiver, 0x54, one(codec, 0, 65534, key))
+    assert receiver.deadline() is None
+    # The middle fragment comes last, the others twice.
+    pushes(receiver, 100, (65535, 3000, False, start))
+    gives(receiver, 100)
+    pushes(receiver, 101, (1, 3000, True, end))
+    pushes(receiver, 101, (1, 3000, True, end), TWICE)
+    pushes(receiver, 101, (65535, 3000, False, start), LATE, 1)
+    gives(receiver, 101)
+    assert receiver.missing() == [0]
+    pushes(receiver, 102, (0, 3000, False, middle))
+    assert receiver.missing() == []
+    gives(receiver, 102, one(codec, 3000, 65535, whole, last=1, is_whole=True, is_clean=True))
+    # 2 and 4 are missing: 6 is a window, less one, ahead of 3.
+    pushes(receiver, 103, (3, 6000, True, slice_))
+    pushes(receiver, 104, (5, 9000, True, slice_))
+    assert receiver.missing() == [2, 4]
+    gives(receiver, 104)
+    pushes(receiver, 105, (6, 12000, True, slice_))
+    gives(receiver, 105, one(codec, 6000, 3, slice_, missing=1))
+    assert receiver.deadline() == 204
+    gives(receiver, 203)
+    two = one(codec, 9000, 5, slice_, missing=1), one(codec, 12000, 6, slice_, is_whole=True)
+    gives(receiver, 204, *two)
+    pushes(receiver, 205, (4, 9000, True, slice_), LATE, 3)
+    assert receiver.counts() == Counts(taken=7, lost=2, late=2, twice=1, units=5, whole=2)
+
+
+def test_markers_of_peers(codec: Codec) -> None:
+    """A marker on each slice, on a fragment in the middle, and none."""
+    receiver, (start, middle, end, _) = AccessUnitReceiver(codec, AT_ONCE), FRAGMENTS[codec]
+    key, slice_ = PICTURES[codec]
+    pushes(receiver, 0, (10, 0, True, key))
+    pushes(receiver, 0, (11, 3000, True, key))
+    clean = one(codec, 3000, 11, key, is_whole=True, is_clean=True)
+    gives(receiver, 0, one(codec, 0, 10, key), clean)
+    pushes(receiver, 0, (12, 3000, True, slice_))
+    gives(receiver, 0, one(codec, 3000, 12, slice_, continues=True))
+    # The run that is open at the marker goes with it, and the last fragment is left alone.
+    nothing = one(codec, 6000, 13, slice_, data=b"", keyframe=None)
+    pushes(receiver, 0, (13, 6000, False, start))
+    pushes(receiver, 0, (14, 6000, True, middle))
+    gives(receiver, 0, replace(nothing, last=14))
+    pushes(receiver, 0, (15, 6000, True, end))
+    gives(receiver, 0, replace(nothing, first=15, last=15, continues=True))
+    # Without a marker the next timestamp is the end.
+    pushes(receiver, 0, (16, 9000, False, slice_))
+    pushes(receiver, 0, (17, 9000, False, slice_))
+    gives(receiver, 0)
+    pushes(receiver, 0, (18, 12000, True, key))
+    two = one(codec, 9000, 16, slice_, data=annex_b([slice_] * 2), last=17, is_whole=True)
+    gives(receiver, 0, two, one(codec, 12000, 18, key, is_whole=True, is_clean=True))
+    assert receiver.counts() == Counts(taken=9, units=7, whole=3)
+
+
+def test_numbers_that_bear_nothing(codec: Codec) -> None:
+    """Padding alone has no payload; forward error correction and other payload types are skipped. None is
+    missing, and a unit around them stays open."""
+    receiver, (start, middle, end, whole) = AccessUnitReceiver(codec, AT_ONCE), FRAGMENTS[codec]
+    key, slice_ = PICTURES[codec]
+    pushes(receiver, 0, (65533, 0, True, key))
+    gives(receiver, 0, one(codec, 0, 65533, key))
+    pushes(receiver, 0, (65534, 3000, False, start))
+    pushes(receiver, 0, (65535, 3000, True, b""))
+    assert receiver.skip(0, 0) == (HELD, 0)
+    pushes(receiver, 0, (1, 3000, False, middle))
+    pushes(receiver, 0, (2, 3000, True, end))
+    gives(receiver, 0, one(codec, 3000, 65534, whole, last=2, is_whole=True, is_clean=True))
+    # Behind one that is missing, a number that bears nothing hides no loss.
+    assert receiver.skip(0, 4) == (HELD, 0)
+    pushes(receiver, 0, (5, 6000, True, slice_))
+    gives(receiver, 0, one(codec, 6000, 5, slice_, missing=1))
+    assert receiver.skip(0, 4) == (LATE, 2)
+    assert receiver.counts() == Counts(taken=5, lost=1, late=1, skipped=3, units=3, whole=1)
+
+
+def test_strays_and_a_stream_that_begins_anew(codec: Codec) -> None:
+    """A number too far away waits alone, and begins the stream anew where the next one follows it."""
+    receiver = AccessUnitReceiver(codec, replace(SMALL, far=100))
+    key, slice_ = PICTURES[codec]
+    pushes(receiver, 0, (10, 0, True, key))
+    gives(receiver, 100, one(codec, 0, 10, key))
+    # 11 is due: 110 is 99 ahead. So 111 is a stray, and so is 10111, which takes its place.
+    pushes(receiver, 100, (111, 3000, True, slice_), STRAY)
+    pushes(receiver, 100, (10111, 3000, True, slice_), STRAY)
+    pushes(receiver, 100, (112, 3000, True, slice_), STRAY)
+    pushes(receiver, 100, (11, 3000, False, slice_))
+    gives(receiver, 100)
+    pushes(receiver, 100, (13, 4500, False, slice_))
+    # The sender begins anew 20,000 back: what is open ends, and what waits is dropped.
+    pushes(receiver, 100, (45547, 6000, True, key), STRAY)
+    pushes(receiver, 100, (45548, 9000, True, slice_), ANEW)
+    gives(receiver, 100, one(codec, 3000, 11, slice_))
+    both = one(codec, 6000, 45547, key), one(codec, 9000, 45548, slice_, is_whole=True)
+    gives(receiver, 200, *both)
+    assert receiver.counts() == Counts(taken=4, lost=1, stray=4, anew=1, units=4, whole=1)
+    # Where none is too far, one behind is late.
+    receiver = AccessUnitReceiver(codec, SMALL)
+    pushes(receiver, 0, (10, 0, True, key))
+    gives(receiver, 100, one(codec, 0, 10, key))
+    pushes(receiver, 100, (45547, 3000, True, key), LATE, 20000)
+
+
+def test_limits_of_what_waits(codec: Codec) -> None:
+    receiver, slice_ = AccessUnitReceiver(codec, SMALL), PICTURES[codec][1]
+    long = slice_ + bytes(15 - len(slice_))
+    # 15 bytes wait, then 30, which is past 20: no more, and the first are due.
+    pushes(receiver, 0, (10, 0, False, long))
+    gives(receiver, 0)
+    pushes(receiver, 0, (11, 0, False, long))
+    pushes(receiver, 0, (12, 0, True, long), FULL)
+    gives(receiver, 0)
+    pushes(receiver, 0, (12, 0, True, long))
+    gives(receiver, 0, one(codec, 0, 10, slice_, data=annex_b([long] * 3), last=12))
+
+
+def test_limits_of_what_is_open(codec: Codec) -> None:
+    """What is longer is given up, and nothing else."""
+    start, middle, end, _ = FRAGMENTS[codec]
+    key, slice_ = PICTURES[codec]
+    receiver = AccessUnitReceiver(codec, replace(AT_ONCE, run_limit=3))
+    pushes(receiver, 0, (10, 0, True, key))
+    pushes(receiver, 0, (11, 3000, False, slice_))
+    pushes(receiver, 0, (12, 3000, False, start))
+    pushes(receiver, 0, (13, 3000, False, middle))
+    pushes(receiver, 0, (14, 3000, True, end))
+    gives(receiver, 0, one(codec, 0, 10, key), one(codec, 3000, 11, slice_, last=14))
+    assert receiver.counts() == Counts(taken=5, units=2, units_given_up=1)
+
+    receiver = AccessUnitReceiver(codec, replace(AT_ONCE, unit_limit=2 * len(annex_b([slice_]))))
+    pushes(receiver, 0, (10, 0, True, key))
+    gives(receiver, 0, one(codec, 0, 10, key))
+    for sequence in range(11, 14):
+        pushes(receiver, 0, (sequence, 3000, False, slice_))
+        gives(receiver, 0)
+    pushes(receiver, 0, (14, 3000, True, key))
+    gives(receiver, 0, one(codec, 3000, 11, key, last=14))
+
+
+def test_the_end_of_a_stream_and_another_sender(codec: Codec) -> None:
+    receiver, (key, slice_) = AccessUnitReceiver(codec, SMALL), PICTURES[codec]
+    pushes(receiver, 0, (10, 0, True, key))
+    pushes(receiver, 0, (12, 3000, False, slice_))
+    gives(receiver, 0)
+    receiver.finish()
+    gives(receiver, 0, one(codec, 0, 10, key), one(codec, 3000, 12, slice_, missing=1))
+    assert receiver.deadline() is None
+    # Any number is next, and then what waits is dropped.
+    pushes(receiver, 0, (40000, 6000, True, key))
+    assert receiver.deadline() == 100
+    receiver.restart()
+    assert receiver.deadline() is None
+    gives(receiver, 100)
+    pushes(receiver, 100, (7, 9000, False, key))
+    gives(receiver, 200)
+    # So is what is open.
+    receiver.restart()
+    receiver.finish()
+    gives(receiver, 200)
+    assert receiver.counts() == Counts(taken=3, lost=1, units=2)
+
+
+def test_refused_packets(codec: Codec) -> None:
+    """They are passed over, and told as missing by the next packet."""
+    refused = {Codec.H264: some("7f01"), Codec.H265: some("a601ff"), Codec.H266: some("8039ff")}
+    receiver, (key, slice_) = AccessUnitReceiver(codec, AT_ONCE), PICTURES[codec]
+    pushes(receiver, 0, (10, 0, True, key))
+    pushes(receiver, 0, (11, 3000, True, refused[codec]))
+    pushes(receiver, 0, (12, 6000, True, slice_))
+    gives(receiver, 0, one(codec, 0, 10, key), one(codec, 6000, 12, slice_, missing=1))
+    assert receiver.counts() == Counts(taken=2, lost=1, refused=1, units=2)
+
+
+def test_defaults() -> None:
+    receiver, (key, slice_) = AccessUnitReceiver(Codec.H264), PICTURES[Codec.H264]
+    assert receiver.codec is Codec.H264
+    pushes(receiver, 0, (1000, 0, True, key))
+    assert receiver.deadline() is None
+    # 1510 is 510 ahead of the first, 1511 a window of 512, less one.
+    pushes(receiver, 2**32 - 1, (1510, 3000, True, slice_))
+    gives(receiver, 2**32 - 1)
+    pushes(receiver, 2**32 - 1, (1511, 6000, True, slice_))
+    gives(receiver, 2**32 - 1, one(Codec.H264, 0, 1000, key))
+    # 1001 is due: 4000 is 2999 ahead.
+    pushes(receiver, 0, (4001, 9000, True, slice_), STRAY)
+    pushes(receiver, 0, (4000, 9000, True, slice_))
+    # 8,000,000 bytes may wait, and a packet.
+    receiver = AccessUnitReceiver(Codec.H264, AccessUnitConfig(window=1 << 14, far=0))
+    packet = b"\x61" + bytes(49_999)
+    for n in range(161):
+        pushes(receiver, 0, (2 * n, 0, False, packet))
+    pushes(receiver, 0, (400, 0, False, packet), FULL)
+
+
+def test_settings_of_nothing() -> None:
+    """No wait, and limits of 0 bytes: what waits is due, and what is open between packets is given up."""
+    key, slice_ = PICTURES[Codec.H264]
+    receiver = AccessUnitReceiver(Codec.H264, AccessUnitConfig(max_wait=0))
+    pushes(receiver, 5, (1000, 0, True, key))
+    assert receiver.deadline() == 5
+    gives(receiver, 5, one(Codec.H264, 0, 1000, key))
+    limits = AccessUnitConfig(held_limit=0, run_limit=0, unit_limit=0)
+    receiver = AccessUnitReceiver(Codec.H264, limits)
+    pushes(receiver, 0, (1000, 0, True, key))
+    pushes(receiver, 0, (1001, 3000, True, key), FULL)
+    gives(receiver, 0, one(Codec.H264, 0, 1000, key))
+    pushes(receiver, 0, (1001, 3000, False, slice_))
+    gives(receiver, 0)
+    pushes(receiver, 0, (1002, 3000, True, FRAGMENTS[Codec.H264].start))
+    gives(receiver, 0, one(Codec.H264, 3000, 1001, key, data=b"", keyframe=None, last=1002))
+    assert receiver.counts() == Counts(taken=3, units=2, units_given_up=1)
+
+
+def test_refused_settings() -> None:
+    with pytest.raises(UnknownCodec):
+        AccessUnitReceiver(263)
+    with pytest.raises(NotOfThisCodec):
+        AccessUnitReceiver(Codec.H264, donl=True)
+    for window in (0, 2**14 + 1):
+        with pytest.raises(OutOfRange):
+            AccessUnitReceiver(Codec.H264, AccessUnitConfig(window=window))
+    AccessUnitReceiver(Codec.H264, AccessUnitConfig(window=2**14))
+    wrong: List[Dict[str, Any]] = [
+        {"window": -1},
+        {"window": 2**16 + 1},
+        {"far": 2**16},
+        {"max_wait": -1},
+        {"max_wait": 2**32},
+        {"held_limit": -1},
+        {"run_limit": 2**64},
+        {"unit_limit": -1},
+    ]
+    for settings in wrong:
+        with pytest.raises(ValueError, match=next(iter(settings))):
+            AccessUnitReceiver(Codec.H264, AccessUnitConfig(**settings))
+
+
+@pytest.mark.parametrize(
+    "name, now, packet",
+    [
+        ("now", 2**32, (1, 0, True, b"\x61\xff")),
+        ("now", -1, (1, 0, True, b"\x61\xff")),
+        ("sequence", 0, (65536, 0, True, b"\x61\xff")),
+        ("sequence", 0, (-1, 0, True, b"\x61\xff")),
+        ("timestamp", 0, (1, 2**32, True, b"\x61\xff")),
+    ],
+)
+def test_numbers_that_are_none(name: str, now: int, packet: Tuple[int, int, bool, bytes]) -> None:
+    receiver = AccessUnitReceiver(Codec.H264, AT_ONCE)
+    with pytest.raises(ValueError, match=name):
+        receiver.push(now, RtpPacket(*packet))
+    if name != "timestamp":
+        with pytest.raises(ValueError, match=name):
+            receiver.skip(now, packet[0])
+    if name == "now":
+        with pytest.raises(ValueError, match=name):
+            receiver.next_unit(now)
+    gives(receiver, 0)
+    assert receiver.counts() == Counts()
+
+
+@pytest.mark.parametrize(
+    "codec, packet", [(Codec.H265, "26010005aa"), (Codec.H266, "00390005aa")]
+)
+def test_forms_of_units(codec: Codec, packet: str) -> None:
+    receiver = AccessUnitReceiver(codec, AT_ONCE, donl=True, avc=True)
+    pushes(receiver, 0, (1, 0, True, some(packet)))
+    unit = some(packet)[:2] + b"\xaa"
+    gives(receiver, 0, one(codec, 0, 1, unit, data=b"\0\0\0\3" + unit))
+
+
+def test_long_access_units() -> None:
+    """The memory that is written to grows and is kept, and no answer is a part of it."""
+    limits = AccessUnitConfig(window=1)
+    receiver = AccessUnitReceiver(Codec.H264, limits)
+    sizes = [2, 60000, 3, 65507, 60001, 2]
+    for n, size in enumerate(sizes):
+        pushes(receiver, 0, (n, n, True, b"\x61" * size))
+    assert [unit.data for unit in receiver.units(0)] == [annex_b([b"\x61" * n]) for n in sizes]
+
+
+def test_every_form_of_payload() -> None:
+    receiver = AccessUnitReceiver(Codec.H264, AT_ONCE)
+    payload = bytearray(b"\x61\x09")
+    receiver.push(0, RtpPacket(1, 0, True, payload))
+    # It is copied.
+    payload[:] = b"xx"
+    receiver.push(0, RtpPacket(2, 1, True, memoryview(b"?\x61\x08")[1:]))
+    assert [unit.data[4:] for unit in receiver.units(0)] == [b"\x61\x09", b"\x61\x08"]
+    wrong: List[Any] = ["61", None, 5]
+    for nothing in wrong:
+        with pytest.raises(TypeError):
+            receiver.push(0, RtpPacket(3, 2, True, nothing))
+
+
+def test_it_has_no_copy() -> None:
+    """A copy would free the same handle again."""
+    receiver = AccessUnitReceiver(Codec.H264)
+    ways: List[Callable[[Any], Any]] = [copy.copy, copy.deepcopy, pickle.dumps]
+    for way in ways:
+        with pytest.raises(TypeError):
+            way(receiver)
+    assert receiver.counts() == Counts()
