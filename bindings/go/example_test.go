@@ -94,6 +94,127 @@ func ExampleReceiver() {
 	// some lost: true true
 }
 
+// Packets come in another order, and what is due is told by a time.
+func ExampleAccessUnitReceiver() {
+	receiver, err := h26x.NewAccessUnitReceiver(h26x.H264, h26x.AccessUnitConfig{Window: 4, MaxWait: 100})
+	if err != nil {
+		panic(err)
+	}
+	defer receiver.Close()
+	for _, packet := range []h26x.RTPPacket{
+		{Sequence: 8, Timestamp: 3000, Marker: true, Payload: []byte{0x7c, 0x45, 2}}, // the last fragment of a unit
+		{Sequence: 7, Timestamp: 3000, Payload: []byte{0x7c, 0x85, 1}},               // the first
+		{Sequence: 10, Timestamp: 9000, Marker: true, Payload: []byte{0x61, 9}},      // 9 is missing
+	} {
+		if _, _, err := receiver.Push(0, packet); err != nil {
+			panic(err)
+		}
+	}
+	missing, _ := receiver.Missing()
+	deadline, _ := receiver.Deadline()
+	fmt.Println(missing, deadline)
+	for _, now := range []uint32{0, 100} {
+		for {
+			unit, err := receiver.Next(now)
+			if err != nil {
+				panic(err)
+			} else if unit == nil {
+				break
+			}
+			fmt.Printf("%d: %x, %d missing, known to be whole: %v\n", unit.Timestamp, unit.Data, unit.Missing, unit.IsWhole)
+		}
+	}
+	// Output:
+	// [5 6 9] 100
+	// 3000: 00000001650102, 0 missing, known to be whole: false
+	// 9000: 000000016109, 1 missing, known to be whole: false
+}
+
+// A recorder writes what can be decoded, and asks the sender for a keyframe where that isn't so: of the first nobody
+// knows whether a packet was sent before it.
+func ExampleAccessUnitReceiver_recorder() {
+	stream, err := os.ReadFile("../streams/test_pictures.h264")
+	if err != nil {
+		panic(err)
+	}
+	whole, asked := sendAndRecord(stream, 0)
+	fmt.Println("nothing lost:", whole, "pictures,", asked, "times asked")
+	some, asked := sendAndRecord(stream, 20)
+	fmt.Println("some lost:", 0 < some && some < whole, asked > 1)
+	// Output:
+	// nothing lost: 45 pictures, 1 times asked
+	// some lost: true true
+}
+
+// sendAndRecord sends a stream of which a packet of so many is lost, none where it is 0, and each second one comes behind
+// the next, and counts the pictures that are recorded and how often a keyframe is asked for.
+func sendAndRecord(stream []byte, each int) (pictures, asked int) {
+	packetizer, err := h26x.NewPacketizer(h26x.H264)
+	if err != nil {
+		panic(err)
+	}
+	defer packetizer.Close()
+	receiver, err := h26x.NewAccessUnitReceiver(h26x.H264, h26x.AccessUnitConfig{Window: 16})
+	if err != nil {
+		panic(err)
+	}
+	defer receiver.Close()
+	unit, asks := h26x.AccessUnit{}, false
+	record := func() {
+		for {
+			ended, err := receiver.NextInto(0, &unit)
+			if err != nil {
+				panic(err)
+			} else if !ended {
+				return
+			}
+			if unit.IsClean {
+				pictures++ // and it is written
+			} else if !asks {
+				asked++ // and the sender is asked
+			}
+			asks = !unit.IsClean
+		}
+	}
+	sequence, timestamp, accessUnit, behind := uint16(65000), uint32(0), []byte(nil), h26x.RTPPacket{}
+	for units := h26x.UnitsOf(h26x.H264, stream); units.Next(); {
+		accessUnit = append(append(accessUnit, 0, 0, 0, 1), units.Unit()...)
+		if kind := units.Unit()[0] & 31; kind != 1 && kind != 5 {
+			continue // it goes with the picture behind it
+		}
+		packets := packetizer.Payload(200, accessUnit)
+		for i, payload := range packets {
+			sequence++
+			packet := h26x.RTPPacket{Sequence: sequence, Timestamp: timestamp, Marker: i+1 == len(packets), Payload: payload}
+			if each > 0 && int(sequence)%each == 0 {
+				continue
+			}
+			if behind.Payload == nil {
+				behind = packet
+				continue
+			}
+			for _, one := range []h26x.RTPPacket{packet, behind} {
+				if _, _, err := receiver.Push(0, one); err != nil {
+					panic(err)
+				}
+			}
+			behind = h26x.RTPPacket{}
+			record()
+		}
+		timestamp, accessUnit = timestamp+3000, nil
+	}
+	if behind.Payload != nil {
+		if _, _, err := receiver.Push(0, behind); err != nil {
+			panic(err)
+		}
+	}
+	if err := receiver.Finish(); err != nil {
+		panic(err)
+	}
+	record()
+	return pictures, asked
+}
+
 // sendAndReceive loses a packet of so many, none where it is 0, and counts the pictures that are received and the
 // gaps.
 func sendAndReceive(stream []byte, each int) (pictures, gaps int) {

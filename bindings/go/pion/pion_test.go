@@ -169,9 +169,10 @@ func connected(t *testing.T, track webrtc.TrackLocal, onTrack func(*webrtc.Track
 	time.Sleep(300 * time.Millisecond)
 }
 
-// A stream goes from peer to peer; behind each tenth picture stand three packets of padding alone, as congestion
-// control sends them (RFC 3550, 5.1), of which the receiver skips the numbers. None is lost, so no gap may be told.
-func TestPeersAndPadding(t *testing.T) {
+// throughPeers sends a stream from peer to peer; behind each tenth picture stand three packets of padding alone, as
+// congestion control sends them (RFC 3550, 5.1). Each packet that comes is taken, in another goroutine until it returns.
+// It answers the access units that were sent, and how many packets, how many of them padding alone, and how many came.
+func throughPeers(t *testing.T, take func(*rtp.Packet)) (wanted [][]byte, sent, padding, came int) {
 	track, err := webrtc.NewTrackLocalStaticRTP(webrtc.RTPCodecCapability{
 		MimeType: webrtc.MimeTypeH264, ClockRate: 90000,
 		SDPFmtpLine: "level-asymmetry-allowed=1;packetization-mode=1;profile-level-id=42e01f",
@@ -179,47 +180,24 @@ func TestPeersAndPadding(t *testing.T) {
 	if err != nil {
 		t.Fatal(err)
 	}
-	type result struct {
-		out                          []byte
-		packets, lost, refused, gaps int
-	}
-	came := make(chan result, 1)
+	over := make(chan int, 1)
 	connected(t, track, func(remote *webrtc.TrackRemote) {
-		receiver, err := h26x.NewReceiver(h26x.H264, 4_000_000)
-		if err != nil {
-			panic(err)
-		}
-		defer receiver.Close()
-		var it result
+		count := 0
 		for {
 			remote.SetReadDeadline(time.Now().Add(2 * time.Second))
 			packet, _, err := remote.ReadRTP()
 			if err != nil {
 				break
 			}
-			it.packets++
-			if len(packet.Payload) == 0 {
-				if outcome, _, err := receiver.Skip(packet.SequenceNumber); err != nil {
-					panic(err)
-				} else if outcome == h26x.Gap {
-					it.gaps++
-				}
-				continue
-			}
-			var got h26x.Received
-			it.out, got, err = receiver.Append(it.out, packet.SequenceNumber, packet.Payload)
-			if err != nil {
-				it.refused++
-			} else if got.Outcome == h26x.Gap {
-				it.gaps++
-			}
+			count++
+			take(packet)
 		}
-		came <- it
+		over <- count
 	})
 	payloader, _ := end(t, h26x.H264)
 	sequencer := rtp.NewRandomSequencer()
 	packetizer := rtp.NewPacketizer(200, 0, 0, payloader, sequencer, 90000)
-	wanted, sent := accessUnits(t, h26x.H264), 0
+	wanted = accessUnits(t, h26x.H264)
 	for i, accessUnit := range wanted {
 		var timestamp uint32
 		for _, packet := range packetizer.Packetize(accessUnit, 3000) {
@@ -230,24 +208,109 @@ func TestPeersAndPadding(t *testing.T) {
 			sent++
 		}
 		for n := 0; i%10 == 5 && n < 3; n++ {
-			padding := append(make([]byte, 254), 255)
 			header := rtp.Header{Version: 2, Padding: true, SequenceNumber: sequencer.NextSequenceNumber(), Timestamp: timestamp}
-			if err := track.WriteRTP(&rtp.Packet{Header: header, Payload: padding}); err != nil {
+			if err := track.WriteRTP(&rtp.Packet{Header: header, Payload: append(make([]byte, 254), 255)}); err != nil {
 				t.Fatal(err)
 			}
-			sent++
+			sent, padding = sent+1, padding+1
 		}
 		time.Sleep(5 * time.Millisecond)
 	}
-	got := <-came
-	t.Logf("%d packets sent, %d came, %d refused, %d gaps told", sent, got.packets, got.refused, got.gaps)
-	if sent != got.packets {
+	came = <-over
+	t.Logf("%d packets sent, %d of padding, %d came", sent, padding, came)
+	if sent != came {
 		t.Skip("the network lost some")
 	}
-	if !bytes.Equal(unitsOf(h26x.H264, got.out), unitsOf(h26x.H264, bytes.Join(wanted, nil))) {
+	return wanted, sent, padding, came
+}
+
+// A receiver skips the numbers of padding. None is lost, so no gap may be told.
+func TestPeersAndPadding(t *testing.T) {
+	receiver, err := h26x.NewReceiver(h26x.H264, 4_000_000)
+	if err != nil {
+		t.Fatal(err)
+	}
+	defer receiver.Close()
+	var out []byte
+	refused, gaps := 0, 0
+	wanted, _, _, _ := throughPeers(t, func(packet *rtp.Packet) {
+		if len(packet.Payload) == 0 {
+			if outcome, _, err := receiver.Skip(packet.SequenceNumber); err != nil || outcome == h26x.Gap {
+				gaps++
+			}
+			return
+		}
+		to, got, err := receiver.Append(out, packet.SequenceNumber, packet.Payload)
+		if err != nil {
+			refused++
+		} else if got.Outcome == h26x.Gap {
+			gaps++
+		}
+		out = to
+	})
+	if !bytes.Equal(unitsOf(h26x.H264, out), unitsOf(h26x.H264, bytes.Join(wanted, nil))) {
 		t.Error("other units came than were sent")
 	}
-	if got.gaps > 0 || got.refused > 0 {
-		t.Errorf("nothing is lost, and %d gaps are told, %d packets refused", got.gaps, got.refused)
+	if gaps > 0 || refused > 0 {
+		t.Errorf("nothing is lost, and %d gaps are told, %d packets refused", gaps, refused)
+	}
+}
+
+// A receiver of access units takes padding as it comes. None is lost, so none may be told to be missing, and no keyframe
+// asked for once one has come.
+func TestPeersAndPaddingInAccessUnits(t *testing.T) {
+	receiver, err := h26x.NewAccessUnitReceiver(h26x.H264, h26x.AccessUnitConfig{MaxWait: 200})
+	if err != nil {
+		t.Fatal(err)
+	}
+	defer receiver.Close()
+	var got []*h26x.AccessUnit
+	takeUnits := func(now uint32) {
+		for {
+			unit, err := receiver.Next(now)
+			if err != nil {
+				t.Error(err)
+			}
+			if unit == nil {
+				return
+			}
+			got = append(got, unit)
+		}
+	}
+	start := time.Now()
+	milliseconds := func() uint32 { return uint32(time.Since(start).Milliseconds()) }
+	wanted, sent, padding, _ := throughPeers(t, func(packet *rtp.Packet) {
+		now := milliseconds()
+		pushed, _, err := receiver.Push(now, h26x.RTPPacket{
+			Sequence: packet.SequenceNumber, Timestamp: packet.Timestamp, Marker: packet.Marker, Payload: packet.Payload,
+		})
+		if pushed != h26x.Held || err != nil {
+			t.Errorf("%d: %v, %v", packet.SequenceNumber, pushed, err)
+		}
+		takeUnits(now)
+	})
+	if err := receiver.Finish(); err != nil {
+		t.Fatal(err)
+	}
+	takeUnits(milliseconds())
+	if len(got) != len(wanted) {
+		t.Fatalf("%d access units of %d", len(got), len(wanted))
+	}
+	hasBegun := false
+	for i, unit := range got {
+		if !bytes.Equal(unitsOf(h26x.H264, unit.Data), unitsOf(h26x.H264, wanted[i])) {
+			t.Errorf("access unit %d is another one", i)
+		}
+		// Of the first nobody knows whether one was sent before it, so the second keyframe is where a recorder begins.
+		if unit.Missing > 0 || unit.IsWhole != (i > 0) || unit.IsClean != (hasBegun || unit.IsWhole && unit.Told == h26x.Keyframe) {
+			t.Errorf("access unit %d: %d missing, whole %v, clean %v", i, unit.Missing, unit.IsWhole, unit.IsClean)
+		}
+		hasBegun = hasBegun || unit.IsClean
+	}
+	counts, err := receiver.Counts()
+	if units := uint64(len(wanted)); err != nil || !hasBegun || counts != (h26x.Counts{
+		Taken: uint64(sent - padding), Skipped: uint64(padding), Units: units, Whole: units - 1,
+	}) {
+		t.Errorf("got %+v, %v", counts, err)
 	}
 }
