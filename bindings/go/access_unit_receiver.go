@@ -66,9 +66,9 @@ type AccessUnitConfig struct {
 	// Window: a missing packet is waited for until one came so many places, less one, ahead of it, up to 16384.
 	// 0: 512.
 	Window int
-	// Far: a number so far or farther from the one that is due, ahead or behind, waits alone until the next such number
-	// follows it, and then the stream begins anew with both (RFC 3550, A.1). 0: 3000; negative: none is too far, and
-	// one behind is late. Choose it above the window, since the first packet is as far ahead as that.
+	// Far: a number so far or farther ahead of the newest that waits (where none waits, of the one that is due), and so
+	// far behind the one that is due, waits alone until the next such number follows it, and then the stream begins anew
+	// with both, whatever HeldLimit is (RFC 3550, A.1). 0: 3000; negative: none is too far, and one behind is late.
 	Far int
 	// MaxWait: a missing packet is waited for so many ticks at most after one behind it came. 0, or 2^32 - 1 and more:
 	// by the window alone; negative: not at all.
@@ -316,7 +316,8 @@ func (r *AccessUnitReceiver) Deadline() (tick uint32, ok bool) {
 }
 
 // Missing is the numbers that are missing before packets that wait, in order: those to ask the sender for again (NACK;
-// RFC 4585, 6.2.1). Its errors are ErrOutOfMemory and ErrClosed.
+// RFC 4585, 6.2.1). Of a stream that begins the first of them are those of the window before the first packet, which may
+// never have been sent. Its errors are ErrOutOfMemory and ErrClosed.
 func (r *AccessUnitReceiver) Missing() ([]uint16, error) {
 	r.mu.RLock()
 	defer r.mu.RUnlock()

@@ -173,8 +173,9 @@ func TestMarkersOfPeers(t *testing.T) {
 		pushes(t, r, 0, 11, 3000, true, key, h26x.Held)
 		gives(t, r, 0, one(codec, 0, 10, key), clean(one(codec, 3000, 11, key)))
 		pushes(t, r, 0, 12, 3000, true, slice, h26x.Held)
+		// Nothing is missing, but nobody knows whether the picture goes on again.
 		goesOn := one(codec, 3000, 12, slice)
-		goesOn.Continues = true
+		goesOn.Continues, goesOn.IsClean = true, true
 		gives(t, r, 0, goesOn)
 		// The run that is open at the marker goes with it, and the last fragment is left alone.
 		pushes(t, r, 0, 13, 6000, false, f.start, h26x.Held)
@@ -364,9 +365,9 @@ func TestDefaultsOfSettings(t *testing.T) {
 	gives(t, r, 0xffff_ffff)
 	pushes(t, r, 0xffff_ffff, 1511, 6000, true, slice, h26x.Held)
 	gives(t, r, 0xffff_ffff, first)
-	// 1001 is due: 4000 is 2999 ahead.
-	pushes(t, r, 0, 4001, 9000, true, slice, h26x.Stray)
-	pushes(t, r, 0, 4000, 9000, true, slice, h26x.Held)
+	// The newest that waits is 1511: 4510 is 2999 ahead.
+	pushes(t, r, 0, 4511, 9000, true, slice, h26x.Stray)
+	pushes(t, r, 0, 4510, 9000, true, slice, h26x.Held)
 
 	r = newAccessUnitReceiver(t, h26x.H264, h26x.AccessUnitConfig{MaxWait: -1, Far: -1})
 	pushes(t, r, 5, 1000, 0, true, key, h26x.Held)
@@ -388,7 +389,7 @@ func TestDefaultsOfSettings(t *testing.T) {
 	counts(t, r, h26x.Counts{Taken: 3, Units: 2, UnitsGivenUp: 1})
 
 	// Without a setting 8,000,000 bytes may wait, and a packet.
-	r = newAccessUnitReceiver(t, h26x.H264, h26x.AccessUnitConfig{Window: 1 << 14, Far: -1})
+	r = newAccessUnitReceiver(t, h26x.H264, h26x.AccessUnitConfig{Window: 1 << 14})
 	packet := append([]byte{0x61}, make([]byte, 49_999)...)
 	for n := 0; n <= 160; n++ {
 		pushes(t, r, 0, uint16(2*n), 0, false, packet, h26x.Held)

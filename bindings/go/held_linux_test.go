@@ -155,7 +155,7 @@ func (p *hostilePeer) jumps() {
 	long := append(some("0201"), make([]byte, longestPacket-2)...)
 	for n := 0; n < 300; n++ {
 		p.sends(uint32(n), long)
-		p.sequence += uint16(1 + n%2*9998)
+		p.sequence += uint16(1 + n%2*24999)
 	}
 	if p.seen[h26x.Stray] < 100 || p.seen[h26x.Anew] < 100 {
 		p.t.Errorf("%v of packets that jump", p.seen)

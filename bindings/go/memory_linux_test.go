@@ -65,7 +65,8 @@ func TestWantOfMemoryForWhatWaits(t *testing.T) {
 		return
 	}
 	u := newAccessUnitReceiver(t, h26x.H264, h26x.AccessUnitConfig{Window: 1 << 14, Far: -1, HeldLimit: 1 << 30})
-	packet, sequence := append(some("61"), make([]byte, 60000)...), uint16(0)
+	// So long that Go itself has memory left.
+	packet, sequence := append(some("61"), make([]byte, 4<<20)...), uint16(0)
 	push := func() error {
 		_, _, err := u.Push(0, h26x.RTPPacket{Sequence: sequence, Payload: packet})
 		return err

@@ -127,7 +127,8 @@ def test_markers_of_peers(codec: Codec) -> None:
     clean = one(codec, 3000, 11, key, is_whole=True, is_clean=True)
     gives(receiver, 0, one(codec, 0, 10, key), clean)
     pushes(receiver, 0, (12, 3000, True, slice_))
-    gives(receiver, 0, one(codec, 3000, 12, slice_, continues=True))
+    # Nothing is missing, but nobody knows whether the picture goes on again.
+    gives(receiver, 0, one(codec, 3000, 12, slice_, continues=True, is_clean=True))
     # The run that is open at the marker goes with it, and the last fragment is left alone.
     nothing = one(codec, 6000, 13, slice_, data=b"", keyframe=None)
     pushes(receiver, 0, (13, 6000, False, start))
@@ -273,11 +274,11 @@ def test_defaults() -> None:
     gives(receiver, 2**32 - 1)
     pushes(receiver, 2**32 - 1, (1511, 6000, True, slice_))
     gives(receiver, 2**32 - 1, one(Codec.H264, 0, 1000, key))
-    # 1001 is due: 4000 is 2999 ahead.
-    pushes(receiver, 0, (4001, 9000, True, slice_), STRAY)
-    pushes(receiver, 0, (4000, 9000, True, slice_))
+    # The newest that waits is 1511: 4510 is 2999 ahead.
+    pushes(receiver, 0, (4511, 9000, True, slice_), STRAY)
+    pushes(receiver, 0, (4510, 9000, True, slice_))
     # 8,000,000 bytes may wait, and a packet.
-    receiver = AccessUnitReceiver(Codec.H264, AccessUnitConfig(window=1 << 14, far=0))
+    receiver = AccessUnitReceiver(Codec.H264, AccessUnitConfig(window=1 << 14))
     packet = b"\x61" + bytes(49_999)
     for n in range(161):
         pushes(receiver, 0, (2 * n, 0, False, packet))

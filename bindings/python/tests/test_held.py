@@ -103,7 +103,7 @@ class Peer:
         """Strays, and streams that begin anew."""
         for n in range(300):
             self.sends(n, LONG)
-            self.sequence += 1 + n % 2 * 9998
+            self.sequence += 1 + n % 2 * 24999
         assert self.seen[Pushed.STRAY] > 100 and self.seen[Pushed.ANEW] > 100
         self.to.restart()
 

@@ -241,7 +241,7 @@ limits = h26x.AccessUnitConfig(window=1 << 14, far=0, held_limit=1 << 30)
 receiver = h26x.AccessUnitReceiver(h26x.Codec.H264, limits)
 size = int(open("/proc/self/statm").read().split()[0]) * resource.getpagesize()
 resource.setrlimit(resource.RLIMIT_AS, (size + (64 << 20), size + (64 << 20)))
-payload, refused, sequence = b"\\x61" + bytes(60000), 0, 0
+payload, refused, sequence = b"\\x61" + bytes(4 << 20), 0, 0
 while sequence < 5000 and refused < 3:
     try:
         pushed, _ = receiver.push(0, h26x.RtpPacket(sequence, 0, False, payload))

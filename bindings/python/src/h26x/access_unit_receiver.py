@@ -52,9 +52,10 @@ class AccessUnitConfig:
 
     #: A missing packet is waited for until one came so many places, less one, ahead of it: 1 to 16384.
     window: int = 512
-    #: A number so far or farther from the one that is due, ahead or behind, waits alone until the next
-    #: such number follows it, and then the stream begins anew with both (RFC 3550, A.1). 0: none is too
-    #: far, and one behind is late. Choose it above the window, since the first packet is as far ahead.
+    #: A number so far or farther ahead of the newest that waits (where none waits, of the one that is
+    #: due), and so far behind the one that is due, waits alone until the next such number follows it, and
+    #: then the stream begins anew with both, whatever `held_limit` is (RFC 3550, A.1). 0: none is too far,
+    #: and one behind is late.
     far: int = 3000
     #: A missing packet is waited for so many ticks at most after one behind it came. None: by the
     #: window alone.
@@ -260,7 +261,8 @@ class AccessUnitReceiver(Owner):
 
     def missing(self) -> List[int]:
         """The numbers that are missing before packets that wait, in order: those to ask the sender for
-        again (NACK; RFC 4585, 6.2.1). Raises OutOfMemory."""
+        again (NACK; RFC 4585, 6.2.1). Of a stream that begins the first of them are those of the window
+        before the first packet, which may never have been sent. Raises OutOfMemory."""
         count, call = c_size_t(), library.h26x_access_units_missing
         with self._lock:
             check(call(self._live(), None, 0, byref(count)))
