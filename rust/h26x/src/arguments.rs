@@ -12,11 +12,15 @@ use crate::rtp::RTCP;
 use crate::seed::Drawn;
 use crate::session;
 use crate::streams::Choice;
-use crate::window::LONGEST;
 use crate::words::{STANDARD, Words};
 use emupedestal::Codec;
 use std::ffi::OsString;
 use std::path::{Path, PathBuf};
+
+/// The longest window, in packets.
+const LONGEST_WINDOW: u64 = 1024;
+/// The longest wait, in milliseconds: a day.
+const MOST_WAIT: u64 = 86_400_000;
 
 pub enum Command {
     Send(Send),
@@ -53,6 +57,8 @@ pub struct Looking {
     pub is_codec_given: bool,
     pub has_donl: bool,
     pub window: u16,
+    /// For how many milliseconds a packet is waited for; `u32::MAX`: by the window alone.
+    pub wait: u32,
     pub run_limit: usize,
     /// Parameter sets that a session description has.
     pub sets: Vec<Vec<u8>>,
@@ -246,7 +252,10 @@ impl Words {
             choice,
             is_codec_given: codec.is_some() || described.is_some(),
             has_donl: has_donl || described.as_ref().is_some_and(|it| it.has_donl),
-            window: self.number("--window", 0, LONGEST.into())?.unwrap_or(32) as u16,
+            window: self.number("--window", 0, LONGEST_WINDOW)?.unwrap_or(32) as u16,
+            wait: self
+                .number("--wait", 0, MOST_WAIT)?
+                .map_or(u32::MAX, |it| it as u32),
             run_limit: self.number("--run-limit", 1, 1 << 30)?.unwrap_or(16 << 20) as usize,
             sets: described.map(|it| it.sets).unwrap_or_default(),
         })

@@ -74,6 +74,16 @@ impl Failure {
         Failure::of(path, what)
     }
 
+    pub fn memory() -> Self {
+        Failure {
+            status: FAILED,
+            message:
+                "there is no memory left for packets; a shorter --window or --run-limit needs \
+                less"
+                    .into(),
+        }
+    }
+
     /// Of what is printed. Where the reader went away, as `head` does, nobody wants a word more.
     pub fn printing(error: &io::Error) -> Self {
         let message = match error.kind() {

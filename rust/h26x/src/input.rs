@@ -7,8 +7,8 @@ use std::io::{self, ErrorKind, Read, Seek, SeekFrom};
 use std::os::fd::AsFd;
 use std::path::{Path, PathBuf};
 
-/// How many bytes are asked for at a time.
-const PIECE: usize = 1 << 20;
+/// How many bytes are asked for at a time: as many as a processor keeps near.
+const PIECE: usize = 1 << 17;
 /// How many bytes of a pipe are kept at most, so that they can be read again.
 pub const FRONT: usize = 8 << 20;
 

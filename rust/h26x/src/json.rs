@@ -3,10 +3,11 @@
 use crate::codecs::word;
 use crate::packets::{Captured, Stream};
 use crate::payload::Description;
-use crate::reception::Became;
-use crate::report::{Happened, seconds};
-use crate::tally::Tally;
+use crate::report::seconds;
+use crate::tally::{Tally, is_keyframe};
+use crate::told::{Became, Fate};
 use emupedestal::Codec;
+use emupedestal::access_unit_receiver::ReceivedUnit;
 use serde_json::{Value, json};
 use std::io::{self, Write};
 
@@ -36,8 +37,7 @@ pub fn packet(
     begin: u64,
     packet: &Captured<'_>,
     about: &Description,
-    is_moved: bool,
-    became: &Became,
+    fate: &Fate,
 ) -> io::Result<()> {
     let rtp = &packet.rtp;
     let mut object = json!({
@@ -48,17 +48,16 @@ pub fn packet(
         "marker": rtp.marker,
         "bytes": rtp.payload.len(),
         "padding": rtp.padding,
-        "moved": is_moved,
+        "moved": fate.is_moved,
     });
     if !rtp.is_padding() {
         object["packet"] = about.kind.into();
-        object["units"] = about.units.iter().map(|it| unit(about, it)).collect();
+        object["units"] = about.units.iter().map(|it| unit_of(about, it)).collect();
         object["keyframe"] = about.is_keyframe.into();
     }
-    let (outcome, lost) = outcome(became);
-    object["became"] = outcome.into();
-    object["lost_before"] = lost.into();
-    match became {
+    object["became"] = outcome(&fate.became).into();
+    object["lost_before"] = fate.lost.into();
+    match &fate.became {
         Became::Taken { gave_up, .. } => object["gave_up"] = (*gave_up).into(),
         Became::Refused(reason) => object["reason"] = reason.as_str().into(),
         _ => {}
@@ -67,7 +66,7 @@ pub fn packet(
 }
 
 /// A unit of a packet, or the one that it is a fragment of.
-fn unit(about: &Description, (name, len): &(&'static str, Option<usize>)) -> Value {
+fn unit_of(about: &Description, (name, len): &(&'static str, Option<usize>)) -> Value {
     match len {
         Some(len) => json!({"type": name, "bytes": len}),
         None => json!({
@@ -78,28 +77,48 @@ fn unit(about: &Description, (name, len): &(&'static str, Option<usize>)) -> Val
     }
 }
 
-/// What became of a packet, and how many before it are lost.
-fn outcome(became: &Became) -> (&'static str, u16) {
+/// What became of a packet.
+fn outcome(became: &Became) -> &'static str {
     match became {
-        Became::Taken { missing, .. } => ("taken", *missing),
-        Became::TooLong { missing } => ("too long", *missing),
-        Became::Late(_) => ("late", 0),
-        Became::Refused(_) => ("refused", 0),
-        Became::Cut => ("cut", 0),
-        Became::Padding => ("padding", 0),
-        Became::PassedOver => ("passed over", 0),
+        Became::Taken { .. } => "taken",
+        Became::TooLong => "too long",
+        Became::Late(_) => "late",
+        Became::Refused(_) => "refused",
+        Became::Cut => "cut",
+        Became::Padding => "padding",
     }
 }
 
-/// What happened between two packets.
-pub fn happened(to: &mut impl Write, what: Happened) -> io::Result<()> {
-    let object = match what {
-        Happened::Twice(sequence) => json!({"is": "twice", "sequence": sequence}),
-        Happened::Stray(sequence) => json!({"is": "stray", "sequence": sequence}),
-        Happened::Anew => json!({"is": "anew"}),
-        Happened::TwoSenders(told) => json!({"is": "two senders", "told": told}),
-    };
-    print(to, &object)
+/// An access unit, and what the receiver tells of it.
+pub fn unit(to: &mut impl Write, unit: &ReceivedUnit) -> io::Result<()> {
+    print(
+        to,
+        &json!({
+            "is": "access unit",
+            "timestamp": unit.timestamp,
+            "bytes": unit.bytes.len(),
+            "keyframe": is_keyframe(unit.extra),
+            "first": unit.first,
+            "last": unit.last,
+            "missing": unit.missing,
+            "continues": unit.continues,
+            "whole": unit.is_whole,
+            "clean": unit.is_clean,
+        }),
+    )
+}
+
+/// A packet with this number that came twice, or is a stray.
+pub fn number(to: &mut impl Write, is: &str, sequence: u16) -> io::Result<()> {
+    print(to, &json!({"is": is, "sequence": sequence}))
+}
+
+pub fn anew(to: &mut impl Write) -> io::Result<()> {
+    print(to, &json!({"is": "anew"}))
+}
+
+pub fn two_senders(to: &mut impl Write, told: &str) -> io::Result<()> {
+    print(to, &json!({"is": "two senders", "told": told}))
 }
 
 /// The totals, and what is lost, refused or otherwise odd, a sentence each.
@@ -112,6 +131,8 @@ pub fn end(to: &mut impl Write, tally: &Tally, told: &[String]) -> io::Result<()
             "bytes": tally.bytes,
             "access_units": tally.access_units,
             "keyframes": tally.keyframes,
+            "whole": tally.whole,
+            "clean": tally.clean,
             "lost": tally.missing(),
             "refused": tally.refused,
             "late": tally.late,

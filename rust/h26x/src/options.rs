@@ -121,6 +121,12 @@ pub static GROUPS: [Group; 5] = [
                  1024 (32); one that comes later is late, and is not taken",
             ),
             with(
+                "--wait",
+                "MS",
+                "a packet is waited for so many milliseconds at most, by the times of the capture \
+                 (by the window alone)",
+            ),
+            with(
                 "--run-limit",
                 "BYTES",
                 "the longest unit in fragments (16777216); a longer one is left out",

@@ -10,20 +10,25 @@ pub struct Fragment {
     pub is_first: bool,
     pub is_last: bool,
     pub unit_type: u8,
+    /// How many bytes stand behind its headers.
+    pub len: usize,
 }
 
 /// The fragment that a packet is.
 pub fn fragment(codec: Codec, packet: &[u8]) -> Option<Fragment> {
-    let (header, types) = match (codec, packet) {
-        (Codec::H264, [first, header, ..]) if first & 0x1f == 28 => (header, 0x1f),
-        (Codec::H265, [first, _, header, ..]) if first >> 1 & 0x3f == 49 => (header, 0x3f),
-        (Codec::H266, [_, second, header, ..]) if second >> 3 == 29 => (header, 0x1f),
+    let (header, types, data) = match (codec, packet) {
+        (Codec::H264, [first, header, data @ ..]) if first & 0x1f == 28 => (header, 0x1f, data),
+        (Codec::H265, [first, _, header, data @ ..]) if first >> 1 & 0x3f == 49 => {
+            (header, 0x3f, data)
+        }
+        (Codec::H266, [_, second, header, data @ ..]) if second >> 3 == 29 => (header, 0x1f, data),
         _ => return None,
     };
     Some(Fragment {
         is_first: header & 0x80 != 0,
         is_last: header & 0x40 != 0,
         unit_type: header & types,
+        len: data.len(),
     })
 }
 

@@ -17,11 +17,11 @@ pub fn receive(asked: &Receive) -> Result<u8, Failure> {
     let mut capture = Capture::open(&asked.looking.input)?;
     let streams = choose(&mut capture, &asked.looking.choice)?;
     let mut recordings = begin(asked, &streams)?;
-    let takers = streams.takers();
+    let mut takers = streams.takers();
     let passed = each_packet(&mut capture, Some("receiving"), |met| {
         match met {
             Met::Packet(stream, _, packet) => {
-                for at in takers.get(stream).into_iter().flatten() {
+                for at in takers.of(stream) {
                     recordings[*at].take(packet)?;
                 }
             }

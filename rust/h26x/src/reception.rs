@@ -1,218 +1,426 @@
 //! A stream that is received, and what is counted of it.
+//!
+//! An `AccessUnitReceiver` puts packets in order and gives out access units. It counts packets that are lost
+//! and refused, and doesn't name them: that is done here, of each packet once the receiver has taken it.
 
+use crate::arguments::Looking;
+use crate::errors::Failure;
 use crate::ip::Part;
 use crate::numbers::Numbers;
 use crate::packets::Captured;
 use crate::payload::fragment;
 use crate::refusals::reason;
+use crate::runs::{Left, Runs};
 use crate::tally::Tally;
-use emupedestal::{Codec, CodecExtra, Received, SequencedDepacketizer};
+use crate::told::{Became, Fate, Outcome, Tell, Told};
+use crate::waiting::{Kept, Waiting};
+use emupedestal::access_unit_receiver::{
+    AccessUnitConfig, AccessUnitReceiver, Counts, Pushed, ReceivedUnit,
+};
+use emupedestal::{Codec, CodecExtra, PacketError, RtpPacket, SequencedDepacketizer};
 
-/// What became of a packet.
-pub enum Became {
-    Taken {
-        missing: u16,
-        gave_up: bool,
-    },
-    TooLong {
-        missing: u16,
-    },
-    Late(u16),
-    Refused(String),
-    /// The capture has only its front.
+/// A number is far where it is so much ahead of the one that is due, or so much behind (RFC 3550, A.1).
+const FAR: u16 = 3000;
+/// So many late packets in a row are a sender's that began anew.
+const MOST_LATE: u16 = 64;
+/// An access unit that is longer is given out in parts.
+const LONGEST_UNIT: usize = 1 << 25;
+/// What no codec takes: given in the place of a packet of which the capture has only a front.
+const CUT: [u8; 1] = [0];
+
+/// What the receiver is given of a packet.
+#[derive(Clone, Copy, PartialEq, Eq)]
+enum Kind {
+    Whole,
     Cut,
-    /// It has padding alone.
     Padding,
     /// It is of another payload type.
-    PassedOver,
+    Other,
 }
 
-/// The unit whose fragments come.
-#[derive(Clone, Copy, PartialEq, Eq)]
-enum Run {
-    None,
-    Open,
-    /// A packet of it is missing.
-    GivenUp,
+/// What the receiver has done at a time.
+struct Step {
+    /// How many packets it has taken, refused or passed over.
+    passed: u64,
+    has_refused: bool,
+    unit: Option<ReceivedUnit>,
+    /// Whether there may be another access unit.
+    has_more: bool,
 }
 
 pub struct Reception {
-    receiver: SequencedDepacketizer,
+    codec: Codec,
     payload_type: u8,
-    /// The number of the packet that came last, and how many of another payload type or of padding
-    /// alone came: the receiver's numbers don't have these.
-    last: Option<u16>,
-    passed_over: u16,
-    extra: CodecExtra,
-    run: Run,
-    /// The timestamp of the access unit that is not over.
-    timestamp: Option<u32>,
-    /// How many packets came since one was taken, and were none to be taken: they aren't lost.
-    not_taken: u16,
+    has_donl: bool,
+    window: u16,
+    receiver: AccessUnitReceiver,
+    /// What it had counted at the last step.
+    counts: Counts,
+    waiting: Waiting,
+    /// The number that is due, once a packet came.
+    due: Option<u16>,
+    has_passed: bool,
+    /// How many packets before the next one of this payload type are lost.
+    lost: u32,
+    /// A packet far from all others, which the next may go on from.
+    stray: Option<Kept>,
+    /// How many late packets came in a row, and the number behind the last of them.
+    late: (u16, u16),
+    /// When the first packet was captured, and the latest one, in nanoseconds.
+    clock: Option<(u64, u64)>,
+    /// How many bytes came of the access unit that is open.
+    unit_len: usize,
+    runs: Runs,
     numbers: Numbers,
-    pub tally: Tally,
+    tally: Tally,
 }
 
 impl Reception {
-    pub fn new(codec: Codec, payload_type: u8, has_donl: bool, run_limit: usize) -> Self {
-        let mut receiver = SequencedDepacketizer::new(codec, run_limit);
-        receiver.with_donl(has_donl);
+    pub fn new(codec: Codec, payload_type: u8, looking: &Looking, has_lengths: bool) -> Self {
+        let (has_donl, run_limit) = (looking.has_donl, looking.run_limit);
+        let config = AccessUnitConfig {
+            window: looking.window + 1,
+            far: 0,
+            max_wait: looking.wait,
+            held_limit: usize::MAX,
+            run_limit,
+            unit_limit: usize::MAX,
+        };
+        let receiver = AccessUnitReceiver::with_settings(codec, has_donl, has_lengths, config);
         Reception {
-            receiver,
+            codec,
             payload_type,
-            last: None,
-            passed_over: 0,
-            extra: CodecExtra::None,
-            run: Run::None,
-            timestamp: None,
-            not_taken: 0,
+            has_donl,
+            window: looking.window,
+            counts: receiver.counts(),
+            receiver,
+            waiting: Waiting::default(),
+            due: None,
+            has_passed: false,
+            lost: 0,
+            stray: None,
+            late: (0, 0),
+            clock: None,
+            unit_len: 0,
+            runs: Runs::new(codec, has_donl, run_limit),
             numbers: Numbers::new(codec, has_donl),
             tally: Tally::default(),
         }
     }
 
-    /// Has units written behind lengths of four bytes.
-    pub fn with_lengths(&mut self) {
-        self.receiver.with_avc(true);
+    /// Takes a packet that is numbered with those of the stream.
+    pub fn take(&mut self, packet: &Captured<'_>, tell: &mut Tell<'_>) -> Outcome {
+        let sequence = packet.rtp.sequence;
+        if self.is_far(sequence) {
+            return self.take_far(packet, tell);
+        }
+        match self.push(packet)? {
+            Pushed::Late(behind) => self.take_late(packet, behind, tell),
+            Pushed::Twice => {
+                self.tally.twice += 1;
+                tell(Told::Twice(sequence))
+            }
+            _ => {
+                self.late.0 = 0;
+                self.take_held(packet, tell)
+            }
+        }
     }
 
-    /// Takes a packet, and appends the units that it completes to `out`.
-    pub fn take(&mut self, packet: &Captured<'_>, out: &mut Vec<u8>) -> Became {
-        let is_next = self.is_next(packet.rtp.sequence);
+    fn kind(&self, packet: &Captured<'_>) -> Kind {
         if packet.rtp.payload_type != self.payload_type {
-            self.passed_over = self.passed_over.wrapping_add(u16::from(is_next));
-            return Became::PassedOver;
+            Kind::Other
+        } else if packet.rtp.is_padding() {
+            Kind::Padding
+        } else if packet.part != Part::Whole {
+            Kind::Cut
+        } else {
+            Kind::Whole
         }
-        self.tally.packets += 1;
-        self.tally.bytes += packet.rtp.payload.len() as u64;
-        if packet.rtp.is_padding() {
-            self.passed_over = self.passed_over.wrapping_add(u16::from(is_next));
-            self.tally.padding += 1;
-            return Became::Padding;
-        }
-        if packet.part != Part::Whole {
-            self.tally.parts += 1;
-            self.not_taken = self.not_taken.saturating_add(1);
-            return Became::Cut;
-        }
-        let is_new = self.timestamp.is_some_and(|it| it != packet.rtp.timestamp);
-        let mut extra = if is_new { CodecExtra::None } else { self.extra };
-        let payload = packet.rtp.payload;
-        let sequence = packet.rtp.sequence.wrapping_sub(self.passed_over);
-        match self.receiver.receive(sequence, payload, out, &mut extra) {
-            Ok(Received::Late(behind)) => {
-                self.tally.late += 1;
-                Became::Late(behind)
+    }
+
+    /// Gives a packet to the receiver, at the time at which it was captured.
+    fn push(&mut self, packet: &Captured<'_>) -> Result<Pushed, Failure> {
+        let now = self.tick(packet.time);
+        let rtp = &packet.rtp;
+        let payload = match self.kind(packet) {
+            Kind::Padding | Kind::Other => {
+                return self.receiver.skip(now, rtp.sequence).map_err(no_memory);
             }
-            Ok(received) => {
-                if is_new {
-                    self.end_access_unit();
+            Kind::Cut => &CUT[..],
+            Kind::Whole => rtp.payload,
+        };
+        let packet = RtpPacket {
+            sequence: rtp.sequence,
+            timestamp: rtp.timestamp,
+            marker: self.is_end(rtp.marker, payload),
+            payload,
+        };
+        self.receiver.push(now, &packet).map_err(no_memory)
+    }
+
+    /// Whether a packet ends an access unit: none does whose unit goes on.
+    fn is_end(&self, marker: bool, payload: &[u8]) -> bool {
+        (marker || self.unit_len > LONGEST_UNIT)
+            && fragment(self.codec, payload).is_none_or(|it| it.is_last)
+    }
+
+    /// The receiver's time, in milliseconds. A capture's may go back, and that one doesn't.
+    fn tick(&mut self, time: u64) -> u32 {
+        let (begin, latest) = self.clock.unwrap_or((time, time));
+        self.clock = Some((begin, latest.max(time)));
+        self.now()
+    }
+
+    fn now(&self) -> u32 {
+        let (begin, latest) = self.clock.unwrap_or_default();
+        ((latest - begin) / 1_000_000) as u32
+    }
+
+    /// Takes a packet that the receiver holds.
+    fn take_held(&mut self, packet: &Captured<'_>, tell: &mut Tell<'_>) -> Outcome {
+        let before_first = packet.rtp.sequence.wrapping_sub(self.window);
+        let due = *self.due.get_or_insert(before_first);
+        if !self.waiting.is_empty() {
+            self.waiting.put(packet, due);
+            return self.drain(tell);
+        }
+        // Mostly it is due as it comes, and needn't be copied.
+        let mut step = self.step()?;
+        if step.passed == 0 {
+            self.waiting.put(packet, due);
+            return Ok(());
+        }
+        self.pass(packet, false, &mut step, tell)?;
+        match self.end_step(step, tell)? {
+            true => self.drain(tell),
+            false => Ok(()),
+        }
+    }
+
+    /// Tells what became of packets that are due, and the access units that they end.
+    fn drain(&mut self, tell: &mut Tell<'_>) -> Outcome {
+        loop {
+            let mut step = self.step()?;
+            for _ in 0..step.passed {
+                if let Some(kept) = self.waiting.pop() {
+                    self.pass(&kept.packet(), kept.is_moved, &mut step, tell)?;
                 }
-                self.extra = extra;
-                self.numbers.take(payload);
-                self.taken(packet, received)
             }
-            Err(error) => {
-                let reason = reason(self.receiver.codec(), payload, error);
-                self.numbers.refuse(payload);
-                self.tally.refuse(packet.rtp.sequence, &reason);
-                self.not_taken = self.not_taken.saturating_add(1);
-                Became::Refused(reason)
+            if !self.end_step(step, tell)? {
+                return Ok(());
             }
         }
     }
 
-    /// Whether a packet comes behind all others by its number, and isn't late.
-    fn is_next(&mut self, sequence: u16) -> bool {
-        let is_next = self
-            .last
-            .is_none_or(|last| sequence.wrapping_sub(last) as i16 > 0);
-        if is_next {
-            self.last = Some(sequence);
+    /// Tells the access unit that ended with the last packet; whether there may be another one.
+    fn end_step(&mut self, step: Step, tell: &mut Tell<'_>) -> Result<bool, Failure> {
+        if let Some(unit) = step.unit {
+            self.end_unit(unit, tell)?;
         }
-        is_next
+        Ok(step.has_more)
     }
 
-    /// Counts a packet that was taken.
-    fn taken(&mut self, packet: &Captured<'_>, received: Received) -> Became {
-        let gap = match received {
-            Received::Gap(missing) | Received::TooLong(missing) => missing,
-            _ => 0,
+    /// Has the receiver take packets until an access unit has ended, or none is due.
+    fn step(&mut self) -> Result<Step, Failure> {
+        let unit = self.receiver.next_unit(self.now()).map_err(no_memory)?;
+        let counts = self.receiver.counts();
+        let passed = |it: &Counts| it.taken + it.refused + it.skipped;
+        let before = std::mem::replace(&mut self.counts, counts);
+        Ok(Step {
+            passed: passed(&counts) - passed(&before),
+            has_refused: counts.refused > before.refused,
+            has_more: unit.is_some(),
+            unit,
+        })
+    }
+
+    /// Tells what became of a packet that was due. The access unit that it ended by its timestamp stands
+    /// before it.
+    fn pass(
+        &mut self,
+        packet: &Captured<'_>,
+        is_moved: bool,
+        step: &mut Step,
+        tell: &mut Tell<'_>,
+    ) -> Outcome {
+        let sequence = packet.rtp.sequence;
+        let is_behind = |it: &mut ReceivedUnit| sequence.wrapping_sub(it.last) as i16 > 0;
+        if let Some(unit) = step.unit.take_if(is_behind) {
+            self.end_unit(unit, tell)?;
+        }
+        self.follow(sequence);
+        let became = match self.kind(packet) {
+            Kind::Other => return Ok(()),
+            Kind::Padding => {
+                self.tally.padding += 1;
+                Became::Padding
+            }
+            Kind::Cut => {
+                self.tally.parts += 1;
+                self.runs.break_off();
+                Became::Cut
+            }
+            Kind::Whole => match self.refusal(packet.rtp.payload, step.has_refused) {
+                Some(error) => self.refused(packet, error),
+                None => self.taken(packet),
+            },
         };
-        let missing = gap.saturating_sub(std::mem::take(&mut self.not_taken));
-        self.tally.miss(packet.rtp.sequence, missing);
-        let gave_up = gap > 0 && self.give_up();
-        self.follow_run(packet.rtp.payload);
-        self.timestamp = Some(packet.rtp.timestamp);
-        if packet.rtp.marker {
-            self.end_access_unit();
-        }
-        if let Received::TooLong(_) = received {
-            self.tally.too_long += 1;
-            self.run = Run::GivenUp;
-            return Became::TooLong { missing };
-        }
-        Became::Taken { missing, gave_up }
-    }
-
-    /// Gives up the unit that is open; whether one is.
-    fn give_up(&mut self) -> bool {
-        let is_open = self.run == Run::Open;
-        if is_open {
-            self.tally.given_up += 1;
-            self.run = Run::GivenUp;
-        }
-        is_open
-    }
-
-    /// Follows the fragments of units: one whose first fragment is missing is given up as well.
-    fn follow_run(&mut self, payload: &[u8]) {
-        let Some(fragment) = fragment(self.receiver.codec(), payload) else {
-            return;
+        self.tally.packet(packet);
+        self.tally.moved += u64::from(is_moved);
+        let lost = std::mem::take(&mut self.lost);
+        self.tally.miss(sequence, lost);
+        let fate = Fate {
+            became,
+            lost,
+            is_moved,
         };
-        if fragment.is_first {
-            self.give_up();
-            self.run = Run::Open;
-        } else if self.run == Run::None {
-            self.tally.given_up += 1;
-            self.run = Run::GivenUp;
-        }
-        if fragment.is_last {
-            self.run = Run::None;
+        tell(Told::Packet(packet, fate))
+    }
+
+    /// Follows the numbers: those between a packet and the one before it are lost.
+    fn follow(&mut self, sequence: u16) {
+        let due = self.due.replace(sequence.wrapping_add(1));
+        let gap = sequence.wrapping_sub(due.unwrap_or(sequence));
+        if std::mem::replace(&mut self.has_passed, true) && gap > 0 {
+            self.lost += u32::from(gap);
+            self.runs.break_off();
         }
     }
 
-    fn end_access_unit(&mut self) {
+    /// Why a packet is refused, if it is one of those that were. It is refused for what it is alone.
+    fn refusal(&self, payload: &[u8], has_refused: bool) -> Option<PacketError> {
+        if !has_refused {
+            return None;
+        }
+        let mut depacketizer = SequencedDepacketizer::new(self.codec, usize::MAX);
+        depacketizer.with_donl(self.has_donl);
+        let (mut units, mut extra) = (Vec::new(), CodecExtra::None);
+        let received = depacketizer.receive(0, payload, &mut units, &mut extra);
+        received.err()
+    }
+
+    fn refused(&mut self, packet: &Captured<'_>, error: PacketError) -> Became {
+        let reason = reason(self.codec, packet.rtp.payload, error);
+        self.numbers.refuse(packet.rtp.payload);
+        self.runs.break_off();
+        self.tally.refuse(packet.rtp.sequence, &reason);
+        Became::Refused(reason)
+    }
+
+    fn taken(&mut self, packet: &Captured<'_>) -> Became {
+        self.unit_len += packet.rtp.payload.len();
+        self.numbers.take(packet.rtp.payload);
+        match self.runs.take(&packet.rtp) {
+            Left::TooLong => Became::TooLong,
+            left => Became::Taken {
+                gave_up: left == Left::GivenUp,
+            },
+        }
+    }
+
+    fn end_unit(&mut self, unit: ReceivedUnit, tell: &mut Tell<'_>) -> Outcome {
+        self.unit_len = 0;
         self.numbers.end_access_unit();
-        if self.timestamp.take().is_some() {
-            self.tally.access_units += 1;
-            self.tally.keyframes += u64::from(is_keyframe(self.extra));
-            self.extra = CodecExtra::None;
+        self.tally.unit(&unit);
+        tell(Told::Unit(&unit))?;
+        self.receiver.give_back(unit);
+        Ok(())
+    }
+
+    /// Tells of a packet that is late; or begins anew with it.
+    fn take_late(&mut self, packet: &Captured<'_>, behind: u16, tell: &mut Tell<'_>) -> Outcome {
+        let sequence = packet.rtp.sequence;
+        let in_row = if self.late.1 == sequence {
+            self.late.0 + 1
+        } else {
+            1
+        };
+        self.late = (in_row, sequence.wrapping_add(1));
+        if in_row == MOST_LATE {
+            self.begin_anew(tell)?;
+            return self.take(packet, tell);
         }
+        if self.kind(packet) == Kind::Other {
+            return Ok(());
+        }
+        self.tally.packet(packet);
+        self.tally.late += 1;
+        let fate = Fate {
+            became: Became::Late(behind),
+            lost: 0,
+            is_moved: false,
+        };
+        tell(Told::Packet(packet, fate))
     }
 
-    /// The sender begins anew: any number is the next.
-    pub fn begin_anew(&mut self) {
-        self.give_up();
+    fn is_far(&self, sequence: u16) -> bool {
+        let is_far = |due| (FAR..=FAR.wrapping_neg()).contains(&sequence.wrapping_sub(due));
+        self.due.is_some_and(is_far)
+    }
+
+    /// Keeps a packet that is far from all others; or begins anew with the one before it.
+    fn take_far(&mut self, packet: &Captured<'_>, tell: &mut Tell<'_>) -> Outcome {
+        let is_next = |it: &mut Kept| it.sequence().wrapping_add(1) == packet.rtp.sequence;
+        if let Some(stray) = self.stray.take_if(is_next) {
+            self.begin_anew(tell)?;
+            self.take(&stray.packet(), tell)?;
+            return self.take(packet, tell);
+        }
+        self.give_stray(tell)?;
+        self.stray = Some(Kept::new(packet));
+        Ok(())
+    }
+
+    fn give_stray(&mut self, tell: &mut Tell<'_>) -> Outcome {
+        let Some(stray) = self.stray.take() else {
+            return Ok(());
+        };
+        self.tally.strays += 1;
+        tell(Told::Stray(stray.sequence()))
+    }
+
+    /// The sender begins anew: all that waits is due, and then any number is the next.
+    fn begin_anew(&mut self, tell: &mut Tell<'_>) -> Outcome {
+        self.end(tell)?;
         self.receiver.restart();
-        self.last = None;
+        self.due = None;
+        self.has_passed = false;
+        self.late.0 = 0;
         self.tally.anew += 1;
+        tell(Told::Anew)
     }
 
-    /// What was counted, once no packet is left.
-    pub fn finish(mut self) -> Tally {
-        self.give_up();
-        self.end_access_unit();
-        self.tally.advice = self.numbers.advice();
-        self.tally
+    /// Ends the stream up to here.
+    fn end(&mut self, tell: &mut Tell<'_>) -> Outcome {
+        self.receiver.finish();
+        self.drain(tell)?;
+        self.runs.give_up();
+        let lost = std::mem::take(&mut self.lost);
+        self.tally.miss(self.due.unwrap_or_default(), lost);
+        Ok(())
+    }
+
+    /// Tells what is left, and what was counted.
+    pub fn finish(mut self, tell: &mut Tell<'_>) -> Result<Tally, Failure> {
+        self.end(tell)?;
+        self.give_stray(tell)?;
+        let Counts {
+            refused,
+            units,
+            units_given_up,
+            ..
+        } = self.counts;
+        let mut tally = self.tally;
+        debug_assert_eq!(refused, tally.refused + tally.parts);
+        debug_assert_eq!(units, tally.access_units);
+        debug_assert_eq!(units_given_up, self.runs.too_long);
+        (tally.given_up, tally.too_long) = (self.runs.given_up, self.runs.too_long);
+        tally.advice = self.numbers.advice();
+        Ok(tally)
     }
 }
 
-fn is_keyframe(extra: CodecExtra) -> bool {
-    match extra {
-        CodecExtra::H264(told) => told.is_keyframe,
-        CodecExtra::H265(told) => told.is_keyframe,
-        CodecExtra::H266(told) => told.is_keyframe,
-        _ => false,
-    }
+fn no_memory(_: PacketError) -> Failure {
+    Failure::memory()
 }

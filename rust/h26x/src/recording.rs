@@ -6,18 +6,17 @@ use crate::errors::{Failure, INCOMPLETE};
 use crate::output::Output;
 use crate::packets::{Captured, Stream};
 use crate::printing::say;
-use crate::reception::{Became, Reception};
+use crate::reception::Reception;
 use crate::sets::Sets;
 use crate::streams::{Known, counted};
 use crate::tally::Tally;
-use crate::window::{Event, Window};
+use crate::told::Told;
 use emupedestal::Codec;
 use std::path::PathBuf;
 
 pub struct Recording {
     codec: Codec,
     stream: Stream,
-    window: Window,
     reception: Reception,
     /// Parameter sets that may have to stand before the first picture.
     sets: Sets,
@@ -34,20 +33,11 @@ impl Recording {
             true => asked.output.join(file_name(&known.stream, codec)),
             false => asked.output.clone(),
         };
-        let mut reception = Reception::new(
-            codec,
-            known.stream.payload_type,
-            asked.looking.has_donl,
-            asked.looking.run_limit,
-        );
-        if asked.has_lengths {
-            reception.with_lengths();
-        }
+        let payload_type = known.stream.payload_type;
         Ok(Recording {
             codec,
             stream: known.stream,
-            window: Window::new(asked.looking.window),
-            reception,
+            reception: Reception::new(codec, payload_type, &asked.looking, asked.has_lengths),
             sets: Sets::new(codec, &asked.looking.sets, asked.has_lengths),
             output: Output::create(&path, input)?,
             path,
@@ -71,19 +61,12 @@ impl Recording {
     /// Takes a packet that is numbered with those of the stream.
     pub fn take(&mut self, packet: &Captured<'_>) -> Result<(), Failure> {
         let Recording {
-            window,
             reception,
             sets,
             output,
             ..
         } = self;
-        window.take(packet, &mut |event: Event<'_>| {
-            receive_event(reception, event, &mut output.gathered);
-            match sets.are_put_into(&mut output.gathered) {
-                true => output.pass_on(),
-                false => Ok(()),
-            }
-        })
+        reception.take(packet, &mut |told| write(told, sets, output))
     }
 
     /// Writes what is there so far.
@@ -98,23 +81,15 @@ impl Recording {
     pub fn finish(self, asked: &Receive) -> Result<u8, Failure> {
         let Recording {
             codec,
-            window,
-            mut reception,
+            reception,
             mut sets,
             mut output,
             path,
             is_of_many,
             ..
         } = self;
-        window.finish(&mut |event: Event<'_>| {
-            receive_event(&mut reception, event, &mut output.gathered);
-            match sets.are_put_into(&mut output.gathered) {
-                true => output.pass_on(),
-                false => Ok(()),
-            }
-        })?;
+        let tally = reception.finish(&mut |told| write(told, &mut sets, &mut output))?;
         sets.put_into(&mut output.gathered);
-        let tally = reception.finish();
         check_taken(&asked.looking, codec, &tally)?;
         let written = output.finish()?;
         for oddity in tally.oddities() {
@@ -151,17 +126,15 @@ fn file_name(stream: &Stream, codec: Codec) -> String {
     )
 }
 
-/// Gives what a window gives out to a receiver.
-fn receive_event(reception: &mut Reception, event: Event<'_>, out: &mut Vec<u8>) {
-    match event {
-        Event::Packet(packet, is_moved) => {
-            if !matches!(reception.take(&packet, out), Became::PassedOver) {
-                reception.tally.moved += u64::from(is_moved);
-            }
-        }
-        Event::Twice(_) => reception.tally.twice += 1,
-        Event::Stray(_) => reception.tally.strays += 1,
-        Event::Anew => reception.begin_anew(),
+/// Writes the units of an access unit.
+fn write(told: Told<'_>, sets: &mut Sets, output: &mut Output) -> Result<(), Failure> {
+    let Told::Unit(unit) = told else {
+        return Ok(());
+    };
+    output.gathered.extend_from_slice(&unit.bytes);
+    match sets.are_put_into(&mut output.gathered) {
+        true => output.pass_on(),
+        false => Ok(()),
     }
 }
 

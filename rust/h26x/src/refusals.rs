@@ -31,9 +31,6 @@ pub fn reason(codec: Codec, packet: &[u8], error: PacketError) -> String {
 /// What a packet that ends too early lacks.
 fn short(codec: Codec, packet: &[u8]) -> &'static str {
     match (codec, unit_type(codec, packet)) {
-        (Codec::H264, None) => {
-            "the payload is empty; it needs a NAL unit header of one byte (RFC 6184, 1.3)"
-        }
         (Codec::H264, _) => {
             "an FU-A needs an FU indicator and an FU header, a byte each (RFC 6184, 5.8)"
         }

@@ -6,11 +6,12 @@ use crate::colors::{Look, Painter};
 use crate::json;
 use crate::packets::{Captured, Stream};
 use crate::payload::{Description, describe};
-use crate::reception::Became;
 use crate::seen::PassedOver;
 use crate::streams::counted;
-use crate::tally::Tally;
+use crate::tally::{Tally, is_keyframe};
+use crate::told::{Became, Fate, Told};
 use emupedestal::Codec;
+use emupedestal::access_unit_receiver::ReceivedUnit;
 use std::io::{self, BufWriter, StdoutLock, Write};
 
 const TITLES: &str = "  seq      seconds   timestamp M bytes  packet      units";
@@ -22,18 +23,6 @@ pub enum Form {
     Summary,
     /// An object of JSON in each line.
     Json,
-}
-
-/// What happens between two packets.
-pub enum Happened {
-    /// A packet came twice.
-    Twice(u16),
-    /// A packet's number is far from all others.
-    Stray(u16),
-    /// The sender begins anew.
-    Anew,
-    /// Two senders have one SSRC, as this says.
-    TwoSenders(String),
 }
 
 pub struct Report {
@@ -73,31 +62,56 @@ impl Report {
         }
     }
 
-    pub fn packet(
-        &mut self,
-        packet: &Captured<'_>,
-        is_moved: bool,
-        became: &Became,
-    ) -> io::Result<()> {
-        if self.form == Form::Summary {
-            return Ok(());
+    /// Says that two senders have one SSRC, as this has it.
+    pub fn two_senders(&mut self, told: &str) -> io::Result<()> {
+        match self.form {
+            Form::Summary => Ok(()),
+            Form::Json => json::two_senders(&mut self.to, told),
+            Form::Lines => self.note(told),
         }
+    }
+
+    pub fn tell(&mut self, told: &Told<'_>) -> io::Result<()> {
+        match self.form {
+            Form::Summary => return Ok(()),
+            Form::Json => return self.tell_json(told),
+            Form::Lines => {}
+        }
+        match told {
+            Told::Packet(packet, fate) => self.packet(packet, fate),
+            Told::Unit(unit) => writeln!(self.to, "      = {}", about_unit(unit)),
+            Told::Twice(sequence) => self.note(&format!("{sequence} came twice")),
+            Told::Stray(sequence) => self.note(&format!("{sequence} is far from all others")),
+            Told::Anew => self.note("the sender begins anew with another number"),
+        }
+    }
+
+    fn tell_json(&mut self, told: &Told<'_>) -> io::Result<()> {
+        match told {
+            Told::Packet(packet, fate) => {
+                let begin = *self.begin.get_or_insert(packet.time);
+                let about = describe(self.codec, self.has_donl, packet.rtp.payload);
+                json::packet(&mut self.to, begin, packet, &about, fate)
+            }
+            Told::Unit(unit) => json::unit(&mut self.to, unit),
+            Told::Twice(sequence) => json::number(&mut self.to, "twice", *sequence),
+            Told::Stray(sequence) => json::number(&mut self.to, "stray", *sequence),
+            Told::Anew => json::anew(&mut self.to),
+        }
+    }
+
+    fn packet(&mut self, packet: &Captured<'_>, fate: &Fate) -> io::Result<()> {
         let begin = *self.begin.get_or_insert(packet.time);
         let about = describe(self.codec, self.has_donl, packet.rtp.payload);
-        if self.form == Form::Json {
-            return json::packet(&mut self.to, begin, packet, &about, is_moved, became);
-        }
-        if let Became::Taken { missing, .. } | Became::TooLong { missing } = became {
-            if *missing > 0 {
-                let lost = counted((*missing).into(), "packet");
-                self.note(&format!("lost: {lost} before {}", packet.rtp.sequence))?;
-            }
+        if fate.lost > 0 {
+            let lost = counted(fate.lost.into(), "packet");
+            self.note(&format!("lost: {lost} before {}", packet.rtp.sequence))?;
         }
         self.line(begin, packet, &about)?;
-        if is_moved {
+        if fate.is_moved {
             self.note("it came behind a later packet")?;
         }
-        note_of(became).map_or(Ok(()), |note| self.note(&note))
+        note_of(&fate.became).map_or(Ok(()), |note| self.note(&note))
     }
 
     fn line(&mut self, begin: u64, packet: &Captured<'_>, about: &Description) -> io::Result<()> {
@@ -126,19 +140,6 @@ impl Report {
         writeln!(self.to, "      {note}")
     }
 
-    pub fn happened(&mut self, what: Happened) -> io::Result<()> {
-        match self.form {
-            Form::Summary => Ok(()),
-            Form::Json => json::happened(&mut self.to, what),
-            Form::Lines => self.note(&match what {
-                Happened::Twice(sequence) => format!("{sequence} came twice"),
-                Happened::Stray(sequence) => format!("{sequence} is far from all others"),
-                Happened::Anew => "the sender begins anew with another number".into(),
-                Happened::TwoSenders(told) => told,
-            }),
-        }
-    }
-
     /// Prints what is there so far.
     pub fn pass_on(&mut self) -> io::Result<()> {
         self.to.flush()
@@ -150,6 +151,7 @@ impl Report {
         match self.form {
             Form::Json => json::end(&mut self.to, tally, &end)?,
             _ => {
+                end.extend(tally.known());
                 end.push(tally.totals());
                 writeln!(self.to, "{}", end.join("\n"))?;
             }
@@ -161,17 +163,36 @@ impl Report {
 /// What became of a packet, where that is to be said.
 fn note_of(became: &Became) -> Option<String> {
     Some(match became {
-        Became::Taken { gave_up: true, .. } => {
+        Became::Taken { gave_up: true } => {
             "a unit is given up, of which a packet is missing".into()
         }
-        Became::Taken { .. } | Became::PassedOver | Became::Padding => return None,
-        Became::TooLong { .. } => {
-            "its unit is given up, since it is longer than --run-limit".into()
-        }
+        Became::Taken { .. } | Became::Padding => return None,
+        Became::TooLong => "its unit is given up, since it is longer than --run-limit".into(),
         Became::Late(behind) => format!("not taken: it came twice, or late, {behind} behind"),
         Became::Refused(reason) => format!("refused: {reason}"),
         Became::Cut => "not taken: the capture has only its front".into(),
     })
+}
+
+/// What the receiver tells of an access unit.
+fn about_unit(unit: &ReceivedUnit) -> String {
+    let numbers = match unit.first == unit.last {
+        true => format!("{}", unit.first),
+        false => format!("{} to {}", unit.first, unit.last),
+    };
+    let missing = format!("{} missing", unit.missing);
+    let facts = [
+        (is_keyframe(unit.extra), "keyframe"),
+        (unit.missing > 0, missing.as_str()),
+        (unit.continues, "goes on with the one before"),
+        (unit.is_whole, "whole"),
+        (!unit.is_whole, "not known to be whole"),
+        (unit.is_clean, "clean"),
+    ];
+    let facts = facts.into_iter().filter(|it| it.0).map(|it| it.1);
+    let facts: Vec<&str> = facts.collect();
+    let bytes = counted(unit.bytes.len() as u64, "byte");
+    format!("access unit of {numbers}, {bytes}: {}", facts.join(", "))
 }
 
 /// A packet's units with their lengths, or how much padding it has alone.

@@ -22,9 +22,10 @@ pub struct Rtp<'a> {
 }
 
 impl Rtp<'_> {
-    /// Whether it has padding alone, as senders put it between pictures to try how much a path carries.
+    /// Whether it has padding alone, as senders put it between pictures to try how much a path carries, or
+    /// nothing.
     pub fn is_padding(&self) -> bool {
-        self.padding > 0 && self.payload.is_empty()
+        self.payload.is_empty()
     }
 }
 

@@ -82,6 +82,8 @@ impl Choice {
 /// What is known of a stream.
 pub struct Known {
     pub stream: Stream,
+    /// The place of its source.
+    source: Option<usize>,
     pub packets: u64,
     pub likeness: Likeness,
     /// How many packets follow the one before them, by their numbers.
@@ -158,9 +160,7 @@ impl Streams {
         named(self.known.iter().filter(|it| it.stream != *stream))
     }
 
-    /// Which of those that are looked at, by their places among these, packets of a stream are numbered
-    /// with.
-    pub fn takers(&self) -> HashMap<Stream, Vec<usize>> {
+    pub fn takers(&self) -> Takers {
         let mut takers: HashMap<Stream, Vec<usize>> = HashMap::new();
         for (at, chosen) in self.chosen().enumerate() {
             let numbered_with = self.known.iter().filter(|it| it.is_numbered_with(chosen));
@@ -168,16 +168,37 @@ impl Streams {
                 takers.entry(other.stream).or_default().push(at);
             }
         }
-        takers
+        Takers { takers, last: None }
+    }
+}
+
+/// Which streams are looked at that packets of a stream are numbered with, by their places.
+pub struct Takers {
+    takers: HashMap<Stream, Vec<usize>>,
+    /// Those of the last stream: most packets are of the same one as the packet before.
+    last: Option<(Stream, Vec<usize>)>,
+}
+
+impl Takers {
+    pub fn of(&mut self, stream: &Stream) -> &[usize] {
+        if self.last.as_ref().is_none_or(|it| it.0 != *stream) {
+            let places = self.takers.get(stream).cloned().unwrap_or_default();
+            self.last = Some((*stream, places));
+        }
+        self.last.as_ref().map_or(&[], |it| &it.1)
     }
 }
 
 /// The streams that were met so far.
 #[derive(Default)]
 struct MetStreams {
-    known: HashMap<Stream, Known>,
+    known: Vec<Known>,
+    places: HashMap<Stream, usize>,
+    /// The place of the stream that the packet before is of: most are of the same one.
+    last_place: usize,
     /// The payload type and the number of the last packet of each of the first `MOST` sources.
-    last: HashMap<Source, (u8, u16)>,
+    last: Vec<(u8, u16)>,
+    sources: HashMap<Source, usize>,
     packets: u64,
     /// Whether no other stream is kept in mind any more.
     is_full: bool,
@@ -187,22 +208,12 @@ impl MetStreams {
     /// Adds a packet; answers what is known of its stream then.
     fn add(&mut self, stream: &Stream, from: (IpAddr, u16), packet: &Rtp<'_>) -> Option<&Known> {
         self.packets += 1;
-        if self.known.len() >= MOST && !self.known.contains_key(stream) && !self.make_room() {
-            return None;
-        }
-        let last = self.last_of_source(stream, packet);
-        let it = self.known.entry(*stream).or_insert_with(|| Known {
-            stream: *stream,
-            packets: 0,
-            likeness: Likeness::default(),
-            following: 0,
-            sequence: packet.sequence.wrapping_sub(1),
-            switches: (0, 0),
-            from,
-            from_before: from,
-            turns: 0,
-            place: self.packets,
-        });
+        self.last_place = self.place_of(stream, from, packet)?;
+        let it = &mut self.known[self.last_place];
+        let of_it = (packet.payload_type, packet.sequence);
+        let last = it
+            .source
+            .map(|at| std::mem::replace(&mut self.last[at], of_it));
         if it.from != from {
             (it.from_before, it.from) = (it.from, from);
             it.turns += 1;
@@ -221,20 +232,62 @@ impl MetStreams {
         Some(it)
     }
 
-    /// The payload type and the number of the packet before this one of its source.
-    fn last_of_source(&mut self, stream: &Stream, packet: &Rtp<'_>) -> Option<(u8, u16)> {
-        let source = stream.source();
-        if self.last.len() >= MOST && !self.last.contains_key(&source) {
+    /// The place of a stream; of a new one where there is room.
+    fn place_of(
+        &mut self,
+        stream: &Stream,
+        from: (IpAddr, u16),
+        packet: &Rtp<'_>,
+    ) -> Option<usize> {
+        let last = self.known.get(self.last_place);
+        if last.is_some_and(|it| it.stream == *stream) {
+            return Some(self.last_place);
+        }
+        if let Some(place) = self.places.get(stream) {
+            return Some(*place);
+        }
+        if self.known.len() >= MOST && !self.make_room() {
             return None;
         }
-        let last = (packet.payload_type, packet.sequence);
-        self.last.insert(source, last)
+        let place = self.known.len();
+        self.places.insert(*stream, place);
+        let source = self.source_of(stream, packet);
+        self.known.push(Known {
+            stream: *stream,
+            source,
+            packets: 0,
+            likeness: Likeness::default(),
+            following: 0,
+            sequence: packet.sequence.wrapping_sub(1),
+            switches: (0, 0),
+            from,
+            from_before: from,
+            turns: 0,
+            place: self.packets,
+        });
+        Some(place)
+    }
+
+    /// The place of a stream's source; of a new one where there is room.
+    fn source_of(&mut self, stream: &Stream, packet: &Rtp<'_>) -> Option<usize> {
+        let place = self.last.len();
+        match self.sources.get(&stream.source()) {
+            Some(place) => Some(*place),
+            None if place >= MOST => None,
+            None => {
+                self.sources.insert(stream.source(), place);
+                self.last.push((packet.payload_type, packet.sequence));
+                Some(place)
+            }
+        }
     }
 
     /// Forgets streams of one packet; whether there is room for another then.
     fn make_room(&mut self) -> bool {
         if !self.is_full {
-            self.known.retain(|_, it| it.packets > 1);
+            self.known.retain(|it| it.packets > 1);
+            let places = self.known.iter().enumerate();
+            self.places = places.map(|(place, it)| (it.stream, place)).collect();
             self.is_full = self.known.len() >= MOST / 2;
         }
         self.known.len() < MOST
@@ -242,7 +295,7 @@ impl MetStreams {
 
     /// All of them, those first in which most packets follow one another.
     fn in_order(self) -> Vec<Known> {
-        let mut known: Vec<Known> = self.known.into_values().collect();
+        let mut known = self.known;
         known.sort_by_key(|it| (Reverse(it.following), it.place));
         known
     }

@@ -1,6 +1,9 @@
 //! What is counted of a stream, and how it is said.
 
+use crate::packets::Captured;
 use crate::streams::counted;
+use emupedestal::CodecExtra;
+use emupedestal::access_unit_receiver::ReceivedUnit;
 
 /// How many losses, and how many kinds of refusals, are named.
 const NAMED: usize = 20;
@@ -26,18 +29,35 @@ pub struct Tally {
     pub too_long: u64,
     pub access_units: u64,
     pub keyframes: u64,
+    /// Access units that are known to be whole, and those behind a whole keyframe with nothing missing.
+    pub whole: u64,
+    pub clean: u64,
     missing: u64,
     gaps: u64,
     /// The first gaps: how many packets before which number.
-    first_gaps: Vec<(u16, u16)>,
+    first_gaps: Vec<(u32, u16)>,
     pub refused: u64,
     /// The first kinds of refusals: why, how many, and the number of the first.
     reasons: Vec<(String, u64, u16)>,
 }
 
 impl Tally {
+    /// Counts a packet that is of the stream.
+    pub fn packet(&mut self, packet: &Captured<'_>) {
+        self.packets += 1;
+        self.bytes += packet.rtp.payload.len() as u64;
+    }
+
+    /// Counts an access unit.
+    pub fn unit(&mut self, unit: &ReceivedUnit) {
+        self.access_units += 1;
+        self.keyframes += u64::from(is_keyframe(unit.extra));
+        self.whole += u64::from(unit.is_whole);
+        self.clean += u64::from(unit.is_clean);
+    }
+
     /// So many packets before this number are missing.
-    pub fn miss(&mut self, sequence: u16, missing: u16) {
+    pub fn miss(&mut self, sequence: u16, missing: u32) {
         if missing == 0 {
             return;
         }
@@ -138,6 +158,21 @@ impl Tally {
         ]
     }
 
+    /// What is known of the access units.
+    pub fn known(&self) -> Vec<String> {
+        let counts = [
+            (self.whole, "known to be whole"),
+            (
+                self.clean,
+                "clean: nothing is missing since a whole keyframe",
+            ),
+        ];
+        let counts = counts.into_iter().filter(|it| it.0 > 0);
+        counts
+            .map(|(count, what)| format!("{}: {what}", counted(count, "access unit")))
+            .collect()
+    }
+
     /// What there is.
     pub fn totals(&self) -> String {
         format!(
@@ -147,5 +182,14 @@ impl Tally {
             counted(self.access_units, "access unit"),
             counted(self.keyframes, "keyframe")
         )
+    }
+}
+
+pub fn is_keyframe(extra: CodecExtra) -> bool {
+    match extra {
+        CodecExtra::H264(told) => told.is_keyframe,
+        CodecExtra::H265(told) => told.is_keyframe,
+        CodecExtra::H266(told) => told.is_keyframe,
+        _ => false,
     }
 }

@@ -44,9 +44,13 @@ fn packets_of_h264() {
             "    9     0.002000           0       4  FU-A S      IDR slice  keyframe",
             "   10     0.003000           0       4  FU-A -      IDR slice",
             "   11     0.004000           0 M     3  FU-A E      IDR slice",
+            "      = access unit of 7 to 11, 33 bytes: keyframe, not known to be whole",
             "   12     0.005000        3000 M     3  single      slice 3",
+            "      = access unit of 12, 7 bytes: whole",
             "   13     0.006000        6000 M     3  FU-A S      slice",
+            "      = access unit of 13, 0 bytes: not known to be whole",
             "1 unit: left out, for want of a packet",
+            "1 access unit: known to be whole",
             "7 packets of 33 bytes, 3 access units, 1 keyframe",
         ],
     );
@@ -71,8 +75,13 @@ fn packets_of_h265() {
             "    7     0.000000           0      12  AP          VPS 3, SPS 3",
             "    8     0.001000           0       5  FU S        IDR_W_RADL  keyframe",
             "    9     0.002000           0 M     4  FU E        IDR_W_RADL",
+            "      = access unit of 7 to 9, 23 bytes: keyframe, not known to be whole",
             "   10     0.003000        3000 M     4  single      TRAIL_R 4",
+            "      = access unit of 10, 8 bytes: whole",
             "   11     0.004000        6000 M     7  PACI        IDR_W_RADL 4  keyframe",
+            "      = access unit of 11, 8 bytes: keyframe, whole, clean",
+            "2 access units: known to be whole",
+            "1 access unit: clean: nothing is missing since a whole keyframe",
             "5 packets of 32 bytes, 3 access units, 2 keyframes",
         ],
     );
@@ -95,6 +104,7 @@ fn packets_of_h265_with_numbers() {
             "    7     0.000000           0      15  AP          VPS 3, SPS 3",
             "    8     0.001000           0       6  FU S        IDR_W_RADL  keyframe",
             "    9     0.002000           0 M     6  single      TRAIL_R 4",
+            "      = access unit of 7 to 9, 22 bytes: not known to be whole",
             "1 unit: left out, for want of a packet",
             "3 packets of 27 bytes, 1 access unit, 0 keyframes",
         ],
@@ -131,7 +141,15 @@ fn packets_of_h266() {
                     "    8     0.001000           0 M {:5}  single      IDR_N_LP 4  keyframe",
                     4 + len
                 ),
+                "      = access unit of 7 to 8, 23 bytes: keyframe, not known to be whole",
                 "    9     0.002000          90 M     6  FU SE       CRA  keyframe",
+                // The number stands before its data.
+                &format!(
+                    "      = access unit of 9, {} bytes: keyframe, whole, clean",
+                    9 - len
+                ),
+                "1 access unit: known to be whole",
+                "1 access unit: clean: nothing is missing since a whole keyframe",
                 &format!(
                     "3 packets of {} bytes, 2 access units, 2 keyframes",
                     23 + 2 * len
@@ -153,11 +171,15 @@ fn what_is_lost_refused_and_late() {
         3,
         &[
             "    5     0.000000         450 M     3  single      slice 3",
+            "      = access unit of 5, 7 bytes: not known to be whole",
             "      ! lost: 1 packet before 7",
             "    7     0.002000         630 M     3  single      slice 3",
             "      ! it came behind a later packet",
+            "      = access unit of 7, 7 bytes: 1 missing, not known to be whole",
             "    8     0.001000         720 M     3  single      slice 3",
+            "      = access unit of 8, 7 bytes: whole",
             "    9     0.003000         810 M     3  single      slice 3",
+            "      = access unit of 9, 7 bytes: whole",
             "    9     0.004000         810 M     3  single      slice 3",
             "      ! not taken: it came twice, or late, 1 behind",
             "   10     0.005000         900 M     2  single      ",
@@ -166,6 +188,7 @@ fn what_is_lost_refused_and_late() {
             "1 packet: not taken, come twice or too late (--window)",
             "1 packet: put before those that came earlier",
             "refused: 1 packet, the first is 10: type 30 is undefined or reserved; a payload needs type 1 to 23, 24 (STAP-A) or 28 (FU-A) (RFC 6184, 5.2)",
+            "2 access units: known to be whole",
             "6 packets of 17 bytes, 4 access units, 0 keyframes",
         ],
     );
@@ -174,13 +197,7 @@ fn what_is_lost_refused_and_late() {
 /// Each way to be too short says what is missing, in the words of its section.
 #[test]
 fn what_refused_packets_lack() {
-    let rows: [(&str, &[&str], &[u8], &str); 13] = [
-        (
-            "h264",
-            &[],
-            &[],
-            "the payload is empty; it needs a NAL unit header of one byte (RFC 6184, 1.3)",
-        ),
+    let rows: [(&str, &[&str], &[u8], &str); 12] = [
         (
             "h264",
             &[],

@@ -17,6 +17,7 @@ mod padding;
 mod peers;
 mod pipes;
 mod program;
+mod received;
 mod rtsp;
 mod sdp;
 mod sdp_peers;

@@ -57,5 +57,5 @@ fn between_packets() {
     folder.write("in.pcap", &capture(&packets));
     folder
         .run(&["inspect", "in.pcap", "--summary"])
-        .says(3, &["lost: 1 packet: 1 before 4"]);
+        .says(3, &["lost: 1 packet: 1 before 2"]);
 }

@@ -53,6 +53,13 @@ fn objects_of_json() {
         object.as_object_mut().expect("an object").extend(more);
         object
     };
+    let unit = |sequence: u16, bytes: usize, missing: u32| {
+        json!({
+            "is": "access unit", "timestamp": u32::from(sequence) * 90, "bytes": bytes,
+            "keyframe": false, "first": sequence, "last": sequence, "missing": missing,
+            "continues": false, "whole": false, "clean": false,
+        })
+    };
     let slice = json!([{"type": "slice", "bytes": 3}]);
     let refused = "type 30 is undefined or reserved; a payload needs type 1 to 23, 24 (STAP-A) or 28 \
         (FU-A) (RFC 6184, 5.2)";
@@ -68,6 +75,7 @@ fn objects_of_json() {
                 "units": [{"type": "SPS", "bytes": 4}, {"type": "PPS", "bytes": 2}],
             }),
         ),
+        unit(5, 14, 0),
         with(
             common(6, 0.001, true, 3),
             json!({
@@ -75,12 +83,14 @@ fn objects_of_json() {
                 "units": [{"type": "IDR slice", "first": true, "last": false}],
             }),
         ),
+        unit(6, 0, 0),
         with(
             common(9, 0.002, true, 3),
             json!({
                 "became": "taken", "gave_up": true, "lost_before": 2, "units": slice,
             }),
         ),
+        unit(9, 7, 2),
         with(
             common(9, 0.003, true, 3),
             json!({"became": "late", "units": slice}),
@@ -95,13 +105,15 @@ fn objects_of_json() {
         }),
         json!({"is": "stray", "sequence": 30_000}),
     ];
-    assert_eq!(objects[..8], wanted);
-    let totals = &objects[8];
+    assert_eq!(objects[..11], wanted);
+    let totals = &objects[11];
     for (name, count) in [
         ("packets", 6),
         ("bytes", 22),
         ("access_units", 3),
         ("keyframes", 0),
+        ("whole", 0),
+        ("clean", 0),
         ("lost", 2),
         ("refused", 0),
         ("late", 2),
