@@ -191,8 +191,10 @@ impl Reception {
             self.waiting.put(packet, due);
             return Ok(());
         }
+        let sequence = packet.rtp.sequence;
+        let is_last = step.unit.as_ref().is_some_and(|it| it.last == sequence);
         self.pass(packet, false, &mut step, tell)?;
-        match self.end_step(step, tell)? {
+        match self.end_step(step, tell)? && !is_last {
             true => self.drain(tell),
             false => Ok(()),
         }
