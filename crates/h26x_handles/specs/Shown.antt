@@ -1,5 +1,5 @@
 -- What a depacketizer of H.265 shows, in numbers and parts.
-use Rattle.std.specs.Prelude.{ℕ, List, [], ◌∷◌, ◌++◌, map, Option, Some, None}
+use Rattle.std.specs.Prelude.{ℕ, Bool, true, false, List, [], ◌∷◌, ◌++◌, map, Option, Some, None}
 use Rattle.std.specs.List.{slice_get}
 use Rattle.h265_packets.specs.Payload.{FirstUnit, OtherUnit}
 use Rattle.h265_packets.specs.declared.payload.H265Payload.{H265Payload}
