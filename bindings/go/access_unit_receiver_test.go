@@ -397,6 +397,30 @@ func TestDefaultsOfSettings(t *testing.T) {
 	pushes(t, r, 0, 400, 0, false, packet, h26x.Full)
 }
 
+// An open unit may hold 4,000,000 bytes without a setting, an open access unit 8,000,000.
+func TestDefaultLimitsOfWhatIsOpen(t *testing.T) {
+	for more := 0; more < 2; more++ {
+		r := newAccessUnitReceiver(t, h26x.H264, h26x.AccessUnitConfig{Window: 1})
+		pushes(t, r, 0, 1, 0, false, append(some("7c85"), make([]byte, 4_000_000+more)...), h26x.Held)
+		pushes(t, r, 0, 2, 0, true, some("7c45ff"), h26x.Held)
+		unit, err := r.Next(0)
+		done(t, err)
+		counted, err := r.Counts()
+		done(t, err)
+		if wanted := (1 - more) * (4 + 1 + 4_000_000 + 1); len(unit.Data) != wanted || counted.UnitsGivenUp != uint64(more) {
+			t.Errorf("%d bytes more: got %d, and %d given up", more, len(unit.Data), counted.UnitsGivenUp)
+		}
+		r = newAccessUnitReceiver(t, h26x.H264, h26x.AccessUnitConfig{Window: 1})
+		pushes(t, r, 0, 1, 0, false, append(some("61"), make([]byte, 8_000_000-4-1+more)...), h26x.Held)
+		done(t, r.Finish())
+		unit, err = r.Next(0)
+		done(t, err)
+		if len(unit.Data) != (1-more)*8_000_000 {
+			t.Errorf("%d bytes more: got %d", more, len(unit.Data))
+		}
+	}
+}
+
 func TestSettingsThatAreRefused(t *testing.T) {
 	for _, it := range []struct {
 		codec  h26x.Codec

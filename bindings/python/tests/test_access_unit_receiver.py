@@ -285,6 +285,20 @@ def test_defaults() -> None:
     pushes(receiver, 0, (400, 0, False, packet), FULL)
 
 
+@pytest.mark.parametrize("more", [0, 1])
+def test_default_limits_of_what_is_open(more: int) -> None:
+    """An open unit may hold 4,000,000 bytes, an open access unit 8,000,000."""
+    receiver = AccessUnitReceiver(Codec.H264, AccessUnitConfig(window=1))
+    pushes(receiver, 0, (1, 0, False, b"\x7c\x85" + bytes(4_000_000 + more)))
+    pushes(receiver, 0, (2, 0, True, b"\x7c\x45\xff"))
+    assert [len(unit.data) for unit in receiver.units(0)] == [(1 - more) * 4_000_006]
+    assert receiver.counts().units_given_up == more
+    receiver = AccessUnitReceiver(Codec.H264, AccessUnitConfig(window=1))
+    pushes(receiver, 0, (1, 0, False, b"\x61" + bytes(8_000_000 - 5 + more)))
+    receiver.finish()
+    assert [len(unit.data) for unit in receiver.units(0)] == [(1 - more) * 8_000_000]
+
+
 def test_settings_of_nothing() -> None:
     """No wait, and limits of 0 bytes: what waits is due, and what is open between packets is given up."""
     key, slice_ = PICTURES[Codec.H264]
