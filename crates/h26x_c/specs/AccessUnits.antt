@@ -1,15 +1,13 @@
 -- What a caller of C sets and is told, and what a call for the next access unit answers.
-use Rattle.std.specs.Prelude.{◌≡◌, ℕ, List, Result, Some}
+use Rattle.std.specs.Prelude.{◌≡◌, ℕ, List, Result}
 use Rattle.h26x_access_units.specs.declared.config.AccessUnitConfig.{AccessUnitConfig}
 use Rattle.h26x_access_units.specs.declared.counts.Counts as counted
 use Rattle.h26x_c.specs.declared.access_units.Config.{Config}
 use Rattle.h26x_c.specs.declared.access_units.Counts.{Counts}
 use Rattle.h26x_codec.specs.declared.codec.Codec.{Codec}
-use Rattle.h26x_handles.specs.AccessUnitEndpoint.{AccessUnitEndpoint, units_codec_or_code, next_numbers, IsUnitGiven, IsOutOfMemory}
-use Rattle.h26x_handles.specs.AccessUnits.{endpoint_units, fresh_units_endpoint}
+use Rattle.h26x_handles.specs.UnitsState.{UnitsState, units_codec_or_code, fresh_access_units, next_numbers, IsUnitGiven}
 use Rattle.h26x_handles.specs.declared.access_units.NextAnswer.{NextAnswer}
 use Rattle.h26x_handles.specs.declared.access_units.UnitTold.{UnitTold}
-use Rattle.h26x_handles.specs.declared.endpoint.Endpoint.{Endpoint}
 
 -- the settings of a receiver
 abbrev pub units_config : Config → AccessUnitConfig
@@ -27,9 +25,9 @@ abbrev pub config_codec_or_code : Config → Result Codec ℕ
 config_codec_or_code config = units_codec_or_code config.codec config.numbers config.window
 
 -- such a receiver
-abbrev pub fresh_units_with : Codec → Config → Endpoint
+abbrev pub fresh_units_with : Codec → Config → UnitsState
 fresh_units_with codec config =
-    fresh_units_endpoint codec config.numbers config.avc (units_config config)
+    fresh_access_units codec config.numbers config.avc (units_config config)
 
 -- what was counted, as C is told it
 abbrev pub counts_told : counted.Counts → Counts
@@ -48,13 +46,7 @@ counts_told counts = record {
 }
 
 -- the code and what is told say what came of a call for the next access unit, and that came of it
-abbrev pub IsNextCode : ℕ → AccessUnitEndpoint → Endpoint → List ℕ → List ℕ → ℕ → UnitTold →
-    UnitTold → Type 0
-IsNextCode now it stands to new_to code told new_told = (new : AccessUnitEndpoint)
-    × (endpoint_units stands ≡ Some new) × (answer : NextAnswer)
+abbrev pub IsNextCode : ℕ → UnitsState → UnitsState → List ℕ → List ℕ → ℕ → UnitTold → UnitTold →
+    Type 0
+IsNextCode now it new to new_to code told new_told = (answer : NextAnswer)
     × ((code, new_told) ≡ next_numbers answer told) × IsUnitGiven now it new to new_to answer
-
--- what stands where memory lacked for it
-abbrev pub IsNextWithoutMemory : ℕ → AccessUnitEndpoint → Endpoint → Type 0
-IsNextWithoutMemory now it stands = (new : AccessUnitEndpoint)
-    × (endpoint_units stands ≡ Some new) × IsOutOfMemory now it new

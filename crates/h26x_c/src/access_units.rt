@@ -3,11 +3,11 @@
 ghost use Rattle.std.specs.Prelude.{◌≡◌, ◌≢◌, ◌⊎◌, ◌<◌, ◌≤◌, ◌^◌, ℕ, [], true, false, Some, None, Ok, Err, length};
 ghost use Rattle.h26x_codec.specs.declared.codec.Codec.{Codec};
 ghost use Rattle.h26x_frames.specs.Rtp.{rtp_body};
-ghost use Rattle.h26x_handles.specs.AccessUnitEndpoint.{AccessUnitEndpoint, pushed_numbers, units_push_answer};
-ghost use Rattle.h26x_handles.specs.AccessUnits.{is_access_units, endpoint_units, endpoint_after_push, endpoint_deadline, endpoint_missing, endpoint_finished, endpoint_units_restarted};
+ghost use Rattle.h26x_handles.specs.AccessUnits.{is_access_units, endpoint_units, endpoint_deadline, endpoint_missing};
+ghost use Rattle.h26x_handles.specs.UnitsState.{UnitsState, pushed_numbers, units_push_answer, units_after_push, units_finished, units_restarted, IsOutOfMemory};
 ghost use Rattle.h26x_handles.specs.Codes.{ok, out_of_memory, wrong_end};
 ghost use Rattle.h26x_handles.specs.Copies.{with_first};
-ghost use Rattle.h26x_c.specs.AccessUnits.{config_codec_or_code, fresh_units_with, units_config, counts_told, IsNextCode, IsNextWithoutMemory};
+ghost use Rattle.h26x_c.specs.AccessUnits.{config_codec_or_code, fresh_units_with, units_config, counts_told, IsNextCode};
 
 use crate::const_handle::ConstHandle;
 use crate::handle::Handle;
@@ -16,7 +16,7 @@ use h26x_access_units::{self, AccessUnitConfig, Pushed};
 use h26x_core::PacketError;
 use h26x_frames::RtpPacket;
 use h26x_handles::access_units::{
-    AnyAccessUnitEndpoint, UnitTold, code_of_next, numbers_of_push, units_codec_wanted,
+    AccessUnitEndpoint, GivesUnits, UnitTold, code_of_next, numbers_of_push, units_codec_wanted,
 };
 use h26x_handles::code::{OK, OUT_OF_MEMORY, WRONG_END};
 use h26x_handles::endpoint::Endpoint;
@@ -93,14 +93,15 @@ pub extern "C" fn h26x_access_units_new(alloc: Global, config: &Config, made: &m
     ensures refused { (code : ℕ) → config_codec_or_code config.now ≡ Err code → result ≡ code }
     ensures answer { (c : Codec) → config_codec_or_code config.now ≡ Ok c →
         (result ≡ ok) ⊎ (result ≡ out_of_memory) }
-    ensures made { (c : Codec) → config_codec_or_code config.now ≡ Ok c → result ≡ ok →
-        made.new.value ≡ Some (fresh_units_with c config.now) }
+    ensures made { let v = ⟦<AccessUnitEndpoint as GivesUnits>⟧.units in (c : Codec) →
+        config_codec_or_code config.now ≡ Ok c → result ≡ ok → (it : Endpoint)
+        × (made.new.value ≡ Some it) × (endpoint_units v it ≡ Some (fresh_units_with c config.now)) }
     ensures kept { result ≢ ok → made.new ≡ made.old }
 {
     match units_codec_wanted(config.codec, config.numbers, config.window) {
         Ok(codec) => put(
             alloc,
-            Endpoint::AccessUnits(AnyAccessUnitEndpoint::new(
+            Endpoint::AccessUnits(AccessUnitEndpoint::new(
                 alloc,
                 codec,
                 config.numbers,
@@ -151,14 +152,18 @@ pub extern "C" fn h26x_access_units_push(
     pushed: &mut u32,
     behind: &mut u16,
 ) -> u32
-    ensures wrong { is_access_units u.old.value ≡ false → result ≡ wrong_end }
+    ensures wrong { is_access_units u.old.value ≡ false → (result ≡ wrong_end)
+        × (u.new.value ≡ u.old.value) }
     ensures answer { is_access_units u.old.value ≡ true → (result ≡ ok) ⊎ (result ≡ out_of_memory) }
-    ensures told { (it : AccessUnitEndpoint) → endpoint_units u.old.value ≡ Some it → result ≡ ok →
+    ensures told { let v = ⟦<AccessUnitEndpoint as GivesUnits>⟧.units in (it : UnitsState) →
+        endpoint_units v u.old.value ≡ Some it → result ≡ ok →
         (pushed.new, behind.new) ≡ pushed_numbers
         (units_push_answer it (sequence, rtp_body timestamp marker payload.now)) }
-    ensures after { result ≡ ok → u.new.value
-        ≡ endpoint_after_push now (sequence, rtp_body timestamp marker payload.now) u.old.value }
-    ensures kept { result ≢ ok → u.new.value ≡ u.old.value }
+    ensures after { let v = ⟦<AccessUnitEndpoint as GivesUnits>⟧.units in (it : UnitsState) →
+        endpoint_units v u.old.value ≡ Some it → result ≡ ok → endpoint_units v u.new.value
+        ≡ Some (units_after_push now (sequence, rtp_body timestamp marker payload.now) it) }
+    ensures kept { let v = ⟦<AccessUnitEndpoint as GivesUnits>⟧.units in
+        result ≢ ok → endpoint_units v u.new.value ≡ endpoint_units v u.old.value }
     ensures kept_told { result ≢ ok → (pushed.new ≡ pushed.old) × (behind.new ≡ behind.old) }
 {
     let packet = RtpPacket {
@@ -182,14 +187,18 @@ pub extern "C" fn h26x_access_units_skip(
     pushed: &mut u32,
     behind: &mut u16,
 ) -> u32
-    ensures wrong { is_access_units u.old.value ≡ false → result ≡ wrong_end }
+    ensures wrong { is_access_units u.old.value ≡ false → (result ≡ wrong_end)
+        × (u.new.value ≡ u.old.value) }
     ensures answer { is_access_units u.old.value ≡ true → (result ≡ ok) ⊎ (result ≡ out_of_memory) }
-    ensures told { (it : AccessUnitEndpoint) → endpoint_units u.old.value ≡ Some it → result ≡ ok →
+    ensures told { let v = ⟦<AccessUnitEndpoint as GivesUnits>⟧.units in (it : UnitsState) →
+        endpoint_units v u.old.value ≡ Some it → result ≡ ok →
         (pushed.new, behind.new) ≡ pushed_numbers
         (units_push_answer it (sequence, rtp_body 0 false [])) }
-    ensures after { result ≡ ok → u.new.value
-        ≡ endpoint_after_push now (sequence, rtp_body 0 false []) u.old.value }
-    ensures kept { result ≢ ok → u.new.value ≡ u.old.value }
+    ensures after { let v = ⟦<AccessUnitEndpoint as GivesUnits>⟧.units in (it : UnitsState) →
+        endpoint_units v u.old.value ≡ Some it → result ≡ ok → endpoint_units v u.new.value
+        ≡ Some (units_after_push now (sequence, rtp_body 0 false []) it) }
+    ensures kept { let v = ⟦<AccessUnitEndpoint as GivesUnits>⟧.units in
+        result ≢ ok → endpoint_units v u.new.value ≡ endpoint_units v u.old.value }
     ensures kept_told { result ≢ ok → (pushed.new ≡ pushed.old) × (behind.new ≡ behind.old) }
 {
     match u.get_mut() {
@@ -210,11 +219,13 @@ pub extern "C" fn h26x_access_units_next(
         × (u.new.value ≡ u.old.value) }
     ensures kept { is_access_units u.old.value ≡ false → (to.new ≡ to.old)
         × (unit.new ≡ unit.old) }
-    ensures given { (it : AccessUnitEndpoint) → endpoint_units u.old.value ≡ Some it →
-        result ≢ out_of_memory →
-        IsNextCode now it u.new.value to.old to.new result unit.old unit.new }
-    ensures taken { (it : AccessUnitEndpoint) → endpoint_units u.old.value ≡ Some it →
-        result ≡ out_of_memory → IsNextWithoutMemory now it u.new.value }
+    ensures given { let v = ⟦<AccessUnitEndpoint as GivesUnits>⟧.units in (it : UnitsState) →
+        endpoint_units v u.old.value ≡ Some it → result ≢ out_of_memory → (new : UnitsState)
+        × (endpoint_units v u.new.value ≡ Some new)
+        × IsNextCode now it new to.old to.new result unit.old unit.new }
+    ensures taken { let v = ⟦<AccessUnitEndpoint as GivesUnits>⟧.units in (it : UnitsState) →
+        endpoint_units v u.old.value ≡ Some it → result ≡ out_of_memory → (new : UnitsState)
+        × (endpoint_units v u.new.value ≡ Some new) × IsOutOfMemory now it new }
     ensures none { result ≡ out_of_memory → (to.new ≡ to.old) × (unit.new ≡ unit.old) }
 {
     match u.get_mut() {
@@ -229,9 +240,10 @@ pub extern "C" fn h26x_access_units_next(
 /// When to ask for the next access unit at the latest, if packets wait.
 #[unsafe(no_mangle)]
 pub extern "C" fn h26x_access_units_deadline(u: &ConstHandle, at: &mut u32) -> bool
-    ensures tick { (tick : ℕ) → endpoint_deadline u.now.value ≡ Some tick →
-        (result ≡ true) × (at.new ≡ tick) }
-    ensures none { endpoint_deadline u.now.value ≡ None → (result ≡ false) × (at.new ≡ at.old) }
+    ensures tick { let v = ⟦<AccessUnitEndpoint as GivesUnits>⟧.units in (tick : ℕ) →
+        endpoint_deadline v u.now.value ≡ Some tick → (result ≡ true) × (at.new ≡ tick) }
+    ensures none { let v = ⟦<AccessUnitEndpoint as GivesUnits>⟧.units in
+        endpoint_deadline v u.now.value ≡ None → (result ≡ false) × (at.new ≡ at.old) }
 {
     let deadline = match u.get() {
         Endpoint::AccessUnits(it) => it.deadline(),
@@ -255,9 +267,10 @@ pub extern "C" fn h26x_access_units_missing(
 ) -> u32
     ensures wrong { is_access_units u.now.value ≡ false → result ≡ wrong_end }
     ensures answer { is_access_units u.now.value ≡ true → (result ≡ ok) ⊎ (result ≡ out_of_memory) }
-    ensures count { result ≡ ok → count.new ≡ length (endpoint_missing u.now.value) }
-    ensures copied { result ≡ ok →
-        numbers.new ≡ with_first (endpoint_missing u.now.value) numbers.old }
+    ensures count { let v = ⟦<AccessUnitEndpoint as GivesUnits>⟧.units in
+        result ≡ ok → count.new ≡ length (endpoint_missing v u.now.value) }
+    ensures copied { let v = ⟦<AccessUnitEndpoint as GivesUnits>⟧.units in
+        result ≡ ok → numbers.new ≡ with_first (endpoint_missing v u.now.value) numbers.old }
     ensures none { result ≢ ok → (count.new ≡ 0) × (numbers.new ≡ numbers.old) }
 {
     *count = 0;
@@ -278,8 +291,9 @@ pub extern "C" fn h26x_access_units_missing(
 pub extern "C" fn h26x_access_units_finish(u: &mut Handle) -> u32
     ensures wrong { is_access_units u.old.value ≡ false → (result ≡ wrong_end)
         × (u.new.value ≡ u.old.value) }
-    ensures finished { is_access_units u.old.value ≡ true → (result ≡ ok)
-        × (u.new.value ≡ endpoint_finished u.old.value) }
+    ensures finished { let v = ⟦<AccessUnitEndpoint as GivesUnits>⟧.units in (it : UnitsState) →
+        endpoint_units v u.old.value ≡ Some it → (result ≡ ok)
+        × (endpoint_units v u.new.value ≡ Some (units_finished it)) }
 {
     match u.get_mut() {
         Endpoint::AccessUnits(it) => {
@@ -295,8 +309,9 @@ pub extern "C" fn h26x_access_units_finish(u: &mut Handle) -> u32
 pub extern "C" fn h26x_access_units_restart(u: &mut Handle) -> u32
     ensures wrong { is_access_units u.old.value ≡ false → (result ≡ wrong_end)
         × (u.new.value ≡ u.old.value) }
-    ensures restarted { is_access_units u.old.value ≡ true → (result ≡ ok)
-        × (u.new.value ≡ endpoint_units_restarted u.old.value) }
+    ensures restarted { let v = ⟦<AccessUnitEndpoint as GivesUnits>⟧.units in (it : UnitsState) →
+        endpoint_units v u.old.value ≡ Some it → (result ≡ ok)
+        × (endpoint_units v u.new.value ≡ Some (units_restarted it)) }
 {
     match u.get_mut() {
         Endpoint::AccessUnits(it) => {
@@ -311,7 +326,8 @@ pub extern "C" fn h26x_access_units_restart(u: &mut Handle) -> u32
 #[unsafe(no_mangle)]
 pub extern "C" fn h26x_access_units_count(u: &ConstHandle, counts: &mut Counts) -> u32
     ensures wrong { is_access_units u.now.value ≡ false → result ≡ wrong_end }
-    ensures counts { (it : AccessUnitEndpoint) → endpoint_units u.now.value ≡ Some it →
+    ensures counts { let v = ⟦<AccessUnitEndpoint as GivesUnits>⟧.units in (it : UnitsState) →
+        endpoint_units v u.now.value ≡ Some it →
         (result ≡ ok) × (counts.new ≡ counts_told it.reception.counts) }
     ensures kept { result ≢ ok → counts.new ≡ counts.old }
 {

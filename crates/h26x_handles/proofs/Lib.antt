@@ -1,3 +1,4 @@
+pub mod AccessUnitLemmas
 pub mod CopyLemmas
 pub mod MemoryLemmas
 pub mod PlacementLemmas

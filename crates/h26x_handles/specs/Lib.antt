@@ -4,5 +4,5 @@ pub mod Endpoint
 pub mod States
 pub mod Shown
 pub mod PlacementAnswer
-pub mod AccessUnitEndpoint
+pub mod UnitsState
 pub mod AccessUnits

@@ -5,7 +5,7 @@ ghost use Rattle.std.specs.Prelude.{◌≡◌, ◌≢◌, ◌<◌, ◌≤◌, �
 ghost use Rattle.h26x_access_units.specs.ReceivedUnit.{received_unit_value};
 ghost use Rattle.h26x_access_units.specs.Reception.{reception_answer, after_reception};
 ghost use Rattle.h26x_frames.specs.Rtp.{rtp_body};
-ghost use Rattle.h26x_handles.specs.AccessUnitEndpoint.{units_codec_or_code, fresh_access_units, units_with_reception, pushed_numbers, unit_told, next_answer, with_unit, unit_without_room, units_push_answer, units_after_push, IsUnitGiven, IsOutOfMemory, next_numbers, units_deadline, units_missing, units_finished, units_restarted};
+ghost use Rattle.h26x_handles.specs.UnitsState.{units_codec_or_code, fresh_access_units, pushed_numbers, unit_told, next_answer, with_unit, unit_without_room, units_push_answer, units_after_push, IsUnitGiven, IsOutOfMemory, next_numbers, units_deadline, units_missing, units_finished, units_restarted};
 ghost use Rattle.h26x_handles.specs.Copies.{with_first};
 
 use crate::code::{NO_ROOM, NOTHING_YET, OK, OUT_OF_RANGE, codec_wanted, number_of};
@@ -18,7 +18,6 @@ use h26x_core::PacketError;
 use h26x_frames::RtpPacket;
 use h26x_receiver::AnyPayloadDepacketizer;
 use std::alloc::Global;
-use std::marker::Model;
 
 /// What is told of an access unit.
 #[repr(C)]
@@ -108,30 +107,38 @@ fn told_of(unit: &ReceivedUnit) -> UnitTold
 /// A receiver of access units of a codec, and the access unit that had no room where it was to be
 /// written.
 #[derive(Drop)]
-pub struct AccessUnitEndpoint<R: Receives> {
+pub struct AccessUnitEndpoint {
     codec: Codec,
-    receiver: R,
+    receiver: AccessUnitReceiver<AnyPayloadDepacketizer>,
     left: Option<ReceivedUnit>,
 }
 
-impl<R: Receives> Model for AccessUnitEndpoint<R> {
-    ghost use Rattle.std.specs.Option.{option_map};
-    ghost use Rattle.h26x_access_units.specs.ReceivedUnit.{received_unit_value};
-    ghost use Rattle.h26x_handles.specs.AccessUnitEndpoint.{AccessUnitEndpoint};
+/// What such an endpoint is to contracts.
+pub trait GivesUnits: Drop {
+    ghost use Rattle.h26x_handles.specs.UnitsState.{UnitsState};
 
-    ghost Value = { AccessUnitEndpoint };
+    ghost units: { Self → UnitsState };
 
-    ghost view = { λ it. record {
-      codec = it.codec;
-      reception = R.reception it.receiver;
-      left = option_map received_unit_value it.left;
-    } };
+    /// What was counted.
+    fn counts(&self) -> Counts
+        ensures { result ≡ (units self.now).reception.counts };
 }
 
-/// A receiver of access units of a codec that is chosen when it is made.
-pub type AnyAccessUnitEndpoint = AccessUnitEndpoint<AccessUnitReceiver<AnyPayloadDepacketizer>>;
+impl GivesUnits for AccessUnitEndpoint {
+    ghost use Rattle.std.specs.Option.{option_map};
+    ghost use Rattle.h26x_access_units.specs.ReceivedUnit.{received_unit_value};
+    ghost use Rattle.h26x_handles.specs.UnitsState.{units_state};
 
-impl AccessUnitEndpoint<AccessUnitReceiver<AnyPayloadDepacketizer>> {
+    ghost units = { λ it. units_state it.codec
+        (⟦<AccessUnitReceiver<AnyPayloadDepacketizer> as Receives>⟧.reception it.receiver)
+        (option_map received_unit_value it.left) };
+
+    fn counts(&self) -> Counts {
+        self.receiver.counts()
+    }
+}
+
+impl AccessUnitEndpoint {
     /// A receiver that takes any sequence number as the first.
     pub fn new(
         alloc: Global,
@@ -142,7 +149,8 @@ impl AccessUnitEndpoint<AccessUnitReceiver<AnyPayloadDepacketizer>> {
     ) -> Self
         requires some { 0 < config.window }
         requires half { config.window ≤ 2 ^ 14 }
-        ensures { result ≡ fresh_access_units codec has_donl is_avc config }
+        ensures { let u = ⟦<AccessUnitEndpoint as GivesUnits>⟧.units in
+            u result ≡ fresh_access_units codec has_donl is_avc config }
     {
         let mut depacketizer = AnyPayloadDepacketizer::new(alloc, codec);
         depacketizer.with_donl(has_donl);
@@ -157,23 +165,26 @@ impl AccessUnitEndpoint<AccessUnitReceiver<AnyPayloadDepacketizer>> {
     /// Takes a packet that came at this tick, and copies it where it waits. Without memory all stays as
     /// it was, and it can be given again.
     pub fn push(&mut self, now: u32, packet: &RtpPacket<'_>) -> Result<Pushed, PacketError>
-        ensures answer { IfOk result (λ answer. answer ≡ units_push_answer self.old packet.now) }
-        ensures after { IfOk result (λ answer.
-            self.new ≡ units_after_push now packet.now self.old) }
+        ensures answer { let u = ⟦<AccessUnitEndpoint as GivesUnits>⟧.units in
+            IfOk result (λ answer. answer ≡ units_push_answer (u self.old) packet.now) }
+        ensures after { let u = ⟦<AccessUnitEndpoint as GivesUnits>⟧.units in
+            IfOk result (λ answer. u self.new ≡ units_after_push now packet.now (u self.old)) }
         ensures memory { OnErr result (result ≡ Err PacketError.OutOfMemory) }
-        ensures kept { OnErr result (self.new ≡ self.old) }
+        ensures kept { let u = ⟦<AccessUnitEndpoint as GivesUnits>⟧.units in
+            OnErr result (u self.new ≡ u self.old) }
     {
         self.receiver.push(now, packet)
     }
 
     /// Passes over a number that came and bears nothing of the stream: it isn't missing.
     pub fn skip(&mut self, now: u32, sequence: u16) -> Result<Pushed, PacketError>
-        ensures answer { IfOk result (λ answer.
-            answer ≡ units_push_answer self.old (sequence, rtp_body 0 false [])) }
-        ensures after { IfOk result (λ answer.
-            self.new ≡ units_after_push now (sequence, rtp_body 0 false []) self.old) }
+        ensures answer { let u = ⟦<AccessUnitEndpoint as GivesUnits>⟧.units in IfOk result (λ answer.
+            answer ≡ units_push_answer (u self.old) (sequence, rtp_body 0 false [])) }
+        ensures after { let u = ⟦<AccessUnitEndpoint as GivesUnits>⟧.units in IfOk result (λ answer.
+            u self.new ≡ units_after_push now (sequence, rtp_body 0 false []) (u self.old)) }
         ensures memory { OnErr result (result ≡ Err PacketError.OutOfMemory) }
-        ensures kept { OnErr result (self.new ≡ self.old) }
+        ensures kept { let u = ⟦<AccessUnitEndpoint as GivesUnits>⟧.units in
+            OnErr result (u self.new ≡ u self.old) }
     {
         self.receiver.skip(now, sequence)
     }
@@ -182,30 +193,31 @@ impl AccessUnitEndpoint<AccessUnitReceiver<AnyPayloadDepacketizer>> {
     /// receiver gives out. It goes to the caller's memory where there is room for it, and else is kept
     /// for the next call. Without memory the packet for which it lacks is due still.
     pub fn next(&mut self, now: u32, to: &mut [u8]) -> Result<NextAnswer, PacketError>
-        ensures given { IfOk result (λ answer.
-            IsUnitGiven now self.old self.new to.old to.new answer) }
+        ensures given { let u = ⟦<AccessUnitEndpoint as GivesUnits>⟧.units in IfOk result (λ answer.
+            IsUnitGiven now (u self.old) (u self.new) to.old to.new answer) }
         ensures memory { OnErr result (result ≡ Err PacketError.OutOfMemory) }
-        ensures taken { OnErr result (IsOutOfMemory now self.old self.new) }
+        ensures taken { let u = ⟦<AccessUnitEndpoint as GivesUnits>⟧.units in
+            OnErr result (IsOutOfMemory now (u self.old) (u self.new)) }
         ensures kept_to { OnErr result (to.new ≡ to.old) }
     {
-        let unit = match self.left.take() {
-            Some(unit) => unit,
-            None => match self.receiver.next(now)? {
-                Some(unit) => unit,
-                None => return Ok(NextAnswer::NothingYet),
-            },
+        if let Some(unit) = self.left.take() {
+            return Ok(self.give(unit, to));
+        }
+        let Some(unit) = self.receiver.next(now)? else {
+            return Ok(NextAnswer::NothingYet);
         };
         Ok(self.give(unit, to))
     }
 
     /// Gives out an access unit where there is room for it, and takes its memory back; else keeps it.
     fn give(&mut self, unit: ReceivedUnit, to: &mut [u8]) -> NextAnswer
-        requires { self.old.left ≡ None }
+        requires { let u = ⟦<AccessUnitEndpoint as GivesUnits>⟧.units in (u self.old).left ≡ None }
         ensures answer { result ≡ next_answer (Some (received_unit_value unit)) to.old }
         ensures put { to.new ≡ with_unit (Some (received_unit_value unit)) to.old }
-        ensures after { self.new ≡ record self.old {
-          left = unit_without_room (Some (received_unit_value unit)) to.old;
-        } }
+        ensures after { let u = ⟦<AccessUnitEndpoint as GivesUnits>⟧.units in
+            u self.new ≡ record (u self.old) {
+              left = unit_without_room (Some (received_unit_value unit)) to.old;
+            } }
     {
         let told = told_of(&unit);
         if copy_where_room(&unit.bytes, to) > to.len() {
@@ -218,7 +230,8 @@ impl AccessUnitEndpoint<AccessUnitReceiver<AnyPayloadDepacketizer>> {
 
     /// When to ask for the next access unit at the latest, in the caller's ticks, if packets wait.
     pub fn deadline(&self) -> Option<u32>
-        ensures { result ≡ units_deadline self.now }
+        ensures { let u = ⟦<AccessUnitEndpoint as GivesUnits>⟧.units in
+            result ≡ units_deadline (u self.now) }
     {
         self.receiver.deadline()
     }
@@ -226,9 +239,10 @@ impl AccessUnitEndpoint<AccessUnitReceiver<AnyPayloadDepacketizer>> {
     /// Copies the numbers that are missing before packets that wait, in order, as many as there is room
     /// for; how many they all are.
     pub fn missing(&self, to: &mut [u16]) -> Result<usize, PacketError>
-        ensures count { IfOk result (λ count. count ≡ length (units_missing self.now)) }
-        ensures copied { IfOk result (λ count.
-            to.new ≡ with_first (units_missing self.now) to.old) }
+        ensures count { let u = ⟦<AccessUnitEndpoint as GivesUnits>⟧.units in
+            IfOk result (λ count. count ≡ length (units_missing (u self.now))) }
+        ensures copied { let u = ⟦<AccessUnitEndpoint as GivesUnits>⟧.units in
+            IfOk result (λ count. to.new ≡ with_first (units_missing (u self.now)) to.old) }
         ensures memory { OnErr result (result ≡ Err PacketError.OutOfMemory) }
         ensures kept_to { OnErr result (to.new ≡ to.old) }
     {
@@ -238,7 +252,8 @@ impl AccessUnitEndpoint<AccessUnitReceiver<AnyPayloadDepacketizer>> {
 
     /// At the end of a stream: all that waits is due, and then the open access unit ends.
     pub fn finish(&mut self)
-        ensures { self.new ≡ units_finished self.old }
+        ensures { let u = ⟦<AccessUnitEndpoint as GivesUnits>⟧.units in
+            u self.new ≡ units_finished (u self.old) }
     {
         self.receiver.finish();
     }
@@ -246,15 +261,9 @@ impl AccessUnitEndpoint<AccessUnitReceiver<AnyPayloadDepacketizer>> {
     /// Drops all that waits or is open, and takes any number as the next: for another sender (SSRC).
     /// The access unit that had no room stays.
     pub fn restart(&mut self)
-        ensures { self.new ≡ units_restarted self.old }
+        ensures { let u = ⟦<AccessUnitEndpoint as GivesUnits>⟧.units in
+            u self.new ≡ units_restarted (u self.old) }
     {
         self.receiver.restart();
-    }
-
-    /// What was counted.
-    pub fn counts(&self) -> Counts
-        ensures { result ≡ self.now.reception.counts }
-    {
-        self.receiver.counts()
     }
 }

@@ -1,6 +1,6 @@
 //! What stands behind a handle.
 
-use crate::access_units::AnyAccessUnitEndpoint;
+use crate::access_units::AccessUnitEndpoint;
 use crate::receiving::ReceivingEndpoint;
 use crate::sending::SendingEndpoint;
 use crate::sequenced::SequencedEndpoint;
@@ -15,5 +15,5 @@ pub enum Endpoint {
     /// It receives packets with their sequence numbers.
     Sequenced(SequencedEndpoint),
     /// It receives access units, of packets as a network brings them.
-    AccessUnits(AnyAccessUnitEndpoint),
+    AccessUnits(AccessUnitEndpoint),
 }

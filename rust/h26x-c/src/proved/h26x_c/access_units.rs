@@ -9,7 +9,7 @@ use crate::proved::h26x_c::place::{Place, put};
 use crate::proved::h26x_core::PacketError;
 use crate::proved::h26x_frames::RtpPacket;
 use crate::proved::h26x_handles::access_units::{
-    AnyAccessUnitEndpoint, UnitTold, code_of_next, numbers_of_push, units_codec_wanted,
+    AccessUnitEndpoint, UnitTold, code_of_next, numbers_of_push, units_codec_wanted,
 };
 use crate::proved::h26x_handles::code::{OK, OUT_OF_MEMORY, WRONG_END};
 use crate::proved::h26x_handles::endpoint::Endpoint;
@@ -80,7 +80,7 @@ fn counts_told(counts: crate::proved::h26x_access_units::Counts) -> Counts {
 pub fn h26x_access_units_new(config: &Config, made: &mut MaybeUninit<Place>) -> u32 {
     match units_codec_wanted(config.codec, config.numbers, config.window) {
         Ok(codec) => put(
-            Endpoint::AccessUnits(AnyAccessUnitEndpoint::new(
+            Endpoint::AccessUnits(AccessUnitEndpoint::new(
                 codec,
                 config.numbers,
                 config.avc,

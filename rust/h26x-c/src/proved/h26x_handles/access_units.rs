@@ -4,7 +4,7 @@
 //! room where it was to be written.
 
 use crate::proved::h26x_access_units::{
-    AccessUnitConfig, AccessUnitReceiver, Counts, Pushed, ReceivedUnit, Receives,
+    AccessUnitConfig, AccessUnitReceiver, Counts, Pushed, ReceivedUnit,
 };
 use crate::proved::h26x_codec::Codec;
 use crate::proved::h26x_core::PacketError;
@@ -95,16 +95,25 @@ fn told_of(unit: &ReceivedUnit) -> UnitTold {
 
 /// A receiver of access units of a codec, and the access unit that had no room where it was to be
 /// written.
-pub struct AccessUnitEndpoint<R: Receives> {
+pub struct AccessUnitEndpoint {
     codec: Codec,
-    receiver: R,
+    receiver: AccessUnitReceiver<AnyPayloadDepacketizer>,
     left: Option<ReceivedUnit>,
 }
 
-/// A receiver of access units of a codec that is chosen when it is made.
-pub type AnyAccessUnitEndpoint = AccessUnitEndpoint<AccessUnitReceiver<AnyPayloadDepacketizer>>;
+/// What such an endpoint is to contracts.
+pub trait GivesUnits {
+    /// What was counted.
+    fn counts(&self) -> Counts;
+}
 
-impl AccessUnitEndpoint<AccessUnitReceiver<AnyPayloadDepacketizer>> {
+impl GivesUnits for AccessUnitEndpoint {
+    fn counts(&self) -> Counts {
+        self.receiver.counts()
+    }
+}
+
+impl AccessUnitEndpoint {
     /// A receiver that takes any sequence number as the first.
     pub(crate) fn new(
         codec: Codec,
@@ -137,12 +146,11 @@ impl AccessUnitEndpoint<AccessUnitReceiver<AnyPayloadDepacketizer>> {
     /// receiver gives out. It goes to the caller's memory where there is room for it, and else is kept
     /// for the next call. Without memory the packet for which it lacks is due still.
     pub fn next(&mut self, now: u32, to: &mut [u8]) -> Result<NextAnswer, PacketError> {
-        let unit = match self.left.take() {
-            Some(unit) => unit,
-            None => match self.receiver.next(now)? {
-                Some(unit) => unit,
-                None => return Ok(NextAnswer::NothingYet),
-            },
+        if let Some(unit) = self.left.take() {
+            return Ok(self.give(unit, to));
+        }
+        let Some(unit) = self.receiver.next(now)? else {
+            return Ok(NextAnswer::NothingYet);
         };
         Ok(self.give(unit, to))
     }
@@ -179,10 +187,5 @@ impl AccessUnitEndpoint<AccessUnitReceiver<AnyPayloadDepacketizer>> {
     /// The access unit that had no room stays.
     pub fn restart(&mut self) {
         self.receiver.restart();
-    }
-
-    /// What was counted.
-    pub fn counts(&self) -> Counts {
-        self.receiver.counts()
     }
 }

@@ -2,7 +2,7 @@
 
 //! What stands behind a handle.
 
-use crate::proved::h26x_handles::access_units::AnyAccessUnitEndpoint;
+use crate::proved::h26x_handles::access_units::AccessUnitEndpoint;
 use crate::proved::h26x_handles::receiving::ReceivingEndpoint;
 use crate::proved::h26x_handles::sending::SendingEndpoint;
 use crate::proved::h26x_handles::sequenced::SequencedEndpoint;
@@ -16,5 +16,5 @@ pub enum Endpoint {
     /// It receives packets with their sequence numbers.
     Sequenced(SequencedEndpoint),
     /// It receives access units, of packets as a network brings them.
-    AccessUnits(AnyAccessUnitEndpoint),
+    AccessUnits(AccessUnitEndpoint),
 }

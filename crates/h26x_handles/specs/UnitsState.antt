@@ -1,6 +1,6 @@
 -- A receiver of access units behind a handle, and the access unit that had no room where it was to be
 -- written (ours).
-use Rattle.std.specs.Prelude.{◌≡◌, ◌⊎◌, ℕ, ◌^◌, ◌==◌, ◌||◌, nat_le, nat_lt, Bool, if◌then◌else◌, List, length, Option, Some, None, Result, Ok, Err, MatchOption}
+use Rattle.std.specs.Prelude.{◌≡◌, ◌⊎◌, ℕ, ◌^◌, ◌==◌, ◌||◌, nat_le, nat_lt, Bool, true, if◌then◌else◌, List, length, Option, Some, None, Result, Ok, Err, MatchOption}
 use Rattle.h26x_access_units.specs.declared.config.AccessUnitConfig.{AccessUnitConfig}
 use Rattle.h26x_access_units.specs.declared.pushed.Pushed.{Pushed}
 use Rattle.h26x_access_units.specs.declared.pushed.Pushed.TheVariants as pushes
@@ -17,11 +17,16 @@ use Rattle.h26x_handles.specs.declared.access_units.NextAnswer.{NextAnswer}
 use Rattle.h26x_handles.specs.declared.access_units.NextAnswer.TheVariants as answers
 use Rattle.h26x_handles.specs.declared.access_units.UnitTold.{UnitTold}
 
--- a codec, a receiver of its packets, and the access unit that had no room, until it is given out
-pub record AccessUnitEndpoint : Type 0 where
+-- what it is to contracts: its codec, its receiver, and the access unit that had no room, until it is
+-- given out
+pub record UnitsState : Type 0 where
   pub codec : Codec
   pub reception : Reception
   pub left : Option ReceivedUnitValue
+
+-- these three
+abbrev pub units_state : Codec → Reception → Option ReceivedUnitValue → UnitsState
+units_state codec reception left = record { codec = codec; reception = reception; left = left }
 
 -- the codec of one that is to be made, or the code that says why there is none: as of a depacketizer,
 -- and a window is of 1 to 2^14 places
@@ -32,7 +37,7 @@ units_codec_or_code number has_donl window = elim (codec_or_code number has_donl
 ]
 
 -- before any packet came
-abbrev pub fresh_access_units : Codec → Bool → Bool → AccessUnitConfig → AccessUnitEndpoint
+abbrev pub fresh_access_units : Codec → Bool → Bool → AccessUnitConfig → UnitsState
 fresh_access_units codec has_donl is_avc config = record {
   codec = codec;
   reception = fresh_reception config (record {
@@ -44,15 +49,15 @@ fresh_access_units codec has_donl is_avc config = record {
 }
 
 -- the same with another state of its receiver
-abbrev pub units_with_reception : Reception → AccessUnitEndpoint → AccessUnitEndpoint
+abbrev pub units_with_reception : Reception → UnitsState → UnitsState
 units_with_reception reception it = record it { reception = reception }
 
 -- what is answered for a packet
-abbrev pub units_push_answer : AccessUnitEndpoint → ℕ × RtpBody → Pushed
+abbrev pub units_push_answer : UnitsState → ℕ × RtpBody → Pushed
 units_push_answer it p = reception_answer it.reception p
 
 -- after a packet came, at this tick
-abbrev pub units_after_push : ℕ → ℕ × RtpBody → AccessUnitEndpoint → AccessUnitEndpoint
+abbrev pub units_after_push : ℕ → ℕ × RtpBody → UnitsState → UnitsState
 units_after_push now p it = units_with_reception
     (after_reception now it.reception p (units_push_answer it p)) it
 
@@ -97,12 +102,12 @@ unit_without_room (Some unit) to =
     if nat_le (length unit.bytes) (length to) then None else Some unit
 
 -- an access unit, or none, is the next: the one that had no room before, or what the receiver gives out
-abbrev pub IsNextUnit : ℕ → AccessUnitEndpoint → Reception → Option ReceivedUnitValue → Type 0
+abbrev pub IsNextUnit : ℕ → UnitsState → Reception → Option ReceivedUnitValue → Type 0
 IsNextUnit now it reception unit = MatchOption it.left (IsNext now it.reception reception unit)
     (λ kept. (unit ≡ Some kept) × (reception ≡ it.reception))
 
 -- The next access unit goes to a buffer where it has room there, and else stays for the next call.
-pub record IsUnitGiven (now : ℕ) (it new : AccessUnitEndpoint) (to new_to : List ℕ)
+pub record IsUnitGiven (now : ℕ) (it new : UnitsState) (to new_to : List ℕ)
     (answer : NextAnswer) : Type 0 where
   pub unit : Option ReceivedUnitValue
   pub is_next : IsNextUnit now it new.reception unit
@@ -112,7 +117,7 @@ pub record IsUnitGiven (now : ℕ) (it new : AccessUnitEndpoint) (to new_to : Li
 
 -- Without memory nothing changed, or packets were taken that were due, none of them lost; and no access
 -- unit waits for room, since that one wants no memory.
-pub record IsOutOfMemory (now : ℕ) (it new : AccessUnitEndpoint) : Type 0 where
+pub record IsOutOfMemory (now : ℕ) (it new : UnitsState) : Type 0 where
   pub none : it.left ≡ None
   pub stands : new ≡ units_with_reception new.reception it
   pub taken : (new.reception ≡ it.reception)
@@ -125,20 +130,20 @@ next_numbers (answers.NoRoom unit) told = (no_room, unit)
 next_numbers (answers.Written unit) told = (ok, unit)
 
 -- when it is to be asked again at the latest, if packets wait
-abbrev pub units_deadline : AccessUnitEndpoint → Option ℕ
+abbrev pub units_deadline : UnitsState → Option ℕ
 units_deadline it =
     deadline_of it.reception.waiting.config.max_wait it.reception.waiting.arrivals
 
 -- the numbers that are missing before packets that wait
-abbrev pub units_missing : AccessUnitEndpoint → List ℕ
+abbrev pub units_missing : UnitsState → List ℕ
 units_missing it =
     missing_numbers it.reception.waiting.buffer.due it.reception.waiting.buffer.held
 
 -- at the end of the stream: all that waits is due
-abbrev pub units_finished : AccessUnitEndpoint → AccessUnitEndpoint
+abbrev pub units_finished : UnitsState → UnitsState
 units_finished it = units_with_reception
     (record it.reception { waiting = record it.reception.waiting { is_over = true } }) it
 
 -- for another sender; an access unit that had no room stays
-abbrev pub units_restarted : AccessUnitEndpoint → AccessUnitEndpoint
+abbrev pub units_restarted : UnitsState → UnitsState
 units_restarted it = units_with_reception (restarted it.reception) it
