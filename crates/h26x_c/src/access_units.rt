@@ -121,11 +121,7 @@ pub extern "C" fn h26x_access_units_free(u: Handle) {
 }
 
 /// The code of what became of a packet that was given, and its numbers.
-fn code_of_push(
-    answer: Result<Pushed, PacketError>,
-    pushed: &mut u32,
-    behind: &mut u16,
-) -> u32
+fn code_of_push(answer: Result<Pushed, PacketError>, pushed: &mut u32, behind: &mut u16) -> u32
     ensures ok { (it : Pushed) → answer ≡ Ok it →
         (result ≡ ok) × ((pushed.new, behind.new) ≡ pushed_numbers it) }
     ensures none { (e : PacketError) → answer ≡ Err e → (result ≡ out_of_memory)
