@@ -19,7 +19,7 @@
 import re
 
 from .laws import erase_modules
-from .tree import (Function, Refused, Token, add_use, after, at, bare, bare_words, before, deep, functions, is_among,
+from .tree import (Function, Refused, Token, add_use, after, at, bare, bare_words, before, commas, deep, functions, is_among,
                    is_function, is_group, is_pub, is_sign, is_word, parse, words_of)
 
 RENAMED = {("H265AggregationPacket", "nal_units"): "try_nal_units"}
@@ -191,12 +191,16 @@ def rewrite_paths(module, crate, crates):
 def place_of_std(items, i):
     """What stands for `std` at a place: core, alloc or the crate's own."""
     part = at(items, after(items, after(items, i)))
+    if is_group(part, "{"):
+        places = {PLACES.get(bare(it).split(" ")[0]) for it in commas(part.items)}
+        if len(places) == 1 and None not in places:
+            return places.pop()
     if is_word(part, "alloc"):
         return "crate::support"
     if is_word(part, "collections") and "HashMap" in bare(items[i:after(items, i) + 6]):
         return "std"
     if not is_word(part) or part.text not in PLACES:
-        raise Refused(f"std::{part.text if part else ''} has no place")
+        raise Refused(f"std::{part.text if part else ''} has no place, or several")
     return PLACES[part.text]
 
 

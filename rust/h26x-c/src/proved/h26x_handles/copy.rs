@@ -4,8 +4,7 @@
 
 use crate::proved::h26x_payload::PacketBuffer;
 use alloc::vec::Vec;
-use core::cmp;
-use core::mem;
+use core::{cmp, mem};
 
 /// Copies bytes to the front of a buffer where there is room for them; how many they are.
 pub fn copy_where_room(bytes: &[u8], to: &mut [u8]) -> usize {
