@@ -12,9 +12,9 @@
  *
  * What may be NULL: a buffer, which then has length 0 whatever is said to be its length or its room; the pointer to
  * what isn't wanted (count, size, written, extra, received, pushed, behind, unit, counts, at, why, number, len, begin,
- * end, profile, level); and the pointer in a handle that is freed, which is then no handle: so set it to {0} and free it
- * in any case. The calls whose names end in _close free a handle and write NULL into it; they are functions of this
- * header over _free, and no exports.
+ * end, profile, level, name_len, value_len, payload_type, codec, and the value of a number); and the pointer in a handle
+ * that is freed, which is then no handle: so set it to {0} and free it in any case. The calls whose names end in _close
+ * free a handle and write NULL into it; they are functions of this header over _free, and no exports.
  *
  * What a caller owes, since nothing checks it:
  * - a handle is one that a _new or _clone wrote, and was not freed since;
@@ -80,8 +80,8 @@ enum h26x_codec { H26X_H264 = 264, H26X_H265 = 265, H26X_H266 = 266 };
  * one. */
 H26X_API const char *h26x_codec_name(uint32_t codec);
 
-/* What a call answers. All but H26X_OK are refusals, which change nothing but *written, *why, and of packets that are
- * made *count and *size. */
+/* What a call answers. All but H26X_OK are refusals, which change nothing but *written, *why, of packets that are made
+ * *count and *size, and with H26X_NO_ROOM the lengths that are told. */
 enum h26x_code {
     H26X_OK = 0,
     H26X_SHORT_PACKET = 1,
@@ -97,7 +97,30 @@ enum h26x_code {
     H26X_NOT_OF_THIS_CODEC = 11,      /* decoding order numbers or a largest size for H.264 */
     H26X_OUT_OF_RANGE = 12,           /* a largest size under 4, a window of 0 or over 16384 */
     H26X_NO_ROOM = 13,                /* what is to be written doesn't fit in the caller's memory */
-    H26X_NOTHING_YET = 14             /* no access unit has ended */
+    H26X_NOTHING_YET = 14,            /* no access unit has ended */
+    /* Of format parameters of SDP. why->first of those from 20 to 25: the place of the parameter, from 0, blank parts
+     * not counted; of those from 29 to 32: the place of the unit. */
+    H26X_SDP_OPEN_BRACE = 20,         /* a `{` isn't closed */
+    H26X_SDP_NOT_A_NUMBER = 21,
+    H26X_SDP_OUT_OF_RANGE = 22,
+    H26X_SDP_NOT_HEXADECIMAL = 23,    /* no hexadecimal digits, or not as many as the parameter has */
+    H26X_SDP_NOT_TX_MODE = 24,        /* none of SRST, MRST and MRMT */
+    H26X_SDP_TWICE = 25,
+    H26X_SDP_UNKNOWN_NAME = 26,       /* the codec's RFC has no such parameter */
+    H26X_SDP_ABSENT = 27,             /* it isn't given, or none is behind the last */
+    H26X_SDP_OTHER_KIND = 28,         /* the parameter is no number, or no units */
+    H26X_SDP_NOT_BASE64 = 29,
+    H26X_SDP_EMPTY_UNIT = 30,
+    H26X_SDP_OTHER_TYPE = 31,         /* a unit is of no type that the parameter is for */
+    H26X_SDP_START_CODE = 32,         /* a unit has a start code inside */
+    H26X_SDP_NO_SET = 33,             /* no parameter set that says a profile stands before the first slice */
+    H26X_SDP_SHORT_SET = 34,          /* it ends before it says one */
+    H26X_SDP_NO_PROFILE = 35,         /* H.266: its sps_ptl_dpb_hrd_params_present_flag is 0 */
+    H26X_SDP_GENERAL_CONSTRAINTS = 36, /* H.266: its gci_present_flag is 1 */
+    H26X_SDP_NO_ANSWER = 37,          /* two formats have no configuration in common */
+    H26X_SDP_PAYLOAD_TYPE = 38,       /* no number of 7 bits */
+    H26X_SDP_ENCODING_NAME = 39,      /* none of H264, H265 and H266 */
+    H26X_SDP_CLOCK_RATE = 40          /* it isn't 90000 */
 };
 
 /* A code in words, without a full stop; never NULL. */
@@ -675,6 +698,98 @@ enum h26x_h266_level {
 /* Whether `profile-id`, `tier-flag` (0 Main, 1 High) and `level-id` of H.266 are all known (RFC 9328, 7.2). Where a
  * format says nothing they are H26X_H266_MAIN_10, 0 and H26X_H266_LEVEL_3_1. */
 H26X_API bool h26x_h266_is_known(uint8_t profile_id, uint8_t tier_flag, uint8_t level_id);
+
+/* ---- Format parameters of SDP ---- */
+
+/* What an a=fmtp line says behind the payload type (RFC 6184, 8.1; RFC 7798, 7.1; RFC 9328, 7.2). Names are those of the
+ * codec's RFC, as "profile-level-id", without regard to case. */
+typedef struct { void *at; } h26x_sdp;
+
+/* The parameters of a text. White space round `;` and `=` and blank parts are left out, a `;` in braces ends nothing, and
+ * what the RFC doesn't have is kept. A text of one of the codes from 20 to 25 is refused, by its first fault;
+ * H26X_UNKNOWN_CODEC, H26X_OUT_OF_MEMORY. *made is written where the answer is H26X_OK. */
+H26X_API uint32_t h26x_sdp_read(uint32_t codec, const uint8_t *text, size_t text_len, h26x_sdp *made,
+                                h26x_refusal *why) H26X_MUST_USE;
+
+/* What a sender says of its stream, of the bytes that it begins with (Annex B): profile, tier and level of the first SPS,
+ * and the sets before the first slice. One of the codes from 33 to 36; H26X_UNKNOWN_CODEC, H26X_OUT_OF_MEMORY. */
+H26X_API uint32_t h26x_sdp_of_payload(uint32_t codec, const uint8_t *payload, size_t payload_len, h26x_sdp *made)
+    H26X_MUST_USE;
+
+/* The answer to an offered format by one of ours, or H26X_SDP_NO_ANSWER, as of two codecs; H26X_OUT_OF_MEMORY,
+ * H26X_WRONG_END. To answer an offer, go through its formats in their order and for each through ours in our order of
+ * preference: the first that is made is the answer, with the payload type of the offered format (RFC 3264, 6.1). It is
+ * for both directions, and for unicast (RFC 6184, 8.2.2; RFC 7798, 7.2.2; RFC 9328, 7.3.2). */
+H26X_API uint32_t h26x_sdp_answer(const h26x_sdp *offered, const h26x_sdp *ours, h26x_sdp *made) H26X_MUST_USE;
+
+/* Frees them. A handle of NULL is nothing to be freed. */
+H26X_API void h26x_sdp_free(h26x_sdp h);
+
+/* The same, and writes NULL into the handle, so that it may be closed again. A pointer of NULL is nothing to be freed
+ * either. */
+static inline void h26x_sdp_close(h26x_sdp *h)
+{
+    if (h != NULL) {
+        const h26x_sdp it = *h;
+        h->at = NULL;
+        h26x_sdp_free(it);
+    }
+}
+
+/* Their codec; 0 for a handle of another kind. */
+H26X_API uint32_t h26x_sdp_codec(const h26x_sdp *h);
+
+/* Their text, to the front of `to`: those of the RFC in its order, and the others behind. It is read as the same ones.
+ * *len is its length; where that is over `room` the answer is H26X_NO_ROOM, and `to` is left. H26X_OUT_OF_MEMORY and
+ * H26X_WRONG_END leave *len too. */
+H26X_API uint32_t h26x_sdp_write(const h26x_sdp *h, uint8_t *to, size_t room, size_t *len) H26X_MUST_USE;
+
+/* The value of the parameter with a name, as it came, to the front of `to`. Where it is absent: with `or_default` what
+ * the RFC takes for it, if it says what; else H26X_SDP_ABSENT. H26X_SDP_UNKNOWN_NAME; H26X_NO_ROOM tells *len and leaves
+ * `to`; H26X_WRONG_END. */
+H26X_API uint32_t h26x_sdp_value(const h26x_sdp *h, const uint8_t *name, size_t name_len, bool or_default, uint8_t *to,
+                                 size_t room, size_t *len) H26X_MUST_USE;
+
+/* The same of its number. H26X_SDP_OTHER_KIND where the RFC has no number there. */
+H26X_API uint32_t h26x_sdp_number(const h26x_sdp *h, const uint8_t *name, size_t name_len, bool or_default,
+                                  uint64_t *value) H26X_MUST_USE;
+
+/* How many units the parameter with a name has, out of base64: sprop-parameter-sets, sprop-vps and so on.
+ * H26X_SDP_UNKNOWN_NAME, H26X_SDP_OTHER_KIND, H26X_SDP_ABSENT, or one of the codes from 29 to 32 by the first fault, since
+ * h26x_sdp_read doesn't look into base64; H26X_OUT_OF_MEMORY, H26X_WRONG_END. All but H26X_OK leave *count. */
+H26X_API uint32_t h26x_sdp_units(const h26x_sdp *h, const uint8_t *name, size_t name_len, size_t *count,
+                                 h26x_refusal *why) H26X_MUST_USE;
+
+/* Unit i of them to the front of `to`. The same answers; H26X_SDP_ABSENT past the last; H26X_NO_ROOM tells *len and leaves
+ * `to`. Give a peer's sets to the decoder before the first picture, each behind 00 00 00 01. */
+H26X_API uint32_t h26x_sdp_unit(const h26x_sdp *h, const uint8_t *name, size_t name_len, size_t i, uint8_t *to,
+                                size_t room, size_t *len, h26x_refusal *why) H26X_MUST_USE;
+
+/* Parameter i of those that the RFC doesn't have, in their order: its name and its value. H26X_NO_ROOM where either
+ * doesn't fit: *name_len and *value_len are told, and both buffers are left. H26X_SDP_ABSENT past the last;
+ * H26X_WRONG_END. */
+H26X_API uint32_t h26x_sdp_other(const h26x_sdp *h, size_t i, uint8_t *name, size_t name_room, size_t *name_len,
+                                 uint8_t *value, size_t value_room, size_t *value_len) H26X_MUST_USE;
+
+/* `sprop-max-don-diff` of H.265 and H.266, or 0 where it is absent: packets bear decoding order numbers where it is over
+ * 0, which is `numbers` of h26x_packetizer_new and so on. H26X_NOT_OF_THIS_CODEC for H.264; H26X_WRONG_END. */
+H26X_API uint32_t h26x_sdp_max_don_diff(const h26x_sdp *h, uint32_t *value) H26X_MUST_USE;
+
+/* Whether a payload of H.264 can be sent where `packetization-mode` is 0, in packets of `limit` bytes: each of its units
+ * fits a packet of its own (RFC 6184, 5.6 and 6.2). There, give an SPS and a PPS to h26x_packetize_unit, since
+ * h26x_packetize puts both into one packet. */
+H26X_API bool h26x_fits_single_units(const uint8_t *payload, size_t payload_len, size_t limit);
+
+/* Reads what stands behind "a=rtpmap:", as "96 H264/90000" (RFC 8866, 6.6): H26X_SDP_PAYLOAD_TYPE,
+ * H26X_SDP_ENCODING_NAME or H26X_SDP_CLOCK_RATE by the first that is wrong. All but H26X_OK leave *payload_type and
+ * *codec. */
+H26X_API uint32_t h26x_rtpmap_read(const uint8_t *text, size_t text_len, uint8_t *payload_type, uint32_t *codec)
+    H26X_MUST_USE;
+
+/* Writes it to the front of `to`. H26X_UNKNOWN_CODEC; H26X_SDP_PAYLOAD_TYPE where that is over 127; H26X_NO_ROOM tells
+ * *len and leaves `to`; H26X_OUT_OF_MEMORY. */
+H26X_API uint32_t h26x_rtpmap_write(uint8_t payload_type, uint32_t codec, uint8_t *to, size_t room, size_t *len)
+    H26X_MUST_USE;
 
 #ifdef __cplusplus
 }

@@ -40,6 +40,19 @@ PROVED(set_lowest_header);
 PROVED(next_unit);
 PROVED(unit_is_plain);
 PROVED(h264_profile_level);
+PROVED(sdp_read);
+PROVED(sdp_of_payload);
+PROVED(sdp_free);
+PROVED(sdp_write);
+PROVED(sdp_value);
+PROVED(sdp_number);
+PROVED(sdp_units);
+PROVED(sdp_unit);
+PROVED(sdp_other);
+PROVED(sdp_max_don_diff);
+PROVED(fits_single_units);
+PROVED(rtpmap_read);
+PROVED(rtpmap_write);
 
 /* Keeps what is seldom needed out of a call that is made for each packet, which then goes straight on
  * to the proved one. */
@@ -317,4 +330,98 @@ bool h26x_h264_profile_level(uint32_t profile_level_id, uint8_t *profile, uint8_
     uint8_t unwanted[2];
     return proved_h264_profile_level(profile_level_id, WANTED(profile, &unwanted[0]),
                                      WANTED(level, &unwanted[1]));
+}
+
+/* ---- Format parameters of SDP ---- */
+
+uint32_t h26x_sdp_read(uint32_t codec, const uint8_t *text, size_t text_len, h26x_sdp *made,
+                       h26x_refusal *why)
+{
+    h26x_refusal unwanted;
+    return proved_sdp_read(codec, BYTES(text, text_len), made, WANTED(why, &unwanted));
+}
+
+uint32_t h26x_sdp_of_payload(uint32_t codec, const uint8_t *payload, size_t payload_len,
+                             h26x_sdp *made)
+{
+    return proved_sdp_of_payload(codec, BYTES(payload, payload_len), made);
+}
+
+void h26x_sdp_free(h26x_sdp h)
+{
+    if (h.at != NULL)
+        proved_sdp_free(h);
+}
+
+uint32_t h26x_sdp_write(const h26x_sdp *h, uint8_t *to, size_t room, size_t *len)
+{
+    size_t unwanted;
+    return proved_sdp_write(h, BYTES(to, room), WANTED(len, &unwanted));
+}
+
+uint32_t h26x_sdp_value(const h26x_sdp *h, const uint8_t *name, size_t name_len, bool or_default,
+                        uint8_t *to, size_t room, size_t *len)
+{
+    size_t unwanted;
+    return proved_sdp_value(h, BYTES(name, name_len), or_default, BYTES(to, room),
+                            WANTED(len, &unwanted));
+}
+
+uint32_t h26x_sdp_number(const h26x_sdp *h, const uint8_t *name, size_t name_len, bool or_default,
+                         uint64_t *value)
+{
+    uint64_t unwanted;
+    return proved_sdp_number(h, BYTES(name, name_len), or_default, WANTED(value, &unwanted));
+}
+
+uint32_t h26x_sdp_units(const h26x_sdp *h, const uint8_t *name, size_t name_len, size_t *count,
+                        h26x_refusal *why)
+{
+    size_t unwanted_count;
+    h26x_refusal unwanted_why;
+    return proved_sdp_units(h, BYTES(name, name_len), WANTED(count, &unwanted_count),
+                            WANTED(why, &unwanted_why));
+}
+
+uint32_t h26x_sdp_unit(const h26x_sdp *h, const uint8_t *name, size_t name_len, size_t i,
+                       uint8_t *to, size_t room, size_t *len, h26x_refusal *why)
+{
+    size_t unwanted_len;
+    h26x_refusal unwanted_why;
+    return proved_sdp_unit(h, BYTES(name, name_len), i, BYTES(to, room),
+                           WANTED(len, &unwanted_len), WANTED(why, &unwanted_why));
+}
+
+uint32_t h26x_sdp_other(const h26x_sdp *h, size_t i, uint8_t *name, size_t name_room,
+                        size_t *name_len, uint8_t *value, size_t value_room, size_t *value_len)
+{
+    size_t unwanted[2];
+    return proved_sdp_other(h, i, BYTES(name, name_room), WANTED(name_len, &unwanted[0]),
+                            BYTES(value, value_room), WANTED(value_len, &unwanted[1]));
+}
+
+uint32_t h26x_sdp_max_don_diff(const h26x_sdp *h, uint32_t *value)
+{
+    uint32_t unwanted;
+    return proved_sdp_max_don_diff(h, WANTED(value, &unwanted));
+}
+
+bool h26x_fits_single_units(const uint8_t *payload, size_t payload_len, size_t limit)
+{
+    return proved_fits_single_units(BYTES(payload, payload_len), limit);
+}
+
+uint32_t h26x_rtpmap_read(const uint8_t *text, size_t text_len, uint8_t *payload_type,
+                          uint32_t *codec)
+{
+    uint8_t unwanted_type;
+    uint32_t unwanted_codec;
+    return proved_rtpmap_read(BYTES(text, text_len), WANTED(payload_type, &unwanted_type),
+                              WANTED(codec, &unwanted_codec));
+}
+
+uint32_t h26x_rtpmap_write(uint8_t payload_type, uint32_t codec, uint8_t *to, size_t room, size_t *len)
+{
+    size_t unwanted;
+    return proved_rtpmap_write(payload_type, codec, BYTES(to, room), WANTED(len, &unwanted));
 }

@@ -48,6 +48,48 @@ const char *h26x_strerror(uint32_t code)
         return "the output has no room for it";
     case H26X_NOTHING_YET:
         return "no access unit has ended";
+    case H26X_SDP_OPEN_BRACE:
+        return "a brace is left open";
+    case H26X_SDP_NOT_A_NUMBER:
+        return "the value is no decimal number";
+    case H26X_SDP_OUT_OF_RANGE:
+        return "the value is out of the parameter's range";
+    case H26X_SDP_NOT_HEXADECIMAL:
+        return "the value is not the hexadecimal digits that the parameter has";
+    case H26X_SDP_NOT_TX_MODE:
+        return "the value is none of SRST, MRST and MRMT";
+    case H26X_SDP_TWICE:
+        return "the parameter is given twice";
+    case H26X_SDP_UNKNOWN_NAME:
+        return "the RFC has no parameter of this name";
+    case H26X_SDP_ABSENT:
+        return "the parameter is not given, or none is behind the last";
+    case H26X_SDP_OTHER_KIND:
+        return "the parameter is no number, or no units";
+    case H26X_SDP_NOT_BASE64:
+        return "the unit is no base64";
+    case H26X_SDP_EMPTY_UNIT:
+        return "the unit has no byte";
+    case H26X_SDP_OTHER_TYPE:
+        return "the unit is of no type that the parameter is for";
+    case H26X_SDP_START_CODE:
+        return "the unit has a start code inside";
+    case H26X_SDP_NO_SET:
+        return "no parameter set says a profile and a level";
+    case H26X_SDP_SHORT_SET:
+        return "the parameter set is too short";
+    case H26X_SDP_NO_PROFILE:
+        return "the parameter set says no profile";
+    case H26X_SDP_GENERAL_CONSTRAINTS:
+        return "the parameter set has general constraints";
+    case H26X_SDP_NO_ANSWER:
+        return "the two formats have no configuration in common";
+    case H26X_SDP_PAYLOAD_TYPE:
+        return "the payload type is no number of 7 bits";
+    case H26X_SDP_ENCODING_NAME:
+        return "the encoding name is none of H264, H265 and H266";
+    case H26X_SDP_CLOCK_RATE:
+        return "the clock rate is not 90000";
     default:
         return "unknown code";
     }

@@ -25,7 +25,7 @@ from .tree import (Function, Group, Refused, add_use, after, at, bare, before, c
 # The crates whose outputs are C's, and of those the one that has pointers.
 REACHED = {"h26x_handles", "h26x_c"}
 UNSAFE = {"h26x_c"}
-NUMBERS = {"u8", "u16", "u32", "usize"}
+NUMBERS = {"u8", "u16", "u32", "u64", "usize"}
 # What a call writes for C. `Place` is where a handle is written.
 OUTPUTS = NUMBERS | {"Refusal", "Shown", "Place", "UnitTold", "Counts"}
 # What a call only looks at: a handle, and what a caller sets.

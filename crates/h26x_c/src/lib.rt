@@ -7,12 +7,15 @@
 
 mod access_units;
 mod const_handle;
+mod copied;
 mod handle;
 mod paci;
 mod packets;
 mod place;
 mod profiles;
 mod receiving;
+mod rtp_map;
+mod sdp;
 mod sending;
 mod sequenced;
 mod shown;

@@ -2,6 +2,8 @@ pub mod Codes
 pub mod Copies
 pub mod Endpoint
 pub mod States
+pub mod SdpCodes
+pub mod Sdp
 pub mod Shown
 pub mod PlacementAnswer
 pub mod UnitsState

@@ -20,6 +20,7 @@ use Rattle.h26x_receiver.specs.Sequenced.{SequencedDepacketization, sequenced_de
 use Rattle.h26x_receiver.specs.AnyDepacketizer.{any_depacketizer_state, any_depacketizer_with_avc, any_depacketizer_codec, any_depacketizer_with_donl, any_depacketizer_with_run, fresh_any_depacketizer, any_depacketizer_showing, are_same_depacketizers}
 use Rattle.h26x_receiver.specs.declared.any.AnyDepacketizer.{AnyDepacketizer}
 use Rattle.h26x_handles.specs.Endpoint.{SequencedEndpoint}
+use Rattle.h26x_handles.specs.Sdp.{sdp_codec}
 use Rattle.h26x_handles.specs.declared.endpoint.Endpoint.{Endpoint}
 use Rattle.h26x_handles.specs.declared.endpoint.Endpoint.TheVariants as e
 
@@ -132,6 +133,7 @@ endpoint_codec (e.Sending it) = any_packetizer_codec it.packetizer
 endpoint_codec (e.Receiving it) = any_depacketizer_codec it.depacketizer
 endpoint_codec (e.Sequenced it) = any_depacketizer_codec it.depacketizer
 endpoint_codec (e.AccessUnits it) = it.codec
+endpoint_codec (e.Sdp it) = sdp_codec it
 
 abbrev pub is_sending : Endpoint → Bool
 is_sending (e.Sending it) = true

@@ -2,6 +2,7 @@
 
 use crate::access_units::AccessUnitEndpoint;
 use crate::receiving::ReceivingEndpoint;
+use crate::sdp::SdpEndpoint;
 use crate::sending::SendingEndpoint;
 use crate::sequenced::SequencedEndpoint;
 
@@ -16,4 +17,6 @@ pub enum Endpoint {
     Sequenced(SequencedEndpoint),
     /// It receives access units, of packets as a network brings them.
     AccessUnits(AccessUnitEndpoint),
+    /// Format parameters of SDP.
+    Sdp(SdpEndpoint),
 }

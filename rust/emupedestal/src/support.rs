@@ -7,11 +7,18 @@ use alloc::collections::{TryReserveError, VecDeque};
 use alloc::vec::Vec;
 use core::fmt;
 
+// By their paths, since the C library has this file as a module of its own.
 #[cfg(feature = "sdp")]
+#[path = "support/base64.rs"]
 pub mod base64;
 #[cfg(feature = "sdp")]
+#[path = "support/fault.rs"]
+mod fault;
+#[cfg(feature = "sdp")]
+#[path = "support/hex.rs"]
 pub mod hex;
 #[cfg(feature = "sdp")]
+#[path = "support/texts.rs"]
 mod texts;
 
 #[cfg(feature = "sdp")]

@@ -15,6 +15,7 @@ mod shared {
     pub mod h26x_payload;
     pub mod h26x_profile;
     pub mod h26x_receiver;
+    pub mod h26x_sdp;
 }
 
 pub use shared::*;

@@ -1,23 +1,9 @@
-//! What is told of a fault.
+//! What is told of a value that isn't taken.
 
 use super::Fault;
 use crate::support::AllocError;
 use core::error::Error;
 use core::fmt;
-
-impl fmt::Display for Fault {
-    fn fmt(&self, f: &mut fmt::Formatter<'_>) -> fmt::Result {
-        f.write_str(match self {
-            Fault::NotANumber => "its value is no decimal number",
-            Fault::OutOfRange => "its value is out of its range",
-            Fault::NotHexadecimal => "its value isn't the hexadecimal digits that it has",
-            Fault::NotTxMode => "its value is none of SRST, MRST and MRMT",
-            Fault::Twice => "it is given twice",
-        })
-    }
-}
-
-impl Error for Fault {}
 
 /// Why a parameter isn't given a value. The format stays as it was.
 #[derive(Debug, Clone, Copy, PartialEq, Eq, Hash)]

@@ -7,6 +7,7 @@
 //! codec. Each call states what it answers in the words of the payload formats.
 mod access_units;
 mod const_handle;
+mod copied;
 pub mod exports;
 mod handle;
 mod paci;
@@ -14,6 +15,8 @@ mod packets;
 mod place;
 mod profiles;
 mod receiving;
+mod rtp_map;
+mod sdp;
 mod sending;
 mod sequenced;
 mod shown;

@@ -11,5 +11,8 @@ pub mod copy;
 pub mod endpoint;
 pub mod packetizer;
 pub mod receiving;
+pub mod sdp;
+pub mod sdp_code;
+pub mod sdp_parameter;
 pub mod sending;
 pub mod sequenced;

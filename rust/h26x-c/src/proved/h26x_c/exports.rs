@@ -352,6 +352,268 @@ pub unsafe extern "C" fn h26x_give_up_run(d: *mut Handle) -> u32 {
 }
 
 #[unsafe(no_mangle)]
+pub unsafe extern "C" fn h26x_rtpmap_read(
+    text: *const u8,
+    text_len: usize,
+    payload_type: *mut u8,
+    codec: *mut u32,
+) -> u32 {
+    let mut no_payload_type = MaybeUninit::uninit();
+    let mut no_codec = MaybeUninit::uninit();
+    // SAFETY: a caller owes what the header says.
+    unsafe {
+        super::rtp_map::h26x_rtpmap_read(
+            pointers::bytes(text, text_len),
+            pointers::output(payload_type, &mut no_payload_type),
+            pointers::output(codec, &mut no_codec),
+        )
+    }
+}
+
+#[unsafe(no_mangle)]
+pub unsafe extern "C" fn h26x_rtpmap_write(
+    payload_type: u8,
+    codec: u32,
+    to: *mut u8,
+    room: usize,
+    len: *mut usize,
+) -> u32 {
+    let mut no_len = MaybeUninit::uninit();
+    // SAFETY: a caller owes what the header says.
+    unsafe {
+        super::rtp_map::h26x_rtpmap_write(
+            payload_type,
+            codec,
+            pointers::room(to, room),
+            pointers::output(len, &mut no_len),
+        )
+    }
+}
+
+#[unsafe(no_mangle)]
+pub unsafe extern "C" fn h26x_fits_single_units(
+    payload: *const u8,
+    payload_len: usize,
+    limit: usize,
+) -> bool {
+    // SAFETY: a caller owes what the header says.
+    unsafe { super::rtp_map::h26x_fits_single_units(pointers::bytes(payload, payload_len), limit) }
+}
+
+#[unsafe(no_mangle)]
+pub unsafe extern "C" fn h26x_sdp_read(
+    codec: u32,
+    text: *const u8,
+    text_len: usize,
+    made: *mut Place,
+    why: *mut Refusal,
+) -> u32 {
+    let mut no_why = MaybeUninit::uninit();
+    // SAFETY: a caller owes what the header says.
+    unsafe {
+        super::sdp::h26x_sdp_read(
+            codec,
+            pointers::bytes(text, text_len),
+            pointers::made(made),
+            pointers::output(why, &mut no_why),
+        )
+    }
+}
+
+#[unsafe(no_mangle)]
+pub unsafe extern "C" fn h26x_sdp_of_payload(
+    codec: u32,
+    payload: *const u8,
+    payload_len: usize,
+    made: *mut Place,
+) -> u32 {
+    // SAFETY: a caller owes what the header says.
+    unsafe {
+        super::sdp::h26x_sdp_of_payload(
+            codec,
+            pointers::bytes(payload, payload_len),
+            pointers::made(made),
+        )
+    }
+}
+
+#[unsafe(no_mangle)]
+pub unsafe extern "C" fn h26x_sdp_answer(
+    offered: *const ConstHandle,
+    ours: *const ConstHandle,
+    made: *mut Place,
+) -> u32 {
+    // SAFETY: a caller owes what the header says.
+    unsafe {
+        super::sdp::h26x_sdp_answer(
+            pointers::shared(offered),
+            pointers::shared(ours),
+            pointers::made(made),
+        )
+    }
+}
+
+#[unsafe(no_mangle)]
+pub unsafe extern "C" fn h26x_sdp_free(h: Handle) {
+    if h.ptr.is_null() {
+        return;
+    }
+    super::sdp::h26x_sdp_free(h)
+}
+
+#[unsafe(no_mangle)]
+pub unsafe extern "C" fn h26x_sdp_codec(h: *const ConstHandle) -> u32 {
+    // SAFETY: a caller owes what the header says.
+    unsafe { super::sdp::h26x_sdp_codec(pointers::shared(h)) }
+}
+
+#[unsafe(no_mangle)]
+pub unsafe extern "C" fn h26x_sdp_write(
+    h: *const ConstHandle,
+    to: *mut u8,
+    room: usize,
+    len: *mut usize,
+) -> u32 {
+    let mut no_len = MaybeUninit::uninit();
+    // SAFETY: a caller owes what the header says.
+    unsafe {
+        super::sdp::h26x_sdp_write(
+            pointers::shared(h),
+            pointers::room(to, room),
+            pointers::output(len, &mut no_len),
+        )
+    }
+}
+
+#[unsafe(no_mangle)]
+pub unsafe extern "C" fn h26x_sdp_value(
+    h: *const ConstHandle,
+    name: *const u8,
+    name_len: usize,
+    or_default: bool,
+    to: *mut u8,
+    room: usize,
+    len: *mut usize,
+) -> u32 {
+    let mut no_len = MaybeUninit::uninit();
+    // SAFETY: a caller owes what the header says.
+    unsafe {
+        super::sdp::h26x_sdp_value(
+            pointers::shared(h),
+            pointers::bytes(name, name_len),
+            or_default,
+            pointers::room(to, room),
+            pointers::output(len, &mut no_len),
+        )
+    }
+}
+
+#[unsafe(no_mangle)]
+pub unsafe extern "C" fn h26x_sdp_number(
+    h: *const ConstHandle,
+    name: *const u8,
+    name_len: usize,
+    or_default: bool,
+    value: *mut u64,
+) -> u32 {
+    let mut no_value = MaybeUninit::uninit();
+    // SAFETY: a caller owes what the header says.
+    unsafe {
+        super::sdp::h26x_sdp_number(
+            pointers::shared(h),
+            pointers::bytes(name, name_len),
+            or_default,
+            pointers::output(value, &mut no_value),
+        )
+    }
+}
+
+#[unsafe(no_mangle)]
+pub unsafe extern "C" fn h26x_sdp_units(
+    h: *const ConstHandle,
+    name: *const u8,
+    name_len: usize,
+    count: *mut usize,
+    why: *mut Refusal,
+) -> u32 {
+    let mut no_count = MaybeUninit::uninit();
+    let mut no_why = MaybeUninit::uninit();
+    // SAFETY: a caller owes what the header says.
+    unsafe {
+        super::sdp::h26x_sdp_units(
+            pointers::shared(h),
+            pointers::bytes(name, name_len),
+            pointers::output(count, &mut no_count),
+            pointers::output(why, &mut no_why),
+        )
+    }
+}
+
+#[unsafe(no_mangle)]
+pub unsafe extern "C" fn h26x_sdp_unit(
+    h: *const ConstHandle,
+    name: *const u8,
+    name_len: usize,
+    i: usize,
+    to: *mut u8,
+    room: usize,
+    len: *mut usize,
+    why: *mut Refusal,
+) -> u32 {
+    let mut no_len = MaybeUninit::uninit();
+    let mut no_why = MaybeUninit::uninit();
+    // SAFETY: a caller owes what the header says.
+    unsafe {
+        super::sdp::h26x_sdp_unit(
+            pointers::shared(h),
+            pointers::bytes(name, name_len),
+            i,
+            pointers::room(to, room),
+            pointers::output(len, &mut no_len),
+            pointers::output(why, &mut no_why),
+        )
+    }
+}
+
+#[unsafe(no_mangle)]
+pub unsafe extern "C" fn h26x_sdp_other(
+    h: *const ConstHandle,
+    i: usize,
+    name_to: *mut u8,
+    name_to_len: usize,
+    name_len: *mut usize,
+    value_to: *mut u8,
+    value_to_len: usize,
+    value_len: *mut usize,
+) -> u32 {
+    let mut no_name_len = MaybeUninit::uninit();
+    let mut no_value_len = MaybeUninit::uninit();
+    // SAFETY: a caller owes what the header says.
+    unsafe {
+        super::sdp::h26x_sdp_other(
+            pointers::shared(h),
+            i,
+            pointers::room(name_to, name_to_len),
+            pointers::output(name_len, &mut no_name_len),
+            pointers::room(value_to, value_to_len),
+            pointers::output(value_len, &mut no_value_len),
+        )
+    }
+}
+
+#[unsafe(no_mangle)]
+pub unsafe extern "C" fn h26x_sdp_max_don_diff(h: *const ConstHandle, value: *mut u32) -> u32 {
+    let mut no_value = MaybeUninit::uninit();
+    // SAFETY: a caller owes what the header says.
+    unsafe {
+        super::sdp::h26x_sdp_max_don_diff(
+            pointers::shared(h),
+            pointers::output(value, &mut no_value),
+        )
+    }
+}
+
+#[unsafe(no_mangle)]
 pub unsafe extern "C" fn h26x_packetizer_new(codec: u32, numbers: bool, made: *mut Place) -> u32 {
     // SAFETY: a caller owes what the header says.
     unsafe { super::sending::h26x_packetizer_new(codec, numbers, pointers::made(made)) }

@@ -4,6 +4,7 @@
 
 use crate::proved::h26x_handles::access_units::AccessUnitEndpoint;
 use crate::proved::h26x_handles::receiving::ReceivingEndpoint;
+use crate::proved::h26x_handles::sdp::SdpEndpoint;
 use crate::proved::h26x_handles::sending::SendingEndpoint;
 use crate::proved::h26x_handles::sequenced::SequencedEndpoint;
 
@@ -17,4 +18,6 @@ pub enum Endpoint {
     Sequenced(SequencedEndpoint),
     /// It receives access units, of packets as a network brings them.
     AccessUnits(AccessUnitEndpoint),
+    /// Format parameters of SDP.
+    Sdp(SdpEndpoint),
 }

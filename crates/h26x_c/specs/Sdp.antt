@@ -1,0 +1,110 @@
+-- What the calls on SDP answer.
+use Rattle.std.specs.Prelude.{◌≡◌, ℕ, Bool, true, false, nat_le, nat_lt, ◌&&◌, if◌then◌else◌, List, length, Option, Some, None, Result, Ok, Err}
+use Rattle.std.specs.Option.{ok_or}
+use Rattle.std.specs.Result.{result_map_both}
+use Rattle.std.specs.List.{slice_get}
+use Rattle.h26x_sdp.specs.Pairs.{Pair}
+use Rattle.h26x_sdp.specs.RtpMaps.{rtp_map_text}
+use Rattle.h26x_sdp.specs.declared.rtp_map.RtpMap.{RtpMap}
+use Rattle.h26x_sdp.specs.declared.rtp_map.RtpMapError.{RtpMapError}
+use Rattle.h26x_handles.specs.Codes.{codec_with_number, ok, out_of_memory, unknown_codec, wrong_end, no_room}
+use Rattle.h26x_handles.specs.Copies.{with_front}
+use Rattle.h26x_handles.specs.SdpCodes.{absent, no_payload_type, refused, rtp_map_code, codec_number, encoding_codec, codec_encoding}
+use Rattle.h26x_handles.specs.Sdp.{sdp_codec, sdp_answer, sdp_units, sdp_others}
+use Rattle.h26x_handles.specs.declared.sdp_code.Refused.{Refused}
+use Rattle.h26x_handles.specs.declared.sdp.SdpEndpoint.{SdpEndpoint}
+use Rattle.h26x_handles.specs.declared.endpoint.Endpoint.{Endpoint}
+use Rattle.h26x_handles.specs.declared.endpoint.Endpoint.TheVariants as e
+
+-- whether format parameters stand behind a handle
+abbrev pub is_sdp : Endpoint → Bool
+is_sdp (e.Sdp it) = true
+is_sdp it = false
+
+-- what they say, or that the handle is of another kind
+abbrev pub at_sdp : {T : Type 0} → Endpoint → (SdpEndpoint → Result T ℕ) → Result T ℕ
+at_sdp (e.Sdp it) says = says it
+at_sdp it says = Err wrong_end
+
+-- the number of their codec; 0 of a handle of another kind
+abbrev pub endpoint_sdp_codec : Endpoint → ℕ
+endpoint_sdp_codec (e.Sdp it) = codec_number (sdp_codec it)
+endpoint_sdp_codec it = 0
+
+-- a code for a buffer into which bytes are to go
+abbrev pub room_code : List ℕ → List ℕ → ℕ
+room_code bytes room = if nat_le (length bytes) (length room) then ok else no_room
+
+-- a code, a buffer with bytes at its front where there is room for them, and how many they are; where
+-- there are none the buffer and the number stay
+abbrev pub copy_answer : Result (List ℕ) ℕ → List ℕ → ℕ → ℕ × (List ℕ × ℕ)
+copy_answer (Ok bytes) room len = (room_code bytes room, (with_front bytes room, length bytes))
+copy_answer (Err code) room len = (code, (room, len))
+
+-- a code and a number, which stays where there is none
+abbrev pub number_answer : Result ℕ ℕ → ℕ → ℕ × ℕ
+number_answer (Ok number) before = (ok, number)
+number_answer (Err code) before = (code, before)
+
+-- a refusal's code and place, or want of memory
+abbrev pub IsRefused : Refused → ℕ → ℕ → Type 0
+IsRefused it code place = (code ≡ out_of_memory) ⊎ ((code ≡ it.code) × (place ≡ it.place))
+
+-- what should be answered, without the place of a refusal
+abbrev pub without_place : {T : Type 0} → Result T Refused → Result T ℕ
+without_place = result_map_both (λ it. it) (λ it. it.code)
+
+-- what a call that makes parameters answers, with what stands where the handle is written: they are
+-- made or memory lacks, or the code says why there are none
+abbrev pub IsMade : Result SdpEndpoint ℕ → ℕ → Option Endpoint → Type 0
+IsMade (Ok it) code made = ((code ≡ ok) × (made ≡ Some (e.Sdp it))) ⊎ (code ≡ out_of_memory)
+IsMade (Err it) code made = (code ≡ it) ⊎ (code ≡ out_of_memory)
+
+-- the answer of one handle to another
+abbrev pub endpoint_answer : Endpoint → Endpoint → Result SdpEndpoint ℕ
+endpoint_answer (e.Sdp offered) (e.Sdp ours) = sdp_answer offered ours
+endpoint_answer offered ours = Err wrong_end
+
+-- the units of the parameter with a name, or why there are none
+abbrev pub endpoint_units : Endpoint → List ℕ → Result (List (List ℕ)) Refused
+endpoint_units (e.Sdp it) name = sdp_units it name
+endpoint_units it name = Err (refused wrong_end)
+
+abbrev pub units_count : Result (List (List ℕ)) Refused → Result ℕ ℕ
+units_count = result_map_both length (λ it. it.code)
+
+-- one of them, counted from 0
+abbrev pub nth_unit : ℕ → Result (List (List ℕ)) Refused → Result (List ℕ) ℕ
+nth_unit i (Ok units) = ok_or (slice_get units i) absent
+nth_unit i (Err it) = Err it.code
+
+-- a parameter that the RFC doesn't have, counted from 0
+abbrev pub endpoint_other : ℕ → Endpoint → Result Pair ℕ
+endpoint_other i (e.Sdp it) = ok_or (slice_get (sdp_others it) i) absent
+endpoint_other i it = Err wrong_end
+
+-- a code for two buffers into which its name and its value are to go
+abbrev pub pair_code : Result Pair ℕ → List ℕ → List ℕ → ℕ
+pair_code (Ok it) name value =
+    if nat_le (length it.name) (length name) && nat_le (length it.value) (length value) then ok
+    else no_room
+pair_code (Err code) name value = code
+
+-- a payload type and its codec as they are read; where they aren't, both stay
+abbrev pub rtp_map_answer : Result RtpMap RtpMapError → ℕ → ℕ → ℕ × (ℕ × ℕ)
+rtp_map_answer (Ok map) payload_type codec =
+    (ok, (map.payload_type, codec_number (encoding_codec map.encoding)))
+rtp_map_answer (Err error) payload_type codec = (rtp_map_code error, (payload_type, codec))
+
+-- a payload type and a codec that are to be written
+abbrev pub rtp_map_or_code : ℕ → ℕ → Result RtpMap ℕ
+rtp_map_or_code payload_type codec = elim (codec_with_number codec) [
+  | None ↦ Err unknown_codec
+  | Some c ↦ if nat_lt payload_type 128
+      then Ok (record { payload_type = payload_type; encoding = codec_encoding c })
+      else Err no_payload_type
+]
+
+abbrev pub rtp_map_text_or_code : ℕ → ℕ → Result (List ℕ) ℕ
+rtp_map_text_or_code payload_type codec =
+    result_map_both rtp_map_text (λ code. code) (rtp_map_or_code payload_type codec)

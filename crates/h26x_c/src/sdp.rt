@@ -1,0 +1,307 @@
+//! The calls on format parameters of SDP.
+
+ghost use Rattle.std.specs.Prelude.{◌≡◌, ◌≢◌, ◌⊎◌, ◌×◌, ℕ, List, true, false, Some, None, Ok, Err, length};
+ghost use Rattle.h26x_cut.specs.Cutting.{AreUnits};
+ghost use Rattle.h26x_codec.specs.Repeating.{zero_rule};
+ghost use Rattle.h26x_codec.specs.declared.codec.Codec.{Codec};
+ghost use Rattle.h26x_sdp.specs.Pairs.{Pair};
+ghost use Rattle.h26x_handles.specs.declared.sdp_code.Refused.{Refused};
+ghost use Rattle.h26x_handles.specs.Codes.{codec_with_number, ok, out_of_memory, unknown_codec, wrong_end};
+ghost use Rattle.h26x_handles.specs.Copies.{with_front};
+ghost use Rattle.h26x_handles.specs.Sdp.{sdp_read, sdp_of_units, sdp_text, sdp_value, sdp_number, sdp_max_don_diff};
+ghost use Rattle.h26x_c.specs.Sdp as spec;
+
+use crate::const_handle::ConstHandle;
+use crate::copied::copy_out;
+use crate::handle::Handle;
+use crate::place::{Place, put};
+use h26x_handles::code::{NO_ROOM, OK, OUT_OF_MEMORY, Refusal, UNKNOWN_CODEC, WRONG_END, codec_of};
+use h26x_handles::copy::copy_where_room;
+use h26x_handles::endpoint::Endpoint;
+use h26x_handles::sdp::SdpEndpoint;
+use h26x_handles::sdp_code::{ABSENT, Refused, number_of_codec, refused};
+use std::alloc::Global;
+
+/// Tells the place of a refusal; its code.
+fn tell(refused: Refused, why: &mut Refusal) -> u32
+    ensures code { result ≡ refused.code }
+    ensures place { why.new ≡ record { first = refused.place; second = 0 } }
+{
+    *why = Refusal {
+        first: refused.place,
+        second: 0,
+    };
+    refused.code
+}
+
+/// Makes format parameters of what stands behind the payload type in an `a=fmtp` line.
+#[unsafe(no_mangle)]
+pub extern "C" fn h26x_sdp_read(
+    alloc: Global,
+    codec: u32,
+    text: &[u8],
+    made: &mut Place,
+    why: &mut Refusal,
+) -> u32
+    ensures unknown { codec_with_number codec ≡ None → result ≡ unknown_codec }
+    ensures answer { (c : Codec) → codec_with_number codec ≡ Some c →
+        spec.IsMade (spec.without_place (sdp_read c text.now)) result made.new.value }
+    ensures place { (c : Codec) (it : Refused) → codec_with_number codec ≡ Some c →
+        sdp_read c text.now ≡ Err it → spec.IsRefused it result why.new.first }
+    ensures kept { result ≢ ok → made.new ≡ made.old }
+    ensures kept_why { result ≡ ok → why.new ≡ why.old }
+{
+    let Some(codec) = codec_of(codec) else {
+        return UNKNOWN_CODEC;
+    };
+    match SdpEndpoint::read(alloc, codec, text) {
+        Ok(it) => put(alloc, Endpoint::Sdp(it), made),
+        Err(it) => tell(it, why),
+    }
+}
+
+/// Makes the parameters that a sender says of a stream, of the bytes that it begins with.
+#[unsafe(no_mangle)]
+pub extern "C" fn h26x_sdp_of_payload(
+    alloc: Global,
+    codec: u32,
+    payload: &[u8],
+    made: &mut Place,
+) -> u32
+    ensures unknown { codec_with_number codec ≡ None → result ≡ unknown_codec }
+    ensures answer { (c : Codec) → codec_with_number codec ≡ Some c → (list : List (List ℕ))
+        × AreUnits (zero_rule c) payload.now list
+        × spec.IsMade (sdp_of_units c list) result made.new.value }
+    ensures kept { result ≢ ok → made.new ≡ made.old }
+{
+    let Some(codec) = codec_of(codec) else {
+        return UNKNOWN_CODEC;
+    };
+    match SdpEndpoint::of_payload(alloc, codec, payload) {
+        Ok(it) => put(alloc, Endpoint::Sdp(it), made),
+        Err(code) => code,
+    }
+}
+
+/// Makes the answer to an offered format by one of ours.
+#[unsafe(no_mangle)]
+pub extern "C" fn h26x_sdp_answer(
+    alloc: Global,
+    offered: &ConstHandle,
+    ours: &ConstHandle,
+    made: &mut Place,
+) -> u32
+    ensures wrong { spec.endpoint_answer offered.now.value ours.now.value ≡ Err wrong_end →
+        result ≡ wrong_end }
+    ensures answer { spec.IsMade (spec.endpoint_answer offered.now.value ours.now.value) result
+        made.new.value }
+    ensures kept { result ≢ ok → made.new ≡ made.old }
+{
+    let (Endpoint::Sdp(offered), Endpoint::Sdp(ours)) = (offered.get(), ours.get()) else {
+        return WRONG_END;
+    };
+    match offered.answer(alloc, ours) {
+        Ok(it) => put(alloc, Endpoint::Sdp(it), made),
+        Err(code) => code,
+    }
+}
+
+/// Frees format parameters.
+#[unsafe(no_mangle)]
+pub extern "C" fn h26x_sdp_free(h: Handle) {
+    drop(h.into_box());
+}
+
+/// The number of their codec.
+#[unsafe(no_mangle)]
+pub extern "C" fn h26x_sdp_codec(h: &ConstHandle) -> u32
+    ensures { result ≡ spec.endpoint_sdp_codec h.now.value }
+{
+    match h.get() {
+        Endpoint::Sdp(it) => number_of_codec(it.codec()),
+        _ => 0,
+    }
+}
+
+/// Writes them, where there is room.
+#[unsafe(no_mangle)]
+pub extern "C" fn h26x_sdp_write(
+    alloc: Global,
+    h: &ConstHandle,
+    to: &mut [u8],
+    len: &mut usize,
+) -> u32
+    ensures wrong { spec.is_sdp h.now.value ≡ false → result ≡ wrong_end }
+    ensures answer { (result ≡ out_of_memory) ⊎ ((result, (to.new, len.new))
+        ≡ spec.copy_answer (spec.at_sdp h.now.value (λ it. Ok (sdp_text it))) to.old len.old) }
+    ensures kept { result ≡ out_of_memory → (to.new ≡ to.old) × (len.new ≡ len.old) }
+{
+    let Endpoint::Sdp(it) = h.get() else {
+        return WRONG_END;
+    };
+    match it.write(alloc) {
+        Ok(text) => copy_out(text.as_slice(), to, len),
+        Err(_) => OUT_OF_MEMORY,
+    }
+}
+
+/// The value of the parameter with a name, or where it's absent what the RFC takes for it, where there
+/// is room.
+#[unsafe(no_mangle)]
+pub extern "C" fn h26x_sdp_value(
+    h: &ConstHandle,
+    name: &[u8],
+    or_default: bool,
+    to: &mut [u8],
+    len: &mut usize,
+) -> u32
+    ensures { (result, (to.new, len.new)) ≡ spec.copy_answer
+        (spec.at_sdp h.now.value (λ it. sdp_value it name.now or_default)) to.old len.old }
+{
+    let Endpoint::Sdp(it) = h.get() else {
+        return WRONG_END;
+    };
+    match it.value(name, or_default) {
+        Ok(value) => copy_out(value, to, len),
+        Err(code) => code,
+    }
+}
+
+/// The number of the parameter with a name, or where it's absent that of what the RFC takes for it.
+#[unsafe(no_mangle)]
+pub extern "C" fn h26x_sdp_number(
+    h: &ConstHandle,
+    name: &[u8],
+    or_default: bool,
+    value: &mut u64,
+) -> u32
+    ensures { (result, value.new) ≡ spec.number_answer
+        (spec.at_sdp h.now.value (λ it. sdp_number it name.now or_default)) value.old }
+{
+    let Endpoint::Sdp(it) = h.get() else {
+        return WRONG_END;
+    };
+    match it.number(name, or_default) {
+        Ok(number) => {
+            *value = number;
+            OK
+        }
+        Err(code) => code,
+    }
+}
+
+/// How many units the parameter with a name has.
+#[unsafe(no_mangle)]
+pub extern "C" fn h26x_sdp_units(
+    alloc: Global,
+    h: &ConstHandle,
+    name: &[u8],
+    count: &mut usize,
+    why: &mut Refusal,
+) -> u32
+    ensures wrong { spec.is_sdp h.now.value ≡ false → result ≡ wrong_end }
+    ensures answer { (result ≡ out_of_memory) ⊎ ((result, count.new) ≡ spec.number_answer
+        (spec.units_count (spec.endpoint_units h.now.value name.now)) count.old) }
+    ensures place { (it : Refused) → spec.endpoint_units h.now.value name.now ≡ Err it →
+        spec.IsRefused it result why.new.first }
+    ensures kept { result ≡ out_of_memory → count.new ≡ count.old }
+    ensures kept_why { result ≡ ok → why.new ≡ why.old }
+{
+    let Endpoint::Sdp(it) = h.get() else {
+        return tell(refused(WRONG_END), why);
+    };
+    match it.units(alloc, name) {
+        Ok(units) => {
+            *count = units.len();
+            OK
+        }
+        Err(it) => tell(it, why),
+    }
+}
+
+/// A unit of the parameter with a name, counted from 0, where there is room.
+#[unsafe(no_mangle)]
+pub extern "C" fn h26x_sdp_unit(
+    alloc: Global,
+    h: &ConstHandle,
+    name: &[u8],
+    i: usize,
+    to: &mut [u8],
+    len: &mut usize,
+    why: &mut Refusal,
+) -> u32
+    ensures wrong { spec.is_sdp h.now.value ≡ false → result ≡ wrong_end }
+    ensures answer { (result ≡ out_of_memory) ⊎ ((result, (to.new, len.new)) ≡ spec.copy_answer
+        (spec.nth_unit i (spec.endpoint_units h.now.value name.now)) to.old len.old) }
+    ensures place { (it : Refused) → spec.endpoint_units h.now.value name.now ≡ Err it →
+        spec.IsRefused it result why.new.first }
+    ensures kept { result ≡ out_of_memory → (to.new ≡ to.old) × (len.new ≡ len.old) }
+    ensures kept_why { result ≡ ok → why.new ≡ why.old }
+{
+    let Endpoint::Sdp(it) = h.get() else {
+        return tell(refused(WRONG_END), why);
+    };
+    match it.units(alloc, name) {
+        Ok(units) => match units.get(i) {
+            Some(unit) => copy_out(unit.as_slice(), to, len),
+            None => ABSENT,
+        },
+        Err(it) => tell(it, why),
+    }
+}
+
+/// The name and the value of a parameter that the RFC doesn't have, counted from 0, where there is room
+/// for both.
+#[unsafe(no_mangle)]
+pub extern "C" fn h26x_sdp_other(
+    h: &ConstHandle,
+    i: usize,
+    name_to: &mut [u8],
+    name_len: &mut usize,
+    value_to: &mut [u8],
+    value_len: &mut usize,
+) -> u32
+    ensures answer { result ≡ spec.pair_code (spec.endpoint_other i h.now.value)
+        name_to.old value_to.old }
+    ensures lens { (it : Pair) → spec.endpoint_other i h.now.value ≡ Ok it →
+        (name_len.new ≡ length it.name) × (value_len.new ≡ length it.value) }
+    ensures copied { (it : Pair) → spec.endpoint_other i h.now.value ≡ Ok it → result ≡ ok →
+        (name_to.new ≡ with_front it.name name_to.old)
+        × (value_to.new ≡ with_front it.value value_to.old) }
+    ensures kept { result ≢ ok → (name_to.new ≡ name_to.old) × (value_to.new ≡ value_to.old) }
+    ensures kept_lens { (code : ℕ) → spec.endpoint_other i h.now.value ≡ Err code →
+        (name_len.new ≡ name_len.old) × (value_len.new ≡ value_len.old) }
+{
+    let Endpoint::Sdp(it) = h.get() else {
+        return WRONG_END;
+    };
+    let Some(other) = it.others().get(i) else {
+        return ABSENT;
+    };
+    *name_len = other.name.len();
+    *value_len = other.value.len();
+    if other.name.len() > name_to.len() || other.value.len() > value_to.len() {
+        return NO_ROOM;
+    }
+    copy_where_room(other.name.as_slice(), name_to);
+    copy_where_room(other.value.as_slice(), value_to);
+    OK
+}
+
+/// What packetizers and receivers of H.265 and H.266 are configured for.
+#[unsafe(no_mangle)]
+pub extern "C" fn h26x_sdp_max_don_diff(h: &ConstHandle, value: &mut u32) -> u32
+    ensures { (result, value.new)
+        ≡ spec.number_answer (spec.at_sdp h.now.value sdp_max_don_diff) value.old }
+{
+    let Endpoint::Sdp(it) = h.get() else {
+        return WRONG_END;
+    };
+    match it.max_don_diff() {
+        Ok(number) => {
+            *value = number;
+            OK
+        }
+        Err(code) => code,
+    }
+}

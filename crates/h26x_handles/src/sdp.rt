@@ -1,0 +1,260 @@
+//! Format parameters of SDP, with their codec.
+
+ghost use Rattle.std.specs.Prelude.{◌≡◌, ◌⊎◌, ◌×◌, List, ℕ, Ok, Err, Some, None, IfOk, MatchResult, map};
+ghost use Rattle.h26x_cut.specs.Cutting.{AreUnits};
+ghost use Rattle.h26x_codec.specs.Repeating.{zero_rule};
+ghost use Rattle.h26x_sdp.specs.Answers.{answer_by, rules_of};
+ghost use Rattle.h26x_sdp.specs.ParametersViews.{other_view};
+ghost use Rattle.h26x_handles.specs.Codes as codes;
+ghost use Rattle.h26x_handles.specs.SdpCodes.{no_answer};
+ghost use Rattle.h26x_handles.specs.SdpCodes as code;
+ghost use Rattle.h26x_handles.specs.Sdp as spec;
+
+use crate::code::{NOT_OF_THIS_CODEC, OUT_OF_MEMORY};
+use crate::sdp_code::{
+    ABSENT, NO_ANSWER, OTHER_KIND, Refused, UNKNOWN_NAME, of_parameters, of_stream, of_units,
+    refused,
+};
+use crate::sdp_parameter::{ListedParameter, parameter_of};
+use h26x_codec::Codec;
+use h26x_sdp::{
+    CodecParameters, CodecRules, H264Parameters, H265Parameters, H266Parameters, Kind,
+    OtherParameter, h264_of_payload, h265_of_payload, h266_of_payload,
+};
+use std::alloc::{AllocError, Global};
+use std::slice;
+
+/// The format parameters of a codec.
+#[derive(Drop)]
+pub enum SdpEndpoint {
+    H264(H264Parameters),
+    H265(H265Parameters),
+    H266(H266Parameters),
+}
+
+/// Whether a parameter is a number.
+fn is_number(kind: Kind) -> bool
+    ensures { result ≡ spec.is_number kind }
+{
+    match kind {
+        Kind::Number { .. } | Kind::HexadecimalNumber { .. } => true,
+        Kind::Hexadecimal { .. } | Kind::TxMode | Kind::Units(_) | Kind::Text => false,
+    }
+}
+
+/// Whether a parameter is units.
+fn is_units(kind: Kind) -> bool
+    ensures { result ≡ spec.is_units kind }
+{
+    match kind {
+        Kind::Units(_) => true,
+        _ => false,
+    }
+}
+
+/// The value of the parameter with a name, or where it's absent what the RFC takes for it.
+fn value_of<'a, P: ListedParameter>(
+    it: &'a CodecParameters<P>,
+    name: &[u8],
+    or_default: bool,
+) -> Result<&'a [u8], u32>
+    ensures { MatchResult result
+        (λ value. spec.named_value P.rows it.now name.now or_default ≡ Ok value.now)
+        (λ code. spec.named_value P.rows it.now name.now or_default ≡ Err code) }
+{
+    let Some((parameter, _)) = parameter_of(name) else {
+        return Err(UNKNOWN_NAME);
+    };
+    let value = if or_default {
+        it.value_or_default(parameter)
+    } else {
+        it.value(parameter)
+    };
+    value.ok_or(ABSENT)
+}
+
+/// The number of the parameter with a name, or where it's absent that of what the RFC takes for it.
+fn number_of<P: ListedParameter>(
+    it: &CodecParameters<P>,
+    name: &[u8],
+    or_default: bool,
+) -> Result<u64, u32>
+    ensures { result ≡ spec.named_number P.rows it.now name.now or_default }
+{
+    let Some((parameter, kind)) = parameter_of(name) else {
+        return Err(UNKNOWN_NAME);
+    };
+    if !is_number(kind) {
+        return Err(OTHER_KIND);
+    }
+    let number = if or_default {
+        it.number_or_default(parameter)
+    } else {
+        it.number(parameter)
+    };
+    number.ok_or(ABSENT)
+}
+
+/// The units of the parameter with a name.
+fn units_of<P: ListedParameter>(
+    alloc: Global,
+    it: &CodecParameters<P>,
+    name: &[u8],
+) -> Result<Vec<Vec<u8>>, Refused>
+    ensures { spec.SaysNamedUnits result (spec.named_units P.rows it.now name.now) }
+{
+    let Some((parameter, kind)) = parameter_of(name) else {
+        return Err(refused(UNKNOWN_NAME));
+    };
+    if !is_units(kind) {
+        return Err(refused(OTHER_KIND));
+    }
+    match it.units(alloc, parameter) {
+        Ok(Some(units)) => Ok(units),
+        Ok(None) => Err(refused(ABSENT)),
+        Err(error) => Err(of_units(error)),
+    }
+}
+
+/// The answer to an offered format by one of ours, or that there is none.
+fn answer_of<P: CodecRules>(
+    alloc: Global,
+    offered: &CodecParameters<P>,
+    ours: &CodecParameters<P>,
+) -> Result<CodecParameters<P>, u32>
+    ensures { (result ≡ Err codes.out_of_memory) ⊎ (result
+        ≡ spec.answer_or_code (rules_of P.rows P.roles P.terms) offered.now ours.now) }
+{
+    match offered.answer(alloc, slice::from_ref(ours)) {
+        Ok(Some(answer)) => Ok(answer),
+        Ok(None) => Err(NO_ANSWER),
+        Err(_) => Err(OUT_OF_MEMORY),
+    }
+}
+
+impl SdpEndpoint {
+    /// Reads what stands behind the payload type in an `a=fmtp` line.
+    pub fn read(alloc: Global, codec: Codec, text: &[u8]) -> Result<Self, Refused>
+        ensures { (result ≡ Err (code.refused codes.out_of_memory))
+            ⊎ (result ≡ spec.sdp_read codec text.now) }
+    {
+        let read = match codec {
+            Codec::H264 => H264Parameters::read(alloc, text).map(SdpEndpoint::H264),
+            Codec::H265 => H265Parameters::read(alloc, text).map(SdpEndpoint::H265),
+            Codec::H266 => H266Parameters::read(alloc, text).map(SdpEndpoint::H266),
+        };
+        read.map_err(of_parameters)
+    }
+
+    /// What a sender says of its stream, out of the bytes that it begins with.
+    pub fn of_payload(alloc: Global, codec: Codec, payload: &[u8]) -> Result<Self, u32>
+        ensures { (list : List (List ℕ)) × AreUnits (zero_rule codec) payload.now list
+            × ((result ≡ Err codes.out_of_memory) ⊎ (result ≡ spec.sdp_of_units codec list)) }
+    {
+        let made = match codec {
+            Codec::H264 => h264_of_payload(alloc, payload).map(SdpEndpoint::H264),
+            Codec::H265 => h265_of_payload(alloc, payload).map(SdpEndpoint::H265),
+            Codec::H266 => h266_of_payload(alloc, payload).map(SdpEndpoint::H266),
+        };
+        made.map_err(of_stream)
+    }
+
+    /// The answer to an offered format by one of ours; there is none of another codec.
+    pub fn answer(&self, alloc: Global, ours: &SdpEndpoint) -> Result<Self, u32>
+        ensures { (result ≡ Err codes.out_of_memory)
+            ⊎ (result ≡ spec.sdp_answer self.now ours.now) }
+    {
+        match (self, ours) {
+            (SdpEndpoint::H264(offered), SdpEndpoint::H264(ours)) => {
+                Ok(SdpEndpoint::H264(answer_of(alloc, offered, ours)?))
+            }
+            (SdpEndpoint::H265(offered), SdpEndpoint::H265(ours)) => {
+                Ok(SdpEndpoint::H265(answer_of(alloc, offered, ours)?))
+            }
+            (SdpEndpoint::H266(offered), SdpEndpoint::H266(ours)) => {
+                Ok(SdpEndpoint::H266(answer_of(alloc, offered, ours)?))
+            }
+            _ => Err(NO_ANSWER),
+        }
+    }
+
+    /// Their codec.
+    pub fn codec(&self) -> Codec
+        ensures { result ≡ spec.sdp_codec self.now }
+    {
+        match self {
+            SdpEndpoint::H264(_) => Codec::H264,
+            SdpEndpoint::H265(_) => Codec::H265,
+            SdpEndpoint::H266(_) => Codec::H266,
+        }
+    }
+
+    /// Writes them.
+    pub fn write(&self, alloc: Global) -> Result<Vec<u8>, AllocError>
+        ensures { IfOk result (λ text. text.items ≡ spec.sdp_text self.now) }
+    {
+        match self {
+            SdpEndpoint::H264(it) => it.write(alloc),
+            SdpEndpoint::H265(it) => it.write(alloc),
+            SdpEndpoint::H266(it) => it.write(alloc),
+        }
+    }
+
+    /// The value of the parameter with a name, without regard to case.
+    pub fn value(&self, name: &[u8], or_default: bool) -> Result<&[u8], u32>
+        ensures { MatchResult result
+            (λ value. spec.sdp_value self.now name.now or_default ≡ Ok value.now)
+            (λ code. spec.sdp_value self.now name.now or_default ≡ Err code) }
+    {
+        match self {
+            SdpEndpoint::H264(it) => value_of(it, name, or_default),
+            SdpEndpoint::H265(it) => value_of(it, name, or_default),
+            SdpEndpoint::H266(it) => value_of(it, name, or_default),
+        }
+    }
+
+    /// The number of the parameter with a name, without regard to case.
+    pub fn number(&self, name: &[u8], or_default: bool) -> Result<u64, u32>
+        ensures { result ≡ spec.sdp_number self.now name.now or_default }
+    {
+        match self {
+            SdpEndpoint::H264(it) => number_of(it, name, or_default),
+            SdpEndpoint::H265(it) => number_of(it, name, or_default),
+            SdpEndpoint::H266(it) => number_of(it, name, or_default),
+        }
+    }
+
+    /// The units of the parameter with a name, without regard to case.
+    pub fn units(&self, alloc: Global, name: &[u8]) -> Result<Vec<Vec<u8>>, Refused>
+        ensures { spec.SaysNamedUnits result (spec.sdp_units self.now name.now) }
+    {
+        match self {
+            SdpEndpoint::H264(it) => units_of(alloc, it, name),
+            SdpEndpoint::H265(it) => units_of(alloc, it, name),
+            SdpEndpoint::H266(it) => units_of(alloc, it, name),
+        }
+    }
+
+    /// The parameters that the RFC doesn't have, in their order.
+    pub fn others(&self) -> &[OtherParameter]
+        ensures { map other_view result.now ≡ spec.sdp_others self.now }
+    {
+        match self {
+            SdpEndpoint::H264(it) => it.others(),
+            SdpEndpoint::H265(it) => it.others(),
+            SdpEndpoint::H266(it) => it.others(),
+        }
+    }
+
+    /// What packetizers and receivers of H.265 and H.266 are configured for: `sprop-max-don-diff`, or 0
+    /// where it's absent.
+    pub fn max_don_diff(&self) -> Result<u32, u32>
+        ensures { result ≡ spec.sdp_max_don_diff self.now }
+    {
+        match self {
+            SdpEndpoint::H264(_) => Err(NOT_OF_THIS_CODEC),
+            SdpEndpoint::H265(it) => it.max_don_diff().ok_or(ABSENT),
+            SdpEndpoint::H266(it) => it.max_don_diff().ok_or(ABSENT),
+        }
+    }
+}

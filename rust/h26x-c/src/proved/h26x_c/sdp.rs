@@ -1,0 +1,208 @@
+// Made from crates/h26x_c/src/sdp.rt by tools/to-rust.
+
+//! The calls on format parameters of SDP.
+
+use crate::proved::h26x_c::const_handle::ConstHandle;
+use crate::proved::h26x_c::copied::copy_out;
+use crate::proved::h26x_c::handle::Handle;
+use crate::proved::h26x_c::place::{Place, put};
+use crate::proved::h26x_handles::code::{
+    NO_ROOM, OK, OUT_OF_MEMORY, Refusal, UNKNOWN_CODEC, WRONG_END, codec_of,
+};
+use crate::proved::h26x_handles::copy::copy_where_room;
+use crate::proved::h26x_handles::endpoint::Endpoint;
+use crate::proved::h26x_handles::sdp::SdpEndpoint;
+use crate::proved::h26x_handles::sdp_code::{ABSENT, Refused, number_of_codec, refused};
+use core::mem::MaybeUninit;
+
+/// Tells the place of a refusal; its code.
+fn tell(refused: Refused, why: &mut MaybeUninit<Refusal>) -> u32 {
+    why.write(Refusal {
+        first: refused.place,
+        second: 0,
+    });
+    refused.code
+}
+
+/// Makes format parameters of what stands behind the payload type in an `a=fmtp` line.
+pub fn h26x_sdp_read(
+    codec: u32,
+    text: &[u8],
+    made: &mut MaybeUninit<Place>,
+    why: &mut MaybeUninit<Refusal>,
+) -> u32 {
+    let Some(codec) = codec_of(codec) else {
+        return UNKNOWN_CODEC;
+    };
+    match SdpEndpoint::read(codec, text) {
+        Ok(it) => put(Endpoint::Sdp(it), made),
+        Err(it) => tell(it, why),
+    }
+}
+
+/// Makes the parameters that a sender says of a stream, of the bytes that it begins with.
+pub fn h26x_sdp_of_payload(codec: u32, payload: &[u8], made: &mut MaybeUninit<Place>) -> u32 {
+    let Some(codec) = codec_of(codec) else {
+        return UNKNOWN_CODEC;
+    };
+    match SdpEndpoint::of_payload(codec, payload) {
+        Ok(it) => put(Endpoint::Sdp(it), made),
+        Err(code) => code,
+    }
+}
+
+/// Makes the answer to an offered format by one of ours.
+pub fn h26x_sdp_answer(
+    offered: &ConstHandle,
+    ours: &ConstHandle,
+    made: &mut MaybeUninit<Place>,
+) -> u32 {
+    let (Endpoint::Sdp(offered), Endpoint::Sdp(ours)) = (offered.get(), ours.get()) else {
+        return WRONG_END;
+    };
+    match offered.answer(ours) {
+        Ok(it) => put(Endpoint::Sdp(it), made),
+        Err(code) => code,
+    }
+}
+
+/// Frees format parameters.
+pub fn h26x_sdp_free(h: Handle) {
+    drop(h.into_box());
+}
+
+/// The number of their codec.
+pub fn h26x_sdp_codec(h: &ConstHandle) -> u32 {
+    match h.get() {
+        Endpoint::Sdp(it) => number_of_codec(it.codec()),
+        _ => 0,
+    }
+}
+
+/// Writes them, where there is room.
+pub fn h26x_sdp_write(h: &ConstHandle, to: &mut [u8], len: &mut MaybeUninit<usize>) -> u32 {
+    let Endpoint::Sdp(it) = h.get() else {
+        return WRONG_END;
+    };
+    match it.write() {
+        Ok(text) => copy_out(text.as_slice(), to, len),
+        Err(_) => OUT_OF_MEMORY,
+    }
+}
+
+/// The value of the parameter with a name, or where it's absent what the RFC takes for it, where there
+/// is room.
+pub fn h26x_sdp_value(
+    h: &ConstHandle,
+    name: &[u8],
+    or_default: bool,
+    to: &mut [u8],
+    len: &mut MaybeUninit<usize>,
+) -> u32 {
+    let Endpoint::Sdp(it) = h.get() else {
+        return WRONG_END;
+    };
+    match it.value(name, or_default) {
+        Ok(value) => copy_out(value, to, len),
+        Err(code) => code,
+    }
+}
+
+/// The number of the parameter with a name, or where it's absent that of what the RFC takes for it.
+pub fn h26x_sdp_number(
+    h: &ConstHandle,
+    name: &[u8],
+    or_default: bool,
+    value: &mut MaybeUninit<u64>,
+) -> u32 {
+    let Endpoint::Sdp(it) = h.get() else {
+        return WRONG_END;
+    };
+    match it.number(name, or_default) {
+        Ok(number) => {
+            value.write(number);
+            OK
+        }
+        Err(code) => code,
+    }
+}
+
+/// How many units the parameter with a name has.
+pub fn h26x_sdp_units(
+    h: &ConstHandle,
+    name: &[u8],
+    count: &mut MaybeUninit<usize>,
+    why: &mut MaybeUninit<Refusal>,
+) -> u32 {
+    let Endpoint::Sdp(it) = h.get() else {
+        return tell(refused(WRONG_END), why);
+    };
+    match it.units(name) {
+        Ok(units) => {
+            count.write(units.len());
+            OK
+        }
+        Err(it) => tell(it, why),
+    }
+}
+
+/// A unit of the parameter with a name, counted from 0, where there is room.
+pub fn h26x_sdp_unit(
+    h: &ConstHandle,
+    name: &[u8],
+    i: usize,
+    to: &mut [u8],
+    len: &mut MaybeUninit<usize>,
+    why: &mut MaybeUninit<Refusal>,
+) -> u32 {
+    let Endpoint::Sdp(it) = h.get() else {
+        return tell(refused(WRONG_END), why);
+    };
+    match it.units(name) {
+        Ok(units) => match units.get(i) {
+            Some(unit) => copy_out(unit.as_slice(), to, len),
+            None => ABSENT,
+        },
+        Err(it) => tell(it, why),
+    }
+}
+
+/// The name and the value of a parameter that the RFC doesn't have, counted from 0, where there is room
+/// for both.
+pub fn h26x_sdp_other(
+    h: &ConstHandle,
+    i: usize,
+    name_to: &mut [u8],
+    name_len: &mut MaybeUninit<usize>,
+    value_to: &mut [u8],
+    value_len: &mut MaybeUninit<usize>,
+) -> u32 {
+    let Endpoint::Sdp(it) = h.get() else {
+        return WRONG_END;
+    };
+    let Some(other) = it.others().get(i) else {
+        return ABSENT;
+    };
+    name_len.write(other.name.len());
+    value_len.write(other.value.len());
+    if other.name.len() > name_to.len() || other.value.len() > value_to.len() {
+        return NO_ROOM;
+    }
+    copy_where_room(other.name.as_slice(), name_to);
+    copy_where_room(other.value.as_slice(), value_to);
+    OK
+}
+
+/// What packetizers and receivers of H.265 and H.266 are configured for.
+pub fn h26x_sdp_max_don_diff(h: &ConstHandle, value: &mut MaybeUninit<u32>) -> u32 {
+    let Endpoint::Sdp(it) = h.get() else {
+        return WRONG_END;
+    };
+    match it.max_don_diff() {
+        Ok(number) => {
+            value.write(number);
+            OK
+        }
+        Err(code) => code,
+    }
+}
