@@ -147,6 +147,7 @@ static void *run(void *at)
         check_showing(&work->tally);
         check_looking(&work->tally);
         check_profiles(&work->tally);
+        check_sdp(&work->tally);
         check_optional(&work->tally);
     }
     work->pass(&work->tally);

@@ -9,7 +9,7 @@ use Rattle.h26x_sdp.specs.declared.rtp_map.RtpMap.{RtpMap}
 use Rattle.h26x_sdp.specs.declared.rtp_map.RtpMapError.{RtpMapError}
 use Rattle.h26x_handles.specs.Codes.{codec_with_number, ok, out_of_memory, unknown_codec, wrong_end, no_room}
 use Rattle.h26x_handles.specs.Copies.{with_front}
-use Rattle.h26x_handles.specs.SdpCodes.{absent, no_payload_type, refused, rtp_map_code, codec_number, encoding_codec, codec_encoding}
+use Rattle.h26x_handles.specs.SdpCodes.{absent, no_payload_type, refused_with, rtp_map_code, codec_number, encoding_codec, codec_encoding}
 use Rattle.h26x_handles.specs.Sdp.{sdp_codec, sdp_answer, sdp_units, sdp_others}
 use Rattle.h26x_handles.specs.declared.sdp_code.Refused.{Refused}
 use Rattle.h26x_handles.specs.declared.sdp.SdpEndpoint.{SdpEndpoint}
@@ -68,7 +68,7 @@ endpoint_answer offered ours = Err wrong_end
 -- the units of the parameter with a name, or why there are none
 abbrev pub endpoint_units : Endpoint → List ℕ → Result (List (List ℕ)) Refused
 endpoint_units (e.Sdp it) name = sdp_units it name
-endpoint_units it name = Err (refused wrong_end)
+endpoint_units it name = Err (refused_with wrong_end)
 
 abbrev pub units_count : Result (List (List ℕ)) Refused → Result ℕ ℕ
 units_count = result_map_both length (λ it. it.code)

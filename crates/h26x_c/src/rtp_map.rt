@@ -1,6 +1,6 @@
 //! The calls on payload types of SDP, and on what `packetization-mode` 0 lets through.
 
-ghost use Rattle.std.specs.Prelude.{◌≡◌, ◌⊎◌, ◌×◌, ℕ, List, Err, nat_le, length};
+ghost use Rattle.std.specs.Prelude.{◌≡◌, ◌⊎◌, ℕ, List, Err, nat_le, length};
 ghost use Rattle.std.specs.List.{list_all};
 ghost use Rattle.h26x_cut.specs.Cutting.{AreUnits};
 ghost use Rattle.h26x_cut.specs.declared.ZeroRule.TheVariants.{All};

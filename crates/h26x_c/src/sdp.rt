@@ -1,6 +1,6 @@
 //! The calls on format parameters of SDP.
 
-ghost use Rattle.std.specs.Prelude.{◌≡◌, ◌≢◌, ◌⊎◌, ◌×◌, ℕ, List, true, false, Some, None, Ok, Err, length};
+ghost use Rattle.std.specs.Prelude.{◌≡◌, ◌≢◌, ◌⊎◌, ℕ, List, true, false, Some, None, Ok, Err, length};
 ghost use Rattle.h26x_cut.specs.Cutting.{AreUnits};
 ghost use Rattle.h26x_codec.specs.Repeating.{zero_rule};
 ghost use Rattle.h26x_codec.specs.declared.codec.Codec.{Codec};
@@ -19,7 +19,7 @@ use h26x_handles::code::{NO_ROOM, OK, OUT_OF_MEMORY, Refusal, UNKNOWN_CODEC, WRO
 use h26x_handles::copy::copy_where_room;
 use h26x_handles::endpoint::Endpoint;
 use h26x_handles::sdp::SdpEndpoint;
-use h26x_handles::sdp_code::{ABSENT, Refused, number_of_codec, refused};
+use h26x_handles::sdp_code::{ABSENT, Refused, number_of_codec, refused_with};
 use std::alloc::Global;
 
 /// Tells the place of a refusal; its code.
@@ -208,7 +208,7 @@ pub extern "C" fn h26x_sdp_units(
     ensures kept_why { result ≡ ok → why.new ≡ why.old }
 {
     let Endpoint::Sdp(it) = h.get() else {
-        return tell(refused(WRONG_END), why);
+        return tell(refused_with(WRONG_END), why);
     };
     match it.units(alloc, name) {
         Ok(units) => {
@@ -239,7 +239,7 @@ pub extern "C" fn h26x_sdp_unit(
     ensures kept_why { result ≡ ok → why.new ≡ why.old }
 {
     let Endpoint::Sdp(it) = h.get() else {
-        return tell(refused(WRONG_END), why);
+        return tell(refused_with(WRONG_END), why);
     };
     match it.units(alloc, name) {
         Ok(units) => match units.get(i) {

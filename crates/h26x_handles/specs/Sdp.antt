@@ -30,7 +30,7 @@ use Rattle.h26x_handles.specs.declared.sdp_code.Refused.{Refused}
 use Rattle.h26x_handles.specs.declared.sdp.SdpEndpoint.{SdpEndpoint}
 use Rattle.h26x_handles.specs.declared.sdp.SdpEndpoint.TheVariants as s
 use Rattle.h26x_handles.specs.Codes.{out_of_memory, not_of_this_codec}
-use Rattle.h26x_handles.specs.SdpCodes.{unknown_name, absent, other_kind, no_answer, refused, parameters_refused, units_refused, stream_code}
+use Rattle.h26x_handles.specs.SdpCodes.{unknown_name, absent, other_kind, no_answer, refused_with, parameters_refused, units_refused, stream_code}
 
 -- the parameters that a codec's RFC registers, in their order
 abbrev pub sdp_rows : Codec → List ParameterRow
@@ -127,7 +127,7 @@ sdp_number it = named_number (sdp_rows (sdp_codec it)) (sdp_parameters it)
 -- the units of a parameter, or why there are none
 abbrev pub units_or_refused : Option (Result (List (List ℕ)) UnitsError) →
     Result (List (List ℕ)) Refused
-units_or_refused None = Err (refused absent)
+units_or_refused None = Err (refused_with absent)
 units_or_refused (Some (Ok units)) = Ok units
 units_or_refused (Some (Err error)) = Err (units_refused error)
 
@@ -135,9 +135,9 @@ units_or_refused (Some (Err error)) = Err (units_refused error)
 abbrev pub named_units : List ParameterRow → FormatParameters → List ℕ →
     Result (List (List ℕ)) Refused
 named_units rows it name = elim (row_of rows name) [
-  | None ↦ Err (refused unknown_name)
+  | None ↦ Err (refused_with unknown_name)
   | Some row ↦ if is_units row.1 then units_or_refused (units_at rows it row.0)
-      else Err (refused other_kind)
+      else Err (refused_with other_kind)
 ]
 
 abbrev pub sdp_units : SdpEndpoint → List ℕ → Result (List (List ℕ)) Refused
@@ -147,7 +147,7 @@ sdp_units it = named_units (sdp_rows (sdp_codec it)) (sdp_parameters it)
 abbrev pub SaysNamedUnits : Result (Vec (Vec ℕ Global) Global) Refused →
     Result (List (List ℕ)) Refused → Type 0
 SaysNamedUnits (Ok units) read = read ≡ Ok (units_view units.items)
-SaysNamedUnits (Err it) read = (it ≡ refused out_of_memory) ⊎ (read ≡ Err it)
+SaysNamedUnits (Err it) read = (it ≡ refused_with out_of_memory) ⊎ (read ≡ Err it)
 
 -- the parameters that the RFC doesn't have, in their order
 abbrev pub sdp_others : SdpEndpoint → List Pair

@@ -38,8 +38,8 @@ abbrev pub no_payload_type : ℕ
 no_payload_type = 38
 
 -- a code that is of no place
-abbrev pub refused : ℕ → Refused
-refused code = record { code = code; place = 0 }
+abbrev pub refused_with : ℕ → Refused
+refused_with code = record { code = code; place = 0 }
 
 -- the code of a parameter's fault
 abbrev pub fault_code : Fault → ℕ
@@ -51,9 +51,9 @@ fault_code f.Twice = 25
 
 -- why a text is no parameters
 abbrev pub parameters_refused : ParametersError → Refused
-parameters_refused p.OpenBrace = refused 20
+parameters_refused p.OpenBrace = refused_with 20
 parameters_refused (p.Refused place fault) = record { code = fault_code fault; place = place }
-parameters_refused p.OutOfMemory = refused out_of_memory
+parameters_refused p.OutOfMemory = refused_with out_of_memory
 
 -- why a parameter is no units
 abbrev pub units_refused : UnitsError → Refused
@@ -61,7 +61,7 @@ units_refused (u.NotBase64 place) = record { code = 29; place = place }
 units_refused (u.Empty place) = record { code = 30; place = place }
 units_refused (u.OtherType place) = record { code = 31; place = place }
 units_refused (u.StartCode place) = record { code = 32; place = place }
-units_refused u.OutOfMemory = refused out_of_memory
+units_refused u.OutOfMemory = refused_with out_of_memory
 
 -- why a stream says no parameters
 abbrev pub stream_code : StreamError → ℕ

@@ -1,6 +1,6 @@
 //! Format parameters of SDP, with their codec.
 
-ghost use Rattle.std.specs.Prelude.{◌≡◌, ◌⊎◌, ◌×◌, List, ℕ, Ok, Err, Some, None, IfOk, MatchResult, map};
+ghost use Rattle.std.specs.Prelude.{◌≡◌, ◌⊎◌, List, ℕ, Ok, Err, Some, None, IfOk, MatchResult, map};
 ghost use Rattle.h26x_cut.specs.Cutting.{AreUnits};
 ghost use Rattle.h26x_codec.specs.Repeating.{zero_rule};
 ghost use Rattle.h26x_sdp.specs.Answers.{answer_by, rules_of};
@@ -13,7 +13,7 @@ ghost use Rattle.h26x_handles.specs.Sdp as spec;
 use crate::code::{NOT_OF_THIS_CODEC, OUT_OF_MEMORY};
 use crate::sdp_code::{
     ABSENT, NO_ANSWER, OTHER_KIND, Refused, UNKNOWN_NAME, of_parameters, of_stream, of_units,
-    refused,
+    refused_with,
 };
 use crate::sdp_parameter::{ListedParameter, parameter_of};
 use h26x_codec::Codec;
@@ -104,14 +104,14 @@ fn units_of<P: ListedParameter>(
     ensures { spec.SaysNamedUnits result (spec.named_units P.rows it.now name.now) }
 {
     let Some((parameter, kind)) = parameter_of(name) else {
-        return Err(refused(UNKNOWN_NAME));
+        return Err(refused_with(UNKNOWN_NAME));
     };
     if !is_units(kind) {
-        return Err(refused(OTHER_KIND));
+        return Err(refused_with(OTHER_KIND));
     }
     match it.units(alloc, parameter) {
         Ok(Some(units)) => Ok(units),
-        Ok(None) => Err(refused(ABSENT)),
+        Ok(None) => Err(refused_with(ABSENT)),
         Err(error) => Err(of_units(error)),
     }
 }
@@ -135,7 +135,7 @@ fn answer_of<P: CodecRules>(
 impl SdpEndpoint {
     /// Reads what stands behind the payload type in an `a=fmtp` line.
     pub fn read(alloc: Global, codec: Codec, text: &[u8]) -> Result<Self, Refused>
-        ensures { (result ≡ Err (code.refused codes.out_of_memory))
+        ensures { (result ≡ Err (code.refused_with codes.out_of_memory))
             ⊎ (result ≡ spec.sdp_read codec text.now) }
     {
         let read = match codec {

@@ -33,8 +33,8 @@ pub struct Refused {
 }
 
 /// A code that is of no place.
-pub fn refused(code: u32) -> Refused
-    ensures { result ≡ spec.refused code }
+pub fn refused_with(code: u32) -> Refused
+    ensures { result ≡ spec.refused_with code }
 {
     Refused { code, place: 0 }
 }
@@ -57,12 +57,12 @@ pub fn of_parameters(error: ParametersError) -> Refused
     ensures { result ≡ spec.parameters_refused error }
 {
     match error {
-        ParametersError::OpenBrace => refused(OPEN_BRACE),
+        ParametersError::OpenBrace => refused_with(OPEN_BRACE),
         ParametersError::Refused { place, fault } => Refused {
             code: code_of_fault(fault),
             place,
         },
-        ParametersError::OutOfMemory => refused(OUT_OF_MEMORY),
+        ParametersError::OutOfMemory => refused_with(OUT_OF_MEMORY),
     }
 }
 
@@ -75,7 +75,7 @@ pub fn of_units(error: UnitsError) -> Refused
         UnitsError::Empty { place } => Refused { code: 30, place },
         UnitsError::OtherType { place } => Refused { code: 31, place },
         UnitsError::StartCode { place } => Refused { code: 32, place },
-        UnitsError::OutOfMemory => refused(OUT_OF_MEMORY),
+        UnitsError::OutOfMemory => refused_with(OUT_OF_MEMORY),
     }
 }
 

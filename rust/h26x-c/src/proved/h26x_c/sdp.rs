@@ -12,7 +12,7 @@ use crate::proved::h26x_handles::code::{
 use crate::proved::h26x_handles::copy::copy_where_room;
 use crate::proved::h26x_handles::endpoint::Endpoint;
 use crate::proved::h26x_handles::sdp::SdpEndpoint;
-use crate::proved::h26x_handles::sdp_code::{ABSENT, Refused, number_of_codec, refused};
+use crate::proved::h26x_handles::sdp_code::{ABSENT, Refused, number_of_codec, refused_with};
 use core::mem::MaybeUninit;
 
 /// Tells the place of a refusal; its code.
@@ -135,7 +135,7 @@ pub fn h26x_sdp_units(
     why: &mut MaybeUninit<Refusal>,
 ) -> u32 {
     let Endpoint::Sdp(it) = h.get() else {
-        return tell(refused(WRONG_END), why);
+        return tell(refused_with(WRONG_END), why);
     };
     match it.units(name) {
         Ok(units) => {
@@ -156,7 +156,7 @@ pub fn h26x_sdp_unit(
     why: &mut MaybeUninit<Refusal>,
 ) -> u32 {
     let Endpoint::Sdp(it) = h.get() else {
-        return tell(refused(WRONG_END), why);
+        return tell(refused_with(WRONG_END), why);
     };
     match it.units(name) {
         Ok(units) => match units.get(i) {

@@ -6,7 +6,7 @@ use crate::proved::h26x_codec::Codec;
 use crate::proved::h26x_handles::code::{NOT_OF_THIS_CODEC, OUT_OF_MEMORY};
 use crate::proved::h26x_handles::sdp_code::{
     ABSENT, NO_ANSWER, OTHER_KIND, Refused, UNKNOWN_NAME, of_parameters, of_stream, of_units,
-    refused,
+    refused_with,
 };
 use crate::proved::h26x_handles::sdp_parameter::{ListedParameter, parameter_of};
 use crate::proved::h26x_sdp::{
@@ -83,14 +83,14 @@ fn units_of<P: ListedParameter>(
     name: &[u8],
 ) -> Result<Vec<Vec<u8>>, Refused> {
     let Some((parameter, kind)) = parameter_of(name) else {
-        return Err(refused(UNKNOWN_NAME));
+        return Err(refused_with(UNKNOWN_NAME));
     };
     if !is_units(kind) {
-        return Err(refused(OTHER_KIND));
+        return Err(refused_with(OTHER_KIND));
     }
     match it.units(parameter) {
         Ok(Some(units)) => Ok(units),
-        Ok(None) => Err(refused(ABSENT)),
+        Ok(None) => Err(refused_with(ABSENT)),
         Err(error) => Err(of_units(error)),
     }
 }

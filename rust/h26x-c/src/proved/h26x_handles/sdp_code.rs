@@ -34,7 +34,7 @@ pub struct Refused {
 }
 
 /// A code that is of no place.
-pub fn refused(code: u32) -> Refused {
+pub fn refused_with(code: u32) -> Refused {
     Refused { code, place: 0 }
 }
 
@@ -52,12 +52,12 @@ fn code_of_fault(fault: Fault) -> u32 {
 /// Why a text is no parameters.
 pub fn of_parameters(error: ParametersError) -> Refused {
     match error {
-        ParametersError::OpenBrace => refused(OPEN_BRACE),
+        ParametersError::OpenBrace => refused_with(OPEN_BRACE),
         ParametersError::Refused { place, fault } => Refused {
             code: code_of_fault(fault),
             place,
         },
-        ParametersError::OutOfMemory => refused(OUT_OF_MEMORY),
+        ParametersError::OutOfMemory => refused_with(OUT_OF_MEMORY),
     }
 }
 
@@ -68,7 +68,7 @@ pub fn of_units(error: UnitsError) -> Refused {
         UnitsError::Empty { place } => Refused { code: 30, place },
         UnitsError::OtherType { place } => Refused { code: 31, place },
         UnitsError::StartCode { place } => Refused { code: 32, place },
-        UnitsError::OutOfMemory => refused(OUT_OF_MEMORY),
+        UnitsError::OutOfMemory => refused_with(OUT_OF_MEMORY),
     }
 }
 
