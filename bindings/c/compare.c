@@ -21,7 +21,8 @@
 #define NAMES(X)                                                                                   \
     X(version) X(codec_name) X(strerror) X(packetizer_new) X(depacketizer_new) X(receiver_new)     \
     X(access_units_new) X(packetizer_free) X(depacketizer_free) X(receiver_free)                   \
-    X(access_units_free) X(h265_paci_packet)                                                       \
+    X(access_units_free) X(sdp_free) X(h265_paci_packet)                                           \
+    X(sdp_read) X(sdp_of_payload) X(fits_single_units) X(rtpmap_read) X(rtpmap_write)              \
     X(is_partition_head) X(is_partition_tail) X(detect_keyframe) X(detect_h264_nalu) X(next_unit)  \
     X(set_lowest_header)                                                                           \
     X(unit_is_plain) X(out_size_hint) X(h264_profile_level) X(h265_is_known) X(h266_is_known)      \
@@ -32,7 +33,9 @@
     X(receiver_clone) X(receiver_set_numbers) X(receiver_set_avc) X(receive) X(receiver_restart)   \
     X(receiver_skip) X(receiver_run_len) X(h265_shown) X(h265_part_copy) X(access_units_push)      \
     X(access_units_skip) X(access_units_next) X(access_units_deadline) X(access_units_missing)     \
-    X(access_units_finish) X(access_units_restart) X(access_units_count)
+    X(access_units_finish) X(access_units_restart) X(access_units_count) X(sdp_answer)             \
+    X(sdp_codec) X(sdp_write) X(sdp_value) X(sdp_number) X(sdp_units) X(sdp_unit) X(sdp_other)     \
+    X(sdp_max_don_diff)
 
 struct library {
 #define POINTER(name) __typeof__(h26x_##name) *name;
@@ -83,7 +86,7 @@ static struct library opened(const char *path)
 
 /* ---- What a call is given ---- */
 
-enum kind { NONE, PACKETIZER, DEPACKETIZER, RECEIVER, ACCESS_UNITS };
+enum kind { NONE, PACKETIZER, DEPACKETIZER, RECEIVER, ACCESS_UNITS, SDP };
 
 /* A handle of each library, of one kind. */
 struct held {
@@ -120,13 +123,15 @@ static enum call draw_call(const struct held *h)
     static const enum call often[] = {CALL_packetize,   CALL_packetize_unit,      CALL_packetize_into,
                                       CALL_depacketize, CALL_packetize_unit_into, CALL_receive,
                                       CALL_depacketize, CALL_packets_copy,        CALL_receive};
+    if (h->kind == SDP && !one_in(4))
+        return CALL_sdp_answer + below(CALLS - CALL_sdp_answer);
     static const enum call often_of_units[] = {CALL_access_units_push, CALL_access_units_push,
                                                CALL_access_units_next};
     const enum call call = one_in(2) ? (enum call)below(CALLS)
         : h->kind == ACCESS_UNITS    ? often_of_units[below(3)]
                                      : often[below(9)];
     if (call >= CALL_packetizer_clone && h->kind == NONE)
-        return CALL_packetizer_new + below(4);
+        return one_in(5) ? CALL_sdp_read : CALL_packetizer_new + below(4);
     return call;
 }
 
@@ -137,7 +142,21 @@ static void draw_input(enum call call, uint32_t codec)
     case CALL_packetize_into:
     case CALL_packets_size:
     case CALL_next_unit:
+    case CALL_sdp_of_payload:
+    case CALL_fits_single_units:
         draw_payload(&input, codec);
+        break;
+    case CALL_sdp_read:
+        draw_format(&input, codec);
+        break;
+    case CALL_rtpmap_read:
+        draw_rtpmap(&input);
+        break;
+    case CALL_sdp_value:
+    case CALL_sdp_number:
+    case CALL_sdp_units:
+    case CALL_sdp_unit:
+        draw_name(&input, codec);
         break;
     case CALL_packetize_unit:
     case CALL_packetize_unit_into:
@@ -155,9 +174,10 @@ static struct drawn draw_all(void)
 {
     struct held *h = &held[below(HELD)];
     struct drawn d = {.call = draw_call(h), .h = h, .other_h = &held[below(HELD)]};
-    draw_input(d.call, h->kind != NONE ? h->codec : 264 + below(3));
+    d.codec = any_codec();
+    draw_input(d.call, d.call == CALL_sdp_read ? d.codec : h->kind != NONE ? h->codec : 264 + below(3));
     draw_few(&extension, 40);
-    d.codec = any_codec(), d.x = draw(), d.y = draw(), d.z = draw();
+     d.x = draw(), d.y = draw(), d.z = draw();
     d.wants = one_in(6) ? draw() : UINT32_MAX;
     d.numbers = one_in(2), d.avc = one_in(2);
     d.mtu = one_in(4) ? 1200 : one_in(3) ? below(20) : below(1500);
@@ -238,15 +258,17 @@ struct outputs {
     uint8_t profile, level;
     h26x_access_unit unit;
     h26x_access_units_counts counts;
+    uint64_t value;
 };
 
 #define WANTED(bit, output) ((d->wants >> (bit) & 1) != 0 ? (output) : NULL)
 
-/* `at` are a packetizer, a depacketizer and receivers by one pointer, as another one is. */
+/* `at` are handles of each kind by one pointer, as another one is. */
 #define P &(h26x_packetizer){d->h->at[s]}
 #define D &(h26x_depacketizer){d->h->at[s]}
 #define R &(h26x_receiver){{d->h->at[s]}}
 #define U &(h26x_access_units){d->h->at[s]}
+#define F &(h26x_sdp){d->h->at[s]}
 
 static uint64_t sends(int s, const struct drawn *d, struct answer *a, struct outputs *o)
 {
@@ -363,6 +385,32 @@ static h26x_access_units_config config_of(const struct drawn *d)
     };
 }
 
+static uint64_t describes(int s, const struct drawn *d, struct answer *a, struct outputs *o)
+{
+    const struct library *l = &libraries[s];
+    uint8_t *to = d->has_to ? a->to : NULL, *name_to = d->has_ends ? (uint8_t *)a->text : NULL;
+    size_t *len = WANTED(0, &o->count);
+    h26x_refusal *why = WANTED(3, &o->why);
+    switch (d->call) {
+    case CALL_sdp_codec:
+        return l->sdp_codec(F);
+    case CALL_sdp_write:
+        return l->sdp_write(F, to, d->room, len);
+    case CALL_sdp_value:
+        return l->sdp_value(F, d->bytes, d->len, d->numbers, to, d->room % 40, len);
+    case CALL_sdp_number:
+        return l->sdp_number(F, d->bytes, d->len, d->numbers, WANTED(2, &o->value));
+    case CALL_sdp_units:
+        return l->sdp_units(F, d->bytes, d->len, len, why);
+    case CALL_sdp_unit:
+        return l->sdp_unit(F, d->bytes, d->len, d->x % 4, to, d->room % 40, len, why);
+    case CALL_sdp_other:
+        return l->sdp_other(F, d->x % 4, name_to, d->y % 20, len, to, d->room % 40, WANTED(1, &o->size));
+    default:
+        return l->sdp_max_don_diff(F, WANTED(4, &o->number));
+    }
+}
+
 /* Three bytes of which many are a profile and a level. */
 static uint32_t profile_level_id(const struct drawn *d)
 {
@@ -409,6 +457,12 @@ static uint64_t looks(int s, const struct drawn *d, struct answer *a, struct out
         return l->unit_is_plain(d->codec, d->bytes, d->len);
     case CALL_out_size_hint:
         return l->out_size_hint(d->x % 5 == 0 ? SIZE_MAX - d->y % 9000 : d->y);
+    case CALL_fits_single_units:
+        return l->fits_single_units(d->bytes, d->len, d->mtu);
+    case CALL_rtpmap_read:
+        return l->rtpmap_read(d->bytes, d->len, WANTED(0, &o->profile), WANTED(4, &o->number));
+    case CALL_rtpmap_write:
+        return l->rtpmap_write((uint8_t)d->x, d->codec, d->has_to ? a->to : NULL, d->y % 20, WANTED(0, &o->count));
     case CALL_h264_profile_level:
         return l->h264_profile_level(profile_level_id(d), WANTED(0, &o->profile), WANTED(1, &o->level));
     case CALL_h265_is_known:
@@ -419,7 +473,7 @@ static uint64_t looks(int s, const struct drawn *d, struct answer *a, struct out
 }
 
 /* Makes a handle, where that is drawn: NULL where none was made. */
-static void *makes(int s, const struct drawn *d, struct answer *a)
+static void *makes(int s, const struct drawn *d, struct answer *a, struct outputs *o)
 {
     const struct library *l = &libraries[s];
     h26x_packetizer p = {NULL};
@@ -427,10 +481,20 @@ static void *makes(int s, const struct drawn *d, struct answer *a)
     h26x_receiver r = {{NULL}};
     h26x_access_units u = {NULL};
     const h26x_access_units_config config = config_of(d);
+    h26x_sdp f = {NULL};
     switch (d->call) {
     case CALL_access_units_new:
         a->result = l->access_units_new(&config, &u);
         return u.at;
+    case CALL_sdp_read:
+        a->result = l->sdp_read(d->codec, d->bytes, d->len, &f, WANTED(3, &o->why));
+        return f.at;
+    case CALL_sdp_of_payload:
+        a->result = l->sdp_of_payload(d->codec, d->bytes, d->len, &f);
+        return f.at;
+    case CALL_sdp_answer:
+        a->result = l->sdp_answer(F, &(h26x_sdp){d->other_h->at[s]}, &f);
+        return f.at;
     case CALL_packetizer_new:
         a->result = l->packetizer_new(d->codec, d->numbers, &p);
         return p.at;
@@ -466,6 +530,10 @@ static enum kind kind_made(enum call call)
         return RECEIVER;
     case CALL_access_units_new:
         return ACCESS_UNITS;
+    case CALL_sdp_read:
+    case CALL_sdp_of_payload:
+    case CALL_sdp_answer:
+        return SDP;
     default:
         return NONE;
     }
@@ -475,18 +543,20 @@ static enum kind kind_made(enum call call)
 static void *give(int s, const struct drawn *d)
 {
     struct answer *a = &answers[s];
-    struct outputs o = {
-        11, 12, d->wants >> 8 & 1 ? d->x % 3 : 0, 13, 14, {15, 16}, {17, 18, 19, 20}, 21, 22, {.len = 23}, {.taken = 24}};
+    struct outputs o = {11, 12, d->wants >> 8 & 1 ? d->x % 3 : 0, 13, 14, {15, 16}, {17, 18, 19, 20}, 21, 22,
+                        {.len = 23}, {.taken = 24}, 25};
     void *made = NULL;
     *a = (struct answer){.result = 0};
     memset(a->to, 0xee, sizeof a->to);
     memset(a->ends, 0xff, sizeof a->ends);
     if (d->call == CALL_codec_name || d->call == CALL_strerror) {
-        const char *text = d->call == CALL_strerror ? libraries[s].strerror(d->x % 16)
+        const char *text = d->call == CALL_strerror ? libraries[s].strerror(d->x % 48)
                                                     : libraries[s].codec_name(d->codec);
         snprintf(a->text, sizeof a->text, "%s", text != NULL ? text : "none");
     } else if (kind_made(d->call) != NONE)
-        made = makes(s, d, a);
+        made = makes(s, d, a, &o);
+    else if (d->call >= CALL_sdp_answer)
+        a->result = describes(s, d, a, &o);
     else if (d->call < CALL_packetizer_clone)
         a->result = looks(s, d, a, &o);
     else if (d->call < CALL_depacketizer_clone)
@@ -498,7 +568,7 @@ static void *give(int s, const struct drawn *d)
     const h26x_access_unit *unit = &o.unit;
     const h26x_access_units_counts *counts = &o.counts;
     const uint64_t numbers[NUMBERS] = {
-        o.count, o.size, o.extra, o.number, (uint64_t)o.gap << 16 | (uint64_t)o.profile << 8 | o.level,
+        o.count, o.size, o.extra ^ o.value << 8, o.number, (uint64_t)o.gap << 16 | (uint64_t)o.profile << 8 | o.level,
         o.why.first ^ (uint64_t)o.why.second << 32,
         (uint64_t)o.shown.kind << 32 | (uint64_t)o.shown.header << 16 | o.shown.word, o.shown.parts,
         unit->len, unit->timestamp, unit->missing, unit->first, unit->last, unit->extra, unit->is_whole,
@@ -524,6 +594,8 @@ static void put_down(struct held *h, enum kind kind)
             libraries[s].receiver_free((h26x_receiver){{at}});
         if (kind == ACCESS_UNITS)
             libraries[s].access_units_free((h26x_access_units){at});
+        if (kind == SDP)
+            libraries[s].sdp_free((h26x_sdp){at});
     }
     h->kind = NONE;
 }
@@ -541,7 +613,8 @@ static void take_up(const struct drawn *d, void *const made[2])
 /* Whether the call that was drawn can't be made: of two handles one is missing, or both are one. */
 static bool is_none(const struct drawn *d)
 {
-    return d->call == CALL_depacketizer_same && (d->other_h->kind == NONE || d->other_h == d->h);
+    return (d->call == CALL_depacketizer_same && (d->other_h->kind == NONE || d->other_h == d->h))
+        || (d->call == CALL_sdp_answer && d->other_h->kind == NONE);
 }
 
 /* Keeps the packets that were copied. */
@@ -558,7 +631,7 @@ static void keep_packets(const struct drawn *d)
 static bool same(const struct drawn *d)
 {
     void *made[2];
-    if (d->call >= CALL_packetizer_free && d->call <= CALL_access_units_free) {
+    if (d->call >= CALL_packetizer_free && d->call <= CALL_sdp_free) {
         if (d->h->kind == NONE)
             put_down(d->h, PACKETIZER + (d->call - CALL_packetizer_free));
         else if (one_in(3))

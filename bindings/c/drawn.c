@@ -173,3 +173,86 @@ void draw_packet(struct bytes *it, uint32_t codec)
     }
     draw_unit(it, codec);
 }
+
+/* ---- Texts of SDP ---- */
+
+static void add_text(struct bytes *it, const char *text)
+{
+    for (; *text != 0; text++) {
+        const bool is_small = *text >= 'a' && *text <= 'z';
+        it->at[it->len++] = one_in(300) ? byte() : (uint8_t)(*text - (is_small && one_in(20) ? 32 : 0));
+    }
+}
+
+/* One of some texts, which end with NULL. */
+static const char *one_of(const char *const *texts)
+{
+    uint32_t many = 0;
+    while (texts[many] != NULL)
+        many++;
+    return texts[below(many)];
+}
+
+/* A parameter's name and a value of it. */
+struct parameter {
+    const char *name, *value;
+};
+
+static struct parameter any_parameter(uint32_t codec)
+{
+    static const struct parameter of_264[] = {
+        {"profile-level-id", "42e01f"}, {"profile-level-id", "4D801f"}, {"packetization-mode", "1"},
+        {"packetization-mode", "0"}, {"level-asymmetry-allowed", "1"},
+        {"sprop-parameter-sets", "Z0IACpZTBYmI,aMljiA=="}, {"sprop-parameter-sets", "Z0I=,ZYg="},
+        {"max-mbps", "18446744073709551615"}, {"max-recv-level", "e028"}, {"sar-understood", "254"},
+        {"sprop-max-don-diff", "32767"}, {"deint-buf-cap", "0"}};
+    static const struct parameter of_265[] = {
+        {"profile-id", "1"}, {"profile-id", "2"}, {"tier-flag", "0"}, {"level-id", "93"}, {"level-id", "180"},
+        {"tx-mode", "SRST"}, {"sprop-vps", "QAEMAf//AWAAAAMAkAAAAw=="}, {"interop-constraints", "B00000000000"},
+        {"sprop-max-don-diff", "2"}, {"sprop-depack-buf-bytes", "9"}, {"max-recv-level-id", "186"},
+        {"dec-parallel-cap", "{w:8;level-id=93}"}};
+    static const struct parameter of_266[] = {
+        {"profile-id", "1"}, {"profile-id", "17"}, {"tier-flag", "1"}, {"level-id", "51"}, {"level-id", "83"},
+        {"sprop-sps", "AHkACwIzgIA="}, {"sprop-dci", "AGk="}, {"sprop-ols-id", "256"}, {"interop-constraints", "gA=="},
+        {"sprop-max-don-diff", "0"}, {"max-lsr", "7"}, {"depack-buf-cap", "4294967295"}};
+    static const struct parameter others[] = {{"x", "a=b"}, {"y", ""}, {"apt", "96"}, {"", "1"}};
+    if (one_in(8))
+        return others[below(4)];
+    return (codec == H26X_H264 ? of_264 : codec == H26X_H265 ? of_265 : of_266)[below(12)];
+}
+
+static const char *any_value(void)
+{
+    static const char *const values[] = {"0", "1", "93", "32768", "42e01", "SRST", "MRST", "AGk=", "ZwAAAWU=", "Z0I=,,",
+                                         "{", "18446744073709551616", "a b", "", NULL};
+    return one_of(values);
+}
+
+void draw_format(struct bytes *it, uint32_t codec)
+{
+    it->len = 0;
+    for (uint32_t many = below(5); many > 0; many--) {
+        const struct parameter parameter = any_parameter(codec);
+        add_text(it, parameter.name);
+        add_text(it, one_in(20) ? "" : one_in(6) ? " = " : "=");
+        add_text(it, one_in(8) ? any_value() : parameter.value);
+        add_text(it, one_in(6) ? " ;; " : one_in(3) ? "; " : ";");
+    }
+}
+
+void draw_name(struct bytes *it, uint32_t codec)
+{
+    it->len = 0;
+    add_text(it, any_parameter(codec).name);
+}
+
+void draw_rtpmap(struct bytes *it)
+{
+    static const char *const types[] = {"96", "0", "127", "128", " 9", "x", "", NULL};
+    static const char *const encodings[] = {" H264", " H265", " h266", " VP8", "H264", "  H264", NULL};
+    static const char *const clocks[] = {"/90000", "/90000", "/90000 ", "/48000", "/90000/1", "", NULL};
+    it->len = 0;
+    add_text(it, one_of(types));
+    add_text(it, one_of(encodings));
+    add_text(it, one_of(clocks));
+}

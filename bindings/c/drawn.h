@@ -29,6 +29,12 @@ void draw_payload(struct bytes *it, uint32_t codec);
 /* A packet: one of those that were kept, as it is, cut or with a byte changed; or drawn bytes. */
 void draw_packet(struct bytes *it, uint32_t codec);
 
+/* What stands in an a=fmtp line, many of whose parameters are the codec's; the name of one; and what stands in an a=rtpmap
+ * line. */
+void draw_format(struct bytes *it, uint32_t codec);
+void draw_name(struct bytes *it, uint32_t codec);
+void draw_rtpmap(struct bytes *it);
+
 /* A few bytes. */
 void draw_few(struct bytes *it, size_t most);
 

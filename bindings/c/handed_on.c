@@ -63,10 +63,11 @@ static h26x_packetizer packetizer;
 static h26x_depacketizer depacketizer;
 static h26x_receiver receiver;
 static h26x_access_units access_units;
+static h26x_sdp format, made_format;
 
 /* Where there is something, what there is. */
 static struct {
-    uint8_t in[ROOM], extension[ROOM], to[ROOM];
+    uint8_t in[ROOM], extension[ROOM], to[ROOM], to_too[ROOM];
     size_t ends[ROOM], first, second;
     uint16_t numbers[ROOM];
     h26x_access_unit unit;
@@ -74,12 +75,13 @@ static struct {
     uint8_t small, small_too;
     uint16_t missing;
     uint32_t number;
+    uint64_t long_number;
     h26x_refusal why;
 } there;
 
 /* What a call is given, and what it is to answer. */
 static struct {
-    struct bytes in, extension, to;
+    struct bytes in, extension, to, to_too;
     size_t *ends, ends_room;
     uint16_t *numbers;
     size_t numbers_room;
@@ -89,6 +91,7 @@ static struct {
     uint8_t *small, *small_too;
     uint16_t *missing;
     uint32_t *number;
+    uint64_t *long_number;
     h26x_refusal *why;
     size_t value, other_value;
     uint32_t answer;
@@ -109,7 +112,9 @@ enum {
     WHY = 1024,
     NUMBERS = 2048,
     UNIT = 4096,
-    COUNTS = 8192
+    COUNTS = 8192,
+    LONG_NUMBER = 16384,
+    TO_TOO = 32768
 };
 
 static size_t handed_on;
@@ -139,12 +144,16 @@ static void give(unsigned which)
     given.numbers = ANY(which & NUMBERS, there.numbers);
     given.unit = ANY(which & UNIT, &there.unit);
     given.counts = ANY(which & COUNTS, &there.counts);
+    given.long_number = ANY(which & LONG_NUMBER, &there.long_number);
+    given.to_too.at = ANY(which & TO_TOO, there.to_too);
     if ((which & IN) != 0)
         given.in.len = any_len(given.in.at);
     if ((which & EXTENSION) != 0)
         given.extension.len = any_len(given.extension.at);
     if ((which & TO) != 0)
         given.to.len = any_len(given.to.at);
+    if ((which & TO_TOO) != 0)
+        given.to_too.len = any_len(given.to_too.at);
     if ((which & ENDS) != 0)
         given.ends_room = any_len(given.ends);
     if ((which & NUMBERS) != 0)
@@ -181,6 +190,13 @@ static void reads(const uint8_t *at, size_t len, struct bytes of)
 static void writes_to(uint8_t *at, size_t len)
 {
     is_buffer(at, len, given.to.at, given.to.len);
+    if (len != 0)
+        at[0] = at[len - 1] = 1;
+}
+
+static void writes_to_too(uint8_t *at, size_t len)
+{
+    is_buffer(at, len, given.to_too.at, given.to_too.len);
     if (len != 0)
         at[0] = at[len - 1] = 1;
 }
@@ -739,6 +755,217 @@ static void check_h264_profile_level(void)
     hands_on_bool(h26x_h264_profile_level((uint32_t)given.value, given.small, given.small_too));
 }
 
+/* ---- Format parameters of SDP ---- */
+
+STUB(sdp_free);
+void proved_sdp_free(h26x_sdp h)
+{
+    expect(h.at == &there);
+    handed_on++;
+}
+
+static void check_sdp_free(void)
+{
+    h26x_sdp h = {nondet_bool() ? &there : NULL};
+    handed_on = 0;
+    h26x_sdp_free(h);
+    expect(handed_on == (h.at != NULL));
+}
+
+STUB(sdp_read);
+uint32_t proved_sdp_read(uint32_t codec, const uint8_t *text, size_t text_len, h26x_sdp *made,
+                         h26x_refusal *why)
+{
+    expect(codec == (uint32_t)given.value && made == &made_format);
+    reads(text, text_len, given.in);
+    is_output(why, given.why);
+    return answer();
+}
+
+static void check_sdp_read(void)
+{
+    give(IN | WHY);
+    hands_on(h26x_sdp_read((uint32_t)given.value, given.in.at, given.in.len, &made_format, given.why));
+}
+
+STUB(sdp_of_payload);
+uint32_t proved_sdp_of_payload(uint32_t codec, const uint8_t *payload, size_t payload_len,
+                               h26x_sdp *made)
+{
+    expect(codec == (uint32_t)given.value && made == &made_format);
+    reads(payload, payload_len, given.in);
+    return answer();
+}
+
+static void check_sdp_of_payload(void)
+{
+    give(IN);
+    hands_on(h26x_sdp_of_payload((uint32_t)given.value, given.in.at, given.in.len, &made_format));
+}
+
+STUB(sdp_write);
+uint32_t proved_sdp_write(const h26x_sdp *h, uint8_t *to, size_t room, size_t *len)
+{
+    expect(h == &format);
+    writes_to(to, room);
+    is_output(len, given.first);
+    return answer();
+}
+
+static void check_sdp_write(void)
+{
+    give(TO | FIRST);
+    hands_on(h26x_sdp_write(&format, given.to.at, given.to.len, given.first));
+}
+
+STUB(sdp_value);
+uint32_t proved_sdp_value(const h26x_sdp *h, const uint8_t *name, size_t name_len, bool or_default,
+                          uint8_t *to, size_t room, size_t *len)
+{
+    expect(h == &format && or_default == (given.value != 0));
+    reads(name, name_len, given.in);
+    writes_to(to, room);
+    is_output(len, given.first);
+    return answer();
+}
+
+static void check_sdp_value(void)
+{
+    give(IN | TO | FIRST);
+    hands_on(h26x_sdp_value(&format, given.in.at, given.in.len, given.value != 0, given.to.at, given.to.len,
+                            given.first));
+}
+
+STUB(sdp_number);
+uint32_t proved_sdp_number(const h26x_sdp *h, const uint8_t *name, size_t name_len, bool or_default,
+                           uint64_t *value)
+{
+    expect(h == &format && or_default == (given.value != 0));
+    reads(name, name_len, given.in);
+    is_output(value, given.long_number);
+    return answer();
+}
+
+static void check_sdp_number(void)
+{
+    give(IN | LONG_NUMBER);
+    hands_on(h26x_sdp_number(&format, given.in.at, given.in.len, given.value != 0, given.long_number));
+}
+
+STUB(sdp_units);
+uint32_t proved_sdp_units(const h26x_sdp *h, const uint8_t *name, size_t name_len, size_t *count,
+                          h26x_refusal *why)
+{
+    expect(h == &format);
+    reads(name, name_len, given.in);
+    is_output(count, given.first);
+    is_output(why, given.why);
+    return answer();
+}
+
+static void check_sdp_units(void)
+{
+    give(IN | FIRST | WHY);
+    hands_on(h26x_sdp_units(&format, given.in.at, given.in.len, given.first, given.why));
+}
+
+STUB(sdp_unit);
+uint32_t proved_sdp_unit(const h26x_sdp *h, const uint8_t *name, size_t name_len, size_t i, uint8_t *to,
+                         size_t room, size_t *len, h26x_refusal *why)
+{
+    expect(h == &format && i == given.value);
+    reads(name, name_len, given.in);
+    writes_to(to, room);
+    is_output(len, given.first);
+    is_output(why, given.why);
+    return answer();
+}
+
+static void check_sdp_unit(void)
+{
+    give(IN | TO | FIRST | WHY);
+    hands_on(h26x_sdp_unit(&format, given.in.at, given.in.len, given.value, given.to.at, given.to.len,
+                           given.first, given.why));
+}
+
+STUB(sdp_other);
+uint32_t proved_sdp_other(const h26x_sdp *h, size_t i, uint8_t *name, size_t name_room, size_t *name_len,
+                          uint8_t *value, size_t value_room, size_t *value_len)
+{
+    expect(h == &format && i == given.value);
+    writes_to(name, name_room);
+    writes_to_too(value, value_room);
+    is_output(name_len, given.first);
+    is_output(value_len, given.second);
+    return answer();
+}
+
+static void check_sdp_other(void)
+{
+    give(TO | TO_TOO | FIRST | SECOND);
+    hands_on(h26x_sdp_other(&format, given.value, given.to.at, given.to.len, given.first, given.to_too.at,
+                            given.to_too.len, given.second));
+}
+
+STUB(sdp_max_don_diff);
+uint32_t proved_sdp_max_don_diff(const h26x_sdp *h, uint32_t *value)
+{
+    expect(h == &format);
+    is_output(value, given.number);
+    return answer();
+}
+
+static void check_sdp_max_don_diff(void)
+{
+    give(NUMBER);
+    hands_on(h26x_sdp_max_don_diff(&format, given.number));
+}
+
+STUB(fits_single_units);
+bool proved_fits_single_units(const uint8_t *payload, size_t payload_len, size_t limit)
+{
+    expect(limit == given.value);
+    reads(payload, payload_len, given.in);
+    return answer() != 0;
+}
+
+static void check_fits_single_units(void)
+{
+    give(IN);
+    hands_on_bool(h26x_fits_single_units(given.in.at, given.in.len, given.value));
+}
+
+STUB(rtpmap_read);
+uint32_t proved_rtpmap_read(const uint8_t *text, size_t text_len, uint8_t *payload_type, uint32_t *codec)
+{
+    reads(text, text_len, given.in);
+    is_output(payload_type, given.small);
+    is_output(codec, given.number);
+    return answer();
+}
+
+static void check_rtpmap_read(void)
+{
+    give(IN | SMALL | NUMBER);
+    hands_on(h26x_rtpmap_read(given.in.at, given.in.len, given.small, given.number));
+}
+
+STUB(rtpmap_write);
+uint32_t proved_rtpmap_write(uint8_t payload_type, uint32_t codec, uint8_t *to, size_t room, size_t *len)
+{
+    expect(payload_type == (uint8_t)given.value && codec == (uint32_t)given.other_value);
+    writes_to(to, room);
+    is_output(len, given.first);
+    return answer();
+}
+
+static void check_rtpmap_write(void)
+{
+    give(TO | FIRST);
+    hands_on(h26x_rtpmap_write((uint8_t)given.value, (uint32_t)given.other_value, given.to.at, given.to.len,
+                               given.first));
+}
+
 int main(void)
 {
     in_each_case(check_packetizer_free);
@@ -772,6 +999,19 @@ int main(void)
     in_each_case(check_next_unit);
     in_each_case(check_unit_is_plain);
     in_each_case(check_h264_profile_level);
+    in_each_case(check_sdp_free);
+    in_each_case(check_sdp_read);
+    in_each_case(check_sdp_of_payload);
+    in_each_case(check_sdp_write);
+    in_each_case(check_sdp_value);
+    in_each_case(check_sdp_number);
+    in_each_case(check_sdp_units);
+    in_each_case(check_sdp_unit);
+    in_each_case(check_sdp_other);
+    in_each_case(check_sdp_max_don_diff);
+    in_each_case(check_fits_single_units);
+    in_each_case(check_rtpmap_read);
+    in_each_case(check_rtpmap_write);
 #ifndef __CPROVER__
     printf("%zu cases\n", cases);
 #endif

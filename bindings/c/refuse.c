@@ -364,6 +364,65 @@ static void look_without_memory(const struct codec *c)
     without_memory(h26x_out_size_hint(1200) == 1208);
 }
 
+#define TEXT(text) (const uint8_t *)(text), strlen(text)
+
+/* A format's line with a parameter that is units and one that no RFC has, and the name of the former. */
+static const struct format {
+    uint32_t codec;
+    const char *line, *units;
+} formats[] = {
+    {H26X_H264, "profile-level-id=42e01f;sprop-parameter-sets=Z0IACpZTBYmI,aMljiA==;x=1", "sprop-parameter-sets"},
+    {H26X_H265, "level-id=93;sprop-pps=RAHBcrRiQA==;x=1", "sprop-pps"},
+    {H26X_H266, "level-id=83;sprop-dci=AGk=;x=1", "sprop-dci"},
+};
+
+static void refuse_formats(const struct format *f)
+{
+    h26x_sdp it = {NULL}, answer = {NULL};
+    size_t len = 0, count = 0;
+    h26x_refusal why;
+    uint64_t value;
+    uint32_t number;
+    refuse_each(h26x_sdp_read(f->codec, TEXT(f->line), &it, &why), it.at == NULL && why.first == 0);
+    refuse_each(h26x_sdp_answer(&it, &it, &answer), answer.at == NULL);
+    memset(to, 0xee, sizeof to);
+    refuse_each(h26x_sdp_write(&it, to, sizeof to, &len), len == 0 && to[0] == 0xee);
+    expect(len == strlen(f->line) && memcmp(to, f->line, len) == 0);
+    refuse_each(h26x_sdp_units(&it, TEXT(f->units), &count, &why), count == 0);
+    memset(to, 0xee, sizeof to);
+    len = 0;
+    refuse_each(h26x_sdp_unit(&it, TEXT(f->units), 0, to, sizeof to, &len, &why), len == 0 && to[0] == 0xee);
+    expect(count > 0 && len > 1);
+
+    without_memory(h26x_sdp_value(&it, TEXT(f->units), false, to, sizeof to, &len) == H26X_OK);
+    without_memory(h26x_sdp_number(&it, TEXT("SPROP-MAX-DON-DIFF"), true, &value)
+                   == (f->codec == H26X_H264 ? H26X_SDP_ABSENT : H26X_OK));
+    without_memory(h26x_sdp_other(&it, 0, to, 1, &len, packet, 1, &count) == H26X_OK);
+    without_memory(h26x_sdp_max_don_diff(&it, &number)
+                   == (f->codec == H26X_H264 ? H26X_NOT_OF_THIS_CODEC : H26X_OK));
+    without_memory(h26x_sdp_codec(&it) == f->codec);
+    without_memory(h26x_sdp_read(f->codec, TEXT("x={"), &answer, &why) == H26X_SDP_OPEN_BRACE);
+    h26x_sdp_free(it);
+    h26x_sdp_free(answer);
+}
+
+/* Of the first sets of a stream, and payload types. */
+static void refuse_offers(void)
+{
+    static const uint8_t sets[] = {0, 0, 1, 0x67, 0x42, 0xc0, 0x0a, 0, 0, 1, 0x68, 0xcb};
+    h26x_sdp it = {NULL};
+    size_t len = 0;
+    uint8_t payload_type;
+    uint32_t codec;
+    refuse_each(h26x_sdp_of_payload(H26X_H264, sets, sizeof sets, &it), it.at == NULL);
+    h26x_sdp_free(it);
+    memset(to, 0xee, sizeof to);
+    refuse_each(h26x_rtpmap_write(96, H26X_H265, to, sizeof to, &len), len == 0 && to[0] == 0xee);
+    expect(len == 13 && memcmp(to, "96 H265/90000", 13) == 0);
+    without_memory(h26x_rtpmap_read(to, len, &payload_type, &codec) == H26X_OK && codec == H26X_H265);
+    without_memory(h26x_fits_single_units(sets, sizeof sets, 4));
+}
+
 int main(void)
 {
     for (size_t i = 0; i < sizeof codecs / sizeof codecs[0]; i++) {
@@ -378,6 +437,9 @@ int main(void)
         look_without_memory(c);
     }
     refuse_packing();
+    for (size_t i = 0; i < sizeof formats / sizeof formats[0]; i++)
+        refuse_formats(&formats[i]);
+    refuse_offers();
     printf("%zu requests refused, nothing lost\n", refused);
     return 0;
 }
