@@ -2,7 +2,7 @@
  *
  * A packetizer cuts units of coded video into the payloads of RTP packets, each within a limit. A depacketizer
  * writes the units of such payloads again, and a receiver does where packets are given with their sequence numbers,
- * and some of them may be missing. RTP's own header is the caller's.
+ * and some of them may be missing. RTP's own header is the caller's. Format parameters of SDP are read and answered.
  *
  * A handle is a struct of one pointer. No call keeps a pointer that it is given, waits, prints, or has state beside
  * its handle; memory comes from malloc, realloc and free. A handle may go from one thread to another.

@@ -298,8 +298,8 @@ pub extern "C" fn h26x_sdp_max_don_diff(h: &ConstHandle, value: &mut u32) -> u32
         return WRONG_END;
     };
     match it.max_don_diff() {
-        Ok(number) => {
-            *value = number;
+        Ok(most) => {
+            *value = most;
             OK
         }
         Err(code) => code,

@@ -18,8 +18,8 @@ use crate::sdp_code::{
 use crate::sdp_parameter::{ListedParameter, parameter_of};
 use h26x_codec::Codec;
 use h26x_sdp::{
-    CodecParameters, CodecRules, H264Parameters, H265Parameters, H266Parameters, Kind,
-    OtherParameter, h264_of_payload, h265_of_payload, h266_of_payload,
+    CodecParameter, CodecParameters, CodecRules, H264Parameters, H265Parameters, H266Parameters,
+    Kind, OtherParameter, h264_of_payload, h265_of_payload, h266_of_payload,
 };
 use std::alloc::{AllocError, Global};
 use std::slice;
@@ -96,6 +96,7 @@ fn number_of<P: ListedParameter>(
 }
 
 /// The units of the parameter with a name.
+#[tactic(auto, using(crate::proofs::ErrorLemmas::says_units_or))]
 fn units_of<P: ListedParameter>(
     alloc: Global,
     it: &CodecParameters<P>,
@@ -113,6 +114,18 @@ fn units_of<P: ListedParameter>(
         Ok(Some(units)) => Ok(units),
         Ok(None) => Err(refused_with(ABSENT)),
         Err(error) => Err(of_units(error)),
+    }
+}
+
+/// The parameters of a text, or why there are none.
+#[tactic(auto, using(crate::proofs::ErrorLemmas::fails_or))]
+fn read_as<P: CodecParameter>(alloc: Global, text: &[u8]) -> Result<CodecParameters<P>, Refused>
+    ensures { (result ≡ Err (code.refused_with codes.out_of_memory))
+        ⊎ (result ≡ spec.read_or_refused P.rows text.now) }
+{
+    match CodecParameters::read(alloc, text) {
+        Ok(it) => Ok(it),
+        Err(error) => Err(of_parameters(error)),
     }
 }
 
@@ -138,25 +151,33 @@ impl SdpEndpoint {
         ensures { (result ≡ Err (code.refused_with codes.out_of_memory))
             ⊎ (result ≡ spec.sdp_read codec text.now) }
     {
-        let read = match codec {
-            Codec::H264 => H264Parameters::read(alloc, text).map(SdpEndpoint::H264),
-            Codec::H265 => H265Parameters::read(alloc, text).map(SdpEndpoint::H265),
-            Codec::H266 => H266Parameters::read(alloc, text).map(SdpEndpoint::H266),
-        };
-        read.map_err(of_parameters)
+        match codec {
+            Codec::H264 => Ok(SdpEndpoint::H264(read_as(alloc, text)?)),
+            Codec::H265 => Ok(SdpEndpoint::H265(read_as(alloc, text)?)),
+            Codec::H266 => Ok(SdpEndpoint::H266(read_as(alloc, text)?)),
+        }
     }
 
     /// What a sender says of its stream, out of the bytes that it begins with.
+    #[tactic(auto, using(crate::proofs::ErrorLemmas::fails_stream_or))]
     pub fn of_payload(alloc: Global, codec: Codec, payload: &[u8]) -> Result<Self, u32>
         ensures { (list : List (List ℕ)) × AreUnits (zero_rule codec) payload.now list
             × ((result ≡ Err codes.out_of_memory) ⊎ (result ≡ spec.sdp_of_units codec list)) }
     {
-        let made = match codec {
-            Codec::H264 => h264_of_payload(alloc, payload).map(SdpEndpoint::H264),
-            Codec::H265 => h265_of_payload(alloc, payload).map(SdpEndpoint::H265),
-            Codec::H266 => h266_of_payload(alloc, payload).map(SdpEndpoint::H266),
-        };
-        made.map_err(of_stream)
+        match codec {
+            Codec::H264 => match h264_of_payload(alloc, payload) {
+                Ok(it) => Ok(SdpEndpoint::H264(it)),
+                Err(error) => Err(of_stream(error)),
+            },
+            Codec::H265 => match h265_of_payload(alloc, payload) {
+                Ok(it) => Ok(SdpEndpoint::H265(it)),
+                Err(error) => Err(of_stream(error)),
+            },
+            Codec::H266 => match h266_of_payload(alloc, payload) {
+                Ok(it) => Ok(SdpEndpoint::H266(it)),
+                Err(error) => Err(of_stream(error)),
+            },
+        }
     }
 
     /// The answer to an offered format by one of ours; there is none of another codec.

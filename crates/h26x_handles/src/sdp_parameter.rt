@@ -1,6 +1,7 @@
 //! The format parameters of each codec, by their places in its table.
 
-ghost use Rattle.std.specs.Prelude.{◌≡◌, ℕ, length, map, range_with_len};
+ghost use Rattle.std.specs.Prelude.{◌≡◌, length, map};
+ghost use Rattle.std.specs.List.{range_with_len};
 ghost use Rattle.std.specs.Option.{option_map};
 ghost use Rattle.h26x_sdp.specs.Tables as tables;
 
@@ -114,6 +115,7 @@ impl ListedParameter for H266Parameter {
 }
 
 /// The parameter with a name, without regard to case, and what its value is.
+#[tactic(auto, using(crate::proofs::ParameterLemmas::at_place))]
 pub fn parameter_of<P: ListedParameter>(name: &[u8]) -> Option<(P, Kind)>
     ensures { option_map (λ it. (P.place it.0, it.1)) result ≡ tables.row_of P.rows name.now }
 {

@@ -199,8 +199,8 @@ pub fn h26x_sdp_max_don_diff(h: &ConstHandle, value: &mut MaybeUninit<u32>) -> u
         return WRONG_END;
     };
     match it.max_don_diff() {
-        Ok(number) => {
-            value.write(number);
+        Ok(most) => {
+            value.write(most);
             OK
         }
         Err(code) => code,

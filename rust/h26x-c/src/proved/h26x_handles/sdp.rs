@@ -10,8 +10,8 @@ use crate::proved::h26x_handles::sdp_code::{
 };
 use crate::proved::h26x_handles::sdp_parameter::{ListedParameter, parameter_of};
 use crate::proved::h26x_sdp::{
-    CodecParameters, CodecRules, H264Parameters, H265Parameters, H266Parameters, Kind,
-    OtherParameter, h264_of_payload, h265_of_payload, h266_of_payload,
+    CodecParameter, CodecParameters, CodecRules, H264Parameters, H265Parameters, H266Parameters,
+    Kind, OtherParameter, h264_of_payload, h265_of_payload, h266_of_payload,
 };
 use crate::support::AllocError;
 use alloc::vec::Vec;
@@ -95,6 +95,14 @@ fn units_of<P: ListedParameter>(
     }
 }
 
+/// The parameters of a text, or why there are none.
+fn read_as<P: CodecParameter>(text: &[u8]) -> Result<CodecParameters<P>, Refused> {
+    match CodecParameters::read(text) {
+        Ok(it) => Ok(it),
+        Err(error) => Err(of_parameters(error)),
+    }
+}
+
 /// The answer to an offered format by one of ours, or that there is none.
 fn answer_of<P: CodecRules>(
     offered: &CodecParameters<P>,
@@ -110,22 +118,29 @@ fn answer_of<P: CodecRules>(
 impl SdpEndpoint {
     /// Reads what stands behind the payload type in an `a=fmtp` line.
     pub fn read(codec: Codec, text: &[u8]) -> Result<Self, Refused> {
-        let read = match codec {
-            Codec::H264 => H264Parameters::read(text).map(SdpEndpoint::H264),
-            Codec::H265 => H265Parameters::read(text).map(SdpEndpoint::H265),
-            Codec::H266 => H266Parameters::read(text).map(SdpEndpoint::H266),
-        };
-        read.map_err(of_parameters)
+        match codec {
+            Codec::H264 => Ok(SdpEndpoint::H264(read_as(text)?)),
+            Codec::H265 => Ok(SdpEndpoint::H265(read_as(text)?)),
+            Codec::H266 => Ok(SdpEndpoint::H266(read_as(text)?)),
+        }
     }
 
     /// What a sender says of its stream, out of the bytes that it begins with.
     pub fn of_payload(codec: Codec, payload: &[u8]) -> Result<Self, u32> {
-        let made = match codec {
-            Codec::H264 => h264_of_payload(payload).map(SdpEndpoint::H264),
-            Codec::H265 => h265_of_payload(payload).map(SdpEndpoint::H265),
-            Codec::H266 => h266_of_payload(payload).map(SdpEndpoint::H266),
-        };
-        made.map_err(of_stream)
+        match codec {
+            Codec::H264 => match h264_of_payload(payload) {
+                Ok(it) => Ok(SdpEndpoint::H264(it)),
+                Err(error) => Err(of_stream(error)),
+            },
+            Codec::H265 => match h265_of_payload(payload) {
+                Ok(it) => Ok(SdpEndpoint::H265(it)),
+                Err(error) => Err(of_stream(error)),
+            },
+            Codec::H266 => match h266_of_payload(payload) {
+                Ok(it) => Ok(SdpEndpoint::H266(it)),
+                Err(error) => Err(of_stream(error)),
+            },
+        }
     }
 
     /// The answer to an offered format by one of ours; there is none of another codec.
