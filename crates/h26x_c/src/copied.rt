@@ -10,6 +10,7 @@ use h26x_handles::copy::copy_where_room;
 pub fn copy_out(bytes: &[u8], to: &mut [u8], len: &mut usize) -> u32
     ensures { (result, (to.new, len.new)) ≡ copy_answer (Ok bytes.now) to.old len.old }
 {
+    let code = if bytes.len() <= to.len() { OK } else { NO_ROOM };
     *len = copy_where_room(bytes, to);
-    if bytes.len() <= to.len() { OK } else { NO_ROOM }
+    code
 }

@@ -55,12 +55,9 @@ sdp_parameters (s.H265 it) = it
 sdp_parameters (s.H266 it) = it
 
 -- the parameters of a text, or why there are none
-abbrev pub read_or_refused : List ParameterRow → List ℕ → Result FormatParameters Refused
-read_or_refused rows text = result_map_both (λ it. it) parameters_refused (read_of rows text)
-
 abbrev pub sdp_read : Codec → List ℕ → Result SdpEndpoint Refused
 sdp_read codec text =
-    result_map_both (sdp_of codec) (λ it. it) (read_or_refused (sdp_rows codec) text)
+    result_map_both (sdp_of codec) parameters_refused (read_of (sdp_rows codec) text)
 
 -- what units that a stream begins with say of it, or why they say nothing
 abbrev pub stream_parameters : Codec → List (List ℕ) → Result FormatParameters StreamError

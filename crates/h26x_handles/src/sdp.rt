@@ -18,8 +18,8 @@ use crate::sdp_code::{
 use crate::sdp_parameter::{ListedParameter, parameter_of};
 use h26x_codec::Codec;
 use h26x_sdp::{
-    CodecParameter, CodecParameters, CodecRules, H264Parameters, H265Parameters, H266Parameters,
-    Kind, OtherParameter, h264_of_payload, h265_of_payload, h266_of_payload,
+    CodecParameters, CodecRules, H264Parameters, H265Parameters, H266Parameters, Kind,
+    OtherParameter, h264_of_payload, h265_of_payload, h266_of_payload,
 };
 use std::alloc::{AllocError, Global};
 use std::slice;
@@ -117,18 +117,6 @@ fn units_of<P: ListedParameter>(
     }
 }
 
-/// The parameters of a text, or why there are none.
-#[tactic(auto, using(crate::proofs::ErrorLemmas::fails_or))]
-fn read_as<P: CodecParameter>(alloc: Global, text: &[u8]) -> Result<CodecParameters<P>, Refused>
-    ensures { (result ≡ Err (code.refused_with codes.out_of_memory))
-        ⊎ (result ≡ spec.read_or_refused P.rows text.now) }
-{
-    match CodecParameters::read(alloc, text) {
-        Ok(it) => Ok(it),
-        Err(error) => Err(of_parameters(error)),
-    }
-}
-
 /// The answer to an offered format by one of ours, or that there is none.
 fn answer_of<P: CodecRules>(
     alloc: Global,
@@ -152,9 +140,18 @@ impl SdpEndpoint {
             ⊎ (result ≡ spec.sdp_read codec text.now) }
     {
         match codec {
-            Codec::H264 => Ok(SdpEndpoint::H264(read_as(alloc, text)?)),
-            Codec::H265 => Ok(SdpEndpoint::H265(read_as(alloc, text)?)),
-            Codec::H266 => Ok(SdpEndpoint::H266(read_as(alloc, text)?)),
+            Codec::H264 => match H264Parameters::read(alloc, text) {
+                Ok(it) => Ok(SdpEndpoint::H264(it)),
+                Err(error) => Err(of_parameters(error)),
+            },
+            Codec::H265 => match H265Parameters::read(alloc, text) {
+                Ok(it) => Ok(SdpEndpoint::H265(it)),
+                Err(error) => Err(of_parameters(error)),
+            },
+            Codec::H266 => match H266Parameters::read(alloc, text) {
+                Ok(it) => Ok(SdpEndpoint::H266(it)),
+                Err(error) => Err(of_parameters(error)),
+            },
         }
     }
 

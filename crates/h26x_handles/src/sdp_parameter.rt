@@ -11,7 +11,8 @@ use h26x_sdp::{CodecRules, H264Parameter, H265Parameter, H266Parameter, Kind, ro
 pub trait ListedParameter: CodecRules + 'static {
     /// All of them, in the order of their places.
     fn all() -> &'static [Self]
-        ensures { map Self.place result.now ≡ range_with_len 0 (length Self.rows) };
+        ensures places { map Self.place result.now ≡ range_with_len 0 (length Self.rows) }
+        ensures many { length result.now ≡ length Self.rows };
 }
 
 static H264: [H264Parameter; 23] = [
@@ -115,11 +116,9 @@ impl ListedParameter for H266Parameter {
 }
 
 /// The parameter with a name, without regard to case, and what its value is.
-#[tactic(auto, using(crate::proofs::ParameterLemmas::at_place))]
 pub fn parameter_of<P: ListedParameter>(name: &[u8]) -> Option<(P, Kind)>
     ensures { option_map (λ it. (P.place it.0, it.1)) result ≡ tables.row_of P.rows name.now }
 {
     let (place, kind) = row_of(P::rows(), name)?;
-    let parameter = P::all().get(place)?;
-    Some((*parameter, kind))
+    Some((P::all()[place], kind))
 }

@@ -54,10 +54,10 @@ fn cases(function: &str) -> Vec<(Option<&'static str>, Option<String>)> {
 #[test]
 fn words_of_codes() {
     let cases = cases("*h26x_strerror");
-    assert_eq!(cases.len(), 16);
+    assert_eq!(cases.len(), 37);
     for (name, answer) in cases {
         assert_eq!(
-            text(h26x_strerror(name.map_or(15, number))),
+            text(h26x_strerror(name.map_or(41, number))),
             answer,
             "{name:?}"
         );

@@ -8,6 +8,7 @@ use core::mem::MaybeUninit;
 
 /// Copies bytes to the front of a buffer, where there is room for them, and tells how many they are.
 pub fn copy_out(bytes: &[u8], to: &mut [u8], len: &mut MaybeUninit<usize>) -> u32 {
+    let code = if bytes.len() <= to.len() { OK } else { NO_ROOM };
     len.write(copy_where_room(bytes, to));
-    if bytes.len() <= to.len() { OK } else { NO_ROOM }
+    code
 }

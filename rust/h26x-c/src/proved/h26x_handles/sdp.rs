@@ -10,8 +10,8 @@ use crate::proved::h26x_handles::sdp_code::{
 };
 use crate::proved::h26x_handles::sdp_parameter::{ListedParameter, parameter_of};
 use crate::proved::h26x_sdp::{
-    CodecParameter, CodecParameters, CodecRules, H264Parameters, H265Parameters, H266Parameters,
-    Kind, OtherParameter, h264_of_payload, h265_of_payload, h266_of_payload,
+    CodecParameters, CodecRules, H264Parameters, H265Parameters, H266Parameters, Kind,
+    OtherParameter, h264_of_payload, h265_of_payload, h266_of_payload,
 };
 use crate::support::AllocError;
 use alloc::vec::Vec;
@@ -95,14 +95,6 @@ fn units_of<P: ListedParameter>(
     }
 }
 
-/// The parameters of a text, or why there are none.
-fn read_as<P: CodecParameter>(text: &[u8]) -> Result<CodecParameters<P>, Refused> {
-    match CodecParameters::read(text) {
-        Ok(it) => Ok(it),
-        Err(error) => Err(of_parameters(error)),
-    }
-}
-
 /// The answer to an offered format by one of ours, or that there is none.
 fn answer_of<P: CodecRules>(
     offered: &CodecParameters<P>,
@@ -119,9 +111,18 @@ impl SdpEndpoint {
     /// Reads what stands behind the payload type in an `a=fmtp` line.
     pub fn read(codec: Codec, text: &[u8]) -> Result<Self, Refused> {
         match codec {
-            Codec::H264 => Ok(SdpEndpoint::H264(read_as(text)?)),
-            Codec::H265 => Ok(SdpEndpoint::H265(read_as(text)?)),
-            Codec::H266 => Ok(SdpEndpoint::H266(read_as(text)?)),
+            Codec::H264 => match H264Parameters::read(text) {
+                Ok(it) => Ok(SdpEndpoint::H264(it)),
+                Err(error) => Err(of_parameters(error)),
+            },
+            Codec::H265 => match H265Parameters::read(text) {
+                Ok(it) => Ok(SdpEndpoint::H265(it)),
+                Err(error) => Err(of_parameters(error)),
+            },
+            Codec::H266 => match H266Parameters::read(text) {
+                Ok(it) => Ok(SdpEndpoint::H266(it)),
+                Err(error) => Err(of_parameters(error)),
+            },
         }
     }
 

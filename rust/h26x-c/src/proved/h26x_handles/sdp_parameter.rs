@@ -115,6 +115,5 @@ impl ListedParameter for H266Parameter {
 /// The parameter with a name, without regard to case, and what its value is.
 pub fn parameter_of<P: ListedParameter>(name: &[u8]) -> Option<(P, Kind)> {
     let (place, kind) = row_of(P::rows(), name)?;
-    let parameter = P::all().get(place)?;
-    Some((*parameter, kind))
+    Some((P::all()[place], kind))
 }
