@@ -35,6 +35,9 @@ PLACES = {"fmt": "core", "mem": "core", "ops": "core", "cmp": "core", "iter": "c
           "convert": "core", "num": "core", "option": "core", "result": "core", "marker": "core", "hash": "core",
           "vec": "alloc", "boxed": "alloc", "string": "alloc", "borrow": "alloc", "collections": "alloc"}
 
+# What Rust has in scope without an import, and docs link to.
+IN_SCOPE = {"Box", "Clone", "Default", "Drop", "Err", "Iterator", "None", "Ok", "Option", "Result", "Some", "String", "Vec"}
+
 # Libraries of Rattle that have another one in their place, by the names of theirs.
 LIBRARIES = ("base64", "hex")
 
@@ -202,6 +205,25 @@ def place_of_std(items, i):
     if not is_word(part) or part.text not in PLACES:
         raise Refused(f"std::{part.text if part else ''} has no place, or several")
     return PLACES[part.text]
+
+
+def names_in(items):
+    """The words that a file has outside of its docs."""
+    here = {it.text for it in items if it.kind == "word"}
+    return here.union(*(names_in(it.items) for it in items if it.kind == "group"))
+
+
+def unlink(items):
+    """A link in a doc to what a file doesn't name leads nowhere in Rust: the name alone is left."""
+    names = names_in(items) | IN_SCOPE
+
+    def alone(link):
+        return link[0] if link[1] in names else f"`{link[1]}`"
+
+    def change(inner):
+        return [Token("doc", re.sub(r"\[`(\w+)`\](?![(\[:])", alone, it.text)) if it.kind == "doc" else it for it in inner]
+
+    return deep(items, change)
 
 
 def std_alone(items):

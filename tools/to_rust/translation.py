@@ -120,7 +120,7 @@ class Translation:
         items = deep(items, idiom.rewrite_paths(self.module, crate.name, self.names))
         items = deep(deep(items, exports.write_boxes), memory.write_formats)
         items = deep(items, self.types.change)
-        items = exports.add_import(idiom.add_imports(items, fallible.traits))
+        items = idiom.unlink(exports.add_import(idiom.add_imports(items, fallible.traits)))
         idiom.check_words(items, f"{crate.name}/{place}")
         text = idiom.OF_MEMORY.sub("", written(items))
         return f"// Made from crates/{crate.name}/src/{place} by tools/to-rust.\n\n{text}"

@@ -103,7 +103,7 @@ impl From<H264ProfileIdc> for u8 {
 /// between 1 and 1.1.
 ///
 /// What `as` gives is the level_idc: ten times the level, and of level 1b 0, as str0m has it. A
-/// `profile-level-id` names level 1b by 11 and a flag too, which `H264ProfileLevel` reads.
+/// `profile-level-id` names level 1b by 11 and a flag too, which [`H264ProfileLevel`] reads.
 #[derive(Debug, Clone, Copy, PartialEq, Eq, Hash)]
 pub enum H264LevelIdc {
     /// Level 1.
