@@ -12,8 +12,7 @@ ghost use Rattle.h26x_c.specs.AccessUnits.{config_codec_or_code, fresh_units_wit
 use crate::const_handle::ConstHandle;
 use crate::handle::Handle;
 use crate::place::{Place, put};
-use h26x_access_units::{self, AccessUnitConfig, Pushed};
-use h26x_core::PacketError;
+use h26x_access_units::{self, AccessUnitConfig};
 use h26x_frames::RtpPacket;
 use h26x_handles::access_units::{
     AccessUnitEndpoint, GivesUnits, UnitTold, code_of_next, numbers_of_push, units_codec_wanted,
@@ -120,22 +119,6 @@ pub extern "C" fn h26x_access_units_free(u: Handle) {
     drop(u.into_box());
 }
 
-/// The code of what became of a packet that was given, and its numbers.
-fn code_of_push(answer: Result<Pushed, PacketError>, pushed: &mut u32, behind: &mut u16) -> u32
-    ensures ok { (it : Pushed) → answer ≡ Ok it →
-        (result ≡ ok) × ((pushed.new, behind.new) ≡ pushed_numbers it) }
-    ensures none { (e : PacketError) → answer ≡ Err e → (result ≡ out_of_memory)
-        × ((pushed.new ≡ pushed.old) × (behind.new ≡ behind.old)) }
-{
-    match answer {
-        Ok(it) => {
-            (*pushed, *behind) = numbers_of_push(it);
-            OK
-        }
-        Err(_) => OUT_OF_MEMORY,
-    }
-}
-
 /// Takes a packet that came at this tick.
 #[unsafe(no_mangle)]
 pub extern "C" fn h26x_access_units_push(
@@ -169,7 +152,13 @@ pub extern "C" fn h26x_access_units_push(
         payload,
     };
     match u.get_mut() {
-        Endpoint::AccessUnits(it) => code_of_push(it.push(now, &packet), pushed, behind),
+        Endpoint::AccessUnits(it) => match it.push(now, &packet) {
+            Ok(what) => {
+                (*pushed, *behind) = numbers_of_push(what);
+                OK
+            }
+            Err(_) => OUT_OF_MEMORY,
+        },
         _ => WRONG_END,
     }
 }
@@ -198,7 +187,13 @@ pub extern "C" fn h26x_access_units_skip(
     ensures kept_told { result ≢ ok → (pushed.new ≡ pushed.old) × (behind.new ≡ behind.old) }
 {
     match u.get_mut() {
-        Endpoint::AccessUnits(it) => code_of_push(it.skip(now, sequence), pushed, behind),
+        Endpoint::AccessUnits(it) => match it.skip(now, sequence) {
+            Ok(answer) => {
+                (*pushed, *behind) = numbers_of_push(answer);
+                OK
+            }
+            Err(_) => OUT_OF_MEMORY,
+        },
         _ => WRONG_END,
     }
 }

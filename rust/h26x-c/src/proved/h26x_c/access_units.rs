@@ -2,11 +2,10 @@
 
 //! The calls of a receiver of access units, of packets as a network brings them.
 
-use crate::proved::h26x_access_units::{self, AccessUnitConfig, Pushed};
+use crate::proved::h26x_access_units::{self, AccessUnitConfig};
 use crate::proved::h26x_c::const_handle::ConstHandle;
 use crate::proved::h26x_c::handle::Handle;
 use crate::proved::h26x_c::place::{Place, put};
-use crate::proved::h26x_core::PacketError;
 use crate::proved::h26x_frames::RtpPacket;
 use crate::proved::h26x_handles::access_units::{
     AccessUnitEndpoint, UnitTold, code_of_next, numbers_of_push, units_codec_wanted,
@@ -97,25 +96,6 @@ pub fn h26x_access_units_free(u: Handle) {
     drop(u.into_box());
 }
 
-/// The code of what became of a packet that was given, and its numbers.
-fn code_of_push(
-    answer: Result<Pushed, PacketError>,
-    pushed: &mut MaybeUninit<u32>,
-    behind: &mut MaybeUninit<u16>,
-) -> u32 {
-    match answer {
-        Ok(it) => {
-            {
-                let values = numbers_of_push(it);
-                pushed.write(values.0);
-                behind.write(values.1);
-            }
-            OK
-        }
-        Err(_) => OUT_OF_MEMORY,
-    }
-}
-
 /// Takes a packet that came at this tick.
 pub fn h26x_access_units_push(
     u: &mut Handle,
@@ -134,7 +114,17 @@ pub fn h26x_access_units_push(
         payload,
     };
     match u.get_mut() {
-        Endpoint::AccessUnits(it) => code_of_push(it.try_push(now, &packet), pushed, behind),
+        Endpoint::AccessUnits(it) => match it.try_push(now, &packet) {
+            Ok(what) => {
+                {
+                    let values = numbers_of_push(what);
+                    pushed.write(values.0);
+                    behind.write(values.1);
+                }
+                OK
+            }
+            Err(_) => OUT_OF_MEMORY,
+        },
         _ => WRONG_END,
     }
 }
@@ -148,7 +138,17 @@ pub fn h26x_access_units_skip(
     behind: &mut MaybeUninit<u16>,
 ) -> u32 {
     match u.get_mut() {
-        Endpoint::AccessUnits(it) => code_of_push(it.skip(now, sequence), pushed, behind),
+        Endpoint::AccessUnits(it) => match it.skip(now, sequence) {
+            Ok(answer) => {
+                {
+                    let values = numbers_of_push(answer);
+                    pushed.write(values.0);
+                    behind.write(values.1);
+                }
+                OK
+            }
+            Err(_) => OUT_OF_MEMORY,
+        },
         _ => WRONG_END,
     }
 }
