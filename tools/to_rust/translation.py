@@ -3,7 +3,7 @@
 from pathlib import Path
 
 from . import contracts, exports, idiom, laws, memory, types
-from .tree import after, at, deep, functions, is_sign, is_word, parse, words_of, written
+from .tree import after, at, deep, functions, is_group, is_sign, is_word, parse, words_of, written
 
 
 # Crates that stand behind a feature of the package.
@@ -50,6 +50,14 @@ def modules(items):
             yield items[after(items, i)].text
 
 
+def methods_of_traits(items):
+    """Each trait with the names of its methods."""
+    for i, it in enumerate(items):
+        if is_word(it, "trait"):
+            block = next(of for of in items[i:] if is_group(of, "{"))
+            yield items[after(items, i)].text, {f.name for f in functions(block.items)}
+
+
 class Translation:
     """The proved crates of a folder as modules of one module of Rust."""
 
@@ -65,6 +73,8 @@ class Translation:
             every = {f.name for items in crate.files.values() for f in functions(items)}
             crate.laws = every & self.laws
             crate.thin(self.laws)
+        self.traits = {name: methods for crate in self.crates for items in crate.files.values()
+                       for name, methods in methods_of_traits(items)}
         self.of_std = {name for crate in self.crates for items in crate.files.values()
                        for name in idiom.std_alone(items)}
         self.without = {crate.name for crate in self.crates if not crate.files}
@@ -102,8 +112,10 @@ class Translation:
         return "\n".join([*lines, ""])
 
     def file(self, crate, place, items, of_c):
-        # What only contracts and laws named is not imported.
-        unnamed = crate.words[place] - words_of(items)
+        # What only contracts and laws named is not imported, but traits of which a method may be called.
+        named = words_of(items)
+        unnamed = crate.words[place] - named
+        unnamed -= {name for name, methods in self.traits.items() if methods & named}
         gone = self.laws | unnamed | {"Model", "Global", "Serialize", "Deserialize", "Error"}
         items = laws.erase_uses(items, gone, crate.gone | self.without)
         items = idiom.mark_unread(self.owed.lower_uses(items))

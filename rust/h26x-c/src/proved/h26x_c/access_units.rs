@@ -8,7 +8,7 @@ use crate::proved::h26x_c::handle::Handle;
 use crate::proved::h26x_c::place::{Place, put};
 use crate::proved::h26x_frames::RtpPacket;
 use crate::proved::h26x_handles::access_units::{
-    AccessUnitEndpoint, UnitTold, code_of_next, numbers_of_push, units_codec_wanted,
+    AccessUnitEndpoint, GivesUnits, UnitTold, code_of_next, numbers_of_push, units_codec_wanted,
 };
 use crate::proved::h26x_handles::code::{OK, OUT_OF_MEMORY, WRONG_END};
 use crate::proved::h26x_handles::endpoint::Endpoint;

@@ -4,7 +4,7 @@
 //! room where it was to be written.
 
 use crate::proved::h26x_access_units::{
-    AccessUnitConfig, AccessUnitReceiver, Counts, Pushed, ReceivedUnit,
+    AccessUnitConfig, AccessUnitReceiver, Counts, Pushed, ReceivedUnit, Receives,
 };
 use crate::proved::h26x_codec::Codec;
 use crate::proved::h26x_core::PacketError;
