@@ -1,6 +1,6 @@
 //! The calls on format parameters of SDP.
 
-ghost use Rattle.std.specs.Prelude.{◌≡◌, ◌≢◌, ◌⊎◌, ℕ, List, true, false, Some, None, Ok, Err, length};
+ghost use Rattle.std.specs.Prelude.{◌≡◌, ◌≢◌, ◌⊎◌, ◌&&◌, ℕ, List, true, false, Some, None, Ok, Err, length};
 ghost use Rattle.h26x_cut.specs.Cutting.{AreUnits};
 ghost use Rattle.h26x_codec.specs.Repeating.{zero_rule};
 ghost use Rattle.h26x_codec.specs.declared.codec.Codec.{Codec};
@@ -91,7 +91,7 @@ pub extern "C" fn h26x_sdp_answer(
     ours: &ConstHandle,
     made: &mut Place,
 ) -> u32
-    ensures wrong { spec.endpoint_answer offered.now.value ours.now.value ≡ Err wrong_end →
+    ensures wrong { (spec.is_sdp offered.now.value && spec.is_sdp ours.now.value) ≡ false →
         result ≡ wrong_end }
     ensures answer { spec.IsMade (spec.endpoint_answer offered.now.value ours.now.value) result
         made.new.value }
@@ -205,7 +205,9 @@ pub extern "C" fn h26x_sdp_units(
     ensures place { (it : Refused) → spec.endpoint_units h.now.value name.now ≡ Err it →
         spec.IsRefused it result why.new.first }
     ensures kept { result ≡ out_of_memory → count.new ≡ count.old }
-    ensures kept_why { result ≡ ok → why.new ≡ why.old }
+    ensures kept_why { (units : List (List ℕ)) →
+        spec.endpoint_units h.now.value name.now ≡ Ok units → result ≢ out_of_memory →
+        why.new ≡ why.old }
 {
     let Endpoint::Sdp(it) = h.get() else {
         return tell(refused_with(WRONG_END), why);
@@ -236,7 +238,9 @@ pub extern "C" fn h26x_sdp_unit(
     ensures place { (it : Refused) → spec.endpoint_units h.now.value name.now ≡ Err it →
         spec.IsRefused it result why.new.first }
     ensures kept { result ≡ out_of_memory → (to.new ≡ to.old) × (len.new ≡ len.old) }
-    ensures kept_why { result ≡ ok → why.new ≡ why.old }
+    ensures kept_why { (units : List (List ℕ)) →
+        spec.endpoint_units h.now.value name.now ≡ Ok units → result ≢ out_of_memory →
+        why.new ≡ why.old }
 {
     let Endpoint::Sdp(it) = h.get() else {
         return tell(refused_with(WRONG_END), why);
