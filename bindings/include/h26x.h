@@ -768,8 +768,8 @@ H26X_API uint32_t h26x_sdp_unit(const h26x_sdp *h, const uint8_t *name, size_t n
 /* Parameter i of those that the RFC doesn't have, in their order: its name and its value. H26X_NO_ROOM where either
  * doesn't fit: *name_len and *value_len are told, and both buffers are left. H26X_SDP_ABSENT past the last;
  * H26X_WRONG_END. */
-H26X_API uint32_t h26x_sdp_other(const h26x_sdp *h, size_t i, uint8_t *name, size_t name_room, size_t *name_len,
-                                 uint8_t *value, size_t value_room, size_t *value_len) H26X_MUST_USE;
+H26X_API uint32_t h26x_sdp_other(const h26x_sdp *h, size_t i, uint8_t *name_to, size_t name_room, size_t *name_len,
+                                 uint8_t *value_to, size_t value_room, size_t *value_len) H26X_MUST_USE;
 
 /* `sprop-max-don-diff` of H.265 and H.266, or 0 where it is absent: packets bear decoding order numbers where it is over
  * 0, which is `numbers` of h26x_packetizer_new and so on. H26X_NOT_OF_THIS_CODEC for H.264; H26X_WRONG_END. */

@@ -392,12 +392,12 @@ uint32_t h26x_sdp_unit(const h26x_sdp *h, const uint8_t *name, size_t name_len, 
                            WANTED(len, &unwanted_len), WANTED(why, &unwanted_why));
 }
 
-uint32_t h26x_sdp_other(const h26x_sdp *h, size_t i, uint8_t *name, size_t name_room,
-                        size_t *name_len, uint8_t *value, size_t value_room, size_t *value_len)
+uint32_t h26x_sdp_other(const h26x_sdp *h, size_t i, uint8_t *name_to, size_t name_room,
+                        size_t *name_len, uint8_t *value_to, size_t value_room, size_t *value_len)
 {
     size_t unwanted[2];
-    return proved_sdp_other(h, i, BYTES(name, name_room), WANTED(name_len, &unwanted[0]),
-                            BYTES(value, value_room), WANTED(value_len, &unwanted[1]));
+    return proved_sdp_other(h, i, BYTES(name_to, name_room), WANTED(name_len, &unwanted[0]),
+                            BYTES(value_to, value_room), WANTED(value_len, &unwanted[1]));
 }
 
 uint32_t h26x_sdp_max_don_diff(const h26x_sdp *h, uint32_t *value)

@@ -4,7 +4,7 @@
 |---|---|---|
 | `#[unsafe(no_mangle)] pub extern "C" fn h26x_x(..)` | `pub fn h26x_x(..)` of the same body; in a module `exports` of the crate a function of C's form that calls it | the body stays safe, and all that C gives is taken in one file |
 | `x: &[u8]` of an export | `x: *const u8, x_len: usize`, then `bytes(x, x_len)` | NULL has length 0 |
-| `to: &mut [u8]`, `ends: &mut [usize]`, `numbers: &mut [u16]`, `packet: &mut [u8]` | the same, as `room`, `ends_room`, `numbers_room` and `packet_len`, then `room(..)` | as the header names them |
+| `to: &mut [u8]`, `name_to: &mut [u8]`, `ends: &mut [usize]`, `numbers: &mut [u16]`, `packet: &mut [u8]` | the same, as `room`, `name_room`, `ends_room`, `numbers_room` and `packet_len`, then `room(..)` | as the header names them |
 | `x: &Config` of an export | `x: *const Config`, then `shared(x)` | it is there |
 | `x: &mut usize`, and the other types of `OUTPUTS`, which nothing reads; of all functions of the crates that C reaches | `x: &mut MaybeUninit<usize>`, `*x = y` is `x.write(y)`; of an export `x: *mut usize`, then `output(x, ..)` | C leaves it uninitialised; NULL isn't wanted |
 | `extra: &mut u8` of an export, which it reads | `extra: *mut u8`, then `in_out(extra, ..)` | NULL is read as 0 |
@@ -205,7 +205,8 @@ class Exports:
             output = re.fullmatch(r"& mut (?:MaybeUninit < (\w+) >|(\w+))", kind)
             looked_at = re.fullmatch(r"& (\w+)", kind)
             if items and items[1]:
-                room = f"{name}_room" if items[2] != "u8" else "room" if name == "to" else f"{name}_len"
+                is_place = items[2] != "u8" or name.endswith("_to")
+                room = "room" if name == "to" else f"{name.removesuffix('_to')}_{'room' if is_place else 'len'}"
                 taken.append(f"{name}: *mut {items[2]}, {room}: usize")
                 given.append(f"pointers::room({name}, {room})")
             elif items:

@@ -580,10 +580,10 @@ pub unsafe extern "C" fn h26x_sdp_other(
     h: *const ConstHandle,
     i: usize,
     name_to: *mut u8,
-    name_to_len: usize,
+    name_room: usize,
     name_len: *mut usize,
     value_to: *mut u8,
-    value_to_len: usize,
+    value_room: usize,
     value_len: *mut usize,
 ) -> u32 {
     let mut no_name_len = MaybeUninit::uninit();
@@ -593,9 +593,9 @@ pub unsafe extern "C" fn h26x_sdp_other(
         super::sdp::h26x_sdp_other(
             pointers::shared(h),
             i,
-            pointers::room(name_to, name_to_len),
+            pointers::room(name_to, name_room),
             pointers::output(name_len, &mut no_name_len),
-            pointers::room(value_to, value_to_len),
+            pointers::room(value_to, value_room),
             pointers::output(value_len, &mut no_value_len),
         )
     }
