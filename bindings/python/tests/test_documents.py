@@ -16,7 +16,15 @@ from rfc import STREAMS, stream
 HERE = Path(__file__).parents[1]
 
 
-DOCUMENTED = ("packetizer", "depacketizer", "receiver", "access_unit_receiver", "look", "profile")
+DOCUMENTED = (
+    "packetizer",
+    "depacketizer",
+    "receiver",
+    "access_unit_receiver",
+    "look",
+    "profile",
+    "sdp",
+)
 
 
 @pytest.mark.parametrize("name", ["", *("." + name for name in DOCUMENTED)])

@@ -3,6 +3,7 @@
 import pickle
 import re
 from pathlib import Path
+from typing import Sequence, Type
 
 import h26x
 import pytest
@@ -26,6 +27,27 @@ CODES = {
     12: h26x.OutOfRange,
     13: h26x.NoRoom,
     14: h26x.NothingYet,
+    20: h26x.SdpOpenBrace,
+    21: h26x.SdpNotANumber,
+    22: h26x.SdpOutOfRange,
+    23: h26x.SdpNotHexadecimal,
+    24: h26x.SdpNotTxMode,
+    25: h26x.SdpTwice,
+    26: h26x.SdpUnknownName,
+    27: h26x.SdpAbsent,
+    28: h26x.SdpOtherKind,
+    29: h26x.SdpNotBase64,
+    30: h26x.SdpEmptyUnit,
+    31: h26x.SdpOtherType,
+    32: h26x.SdpStartCode,
+    33: h26x.SdpNoSet,
+    34: h26x.SdpShortSet,
+    35: h26x.SdpNoProfile,
+    36: h26x.SdpGeneralConstraints,
+    37: h26x.SdpNoAnswer,
+    38: h26x.SdpPayloadType,
+    39: h26x.SdpEncodingName,
+    40: h26x.SdpClockRate,
 }
 
 
@@ -41,13 +63,31 @@ def test_each_code_is_an_error_of_its_own(code: int) -> None:
 
 
 def test_each_has_words_of_its_own() -> None:
-    assert len({str(errors.error_of(code)) for code in CODES}) == 14
+    assert len({str(errors.error_of(code)) for code in CODES}) == len(CODES)
     assert str(errors.error_of(8)) == "out of memory"
     assert isinstance(errors.error_of(8), MemoryError)
     text = "an H.264 packet of this type is not handled (type 31)"
     assert str(errors.error_of(2, 31)) == text
     assert str(errors.error_of(3, 5, 2)).endswith("(5 bytes, where 2 are left)")
     assert str(errors.error_of(13, 2, 12)).endswith("(2 packets, 12 bytes)")
+    assert str(errors.error_of(20)) == "a brace is left open"
+    assert str(errors.error_of(25, 2)) == "the parameter is given twice (parameter 2)"
+    assert str(errors.error_of(29, 1)) == "the unit is no base64 (unit 1)"
+    assert str(errors.error_of(40)) == "the clock rate is not 90000"
+
+
+@pytest.mark.parametrize(
+    "kind, codes",
+    [
+        (h26x.ParametersError, range(20, 26)),
+        (h26x.UnitsError, range(29, 33)),
+        (h26x.StreamError, range(33, 37)),
+        (h26x.RtpMapError, range(38, 41)),
+    ],
+)
+def test_errors_of_sdp(kind: Type[h26x.Error], codes: Sequence[int]) -> None:
+    assert [code for code in CODES if isinstance(errors.error_of(code), kind)] == list(codes)
+    assert issubclass(kind, ValueError)
 
 
 def test_none() -> None:

@@ -37,6 +37,7 @@ TYPES: Dict[str, Any] = {
     "uint8_t *": _library._BYTE,
     "uint16_t *": _library._SHORT,
     "uint32_t *": _library._WORD,
+    "uint64_t *": _library._LONG,
     "size_t *": _library._SIZE,
     "h26x_refusal *": _library._WHY,
     "h26x_h265_packet *": _library._SHOWN,
@@ -46,7 +47,7 @@ TYPES: Dict[str, Any] = {
 }
 
 #: A pointer to one number, or to as many as there is room for: told apart by the name.
-ROOMS = {"to": c_void_p, "ends": c_void_p, "numbers": c_void_p}
+ROOMS = dict.fromkeys(("to", "ends", "numbers", "name", "value"), c_void_p)
 
 #: The structs of the header that are more than a handle.
 STRUCTS: Dict[str, Any] = {
@@ -57,7 +58,13 @@ STRUCTS: Dict[str, Any] = {
     "h26x_access_units_counts": _library.UnitsCounts,
 }
 
-HANDLES = ("h26x_packetizer", "h26x_depacketizer", "h26x_receiver", "h26x_access_units")
+HANDLES = (
+    "h26x_packetizer",
+    "h26x_depacketizer",
+    "h26x_receiver",
+    "h26x_access_units",
+    "h26x_sdp",
+)
 
 
 def ctype(declared: str, name: str) -> Any:
@@ -83,7 +90,7 @@ def test_calls_are_declared_as_in_the_header() -> None:
     if not HEADER.is_file():
         pytest.skip("the header lies beside the package in its repository")
     text = re.sub(r"/\*.*?\*/", "", HEADER.read_text(), flags=re.S)
-    pattern = r"H26X_API (const char \*|\w+ )h26x_(\w+)\((.*?)\)( H26X_MUST_USE)?;"
+    pattern = r"H26X_API (const char \*|\w+ )h26x_(\w+)\((.*?)\)(\s+H26X_MUST_USE)?;"
     wanted = {}
     for answer, name, listed, _ in re.findall(pattern, text, re.S):
         wanted[name] = (TYPES[answer.strip()], arguments(re.sub(r"\s+", " ", listed)))

@@ -1,5 +1,6 @@
 """One object in several threads: calls release the interpreter's lock, and each has the handle alone."""
 
+import base64
 import threading
 from collections import Counter
 from typing import Callable, List
@@ -9,6 +10,7 @@ from h26x import (
     AccessUnitReceiver,
     Codec,
     Depacketizer,
+    FormatParameters,
     Packetizer,
     Receiver,
     RtpPacket,
@@ -114,6 +116,56 @@ def test_comparing_while_another_thread_does() -> None:
         return run
 
     together(compares(one, other), compares(other, one))
+
+
+def test_one_format() -> None:
+    """Its calls write to memory of the object's, each as much as it needs."""
+    sets = [b"\x67" + bytes([9]) * 3000, b"\x68" + bytes([7]) * 50]
+    text = "sprop-parameter-sets=" + ",".join(base64.b64encode(one).decode() for one in sets)
+    text += ";packetization-mode=1;x=" + "y" * 5000
+    format = FormatParameters.read(Codec.H264, text)
+
+    def repeats(call: Callable[[], object], wanted: object) -> Callable[[], None]:
+        def run() -> None:
+            for _ in range(200):
+                assert call() == wanted
+
+        return run
+
+    together(
+        repeats(lambda: str(format), text),
+        repeats(lambda: format.units("sprop-parameter-sets"), sets),
+        repeats(format.others, [("x", "y" * 5000)]),
+        repeats(lambda: format.value("Packetization-Mode"), "1"),
+        repeats(lambda: format.number("sar-understood", True), 13),
+    )
+
+
+def test_answering_while_another_thread_does() -> None:
+    one, other = FormatParameters(Codec.H265), FormatParameters(Codec.H265)
+
+    def answers(offered: FormatParameters, ours: FormatParameters) -> Callable[[], None]:
+        def run() -> None:
+            for _ in range(2000):
+                assert str(offered.answer(ours)) == ""
+
+        return run
+
+    together(answers(one, other), answers(other, one), answers(one, one))
+
+
+def test_closing_a_format_while_another_thread_answers() -> None:
+    for _ in range(50):
+        offered, ours = FormatParameters(Codec.H265), FormatParameters(Codec.H265)
+
+        def answers() -> None:
+            try:
+                while offered.answer(ours) is not None:
+                    pass
+            except ValueError as why:
+                assert "closed" in str(why)
+
+        together(answers, answers, ours.close)
 
 
 def test_closing_while_another_thread_calls() -> None:

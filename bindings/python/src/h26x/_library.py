@@ -24,7 +24,8 @@ MAJOR, MINOR = 0, 1
 
 
 class Handle(Structure):
-    """A packetizer, a depacketizer or a receiver of either kind: each is a struct of one pointer."""
+    """A packetizer, a depacketizer, a receiver of either kind or format parameters: each is a struct of one
+    pointer."""
 
     _fields_ = [("at", c_void_p)]
 
@@ -104,6 +105,7 @@ _SIZE = POINTER(c_size_t)
 _BYTE = POINTER(c_uint8)
 _SHORT = POINTER(c_uint16)
 _WORD = POINTER(c_uint32)
+_LONG = POINTER(c_uint64)
 _WHY = POINTER(Refusal)
 _SHOWN = POINTER(ShownPacket)
 _CONFIG = POINTER(UnitsConfig)
@@ -191,6 +193,21 @@ CALLS: Dict[str, Tuple[Any, List[Any]]] = {
     "h264_profile_level": (c_bool, [c_uint32, _BYTE, _BYTE]),
     "h265_is_known": _IS_KNOWN,
     "h266_is_known": _IS_KNOWN,
+    "sdp_read": (c_uint32, [c_uint32, *_IN, _HANDLE, _WHY]),
+    "sdp_of_payload": (c_uint32, [c_uint32, *_IN, _HANDLE]),
+    "sdp_answer": (c_uint32, [_HANDLE, _HANDLE, _HANDLE]),
+    "sdp_free": _FREE,
+    "sdp_codec": (c_uint32, [_HANDLE]),
+    "sdp_write": (c_uint32, [_HANDLE, *_OUT, _SIZE]),
+    "sdp_value": (c_uint32, [_HANDLE, *_IN, c_bool, *_OUT, _SIZE]),
+    "sdp_number": (c_uint32, [_HANDLE, *_IN, c_bool, _LONG]),
+    "sdp_units": (c_uint32, [_HANDLE, *_IN, _SIZE, _WHY]),
+    "sdp_unit": (c_uint32, [_HANDLE, *_IN, c_size_t, *_OUT, _SIZE, _WHY]),
+    "sdp_other": (c_uint32, [_HANDLE, c_size_t, *_OUT, _SIZE, *_OUT, _SIZE]),
+    "sdp_max_don_diff": (c_uint32, [_HANDLE, _WORD]),
+    "fits_single_units": (c_bool, [*_IN, c_size_t]),
+    "rtpmap_read": (c_uint32, [*_IN, _BYTE, _WORD]),
+    "rtpmap_write": (c_uint32, [c_uint8, c_uint32, *_OUT, _SIZE]),
 }
 
 

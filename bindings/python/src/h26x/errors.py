@@ -155,6 +155,167 @@ class NothingYet(Error):
     code = 14
 
 
+class ParametersError(Error, ValueError):
+    """A text is no format parameters. It is the first fault that is told."""
+
+    @property
+    def place(self) -> int:
+        """The place of the parameter, from 0; blank parts don't count. 0 where a brace is open."""
+        return self.first
+
+    def _numbers(self) -> str:
+        return f" (parameter {self.place})"
+
+
+class SdpOpenBrace(ParametersError):
+    """A `{` isn't closed."""
+
+    code = 20
+
+    def _numbers(self) -> str:
+        return ""
+
+
+class SdpNotANumber(ParametersError):
+    """A value is no decimal number."""
+
+    code = 21
+
+
+class SdpOutOfRange(ParametersError):
+    """A value is a number, but none that the parameter may have."""
+
+    code = 22
+
+
+class SdpNotHexadecimal(ParametersError):
+    """A value isn't hexadecimal digits, or not as many as the parameter has."""
+
+    code = 23
+
+
+class SdpNotTxMode(ParametersError):
+    """A value is none of SRST, MRST and MRMT."""
+
+    code = 24
+
+
+class SdpTwice(ParametersError):
+    """A parameter of this name stands before it."""
+
+    code = 25
+
+
+class SdpUnknownName(Error, ValueError):
+    """The codec's RFC has no parameter of this name."""
+
+    code = 26
+
+
+class SdpAbsent(Error):
+    """A parameter isn't given. No call here raises it."""
+
+    code = 27
+
+
+class SdpOtherKind(Error, ValueError):
+    """The parameter is no number, or no units."""
+
+    code = 28
+
+
+class UnitsError(Error, ValueError):
+    """A parameter's value is no units. It is the first fault that is told."""
+
+    @property
+    def place(self) -> int:
+        """The place of the unit, from 0."""
+        return self.first
+
+    def _numbers(self) -> str:
+        return f" (unit {self.place})"
+
+
+class SdpNotBase64(UnitsError):
+    """A unit's text is no base64 (RFC 4648, 4)."""
+
+    code = 29
+
+
+class SdpEmptyUnit(UnitsError):
+    """A unit has no byte."""
+
+    code = 30
+
+
+class SdpOtherType(UnitsError):
+    """A unit is of no type that the parameter is for."""
+
+    code = 31
+
+
+class SdpStartCode(UnitsError):
+    """A unit has a start code inside."""
+
+    code = 32
+
+
+class StreamError(Error, ValueError):
+    """A stream's beginning doesn't say its format."""
+
+
+class SdpNoSet(StreamError):
+    """No parameter set that says a profile and a level stands before the first slice."""
+
+    code = 33
+
+
+class SdpShortSet(StreamError):
+    """The first that would say them ends before it does."""
+
+    code = 34
+
+
+class SdpNoProfile(StreamError):
+    """H.266: the first SPS says none (its sps_ptl_dpb_hrd_params_present_flag is 0)."""
+
+    code = 35
+
+
+class SdpGeneralConstraints(StreamError):
+    """H.266: the first SPS has general constraints (its gci_present_flag is 1), which aren't read."""
+
+    code = 36
+
+
+class SdpNoAnswer(Error):
+    """Two formats have no configuration in common. No call here raises it."""
+
+    code = 37
+
+
+class RtpMapError(Error, ValueError):
+    """A text is no payload type of one of the codecs."""
+
+
+class SdpPayloadType(RtpMapError):
+    """The payload type is no number of 7 bits."""
+
+    code = 38
+
+
+class SdpEncodingName(RtpMapError):
+    """The encoding name is none of H264, H265 and H266: the line is of another codec."""
+
+    code = 39
+
+
+class SdpClockRate(RtpMapError):
+    """The clock rate isn't 90000."""
+
+    code = 40
+
+
 _ERRORS: Dict[int, Type[Error]] = {
     error.code: error
     for error in (
@@ -172,6 +333,27 @@ _ERRORS: Dict[int, Type[Error]] = {
         OutOfRange,
         NoRoom,
         NothingYet,
+        SdpOpenBrace,
+        SdpNotANumber,
+        SdpOutOfRange,
+        SdpNotHexadecimal,
+        SdpNotTxMode,
+        SdpTwice,
+        SdpUnknownName,
+        SdpAbsent,
+        SdpOtherKind,
+        SdpNotBase64,
+        SdpEmptyUnit,
+        SdpOtherType,
+        SdpStartCode,
+        SdpNoSet,
+        SdpShortSet,
+        SdpNoProfile,
+        SdpGeneralConstraints,
+        SdpNoAnswer,
+        SdpPayloadType,
+        SdpEncodingName,
+        SdpClockRate,
     )
 }
 

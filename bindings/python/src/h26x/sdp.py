@@ -1,0 +1,254 @@
+"""Payload types and format parameters of SDP: what stands in an `a=rtpmap` line, and behind the payload
+type in an `a=fmtp` line (RFC 6184, 8; RFC 7798, 7; RFC 9328, 7)."""
+
+from __future__ import annotations
+
+from contextlib import ExitStack
+from ctypes import byref, c_size_t, c_uint8, c_uint32, c_uint64
+from dataclasses import dataclass
+from typing import Any, List, NoReturn, Optional, Tuple
+
+from ._handle import Owner
+from ._library import Handle, Refusal, library
+from ._memory import Buffer, Room, as_bytes, number
+from .codec import Codec, codec_of
+from .errors import NoRoom, SdpAbsent, SdpNoAnswer, check, error_of
+
+
+class FormatParameters(Owner):
+    """The format parameters of a codec, which never change.
+
+    A name is one of the codec's RFC, as "profile-level-id", without regard to case; SdpUnknownName is
+    raised of others.
+
+    One object may be used by several threads; one call at a time runs.
+
+    >>> line = "level-asymmetry-allowed=1; packetization-mode=1; Profile-Level-ID=42e01f; x=1"
+    >>> offered = FormatParameters.read(Codec.H264, line)
+    >>> offered.value("profile-level-id"), offered.number("packetization-mode"), offered.others()
+    ('42e01f', 1, [('x', '1')])
+    >>> ours = FormatParameters.read(Codec.H264, "profile-level-id=42e015;packetization-mode=1")
+    >>> str(offered.answer(ours))
+    'profile-level-id=42e015;packetization-mode=1'
+    """
+
+    _FREE = library.h26x_sdp_free
+
+    def __init__(self, codec: int) -> None:
+        """Those of a codec, none of which is given. Raises UnknownCodec or OutOfMemory."""
+        known = codec_of(codec)
+        self._set_up(known, _read(known, ""))
+
+    def _set_up(self, codec: Codec, handle: Handle) -> None:
+        self._codec, self._room, self._more = codec, Room(), Room()
+        self._own(handle)
+
+    @classmethod
+    def _of(cls, codec: Codec, handle: Handle) -> FormatParameters:
+        made = cls.__new__(cls)
+        made._set_up(codec, handle)
+        return made
+
+    @classmethod
+    def read(cls, codec: int, text: str) -> FormatParameters:
+        """Those of a text. White space round `;` and `=` and blank parts are left out, a `;` in braces ends
+        nothing, and what the RFC doesn't have is kept. Raises a ParametersError, UnknownCodec or
+        OutOfMemory."""
+        known = codec_of(codec)
+        return cls._of(known, _read(known, text))
+
+    @classmethod
+    def of_payload(cls, codec: int, payload: Buffer) -> FormatParameters:
+        """What a sender says of its stream, of the bytes that it begins with (Annex B): profile, tier and
+        level of the first SPS, and the sets before the first slice. Raises a StreamError, UnknownCodec
+        or OutOfMemory.
+
+        >>> sets = bytes.fromhex("000001 6742c01f 000001 68ce")
+        >>> str(FormatParameters.of_payload(Codec.H264, sets))
+        'profile-level-id=42C01F;sprop-parameter-sets=Z0LAHw==,aM4='
+        """
+        known, data, made = codec_of(codec), as_bytes(payload), Handle()
+        check(library.h26x_sdp_of_payload(known, data, len(data), byref(made)))
+        return cls._of(known, made)
+
+    @property
+    def codec(self) -> Codec:
+        """Their codec."""
+        return self._codec
+
+    def __str__(self) -> str:
+        """What stands behind the payload type in an `a=fmtp` line: those of the RFC in its order, and the
+        others behind. It is read as the same ones. Raises OutOfMemory."""
+        with self._lock:
+            return self._written(library.h26x_sdp_write).decode()
+
+    def value(self, name: str, or_default: bool = False) -> Optional[str]:
+        """The value of a parameter, as it came. Where it is absent: with `or_default` what the RFC takes
+        for it, if it says what; else None."""
+        named = _utf8(name)
+        with self._lock:
+            try:
+                call = library.h26x_sdp_value
+                return self._written(call, named, len(named), or_default).decode()
+            except SdpAbsent:
+                return None
+
+    def number(self, name: str, or_default: bool = False) -> Optional[int]:
+        """The same of its number. Raises SdpOtherKind where the RFC has no number there."""
+        named, found = _utf8(name), c_uint64()
+        given = (named, len(named), or_default, byref(found))
+        code = self._with_handle(library.h26x_sdp_number, *given)
+        if code == SdpAbsent.code:
+            return None
+        check(code)
+        return found.value
+
+    def units(self, name: str) -> List[bytes]:
+        """The units of a parameter, out of base64: sprop-parameter-sets, sprop-vps and so on; none where it
+        is absent. Give a peer's sets to the decoder before the first picture, each behind 00 00 00 01.
+
+        Raises SdpOtherKind where the RFC has no units there; a UnitsError, since `read` doesn't look into
+        base64; or OutOfMemory."""
+        named, count, why = _utf8(name), c_size_t(), Refusal()
+        given = (named, len(named))
+        with self._lock:
+            code = library.h26x_sdp_units(self._live(), *given, byref(count), byref(why))
+            if code == SdpAbsent.code:
+                return []
+            if code != 0:
+                raise error_of(code, why.first, why.second)
+            return [
+                self._written(library.h26x_sdp_unit, *given, i, behind=(byref(why),))
+                for i in range(count.value)
+            ]
+
+    def _written(self, call: Any, *arguments: Any, behind: Tuple[Any, ...] = ()) -> bytes:
+        """What a call writes, for who has the lock."""
+        room, size = self._room, c_size_t()
+        while True:
+            to = (room.address, room.size, byref(size))
+            code = call(self._live(), *arguments, *to, *behind)
+            if code != NoRoom.code:
+                check(code)
+                return room.copy(0, size.value)
+            room.grow(size.value)
+
+    def others(self) -> List[Tuple[str, str]]:
+        """Names and values of those that the RFC doesn't have, in the order in which they came. A name may
+        be there twice."""
+        found: List[Tuple[str, str]] = []
+        with self._lock:
+            while (one := self._other(len(found))) is not None:
+                found.append(one)
+        return found
+
+    def _other(self, i: int) -> Optional[Tuple[str, str]]:
+        """Number `i` of them, for who has the lock; None past the last."""
+        rooms, sizes = (self._room, self._more), (c_size_t(), c_size_t())
+        while True:
+            to = [(room.address, room.size, byref(size)) for room, size in zip(rooms, sizes)]
+            code = library.h26x_sdp_other(self._live(), i, *to[0], *to[1])
+            if code == SdpAbsent.code:
+                return None
+            if code != NoRoom.code:
+                check(code)
+                name, value = (room.copy(0, size.value) for room, size in zip(rooms, sizes))
+                return name.decode(), value.decode()
+            for room, size in zip(rooms, sizes):
+                room.grow(size.value)
+
+    @property
+    def max_don_diff(self) -> int:
+        """`sprop-max-don-diff` of H.265 and H.266, or 0 where it is absent: packets bear decoding order
+        numbers (`donl`) where it is over 0. Raises NotOfThisCodec of H.264."""
+        found = c_uint32()
+        check(self._with_handle(library.h26x_sdp_max_don_diff, byref(found)))
+        return found.value
+
+    def answer(self, *ours: FormatParameters) -> Optional[FormatParameters]:
+        """The answer to these parameters of an offer, by the first of ours that gives one; None where none
+        does. It is for both directions, and for unicast (RFC 6184, 8.2.2; RFC 7798, 7.2.2; RFC 9328, 7.3.2).
+        Raises OutOfMemory.
+
+        To answer an offer, go through its formats in their order: the first that is answered gives the
+        answer, with its payload type (RFC 3264, 6.1)."""
+        for own in ours:
+            made = Handle()
+            code = self._answer(own, made)
+            if code != SdpNoAnswer.code:
+                check(code)
+                return self._of(self._codec, made)
+        return None
+
+    def _answer(self, ours: FormatParameters, made: Handle) -> int:
+        """Has the answer made by one of ours."""
+        with ExitStack() as locks:
+            # In one order, so that two threads that answer by the same two don't wait for each other.
+            for one in sorted({self, ours}, key=id):
+                locks.enter_context(one._lock)
+            code = library.h26x_sdp_answer(self._live(), ours._live(), byref(made))
+        return int(code)
+
+    def __copy__(self) -> NoReturn:
+        """The library has no copy of it."""
+        raise TypeError(f"a {type(self).__name__} has no copy")
+
+
+@dataclass(frozen=True)
+class RtpMap:
+    """A payload type and its codec, with a clock rate of 90000: what stands behind `a=rtpmap:` (RFC 8866,
+    6.6).
+
+    >>> RtpMap.read("98 h265/90000")
+    RtpMap(payload_type=98, codec=<Codec.H265: 265>)
+    >>> str(RtpMap(96, Codec.H264))
+    '96 H264/90000'
+    """
+
+    #: The payload type, from 0 to 127.
+    payload_type: int
+    #: The codec.
+    codec: Codec
+
+    def __post_init__(self) -> None:
+        """Raises ValueError or UnknownCodec where one isn't such."""
+        object.__setattr__(self, "payload_type", number("payload_type", self.payload_type, 127))
+        object.__setattr__(self, "codec", codec_of(self.codec))
+
+    @classmethod
+    def read(cls, text: str) -> RtpMap:
+        """That of a text, the codec's name without regard to case. Raises an RtpMapError; whoever goes through
+        the lines of a session takes SdpEncodingName as a line of another codec."""
+        data, payload_type, codec = _utf8(text), c_uint8(), c_uint32()
+        check(library.h26x_rtpmap_read(data, len(data), byref(payload_type), byref(codec)))
+        return cls(payload_type.value, Codec(codec.value))
+
+    def __str__(self) -> str:
+        """What stands behind `a=rtpmap:`. Raises OutOfMemory."""
+        room, size = Room(), c_size_t()
+        room.grow(len("127 H264/90000"))
+        to = (room.address, room.size, byref(size))
+        check(library.h26x_rtpmap_write(self.payload_type, self.codec, *to))
+        return room.copy(0, size.value).decode()
+
+
+def fits_single_units(payload: Buffer, limit: int) -> bool:
+    """Whether a payload of H.264 can be sent where `packetization-mode` is 0, in packets of `limit` bytes:
+    each of its units fits a packet of its own (RFC 6184, 5.6 and 6.2). There, give an SPS and a PPS to
+    `packetize_unit`, since `packetize` puts both into one packet."""
+    data = as_bytes(payload)
+    return bool(library.h26x_fits_single_units(data, len(data), number("limit", limit)))
+
+
+def _read(codec: Codec, text: str) -> Handle:
+    """The handle of what a text says."""
+    data, made, why = _utf8(text), Handle(), Refusal()
+    code = library.h26x_sdp_read(codec, data, len(data), byref(made), byref(why))
+    if code != 0:
+        raise error_of(code, why.first, why.second)
+    return made
+
+
+def _utf8(text: str) -> bytes:
+    """The bytes of a text; TypeError where it is none."""
+    return str.encode(text)
