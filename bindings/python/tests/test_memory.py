@@ -16,6 +16,7 @@ from h26x import (
     AccessUnitReceiver,
     Codec,
     Depacketizer,
+    FormatParameters,
     Packetizer,
     Receiver,
     RtpPacket,
@@ -100,7 +101,11 @@ KINDS = [
     (Depacketizer, "depacketizer"),
     (Receiver, "receiver"),
     (AccessUnitReceiver, "access_units"),
+    (FormatParameters, "sdp"),
 ]
+
+#: Those that have no copy.
+ALONE = (AccessUnitReceiver, FormatParameters)
 
 
 @pytest.mark.parametrize("kind, name", KINDS)
@@ -123,7 +128,7 @@ def test_each_handle_is_freed_once(
     assert len(freed) == 1
     # What isn't closed is freed with the object, and a copy has a handle of its own.
     one = made(kind)
-    another = made(kind) if kind is AccessUnitReceiver else copy.copy(one)
+    another = made(kind) if kind in ALONE else copy.copy(one)
     assert len(freed) == 1
     del one
     gc.collect()
@@ -137,7 +142,8 @@ def closed_calls() -> List[Callable[[], Any]]:
     """Calls of objects that are closed."""
     packetizer, depacketizer = Packetizer(Codec.H265), Depacketizer(Codec.H265)
     receiver, access_units = Receiver(Codec.H265, 9), AccessUnitReceiver(Codec.H265)
-    for one in (packetizer, depacketizer, receiver, access_units):
+    format, open_format = FormatParameters(Codec.H265), FormatParameters(Codec.H265)
+    for one in (packetizer, depacketizer, receiver, access_units, format):
         one.close()
     return [
         lambda: packetizer.packetize(1500, b"\2\1\3"),
@@ -173,6 +179,15 @@ def closed_calls() -> List[Callable[[], Any]]:
         access_units.finish,
         access_units.restart,
         access_units.counts,
+        lambda: str(format),
+        lambda: format.value("tx-mode"),
+        lambda: format.number("level-id"),
+        lambda: format.units("sprop-vps"),
+        format.others,
+        lambda: format.max_don_diff,
+        lambda: format.answer(format),
+        lambda: format.answer(open_format),
+        lambda: open_format.answer(format),
     ]
 
 
@@ -258,9 +273,40 @@ print(refused, receiver.counts() == h26x.Counts(taken=1, units=1))
 """
 
 
+#: The same of format parameters, whose text is long.
+WANT_OF_FORMATS = """
+import resource, h26x
+read, H264 = h26x.FormatParameters.read, h26x.Codec.H264
+name, longer = "sprop-parameter-sets", "x=" + "y" * (40 << 20)
+ours = read(H264, "packetization-mode=1;x=" + "y" * (80 << 20))
+sets = read(H264, name + "=" + "Z0I0" * (20 << 20))
+payload = b"\\x67\\x42\\xc0" + bytes([0x1f]) * (40 << 20)
+size = int(open("/proc/self/statm").read().split()[0]) * resource.getpagesize()
+resource.setrlimit(resource.RLIMIT_AS, (size + (48 << 20), size + (48 << 20)))
+offered, refused = read(H264, "packetization-mode=1"), 0
+for call in (
+    lambda: read(H264, longer),
+    lambda: h26x.FormatParameters.of_payload(H264, payload),
+    lambda: offered.answer(ours, ours),
+    lambda: sets.units(name),
+) * 2:
+    try:
+        call()
+    except h26x.OutOfMemory as why:
+        assert str(why) == "out of memory"
+        refused += 1
+print(refused, offered.answer(read(H264, "packetization-mode=1;x=2")))
+"""
+
+
 @pytest.mark.skipif(sys.platform != "linux", reason="it limits memory as Linux does")
 @pytest.mark.parametrize(
-    "program, wanted", [(WANT, "3 00000001650102\n"), (WANT_OF_WAITING, "3 True\n")]
+    "program, wanted",
+    [
+        (WANT, "3 00000001650102\n"),
+        (WANT_OF_WAITING, "3 True\n"),
+        (WANT_OF_FORMATS, "8 packetization-mode=1;x=2\n"),
+    ],
 )
 def test_want_of_memory_is_an_error(program: str, wanted: str) -> None:
     environment = dict(os.environ, PYTHONPATH=os.pathsep.join(sys.path))
