@@ -3,7 +3,7 @@
 A Packetizer cuts encoded video into RTP payloads within a limit. A Depacketizer puts the units
 together again, a Receiver does where packets come with their sequence numbers and some may be missing,
 and an AccessUnitReceiver gives out access units of packets that come in any order. RTP's own header is
-the caller's.
+the caller's. FormatParameters are those of SDP, read and answered.
 
 >>> frame = bytes.fromhex("00000001 6742c01f 00000001 68ce 00000001 658884")  # SPS, PPS, IDR slice
 >>> with Packetizer(Codec.H264) as packetizer:
