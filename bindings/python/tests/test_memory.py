@@ -228,6 +228,17 @@ def test_memory_of_what_waits_is_given_back() -> None:
     assert after.ru_maxrss - before.ru_maxrss < 100_000
 
 
+def test_memory_of_formats_is_given_back() -> None:
+    text, before = "x=" + "y" * (1 << 20), resource.getrusage(resource.RUSAGE_SELF)
+    for n in range(400):
+        format = FormatParameters.read(Codec.H264, text)
+        if n % 2 > 0:
+            format.close()
+    after = resource.getrusage(resource.RUSAGE_SELF)
+    # Their texts are 400 MiB together. The numbers are kilobytes.
+    assert after.ru_maxrss - before.ru_maxrss < 100_000
+
+
 WANT = """
 import resource, h26x
 depacketizer = h26x.Depacketizer(h26x.Codec.H264)
