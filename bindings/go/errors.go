@@ -53,6 +53,54 @@ const (
 	ErrNothingYet Code = C.H26X_NOTHING_YET
 )
 
+// Why format parameters of SDP and payload types are refused. First of those from ErrSDPNotANumber to ErrSDPTwice is the
+// place of the parameter, from 0, blank parts not counted; of those from ErrSDPNotBase64 to ErrSDPStartCode that of the
+// unit.
+const (
+	// ErrSDPOpenBrace: a { isn't closed.
+	ErrSDPOpenBrace Code = C.H26X_SDP_OPEN_BRACE
+	// ErrSDPNotANumber: the value is no number.
+	ErrSDPNotANumber Code = C.H26X_SDP_NOT_A_NUMBER
+	// ErrSDPOutOfRange: the number is none of the parameter's.
+	ErrSDPOutOfRange Code = C.H26X_SDP_OUT_OF_RANGE
+	// ErrSDPNotHexadecimal: the value has other digits, or not as many as the parameter has.
+	ErrSDPNotHexadecimal Code = C.H26X_SDP_NOT_HEXADECIMAL
+	// ErrSDPNotTxMode: the value is none of SRST, MRST and MRMT.
+	ErrSDPNotTxMode Code = C.H26X_SDP_NOT_TX_MODE
+	// ErrSDPTwice: the parameter is given twice.
+	ErrSDPTwice Code = C.H26X_SDP_TWICE
+	// ErrSDPUnknownName: the codec's RFC has no such parameter.
+	ErrSDPUnknownName Code = C.H26X_SDP_UNKNOWN_NAME
+	// ErrSDPAbsent: the parameter isn't given.
+	ErrSDPAbsent Code = C.H26X_SDP_ABSENT
+	// ErrSDPOtherKind: the parameter is no number, or no units.
+	ErrSDPOtherKind Code = C.H26X_SDP_OTHER_KIND
+	// ErrSDPNotBase64: a unit isn't base64.
+	ErrSDPNotBase64 Code = C.H26X_SDP_NOT_BASE64
+	// ErrSDPEmptyUnit: a unit has no bytes.
+	ErrSDPEmptyUnit Code = C.H26X_SDP_EMPTY_UNIT
+	// ErrSDPOtherType: a unit is of no type that the parameter is for.
+	ErrSDPOtherType Code = C.H26X_SDP_OTHER_TYPE
+	// ErrSDPStartCode: a unit has a start code inside.
+	ErrSDPStartCode Code = C.H26X_SDP_START_CODE
+	// ErrSDPNoSet: no parameter set that says a profile stands before the first slice.
+	ErrSDPNoSet Code = C.H26X_SDP_NO_SET
+	// ErrSDPShortSet: it ends before it says one.
+	ErrSDPShortSet Code = C.H26X_SDP_SHORT_SET
+	// ErrSDPNoProfile: H.266: its sps_ptl_dpb_hrd_params_present_flag is 0.
+	ErrSDPNoProfile Code = C.H26X_SDP_NO_PROFILE
+	// ErrSDPGeneralConstraints: H.266: its gci_present_flag is 1.
+	ErrSDPGeneralConstraints Code = C.H26X_SDP_GENERAL_CONSTRAINTS
+	// ErrSDPNoAnswer: two formats have no configuration in common.
+	ErrSDPNoAnswer Code = C.H26X_SDP_NO_ANSWER
+	// ErrSDPPayloadType: it is no number of 7 bits.
+	ErrSDPPayloadType Code = C.H26X_SDP_PAYLOAD_TYPE
+	// ErrSDPEncodingName: it is none of H264, H265 and H266.
+	ErrSDPEncodingName Code = C.H26X_SDP_ENCODING_NAME
+	// ErrSDPClockRate: it isn't 90000.
+	ErrSDPClockRate Code = C.H26X_SDP_CLOCK_RATE
+)
+
 // Error is the code in the library's words.
 func (c Code) Error() string {
 	return "h26x: " + C.GoString(C.h26x_strerror(C.uint32_t(c)))
@@ -73,6 +121,10 @@ func (e *Error) Error() string {
 		return e.Code.Error() + " (type " + first + ")"
 	case ErrSTAPATooLong:
 		return e.Code.Error() + " (" + first + " bytes, where " + second + " are left)"
+	case ErrSDPNotANumber, ErrSDPOutOfRange, ErrSDPNotHexadecimal, ErrSDPNotTxMode, ErrSDPTwice:
+		return e.Code.Error() + " (parameter " + first + ")"
+	case ErrSDPNotBase64, ErrSDPEmptyUnit, ErrSDPOtherType, ErrSDPStartCode:
+		return e.Code.Error() + " (unit " + first + ")"
 	default:
 		return e.Code.Error()
 	}

@@ -1,0 +1,317 @@
+package h26x
+
+// #include <h26x.h>
+import "C"
+
+import (
+	"runtime"
+	"strings"
+	"sync"
+	"unsafe"
+)
+
+// FormatParameters are what an a=fmtp line says behind the payload type (RFC 6184, 8.1; RFC 7798, 7.1; RFC 9328, 7.2).
+// They don't change.
+//
+// Names are those of the codec's RFC, as "profile-level-id", without regard to case. A call that is given one answers
+// ErrSDPUnknownName where the RFC has no such parameter, ErrSDPAbsent where it isn't given, and ErrClosed.
+type FormatParameters struct {
+	mu    sync.RWMutex
+	codec Codec
+	call  *format
+}
+
+// format is what C is given: it has no pointer of Go's. It is nil where the FormatParameters are closed.
+type format struct {
+	handle C.h26x_sdp
+}
+
+// ReadFormatParameters reads those of a text. White space round ; and = and blank parts are left out, a ; in braces
+// ends nothing, and what the RFC doesn't have is kept.
+//
+// Its errors are ErrSDPOpenBrace; those of the first fault, of which First is the place of the parameter, from 0, blank
+// parts not counted: ErrSDPNotANumber, ErrSDPOutOfRange, ErrSDPNotHexadecimal, ErrSDPNotTxMode and ErrSDPTwice; and
+// ErrUnknownCodec and ErrOutOfMemory.
+func ReadFormatParameters(codec Codec, text string) (*FormatParameters, error) {
+	call, why, bytes := new(format), new(C.h26x_refusal), []byte(text)
+	code := C.h26x_sdp_read(C.uint32_t(codec), at(bytes), C.size_t(len(bytes)), &call.handle, why)
+	return call.made(refused(code, *why))
+}
+
+// FormatParametersOf is what a sender says of its stream, of the bytes that it begins with (Annex B): profile, tier and
+// level of the first SPS, and the sets before the first slice.
+//
+// Its errors are ErrSDPNoSet, ErrSDPShortSet, ErrSDPNoProfile, ErrSDPGeneralConstraints, ErrUnknownCodec and
+// ErrOutOfMemory.
+func FormatParametersOf(codec Codec, payload []byte) (*FormatParameters, error) {
+	call := new(format)
+	code := C.h26x_sdp_of_payload(C.uint32_t(codec), at(payload), C.size_t(len(payload)), &call.handle)
+	return call.made(refusedBy(code))
+}
+
+// made is what a call made, if it has no error.
+func (call *format) made(err error) (*FormatParameters, error) {
+	if err != nil {
+		return nil, err
+	}
+	f := &FormatParameters{codec: Codec(C.h26x_sdp_codec(&call.handle)), call: call}
+	runtime.SetFinalizer(f, (*FormatParameters).Close)
+	return f, nil
+}
+
+// Close frees what the library holds, and answers nil. It may be called again.
+func (f *FormatParameters) Close() error {
+	f.mu.Lock()
+	defer f.mu.Unlock()
+	if f.call != nil {
+		C.h26x_sdp_free(f.call.handle)
+		f.call = nil
+		runtime.SetFinalizer(f, nil)
+	}
+	return nil
+}
+
+// Codec is their codec.
+func (f *FormatParameters) Codec() Codec { return f.codec }
+
+// Answer is the answer to an offered format by one of ours. Its errors are ErrSDPNoAnswer where they have no
+// configuration in common, as of two codecs, ErrOutOfMemory and ErrClosed.
+//
+// To answer an offer, go through its formats in their order and for each through ours in our order of preference: the
+// first that is made is the answer, with the payload type of the offered format (RFC 3264, 6.1). It is for both
+// directions, and for unicast (RFC 6184, 8.2.2; RFC 7798, 7.2.2; RFC 9328, 7.3.2).
+func (f *FormatParameters) Answer(ours *FormatParameters) (*FormatParameters, error) {
+	defer lockBoth(f, ours)()
+	if f.call == nil || ours.call == nil {
+		return nil, ErrClosed
+	}
+	call := new(format)
+	return call.made(refusedBy(C.h26x_sdp_answer(&f.call.handle, &ours.call.handle, &call.handle)))
+}
+
+// lockBoth locks two that are only looked at, in the order of their addresses, so that no two calls wait for each
+// other. It answers what unlocks them.
+func lockBoth(a, b *FormatParameters) (unlock func()) {
+	if uintptr(unsafe.Pointer(b)) < uintptr(unsafe.Pointer(a)) {
+		a, b = b, a
+	}
+	a.mu.RLock()
+	if a == b {
+		return a.mu.RUnlock
+	}
+	b.mu.RLock()
+	return func() {
+		b.mu.RUnlock()
+		a.mu.RUnlock()
+	}
+}
+
+// Text is what stands behind the payload type in an a=fmtp line: the parameters of the RFC in its order, and the others
+// behind. It is read as the same ones. Its errors are ErrOutOfMemory and ErrClosed.
+func (f *FormatParameters) Text() (string, error) {
+	f.mu.RLock()
+	defer f.mu.RUnlock()
+	if f.call == nil {
+		return "", ErrClosed
+	}
+	return written(func(to *C.uint8_t, room C.size_t, size *C.size_t) C.uint32_t {
+		return C.h26x_sdp_write(&f.call.handle, to, room, size)
+	})
+}
+
+// String is the Text; empty where that has an error.
+func (f *FormatParameters) String() string {
+	text, _ := f.Text()
+	return text
+}
+
+// written is the text that a call writes, which is first asked for its size.
+func written(write func(to *C.uint8_t, room C.size_t, size *C.size_t) C.uint32_t) (string, error) {
+	var room []byte
+	size := new(C.size_t)
+	code := write(nil, 0, size)
+	if code == C.H26X_NO_ROOM {
+		room = make([]byte, int(*size))
+		code = write(at(room), C.size_t(len(room)), size)
+	}
+	return string(room), refusedBy(code)
+}
+
+// Value is the value of a parameter, as it came.
+func (f *FormatParameters) Value(name string) (string, error) { return f.value(name, false) }
+
+// ValueOrDefault is the same, or where it is absent what the RFC takes for it; ErrSDPAbsent where that says nothing, as
+// where the level does.
+func (f *FormatParameters) ValueOrDefault(name string) (string, error) { return f.value(name, true) }
+
+func (f *FormatParameters) value(name string, orDefault bool) (string, error) {
+	f.mu.RLock()
+	defer f.mu.RUnlock()
+	if f.call == nil {
+		return "", ErrClosed
+	}
+	bytes := []byte(name)
+	return written(func(to *C.uint8_t, room C.size_t, size *C.size_t) C.uint32_t {
+		return C.h26x_sdp_value(&f.call.handle, at(bytes), C.size_t(len(bytes)), C.bool(orDefault), to, room, size)
+	})
+}
+
+// Number is the number of a parameter; ErrSDPOtherKind where the RFC has none there.
+func (f *FormatParameters) Number(name string) (uint64, error) { return f.number(name, false) }
+
+// NumberOrDefault is the same, or where it is absent what the RFC takes for it; ErrSDPAbsent where that says nothing.
+func (f *FormatParameters) NumberOrDefault(name string) (uint64, error) { return f.number(name, true) }
+
+func (f *FormatParameters) number(name string, orDefault bool) (uint64, error) {
+	f.mu.RLock()
+	defer f.mu.RUnlock()
+	if f.call == nil {
+		return 0, ErrClosed
+	}
+	bytes, number := []byte(name), new(C.uint64_t)
+	code := C.h26x_sdp_number(&f.call.handle, at(bytes), C.size_t(len(bytes)), C.bool(orDefault), number)
+	return uint64(*number), refusedBy(code)
+}
+
+// Units are those of a parameter, out of base64: sprop-parameter-sets, sprop-vps and so on. Give a peer's sets to the
+// decoder before the first picture, each behind 00 00 00 01.
+//
+// Its errors are ErrSDPOtherKind where the RFC has no units there; those of the first fault, of which First is the place
+// of the unit, from 0: ErrSDPNotBase64, ErrSDPEmptyUnit, ErrSDPOtherType and ErrSDPStartCode; and ErrOutOfMemory.
+func (f *FormatParameters) Units(name string) ([][]byte, error) {
+	count, err := f.countOfUnits(name)
+	if err != nil {
+		return nil, err
+	}
+	value, err := f.Value(name)
+	if err != nil {
+		return nil, err
+	}
+	// Each is read by itself, since a call for one of many reads them all.
+	units := make([][]byte, 0, count)
+	for _, one := range strings.SplitN(value, ",", count) {
+		unit, err := unitOf(f.codec, name, one)
+		if err != nil {
+			return nil, err
+		}
+		units = append(units, unit)
+	}
+	return units, nil
+}
+
+// countOfUnits is how many units a parameter has, or why it has none.
+func (f *FormatParameters) countOfUnits(name string) (int, error) {
+	f.mu.RLock()
+	defer f.mu.RUnlock()
+	if f.call == nil {
+		return 0, ErrClosed
+	}
+	bytes, count, why := []byte(name), new(C.size_t), new(C.h26x_refusal)
+	code := C.h26x_sdp_units(&f.call.handle, at(bytes), C.size_t(len(bytes)), count, why)
+	return int(*count), refused(code, *why)
+}
+
+// unitOf is the unit of a parameter that has one.
+func unitOf(codec Codec, name, value string) ([]byte, error) {
+	one, err := ReadFormatParameters(codec, name+"="+value)
+	if err != nil {
+		return nil, err
+	}
+	defer one.Close()
+	bytes := []byte(name)
+	unit, err := written(func(to *C.uint8_t, room C.size_t, size *C.size_t) C.uint32_t {
+		return C.h26x_sdp_unit(&one.call.handle, at(bytes), C.size_t(len(bytes)), 0, to, room, size, nil)
+	})
+	return []byte(unit), err
+}
+
+// A FormatParameter is a name and a value.
+type FormatParameter struct {
+	Name, Value string
+}
+
+// Others are the parameters that the RFC doesn't have, in their order. A name may be there twice. Its error is
+// ErrClosed.
+func (f *FormatParameters) Others() ([]FormatParameter, error) {
+	f.mu.RLock()
+	defer f.mu.RUnlock()
+	if f.call == nil {
+		return nil, ErrClosed
+	}
+	var others []FormatParameter
+	for {
+		other, code := f.call.other(len(others))
+		switch code {
+		case C.H26X_OK:
+			others = append(others, other)
+		case C.H26X_SDP_ABSENT:
+			return others, nil
+		default:
+			return nil, refusedBy(code)
+		}
+	}
+}
+
+// other is one of them, which is first asked for its sizes.
+func (call *format) other(i int) (FormatParameter, C.uint32_t) {
+	sizes := new([2]C.size_t)
+	var name, value []byte
+	other := func() C.uint32_t {
+		return C.h26x_sdp_other(&call.handle, C.size_t(i), at(name), C.size_t(len(name)), &sizes[0],
+			at(value), C.size_t(len(value)), &sizes[1])
+	}
+	code := other()
+	if code == C.H26X_NO_ROOM {
+		name, value = make([]byte, int(sizes[0])), make([]byte, int(sizes[1]))
+		code = other()
+	}
+	return FormatParameter{string(name), string(value)}, code
+}
+
+// MaxDONDiff is sprop-max-don-diff of H.265 and H.266, or 0 where it is absent: packets bear decoding order numbers where
+// it is over 0, which is DONL. Its errors are ErrNotOfThisCodec for H.264 and ErrClosed.
+func (f *FormatParameters) MaxDONDiff() (uint32, error) {
+	f.mu.RLock()
+	defer f.mu.RUnlock()
+	if f.call == nil {
+		return 0, ErrClosed
+	}
+	most := new(C.uint32_t)
+	code := C.h26x_sdp_max_don_diff(&f.call.handle, most)
+	return uint32(*most), refusedBy(code)
+}
+
+// An RTPMap is a payload type, below 128, and its codec, with a clock rate of 90000 (RFC 8866, 6.6).
+type RTPMap struct {
+	PayloadType uint8
+	Codec       Codec
+}
+
+// ReadRTPMap reads what stands behind "a=rtpmap:", as "96 H264/90000". Its errors are by the first that is wrong
+// ErrSDPPayloadType, ErrSDPEncodingName, as of a line of another codec, and ErrSDPClockRate.
+func ReadRTPMap(text string) (RTPMap, error) {
+	bytes, payloadType, codec := []byte(text), new(C.uint8_t), new(C.uint32_t)
+	code := C.h26x_rtpmap_read(at(bytes), C.size_t(len(bytes)), payloadType, codec)
+	return RTPMap{uint8(*payloadType), Codec(*codec)}, refusedBy(code)
+}
+
+// Text is what stands behind "a=rtpmap:". Its errors are ErrSDPPayloadType where that is over 127, ErrUnknownCodec and
+// ErrOutOfMemory.
+func (m RTPMap) Text() (string, error) {
+	return written(func(to *C.uint8_t, room C.size_t, size *C.size_t) C.uint32_t {
+		return C.h26x_rtpmap_write(C.uint8_t(m.PayloadType), C.uint32_t(m.Codec), to, room, size)
+	})
+}
+
+// String is the Text; empty where that has an error.
+func (m RTPMap) String() string {
+	text, _ := m.Text()
+	return text
+}
+
+// FitsSingleUnits tells whether a payload of H.264 can be sent where packetization-mode is 0, in packets of so many
+// bytes: each of its units fits a packet of its own (RFC 6184, 5.6 and 6.2). There, give an SPS and a PPS to
+// PacketizeUnit, since Packetize puts both into one packet.
+func FitsSingleUnits(payload []byte, limit uint) bool {
+	return bool(C.h26x_fits_single_units(at(payload), C.size_t(len(payload)), C.size_t(limit)))
+}
