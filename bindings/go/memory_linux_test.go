@@ -1,10 +1,14 @@
 package h26x_test
 
 import (
+	"bytes"
+	"encoding/base64"
 	"os"
 	"os/exec"
+	"runtime"
 	"strconv"
 	"strings"
+	"sync"
 	"syscall"
 	"testing"
 
@@ -90,4 +94,57 @@ func TestWantOfMemoryForWhatWaits(t *testing.T) {
 	done(t, err)
 	same(t, unit.Data, annexB(packet))
 	counts(t, u, h26x.Counts{Taken: 1, Units: 1})
+}
+
+// startThreads has Go start threads, since each that is started later takes much of the memory that is left.
+func startThreads() {
+	const threads = 16
+	var started, ended sync.WaitGroup
+	started.Add(threads)
+	ended.Add(threads)
+	for n := 0; n < threads; n++ {
+		go func() {
+			defer ended.Done()
+			runtime.LockOSThread()
+			defer runtime.UnlockOSThread()
+			started.Done()
+			started.Wait()
+		}()
+	}
+	ended.Wait()
+}
+
+// So it is of format parameters: those that are there stay, and where some are closed others are made.
+func TestWantOfMemoryForFormatParameters(t *testing.T) {
+	if !again(t) {
+		return
+	}
+	// Go itself takes no memory for the bytes of a stream, which begins with a long SPS.
+	set := append(some("6742c01f"), bytes.Repeat([]byte{0x61}, 1<<18)...)
+	payload, held := annexB(set), make([]*h26x.FormatParameters, 0, 5000)
+	text := "profile-level-id=42C01F;sprop-parameter-sets=" + base64.StdEncoding.EncodeToString(set)
+	another := func() error {
+		f, err := h26x.FormatParametersOf(h26x.H264, payload)
+		if err == nil {
+			held = append(held, f)
+		}
+		return err
+	}
+	startThreads()
+	runtime.LockOSThread()
+	done(t, another())
+	littleMemory(t)
+	var err error
+	for err == nil && len(held) < cap(held) {
+		err = another()
+	}
+	refuses(t, err, h26x.ErrOutOfMemory)
+	if len(held) < 10 {
+		t.Fatalf("%d are made", len(held))
+	}
+	for _, f := range held[1:] {
+		done(t, f.Close())
+	}
+	isWritten(t, held[0], text)
+	done(t, another())
 }
