@@ -6,7 +6,7 @@
 // A [Packetizer] cuts encoded video into RTP payloads within a limit. A [Depacketizer] puts the units
 // together again, a [Receiver] does where packets come with their sequence numbers and some may be
 // missing, and an [AccessUnitReceiver] gives out access units of packets that come in any order. RTP's own
-// header is the caller's.
+// header is the caller's. [FormatParameters] of SDP are read and answered.
 //
 // A Packetizer has the method of Pion's rtp.Payloader, and a Depacketizer those of its
 // rtp.Depacketizer, so they go where Pion asks for these.
@@ -19,11 +19,12 @@
 //
 // # Handles
 //
-// Each Packetizer, Depacketizer, Receiver and AccessUnitReceiver holds memory of the library. Close frees
-// it; what isn't closed is freed some time after it can't be reached. Every other call that answers errors
-// answers [ErrClosed] behind Close, and so it does of a value that no New made. Goroutines may share an
-// object: by a lock a call that changes it runs alone, and those that only look at it (Clone, Shown,
-// RunLen, Deadline, Missing, Counts) run at once. It must not be copied.
+// Each Packetizer, Depacketizer, Receiver, AccessUnitReceiver and FormatParameters holds memory of the
+// library. Close frees it; what isn't closed is freed some time after it can't be reached. Every other call
+// that answers errors answers [ErrClosed] behind Close, and so it does of a value that no call made.
+// Goroutines may share an object: by a lock a call that changes it runs alone, and those that only look at
+// it (Clone, Shown, RunLen, Deadline, Missing, Counts, and all of FormatParameters but Close) run at once.
+// It must not be copied.
 //
 // # Bytes
 //

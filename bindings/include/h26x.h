@@ -98,7 +98,7 @@ enum h26x_code {
     H26X_OUT_OF_RANGE = 12,           /* a largest size under 4, a window of 0 or over 16384 */
     H26X_NO_ROOM = 13,                /* what is to be written doesn't fit in the caller's memory */
     H26X_NOTHING_YET = 14,            /* no access unit has ended */
-    /* Of format parameters of SDP. why->first of those from 20 to 25: the place of the parameter, from 0, blank parts
+    /* Of format parameters of SDP. why->first of those from 21 to 25: the place of the parameter, from 0, blank parts
      * not counted; of those from 29 to 32: the place of the unit. */
     H26X_SDP_OPEN_BRACE = 20,         /* a `{` isn't closed */
     H26X_SDP_NOT_A_NUMBER = 21,
