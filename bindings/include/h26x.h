@@ -761,7 +761,8 @@ H26X_API uint32_t h26x_sdp_units(const h26x_sdp *h, const uint8_t *name, size_t 
                                  h26x_refusal *why) H26X_MUST_USE;
 
 /* Unit i of them to the front of `to`. The same answers; H26X_SDP_ABSENT past the last; H26X_NO_ROOM tells *len and leaves
- * `to`. Give a peer's sets to the decoder before the first picture, each behind 00 00 00 01. */
+ * `to`. Give a peer's sets to the decoder before the first picture, each behind 00 00 00 01. Each call reads all of them:
+ * where a peer may send thousands, bound *count first, or read the text of h26x_sdp_value as base64 between commas. */
 H26X_API uint32_t h26x_sdp_unit(const h26x_sdp *h, const uint8_t *name, size_t name_len, size_t i, uint8_t *to,
                                 size_t room, size_t *len, h26x_refusal *why) H26X_MUST_USE;
 

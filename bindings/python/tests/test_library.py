@@ -47,7 +47,7 @@ TYPES: Dict[str, Any] = {
 }
 
 #: A pointer to one number, or to as many as there is room for: told apart by the name.
-ROOMS = dict.fromkeys(("to", "ends", "numbers", "name", "value"), c_void_p)
+ROOMS = dict.fromkeys(("to", "ends", "numbers", "name_to", "value_to"), c_void_p)
 
 #: The structs of the header that are more than a handle.
 STRUCTS: Dict[str, Any] = {

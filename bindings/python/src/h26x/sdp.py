@@ -3,6 +3,7 @@ type in an `a=fmtp` line (RFC 6184, 8; RFC 7798, 7; RFC 9328, 7)."""
 
 from __future__ import annotations
 
+from base64 import b64decode
 from contextlib import ExitStack
 from ctypes import byref, c_size_t, c_uint8, c_uint32, c_uint64
 from dataclasses import dataclass
@@ -117,17 +118,18 @@ class FormatParameters(Owner):
                 return []
             if code != 0:
                 raise error_of(code, why.first, why.second)
-            return [
-                self._written(library.h26x_sdp_unit, *given, i, behind=(byref(why),))
-                for i in range(count.value)
-            ]
+            if count.value == 0:
+                return []
+            # Each call for one of many reads them all; that each is base64 is known now.
+            text = self._written(library.h26x_sdp_value, *given, False)
+            return [b64decode(unit) for unit in text.split(b",")]
 
-    def _written(self, call: Any, *arguments: Any, behind: Tuple[Any, ...] = ()) -> bytes:
+    def _written(self, call: Any, *arguments: Any) -> bytes:
         """What a call writes, for who has the lock."""
         room, size = self._room, c_size_t()
         while True:
             to = (room.address, room.size, byref(size))
-            code = call(self._live(), *arguments, *to, *behind)
+            code = call(self._live(), *arguments, *to)
             if code != NoRoom.code:
                 check(code)
                 return room.copy(0, size.value)
