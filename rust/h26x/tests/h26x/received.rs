@@ -135,7 +135,7 @@ fn packets_without_a_payload() {
 }
 
 /// Of a picture of two slices each has the marker, so that nothing tells where it ends: the second goes on with
-/// the first, and neither it nor what is behind is known to be clean.
+/// the first, and isn't known to be whole, but it is clean, and so is what is behind.
 #[test]
 fn a_marker_on_each_slice() {
     let mut came = slices([6]);
@@ -148,8 +148,8 @@ fn a_marker_on_each_slice() {
         json!([6, 6, 0, false, false, false]),
         json!([7, 7, 0, false, true, true]),
         json!([8, 8, 0, false, true, true]),
-        json!([9, 9, 0, true, false, false]),
-        json!([10, 10, 0, false, true, false]),
+        json!([9, 9, 0, true, false, true]),
+        json!([10, 10, 0, false, true, true]),
     ];
     assert_eq!(access_units(&came), wanted);
 }
