@@ -1,13 +1,13 @@
 //! The calls of a depacketizer.
 
-ghost use Rattle.std.specs.Prelude.{◌≡◌, ◌≢◌, ◌⊎◌, ℕ, Bool, [], ◌∷◌, true, false, Some, None, Ok, Err, length};
-ghost use Rattle.h26x_model.specs.Receive.DepacketizerState.{DepacketizerState, after_packets, depacketization};
+ghost use Rattle.std.specs.Prelude.{◌≡◌, ◌≢◌, ◌⊎◌, ℕ, Bool, true, false, Some, None, Ok, Err, length};
+ghost use Rattle.h26x_model.specs.Receive.DepacketizerState.{Depacketization};
 ghost use Rattle.h26x_codec.specs.Codec.{codec_format, fresh_depacketizer_state};
 ghost use Rattle.h26x_codec.specs.declared.codec.Codec.{Codec};
 ghost use Rattle.h26x_c.specs.Answers.{IsAnswer};
-ghost use Rattle.h26x_handles.specs.Codes.{codec_or_code, may_have_donl, extra_with_number, extra_number, ok, out_of_memory, wrong_end, not_of_this_codec};
-ghost use Rattle.h26x_handles.specs.Copies.{with_front, without_room};
-ghost use Rattle.h26x_handles.specs.States.{is_receiving, endpoint_depacketizer_state, endpoint_written, endpoint_codec, fresh_receiving_endpoint, endpoint_showing, endpoint_without_output, are_same_endpoints, endpoint_without_run, endpoint_with_donl};
+ghost use Rattle.h26x_handles.specs.Codes.{codec_or_code, may_have_donl, extra_number, ok, out_of_memory, wrong_end, not_of_this_codec};
+ghost use Rattle.h26x_handles.specs.Copies.{with_front, AreGivenOut};
+ghost use Rattle.h26x_handles.specs.States.{is_receiving, endpoint_depacketizer_state, endpoint_depacketization, endpoint_after_told_packet, endpoint_written, endpoint_codec, fresh_receiving_endpoint, endpoint_showing, endpoint_without_output, are_same_endpoints, endpoint_without_run, endpoint_with_donl};
 
 use crate::const_handle::ConstHandle;
 use crate::handle::Handle;
@@ -120,33 +120,24 @@ pub extern "C" fn h26x_depacketize(
     why: &mut Refusal,
 ) -> u32
     ensures wrong { is_receiving d.old.value ≡ false → result ≡ wrong_end }
-    ensures answer { (it : DepacketizerState) →
-        endpoint_depacketizer_state is_avc d.old.value ≡ Some it →
-        IsAnswer (depacketization it [] (extra_with_number (endpoint_codec d.old.value) extra.old))
-        packet.now result
-        why.new.first why.new.second }
-    ensures run { (it : DepacketizerState) → endpoint_depacketizer_state is_avc d.old.value
-        ≡ Some it → result ≡ ok →
-        endpoint_depacketizer_state is_avc d.new.value ≡ Some (after_packets (depacketization it []
-        (extra_with_number (endpoint_codec d.old.value) extra.old)) (packet.now ∷ [])).state }
+    ensures answer { (w : Depacketization) →
+        endpoint_depacketization is_avc d.old.value extra.old ≡ Some w →
+        IsAnswer w packet.now result why.new.first why.new.second }
+
+    // What stands after a packet that was taken.
+    ensures run { (w : Depacketization) → result ≡ ok →
+        endpoint_after_told_packet is_avc d.old.value extra.old packet.now ≡ Some w →
+        endpoint_depacketizer_state is_avc d.new.value ≡ Some w.state }
+    ensures told { (w : Depacketization) → result ≡ ok →
+        endpoint_after_told_packet is_avc d.old.value extra.old packet.now ≡ Some w →
+        extra.new ≡ extra_number w.extra }
+    ensures given { (w : Depacketization) → result ≡ ok →
+        endpoint_after_told_packet is_avc d.old.value extra.old packet.now ≡ Some w →
+        AreGivenOut w.out to.old to.new written.new (endpoint_written d.new.value) }
     ensures rest { result ≡ ok → endpoint_without_run (endpoint_without_output d.new.value)
         ≡ endpoint_without_run (endpoint_without_output (endpoint_showing packet.now d.old.value)) }
-    ensures told { (it : DepacketizerState) → endpoint_depacketizer_state is_avc d.old.value
-        ≡ Some it → result ≡ ok →
-        extra.new ≡ extra_number (after_packets (depacketization it []
-        (extra_with_number (endpoint_codec d.old.value) extra.old)) (packet.now ∷ [])).extra }
-    ensures written { (it : DepacketizerState) → endpoint_depacketizer_state is_avc d.old.value
-        ≡ Some it → result ≡ ok →
-        written.new ≡ length (after_packets (depacketization it []
-        (extra_with_number (endpoint_codec d.old.value) extra.old)) (packet.now ∷ [])).out }
-    ensures put { (it : DepacketizerState) → endpoint_depacketizer_state is_avc d.old.value
-        ≡ Some it → result ≡ ok →
-        to.new ≡ with_front (after_packets (depacketization it []
-        (extra_with_number (endpoint_codec d.old.value) extra.old)) (packet.now ∷ [])).out to.old }
-    ensures kept_output { (it : DepacketizerState) → endpoint_depacketizer_state is_avc d.old.value
-        ≡ Some it → result ≡ ok →
-        endpoint_written d.new.value ≡ without_room (after_packets (depacketization it []
-        (extra_with_number (endpoint_codec d.old.value) extra.old)) (packet.now ∷ [])).out to.old }
+
+    // A refusal leaves everything.
     ensures kept_why { result ≡ ok → why.new ≡ why.old }
     ensures none_written { result ≢ ok → written.new ≡ 0 }
     ensures kept { result ≢ ok → d.new.value ≡ d.old.value }

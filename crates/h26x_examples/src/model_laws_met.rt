@@ -29,12 +29,11 @@ use h26x_codec::formats::formats_meet_the_facts;
 /// Entries are groups and a rest, and are so in one way.
 pub fn groups_of_entries()
     ensures are { (codec : Codec) (has_donl : Bool) (entries : List Entry) →
-        AreGroups (codec_format codec has_donl) entries
-        (split (codec_format codec has_donl) entries).groups
-        (split (codec_format codec has_donl) entries).rest }
+        let f = codec_format codec has_donl in AreGroups f entries (split f entries).groups
+        (split f entries).rest }
     ensures one { (codec : Codec) (has_donl : Bool) (entries : List Entry) (a b : List Group)
-        (x y : List Entry) → AreGroups (codec_format codec has_donl) entries a x →
-        AreGroups (codec_format codec has_donl) entries b y → a ≡ b }
+        (x y : List Entry) → let f = codec_format codec has_donl in AreGroups f entries a x →
+        AreGroups f entries b y → a ≡ b }
 {
     h26x_model::laws::one_grouping();
 }
@@ -42,9 +41,8 @@ pub fn groups_of_entries()
 /// A plan may be made call by call, by the sets that wait.
 pub fn plans_of_calls()
     ensures { (codec : Codec) (has_donl : Bool) (limit : ℕ) (before entries : List Entry) →
-        plan (codec_format codec has_donl) (before ++ entries)
-        ≡ plan (codec_format codec has_donl) before ++ plan (codec_format codec has_donl)
-        (waiting_entries (codec_format codec has_donl) limit before ++ entries) }
+        let f = codec_format codec has_donl in plan f (before ++ entries) ≡ plan f before ++ plan f
+        (waiting_entries f limit before ++ entries) }
 {
     h26x_model::laws::plans_call_by_call();
 }
@@ -53,12 +51,11 @@ pub fn plans_of_calls()
 /// packet isn't either.
 pub fn units_that_stay()
     ensures room { (codec : Codec) (has_donl : Bool) (limit : ℕ) (unit : List ℕ) →
-        fragment_header_len (codec_format codec has_donl)
-        + donl_len (codec_format codec has_donl) < limit →
-        is_dropped (codec_format codec has_donl) limit unit ≡ false }
+        let f = codec_format codec has_donl in fragment_header_len f + donl_len f < limit →
+        is_dropped f limit unit ≡ false }
     ensures last { (codec : Codec) (has_donl : Bool) (entries : List Entry) →
-        AllByRecursion (KeepsLast (codec_format codec has_donl))
-        (split (codec_format codec has_donl) entries).groups }
+        let f = codec_format codec has_donl in
+        AllByRecursion (KeepsLast f) (split f entries).groups }
 {
     formats_meet_the_facts();
     h26x_model::laws::only_sets_are_dropped();
@@ -68,26 +65,16 @@ pub fn units_that_stay()
 /// its part; and none is both the first and the last.
 pub fn fragments_of_units()
     ensures joined { (codec : Codec) (has_donl : Bool) (n limit : ℕ) (unit : List ℕ) →
-        fits_one_packet (codec_format codec has_donl) limit unit ≡ false →
-        is_dropped (codec_format codec has_donl) limit unit ≡ false →
-        (codec_format codec has_donl).header_len ≤ length unit →
-        flat_map (fragment_data (codec_format codec has_donl) limit unit)
-        (range_with_len 0 (fragment_count (codec_format codec has_donl) limit unit))
-        ≡ drop (codec_format codec has_donl).header_len unit }
+        let f = codec_format codec has_donl in fits_one_packet f limit unit ≡ false → is_dropped f
+        limit unit ≡ false → f.header_len ≤ length unit → flat_map (fragment_data f limit unit)
+        (range_with_len 0 (fragment_count f limit unit)) ≡ drop f.header_len unit }
     ensures read { (codec : Codec) (has_donl : Bool) (n limit : ℕ) (unit : List ℕ) →
-        fits_one_packet (codec_format codec has_donl) limit unit ≡ false →
-        is_dropped (codec_format codec has_donl) limit unit ≡ false →
-        IsTrue ((codec_format codec has_donl).carries unit) →
-        ReadsFragments (codec_format codec has_donl) n limit unit }
+        let f = codec_format codec has_donl in fits_one_packet f limit unit ≡ false → is_dropped f
+        limit unit ≡ false → IsTrue (f.carries unit) → ReadsFragments f n limit unit }
     ensures apart { (codec : Codec) (has_donl : Bool) (n limit j : ℕ) (unit : List ℕ) →
-        fits_one_packet (codec_format codec has_donl) limit unit ≡ false →
-        is_dropped (codec_format codec has_donl) limit unit ≡ false →
-        (codec_format codec has_donl).header_len ≤ length unit →
-        j < fragment_count (codec_format codec has_donl) limit unit →
-        (has_s_bit (codec_format codec has_donl)
-        (fragment (codec_format codec has_donl) n limit unit j)
-        && has_e_bit (codec_format codec has_donl)
-        (fragment (codec_format codec has_donl) n limit unit j)) ≡ false }
+        let f = codec_format codec has_donl in fits_one_packet f limit unit ≡ false → is_dropped f
+        limit unit ≡ false → f.header_len ≤ length unit → j < fragment_count f limit unit →
+        (has_s_bit f (fragment f n limit unit j) && has_e_bit f (fragment f n limit unit j)) ≡ false }
 {
     formats_meet_the_facts();
     h26x_model::laws::fragments_by_place();
@@ -111,8 +98,8 @@ pub fn plans_of_carried_units()
         AreCarried s.format (state_units s (all_entries s.format calls)) →
         AllByRecursion (CanSend s.format) (state_plan s (all_entries s.format calls)) }
     ensures detected { (codec : Codec) (has_donl : Bool) (n : ℕ) (items : List Item) →
-        AllByRecursion (IsPlanned (codec_format codec has_donl)) items →
-        AreDetected (codec_format codec has_donl) n items }
+        let f = codec_format codec has_donl in
+        AllByRecursion (IsPlanned f) items → AreDetected f n items }
 {
     formats_meet_the_facts();
     h26x_model::laws::what_is_carried_can_be_sent();

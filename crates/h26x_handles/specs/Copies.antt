@@ -11,6 +11,13 @@ with_front bytes room = if nat_le (length bytes) (length room)
 abbrev pub without_room : {A : Type 0} → List A → List A → List A
 without_room bytes room = if nat_le (length bytes) (length room) then [] else bytes
 
+-- Bytes are given out: how many they are is told, and they stand at the front of a caller's buffer, or
+-- are kept where it has no room for them.
+pub record AreGivenOut (bytes to new_to : List ℕ) (written : ℕ) (left : List ℕ) : Type 0 where
+  pub told : written ≡ length bytes
+  pub put : new_to ≡ with_front bytes to
+  pub kept : left ≡ without_room bytes to
+
 -- a buffer with the first entries of a list at its front, as many as it has room for
 abbrev pub with_first : {A : Type 0} → List A → List A → List A
 with_first entries room = take (length room) entries ++ drop (length entries) room

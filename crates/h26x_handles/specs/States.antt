@@ -20,6 +20,7 @@ use Rattle.h26x_receiver.specs.Sequenced.{SequencedDepacketization, sequenced_de
 use Rattle.h26x_receiver.specs.AnyDepacketizer.{any_depacketizer_state, any_depacketizer_with_avc, any_depacketizer_codec, any_depacketizer_with_donl, any_depacketizer_with_run, fresh_any_depacketizer, any_depacketizer_showing, are_same_depacketizers}
 use Rattle.h26x_receiver.specs.declared.any.AnyDepacketizer.{AnyDepacketizer}
 use Rattle.h26x_handles.specs.Endpoint.{SequencedEndpoint}
+use Rattle.h26x_handles.specs.Codes.{extra_with_number}
 use Rattle.h26x_handles.specs.Sdp.{sdp_codec}
 use Rattle.h26x_handles.specs.declared.endpoint.Endpoint.{Endpoint}
 use Rattle.h26x_handles.specs.declared.endpoint.Endpoint.TheVariants as e
@@ -78,6 +79,19 @@ endpoint_depacketizer_state is_avc (e.Receiving it) =
     Some (told_depacketizer_state is_avc it.depacketizer)
 endpoint_depacketizer_state is_avc it = None
 
+-- that depacketizer before it takes a packet, of which the number of an extra was told so far
+abbrev pub endpoint_depacketization : Bool → Endpoint → ℕ → Option Depacketization
+endpoint_depacketization is_avc (e.Receiving it) told = Some (depacketization
+    (told_depacketizer_state is_avc it.depacketizer) []
+    (extra_with_number (any_depacketizer_codec it.depacketizer) told))
+endpoint_depacketization is_avc it told = None
+
+-- what stands once it has taken one
+abbrev pub endpoint_after_told_packet : Bool → Endpoint → ℕ → List ℕ → Option Depacketization
+endpoint_after_told_packet is_avc (e.Receiving it) told packet = Some (after_told_packet is_avc
+    it.depacketizer (extra_with_number (any_depacketizer_codec it.depacketizer) told) packet)
+endpoint_after_told_packet is_avc it told packet = None
+
 -- the receiver of packets with their sequence numbers at an endpoint
 abbrev pub endpoint_receiver : Endpoint → Option SequencedEndpoint
 endpoint_receiver (e.Sequenced it) = Some it
@@ -106,6 +120,17 @@ receiver_after_skip it number = record it {
 -- how many bytes the open run of such a receiver holds
 abbrev pub receiver_run_len : SequencedEndpoint → ℕ
 receiver_run_len it = run_len (any_depacketizer_state it.depacketizer).run
+
+-- the same of an endpoint with such a receiver, of which the number of an extra was told so far
+abbrev pub endpoint_at_work : Endpoint → ℕ → Option SequencedDepacketization
+endpoint_at_work (e.Sequenced it) told = Some (receiver_at_work it
+    (extra_with_number (any_depacketizer_codec it.depacketizer) told))
+endpoint_at_work it told = None
+
+abbrev pub endpoint_after_packet : Endpoint → ℕ → ℕ → List ℕ → Option SequencedDepacketization
+endpoint_after_packet (e.Sequenced it) told number packet = Some (after_receiver_packet it
+    (extra_with_number (any_depacketizer_codec it.depacketizer) told) number packet)
+endpoint_after_packet it told number packet = None
 
 -- what the depacketizer of such a receiver is to the definitions
 abbrev pub endpoint_receiver_state : Endpoint → Option DepacketizerState

@@ -1,10 +1,10 @@
 //! A depacketizer, and what its last accepted packet completed and had no room for.
 
-ghost use Rattle.std.specs.Prelude.{◌≡◌, [], ◌∷◌, None, Err, IfOk, OnOk, OnErr, length};
+ghost use Rattle.std.specs.Prelude.{◌≡◌, [], ◌∷◌, None, Err, IfOk, OnOk, OnErr};
 ghost use Rattle.h26x_model.specs.Receive.DepacketizerState.{DepacketizerState, after_packets, IsPacketOutcome, depacketization};
 ghost use Rattle.h26x_payload.specs.UnitSink.{grown_to};
 ghost use Rattle.h26x_receiver.specs.AnyDepacketizer.{any_depacketizer_with_run, fresh_any_depacketizer, any_depacketizer_showing};
-ghost use Rattle.h26x_handles.specs.Copies.{with_front, without_room};
+ghost use Rattle.h26x_handles.specs.Copies.{AreGivenOut};
 ghost use Rattle.h26x_handles.specs.States.{told_depacketizer_state, after_told_packet};
 
 use crate::copy::put_or_keep;
@@ -83,12 +83,9 @@ impl ReceivingEndpoint {
         ensures rest { OnOk result (any_depacketizer_with_run None self.new.depacketizer
             ≡ any_depacketizer_with_run None (any_depacketizer_showing packet.now
             self.old.depacketizer)) }
-        ensures count { OnOk result (written.new ≡ length
-            (after_told_packet is_avc self.old.depacketizer extra.old packet.now).out) }
-        ensures put { OnOk result (to.new ≡ with_front
-            (after_told_packet is_avc self.old.depacketizer extra.old packet.now).out to.old) }
-        ensures kept_output { OnOk result (self.new.written ≡ without_room
-            (after_told_packet is_avc self.old.depacketizer extra.old packet.now).out to.old) }
+        ensures given { OnOk result (AreGivenOut
+            (after_told_packet is_avc self.old.depacketizer extra.old packet.now).out
+            to.old to.new written.new self.new.written) }
 
         ensures kept { OnErr result (self.new ≡ self.old) }
         ensures kept_to { OnErr result (to.new ≡ to.old) }

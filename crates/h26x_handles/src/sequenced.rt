@@ -1,10 +1,10 @@
 //! A receiver of packets with their sequence numbers, and what the last packet that it took completed
 //! and had no room for.
 
-ghost use Rattle.std.specs.Prelude.{◌≡◌, ◌≤◌, [], true, false, None, Err, IfOk, OnErr, length};
+ghost use Rattle.std.specs.Prelude.{◌≡◌, ◌≤◌, [], true, false, None, Err, IfOk, OnErr};
 ghost use Rattle.h26x_receiver.specs.AnyDepacketizer.{any_depacketizer_state, any_depacketizer_with_avc, any_depacketizer_with_donl, any_depacketizer_with_run, any_depacketizer_showing};
 ghost use Rattle.h26x_receiver.specs.Sequenced.{IsSequencedAnswer, is_taken, skip_answer};
-ghost use Rattle.h26x_handles.specs.Copies.{with_front, without_room};
+ghost use Rattle.h26x_handles.specs.Copies.{AreGivenOut};
 ghost use Rattle.h26x_handles.specs.States.{receiver_at_work, after_receiver_packet, receiver_run_len, receiver_after_skip, fresh_receiver};
 
 use crate::copy::put_or_keep;
@@ -93,12 +93,9 @@ impl SequencedEndpoint {
         ensures rest { is_taken result ≡ true → any_depacketizer_with_run None self.new.depacketizer
             ≡ any_depacketizer_with_run None (any_depacketizer_showing packet.now
             self.old.depacketizer) }
-        ensures count { is_taken result ≡ true → written.new ≡ length
-            (after_receiver_packet self.old extra.old sequence packet.now).at_work.out }
-        ensures put { is_taken result ≡ true → to.new ≡ with_front
-            (after_receiver_packet self.old extra.old sequence packet.now).at_work.out to.old }
-        ensures kept_output { is_taken result ≡ true → self.new.written ≡ without_room
-            (after_receiver_packet self.old extra.old sequence packet.now).at_work.out to.old }
+        ensures given { is_taken result ≡ true → AreGivenOut
+            (after_receiver_packet self.old extra.old sequence packet.now).at_work.out
+            to.old to.new written.new self.new.written }
         ensures limit { self.new.run_limit ≡ self.old.run_limit }
         ensures bounded { receiver_run_len self.old ≤ self.old.run_limit →
             receiver_run_len self.new ≤ self.old.run_limit }

@@ -8,8 +8,8 @@ use Rattle.h26x_handles.proofs.MemoryLemmas.{written_to_front, run_stands}
 use Rattle.h26x_handles.proofs.sequenced.SequencedEndpoint.receive.Goals as goal
 
 -- what the memory holds is what stands once the packet was taken
-pub returns-then-is_taken-clause-put : goal.returns-then-is_taken-clause-put
-returns-then-is_taken-clause-put c = λ taken.
+pub returns-then-is_taken-clause-given : goal.returns-then-is_taken-clause-given
+returns-then-is_taken-clause-given c = λ taken.
     let out = c.receive.new.out in
     let all = (after_receiver_packet c.args.self.now c.args.extra.now c.args.sequence c.args.packet.now).at_work.out in
     let units : take out.len out.to.now ≡ all = search rules in
