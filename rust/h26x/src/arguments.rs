@@ -12,7 +12,7 @@ use crate::rtp::RTCP;
 use crate::seed::Drawn;
 use crate::session;
 use crate::streams::Choice;
-use crate::words::{STANDARD, Words};
+use crate::words::{STANDARD, Words, before_command, unknown};
 use emupedestal::Codec;
 use std::ffi::OsString;
 use std::path::{Path, PathBuf};
@@ -80,20 +80,30 @@ pub struct Inspect {
 pub fn command(words: Vec<OsString>) -> Result<Command, Failure> {
     let mut words = words.into_iter();
     let first = words.next().unwrap_or_default();
-    let command = match first.to_str() {
-        Some("--version" | "-V") => return Ok(Command::Version),
-        Some("--help" | "-h" | "help") => return Ok(Command::Help),
-        Some("man") => return Ok(Command::Manual),
-        Some("completion") => return completion(words.next()),
-        Some("") => return Err(Failure::usage("say what to do: send, receive or inspect")),
-        other => other.and_then(|it| COMMANDS.iter().find(|command| **command == it)),
+    let first = first.to_string_lossy();
+    let alone = match &*first {
+        "" => return Err(Failure::usage("say what to do: send, receive or inspect")),
+        "--version" | "-V" => Some(Command::Version),
+        "--help" | "-h" | "help" => Some(Command::Help),
+        "man" => Some(Command::Manual),
+        "completion" => Some(completion(words.next())?),
+        _ => None,
     };
-    let Some(command) = command else {
-        let what = format!(
-            "there is no command {}: send, receive or inspect",
-            first.to_string_lossy()
-        );
-        return Err(Failure::usage(what));
+    if let Some(alone) = alone {
+        let option = words.find(|word| word.to_string_lossy().starts_with('-'));
+        return match option {
+            None => Ok(alone),
+            Some(option) if option == "--help" => Ok(Command::Help),
+            Some(option) => Err(unknown(&first, &option.to_string_lossy())),
+        };
+    }
+    let Some(command) = COMMANDS.iter().find(|command| **command == first) else {
+        return Err(match first.starts_with('-') {
+            true => before_command(&first),
+            false => Failure::usage(format!(
+                "there is no command {first}: send, receive or inspect"
+            )),
+        });
     };
     let mut rest = Words::of(command, words)?;
     if rest.flag("--version") {

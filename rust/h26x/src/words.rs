@@ -116,8 +116,19 @@ fn read(
     Ok((known.name, value))
 }
 
+/// Says that an option stands where the command should, or that no command has it.
+pub fn before_command(option: &str) -> Failure {
+    let name = option.split_once('=').map_or(option, |it| it.0);
+    match commands_with(name)[..] {
+        [] => unknown("", name),
+        _ => Failure::usage(format!(
+            "{name} stands behind the command: send, receive or inspect"
+        )),
+    }
+}
+
 /// Says that a command hasn't this option, and which have.
-fn unknown(command: &str, name: &str) -> Failure {
+pub fn unknown(command: &str, name: &str) -> Failure {
     let commands = commands_with(name);
     Failure::usage(match commands[..] {
         [] => format!("there is no option {name}"),

@@ -393,6 +393,17 @@ fn words_that_are_unknown() {
             &["inspect", "a.pcap", "--nothing=3"],
             "there is no option --nothing\n",
         ),
+        (&["--nothing=3"], "there is no option --nothing\n"),
+        (&["-x", "inspect"], "there is no option -x\n"),
+        (&["man", "--nothing"], "there is no option --nothing\n"),
+        (
+            &["completion", "zsh", "--json"],
+            "--json is no option of completion; inspect has it",
+        ),
+        (
+            &["--codec=h264", "inspect", "a.pcap"],
+            "--codec stands behind the command: send, receive or inspect",
+        ),
         (
             &["inspect", "a.pcap", "--json", "--summary"],
             "give one of them",
@@ -445,9 +456,11 @@ fn words_that_are_unknown() {
             "Status: 0 all went well",
         ],
     );
-    folder
-        .run(&["receive", "--help"])
-        .says(0, &["--run-limit BYTES"]);
+    for command in ["receive", "man"] {
+        folder
+            .run(&[command, "--help"])
+            .says(0, &["--run-limit BYTES"]);
+    }
     folder
         .run(&["--version"])
         .says(0, &[concat!("h26x ", env!("CARGO_PKG_VERSION"))]);

@@ -235,12 +235,23 @@ fn in_reverse() {
     sent.comes_in_part(&frames(&reverse), 3, &["come twice or too late (--window)"]);
 }
 
-/// All twice, one after the other, and from another number on in the middle.
+/// Each twice, all behind all again, and from another number on in the middle.
 #[test]
 fn with_numbers_that_jump() {
     let sent = Sent::new();
     let twice = frames(sent.packets.iter().flat_map(|it| [it, it]));
     sent.comes_back(&twice, &["come twice"]);
+    // Fewer than the 64 behind which the sender began anew.
+    let again = frames(sent.packets.iter().chain(&sent.packets[..63]));
+    sent.comes_back(&again, &["63 packets: not taken, come twice or too late"]);
+    // From the 64th on, which is within a unit.
+    let again = frames(sent.packets.iter().chain(&sent.packets));
+    let said = ["63 packets: not taken", "1 time: the sender began anew"];
+    let (_, units) = sent.receive(&again, 3, &said);
+    let known = crate::program::cut(&sent.units);
+    let (front, rest) = units.split_at(sent.units.len());
+    assert!(front == sent.units && !rest.is_empty());
+    assert!(known.ends_with(&crate::program::cut(rest)));
     // A place where a unit begins.
     let at = sent
         .packets
