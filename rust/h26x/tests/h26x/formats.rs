@@ -7,7 +7,7 @@ fn frames() -> Vec<Vec<u8>> {
     three_packets().iter().map(frame).collect()
 }
 
-/// Receives a capture, and looks at its times, in seconds.
+/// Receives a capture, also through a pipe, and looks at its times, in seconds.
 #[track_caller]
 fn is_read(capture: &[u8], times: [&str; 3]) {
     let folder = Folder::new();
@@ -21,6 +21,12 @@ fn is_read(capture: &[u8], times: [&str; 3]) {
         .filter_map(|line| line.split_whitespace().nth(1))
         .collect();
     assert_eq!(seconds[..3], times);
+    let piped = folder.shell("cat in.cap | \"$0\" inspect -");
+    assert_eq!((piped.status, piped.out), (0, inspected.out));
+    folder
+        .shell("cat in.cap | \"$0\" receive - - --codec h264 >piped")
+        .says(0, &[]);
+    assert_eq!(folder.read("piped"), THREE_UNITS);
 }
 
 #[test]
