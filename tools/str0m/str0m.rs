@@ -4,11 +4,24 @@ use h264::H264CodecExtra;
 use h265::H265CodecExtra;
 use h266::H266CodecExtra;
 
-// The two traits have str0m's signatures, here over str0m's types.
-#[path = "../../rust/compare/library/src/packet.rs"]
-mod packet;
+/// What these files implement, with str0m's signatures.
+pub trait Packetizer: std::fmt::Debug {
+    fn packetize(&mut self, mtu: usize, b: &[u8]) -> Result<Vec<Vec<u8>>, PacketError>;
+    fn is_marker(&mut self, data: &[u8], previous: Option<&[u8]>, last: bool) -> bool;
+}
 
-pub use packet::{Depacketizer, Packetizer};
+/// The same of depacketizers.
+pub trait Depacketizer: std::fmt::Debug {
+    fn out_size_hint(&self, packets_size: usize) -> Option<usize>;
+    fn depacketize(
+        &mut self,
+        packet: &[u8],
+        out: &mut Vec<u8>,
+        codec_extra: &mut CodecExtra,
+    ) -> Result<(), PacketError>;
+    fn is_partition_head(&self, packet: &[u8]) -> bool;
+    fn is_partition_tail(&self, marker: bool, packet: &[u8]) -> bool;
+}
 
 include!(concat!(env!("OUT_DIR"), "/str0m.rs"));
 

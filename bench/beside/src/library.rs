@@ -1,21 +1,8 @@
 //! The calls of `h26x.h` that are timed without the Rust crate around them.
 
 use crate::format::Format;
-use crate::sys::{self, Raw, Refusal};
 use emupedestal::Codec;
-
-// The calls that the crate doesn't make.
-unsafe extern "C" {
-    fn h26x_packetize(
-        p: *mut Raw,
-        mtu: usize,
-        payload: *const u8,
-        payload_len: usize,
-        count: *mut usize,
-    ) -> u32;
-    fn h26x_packet_len(p: *const Raw, i: usize) -> usize;
-    fn h26x_packet_copy(p: *const Raw, i: usize, to: *mut u8, room: usize) -> usize;
-}
+use header::{self, Raw, Refusal};
 
 /// The codec's number in `h26x.h`.
 fn number(codec: Codec) -> u32 {
@@ -40,7 +27,7 @@ pub struct Packetizer(Raw);
 
 impl Packetizer {
     pub fn new(format: Format) -> Self {
-        Packetizer(made(format, sys::h26x_packetizer_new))
+        Packetizer(made(format, header::h26x_packetizer_new))
     }
 
     /// Makes the packets of a payload; how many they are.
@@ -48,7 +35,7 @@ impl Packetizer {
         let (raw, from, len) = (&mut self.0, payload.as_ptr(), payload.len());
         let mut count = 0;
         // SAFETY: the handle is live and ours alone, and the payload is one slice.
-        let code = unsafe { h26x_packetize(raw, mtu, from, len, &mut count) };
+        let code = unsafe { header::h26x_packetize(raw, mtu, from, len, &mut count) };
         assert_eq!(code, 0, "packets");
         count
     }
@@ -56,10 +43,10 @@ impl Packetizer {
     /// A copy of packet `i`.
     pub fn packet(&mut self, i: usize) -> Vec<u8> {
         // SAFETY: the handle is live and ours alone.
-        let mut packet = vec![0; unsafe { h26x_packet_len(&self.0, i) }];
+        let mut packet = vec![0; unsafe { header::h26x_packet_len(&self.0, i) }];
         let (to, room) = (packet.as_mut_ptr(), packet.len());
         // SAFETY: the handle is live and ours alone, and `packet` is one slice.
-        unsafe { h26x_packet_copy(&self.0, i, to, room) };
+        unsafe { header::h26x_packet_copy(&self.0, i, to, room) };
         packet
     }
 
@@ -70,7 +57,7 @@ impl Packetizer {
         // SAFETY: the handle is live and ours alone; the payload, `bytes` and `ends` are one slice
         // each, apart from one another, and the others are one number each.
         let code = unsafe {
-            sys::h26x_packetize_into(
+            header::h26x_packetize_into(
                 &mut self.0,
                 mtu,
                 payload.as_ptr(),
@@ -84,7 +71,7 @@ impl Packetizer {
                 &mut size,
             )
         };
-        if code == sys::NO_ROOM {
+        if code == header::NO_ROOM {
             bytes.resize(size.max(bytes.len()), 0);
             ends.resize(count.max(ends.len()), 0);
             return self.packetize_into(mtu, payload, memory);
@@ -116,7 +103,7 @@ impl Memory {
 impl Drop for Packetizer {
     fn drop(&mut self) {
         // SAFETY: the handle is live, and freed here alone.
-        unsafe { sys::h26x_packetizer_free(self.0) }
+        unsafe { header::h26x_packetizer_free(self.0) }
     }
 }
 
@@ -125,7 +112,7 @@ pub struct Depacketizer(Raw);
 
 impl Depacketizer {
     pub fn new(format: Format) -> Self {
-        Depacketizer(made(format, sys::h26x_depacketizer_new))
+        Depacketizer(made(format, header::h26x_depacketizer_new))
     }
 
     /// Takes a packet, and has what it completes written to the front of `to`; how many bytes it is.
@@ -136,7 +123,7 @@ impl Depacketizer {
         // SAFETY: the handle is live and ours alone, `packet` and `to` are one slice each, apart from
         // one another, and the others are one number each.
         let code = unsafe {
-            sys::h26x_depacketize(
+            header::h26x_depacketize(
                 raw,
                 false,
                 from,
@@ -157,6 +144,6 @@ impl Depacketizer {
 impl Drop for Depacketizer {
     fn drop(&mut self) {
         // SAFETY: the handle is live, and freed here alone.
-        unsafe { sys::h26x_depacketizer_free(self.0) }
+        unsafe { header::h26x_depacketizer_free(self.0) }
     }
 }

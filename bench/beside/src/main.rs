@@ -13,18 +13,12 @@ mod payload;
 #[path = "../../../tools/str0m/str0m.rs"]
 #[allow(dead_code)]
 mod str0m;
-#[path = "../../../rust/compare/library/src/sys.rs"]
-#[allow(dead_code)]
-mod sys;
 mod table;
 mod turns;
 #[path = "../../../tools/str0m/util.rs"]
 #[allow(dead_code)]
 mod util;
 mod ways;
-
-// Links libh26x.a.
-extern crate library as _;
 
 use format::Format;
 use lines::{LEFT_OUT, Line};

@@ -7,11 +7,15 @@
 //! It prints each case in which an answer differs, and at the end how many calls there were and a sum of the crate's
 //! answers, which a seed and a number of cases give on every machine. The status is 1 where an answer differs.
 
+#[cfg(feature = "library")]
+mod c;
+mod frames;
+mod log;
 mod making;
+mod network;
 mod random;
 mod runs;
 
-use runs::{Log, frames, library_run, our_run, reordered};
 use std::env;
 use std::process::ExitCode;
 use std::sync::atomic::{AtomicU64, Ordering};
@@ -67,17 +71,11 @@ struct Found {
 impl Found {
     /// Runs a case on both sides, and compares them.
     fn take(&self, seed: u64, case: u64) {
-        let (mut ours, mut theirs) = (Log::default(), Log::default());
-        our_run(seed, case, &mut ours);
-        library_run(seed, case, &mut theirs);
-        frames(seed, case, &mut ours, &mut theirs);
-        if case % 20 == 0 {
-            reordered(seed, case, &mut ours, &mut theirs);
-        }
+        let (ours, theirs) = runs::all(seed, case);
         self.cases.fetch_add(1, Ordering::Relaxed);
         self.calls.fetch_add(ours.calls, Ordering::Relaxed);
         self.sum.fetch_add(ours.sum(), Ordering::Relaxed);
-        if ours != theirs {
+        if cfg!(feature = "library") && ours != theirs {
             self.differences.fetch_add(1, Ordering::Relaxed);
             println!("case {case} of seed {seed}: {}", ours.difference(&theirs));
         }

@@ -1,9 +1,10 @@
-//! The calls of `h26x.h`, as that header declares them.
+//! The calls of `h26x.h` that a comparison or a benchmark makes, as that header declares them; what a caller owes
+//! stands there.
 
 use std::ffi::c_void;
 use std::ptr;
 
-/// A handle as it crosses: a struct of one pointer, the same for every end.
+/// A handle: a struct of one pointer, the same for every end.
 #[repr(C)]
 #[derive(Clone, Copy)]
 pub struct Raw {
@@ -12,20 +13,12 @@ pub struct Raw {
 
 impl Raw {
     /// Room for a handle that a call is to write.
-    pub fn room() -> Self {
+    pub const fn room() -> Self {
         Raw {
             at: ptr::null_mut(),
         }
     }
 }
-
-// SAFETY: what a handle points to belongs to it alone, and no call has state beside its handle. The
-// header lets a handle go from one thread to another.
-unsafe impl Send for Raw {}
-
-// SAFETY: the calls that take a `*const Raw` only look at the handle, and the header lets any number of
-// threads make such calls at once while none changes it.
-unsafe impl Sync for Raw {}
 
 /// The numbers of a refusal.
 #[repr(C)]
@@ -45,13 +38,37 @@ pub struct Shown {
     pub parts: usize,
 }
 
+/// The settings of a receiver of access units.
+#[repr(C)]
+pub struct Config {
+    pub codec: u32,
+    pub max_wait: u32,
+    pub window: u16,
+    pub far_away: u16,
+    pub numbers: bool,
+    pub avc: bool,
+    pub held_limit: usize,
+    pub run_limit: usize,
+    pub unit_limit: usize,
+}
+
+/// What is told of an access unit.
+#[repr(C)]
+#[derive(Debug, Default)]
+pub struct Unit {
+    pub len: usize,
+    pub timestamp: u32,
+    pub missing: u32,
+    pub first: u16,
+    pub last: u16,
+    pub extra: u8,
+    pub is_whole: bool,
+    pub is_clean: bool,
+    pub continues: bool,
+}
+
 /// The code of a call whose output doesn't fit.
 pub const NO_ROOM: u32 = 13;
-
-// The kinds of packets, besides the single NAL unit packet.
-pub const FRAGMENT: u32 = 2;
-pub const AGGREGATE: u32 = 3;
-pub const PACI: u32 = 4;
 
 unsafe extern "C" {
     pub fn h26x_packetizer_new(codec: u32, numbers: bool, made: *mut Raw) -> u32;
@@ -59,6 +76,13 @@ unsafe extern "C" {
     pub fn h26x_packetizer_free(p: Raw);
     pub fn h26x_packetizer_set_numbers(p: *mut Raw, numbers: bool) -> u32;
     pub fn h26x_packetizer_set_max_size(p: *mut Raw, bytes: u16) -> u32;
+    pub fn h26x_packetize(
+        p: *mut Raw,
+        mtu: usize,
+        payload: *const u8,
+        payload_len: usize,
+        count: *mut usize,
+    ) -> u32;
     pub fn h26x_packetize_into(
         p: *mut Raw,
         mtu: usize,
@@ -85,7 +109,8 @@ unsafe extern "C" {
         count: *mut usize,
         size: *mut usize,
     ) -> u32;
-
+    pub fn h26x_packet_len(p: *const Raw, i: usize) -> usize;
+    pub fn h26x_packet_copy(p: *const Raw, i: usize, to: *mut u8, room: usize) -> usize;
     pub fn h26x_depacketizer_new(codec: u32, numbers: bool, made: *mut Raw) -> u32;
     pub fn h26x_depacketizer_clone(d: *const Raw, made: *mut Raw) -> u32;
     pub fn h26x_depacketizer_free(d: Raw);
@@ -104,7 +129,6 @@ unsafe extern "C" {
     ) -> u32;
     pub fn h26x_written_copy(d: *const Raw, to: *mut u8, room: usize) -> usize;
     pub fn h26x_give_up_run(d: *mut Raw) -> u32;
-
     pub fn h26x_receiver_new(
         codec: u32,
         numbers: bool,
@@ -129,9 +153,51 @@ unsafe extern "C" {
         count: *mut u16,
         why: *mut Refusal,
     ) -> u32;
+    pub fn h26x_receiver_skip(
+        r: *mut Raw,
+        sequence: u16,
+        received: *mut u32,
+        count: *mut u16,
+    ) -> u32;
     pub fn h26x_receiver_restart(r: *mut Raw) -> u32;
     pub fn h26x_receiver_run_len(r: *const Raw) -> usize;
-
+    pub fn h26x_access_units_new(config: *const Config, made: *mut Raw) -> u32;
+    pub fn h26x_access_units_free(u: Raw);
+    pub fn h26x_access_units_push(
+        u: *mut Raw,
+        now: u32,
+        sequence: u16,
+        timestamp: u32,
+        marker: bool,
+        payload: *const u8,
+        payload_len: usize,
+        pushed: *mut u32,
+        behind: *mut u16,
+    ) -> u32;
+    pub fn h26x_access_units_skip(
+        u: *mut Raw,
+        now: u32,
+        sequence: u16,
+        pushed: *mut u32,
+        behind: *mut u16,
+    ) -> u32;
+    pub fn h26x_access_units_next(
+        u: *mut Raw,
+        now: u32,
+        to: *mut u8,
+        room: usize,
+        unit: *mut Unit,
+    ) -> u32;
+    pub fn h26x_access_units_deadline(u: *const Raw, at: *mut u32) -> bool;
+    pub fn h26x_access_units_missing(
+        u: *const Raw,
+        numbers: *mut u16,
+        numbers_room: usize,
+        count: *mut usize,
+    ) -> u32;
+    pub fn h26x_access_units_finish(u: *mut Raw) -> u32;
+    pub fn h26x_access_units_restart(u: *mut Raw) -> u32;
+    pub fn h26x_access_units_count(u: *const Raw, counts: *mut [u64; 11]) -> u32;
     pub fn h26x_h265_shown(d: *const Raw, shown: *mut Shown) -> u32;
     pub fn h26x_h265_part_copy(
         d: *const Raw,
@@ -149,7 +215,6 @@ unsafe extern "C" {
         room: usize,
         len: *mut usize,
     ) -> u32;
-
     pub fn h26x_is_partition_head(codec: u32, packet: *const u8, packet_len: usize) -> bool;
     pub fn h26x_is_partition_tail(
         codec: u32,
@@ -158,7 +223,8 @@ unsafe extern "C" {
         packet_len: usize,
     ) -> bool;
     pub fn h26x_detect_keyframe(codec: u32, packet: *const u8, packet_len: usize) -> bool;
-    pub fn h26x_detect_h264_nalu(packet: *const u8, packet_len: usize, nalu_type: u8) -> bool;
+    pub fn h26x_detect_h264_nalu(packet: *const u8, packet_len: usize, kind: u8) -> bool;
+    pub fn h26x_set_lowest_header(codec: u32, numbers: bool, packet: *mut u8, packet_len: usize);
     pub fn h26x_next_unit(
         codec: u32,
         payload: *const u8,
@@ -168,16 +234,25 @@ unsafe extern "C" {
         end: *mut usize,
     ) -> bool;
     pub fn h26x_unit_is_plain(codec: u32, unit: *const u8, unit_len: usize) -> bool;
-    // It takes a number and answers one, so any caller may call it.
-    pub safe fn h26x_out_size_hint(packets_size: usize) -> usize;
-
-    // These take numbers and answer whether they are known. Where the first writes, its caller
-    // lends it two bytes, each to it alone.
-    pub safe fn h26x_h264_profile_level(
-        profile_level_id: u32,
-        profile: &mut u8,
-        level: &mut u8,
-    ) -> bool;
-    pub safe fn h26x_h265_is_known(profile_id: u8, tier_flag: u8, level_id: u8) -> bool;
-    pub safe fn h26x_h266_is_known(profile_id: u8, tier_flag: u8, level_id: u8) -> bool;
+    pub fn h26x_out_size_hint(packets_size: usize) -> usize;
+    pub fn h26x_h264_profile_level(profile_level_id: u32, profile: *mut u8, level: *mut u8)
+    -> bool;
+    pub fn h26x_h265_is_known(profile_id: u8, tier_flag: u8, level_id: u8) -> bool;
+    pub fn h26x_h266_is_known(profile_id: u8, tier_flag: u8, level_id: u8) -> bool;
+    pub fn h26x_sdp_read(
+        codec: u32,
+        text: *const u8,
+        text_len: usize,
+        made: *mut Raw,
+        why: *mut Refusal,
+    ) -> u32;
+    pub fn h26x_sdp_of_payload(
+        codec: u32,
+        payload: *const u8,
+        payload_len: usize,
+        made: *mut Raw,
+    ) -> u32;
+    pub fn h26x_sdp_answer(offered: *const Raw, ours: *const Raw, made: *mut Raw) -> u32;
+    pub fn h26x_sdp_free(h: Raw);
+    pub fn h26x_sdp_write(h: *const Raw, to: *mut u8, room: usize, len: *mut usize) -> u32;
 }

@@ -1,0 +1,204 @@
+//! Packets as a network brings them, to receivers of access units of both sides; and parameters of SDP.
+
+#[cfg(feature = "library")]
+use crate::c;
+#[cfg(feature = "library")]
+use crate::log::number;
+use crate::log::{Log, code, told};
+use crate::making::Making;
+use crate::runs::beside;
+use emupedestal::access_unit_receiver::{AccessUnitConfig, AccessUnitReceiver, Pushed};
+use emupedestal::sdp::{
+    CodecParameters, H264Parameters, H265Parameters, H266Parameters, Parameter, ParametersError,
+};
+use emupedestal::{Codec, PacketError, RtpPacket};
+
+/// The code, what became of a packet, and how far it is behind, as `h26x.h` has them.
+fn pushed(it: Result<Pushed, PacketError>) -> (u32, u32, u16) {
+    match it {
+        Ok(Pushed::Held) => (0, 0, 0),
+        Ok(Pushed::Late(behind)) => (0, 1, behind),
+        Ok(Pushed::Twice) => (0, 2, 0),
+        Ok(Pushed::Full) => (0, 3, 0),
+        Ok(Pushed::Stray) => (0, 4, 0),
+        Ok(Pushed::Anew) => (0, 5, 0),
+        Err(error) => (code(error).0, 0, 0),
+    }
+}
+
+pub fn access_units(seed: u64, case: u64, ours: &mut Log, theirs: &mut Log) {
+    let mut m = Making::new(seed ^ 0x51ab77, case);
+    let codec = [Codec::H264, Codec::H265, Codec::H266][m.codec];
+    let config = AccessUnitConfig {
+        window: m.random.of(&[1, 2, 3, 8, 64]),
+        far: m.random.of(&[0, 1, 30, 3000]),
+        max_wait: m.random.of(&[0, 10, 50, u32::MAX]),
+        held_limit: m.random.of(&[20, 200, usize::MAX]),
+        run_limit: m.random.of(&[3, 20, usize::MAX]),
+        unit_limit: m.random.of(&[0, 12, 40, usize::MAX]),
+    };
+    let avc = m.random.one_in(3);
+    let mut receiver = AccessUnitReceiver::with_settings(codec, m.has_donl, avc, config);
+    #[cfg(feature = "library")]
+    let mut c_receiver = c::access_units(&header::Config {
+        codec: number(codec),
+        max_wait: config.max_wait,
+        window: config.window,
+        far_away: config.far,
+        numbers: m.has_donl,
+        avc,
+        held_limit: config.held_limit,
+        run_limit: config.run_limit,
+        unit_limit: config.unit_limit,
+    });
+    let (mut sequence, mut timestamp, mut now) =
+        (m.random.word() as u16, m.random.word(), m.random.word());
+    for _ in 0..m.random.between(4, 60) {
+        sequence = m.next_number(sequence);
+        now = now.wrapping_add(m.random.of(&[0, 0, 1, 7, 30]));
+        let (payload, marker) = (m.packet(), m.random.one_in(4));
+        if m.random.one_in(16) {
+            ours.say("skip", pushed(receiver.skip(now, sequence)));
+            beside! { theirs.say("skip", c_receiver.skip_unit_packet(now, sequence)); }
+        } else {
+            let packet = RtpPacket {
+                sequence,
+                timestamp,
+                marker,
+                payload: &payload,
+            };
+            ours.say("push", pushed(receiver.push(now, &packet)));
+            beside! { theirs.say("push", c_receiver.push(now, (sequence, timestamp, marker, &payload))); }
+        }
+        if marker && !m.random.one_in(6) || m.random.one_in(12) {
+            timestamp = timestamp.wrapping_add(3000);
+        }
+        match m.random.below(60) {
+            0 => {
+                receiver.finish();
+                beside! { c_receiver.finish(); }
+            }
+            1 => {
+                receiver.restart();
+                beside! { c_receiver.restart_units(); }
+            }
+            _ => {}
+        }
+        if m.random.one_in(3) {
+            continue;
+        }
+        while let Some(unit) = receiver.next_unit(now).expect("memory") {
+            let is = (
+                unit.is_whole,
+                unit.is_clean,
+                unit.continues,
+                told(codec, unit.extra),
+            );
+            ours.say(
+                "unit",
+                (
+                    unit.timestamp,
+                    unit.missing,
+                    unit.first,
+                    unit.last,
+                    is,
+                    &unit.bytes,
+                ),
+            );
+            if m.random.one_in(2) {
+                receiver.give_back(unit);
+            }
+        }
+        ours.say(
+            "waits",
+            (receiver.deadline(), receiver.missing().expect("memory")),
+        );
+        let it = receiver.counts();
+        let gone = [
+            it.taken, it.lost, it.late, it.twice, it.stray, it.refused, it.skipped, it.anew,
+        ];
+        ours.say("counts", (gone, it.units, it.whole, it.units_given_up));
+        beside! {
+            while let Some((unit, bytes)) = c_receiver.next_unit(now) {
+                let is = (unit.is_whole, unit.is_clean, unit.continues, unit.extra);
+                theirs.say("unit", (unit.timestamp, unit.missing, unit.first, unit.last, is, bytes));
+            }
+            theirs.say("waits", (c_receiver.deadline(), c_receiver.missing()));
+            let [gone @ .., units, whole, given_up] = c_receiver.counts();
+            theirs.say("counts", (gone, units, whole, given_up));
+        }
+    }
+    let _ = theirs;
+}
+
+/// The code of a refusal and the place of the parameter.
+fn refusal(error: ParametersError) -> (u32, usize) {
+    use emupedestal::sdp::Fault;
+    match error {
+        ParametersError::OpenBrace => (20, 0),
+        ParametersError::OutOfMemory => (8, 0),
+        ParametersError::Refused { place, fault } => match fault {
+            Fault::NotANumber => (21, place),
+            Fault::OutOfRange => (22, place),
+            Fault::NotHexadecimal => (23, place),
+            Fault::NotTxMode => (24, place),
+            Fault::Twice => (25, place),
+            _ => (u32::MAX, place),
+        },
+        _ => (u32::MAX, 0),
+    }
+}
+
+/// Parameters of two formats, written, and the answer of the one to the other.
+fn answers<P: Parameter>(codec: Codec, texts: &[String; 2], ours: &mut Log, theirs: &mut Log) {
+    let read = texts
+        .each_ref()
+        .map(|text| text.parse::<CodecParameters<P>>());
+    for it in &read {
+        ours.say(
+            "format",
+            it.as_ref()
+                .map(ToString::to_string)
+                .map_err(|error| refusal(*error)),
+        );
+    }
+    if let [Ok(offered), Ok(own)] = &read {
+        let answer = offered.answer(std::slice::from_ref(own)).expect("memory");
+        ours.say("answer", answer.map(|it| it.to_string()));
+    }
+    beside! {
+        let read = texts.each_ref().map(|text| c::sdp(number(codec), text.as_bytes()));
+        for it in &read {
+            theirs.say("format", it.as_ref().map(c::End::text).map_err(|it| *it));
+        }
+        if let [Ok(offered), Ok(own)] = &read {
+            theirs.say("answer", offered.answer(own).map(|it| it.text()));
+        }
+    }
+    let _ = (codec, theirs);
+}
+
+pub fn formats(seed: u64, case: u64, ours: &mut Log, theirs: &mut Log) {
+    let mut m = Making::new(seed ^ 0x2fd31c, case);
+    let codec = [Codec::H264, Codec::H265, Codec::H266][m.codec];
+    let texts = [m.format(), m.format()];
+    let (_, payload) = m.payload();
+    match codec {
+        Codec::H264 => answers::<emupedestal::sdp::H264Parameter>(codec, &texts, ours, theirs),
+        Codec::H265 => answers::<emupedestal::sdp::H265Parameter>(codec, &texts, ours, theirs),
+        Codec::H266 => answers::<emupedestal::sdp::H266Parameter>(codec, &texts, ours, theirs),
+    }
+    let of_payload = match codec {
+        Codec::H264 => H264Parameters::of_payload(&payload)
+            .ok()
+            .map(|it| it.to_string()),
+        Codec::H265 => H265Parameters::of_payload(&payload)
+            .ok()
+            .map(|it| it.to_string()),
+        Codec::H266 => H266Parameters::of_payload(&payload)
+            .ok()
+            .map(|it| it.to_string()),
+    };
+    ours.say("of a stream", of_payload);
+    beside! { theirs.say("of a stream", c::sdp_of_payload(number(codec), &payload).ok().map(|it| it.text())); }
+}
