@@ -4,8 +4,8 @@
 //! compare [--seed N] [--cases N | --seconds N] [--threads N]
 //! ```
 //!
-//! It prints each case in which an answer differs, and at the end how many calls there were and a sum of the crate's
-//! answers, which a seed and a number of cases give on every machine. The status is 1 where an answer differs.
+//! It ends at the first case in which an answer differs, and prints it; at the end stands how many calls there were and a
+//! sum of the crate's answers, which a seed and a number of cases give on every machine. The status is 1 where an answer differs.
 
 #[cfg(feature = "library")]
 mod c;
@@ -92,7 +92,8 @@ fn main() -> ExitCode {
             let (found, asked) = (&found, &asked);
             scope.spawn(move || {
                 let mut case = first;
-                while case < asked.cases && started.elapsed() < asked.time {
+                let goes_on = |case| case < asked.cases && started.elapsed() < asked.time;
+                while goes_on(case) && found.differences.load(Ordering::Relaxed) == 0 {
                     found.take(seed, case);
                     case += asked.threads;
                 }
