@@ -1,0 +1,631 @@
+// A model of the receiver of access units of h26x.h, written from its definitions alone: docs/DEFINITIONS.md, the pages
+// beside h26x_receiver, h26x_frames and h26x_access_units, and the RFCs named below. Packets wait at places that don't
+// go round, fragments stay in a list, and an access unit is made of all its packets once it has ended. It is slow, and
+// has no limit on what it holds beside those of the settings.
+#ifndef MODEL_HPP
+#define MODEL_HPP
+
+#include "h26x.h"
+#include <algorithm>
+#include <cstring>
+#include <deque>
+#include <list>
+#include <map>
+#include <optional>
+#include <string>
+#include <vector>
+
+namespace model {
+
+using Bytes = std::string;
+
+inline unsigned byte(const Bytes &bytes, size_t place)
+{
+    return static_cast<unsigned char>(bytes[place]);
+}
+
+inline size_t word(const Bytes &bytes, size_t place)
+{
+    return byte(bytes, place) << 8 | byte(bytes, place + 1);
+}
+
+// ---- How a packet is read ----
+
+// A refusal, a fragment with the header that its unit would have, or the units that a packet holds.
+struct Reading {
+    bool is_refused = false, is_fragment = false, is_start = false, is_end = false;
+    Bytes header, data;
+    std::vector<Bytes> units;
+};
+
+inline Reading refusal()
+{
+    Reading it;
+    it.is_refused = true;
+    return it;
+}
+
+inline Reading units_of(std::vector<Bytes> units)
+{
+    Reading it;
+    it.units = std::move(units);
+    return it;
+}
+
+inline Reading fragment(unsigned marks, Bytes header, Bytes data)
+{
+    Reading it;
+    it.is_fragment = true;
+    it.is_start = marks & 0x80;
+    it.is_end = marks & 0x40;
+    it.header = std::move(header);
+    it.data = std::move(data);
+    return it;
+}
+
+// Takes the whole pieces, each behind a length of two bytes, from the front of bytes.
+inline std::vector<Bytes> take_pieces(Bytes &bytes)
+{
+    std::vector<Bytes> pieces;
+    while (bytes.size() >= 2 && word(bytes, 0) <= bytes.size() - 2) {
+        pieces.push_back(bytes.substr(2, word(bytes, 0)));
+        bytes.erase(0, 2 + pieces.back().size());
+    }
+    return pieces;
+}
+
+// RFC 6184, 5.2 and 5.6 to 5.8
+inline Reading read_h264(const Bytes &packet)
+{
+    if (packet.empty())
+        return refusal();
+    const unsigned type = byte(packet, 0) & 31;
+    if (type >= 1 && type <= 23)
+        return units_of({packet});
+    if (type == 24) { // STAP-A
+        Bytes left = packet.substr(1);
+        std::vector<Bytes> units;
+        for (Bytes &piece : take_pieces(left))
+            if (!piece.empty())
+                units.push_back(std::move(piece));
+        return left.size() >= 2 ? refusal() : units_of(std::move(units));
+    }
+    if (type == 28 && packet.size() >= 2) { // FU-A
+        const unsigned header = (byte(packet, 0) & 0x60) | (byte(packet, 1) & 31);
+        return fragment(byte(packet, 1), Bytes(1, static_cast<char>(header)), packet.substr(2));
+    }
+    return refusal();
+}
+
+// A single NAL unit packet of H.265 or H.266: with numbers DONL stands behind the header (RFC 7798, 4.4.1; RFC 9328,
+// 4.3.1).
+inline Reading read_single(const Bytes &packet, bool numbers)
+{
+    if (!numbers)
+        return units_of({packet});
+    return packet.size() < 5 ? refusal() : units_of({packet.substr(0, 2) + packet.substr(4)});
+}
+
+// RFC 7798, 4.4
+inline Reading read_h265(const Bytes &packet, bool numbers)
+{
+    if (packet.size() < 3 || byte(packet, 0) >= 0x80)
+        return refusal();
+    const unsigned type = byte(packet, 0) >> 1, layer = byte(packet, 0) & 1;
+    if (type == 48 && !numbers) { // AP
+        Bytes left = packet.substr(2);
+        std::vector<Bytes> units = take_pieces(left);
+        return units.size() < 2 ? refusal() : units_of(std::move(units));
+    }
+    if (type == 48) { // DONL before the first length, DOND before each later one
+        std::vector<Bytes> units;
+        size_t at = 4;
+        while (at + 2 <= packet.size() && at + 2 + word(packet, at) <= packet.size()) {
+            units.push_back(packet.substr(at + 2, word(packet, at)));
+            at += 2 + units.back().size() + 1;
+        }
+        return units.size() < 2 ? refusal() : units_of(std::move(units));
+    }
+    if (type == 49) { // FU
+        const size_t headers = numbers && byte(packet, 2) >= 0x80 ? 5 : 3;
+        if (packet.size() <= headers)
+            return refusal();
+        const Bytes header{static_cast<char>((byte(packet, 2) & 63) << 1 | layer), packet[1]};
+        return fragment(byte(packet, 2), header, packet.substr(headers));
+    }
+    if (type == 50) { // PACI: A, cType, PHSsize
+        const size_t behind = packet.size() < 4 ? packet.size() : 4 + (word(packet, 2) >> 4 & 31);
+        if (packet.size() <= behind)
+            return refusal();
+        const unsigned first = byte(packet, 2) & 0x80, kind = byte(packet, 2) >> 1 & 63;
+        const Bytes header{static_cast<char>(first | kind << 1 | layer), packet[1]};
+        return units_of({header + packet.substr(behind)});
+    }
+    return read_single(packet, numbers);
+}
+
+// RFC 9328, 4.3
+inline Reading read_h266(const Bytes &packet, bool numbers)
+{
+    if (packet.size() < 3 || byte(packet, 0) >= 0x80)
+        return refusal();
+    const unsigned type = byte(packet, 1) >> 3;
+    if (type == 28) { // AP
+        if (numbers && packet.size() < 4)
+            return refusal();
+        Bytes left = packet.substr(numbers ? 4 : 2);
+        std::vector<Bytes> units = take_pieces(left);
+        for (const Bytes &unit : units)
+            if (unit.size() < 2 || byte(unit, 1) >> 3 == 28 || byte(unit, 1) >> 3 == 29)
+                return refusal();
+        return !left.empty() || units.size() < 2 ? refusal() : units_of(std::move(units));
+    }
+    if (type == 29) { // FU
+        const size_t headers = numbers && byte(packet, 2) >= 0x80 ? 5 : 3;
+        if (packet.size() < headers)
+            return refusal();
+        const Bytes header{packet[0], static_cast<char>((byte(packet, 2) & 31) << 3 | (byte(packet, 1) & 7))};
+        return fragment(byte(packet, 2), header, packet.substr(headers));
+    }
+    return read_single(packet, numbers);
+}
+
+inline Reading read(const h26x_access_units_config &config, const Bytes &packet)
+{
+    return config.codec == H26X_H264 ? read_h264(packet)
+        : config.codec == H26X_H265  ? read_h265(packet, config.numbers)
+                                     : read_h266(packet, config.numbers);
+}
+
+// What is told of units: nothing of none with a whole header, else 1, or 2 where one is of a keyframe.
+inline uint8_t extra_of(uint32_t codec, const std::vector<Bytes> &units)
+{
+    uint8_t extra = 0;
+    for (const Bytes &unit : units) {
+        if (unit.size() < (codec == H26X_H264 ? 1 : 2))
+            continue;
+        const unsigned type = codec == H26X_H264 ? byte(unit, 0) & 31
+            : codec == H26X_H265                 ? byte(unit, 0) >> 1 & 63
+                                                 : byte(unit, 1) >> 3;
+        const bool is_key = codec == H26X_H264 ? type == 5
+            : codec == H26X_H265               ? type >= 16 && type <= 21
+                                               : type >= 7 && type <= 9;
+        extra = std::max<uint8_t>(extra, is_key ? 2 : 1);
+    }
+    return extra;
+}
+
+// Units as they are written: each behind a start code, or its length in four bytes.
+inline Bytes text_of(bool avc, const std::vector<Bytes> &units)
+{
+    Bytes text;
+    for (const Bytes &unit : units) {
+        const size_t before = avc ? unit.size() : 1;
+        for (int bits = 24; bits >= 0; bits -= 8)
+            text += static_cast<char>(before >> bits & 255);
+        text += unit;
+    }
+    return text;
+}
+
+// ---- Runs of fragments ----
+
+using Fragments = std::vector<Reading>;
+
+// The place of the latest start before another place, where no end is behind it; else that other place.
+inline size_t start_before(const Fragments &fragments, size_t place)
+{
+    for (size_t i = place; i > 0 && !(fragments[i - 1].is_end); i--)
+        if (fragments[i - 1].is_start)
+            return i - 1;
+    return place;
+}
+
+inline Bytes joined(const Fragments &fragments, size_t from)
+{
+    Bytes data;
+    for (size_t i = from; i < fragments.size(); i++)
+        data += fragments[i].data;
+    return data;
+}
+
+// How many bytes the run has that is open behind fragments.
+inline size_t open_len(const Fragments &fragments)
+{
+    size_t len = 0;
+    for (size_t i = start_before(fragments, fragments.size()); i < fragments.size(); i++)
+        len += fragments[i].data.size();
+    return len;
+}
+
+// The unit that the last of fragments ends, if it is an end and a run leads to it.
+inline std::vector<Bytes> units_ended(const Fragments &fragments)
+{
+    const Reading &last = fragments.back();
+    if (!last.is_end)
+        return {};
+    const size_t place = fragments.size() - 1;
+    const size_t from = last.is_start ? place : start_before(fragments, place);
+    if (from == place && !last.is_start)
+        return {};
+    return {last.header + joined(fragments, from)};
+}
+
+// ---- Access units ----
+
+struct Packet {
+    uint16_t number = 0;
+    uint32_t timestamp = 0;
+    bool marker = false;
+    Bytes payload; // empty: it came and bears nothing
+};
+
+// A packet that was taken, as its access unit knows it.
+struct Taken {
+    uint16_t number;
+    uint32_t missing;           // numbers, since the packet that was taken before it
+    bool is_sound;              // it follows that packet, bytes stand of it, and its run isn't too long
+    bool is_text_given_up;      // the text with it was longer than the limit
+    std::vector<Bytes> brought; // units
+};
+
+struct AccessUnit {
+    uint32_t timestamp = 0;
+    bool continues = false;
+    bool is_broken = false; // numbers are missing in it or right behind it, or a run is open at its end
+    std::vector<Taken> packets;
+};
+
+struct Given {
+    h26x_access_unit told;
+    Bytes bytes;
+};
+
+// How many bytes an open access unit holds: of units brought since its text was given up last.
+inline size_t text_len(const AccessUnit &unit)
+{
+    size_t len = 0;
+    for (size_t i = unit.packets.size(); i > 0 && !unit.packets[i - 1].is_text_given_up; i--)
+        for (const Bytes &brought : unit.packets[i - 1].brought)
+            len += 4 + brought.size();
+    return len;
+}
+
+// An access unit that has ended. Whether it is clean is known once it is given out; is_whole stands for what is known of
+// its own packets until then.
+inline Given ended_unit(const h26x_access_units_config &config, const AccessUnit &unit)
+{
+    Given it{};
+    it.told.timestamp = unit.timestamp;
+    it.told.first = unit.packets.front().number;
+    it.told.last = unit.packets.back().number;
+    it.told.continues = unit.continues;
+    it.told.is_whole = !unit.is_broken;
+    std::vector<Bytes> units;
+    for (const Taken &packet : unit.packets) {
+        it.told.missing += packet.missing;
+        it.told.is_whole = it.told.is_whole && packet.is_sound && !packet.is_text_given_up;
+        units.insert(units.end(), packet.brought.begin(), packet.brought.end());
+        if (packet.is_text_given_up)
+            units.clear();
+    }
+    it.bytes = text_of(config.avc, units);
+    it.told.len = it.bytes.size();
+    it.told.extra = extra_of(config.codec, units);
+    return it;
+}
+
+// ---- The receiver ----
+
+// What waits: packets at their places, and when they came, in that order. The number of a place is its lowest 16 bits.
+struct Waiting {
+    std::optional<int64_t> due;
+    std::map<int64_t, Packet> packets;
+    std::list<std::pair<int64_t, uint32_t>> arrivals;
+    bool is_over = false;
+
+    int64_t newest() const { return packets.empty() ? *due : packets.rbegin()->first; }
+
+    // The place of a number: the first one from the place that is due on.
+    int64_t place_of(uint16_t number) const { return *due + static_cast<uint16_t>(number - *due); }
+
+    size_t bytes() const
+    {
+        size_t sum = 0;
+        for (const auto &it : packets)
+            sum += it.second.payload.size();
+        return sum;
+    }
+
+    uint32_t put(uint32_t window, uint32_t now, const Packet &packet, uint16_t &behind)
+    {
+        if (!due)
+            due = int64_t{packet.number} + 1 - window;
+        const int64_t place = place_of(packet.number);
+        if (place - *due >= 1 << 15) {
+            behind = static_cast<uint16_t>(*due - place);
+            return H26X_PUSHED_LATE;
+        }
+        if (!packets.emplace(place, packet).second)
+            return H26X_TWICE;
+        arrivals.emplace_back(place, now);
+        return H26X_HELD;
+    }
+
+    Packet take_first()
+    {
+        const auto first = packets.begin();
+        const int64_t place = first->first;
+        Packet packet = std::move(first->second);
+        packets.erase(first);
+        arrivals.erase(std::find_if(arrivals.begin(), arrivals.end(), [&](auto &it) { return it.first == place; }));
+        due = place + 1;
+        return packet;
+    }
+};
+
+// What is known of the packets that were taken of a stream.
+struct Stream {
+    std::optional<uint16_t> expected; // the number behind the last one that was taken or skipped
+    bool is_gap = false;              // numbers are missing before those that were skipped since the last packet
+    uint32_t skipped_gap = 0;         // so many
+    std::optional<uint32_t> marked;   // the timestamp of the last packet, where it bore the marker
+    Fragments fragments;              // those taken since a run was given up
+    std::optional<AccessUnit> open;
+    std::deque<Given> ended;
+};
+
+class Receiver {
+public:
+    explicit Receiver(const h26x_access_units_config &settings) : config(settings) {}
+
+    // What h26x_access_units_new answers.
+    static uint32_t code_of(const h26x_access_units_config &c)
+    {
+        if (c.codec != H26X_H264 && c.codec != H26X_H265 && c.codec != H26X_H266)
+            return H26X_UNKNOWN_CODEC;
+        if (c.codec == H26X_H264 && c.numbers)
+            return H26X_NOT_OF_THIS_CODEC;
+        return c.window == 0 || c.window > 16384 ? H26X_OUT_OF_RANGE : H26X_OK;
+    }
+
+    uint32_t push(uint32_t now, const Packet &packet, uint16_t &behind)
+    {
+        behind = 0;
+        if (is_far(packet.number))
+            return push_far(now, packet);
+        if (waiting.bytes() > config.held_limit)
+            return H26X_FULL;
+        const uint32_t answer = waiting.put(config.window, now, packet, behind);
+        counts.late += answer == H26X_PUSHED_LATE;
+        counts.twice += answer == H26X_TWICE;
+        return answer;
+    }
+
+    uint32_t skip(uint32_t now, uint16_t number, uint16_t &behind)
+    {
+        Packet packet;
+        packet.number = number;
+        return push(now, packet, behind);
+    }
+
+    // Bytes are written where the answer is H26X_OK alone.
+    uint32_t next(uint32_t now, size_t room, h26x_access_unit &told, Bytes &bytes)
+    {
+        if (!left)
+            left = given(now);
+        if (!left)
+            return H26X_NOTHING_YET;
+        told = left->told;
+        if (left->bytes.size() > room)
+            return H26X_NO_ROOM;
+        bytes = std::move(left->bytes);
+        left.reset();
+        return H26X_OK;
+    }
+
+    std::optional<uint32_t> deadline() const
+    {
+        if (config.max_wait == UINT32_MAX || waiting.arrivals.empty())
+            return std::nullopt;
+        return waiting.arrivals.front().second + config.max_wait;
+    }
+
+    std::vector<uint16_t> missing() const
+    {
+        std::vector<uint16_t> numbers;
+        if (!waiting.packets.empty())
+            for (int64_t place = *waiting.due; place < waiting.newest(); place++)
+                if (waiting.packets.count(place) == 0)
+                    numbers.push_back(static_cast<uint16_t>(place));
+        return numbers;
+    }
+
+    void finish() { waiting.is_over = true; }
+
+    void restart()
+    {
+        waiting = {};
+        stray.reset();
+        is_anew = false;
+        stream = {};
+        broken = ++units;
+    }
+
+    h26x_access_units_counts counts{};
+
+private:
+    h26x_access_units_config config;
+    Waiting waiting;
+    std::optional<Packet> stray; // the packet that waits alone
+    bool is_anew = false;        // the stream has begun anew, so the access unit that is open ends
+    Stream stream;
+    std::optional<Given> left;   // it had no room
+    // how many access units were given out, the last that isn't known to be whole, the last keyframe that is
+    uint64_t units = 0, broken = 0, key = 0;
+
+    // RFC 3550, A.1: on the circle from the place that is due to itself, a number is behind the newest that waits, and
+    // far from both ends
+    bool is_far(uint16_t number) const
+    {
+        if (config.far_away == 0 || !waiting.due)
+            return false;
+        const int64_t place = waiting.place_of(number);
+        return place > waiting.newest() && place - waiting.newest() >= config.far_away
+            && *waiting.due + 65536 - place >= config.far_away;
+    }
+
+    uint32_t push_far(uint32_t now, const Packet &packet)
+    {
+        if (!stray || packet.number != static_cast<uint16_t>(stray->number + 1)) {
+            stray = packet;
+            counts.stray++;
+            return H26X_STRAY;
+        }
+        counts.anew++;
+        counts.lost += waiting.packets.size();
+        uint16_t behind;
+        waiting = {};
+        waiting.put(config.window, now, *stray, behind);
+        waiting.put(config.window, now, packet, behind);
+        stray.reset();
+        is_anew = true;
+        return H26X_ANEW;
+    }
+
+    bool is_due(uint32_t now) const
+    {
+        if (waiting.packets.empty())
+            return false;
+        const int64_t first = waiting.packets.begin()->first;
+        const bool has_waited =
+            config.max_wait != UINT32_MAX && now - waiting.arrivals.front().second >= config.max_wait;
+        return first == *waiting.due || waiting.newest() - first >= config.window - 1 || has_waited || waiting.is_over
+            || waiting.bytes() > config.held_limit;
+    }
+
+    // The next access unit that has ended, if one has at this tick.
+    std::optional<Given> given(uint32_t now)
+    {
+        if (stream.ended.empty() && is_anew) {
+            is_anew = false;
+            end_stream();
+        }
+        while (stream.ended.empty() && is_due(now))
+            take(waiting.take_first());
+        if (stream.ended.empty() && waiting.is_over) {
+            waiting = {};
+            end_stream();
+        }
+        if (stream.ended.empty())
+            return std::nullopt;
+        Given it = std::move(stream.ended.front());
+        stream.ended.pop_front();
+        units++;
+        if (!it.told.is_whole)
+            broken = units;
+        else if (!it.told.continues && it.told.extra == 2)
+            key = units;
+        it.told.is_clean = key > broken;
+        it.told.is_whole = it.told.is_whole && !it.told.continues;
+        counts.units++;
+        counts.whole += it.told.is_whole;
+        return it;
+    }
+
+    void end_unit(bool is_known)
+    {
+        stream.open->is_broken = stream.open->is_broken || !is_known || open_len(stream.fragments) > 0;
+        stream.ended.push_back(ended_unit(config, *stream.open));
+        stream.open.reset();
+        stream.fragments.clear();
+    }
+
+    // What is open ends, not known to be whole, and any number is the next.
+    void end_stream()
+    {
+        if (stream.open)
+            end_unit(false);
+        std::deque<Given> ended = std::move(stream.ended);
+        stream = {};
+        stream.ended = std::move(ended);
+    }
+
+    // A packet that was due: it is behind the one expected (32768 places or more ahead of it), bears nothing, is refused,
+    // or is taken.
+    void take(const Packet &packet)
+    {
+        const uint16_t missing =
+            stream.expected ? static_cast<uint16_t>(packet.number - *stream.expected) : uint16_t{0};
+        const bool is_expected = stream.expected && missing == 0;
+        if (missing >= 1 << 15 && packet.payload.empty()) {
+            counts.late++;
+        } else if (packet.payload.empty()) {
+            counts.skipped++;
+            counts.lost += missing;
+            stream.skipped_gap += missing;
+            stream.expected = static_cast<uint16_t>(packet.number + 1);
+            if (!is_expected)
+                open_gap();
+        } else if (missing >= 1 << 15) {
+            counts.late++;
+        } else if (Reading reading = read(config, packet.payload); reading.is_refused) {
+            counts.refused++;
+        } else {
+            counts.taken++;
+            counts.lost += missing;
+            take_reading(packet, std::move(reading), is_expected && !stream.is_gap, missing);
+        }
+    }
+
+    // Numbers are missing before one that bears nothing.
+    void open_gap()
+    {
+        stream.is_gap = true;
+        stream.fragments.clear();
+        if (stream.open)
+            stream.open->is_broken = true;
+    }
+
+    void take_reading(const Packet &packet, Reading reading, bool follows, uint16_t missing)
+    {
+        if (stream.open && stream.open->timestamp != packet.timestamp)
+            end_unit(follows);
+        if (!follows)
+            stream.fragments.clear();
+        if (!stream.open) {
+            stream.fragments.clear();
+            stream.open.emplace();
+            stream.open->timestamp = packet.timestamp;
+            stream.open->continues = stream.marked == packet.timestamp;
+        }
+        Taken taken{packet.number, stream.skipped_gap + missing, follows, false, std::move(reading.units)};
+        if (reading.is_fragment) {
+            stream.fragments.push_back(std::move(reading));
+            taken.brought = units_ended(stream.fragments);
+        }
+        const size_t run = open_len(stream.fragments);
+        if (taken.brought.empty() && run == 0)
+            taken.is_sound = false;
+        if (run > config.run_limit) {
+            taken.is_sound = false;
+            counts.units_given_up++;
+            stream.fragments.clear();
+        }
+        stream.open->packets.push_back(std::move(taken));
+        stream.expected = static_cast<uint16_t>(packet.number + 1);
+        stream.is_gap = false;
+        stream.skipped_gap = 0;
+        stream.marked.reset();
+        if (packet.marker) {
+            stream.marked = packet.timestamp;
+            end_unit(true);
+        } else if (text_len(*stream.open) > config.unit_limit) {
+            stream.open->packets.back().is_text_given_up = true;
+        }
+    }
+};
+
+} // namespace model
+
+#endif
