@@ -9,6 +9,7 @@
 #include <cinttypes>
 #include <cstdio>
 #include <cstdlib>
+#include <cstring>
 
 using model::Bytes;
 using network::Call;
@@ -44,6 +45,8 @@ public:
     Pair &operator=(const Pair &) = delete;
     ~Pair()
     {
+        if (difference != nullptr)
+            memset(memory, UNTOUCHED, sizeof memory);
         Numbers all, sums;
         memcpy(all, &model.counts, sizeof all);
         memcpy(sums, &totals.counts, sizeof sums);
@@ -101,7 +104,7 @@ private:
         uint32_t wanted, code;
         if (call.kind == Kind::skip) {
             code = h26x_access_units_skip(&u, call.now, call.number, &pushed, &behind);
-            wanted = model.skip(call.now, call.number, wanted_behind);
+            wanted = model.push(call.now, {call.number, 0, false, {}}, wanted_behind);
         } else {
             // behind the call the library has no use for the payload
             static Bytes payload;
@@ -210,28 +213,32 @@ Outcome outcome_of(const Network &network, Totals &totals)
     return {nullptr, 0};
 }
 
-// Leaves out calls, as long as something differs still.
+// Leaves out calls, as long as something differs still, for some millions of calls.
 Network smallest(Network network)
 {
     Totals none;
     network.calls.resize(outcome_of(network, none).calls);
-    for (size_t part = network.calls.size(); part > 0; part = part > 1 ? (part + 1) / 2 : 0)
-        for (bool again = true; again;) {
-            again = false;
-            for (size_t at = 0; at < network.calls.size();) {
-                Network less = network;
-                const auto from = less.calls.begin() + static_cast<std::ptrdiff_t>(at);
-                less.calls.erase(from, from + static_cast<std::ptrdiff_t>(std::min(part, network.calls.size() - at)));
-                const Outcome outcome = outcome_of(less, none);
-                if (outcome.difference == nullptr) {
-                    at += part;
-                    continue;
-                }
-                less.calls.resize(outcome.calls);
-                network = less;
-                again = true;
-            }
+    size_t made = 0, at = 0, part = (network.calls.size() + 1) / 2;
+    bool is_less = false;
+    while (part > 0 && made < 20'000'000) {
+        Network less = network;
+        const auto from = less.calls.begin() + static_cast<std::ptrdiff_t>(at);
+        less.calls.erase(from, from + static_cast<std::ptrdiff_t>(std::min(part, less.calls.size() - at)));
+        const Outcome outcome = outcome_of(less, none);
+        made += less.calls.size() + 1;
+        if (outcome.difference != nullptr) {
+            less.calls.resize(outcome.calls);
+            network = less;
+            is_less = true;
+        } else {
+            at += part;
         }
+        if (at >= network.calls.size()) {
+            part = is_less ? part : part / 2;
+            is_less = false;
+            at = 0;
+        }
+    }
     return network;
 }
 
@@ -282,7 +289,6 @@ const char *never(const Totals &t)
         {t.counts.whole, "whole"},
         {t.counts.units - t.counts.whole, "not whole"},
         {t.counts.units_given_up, "a unit given up"},
-        {t.counts.late - t.pushed[H26X_PUSHED_LATE], "late behind refused ones"},
     };
     for (const auto &it : all)
         if (it.count == 0)

@@ -7,7 +7,6 @@
 
 #include "h26x.h"
 #include <algorithm>
-#include <cstring>
 #include <deque>
 #include <list>
 #include <map>
@@ -31,36 +30,23 @@ inline size_t word(const Bytes &bytes, size_t place)
 
 // ---- How a packet is read ----
 
-// A refusal, a fragment with the header that its unit would have, or the units that a packet holds.
+// The units that a packet holds, or a fragment with the header that its unit would have.
 struct Reading {
-    bool is_refused = false, is_fragment = false, is_start = false, is_end = false;
-    Bytes header, data;
     std::vector<Bytes> units;
+    bool is_fragment = false, is_start = false, is_end = false;
+    Bytes header, data;
 };
 
-inline Reading refusal()
+using Read = std::optional<Reading>; // none: the packet is refused
+
+inline Read fragment(unsigned marks, Bytes header, Bytes data)
 {
-    Reading it;
-    it.is_refused = true;
-    return it;
+    return Reading{{}, true, (marks & 0x80) != 0, (marks & 0x40) != 0, std::move(header), std::move(data)};
 }
 
-inline Reading units_of(std::vector<Bytes> units)
+inline Read units_of(std::vector<Bytes> units)
 {
-    Reading it;
-    it.units = std::move(units);
-    return it;
-}
-
-inline Reading fragment(unsigned marks, Bytes header, Bytes data)
-{
-    Reading it;
-    it.is_fragment = true;
-    it.is_start = marks & 0x80;
-    it.is_end = marks & 0x40;
-    it.header = std::move(header);
-    it.data = std::move(data);
-    return it;
+    return Reading{std::move(units), false, false, false, {}, {}};
 }
 
 // Takes the whole pieces, each behind a length of two bytes, from the front of bytes.
@@ -75,10 +61,10 @@ inline std::vector<Bytes> take_pieces(Bytes &bytes)
 }
 
 // RFC 6184, 5.2 and 5.6 to 5.8
-inline Reading read_h264(const Bytes &packet)
+inline Read read_h264(const Bytes &packet)
 {
     if (packet.empty())
-        return refusal();
+        return std::nullopt;
     const unsigned type = byte(packet, 0) & 31;
     if (type >= 1 && type <= 23)
         return units_of({packet});
@@ -88,34 +74,34 @@ inline Reading read_h264(const Bytes &packet)
         for (Bytes &piece : take_pieces(left))
             if (!piece.empty())
                 units.push_back(std::move(piece));
-        return left.size() >= 2 ? refusal() : units_of(std::move(units));
+        return left.size() >= 2 ? std::nullopt : units_of(std::move(units));
     }
     if (type == 28 && packet.size() >= 2) { // FU-A
         const unsigned header = (byte(packet, 0) & 0x60) | (byte(packet, 1) & 31);
         return fragment(byte(packet, 1), Bytes(1, static_cast<char>(header)), packet.substr(2));
     }
-    return refusal();
+    return std::nullopt;
 }
 
 // A single NAL unit packet of H.265 or H.266: with numbers DONL stands behind the header (RFC 7798, 4.4.1; RFC 9328,
 // 4.3.1).
-inline Reading read_single(const Bytes &packet, bool numbers)
+inline Read read_single(const Bytes &packet, bool numbers)
 {
     if (!numbers)
         return units_of({packet});
-    return packet.size() < 5 ? refusal() : units_of({packet.substr(0, 2) + packet.substr(4)});
+    return packet.size() < 5 ? std::nullopt : units_of({packet.substr(0, 2) + packet.substr(4)});
 }
 
 // RFC 7798, 4.4
-inline Reading read_h265(const Bytes &packet, bool numbers)
+inline Read read_h265(const Bytes &packet, bool numbers)
 {
     if (packet.size() < 3 || byte(packet, 0) >= 0x80)
-        return refusal();
+        return std::nullopt;
     const unsigned type = byte(packet, 0) >> 1, layer = byte(packet, 0) & 1;
     if (type == 48 && !numbers) { // AP
         Bytes left = packet.substr(2);
         std::vector<Bytes> units = take_pieces(left);
-        return units.size() < 2 ? refusal() : units_of(std::move(units));
+        return units.size() < 2 ? std::nullopt : units_of(std::move(units));
     }
     if (type == 48) { // DONL before the first length, DOND before each later one
         std::vector<Bytes> units;
@@ -124,19 +110,19 @@ inline Reading read_h265(const Bytes &packet, bool numbers)
             units.push_back(packet.substr(at + 2, word(packet, at)));
             at += 2 + units.back().size() + 1;
         }
-        return units.size() < 2 ? refusal() : units_of(std::move(units));
+        return units.size() < 2 ? std::nullopt : units_of(std::move(units));
     }
     if (type == 49) { // FU
         const size_t headers = numbers && byte(packet, 2) >= 0x80 ? 5 : 3;
         if (packet.size() <= headers)
-            return refusal();
+            return std::nullopt;
         const Bytes header{static_cast<char>((byte(packet, 2) & 63) << 1 | layer), packet[1]};
         return fragment(byte(packet, 2), header, packet.substr(headers));
     }
     if (type == 50) { // PACI: A, cType, PHSsize
         const size_t behind = packet.size() < 4 ? packet.size() : 4 + (word(packet, 2) >> 4 & 31);
         if (packet.size() <= behind)
-            return refusal();
+            return std::nullopt;
         const unsigned first = byte(packet, 2) & 0x80, kind = byte(packet, 2) >> 1 & 63;
         const Bytes header{static_cast<char>(first | kind << 1 | layer), packet[1]};
         return units_of({header + packet.substr(behind)});
@@ -145,32 +131,32 @@ inline Reading read_h265(const Bytes &packet, bool numbers)
 }
 
 // RFC 9328, 4.3
-inline Reading read_h266(const Bytes &packet, bool numbers)
+inline Read read_h266(const Bytes &packet, bool numbers)
 {
     if (packet.size() < 3 || byte(packet, 0) >= 0x80)
-        return refusal();
+        return std::nullopt;
     const unsigned type = byte(packet, 1) >> 3;
     if (type == 28) { // AP
         if (numbers && packet.size() < 4)
-            return refusal();
+            return std::nullopt;
         Bytes left = packet.substr(numbers ? 4 : 2);
         std::vector<Bytes> units = take_pieces(left);
         for (const Bytes &unit : units)
             if (unit.size() < 2 || byte(unit, 1) >> 3 == 28 || byte(unit, 1) >> 3 == 29)
-                return refusal();
-        return !left.empty() || units.size() < 2 ? refusal() : units_of(std::move(units));
+                return std::nullopt;
+        return !left.empty() || units.size() < 2 ? std::nullopt : units_of(std::move(units));
     }
     if (type == 29) { // FU
         const size_t headers = numbers && byte(packet, 2) >= 0x80 ? 5 : 3;
         if (packet.size() < headers)
-            return refusal();
+            return std::nullopt;
         const Bytes header{packet[0], static_cast<char>((byte(packet, 2) & 31) << 3 | (byte(packet, 1) & 7))};
         return fragment(byte(packet, 2), header, packet.substr(headers));
     }
     return read_single(packet, numbers);
 }
 
-inline Reading read(const h26x_access_units_config &config, const Bytes &packet)
+inline Read read(const h26x_access_units_config &config, const Bytes &packet)
 {
     return config.codec == H26X_H264 ? read_h264(packet)
         : config.codec == H26X_H265  ? read_h265(packet, config.numbers)
@@ -402,13 +388,6 @@ public:
         return answer;
     }
 
-    uint32_t skip(uint32_t now, uint16_t number, uint16_t &behind)
-    {
-        Packet packet;
-        packet.number = number;
-        return push(now, packet, behind);
-    }
-
     // Bytes are written where the answer is H26X_OK alone.
     uint32_t next(uint32_t now, size_t room, h26x_access_unit &told, Bytes &bytes)
     {
@@ -551,14 +530,14 @@ private:
         stream.ended = std::move(ended);
     }
 
-    // A packet that was due: it is behind the one expected (32768 places or more ahead of it), bears nothing, is refused,
-    // or is taken.
+    // A packet that was due: it is behind the one expected, where that is 32768 places back or more, bears nothing, is
+    // refused, or is taken.
     void take(const Packet &packet)
     {
         const uint16_t missing =
             stream.expected ? static_cast<uint16_t>(packet.number - *stream.expected) : uint16_t{0};
         const bool is_expected = stream.expected && missing == 0;
-        if (missing >= 1 << 15 && packet.payload.empty()) {
+        if (missing >= 1 << 15) {
             counts.late++;
         } else if (packet.payload.empty()) {
             counts.skipped++;
@@ -567,14 +546,12 @@ private:
             stream.expected = static_cast<uint16_t>(packet.number + 1);
             if (!is_expected)
                 open_gap();
-        } else if (missing >= 1 << 15) {
-            counts.late++;
-        } else if (Reading reading = read(config, packet.payload); reading.is_refused) {
+        } else if (Read reading = read(config, packet.payload); !reading) {
             counts.refused++;
         } else {
             counts.taken++;
             counts.lost += missing;
-            take_reading(packet, std::move(reading), is_expected && !stream.is_gap, missing);
+            take_reading(packet, std::move(*reading), is_expected && !stream.is_gap, missing);
         }
     }
 

@@ -3,7 +3,7 @@
 #define NETWORK_HPP
 
 #include "model.hpp"
-#include <array>
+#include <cstdlib>
 
 namespace network {
 
@@ -451,7 +451,7 @@ private:
     {
         static const Bytes refused("\0", 1);
         send_unit();
-        const uint32_t count = 32768 - 20 + r.below(40);
+        const uint32_t count = r.one_in(2) ? 32767 + r.below(3) : 32748 + r.below(60);
         for (uint32_t i = 0; i < count; i++)
             come({Kind::push, false, number++, 0, timestamp, &refused, 0});
     }
