@@ -153,7 +153,8 @@ fn run(seed: u64, case: u64, ours: &mut Log, theirs: &mut Log) {
     let mut any = CodecDepacketizer::new(codec);
     let mut any_sends = CodecPacketizer::new(codec);
     let mut has_donl = m.has_donl;
-    let (mut avc, mut lowest) = (false, false);
+    let (mut avc, mut lowest) = (false, m.codec == 1 && m.random.one_in(2));
+    sends.lowest(lowest);
     sends.donl(has_donl);
     receives.donl(has_donl);
     sequenced.with_donl(has_donl);
