@@ -4,13 +4,15 @@ use Rattle.std.specs.Prelude.{slice_get}
 use Rattle.h26x_frames.specs.Rtp.{RtpBody}
 use Rattle.h26x_frames.specs.ReorderBuffer.{first_ready, without_first_of}
 use Rattle.h26x_core.specs.declared.error.PacketError.{PacketError}
-use Rattle.std.specs.Prelude.{Result, MatchBool, not}
+use Rattle.std.specs.Prelude.{Result, Ok, Err, MatchBool, not}
 use Rattle.h26x_receiver.specs.declared.received.Received.{Received}
-use Rattle.h26x_frames.specs.AccessUnit.{AccessUnitValue, UnitDepacketization}
+use Rattle.h26x_receiver.specs.declared.received.Received.TheVariants.{InOrder, Gap, TooLong, Late}
+use Rattle.h26x_receiver.specs.Sequenced.{is_taken}
+use Rattle.h26x_frames.specs.AccessUnit.{AccessUnitValue, UnitDepacketization, is_text_given_up}
 use Rattle.h26x_access_units.specs.declared.counts.Counts.{Counts}
 use Rattle.h26x_access_units.specs.declared.numbers.NumbersSoFar.{NumbersSoFar}
 use Rattle.h26x_access_units.specs.Counts.{counted_due}
-use Rattle.h26x_access_units.specs.Numbers.{numbers_after}
+use Rattle.h26x_access_units.specs.Numbers.{bears_nothing, numbers_after}
 use Rattle.h26x_access_units.specs.JitterBuffer.{JitterState, is_pressed, due_packet, without_due}
 use Rattle.h26x_access_units.specs.Reception.{Reception, reception, frames_after, marker_forgotten, after_due, has_no_unit, IsDueTaken, IsDrained, none, more}
 
@@ -32,17 +34,27 @@ taken_falls now s t it =
     ap (λ (r : Reception). length r.waiting.buffer.held + 1) it.stands
     ∙ goes (is_pressed now s.waiting) s.waiting.buffer.window s.waiting.buffer.due s.waiting.buffer.held it.packet it.due
 
+-- of a packet that wasn't taken it doesn't count whether a text was given up
+pub counted_as : (c : Counts) (payload : List ℕ) (a : Result Received PacketError) (x y : Bool) →
+    (bears_nothing payload ≡ false → is_taken a ≡ true → x ≡ y) → counted_due c payload a x ≡ counted_due c payload a y
+counted_as c [] (Ok answer) x y same = refl
+counted_as c (byte ∷ bytes) (Ok (Late n)) x y same = refl
+counted_as c (byte ∷ bytes) (Ok InOrder) x y same = ap (counted_due c (byte ∷ bytes) (Ok InOrder)) (same refl refl)
+counted_as c (byte ∷ bytes) (Ok (Gap n)) x y same = ap (counted_due c (byte ∷ bytes) (Ok (Gap n))) (same refl refl)
+counted_as c (byte ∷ bytes) (Ok (TooLong n)) x y same = ap (counted_due c (byte ∷ bytes) (Ok (TooLong n))) (same refl refl)
+counted_as c payload (Err error) x y same = refl
+
 -- what stands after a packet that was due, by its parts
 pub due_stands : (s : Reception) (p : ℕ × RtpBody) (a : Result Received PacketError) (waiting : JitterState) (frames : UnitDepacketization) (numbers : NumbersSoFar) (counts : Counts) (run unit : ℕ) →
-    waiting ≡ without_due s.waiting → frames ≡ marker_forgotten (frames_after s.run_limit s.unit_limit s.frames p a) → numbers ≡ numbers_after s.numbers p a → counts ≡ counted_due s.counts p.1.payload a →
+    waiting ≡ without_due s.waiting → frames ≡ marker_forgotten (frames_after s.run_limit s.unit_limit s.frames p a) → numbers ≡ numbers_after s.numbers p a → counts ≡ counted_due s.counts p.1.payload a (is_text_given_up s.run_limit s.unit_limit s.frames p) →
     run ≡ s.run_limit → unit ≡ s.unit_limit → reception waiting s.stray s.is_anew frames numbers s.is_clean counts run unit ≡ after_due s p a
 due_stands s p a waiting frames numbers counts run unit w f n c r u =
     ap (λ (x : JitterState). reception x s.stray s.is_anew frames numbers s.is_clean counts run unit) w
     ∙ ap (λ (x : UnitDepacketization). reception (without_due s.waiting) s.stray s.is_anew x numbers s.is_clean counts run unit) f
     ∙ ap (λ (x : NumbersSoFar). reception (without_due s.waiting) s.stray s.is_anew (marker_forgotten (frames_after s.run_limit s.unit_limit s.frames p a)) x s.is_clean counts run unit) n
     ∙ ap (λ (x : Counts). reception (without_due s.waiting) s.stray s.is_anew (marker_forgotten (frames_after s.run_limit s.unit_limit s.frames p a)) (numbers_after s.numbers p a) s.is_clean x run unit) c
-    ∙ ap (λ (x : ℕ). reception (without_due s.waiting) s.stray s.is_anew (marker_forgotten (frames_after s.run_limit s.unit_limit s.frames p a)) (numbers_after s.numbers p a) s.is_clean (counted_due s.counts p.1.payload a) x unit) r
-    ∙ ap (λ (x : ℕ). reception (without_due s.waiting) s.stray s.is_anew (marker_forgotten (frames_after s.run_limit s.unit_limit s.frames p a)) (numbers_after s.numbers p a) s.is_clean (counted_due s.counts p.1.payload a) s.run_limit x) u
+    ∙ ap (λ (x : ℕ). reception (without_due s.waiting) s.stray s.is_anew (marker_forgotten (frames_after s.run_limit s.unit_limit s.frames p a)) (numbers_after s.numbers p a) s.is_clean (counted_due s.counts p.1.payload a (is_text_given_up s.run_limit s.unit_limit s.frames p)) x unit) r
+    ∙ ap (λ (x : ℕ). reception (without_due s.waiting) s.stray s.is_anew (marker_forgotten (frames_after s.run_limit s.unit_limit s.frames p a)) (numbers_after s.numbers p a) s.is_clean (counted_due s.counts p.1.payload a (is_text_given_up s.run_limit s.unit_limit s.frames p)) s.run_limit x) u
 
 -- before any was taken
 pub none_more : (now : ℕ) (s : Reception) → IsDrained now s s

@@ -24,6 +24,7 @@ no_counts = record {
   units = 0;
   whole = 0;
   units_given_up = 0;
+  texts_given_up = 0;
 }
 
 -- so many more, to 2^64 - 1
@@ -53,19 +54,20 @@ abbrev pub given_up : Received → ℕ
 given_up (TooLong n) = 1
 given_up answer = 0
 
--- a packet that was taken, by what was answered
-abbrev pub counted_taken : Counts → Received → Counts
-counted_taken c answer = record c {
+-- a packet that was taken, by what was answered, and by whether a text was given up
+abbrev pub counted_taken : Counts → Received → Bool → Counts
+counted_taken c answer text = record c {
   taken = count_up c.taken 1;
   lost = count_up c.lost (missing_told answer);
   units_given_up = count_up c.units_given_up (given_up answer);
+  texts_given_up = count_up c.texts_given_up (if text then 1 else 0);
 }
 
 -- a packet that was due
-abbrev pub counted_answer : Counts → Result Received PacketError → Counts
-counted_answer c (Ok (Late n)) = record c { late = count_up c.late 1 }
-counted_answer c (Ok answer) = counted_taken c answer
-counted_answer c (Err error) = record c { refused = count_up c.refused 1 }
+abbrev pub counted_answer : Counts → Result Received PacketError → Bool → Counts
+counted_answer c (Ok (Late n)) text = record c { late = count_up c.late 1 }
+counted_answer c (Ok answer) text = counted_taken c answer text
+counted_answer c (Err error) text = record c { refused = count_up c.refused 1 }
 
 -- a number that bears nothing
 abbrev pub counted_skip : Counts → Received → Counts
@@ -76,10 +78,10 @@ counted_skip c answer = record c {
 }
 
 -- a packet that was due, with its payload
-abbrev pub counted_due : Counts → List ℕ → Result Received PacketError → Counts
-counted_due c payload (Ok answer) =
-    if bears_nothing payload then counted_skip c answer else counted_answer c (Ok answer)
-counted_due c payload (Err error) = counted_answer c (Err error)
+abbrev pub counted_due : Counts → List ℕ → Result Received PacketError → Bool → Counts
+counted_due c payload (Ok answer) text =
+    if bears_nothing payload then counted_skip c answer else counted_answer c (Ok answer) text
+counted_due c payload (Err error) text = counted_answer c (Err error) text
 
 -- an access unit that is given out
 abbrev pub counted_unit : Counts → Bool → Counts

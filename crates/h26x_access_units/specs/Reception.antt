@@ -7,7 +7,7 @@ use Rattle.h26x_receiver.specs.declared.received.Received.{Received}
 use Rattle.h26x_receiver.specs.Sequence.{next_sequence_number}
 use Rattle.h26x_receiver.specs.Sequenced.{skip_answer}
 use Rattle.h26x_frames.specs.Rtp.{RtpBody}
-use Rattle.h26x_frames.specs.AccessUnit.{AccessUnitValue, UnitDepacketization, none_open, open_depacketization, IsUnitAnswer, after_rtp, after_unit_skip, after_end}
+use Rattle.h26x_frames.specs.AccessUnit.{AccessUnitValue, UnitDepacketization, none_open, open_depacketization, IsUnitAnswer, is_text_given_up, after_rtp, after_unit_skip, after_end}
 use Rattle.h26x_access_units.specs.declared.config.AccessUnitConfig.{AccessUnitConfig}
 use Rattle.h26x_access_units.specs.declared.counts.Counts.{Counts}
 use Rattle.h26x_access_units.specs.declared.numbers.NumbersSoFar.{NumbersSoFar}
@@ -132,7 +132,8 @@ after_due s p answer = record s {
   waiting = without_due s.waiting;
   frames = marker_forgotten (frames_after s.run_limit s.unit_limit s.frames p answer);
   numbers = numbers_after s.numbers p answer;
-  counts = counted_due s.counts p.1.payload answer;
+  counts = counted_due s.counts p.1.payload answer
+      (is_text_given_up s.run_limit s.unit_limit s.frames p);
 }
 
 -- a packet that was due was taken, or passed over

@@ -1,10 +1,10 @@
 //! Worked cases of the definitions, each the contract of a function without a result.
 
-ghost use Rattle.std.specs.Prelude.{◌≡◌, ℕ, List, true, false, ◌-◌, ◌^◌, None, Some, [], ◌∷◌};
+ghost use Rattle.std.specs.Prelude.{◌≡◌, ℕ, List, true, false, ◌-◌, ◌^◌, None, Some, Ok, [], ◌∷◌};
 ghost use Rattle.h26x_access_units.specs.Arrival.{arrival_of, without_number, not_passed, is_first_passed, deadline_of, has_waited};
 ghost use Rattle.h26x_access_units.specs.Missing.{missing_numbers};
 ghost use Rattle.h26x_access_units.specs.Numbers.{missing_sum};
-ghost use Rattle.h26x_access_units.specs.Counts.{count_up};
+ghost use Rattle.h26x_access_units.specs.Counts.{no_counts, count_up, counted_due};
 ghost use Rattle.h26x_model.specs.Receive.DepacketizerState.{DepacketizerState};
 ghost use Rattle.h26x_receiver.specs.Sequence.{is_late};
 ghost use Rattle.h26x_frames.specs.Rtp.{rtp_body};
@@ -12,6 +12,8 @@ ghost use Rattle.h26x_frames.specs.ReorderBuffer.{IsHeldInOrder};
 ghost use Rattle.h26x_access_units.specs.declared.config.AccessUnitConfig.{AccessUnitConfig};
 ghost use Rattle.h26x_access_units.specs.Reception.{fresh_reception};
 ghost use Rattle.h26x_access_units.specs.Limits.{IsWithinLimits};
+
+use h26x_receiver::Received;
 
 /// A packet that came 16 ticks before they go round, and may wait for 100: the 84th is the last.
 pub fn ticks_that_go_round()
@@ -69,4 +71,14 @@ pub fn counts_at_their_end()
     ensures below { count_up (2 ^ 64 - 2) 1 ≡ 2 ^ 64 - 1 }
     ensures at { count_up (2 ^ 64 - 1) 1 ≡ 2 ^ 64 - 1 }
     ensures missing { missing_sum (2 ^ 32 - 2) 5 ≡ 2 ^ 32 - 1 }
+{}
+
+/// A text that was given up counts where its packet was taken, and none behind a number that was
+/// skipped.
+pub fn texts_that_are_counted()
+    ensures taken { (counted_due no_counts (0x61 ∷ []) (Ok Received.InOrder) true).texts_given_up ≡ 1 }
+    ensures stays { (counted_due no_counts (0x61 ∷ []) (Ok Received.InOrder) false).texts_given_up
+        ≡ 0 }
+    ensures late { (counted_due no_counts (0x61 ∷ []) (Ok (Received.Late 1)) true).texts_given_up ≡ 0 }
+    ensures skipped { (counted_due no_counts [] (Ok Received.InOrder) true).texts_given_up ≡ 0 }
 {}

@@ -2,6 +2,8 @@
 
 ghost use Rattle.std.specs.Prelude.{◌≡◌, ◌^◌, ◌<◌, ◌≤◌, ◌↔◌, ◌⊎◌, IsTrue, true, false, not, [], None, Err, IfOk, OnOk, OnErr, IfErr, MatchBool, map};
 ghost use Rattle.std.specs.Option.{option_map};
+ghost use Rattle.h26x_receiver.specs.Sequenced.{is_taken};
+ghost use Rattle.h26x_frames.specs.AccessUnit.{is_text_given_up};
 ghost use Rattle.h26x_frames.specs.Rtp.{rtp_body};
 ghost use Rattle.h26x_frames.specs.ReorderBuffer.{numbered_packet};
 ghost use Rattle.h26x_access_units.specs.Pushed.{IsNotPushedReason};
@@ -10,6 +12,7 @@ ghost use Rattle.h26x_frames.specs.Receiver.{frames_at};
 ghost use Rattle.h26x_access_units.specs.Arrival.{deadline_of};
 ghost use Rattle.h26x_access_units.specs.JitterBuffer.{is_far, due_packet};
 ghost use Rattle.h26x_access_units.specs.Missing.{missing_numbers, AreExactlyMissing};
+ghost use Rattle.h26x_access_units.specs.Numbers.{bears_nothing};
 ghost use Rattle.h26x_access_units.specs.ReceivedUnit.{received_unit_value};
 ghost use Rattle.h26x_access_units.specs.Reception.{fresh_reception, reception_answer, after_reception, has_no_unit, ended_if_anew, ended_if_over, restarted, unit_given, without_given, frames_after, IsAnswerTo, IsDueTaken, IsDrained, IsNext};
 
@@ -58,6 +61,9 @@ fn take_packet<D: RunDepacketizer>(
         (frames_at D.state frames.old ended.old.items) packet.now result }
     ensures limit { frames.new.packets.run_limit ≡ frames.old.packets.run_limit }
     ensures unit_limit { frames.new.unit_limit ≡ frames.old.unit_limit }
+    ensures text { bears_nothing packet.now.1.payload ≡ false → is_taken result ≡ true →
+        frames.new.is_text_given_up ≡ is_text_given_up frames.old.packets.run_limit
+        frames.old.unit_limit (frames_at D.state frames.old ended.old.items) packet.now }
 {
     if packet.payload.is_empty() {
         Ok(frames.skip(packet.sequence))
@@ -260,7 +266,8 @@ impl<D: RunDepacketizer> AccessUnitReceiver<D> {
         }
         self.frames.forget_marker();
         self.numbers.note(&packet, &received);
-        self.counts.note(&packet, &received);
+        self.counts
+            .note(&packet, &received, self.frames.is_text_given_up);
         let _ = self.waiting.pop_first();
         Ok(true)
     }

@@ -271,6 +271,33 @@ fn limits_ends_and_restarts(rt: HostRuntime) -> Result<(), PacketError> {
 }
 
 #[test]
+fn texts_given_up_are_counted(rt: HostRuntime) -> Result<(), PacketError> {
+    let alloc = rt.alloc();
+    // Two slices make 12 bytes, of which the third is no part: it bears the marker.
+    for (unit_limit, given_up, len) in [(12, 0, 18), (11, 1, 6)] {
+        let settings = AccessUnitConfig {
+            unit_limit,
+            ..config(0)
+        };
+        let mut receiver = AccessUnitReceiver::new(alloc, H264Depacketizer::new(alloc), settings);
+        for (sequence, marker) in [(10, false), (11, false), (12, true)] {
+            let packet = RtpPacket {
+                sequence,
+                timestamp: 0,
+                marker,
+                payload: SLICE,
+            };
+            let _ = receiver.push(0, &packet)?;
+        }
+        receiver.finish();
+        let unit = receiver.next(0)?;
+        assert!(rt; unit.is_some_and(|it| it.bytes.len() == len));
+        assert!(rt; receiver.counts().texts_given_up == given_up);
+    }
+    Ok(())
+}
+
+#[test]
 fn strays_and_a_stream_that_begins_anew(rt: HostRuntime) -> Result<(), PacketError> {
     let at = walk(
         rt.alloc(),

@@ -278,6 +278,10 @@ after_taken_rtp most s p = record {
       (unit_with most s p) ∷ [] else []);
 }
 
+-- whether the text that a packet leaves open is given up, since it is longer than the limit
+abbrev pub is_text_given_up : ℕ → ℕ → UnitDepacketization → ℕ × RtpBody → Bool
+is_text_given_up most limit s p = nat_lt limit (unit_len (after_taken_rtp most s p).unit)
+
 -- what stands after an answer: a packet that was not taken changes nothing
 abbrev pub after_rtp : ℕ → ℕ → UnitDepacketization → ℕ × RtpBody →
     Result Received PacketError → UnitDepacketization

@@ -1,6 +1,6 @@
 //! Access units, and the one that is open.
 
-ghost use Rattle.std.specs.Prelude.{◌≡◌, ◌+◌, ◌≤◌, ◌==◌, ◌&&◌, ◌++◌, ◌∷◌, [], if◌then◌else◌, true, false, None, Some, MatchBool, map, length, vec_len, vec_capacity, is_some};
+ghost use Rattle.std.specs.Prelude.{◌≡◌, ◌+◌, ◌≤◌, ◌==◌, nat_lt, ◌&&◌, ◌++◌, ◌∷◌, [], if◌then◌else◌, true, false, None, Some, MatchBool, map, length, vec_len, vec_capacity, is_some};
 ghost use Rattle.h26x_model.specs.Receive.RunLimit.{run_len};
 ghost use Rattle.h26x_receiver.specs.Sequenced.{is_taken};
 ghost use Rattle.h26x_frames.specs.AccessUnit.{access_unit_value, open_unit_value, open_unit_view, empty_unit, whole_if, one_open, none_open, without_marker, behind_gap, is_following, is_run_closed, unit_len, unit_within, is_unit_at, given_out, IsTakenAnswer, after_taken_rtp, units_at};
@@ -194,18 +194,22 @@ impl OpenAccessUnit {
     }
 
     /// Gives up its text where that has more bytes than this, with what it tells; it isn't whole then.
-    /// A run that is open stays. The memory goes back where the run doesn't stand in it.
+    /// A run that is open stays. The memory goes back where the run doesn't stand in it. The answer is
+    /// whether it had more.
     #[inline]
-    pub(crate) fn limit(&mut self, most: usize)
-        ensures { self.new ≡ record self.old { unit = unit_within most self.old.unit } }
+    pub(crate) fn limit(&mut self, most: usize) -> bool
+        ensures after { self.new ≡ record self.old { unit = unit_within most self.old.unit } }
+        ensures given_up { result ≡ nat_lt most (unit_len self.old.unit) }
     {
         if let Some(unit) = &mut self.unit {
             if unit.text.len() > most {
                 unit.text.give_up_text();
                 unit.extra = CodecExtra::None;
                 unit.is_whole = false;
+                return true;
             }
         }
+        false
     }
 
     /// Forgets that a marker ended the last one.

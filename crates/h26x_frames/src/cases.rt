@@ -12,7 +12,7 @@ ghost use Rattle.h26x_frames.specs.ReorderBuffer.{buffer_state, fresh_buffer, pu
 ghost use Rattle.h26x_frames.specs.BufferSteps.{Comes, GoesOut, steps_held, steps_out, AreInTurn};
 ghost use Rattle.h26x_frames.specs.Network.{IsNetwork, released_packets};
 ghost use Rattle.h26x_frames.specs.Rtp.{rtp_body};
-ghost use Rattle.h26x_frames.specs.AccessUnit.{AccessUnitValue, empty_unit, unit_depacketization, fresh_units, after_all_rtp, after_unit_skip, after_end, HaveUnitAnswers};
+ghost use Rattle.h26x_frames.specs.AccessUnit.{AccessUnitValue, empty_unit, unit_depacketization, fresh_units, is_text_given_up, after_all_rtp, after_unit_skip, after_end, HaveUnitAnswers};
 ghost use Rattle.h26x_frames.specs.AnyUnits.{any_units_left};
 ghost use Rattle.h26x_frames.specs.StampedCalls.{stamped_call, call_packets, sent_bodies, unit_left, units_left, sent_unit, sent_units, packets_len, AreApart, AreUnitsWithin, IsGivenOut, IsStream, IsBroughtStream, IsSentIfWhole, AreAccessUnitsLeft};
 
@@ -244,6 +244,12 @@ pub fn access_units_at_the_limit()
         ≡ (0x00 ∷ 0x00 ∷ 0x00 ∷ 0x01 ∷ 0x65 ∷ [], false)
         ∷ (0x00 ∷ 0x00 ∷ 0x00 ∷ 0x01 ∷ 0x61 ∷ [], false)
         ∷ (0x00 ∷ 0x00 ∷ 0x00 ∷ 0x01 ∷ 0x61 ∷ [], true) ∷ [] }
+    ensures stays { is_text_given_up 4 6 (fresh_units (fresh_depacketizer_state h264))
+        (8, rtp_body 6000 false (0x61 ∷ 0x02 ∷ [])) ≡ false }
+    ensures goes { is_text_given_up 4 5 (fresh_units (fresh_depacketizer_state h264))
+        (8, rtp_body 6000 false (0x61 ∷ 0x02 ∷ [])) ≡ true }
+    ensures ends { is_text_given_up 4 5 (fresh_units (fresh_depacketizer_state h264))
+        (8, rtp_body 6000 true (0x61 ∷ 0x02 ∷ [])) ≡ false }
 {}
 
 /// Access units with one timestamp are apart where the last packet of the earlier one came, or none of

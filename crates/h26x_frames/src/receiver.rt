@@ -4,7 +4,7 @@ ghost use Rattle.std.specs.Prelude.{◌≡◌, ◌+◌, ◌≤◌, ℕ, List, tr
 ghost use Rattle.h26x_model.specs.Receive.RunLimit.{run_len};
 ghost use Rattle.h26x_receiver.specs.Sequenced.{is_taken, skip_answer, is_run_kept};
 ghost use Rattle.h26x_frames.specs.declared.access_unit.AccessUnit.{AccessUnit};
-ghost use Rattle.h26x_frames.specs.AccessUnit.{none_open, is_unit_at, AccessUnitValue, IsTakenAnswer, IsUnitAnswer, after_taken_rtp, after_rtp, after_unit_skip, after_end, unit_len, units_at};
+ghost use Rattle.h26x_frames.specs.AccessUnit.{none_open, is_unit_at, AccessUnitValue, IsTakenAnswer, IsUnitAnswer, after_taken_rtp, after_rtp, after_unit_skip, after_end, unit_len, is_text_given_up, units_at};
 ghost use Rattle.h26x_frames.specs.Receiver.{frames_at};
 
 use crate::access_unit::{AccessUnit, OpenAccessUnit, OpenUnit};
@@ -141,6 +141,8 @@ pub struct FrameReceiver<D: RunDepacketizer> {
     pub unit: OpenAccessUnit,
     /// How many bytes the text of an open access unit may hold from a packet to the next.
     pub unit_limit: usize,
+    /// Whether the last packet that was taken left a text that was longer, which was given up.
+    pub is_text_given_up: bool,
     spare: SpareMemory,
 }
 
@@ -152,11 +154,13 @@ impl<D: RunDepacketizer> FrameReceiver<D> {
         ensures packets { result.packets ≡ packets }
         ensures unit { result.unit ≡ none_open }
         ensures limit { result.unit_limit ≡ unit_limit }
+        ensures text { result.is_text_given_up ≡ false }
     {
         FrameReceiver {
             packets,
             unit: OpenAccessUnit::none(alloc),
             unit_limit,
+            is_text_given_up: false,
             spare: SpareMemory::none(alloc),
         }
     }
@@ -171,7 +175,7 @@ impl<D: RunDepacketizer> FrameReceiver<D> {
     ///
     /// The open run is within its limit after each packet, and so is the text of the access unit that
     /// is open: where it is longer, as where a peer sends neither a marker nor another timestamp, it
-    /// is given up, and what follows of that access unit is not told to be whole.
+    /// is given up (`is_text_given_up`), and what follows of that access unit is not told to be whole.
     pub fn receive(
         &mut self,
         packet: &RtpPacket<'_>,
@@ -194,6 +198,11 @@ impl<D: RunDepacketizer> FrameReceiver<D> {
         ensures bounded_unit { unit_len self.old.unit.unit ≤ self.old.unit_limit →
             unit_len self.new.unit.unit ≤ self.old.unit_limit }
 
+        // Whether it wasn't, so that its text was given up.
+        ensures text { is_taken result ≡ true → self.new.is_text_given_up
+            ≡ is_text_given_up self.old.packets.run_limit self.old.unit_limit
+            (frames_at D.state self.old out.old.items) packet.now }
+
         // A late packet and a refusal leave everything.
         ensures late { (n : ℕ) → result ≡ Ok (Received.Late n) → self.new ≡ self.old }
         ensures late_out { (n : ℕ) → result ≡ Ok (Received.Late n) →
@@ -205,7 +214,7 @@ impl<D: RunDepacketizer> FrameReceiver<D> {
         let (packets, unit, spare) = (&mut self.packets, &mut self.unit, &mut self.spare);
         let received = take(packets, unit, spare, packet, out);
         if was_taken(&received) {
-            self.unit.limit(self.unit_limit);
+            self.is_text_given_up = self.unit.limit(self.unit_limit);
         }
         received
     }
@@ -222,6 +231,7 @@ impl<D: RunDepacketizer> FrameReceiver<D> {
         ensures rest { self.new.packets.depacketizer ≡ self.old.packets.depacketizer }
         ensures limit { self.new.packets.run_limit ≡ self.old.packets.run_limit }
         ensures unit_limit { self.new.unit_limit ≡ self.old.unit_limit }
+        ensures text { self.new.is_text_given_up ≡ self.old.is_text_given_up }
 
         // In order, or late, what is open stays.
         ensures kept { is_run_kept self.old.packets.expected sequence ≡ true →
@@ -256,6 +266,7 @@ impl<D: RunDepacketizer> FrameReceiver<D> {
             ≡ D.with_run None self.old.packets.depacketizer) }
         ensures limit { self.new.packets.run_limit ≡ self.old.packets.run_limit }
         ensures unit_limit { self.new.unit_limit ≡ self.old.unit_limit }
+        ensures text { self.new.is_text_given_up ≡ self.old.is_text_given_up }
         ensures memory { OnErr result (result ≡ Err PacketError.OutOfMemory) }
         ensures kept { OnErr result (self.new ≡ self.old) }
         ensures kept_out { OnErr result (out.new.items ≡ out.old.items) }
@@ -276,6 +287,7 @@ impl<D: RunDepacketizer> FrameReceiver<D> {
         ensures limit { self.new.packets.run_limit ≡ self.old.packets.run_limit }
         ensures unit_limit { self.new.unit_limit ≡ self.old.unit_limit }
         ensures unit { self.new.unit ≡ none_open }
+        ensures text { self.new.is_text_given_up ≡ self.old.is_text_given_up }
     {
         self.packets.restart();
         let alloc = self.spare.allocator();
