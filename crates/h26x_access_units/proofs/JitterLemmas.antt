@@ -1,11 +1,10 @@
 -- How many bytes wait, where a packet comes and where one goes.
-use Rattle.std.proofs.Common.{◌≡◌, ℕ, ◌+◌, Bool, true, false, cond, List, [], ◌∷◌, length, Option, Some, refl, sym, ap, ◌∙◌, arith}
+use Rattle.std.proofs.Common.{◌≡◌, ℕ, ◌+◌, true, false, List, [], ◌∷◌, length, Some, refl, arith}
 use Rattle.std.specs.Prelude.{◌==◌, ◌||◌, nat_lt}
 use Rattle.std.proofs.lemmas.Bool.Decides.{nat_tests}
 use Rattle.h26x_receiver.specs.Sequence.{distance_ahead, is_late}
 use Rattle.h26x_frames.specs.Rtp.{RtpBody}
 use Rattle.h26x_frames.specs.ReorderBuffer.{BufferState, due_at, put_packet, is_number_held, push_answer, after_push}
-use Rattle.h26x_frames.specs.declared.pushed.Pushed.{Pushed}
 use Rattle.h26x_frames.specs.declared.pushed.Pushed.TheVariants as pushes
 use Rattle.h26x_access_units.specs.JitterBuffer.{held_bytes}
 

@@ -1,5 +1,5 @@
 -- Numbers that are missing, packet by packet.
-use Rattle.std.proofs.Common.{◌≡◌, ◌∙◌, ap, sym, ℕ, ◌+◌, ◌<◌, List, ◌∷◌, ◌++◌, length, get_or, drop, append_assoc}
+use Rattle.std.proofs.Common.{◌≡◌, ◌∙◌, ap, sym, ℕ, ◌+◌, ◌<◌, List, ◌++◌, length, get_or, drop, append_assoc}
 use Rattle.std.proofs.lemmas.List.{drop_more}
 use Rattle.h26x_receiver.specs.Sequence.{next_sequence_number, distance_ahead}
 use Rattle.h26x_frames.specs.Rtp.{RtpBody}

@@ -1,5 +1,5 @@
 -- Packets that are due, taken one after the other.
-use Rattle.std.proofs.Common.{◌≡◌, ◌∙◌, ap, sym, subst, ℕ, ◌+◌, ◌<◌, Bool, true, false, cond, List, [], ◌∷◌, length, Option, Some, None, refl, arith}
+use Rattle.std.proofs.Common.{◌≡◌, ◌∙◌, ap, sym, ℕ, ◌+◌, Bool, true, false, cond, List, [], ◌∷◌, length, Option, Some, None, refl, arith}
 use Rattle.std.specs.Prelude.{slice_get}
 use Rattle.h26x_frames.specs.Rtp.{RtpBody}
 use Rattle.h26x_frames.specs.ReorderBuffer.{first_ready, without_first_of}
@@ -13,7 +13,7 @@ use Rattle.h26x_access_units.specs.declared.counts.Counts.{Counts}
 use Rattle.h26x_access_units.specs.declared.numbers.NumbersSoFar.{NumbersSoFar}
 use Rattle.h26x_access_units.specs.Counts.{counted_due}
 use Rattle.h26x_access_units.specs.Numbers.{bears_nothing, numbers_after}
-use Rattle.h26x_access_units.specs.JitterBuffer.{JitterState, is_pressed, due_packet, without_due}
+use Rattle.h26x_access_units.specs.JitterBuffer.{JitterState, is_pressed, without_due}
 use Rattle.h26x_access_units.specs.Reception.{Reception, reception, frames_after, marker_forgotten, after_due, has_no_unit, IsDueTaken, IsDrained, none, more}
 
 -- where nothing is held nothing is ready

@@ -268,7 +268,7 @@ impl<D: RunDepacketizer> AccessUnitReceiver<D> {
         self.numbers.note(&packet, &received);
         self.counts
             .note(&packet, &received, self.frames.is_text_given_up);
-        let _ = self.waiting.pop_first();
+        self.waiting.drop_first();
         Ok(true)
     }
 

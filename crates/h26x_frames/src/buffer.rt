@@ -9,6 +9,7 @@ ghost use Rattle.h26x_frames.specs.ReorderBuffer as spec;
 use crate::order::NumberOrder;
 use crate::packet::RtpPacket;
 use crate::pushed::Pushed;
+use crate::spare::SparePayloads;
 use std::alloc::{AllocError, Global};
 use std::marker::Model;
 
@@ -141,7 +142,7 @@ pub struct NotHeld {
 #[derive(Debug, Drop)]
 pub struct ReorderBuffer {
     held: NumberOrder<HeldPacket>,
-    alloc: Global,
+    spare: SparePayloads,
 }
 
 impl Model for ReorderBuffer {
@@ -163,7 +164,7 @@ impl ReorderBuffer {
     {
         ReorderBuffer {
             held: NumberOrder::new(alloc, window),
-            alloc,
+            spare: SparePayloads::none(alloc),
         }
     }
 
@@ -238,7 +239,8 @@ impl ReorderBuffer {
     {
         match self.held.place_of(sequence) {
             Ok((due, place)) => {
-                let held = HeldPacket::copy(self.alloc, sequence, packet)?;
+                let payload = self.spare.copy(packet.payload)?;
+                let held = HeldPacket::new(sequence, packet.timestamp, packet.marker, payload);
                 self.held.put(due, place, held)?;
                 Ok(Pushed::Held)
             }
@@ -291,6 +293,14 @@ impl ReorderBuffer {
         ensures after { self.new ≡ without_first self.old }
     {
         self.held.pop_first()
+    }
+
+    /// Takes back a packet that was given out, for its memory: a later one is copied there. That of 64
+    /// is kept, each of 2048 bytes at most.
+    pub fn give_back(&mut self, packet: HeldPacket)
+        ensures { self.new ≡ self.old }
+    {
+        self.spare.keep(packet.payload);
     }
 
     /// Drops what it holds, and takes any sequence number as the next: for a peer that begins anew,

@@ -1,4 +1,4 @@
-use Rattle.std.proofs.Common.{rules, ◌≡◌, ◌∙◌, ◌<◌, ◌≤◌, ◌++◌, ap, sym, ℕ, List, Option, Some, length, drop, subst, false, [], arith}
+use Rattle.std.proofs.Common.{rules, ◌≡◌, ◌∙◌, ◌<◌, ◌≤◌, ◌++◌, ap, sym, ℕ, List, Option, Some, length, subst, false, [], arith}
 use Rattle.std.proofs.lemmas.List.{append-nil, drop_all}
 use Rattle.h26x_frames.specs.Rtp.{RtpBody, rtp_body}
 use Rattle.h26x_frames.specs.ReorderBuffer.{IsHeldInOrder}

@@ -1,4 +1,4 @@
-use Rattle.std.proofs.Common.{◌≡◌, ◌∙◌, ap, sym, map, ℕ, Some}
+use Rattle.std.proofs.Common.{◌∙◌, ap, sym, map, ℕ, Some}
 use Rattle.std.specs.Option.{option_map}
 use Rattle.h26x_frames.specs.ReorderBuffer.{numbered_packet}
 use Rattle.h26x_frames.specs.Rtp.{RtpBody}
@@ -24,9 +24,9 @@ returns-clause-taken g c =
       room = λ bad. absurd (let h = c.is_want_of_memory.ensures.1 bad in cc);
       stands = due_stands
           (reception old.waiting (option_map numbered_packet old.stray) old.is_anew (open_depacketization (state old.frames.packets.depacketizer) old.frames.packets.expected old.frames.unit (map access_unit_value old.ended.items)) old.numbers old.is_clean old.counts old.frames.packets.run_limit old.frames.unit_limit)
-          c.packet-packet.result c.take_packet-received.result c.pop_first.new.self (at forgot)
+          c.packet-packet.result c.take_packet-received.result c.drop_first.new.self (at forgot)
           c.note.new.self c.note-2.new.self forgot.packets.run_limit forgot.unit_limit
-          c.pop_first.ensures.after (ap at c.forget_marker.ensures ∙ ap marker_forgotten c.take_packet-received.ensures.after) c.note.ensures
+          c.drop_first.ensures (ap at c.forget_marker.ensures ∙ ap marker_forgotten c.take_packet-received.ensures.after) c.note.ensures
           (c.note-2.ensures ∙ counted_as c.args.self.now.counts c.packet-packet.result.1.payload c.take_packet-received.result _ _ (λ some taken. ap (λ (it : FrameReceiver _). it.is_text_given_up) c.forget_marker.ensures ∙ c.take_packet-received.ensures.text some taken))
           (ap (λ (it : FrameReceiver _). it.packets.run_limit) c.forget_marker.ensures ∙ c.take_packet-received.ensures.limit)
           (ap (λ (it : FrameReceiver _). it.unit_limit) c.forget_marker.ensures ∙ c.take_packet-received.ensures.unit_limit);
