@@ -27,7 +27,7 @@ ADDED = {
     "H264Profile": STORED, "H264ProfileIdc": STORED, "H264LevelIdc": STORED, "H264ProfileLevel": STORED,
     "RtpPacket": "Clone Copy PartialEq Eq Hash", "HeldPacket": "Clone PartialEq Eq Hash",
     "AccessUnit": "Clone PartialEq Eq Hash", "OpenAccessUnit": "Clone PartialEq Eq", "OpenUnit": "Clone PartialEq Eq",
-    "OpenText": "Clone", "OpenRun": "Clone", "ReorderBuffer": "Clone", "NumberOrder": "Clone", "Parted": "Clone",
+    "OpenText": "Clone", "OpenRun": "Clone", "ReorderBuffer": "Clone", "SparePayloads": "Clone", "NumberOrder": "Clone", "Parted": "Clone",
     "NotHeld": "Clone PartialEq Eq Hash", "NotHeldReason": "Hash",
     "ReceivedUnit": "Clone PartialEq Eq Hash", "NotPushed": "Clone PartialEq Eq Hash", "NotPushedReason": "Hash",
     "AccessUnitConfig": "Hash", "Counts": "Hash",
