@@ -1,5 +1,5 @@
 -- What a receiver holds stays within its limits.
-use Rattle.std.proofs.Common.{◌≡◌, ap, sym, subst, refl, ℕ, ◌+◌, ◌≤◌, Bool, true, false, cond, List, [], ◌∷◌, length, Option, Some, None, Result, Ok, Err, arith}
+use Rattle.std.proofs.Common.{◌≡◌, ◌∙◌, ap, sym, subst, refl, ℕ, ◌+◌, ◌≤◌, Bool, true, false, cond, List, [], ◌∷◌, length, Option, Some, None, Result, Ok, Err, arith}
 use Rattle.std.specs.Prelude.{◌==◌, ◌||◌, ◌&&◌, nat_lt, nat_le, max}
 use Rattle.std.specs.Option.{option_map}
 use Rattle.std.proofs.lemmas.Bool.Decides.{nat_tests}
@@ -23,7 +23,7 @@ use Rattle.h26x_access_units.specs.JitterBuffer.{JitterState, held_bytes, is_ful
 use Rattle.h26x_access_units.specs.Pushed.{as_pushed}
 use Rattle.h26x_access_units.specs.Reception.{Reception, reception_answer, after_reception, is_behind_stray, pushed_to, anew_of, frames_after, IsDueTaken, IsDrained, none, more, ended_if_anew, ended_if_over, has_no_unit, without_given, without_given_of, fresh_reception, IsNext}
 use Rattle.h26x_access_units.specs.ReceivedUnit.{ReceivedUnitValue}
-use Rattle.h26x_access_units.specs.Limits.{stray_len, IsWithinLimits}
+use Rattle.h26x_access_units.specs.Limits.{stray_len, IsWithinLimits, StaysWithinLimits}
 
 -- a packet adds no more than its bytes
 put_adds : (due : ℕ) (p : ℕ × RtpBody) (held : List (ℕ × RtpBody)) → held_bytes (put_packet due p held) ≤ held_bytes held + length p.1.payload
@@ -237,3 +237,12 @@ pub next_within : (most now : ℕ) (s new : Reception) (unit : Option ReceivedUn
 next_within most now s new unit it is =
     subst (IsWithinLimits most) (sym it.stands)
     (given_within most (ended_if_over it.drained) (over_within most it.drained (drained_within most now (ended_if_anew s) it.drained it.taken (anew_within most s is))))
+
+-- where a packet came and is answered so
+pub pushed_within : (now : ℕ) (s new : Reception) (p : ℕ × RtpBody) (answer : Pushed) → answer ≡ reception_answer s p → new ≡ after_reception now s p answer →
+    StaysWithinLimits (length p.1.payload) s new
+pushed_within now s new p answer is stands = λ most small at. subst (IsWithinLimits most) (sym (stands ∙ ap (after_reception now s p) is)) (push_within most now s p small at)
+
+-- where memory lacks for the next access unit
+pub left_within : (len now : ℕ) (s new : Reception) → IsDrained now (ended_if_anew s) new → StaysWithinLimits len s new
+left_within len now s new taken = λ most small at. drained_within most now (ended_if_anew s) new taken (anew_within most s at)

@@ -1,6 +1,6 @@
 //! A receiver that takes packets as they come and gives out access units.
 
-ghost use Rattle.std.specs.Prelude.{◌≡◌, ◌^◌, ◌<◌, ◌≤◌, ◌↔◌, ◌⊎◌, IsTrue, true, false, not, [], None, Err, IfOk, OnOk, OnErr, IfErr, MatchBool, map};
+ghost use Rattle.std.specs.Prelude.{◌≡◌, ◌^◌, ◌<◌, ◌≤◌, ◌↔◌, ◌⊎◌, IsTrue, true, false, not, [], None, Err, IfOk, OnOk, OnErr, IfErr, MatchBool, length, map};
 ghost use Rattle.std.specs.Option.{option_map};
 ghost use Rattle.h26x_receiver.specs.Sequenced.{is_taken};
 ghost use Rattle.h26x_frames.specs.AccessUnit.{is_text_given_up};
@@ -15,6 +15,7 @@ ghost use Rattle.h26x_access_units.specs.Missing.{missing_numbers, AreExactlyMis
 ghost use Rattle.h26x_access_units.specs.Numbers.{bears_nothing};
 ghost use Rattle.h26x_access_units.specs.ReceivedUnit.{received_unit_value};
 ghost use Rattle.h26x_access_units.specs.Reception.{fresh_reception, reception_answer, after_reception, has_no_unit, ended_if_anew, ended_if_over, restarted, unit_given, without_given, frames_after, IsAnswerTo, IsDueTaken, IsDrained, IsNext};
+ghost use Rattle.h26x_access_units.specs.Limits.{StaysWithinLimits};
 
 use crate::config::AccessUnitConfig;
 use crate::counts::Counts;
@@ -132,6 +133,10 @@ impl<D: RunDepacketizer> AccessUnitReceiver<D> {
         ensures memory { OnErr result (result ≡ Err PacketError.OutOfMemory) }
         ensures kept { let r = ⟦<AccessUnitReceiver<D> as Receives>⟧.reception in
             OnErr result (r self.new ≡ r self.old) }
+
+        // What is held stays within its limits.
+        ensures bounded { let r = ⟦<AccessUnitReceiver<D> as Receives>⟧.reception in
+            StaysWithinLimits (length packet.now.1.payload) (r self.old) (r self.new) }
     {
         if self.waiting.is_far(packet.sequence) {
             return self.push_far(now, packet);
@@ -206,6 +211,10 @@ impl<D: RunDepacketizer> AccessUnitReceiver<D> {
             IfErr result (λ it. r self.new ≡ record (r self.old) {
               counts = counted_reason (r self.old).counts it.reason;
             }) }
+
+        // What is held stays within its limits.
+        ensures bounded { let r = ⟦<AccessUnitReceiver<D> as Receives>⟧.reception in
+            StaysWithinLimits (length packet.payload.items) (r self.old) (r self.new) }
     {
         if self.waiting.is_far(packet.sequence) {
             return match self.push_far(now, &packet.packet()) {
@@ -237,6 +246,8 @@ impl<D: RunDepacketizer> AccessUnitReceiver<D> {
         ensures memory { OnErr result (result ≡ Err PacketError.OutOfMemory) }
         ensures kept { let r = ⟦<AccessUnitReceiver<D> as Receives>⟧.reception in
             OnErr result (r self.new ≡ r self.old) }
+        ensures bounded { let r = ⟦<AccessUnitReceiver<D> as Receives>⟧.reception in
+            StaysWithinLimits 0 (r self.old) (r self.new) }
     {
         let packet = RtpPacket {
             sequence,
@@ -367,6 +378,10 @@ impl<D: RunDepacketizer> AccessUnitReceiver<D> {
         ensures kept { let r = ⟦<AccessUnitReceiver<D> as Receives>⟧.reception in
             OnErr result ((r self.new ≡ r self.old)
             ⊎ IsDrained now (ended_if_anew (r self.old)) (r self.new)) }
+
+        // What is held stays within its limits.
+        ensures bounded { let r = ⟦<AccessUnitReceiver<D> as Receives>⟧.reception in
+            StaysWithinLimits 0 (r self.old) (r self.new) }
     {
         self.end_if_anew()?;
         self.drain(now)?;

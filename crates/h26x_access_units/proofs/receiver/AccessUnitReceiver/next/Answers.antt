@@ -1,8 +1,10 @@
-use Rattle.std.proofs.Common.{◌∙◌, ap, subst, map}
+use Rattle.std.proofs.Common.{◌∙◌, ap, sym, subst, map}
 use Rattle.std.specs.Option.{option_map}
 use Rattle.h26x_frames.specs.ReorderBuffer.{numbered_packet}
 use Rattle.h26x_frames.specs.AccessUnit.{access_unit_value, open_depacketization}
 use Rattle.h26x_access_units.specs.Reception.{Reception, reception, unit_given, without_given, IsDrained}
+use Rattle.h26x_access_units.specs.Limits.{IsWithinLimits}
+use Rattle.h26x_access_units.proofs.LimitLemmas.{left_within, next_within}
 use Rattle.h26x_access_units.proofs.receiver.AccessUnitReceiver.next.Goals as goal
 
 pub returns-clause-next : goal.returns-clause-next
@@ -16,3 +18,27 @@ returns-clause-next g c =
       unit_is = c.give.ensures.unit ∙ ap unit_given c.in_ok-end_if_over.ensures.ended;
       stands = c.give.ensures.after ∙ ap without_given c.in_ok-end_if_over.ensures.ended;
     }
+
+pub returns-clause-bounded : goal.returns-clause-bounded
+returns-clause-bounded g c =
+    let old = c.args.self.now in
+    let s = reception old.waiting (option_map numbered_packet old.stray) old.is_anew (open_depacketization (g.D.RunDepacketizer.state old.frames.packets.depacketizer) old.frames.packets.expected old.frames.unit (map access_unit_value old.ended.items)) old.numbers old.is_clean old.counts old.frames.packets.run_limit old.frames.unit_limit in
+    λ most small at. next_within most c.args.now s _ _ (returns-clause-next g c) at
+
+pub returns-in_err-drain-clause-bounded : goal.returns-in_err-drain-clause-bounded
+returns-in_err-drain-clause-bounded g c =
+    let old = c.args.self.now in
+    let new = c.drain.new.self in
+    let s = reception old.waiting (option_map numbered_packet old.stray) old.is_anew (open_depacketization (g.D.RunDepacketizer.state old.frames.packets.depacketizer) old.frames.packets.expected old.frames.unit (map access_unit_value old.ended.items)) old.numbers old.is_clean old.counts old.frames.packets.run_limit old.frames.unit_limit in
+    let drained = reception new.waiting (option_map numbered_packet new.stray) new.is_anew (open_depacketization (g.D.RunDepacketizer.state new.frames.packets.depacketizer) new.frames.packets.expected new.frames.unit (map access_unit_value new.ended.items)) new.numbers new.is_clean new.counts new.frames.packets.run_limit new.frames.unit_limit in
+    let taken = subst (λ (t : Reception). IsDrained c.args.now t drained) c.in_ok-end_if_anew.ensures.ended c.drain.ensures.drained in
+    left_within 0 c.args.now s drained taken
+
+pub returns-in_err-end_if_over-clause-bounded : goal.returns-in_err-end_if_over-clause-bounded
+returns-in_err-end_if_over-clause-bounded g c =
+    let old = c.args.self.now in
+    let new = c.drain.new.self in
+    let s = reception old.waiting (option_map numbered_packet old.stray) old.is_anew (open_depacketization (g.D.RunDepacketizer.state old.frames.packets.depacketizer) old.frames.packets.expected old.frames.unit (map access_unit_value old.ended.items)) old.numbers old.is_clean old.counts old.frames.packets.run_limit old.frames.unit_limit in
+    let drained = reception new.waiting (option_map numbered_packet new.stray) new.is_anew (open_depacketization (g.D.RunDepacketizer.state new.frames.packets.depacketizer) new.frames.packets.expected new.frames.unit (map access_unit_value new.ended.items)) new.numbers new.is_clean new.counts new.frames.packets.run_limit new.frames.unit_limit in
+    let taken = subst (λ (t : Reception). IsDrained c.args.now t drained) c.in_ok-end_if_anew.ensures.ended c.drain.ensures.drained in
+    λ most small at. subst (IsWithinLimits most) (sym c.in_err-end_if_over.ensures.kept) (left_within 0 c.args.now s drained taken most small at)
