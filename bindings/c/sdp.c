@@ -398,7 +398,9 @@ static void check_streams(struct tally *t)
                 "profile-id=1;tier-flag=0;interop-constraints=gA==;level-id=51;sprop-sps=AHkACwIzgIA=;sprop-pps=AIEAgA==");
     stream_says(t, H26X_H266, "0079000b0233", H26X_SDP_SHORT_SET, NULL);
     stream_says(t, H26X_H266, "0079000a023380", H26X_SDP_NO_PROFILE, NULL);
-    stream_says(t, H26X_H266, "0079000b0233a0", H26X_SDP_GENERAL_CONSTRAINTS, NULL);
+    stream_says(t, H26X_H266, "0079000b0233a0", H26X_SDP_SHORT_SET, NULL);
+    stream_says(t, H26X_H266, "0079000d0233a08000000300000300000300017eff", H26X_OK,
+                "profile-id=1;tier-flag=0;interop-constraints=oIAAAAAAAAAAAX4=;level-id=51;sprop-sps=AHkADQIzoIAAAAMAAAMAAAMAAX7/");
     stream_says(t, 267, "6742c01f", H26X_UNKNOWN_CODEC, NULL);
 }
 

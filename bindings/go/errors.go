@@ -89,8 +89,6 @@ const (
 	ErrSDPShortSet Code = C.H26X_SDP_SHORT_SET
 	// ErrSDPNoProfile: H.266: its sps_ptl_dpb_hrd_params_present_flag is 0.
 	ErrSDPNoProfile Code = C.H26X_SDP_NO_PROFILE
-	// ErrSDPGeneralConstraints: H.266: its gci_present_flag is 1.
-	ErrSDPGeneralConstraints Code = C.H26X_SDP_GENERAL_CONSTRAINTS
 	// ErrSDPNoAnswer: two formats have no configuration in common.
 	ErrSDPNoAnswer Code = C.H26X_SDP_NO_ANSWER
 	// ErrSDPPayloadType: it is no number of 7 bits.

@@ -41,8 +41,7 @@ func ReadFormatParameters(codec Codec, text string) (*FormatParameters, error) {
 // FormatParametersOf is what a sender says of its stream, of the bytes that it begins with (Annex B): profile, tier and
 // level of the first SPS, and the sets before the first slice.
 //
-// Its errors are ErrSDPNoSet, ErrSDPShortSet, ErrSDPNoProfile, ErrSDPGeneralConstraints, ErrUnknownCodec and
-// ErrOutOfMemory.
+// Its errors are ErrSDPNoSet, ErrSDPShortSet, ErrSDPNoProfile, ErrUnknownCodec and ErrOutOfMemory.
 func FormatParametersOf(codec Codec, payload []byte) (*FormatParameters, error) {
 	call := new(format)
 	code := C.h26x_sdp_of_payload(C.uint32_t(codec), at(payload), C.size_t(len(payload)), &call.handle)

@@ -329,7 +329,9 @@ func TestWhatAStreamSays(t *testing.T) {
 			"profile-id=1;tier-flag=0;interop-constraints=gA==;level-id=51;sprop-sps=AHkACwIzgIA=;sprop-pps=AIEAgA==", 0},
 		{h26x.H266, "0079000b0233", "", h26x.ErrSDPShortSet},
 		{h26x.H266, "0079000a023380", "", h26x.ErrSDPNoProfile},
-		{h26x.H266, "0079000b0233a0", "", h26x.ErrSDPGeneralConstraints},
+		{h26x.H266, "0079000b0233a0", "", h26x.ErrSDPShortSet},
+		{h26x.H266, "0079000d0233a08000000300000300000300017eff",
+			"profile-id=1;tier-flag=0;interop-constraints=oIAAAAAAAAAAAX4=;level-id=51;sprop-sps=AHkADQIzoIAAAAMAAAMAAAMAAX7/", 0},
 		{267, "6742c01f", "", h26x.ErrUnknownCodec},
 	} {
 		f, err := h26x.FormatParametersOf(one.codec, some(one.payload))

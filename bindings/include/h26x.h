@@ -116,7 +116,6 @@ enum h26x_code {
     H26X_SDP_NO_SET = 33,             /* no parameter set that says a profile stands before the first slice */
     H26X_SDP_SHORT_SET = 34,          /* it ends before it says one */
     H26X_SDP_NO_PROFILE = 35,         /* H.266: its sps_ptl_dpb_hrd_params_present_flag is 0 */
-    H26X_SDP_GENERAL_CONSTRAINTS = 36, /* H.266: its gci_present_flag is 1 */
     H26X_SDP_NO_ANSWER = 37,          /* two formats have no configuration in common */
     H26X_SDP_PAYLOAD_TYPE = 38,       /* no number of 7 bits */
     H26X_SDP_ENCODING_NAME = 39,      /* none of H264, H265 and H266 */

@@ -80,8 +80,6 @@ const char *h26x_strerror(uint32_t code)
         return "the parameter set is too short";
     case H26X_SDP_NO_PROFILE:
         return "the parameter set says no profile";
-    case H26X_SDP_GENERAL_CONSTRAINTS:
-        return "the parameter set has general constraints";
     case H26X_SDP_NO_ANSWER:
         return "the two formats have no configuration in common";
     case H26X_SDP_PAYLOAD_TYPE:

@@ -35,7 +35,9 @@ ADDED = {
     "CodecParameters": "Clone PartialEq Eq Hash", "FormatParameters": "Clone PartialEq Eq Hash",
     "OtherParameter": "Clone PartialEq Eq Hash", "H264Parameter": "PartialOrd Ord Hash",
     "H265Parameter": "PartialOrd Ord Hash", "H266Parameter": "PartialOrd Ord Hash",
+    "LevelSets": "Clone PartialEq Eq Hash", "InteropConstraints": "Clone PartialEq Eq Hash",
     "Fault": "Hash", "ParametersError": "Hash", "UnitsError": "Hash", "RtpMapError": "Hash",
+    "ConstraintsError": "Hash", "LevelSetsError": "Hash",
 }
 LISTED = {"H264Parameter", "H265Parameter", "H266Parameter"}
 GROWING = {"CodecExtra", "Fault"} | LISTED

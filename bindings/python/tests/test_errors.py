@@ -43,7 +43,6 @@ CODES = {
     33: h26x.SdpNoSet,
     34: h26x.SdpShortSet,
     35: h26x.SdpNoProfile,
-    36: h26x.SdpGeneralConstraints,
     37: h26x.SdpNoAnswer,
     38: h26x.SdpPayloadType,
     39: h26x.SdpEncodingName,

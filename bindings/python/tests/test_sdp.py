@@ -22,7 +22,6 @@ from h26x import (
     SdpClockRate,
     SdpEmptyUnit,
     SdpEncodingName,
-    SdpGeneralConstraints,
     SdpNoProfile,
     SdpNoSet,
     SdpNotANumber,
@@ -444,6 +443,12 @@ def test_an_offer() -> None:
             "profile-id=1;tier-flag=0;interop-constraints=gA==;level-id=51;sprop-sps=AHkACwIzgIA=;"
             "sprop-pps=AIEAgA==",
         ),
+        (
+            H266,
+            "0079000d0233a08000000300000300000300017eff",
+            "profile-id=1;tier-flag=0;interop-constraints=oIAAAAAAAAAAAX4=;level-id=51;"
+            "sprop-sps=AHkADQIzoIAAAAMAAAMAAAMAAX7/",
+        ),
     ],
 )
 def test_what_a_stream_says(codec: Codec, payload: str, wanted: str) -> None:
@@ -462,7 +467,7 @@ def test_what_a_stream_says(codec: Codec, payload: str, wanted: str) -> None:
         (H265, "000001 4401c172b46240", SdpNoSet),
         (H266, "0079000b0233", SdpShortSet),
         (H266, "0079000a023380", SdpNoProfile),
-        (H266, "0079000b0233a0", SdpGeneralConstraints),
+        (H266, "0079000b0233a0", SdpShortSet),
     ],
 )
 def test_what_a_stream_does_not_say(codec: Codec, payload: str, fault: Type[Error]) -> None:

@@ -33,7 +33,6 @@ fails_stream_or s.OutOfMemory read is = inl refl
 fails_stream_or s.NoParameterSet read is = inr is
 fails_stream_or s.ShortParameterSet read is = inr is
 fails_stream_or s.NoProfile read is = inr is
-fails_stream_or s.GeneralConstraints read is = inr is
 
 -- what is read of a text is that of its codec, or memory lacked
 abbrev pub ReadOr : Result SdpEndpoint Refused → Codec → List ℕ → Type 0

@@ -68,7 +68,6 @@ abbrev pub stream_code : StreamError → ℕ
 stream_code s.NoParameterSet = 33
 stream_code s.ShortParameterSet = 34
 stream_code s.NoProfile = 35
-stream_code s.GeneralConstraints = 36
 stream_code s.OutOfMemory = out_of_memory
 
 -- why a text is no payload type of one of the codecs

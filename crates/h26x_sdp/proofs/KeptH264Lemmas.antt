@@ -28,7 +28,7 @@ use Rattle.h26x_sdp.proofs.AnswersH264Lemmas.{long_values, agreed_common, id_of_
 use Rattle.h26x_sdp.proofs.KeptLemmas.{all_at, both_true, answer_kept, one_part_without_marks, not_true, symmetric_again, SameTerms, is_sets, row_again, below_at}
 
 -- what passes at each digit passes at each byte of hexadecimal text
-encoded_all : (test : ℕ → Bool) (bytes : List ℕ) → list_all test lower_digits ≡ true → IsBytes bytes → list_all test (encode_lower bytes) ≡ true
+pub encoded_all : (test : ℕ → Bool) (bytes : List ℕ) → list_all test lower_digits ≡ true → IsBytes bytes → list_all test (encode_lower bytes) ≡ true
 unfolding encode_with
 encoded_all test [] digits are = refl
 encoded_all test (b ∷ rest) digits are =

@@ -8,6 +8,8 @@ pub mod AgainLemmas
 pub mod RowLemmas
 pub mod FixedLemmas
 pub mod UnitsLemmas
+pub mod ConstraintsLemmas
+pub mod LevelSetsLemmas
 pub mod RtpMapLemmas
 pub mod AnswerLemmas
 pub mod AnswersLemmas

@@ -12,79 +12,100 @@ use Rattle.base64.specs.Rfc4648.{encode_symbols, padding_len}
 use Rattle.base64.specs.declared.decode.DecodeError.{DecodeError}
 use Rattle.base64.proofs.EngineFacts.{decode_of-encode_of, decode_of_strict}
 use Rattle.h26x_sdp.specs.declared.error.UnitsError.{UnitsError}
-use Rattle.h26x_sdp.specs.Units.{is_comma, pieces, units_text, unit_unless_empty, unit_in, unit_before, units_from, sprop_units, AreSpropUnits}
+use Rattle.h26x_sdp.specs.Units.{is_mark_of, pieces_at, pieces, units_text, unit_unless_empty, unit_in, unit_before, units_from, sprop_units, AreSpropUnits}
 use Rattle.h26x_sdp.proofs.PartLemmas.{by_test, first_at}
 
--- a text without a comma is one piece
-no_piece_ends : (text : List ℕ) → position_or_len is_comma text ≡ length text → pieces text ≡ text ∷ []
-no_piece_ends [] e = refl
-no_piece_ends (byte ∷ rest) e = by_test (is_comma byte)
-    (λ comma.
-    let none : position_or_len is_comma (byte ∷ rest) ≡ 0 = ap (λ t. cond (not t) (1 + position_or_len is_comma rest) 0) comma in
+-- a text without a mark is one piece
+no_piece_ends : (mark : ℕ) (text : List ℕ) → position_or_len (is_mark_of mark) text ≡ length text → pieces_at mark text ≡ text ∷ []
+no_piece_ends mark [] e = refl
+no_piece_ends mark (byte ∷ rest) e = by_test (is_mark_of mark byte)
+    (λ found.
+    let none : position_or_len (is_mark_of mark) (byte ∷ rest) ≡ 0 = ap (λ t. cond (not t) (1 + position_or_len (is_mark_of mark) rest) 0) found in
     absurd (omega (arith, e, none)))
     (λ other.
-    let more : position_or_len is_comma (byte ∷ rest) ≡ 1 + position_or_len is_comma rest = ap (λ t. cond (not t) (1 + position_or_len is_comma rest) 0) other in
-    slice_split-cons_no is_comma byte rest other ∙ ap (onto_first byte) (no_piece_ends rest (omega (arith, e, more))))
+    let more : position_or_len (is_mark_of mark) (byte ∷ rest) ≡ 1 + position_or_len (is_mark_of mark) rest = ap (λ t. cond (not t) (1 + position_or_len (is_mark_of mark) rest) 0) other in
+    slice_split-cons_no (is_mark_of mark) byte rest other ∙ ap (onto_first byte) (no_piece_ends mark rest (omega (arith, e, more))))
 
--- the pieces of a text round the comma that `memchr` finds
-pub piece_at : (text : List ℕ) (k : ℕ) → k < length text → IsFirstByte (is_byte 44) text (Some k) → pieces text ≡ take k text ∷ pieces (drop (k + 1) text)
-piece_at text k within first =
-    let place : k ≡ position_or_len is_comma text = first_at 44 text (Some k) first in
-    slice_split_first is_comma text 0 (omega (arith, place, within))
-    ∙ ap (λ (n : ℕ). take n text ∷ pieces (drop (n + 1) text)) (sym place)
+-- the pieces of a text round the mark that `memchr` finds
+pub piece_at : (mark : ℕ) (text : List ℕ) (k : ℕ) → k < length text → IsFirstByte (is_byte mark) text (Some k) → pieces_at mark text ≡ take k text ∷ pieces_at mark (drop (k + 1) text)
+piece_at mark text k within first =
+    let place : k ≡ position_or_len (is_mark_of mark) text = first_at mark text (Some k) first in
+    slice_split_first (is_mark_of mark) text 0 (omega (arith, place, within))
+    ∙ ap (λ (n : ℕ). take n text ∷ pieces_at mark (drop (n + 1) text)) (sym place)
 
-pub piece_alone : (text : List ℕ) → IsFirstByte (is_byte 44) text None → pieces text ≡ text ∷ []
-piece_alone text first = no_piece_ends text (sym (first_at 44 text None first))
+pub piece_alone : (mark : ℕ) (text : List ℕ) → IsFirstByte (is_byte mark) text None → pieces_at mark text ≡ text ∷ []
+piece_alone mark text first = no_piece_ends mark text (sym (first_at mark text None first))
 
--- no byte of base64 is a comma
-abbrev no_comma : ℕ → Bool
-no_comma byte = not (is_comma byte)
+-- bytes that are none of a mark
+abbrev pub no_mark : ℕ → ℕ → Bool
+no_mark mark byte = not (is_mark_of mark byte)
 
-plain_symbol : (t : List ℕ) → list_all no_comma t ≡ true → (i : ℕ) → no_comma (get_or t i 0) ≡ true
-plain_symbol [] h i = refl
-plain_symbol (x ∷ xs) h zero = (and_parts (no_comma x) (list_all no_comma xs) h).0
-plain_symbol (x ∷ xs) h (suc i) = plain_symbol xs (and_parts (no_comma x) (list_all no_comma xs) h).1 i
+-- a mark that is no byte of base64
+pub record IsMark (mark : ℕ) : Type 0 where
+  same : is_mark_of mark mark ≡ true
+  zero_none : no_mark mark 0 ≡ true
+  padding : no_mark mark 61 ≡ true
+  table : list_all (no_mark mark) standard.encode_table ≡ true
 
-plain_places : (t : List ℕ) → list_all no_comma t ≡ true → (places rest : List ℕ) → list_all no_comma rest ≡ true → list_all no_comma (map (λ i. get_or t i 0) places ++ rest) ≡ true
-plain_places t h [] rest r = r
-plain_places t h (i ∷ places) rest r =
-    and_from (no_comma (get_or t i 0)) (list_all no_comma (map (λ k. get_or t k 0) places ++ rest)) (plain_symbol t h i) (plain_places t h places rest r)
+pub comma : IsMark 44
+comma = record { same = refl; zero_none = refl; padding = refl; table = refl }
 
-plain_symbols : (t m : List ℕ) → list_all no_comma t ≡ true → list_all no_comma (encode_symbols t m) ≡ true
+pub colon : IsMark 58
+colon = record { same = refl; zero_none = refl; padding = refl; table = refl }
+
+plain_symbol : (mark : ℕ) (t : List ℕ) → no_mark mark 0 ≡ true → list_all (no_mark mark) t ≡ true → (i : ℕ) → no_mark mark (get_or t i 0) ≡ true
+plain_symbol mark [] z h i = z
+plain_symbol mark (x ∷ xs) z h zero = (and_parts (no_mark mark x) (list_all (no_mark mark) xs) h).0
+plain_symbol mark (x ∷ xs) z h (suc i) = plain_symbol mark xs z (and_parts (no_mark mark x) (list_all (no_mark mark) xs) h).1 i
+
+plain_places : (mark : ℕ) (t : List ℕ) → no_mark mark 0 ≡ true → list_all (no_mark mark) t ≡ true → (places rest : List ℕ) → list_all (no_mark mark) rest ≡ true → list_all (no_mark mark) (map (λ i. get_or t i 0) places ++ rest) ≡ true
+plain_places mark t z h [] rest r = r
+plain_places mark t z h (i ∷ places) rest r =
+    and_from (no_mark mark (get_or t i 0)) (list_all (no_mark mark) (map (λ k. get_or t k 0) places ++ rest)) (plain_symbol mark t z h i) (plain_places mark t z h places rest r)
+
+plain_symbols : (mark : ℕ) (t m : List ℕ) → no_mark mark 0 ≡ true → list_all (no_mark mark) t ≡ true → list_all (no_mark mark) (encode_symbols t m) ≡ true
 unfolding encode_symbols
-plain_symbols t [] h = refl
-plain_symbols t (a ∷ []) h = plain_places t h ((a / 4) ∷ (a % 4 * 16) ∷ []) [] refl
-plain_symbols t (a ∷ b ∷ []) h = plain_places t h ((a / 4) ∷ (a % 4 * 16 + b / 16) ∷ (b % 16 * 4) ∷ []) [] refl
-plain_symbols t (a ∷ b ∷ c ∷ rest) h =
-    plain_places t h ((a / 4) ∷ (a % 4 * 16 + b / 16) ∷ (b % 16 * 4 + c / 64) ∷ (c % 64) ∷ []) (encode_symbols t rest) (plain_symbols t rest h)
+plain_symbols mark t [] z h = refl
+plain_symbols mark t (a ∷ []) z h = plain_places mark t z h ((a / 4) ∷ (a % 4 * 16) ∷ []) [] refl
+plain_symbols mark t (a ∷ b ∷ []) z h = plain_places mark t z h ((a / 4) ∷ (a % 4 * 16 + b / 16) ∷ (b % 16 * 4) ∷ []) [] refl
+plain_symbols mark t (a ∷ b ∷ c ∷ rest) z h =
+    plain_places mark t z h ((a / 4) ∷ (a % 4 * 16 + b / 16) ∷ (b % 16 * 4 + c / 64) ∷ (c % 64) ∷ []) (encode_symbols t rest) (plain_symbols mark t rest z h)
 
-plain_padding : (n : ℕ) → list_all no_comma (replicate n 61) ≡ true
-plain_padding zero = refl
-plain_padding (suc n) = plain_padding n
+plain_padding : (mark : ℕ) → no_mark mark 61 ≡ true → (n : ℕ) → list_all (no_mark mark) (replicate n 61) ≡ true
+plain_padding mark p zero = refl
+plain_padding mark p (suc n) = and_from (no_mark mark 61) (list_all (no_mark mark) (replicate n 61)) p (plain_padding mark p n)
 
-plain_encoding : (unit : List ℕ) → list_all no_comma (encode_of standard unit) ≡ true
-plain_encoding unit =
-    list_all-append no_comma (encode_symbols standard.encode_table unit) (replicate (padding_len (length unit)) 61)
-    ∙ and_from _ _ (plain_symbols standard.encode_table unit refl) (plain_padding (padding_len (length unit)))
+pub plain_encoding : (mark : ℕ) → IsMark mark → (unit : List ℕ) → list_all (no_mark mark) (encode_of standard unit) ≡ true
+plain_encoding mark is unit =
+    list_all-append (no_mark mark) (encode_symbols standard.encode_table unit) (replicate (padding_len (length unit)) 61)
+    ∙ and_from _ _ (plain_symbols mark standard.encode_table unit is.zero_none is.table) (plain_padding mark is.padding (padding_len (length unit)))
 
--- such texts, alone and before a comma
-one_piece : (text : List ℕ) → list_all no_comma text ≡ true → pieces text ≡ text ∷ []
-one_piece [] h = refl
-one_piece (byte ∷ rest) h =
-    let both = and_parts (no_comma byte) (list_all no_comma rest) h in
-    slice_split-cons_no is_comma byte rest (not-true (is_comma byte) both.0) ∙ ap (onto_first byte) (one_piece rest both.1)
+-- such texts, alone and before a mark
+one_piece : (mark : ℕ) (text : List ℕ) → list_all (no_mark mark) text ≡ true → pieces_at mark text ≡ text ∷ []
+one_piece mark [] h = refl
+one_piece mark (byte ∷ rest) h =
+    let both = and_parts (no_mark mark byte) (list_all (no_mark mark) rest) h in
+    slice_split-cons_no (is_mark_of mark) byte rest (not-true (is_mark_of mark byte) both.0) ∙ ap (onto_first byte) (one_piece mark rest both.1)
 
-first_piece : (text more : List ℕ) → list_all no_comma text ≡ true → pieces (text ++ 44 ∷ more) ≡ text ∷ pieces more
-first_piece [] more h = slice_split-cons_yes is_comma 44 more refl
-first_piece (byte ∷ rest) more h =
-    let both = and_parts (no_comma byte) (list_all no_comma rest) h in
-    slice_split-cons_no is_comma byte (rest ++ 44 ∷ more) (not-true (is_comma byte) both.0) ∙ ap (onto_first byte) (first_piece rest more both.1)
+first_piece : (mark : ℕ) → is_mark_of mark mark ≡ true → (text more : List ℕ) → list_all (no_mark mark) text ≡ true → pieces_at mark (text ++ mark ∷ more) ≡ text ∷ pieces_at mark more
+first_piece mark is [] more h = slice_split-cons_yes (is_mark_of mark) mark more is
+first_piece mark is (byte ∷ rest) more h =
+    let both = and_parts (no_mark mark byte) (list_all (no_mark mark) rest) h in
+    slice_split-cons_no (is_mark_of mark) byte (rest ++ mark ∷ more) (not-true (is_mark_of mark byte) both.0) ∙ ap (onto_first byte) (first_piece mark is rest more both.1)
+
+-- the pieces of texts with marks between them
+pub joined_pieces : (mark : ℕ) → is_mark_of mark mark ≡ true → (text : List ℕ) (texts : List (List ℕ)) → AllByRecursion (λ t. list_all (no_mark mark) t ≡ true) (text ∷ texts)
+    → pieces_at mark (join_with_byte mark (text ∷ texts)) ≡ text ∷ texts
+joined_pieces mark is text [] h = one_piece mark text h.0
+joined_pieces mark is text (next ∷ texts) h =
+    first_piece mark is text (join_with_byte mark (next ∷ texts)) h.0
+    ∙ ap (λ (l : List (List ℕ)). text ∷ l) (joined_pieces mark is next texts h.1)
 
 -- the pieces of what is written
 written_pieces : (unit : List ℕ) (units : List (List ℕ)) → pieces (units_text (unit ∷ units)) ≡ map (encode_of standard) (unit ∷ units)
-written_pieces unit [] = one_piece (encode_of standard unit) (plain_encoding unit)
+written_pieces unit [] = one_piece 44 (encode_of standard unit) (plain_encoding 44 comma unit)
 written_pieces unit (next ∷ units) =
-    first_piece (encode_of standard unit) (units_text (next ∷ units)) (plain_encoding unit)
+    first_piece 44 refl (encode_of standard unit) (units_text (next ∷ units)) (plain_encoding 44 comma unit)
     ∙ ap (λ (l : List (List ℕ)). encode_of standard unit ∷ l) (written_pieces next units)
 
 unit_kept : (place : ℕ) (unit : List ℕ) → 0 < length unit → unit_unless_empty place (Ok unit) ≡ Ok unit
@@ -124,9 +145,9 @@ bytes_cut : (t : Bool) (byte : ℕ) (ps : List (List ℕ)) → byte < 256 → Al
 bytes_cut true byte ps b h = (bytes_none, h)
 bytes_cut false byte ps b h = bytes_onto byte ps b h
 
-bytes_pieces : (text : List ℕ) → IsBytes text → AllByRecursion IsBytes (pieces text)
-bytes_pieces [] h = (bytes_none, tt)
-bytes_pieces (byte ∷ rest) h = bytes_cut (is_comma byte) byte (pieces rest) (bytes_first byte rest h) (bytes_pieces rest (bytes_rest byte rest h))
+pub bytes_pieces : (mark : ℕ) (text : List ℕ) → IsBytes text → AllByRecursion IsBytes (pieces_at mark text)
+bytes_pieces mark [] h = (bytes_none, tt)
+bytes_pieces mark (byte ∷ rest) h = bytes_cut (is_mark_of mark byte) byte (pieces_at mark rest) (bytes_first byte rest h) (bytes_pieces mark rest (bytes_rest byte rest h))
 
 -- what is read was written so
 unit_decoded : (place : ℕ) (r : Result (List ℕ) DecodeError) (unit : List ℕ) → unit_unless_empty place r ≡ Ok unit → r ≡ Ok unit
@@ -151,7 +172,7 @@ read_pieces place (p ∷ ps) units bytes h =
 
 pub units_read : (text : List ℕ) (units : List (List ℕ)) → IsBytes text → sprop_units text ≡ Ok units → units_text units ≡ text
 units_read text units bytes h =
-    ap (join_with_byte 44) (read_pieces 0 (pieces text) units (bytes_pieces text bytes) h) ∙ join_with_byte-slice_split 44 text
+    ap (join_with_byte 44) (read_pieces 0 (pieces text) units (bytes_pieces 44 text bytes) h) ∙ join_with_byte-slice_split 44 text
 
 -- units that are read one by one: those before, and those of the pieces that are left
 abbrev pub behind_units : List (List ℕ) → Result (List (List ℕ)) UnitsError → Result (List (List ℕ)) UnitsError

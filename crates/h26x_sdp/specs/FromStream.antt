@@ -1,8 +1,6 @@
 -- What a stream says of itself: the parameters that the sets before its first slice give (RFC 6184,
 -- section 8.1; RFC 7798, section 7.1; RFC 9328, section 7.2).
-use Rattle.std.specs.Prelude.{ℕ, ◌==◌, nat_le, Bool, ◌&&◌, if◌then◌else◌, List, [], ◌∷◌, length, take, drop, slice_index, decimal, Option, Some, None, Result, Ok, Err}
-use Rattle.base64.specs.Engines.{standard}
-use Rattle.base64.specs.GeneralPurpose.{encode_of}
+use Rattle.std.specs.Prelude.{ℕ, ◌+◌, ◌==◌, nat_le, Bool, ◌&&◌, if◌then◌else◌, List, [], ◌∷◌, length, take, drop, slice_index, decimal, Option, Some, None, Result, Ok, Err}
 use Rattle.hex.specs.Hex.{encode_upper}
 use Rattle.h26x_core.specs.Word.{field}
 use Rattle.h26x_core.specs.H265Unit as h265_unit
@@ -14,9 +12,10 @@ use Rattle.h26x_sdp.specs.declared.h264.H264Parameter.TheVariants as h264
 use Rattle.h26x_sdp.specs.declared.h265.H265Parameter.TheVariants as h265
 use Rattle.h26x_sdp.specs.declared.h266.H266Parameter.TheVariants as h266
 use Rattle.h26x_sdp.specs.declared.error.StreamError.{StreamError}
-use Rattle.h26x_sdp.specs.declared.error.StreamError.TheVariants.{NoParameterSet, ShortParameterSet, NoProfile, GeneralConstraints}
+use Rattle.h26x_sdp.specs.declared.error.StreamError.TheVariants.{NoParameterSet, ShortParameterSet, NoProfile}
 use Rattle.h26x_sdp.specs.UnitTypes.{is_of, one_type, h264_sets, h265_vps, h265_sps, h265_pps, h266_vps, h266_sps, h266_pps}
 use Rattle.h26x_sdp.specs.Units.{units_text}
+use Rattle.h26x_sdp.specs.Constraints.{has_general, constraints_len, constraints_text}
 use Rattle.h26x_sdp.specs.Reading.{FormatParameters, none_of, with_one}
 use Rattle.h26x_sdp.specs.H264Rows as h264_rows
 use Rattle.h26x_sdp.specs.H265Rows as h265_rows
@@ -144,23 +143,32 @@ h265_of_units units =
     (h265_with_profile profile (none_of (length h265_rows.rows))))))
     (h265_profile units)
 
--- the first five bytes of an SPS, where its profile_tier_level( ) begins behind two of them, and no
--- general constraints follow: sps_ptl_dpb_hrd_params_present_flag is 1, and gci_present_flag is 0
--- (Rec. ITU-T H.266, sections 7.3.2.4, 7.3.3.1 and 7.3.3.2)
-abbrev pub with_plain_profile : Result (List ℕ) StreamError → Result (List ℕ) StreamError
-with_plain_profile (Err error) = Err error
-with_plain_profile (Ok bytes) =
+-- the bytes of an SPS as far as its constraints: its profile_tier_level( ) begins behind two of them,
+-- where sps_ptl_dpb_hrd_params_present_flag is 1, and the constraints behind two more; what they say
+-- of their own length stands in their first eleven (Rec. ITU-T H.266, sections 7.3.2.4, 7.3.3.1 and
+-- 7.3.3.2)
+abbrev pub with_general : Option (List ℕ) → Result (List ℕ) StreamError →
+    Result (List ℕ) StreamError
+with_general sps (Err error) = Err error
+with_general sps (Ok bytes) = set_bytes 2 (4 + constraints_len (drop 4 bytes)) sps
+
+abbrev pub with_constraints : Option (List ℕ) → Result (List ℕ) StreamError →
+    Result (List ℕ) StreamError
+with_constraints sps (Err error) = Err error
+with_constraints sps (Ok bytes) =
     if field (slice_index bytes 1) 0 0 == 0 then Err NoProfile
-    else (if field (slice_index bytes 4) 5 5 == 0 then Ok bytes else Err GeneralConstraints)
+    else (if has_general (drop 4 bytes) then with_general sps (set_bytes 2 15 sps) else Ok bytes)
+
+abbrev pub h266_profile_in : Option (List ℕ) → Result (List ℕ) StreamError
+h266_profile_in sps = with_constraints sps (set_bytes 2 5 sps)
 
 abbrev pub h266_profile : List (List ℕ) → Result (List ℕ) StreamError
-h266_profile units = with_plain_profile (set_bytes 2 5 (first_set h266_sps units))
+h266_profile units = h266_profile_in (first_set h266_sps units)
 
--- the parameters of those five bytes; the fifth is the whole of what the constraints say
+-- the parameters of those bytes
 abbrev pub h266_with_profile : List ℕ → FormatParameters → FormatParameters
 h266_with_profile profile it =
-    with_one (h266_rows.row_place h266.InteropConstraints)
-    (encode_of standard (take 1 (drop 4 profile)))
+    with_one (h266_rows.row_place h266.InteropConstraints) (constraints_text (drop 4 profile))
     (with_one (h266_rows.row_place h266.LevelId) (decimal (slice_index profile 3))
     (with_one (h266_rows.row_place h266.TierFlag) (decimal (field (slice_index profile 2) 0 0))
     (with_one (h266_rows.row_place h266.ProfileId) (decimal (field (slice_index profile 2) 7 1))

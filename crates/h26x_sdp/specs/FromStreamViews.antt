@@ -3,7 +3,7 @@ use Rattle.std.specs.Prelude.{◌≡◌, ℕ, List, map, Option, Result, Err}
 use Rattle.std.specs.Option.{option_map}
 use Rattle.std.specs.Borrow.{Bor}
 use Rattle.h26x_sdp.specs.declared.error.StreamError.{StreamError}
-use Rattle.h26x_sdp.specs.declared.error.StreamError.TheVariants.{NoParameterSet, ShortParameterSet, NoProfile, GeneralConstraints, OutOfMemory}
+use Rattle.h26x_sdp.specs.declared.error.StreamError.TheVariants.{NoParameterSet, ShortParameterSet, NoProfile, OutOfMemory}
 
 abbrev pub slices_view : List (Bor (List ℕ)) → List (List ℕ)
 slices_view units = map (λ unit. unit.now) units
@@ -17,4 +17,3 @@ FailsStream OutOfMemory read = Unit {0}
 FailsStream NoParameterSet read = read ≡ Err NoParameterSet
 FailsStream ShortParameterSet read = read ≡ Err ShortParameterSet
 FailsStream NoProfile read = read ≡ Err NoProfile
-FailsStream GeneralConstraints read = read ≡ Err GeneralConstraints

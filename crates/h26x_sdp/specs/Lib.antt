@@ -13,6 +13,10 @@ pub mod H266Rows
 pub mod UnitTypes
 pub mod Units
 pub mod UnitsViews
+pub mod LevelSets
+pub mod LevelSetsViews
+pub mod Constraints
+pub mod ConstraintsViews
 pub mod FromStream
 pub mod FromStreamViews
 pub mod RtpMaps

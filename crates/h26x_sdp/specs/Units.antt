@@ -12,12 +12,16 @@ use Rattle.h26x_sdp.specs.UnitTypes.{of_types}
 use Rattle.h26x_sdp.specs.Tables.{ParameterRow, row_at}
 use Rattle.h26x_sdp.specs.Reading.{FormatParameters, value_at}
 
-abbrev pub is_comma : ℕ → Bool
-is_comma byte = byte == 44
+abbrev pub is_mark_of : ℕ → ℕ → Bool
+is_mark_of mark byte = byte == mark
 
--- a text cut at each comma
+-- a text cut at each byte of a value
+abbrev pub pieces_at : ℕ → List ℕ → List (List ℕ)
+pieces_at mark text = slice_split (is_mark_of mark) text
+
+-- at each comma
 abbrev pub pieces : List ℕ → List (List ℕ)
-pieces text = slice_split is_comma text
+pieces text = pieces_at 44 text
 
 -- units as they are written
 abbrev pub units_text : List (List ℕ) → List ℕ

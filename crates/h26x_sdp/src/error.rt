@@ -117,11 +117,6 @@ pub enum StreamError {
     #[error("the parameter set says no profile")]
     NoProfile,
 
-    /// The first SPS of H.266 has general constraints (gci_present_flag is 1), which this crate
-    /// doesn't read.
-    #[error("the parameter set has general constraints")]
-    GeneralConstraints,
-
     /// The allocator had no memory.
     #[error("out of memory")]
     OutOfMemory,
@@ -146,5 +141,67 @@ impl<T: Drop> From<AllocFailed<T>> for StreamError {
 
     fn from(_e: AllocFailed<T>) -> StreamError {
         StreamError::OutOfMemory
+    }
+}
+
+/// Why a text or bytes are no constraints of H.266.
+#[derive(Debug, Clone, Copy, PartialEq, Eq, Error)]
+pub enum ConstraintsError {
+    /// The text is no base64 (RFC 4648, section 4).
+    #[error("the constraints are no base64")]
+    NotBase64,
+
+    /// They end before they say all.
+    #[error("the constraints are too short")]
+    Short,
+
+    /// Bytes stand behind them.
+    #[error("bytes stand behind the constraints")]
+    Long,
+
+    /// The allocator had no memory.
+    #[error("out of memory")]
+    OutOfMemory,
+}
+
+/// Why a text is no parameter sets of levels. A refused call changes nothing.
+#[derive(Debug, Clone, Copy, PartialEq, Eq, Error)]
+pub enum LevelSetsError {
+    /// The profile and level at this place, counted from 0, isn't six hexadecimal digits.
+    #[error("level {place} is not six digits")]
+    NotHexadecimal { place: usize },
+
+    /// No sets stand behind the profile and level at this place.
+    #[error("level {place} has no sets")]
+    NoSets { place: usize },
+
+    /// The sets of the level at this place have this fault.
+    #[error("the sets of level {place} are refused")]
+    Sets { place: usize, fault: UnitsError },
+
+    /// The allocator had no memory.
+    #[error("out of memory")]
+    OutOfMemory,
+}
+
+impl From<AllocError> for LevelSetsError {
+    ghost use Rattle.std.specs.Prelude.{◌≡◌};
+    ghost use Rattle.h26x_sdp.specs.declared.error.LevelSetsError.TheVariants.{OutOfMemory};
+
+    ghost from_gives = { λ _ e. e ≡ OutOfMemory };
+
+    fn from(_e: AllocError) -> LevelSetsError {
+        LevelSetsError::OutOfMemory
+    }
+}
+
+impl<T: Drop> From<AllocFailed<T>> for LevelSetsError {
+    ghost use Rattle.std.specs.Prelude.{◌≡◌};
+    ghost use Rattle.h26x_sdp.specs.declared.error.LevelSetsError.TheVariants.{OutOfMemory};
+
+    ghost from_gives = { λ _ e. e ≡ OutOfMemory };
+
+    fn from(_e: AllocFailed<T>) -> LevelSetsError {
+        LevelSetsError::OutOfMemory
     }
 }

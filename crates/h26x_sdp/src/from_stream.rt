@@ -1,7 +1,7 @@
 //! What a stream says of itself: the parameters of a sender's offer, out of the sets before the first
 //! slice.
 
-ghost use Rattle.std.specs.Prelude.{◌≡◌, ◌<◌, ℕ, List, Ok, IfOk, OnOk, MatchResult, length, drop, decimal};
+ghost use Rattle.std.specs.Prelude.{◌≡◌, ◌<◌, ◌≤◌, ℕ, List, Ok, IfOk, OnOk, MatchResult, length, drop, decimal};
 ghost use Rattle.h26x_cut.specs.Cutting.{AreUnits};
 ghost use Rattle.h26x_cut.specs.declared.ZeroRule.TheVariants.{All, AtMostThree};
 ghost use Rattle.hex.specs.Hex.{encode_upper};
@@ -10,6 +10,7 @@ ghost use Rattle.h26x_sdp.specs.FromStreamViews.{slices_view, set_view, FailsStr
 ghost use Rattle.h26x_sdp.specs.UnitsViews.{units_view};
 
 use crate::codec::{CodecParameter, CodecParameters};
+use crate::constraints::{constraints_len, has_general};
 use crate::error::StreamError;
 use crate::h264::{H264Parameter, H264Parameters};
 use crate::h265::{H265Parameter, H265Parameters};
@@ -279,31 +280,56 @@ pub fn h265_of_units(alloc: Global, units: &[&[u8]]) -> Result<H265Parameters, S
     Ok(it)
 }
 
-/// The first five bytes of the first SPS of H.266, whose last three are of profile, tier, level and
-/// constraints (Rec. ITU-T H.266, sections 7.3.2.4 and 7.3.3.1).
+/// The bytes of the first SPS of H.266 as far as its constraints: behind two of them profile, tier and
+/// level stand, and behind four the constraints (Rec. ITU-T H.266, sections 7.3.2.4 and 7.3.3.1).
 fn h266_profile(alloc: Global, units: &[&[u8]]) -> Result<Vec<u8>, StreamError>
     ensures bytes { MatchResult result
         (λ bytes. spec.h266_profile (slices_view units.now) ≡ Ok bytes.items)
         (λ error. FailsStream error (spec.h266_profile (slices_view units.now))) }
-    ensures many { IfOk result (λ bytes. length bytes.items ≡ 5) }
+    ensures many { IfOk result (λ bytes. 5 ≤ length bytes.items) }
 {
-    let bytes = set_bytes(alloc, 2, 5, first_set(H266_SPS, units))?;
+    h266_profile_in(alloc, first_set(H266_SPS, units))
+}
+
+/// The same of an SPS with general constraints, which say how long they are.
+fn with_general(alloc: Global, sps: Option<&[u8]>) -> Result<Vec<u8>, StreamError>
+    ensures bytes { MatchResult result
+        (λ bytes. spec.with_general (set_view sps.entry)
+        (spec.set_bytes 2 15 (set_view sps.entry)) ≡ Ok bytes.items)
+        (λ error. FailsStream error (spec.with_general (set_view sps.entry)
+        (spec.set_bytes 2 15 (set_view sps.entry)))) }
+    ensures many { IfOk result (λ bytes. 5 ≤ length bytes.items) }
+{
+    let bytes = set_bytes(alloc, 2, 15, sps)?;
+    let len = constraints_len(&bytes[4..]);
+    set_bytes(alloc, 2, 4 + len, sps)
+}
+
+/// Those bytes of an SPS.
+fn h266_profile_in(alloc: Global, sps: Option<&[u8]>) -> Result<Vec<u8>, StreamError>
+    ensures bytes { MatchResult result
+        (λ bytes. spec.h266_profile_in (set_view sps.entry) ≡ Ok bytes.items)
+        (λ error. FailsStream error (spec.h266_profile_in (set_view sps.entry))) }
+    ensures many { IfOk result (λ bytes. 5 ≤ length bytes.items) }
+{
+    let bytes = set_bytes(alloc, 2, 5, sps)?;
     if bytes[1] & 0x01 == 0 {
         return Err(StreamError::NoProfile);
     }
-    if bytes[4] >> 5 & 0x01 != 0 {
-        return Err(StreamError::GeneralConstraints);
+    if has_general(&bytes[4..]) {
+        with_general(alloc, sps)
+    } else {
+        Ok(bytes)
     }
-    Ok(bytes)
 }
 
-/// Gives parameters what those five bytes say.
+/// Gives parameters what those bytes say.
 fn h266_put_profile(
     alloc: Global,
     it: &mut H266Parameters,
     profile: &[u8],
 ) -> Result<(), AllocError>
-    requires { length profile.now ≡ 5 }
+    requires { 5 ≤ length profile.now }
     ensures { OnOk result (it.new ≡ spec.h266_with_profile profile.now it.old) }
 {
     let first = profile[2];
@@ -313,7 +339,7 @@ fn h266_put_profile(
     );
     it.put(H266Parameter::TierFlag, number_text(alloc, first & 0x01)?);
     it.put(H266Parameter::LevelId, number_text(alloc, profile[3])?);
-    let constraints = STANDARD.encode(alloc, &profile[4..5])?.into_bytes();
+    let constraints = STANDARD.encode(alloc, &profile[4..])?.into_bytes();
     it.put(H266Parameter::InteropConstraints, constraints);
     Ok(())
 }
@@ -323,8 +349,7 @@ fn h266_put_profile(
 /// 9328, section 7.2).
 ///
 /// The sets are those before the first slice. The first SPS of the lowest layer says profile, tier
-/// and level. Where none is there, it's too short, it doesn't say them or it has general constraints,
-/// that is told.
+/// and level. Where none is there, it's too short or it doesn't say them, that is told.
 pub fn h266_of_units(alloc: Global, units: &[&[u8]]) -> Result<H266Parameters, StreamError>
     ensures { MatchResult result
         (λ it. spec.h266_of_units (slices_view units.now) ≡ Ok it)

@@ -3,9 +3,12 @@
 ghost use Rattle.std.specs.Prelude.{◌≡◌};
 
 use crate::codec::{CodecParameter, CodecParameters};
+use crate::error::LevelSetsError;
 use crate::kind::{BITS_15, BITS_32, BITS_64, FLAG, Kind};
+use crate::level_sets::{LevelSets, read_level_sets};
 use crate::table::ParameterRow;
 use crate::unit_types::H264_SETS;
+use std::alloc::Global;
 
 /// A format parameter of H.264, in the order in which they are written (RFC 6184, section 8.1).
 #[derive(Debug, Clone, Copy, PartialEq, Eq)]
@@ -221,6 +224,29 @@ impl CodecParameter for H264Parameter {
 
     fn place(self) -> usize {
         self as usize
+    }
+}
+
+impl CodecParameters<H264Parameter> {
+    ghost use Rattle.std.specs.Option.{option_map};
+    ghost use Rattle.h26x_sdp.specs.Reading.{value_at};
+    ghost use Rattle.h26x_sdp.specs.LevelSets.{level_sets_in};
+    ghost use Rattle.h26x_sdp.specs.LevelSetsViews.{SaysLevelsIfGiven};
+    ghost use Rattle.h26x_sdp.specs.H264Rows as spec;
+    ghost use Rattle.h26x_sdp.specs.declared.h264.H264Parameter.TheVariants.{SpropLevelParameterSets};
+
+    /// The parameter sets of other levels, `sprop-level-parameter-sets`; `None` where it's absent.
+    pub fn level_sets(&self, alloc: Global) -> Result<Option<Vec<LevelSets>>, LevelSetsError>
+        ensures { SaysLevelsIfGiven result (option_map level_sets_in
+            (value_at self.now.values (spec.row_place SpropLevelParameterSets))) }
+    {
+        let Some(text) = self.value(H264Parameter::SpropLevelParameterSets) else {
+            return Ok(None);
+        };
+        match read_level_sets(alloc, text) {
+            Ok(levels) => Ok(Some(levels)),
+            Err(error) => Err(error),
+        }
     }
 }
 

@@ -1,11 +1,16 @@
 //! The format parameters of H.266 (RFC 9328, sections 7.1 and 7.2).
 
 ghost use Rattle.std.specs.Prelude.{◌≡◌};
+ghost use Rattle.std.specs.Option.{option_map};
+ghost use Rattle.h26x_sdp.specs.Constraints.{constraints_said};
 
 use crate::codec::{CodecParameter, CodecParameters};
+use crate::constraints::InteropConstraints;
+use crate::error::ConstraintsError;
 use crate::kind::{BITS_8, BITS_15, BITS_32, BITS_64, FLAG, Kind, SUB_LAYER};
 use crate::table::ParameterRow;
 use crate::unit_types::{H266_DCI, H266_PPS, H266_SEI, H266_SPS, H266_VPS};
+use std::alloc::Global;
 
 /// A format parameter of H.266, in the order in which they are written (RFC 9328, sections 7.1
 /// and 7.2).
@@ -197,18 +202,44 @@ impl CodecParameter for H266Parameter {
     }
 }
 
+/// A text that may be absent.
+fn text_of(text: Option<&[u8]>) -> &[u8]
+    ensures { result.now ≡ constraints_said (option_map (λ it. it.now) text) }
+{
+    match text {
+        Some(text) => text,
+        None => &[],
+    }
+}
+
 impl CodecParameters<H266Parameter> {
-    ghost use Rattle.h26x_sdp.specs.Reading.{number_or_default, number_of_32_bits};
+    ghost use Rattle.std.specs.Prelude.{Ok, MatchResult};
+    ghost use Rattle.h26x_sdp.specs.Reading.{number_or_default, number_of_32_bits, value_or_default};
+    ghost use Rattle.h26x_sdp.specs.Constraints.{constraints_in, constraints_said};
+    ghost use Rattle.h26x_sdp.specs.ConstraintsViews.{FailsConstraints};
     ghost use Rattle.h26x_sdp.specs.H266Rows as spec;
-    ghost use Rattle.h26x_sdp.specs.declared.h266.H266Parameter.TheVariants.{SpropMaxDonDiff};
+    ghost use Rattle.h26x_sdp.specs.declared.h266.H266Parameter.TheVariants as p;
 
     /// What packetizers and receivers are configured for: `sprop-max-don-diff`, or 0 where it's
     /// absent. Where it is over 0, units bear decoding order numbers (RFC 9328, section 7.2).
     pub fn max_don_diff(&self) -> Option<u32>
         ensures { result ≡ number_of_32_bits
-            (number_or_default spec.rows self.now (spec.row_place SpropMaxDonDiff)) }
+            (number_or_default spec.rows self.now (spec.row_place p.SpropMaxDonDiff)) }
     {
         u32::try_from(self.number_or_default(H266Parameter::SpropMaxDonDiff)?).ok()
+    }
+
+    /// The constraints that `interop-constraints` says, or where it's absent frames alone, one layer
+    /// and no general ones.
+    pub fn interop_constraints(&self, alloc: Global) -> Result<InteropConstraints, ConstraintsError>
+        ensures { MatchResult result
+            (λ it. constraints_in (constraints_said (value_or_default spec.rows self.now
+            (spec.row_place p.InteropConstraints))) ≡ Ok it)
+            (λ error. FailsConstraints error (constraints_in (constraints_said
+            (value_or_default spec.rows self.now (spec.row_place p.InteropConstraints))))) }
+    {
+        let said = self.value_or_default(H266Parameter::InteropConstraints);
+        InteropConstraints::read(alloc, text_of(said))
     }
 }
 

@@ -9,6 +9,8 @@ ghost use Rattle.h26x_sdp.specs.Parameters.{IsTable, AreParameters};
 ghost use Rattle.h26x_sdp.specs.Reading.{FormatParameters, read_of, all_of};
 ghost use Rattle.base64.specs.GeneralPurpose.{IsBytes};
 ghost use Rattle.h26x_sdp.specs.Units.{AreSpropUnits, sprop_units, units_text};
+ghost use Rattle.h26x_sdp.specs.LevelSets.{LevelSets, AreLevelSets, level_sets_in, level_sets_text};
+ghost use Rattle.h26x_sdp.specs.Constraints.{as_constraints, constraints_in, constraints_text};
 ghost use Rattle.h26x_sdp.specs.RtpMaps.{rtp_map_of, rtp_map_text};
 ghost use Rattle.h26x_sdp.specs.declared.rtp_map.RtpMap.{RtpMap};
 ghost use Rattle.std.specs.Prelude.{is_some};
@@ -74,6 +76,24 @@ pub fn units_and_their_text()
         sprop_units (units_text units) ≡ Ok units }
     ensures written { (text : List ℕ) (units : List (List ℕ)) → IsBytes text →
         sprop_units text ≡ Ok units → units_text units ≡ text }
+{}
+
+/// What is written of parameter sets of levels is read as the same, and what is read is read again of
+/// what is written of it.
+pub fn level_sets_and_their_text()
+    ensures read { (levels : List LevelSets) → AreLevelSets levels →
+        level_sets_in (level_sets_text levels) ≡ Ok levels }
+    ensures again { (text : List ℕ) (levels : List LevelSets) → IsBytes text →
+        level_sets_in text ≡ Ok levels → level_sets_in (level_sets_text levels) ≡ Ok levels }
+{}
+
+/// What is written of constraints of H.266 is read as the same, and what is read is written as the
+/// same text.
+pub fn constraints_and_their_text()
+    ensures read { (bytes : List ℕ) → IsBytes bytes → as_constraints bytes ≡ Ok bytes →
+        constraints_in (constraints_text bytes) ≡ Ok bytes }
+    ensures written { (text bytes : List ℕ) → IsBytes text → constraints_in text ≡ Ok bytes →
+        constraints_text bytes ≡ text }
 {}
 
 /// What is written of a payload type and its encoding is read as the same.

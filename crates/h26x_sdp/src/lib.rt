@@ -7,6 +7,7 @@
 
 mod answer;
 mod codec;
+mod constraints;
 mod error;
 mod from_stream;
 mod h264;
@@ -14,6 +15,7 @@ mod h265;
 mod h266;
 mod kind;
 pub mod laws;
+mod level_sets;
 mod pairs;
 mod parameters;
 mod rtp_map;
@@ -25,7 +27,10 @@ mod units;
 
 pub use answer::{CodecRules, Format, Role, Terms, answer_to};
 pub use codec::{CodecParameter, CodecParameters};
-pub use error::{Fault, ParametersError, StreamError, UnitsError};
+pub use constraints::InteropConstraints;
+pub use error::{
+    ConstraintsError, Fault, LevelSetsError, ParametersError, StreamError, UnitsError,
+};
 pub use from_stream::{
     h264_of_payload, h264_of_units, h265_of_payload, h265_of_units, h266_of_payload, h266_of_units,
 };
@@ -33,6 +38,7 @@ pub use h264::{H264Parameter, H264Parameters};
 pub use h265::{H265Parameter, H265Parameters};
 pub use h266::{H266Parameter, H266Parameters};
 pub use kind::{Kind, number_in};
+pub use level_sets::{LevelSets, read_level_sets, write_level_sets};
 pub use pairs::{Pair, Pairs, closes, pairs_of, push_pair};
 pub use parameters::OtherParameter;
 pub use rtp_map::{Encoding, RtpMap, RtpMapError};

@@ -26,14 +26,14 @@ fn unit_of(alloc: Global, text: &[u8], place: usize) -> Result<Vec<u8>, UnitsErr
     }
 }
 
-/// What stands before the first comma of a text, and behind it, if it has one.
-fn split_piece(text: &[u8]) -> (&[u8], Option<&[u8]>)
-    ensures pieces { spec.pieces text.now
-        ≡ result.0.now ∷ option_map_or (λ rest. spec.pieces rest.now) result.1 [] }
+/// What stands before the first byte of a value in a text, and behind it, if it has one.
+pub(crate) fn split_piece(text: &[u8], mark: u8) -> (&[u8], Option<&[u8]>)
+    ensures pieces { spec.pieces_at mark text.now
+        ≡ result.0.now ∷ option_map_or (λ rest. spec.pieces_at mark rest.now) result.1 [] }
     ensures shorter { IfSome result.1 (λ rest. length rest.now < length text.now) }
 {
-    match memchr(b',', text) {
-        Some(comma) => (&text[..comma], Some(&text[comma + 1..])),
+    match memchr(mark, text) {
+        Some(place) => (&text[..place], Some(&text[place + 1..])),
         None => (text, None),
     }
 }
@@ -51,7 +51,7 @@ pub fn read_units(alloc: Global, text: &[u8]) -> Result<Vec<Vec<u8>>, UnitsError
     let mut units = Vec::new(alloc);
     let mut rest = Some(text);
     while let Some(text) = rest {
-        let (piece, behind) = split_piece(text);
+        let (piece, behind) = split_piece(text, b',');
         let unit = unit_of(alloc, piece, units.len())?;
         units.push(unit)?;
         rest = behind;

@@ -1,9 +1,10 @@
 //! What streams say of themselves: the sets of two real ones, and of one by hand.
 
 use h26x_sdp::{
-    CodecParameter, CodecParameters, H264Parameter, H265Parameter, H266Parameter, StreamError,
-    UnitsError, fits_single_units, h264_of_payload, h264_of_units, h265_of_payload, h265_of_units,
-    h266_of_payload, h266_of_units,
+    CodecParameter, CodecParameters, ConstraintsError, H264Parameter, H265Parameter, H266Parameter,
+    InteropConstraints, LevelSetsError, StreamError, UnitsError, fits_single_units,
+    h264_of_payload, h264_of_units, h265_of_payload, h265_of_units, h266_of_payload, h266_of_units,
+    read_level_sets, write_level_sets,
 };
 use std::alloc::Global;
 use std::process::Abort;
@@ -179,8 +180,129 @@ fn stream_of_h266(rt: HostRuntime) -> Result<(), Fail> {
     assert!(rt; format.number(H266Parameter::LevelId) == Some(51));
     let no_profile = Some(StreamError::NoProfile);
     assert!(rt; h266_of_units(alloc, &[b"\x00\x79\x00\x0c\x02\x33\x80"]).err() == no_profile);
-    let general = Some(StreamError::GeneralConstraints);
-    assert!(rt; h266_of_units(alloc, &[b"\x00\x79\x00\x0d\x02\x33\xa0"]).err() == general);
+    Ok(())
+}
+
+/// An SPS whose general constraints are 82 bits and five additional ones, with a byte behind them, and
+/// one that has none of these five.
+const GENERAL_SPS: &[u8] =
+    b"\x00\x79\x00\x0d\x02\x33\xa0\x80\x00\x00\x03\x00\x00\x03\x00\x00\x03\x00\x01\x7e\xff";
+
+const SHORT_GENERAL_SPS: &[u8] =
+    b"\x00\x79\x00\x0d\x02\x33\xe0\x80\x01\x01\x01\x01\x01\x01\x01\x00\x00\xff";
+
+#[test]
+fn general_constraints_of_h266(rt: HostRuntime) -> Result<(), Fail> {
+    let alloc = rt.alloc();
+    let format = h266_of_units(alloc, &[GENERAL_SPS])?;
+    let constraints = format.interop_constraints(alloc)?;
+    let want = b"\xa0\x80\x00\x00\x00\x00\x00\x00\x00\x01\x7e";
+    assert!(rt; constraints.as_bytes() == want.as_slice());
+    assert!(rt; constraints.is_frame_only() && !constraints.is_multilayer());
+    assert!(rt; constraints.has_general());
+    let text = format.value(H266Parameter::InteropConstraints);
+    assert!(rt; text == Some(b"oIAAAAAAAAAAAX4="));
+    let short = Some(StreamError::ShortParameterSet);
+    let len = GENERAL_SPS.len();
+    assert!(rt; h266_of_units(alloc, &[&GENERAL_SPS[..len - 2]]).err() == short);
+    let format = h266_of_units(alloc, &[SHORT_GENERAL_SPS])?;
+    let constraints = format.interop_constraints(alloc)?;
+    let want = b"\xe0\x80\x01\x01\x01\x01\x01\x01\x01\x00\x00";
+    assert!(rt; constraints.as_bytes() == want.as_slice());
+    assert!(rt; constraints.is_frame_only() && constraints.is_multilayer());
+    Ok(())
+}
+
+/// Texts that are no constraints, and why.
+const NO_CONSTRAINTS: [(&[u8], ConstraintsError); 6] = [
+    (b"gA=", ConstraintsError::NotBase64),
+    (b"gB==", ConstraintsError::NotBase64),
+    (b"", ConstraintsError::Short),
+    (b"oA==", ConstraintsError::Short),
+    (b"gAA=", ConstraintsError::Long),
+    // a byte behind five additional bits
+    (b"oIAAAAAAAAAAAX7/", ConstraintsError::Long),
+];
+
+#[test]
+fn constraints_of_texts(rt: HostRuntime) -> Result<(), Fail> {
+    let alloc = rt.alloc();
+    for (text, want) in &NO_CONSTRAINTS {
+        assert!(rt; InteropConstraints::read(alloc, text).err() == Some(*want));
+    }
+    for text in [b"AA==".as_slice(), b"wA==", b"oIAAAAAAAAAAAX4="] {
+        let it = InteropConstraints::read(alloc, text)?;
+        assert!(rt; it.write(alloc)?.as_slice() == text);
+    }
+    let absent = CodecParameters::<H266Parameter>::read(alloc, b"level-id=51")?;
+    let it = absent.interop_constraints(alloc)?;
+    assert!(rt; it.is_frame_only() && !it.is_multilayer() && !it.has_general());
+    let bytes = Vec::from_slice(alloc, b"\x40\x00")?;
+    assert!(rt; InteropConstraints::from_bytes(bytes).err() == Some(ConstraintsError::Long));
+    Ok(())
+}
+
+/// Texts that are no parameter sets of levels, and why.
+const NO_LEVELS: [(&[u8], LevelSetsError); 9] = [
+    (b"", LevelSetsError::NoSets { place: 0 }),
+    (b"42e00b", LevelSetsError::NoSets { place: 0 }),
+    (b"42e00b:Zw==:", LevelSetsError::NoSets { place: 1 }),
+    (b"42e0:Zw==", LevelSetsError::NotHexadecimal { place: 0 }),
+    (
+        b"42e00b:Zw==:42e00g:Zw==",
+        LevelSetsError::NotHexadecimal { place: 1 },
+    ),
+    (
+        b"42e00b:Zw==,Zw",
+        LevelSetsError::Sets {
+            place: 0,
+            fault: UnitsError::NotBase64 { place: 1 },
+        },
+    ),
+    (
+        b"42e00b:Zw==:42e00c:",
+        LevelSetsError::Sets {
+            place: 1,
+            fault: UnitsError::Empty { place: 0 },
+        },
+    ),
+    (
+        b"42e00b:aMs=,ZQ==",
+        LevelSetsError::Sets {
+            place: 0,
+            fault: UnitsError::OtherType { place: 1 },
+        },
+    ),
+    (
+        b"42e00b:ZwAAAQ==",
+        LevelSetsError::Sets {
+            place: 0,
+            fault: UnitsError::StartCode { place: 0 },
+        },
+    ),
+];
+
+#[test]
+fn sets_of_levels(rt: HostRuntime) -> Result<(), Fail> {
+    let alloc = rt.alloc();
+    for (text, want) in &NO_LEVELS {
+        assert!(rt; read_level_sets(alloc, text).err() == Some(*want));
+    }
+    let line = b"sprop-level-parameter-sets=42E00B:Z0LgCw==,aMs=:4de00b:aMs=";
+    let format = CodecParameters::<H264Parameter>::read(alloc, line)?;
+    let Some(levels) = format.level_sets(alloc)? else {
+        return Err(Fail);
+    };
+    let text = write_level_sets(alloc, levels.as_slice())?;
+    assert!(rt; text.as_slice() == b"42e00b:Z0LgCw==,aMs=:4de00b:aMs=".as_slice());
+    let [first, second] = levels.as_slice() else {
+        return Err(Fail);
+    };
+    assert!(rt; first.profile_level_id == [0x42, 0xe0, 0x0b] && first.sets.len() == 2);
+    assert!(rt; second.profile_level_id == [0x4d, 0xe0, 0x0b]);
+    assert!(rt; second.sets[0].as_slice() == b"\x68\xcb".as_slice());
+    let none = CodecParameters::<H264Parameter>::read(alloc, b"packetization-mode=1")?;
+    assert!(rt; none.level_sets(alloc)?.is_none());
     Ok(())
 }
 

@@ -44,10 +44,13 @@ mod parameters;
 mod rtp_map;
 #[cfg(feature = "serde")]
 mod stored;
+mod typed;
 
 pub use crate::proved::h26x_sdp::fits_single_units;
-pub use crate::proved::h26x_sdp::{Fault, ParametersError, RtpMapError, StreamError, UnitsError};
-pub use crate::proved::h26x_sdp::{H264Parameter, H265Parameter, H266Parameter};
+pub use crate::proved::h26x_sdp::{
+    ConstraintsError, Fault, LevelSetsError, ParametersError, RtpMapError, StreamError, UnitsError,
+};
+pub use crate::proved::h26x_sdp::{H264Parameter, H265Parameter, H266Parameter, LevelSets};
 pub use answer::{Format, OutOfMemory};
 pub use fault::SetError;
 pub use h264::H264Parameters;
@@ -56,3 +59,4 @@ pub use h266::H266Parameters;
 pub use modes::{PacketizationMode, TxMode};
 pub use parameters::{CodecParameters, Parameter, read_units, write_units};
 pub use rtp_map::RtpMap;
+pub use typed::{InteropConstraints, read_level_sets, write_level_sets};

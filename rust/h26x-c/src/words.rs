@@ -63,7 +63,6 @@ pub extern "C" fn h26x_strerror(code: u32) -> *const c_char {
         33 => c"no parameter set says a profile and a level",
         34 => c"the parameter set is too short",
         35 => c"the parameter set says no profile",
-        36 => c"the parameter set has general constraints",
         37 => c"the two formats have no configuration in common",
         38 => c"the payload type is no number of 7 bits",
         39 => c"the encoding name is none of H264, H265 and H266",

@@ -282,12 +282,6 @@ class SdpNoProfile(StreamError):
     code = 35
 
 
-class SdpGeneralConstraints(StreamError):
-    """H.266: the first SPS has general constraints (its gci_present_flag is 1), which aren't read."""
-
-    code = 36
-
-
 class SdpNoAnswer(Error):
     """Two formats have no configuration in common. No call here raises it."""
 
@@ -349,7 +343,6 @@ _ERRORS: Dict[int, Type[Error]] = {
         SdpNoSet,
         SdpShortSet,
         SdpNoProfile,
-        SdpGeneralConstraints,
         SdpNoAnswer,
         SdpPayloadType,
         SdpEncodingName,

@@ -7,12 +7,14 @@
 //! The definitions that contracts cite stand in `specs/`.
 mod answer;
 mod codec;
+mod constraints;
 mod error;
 mod from_stream;
 mod h264;
 mod h265;
 mod h266;
 mod kind;
+mod level_sets;
 mod pairs;
 mod parameters;
 mod rtp_map;
@@ -25,7 +27,10 @@ mod units;
 pub(crate) use answer::answer_to;
 pub use answer::{CodecRules, Format, Role, Terms};
 pub use codec::{CodecParameter, CodecParameters};
-pub use error::{Fault, ParametersError, StreamError, UnitsError};
+pub use constraints::InteropConstraints;
+pub use error::{
+    ConstraintsError, Fault, LevelSetsError, ParametersError, StreamError, UnitsError,
+};
 pub use from_stream::{
     h264_of_payload, h264_of_units, h265_of_payload, h265_of_units, h266_of_payload, h266_of_units,
 };
@@ -33,6 +38,8 @@ pub use h264::{H264Parameter, H264Parameters};
 pub use h265::{H265Parameter, H265Parameters};
 pub use h266::{H266Parameter, H266Parameters};
 pub use kind::{Kind, number_in};
+pub(crate) use level_sets::write_level_sets;
+pub use level_sets::{LevelSets, read_level_sets};
 pub(crate) use pairs::push_pair;
 pub use pairs::{Pair, Pairs, closes, pairs_of};
 pub use parameters::OtherParameter;

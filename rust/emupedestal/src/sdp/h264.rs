@@ -1,8 +1,9 @@
 //! The parameters of H.264.
 
 use super::getters::getters;
-use super::{CodecParameters, H264Parameter, PacketizationMode};
+use super::{CodecParameters, H264Parameter, LevelSets, LevelSetsError, PacketizationMode};
 use crate::H264ProfileLevel;
+use alloc::vec::Vec;
 
 /// The format parameters of H.264 (RFC 6184, section 8.1).
 ///
@@ -52,6 +53,25 @@ impl CodecParameters<H264Parameter> {
         }
     }
 
+    /// The parameter sets of other levels of `sprop-level-parameter-sets`; none where it is absent.
+    ///
+    /// ```
+    /// use emupedestal::sdp::H264Parameters;
+    ///
+    /// let line = "profile-level-id=42e01f;sprop-level-parameter-sets=42e00b:Z0LgCw==,aMs=:42e00c:aMs=";
+    /// let levels = line.parse::<H264Parameters>()?.sprop_level_parameter_sets()?;
+    /// assert_eq!(levels[0].profile_level_id, [0x42, 0xe0, 0x0b]);
+    /// assert_eq!(levels[0].sets, [vec![0x67, 0x42, 0xe0, 0x0b], vec![0x68, 0xcb]]);
+    /// # Ok::<(), Box<dyn std::error::Error>>(())
+    /// ```
+    ///
+    /// # Errors
+    ///
+    /// The first that is none is told by its place.
+    pub fn sprop_level_parameter_sets(&self) -> Result<Vec<LevelSets>, LevelSetsError> {
+        Ok(self.of.level_sets()?.unwrap_or_default())
+    }
+
     /// `in-band-parameter-sets`: true where parameter sets outside the stream are discarded, false where they are
     /// used, `None` where it is absent.
     pub fn in_band_parameter_sets(&self) -> Option<bool> {
@@ -88,7 +108,5 @@ getters! {
     units {
         sprop_parameter_sets: SpropParameterSets;
     }
-    texts {
-        sprop_level_parameter_sets: SpropLevelParameterSets;
-    }
+    texts {}
 }

@@ -1,7 +1,7 @@
 //! The parameters of H.266.
 
 use super::getters::getters;
-use super::{CodecParameters, H266Parameter};
+use super::{CodecParameters, ConstraintsError, H266Parameter, InteropConstraints};
 use crate::H266ProfileTierLevel;
 
 /// The format parameters of H.266 (RFC 9328, sections 7.1 and 7.2).
@@ -23,6 +23,16 @@ impl CodecParameters<H266Parameter> {
     /// tier and 3.1; `None` where they aren't known.
     pub fn profile_tier_level(&self) -> Option<H266ProfileTierLevel> {
         H266ProfileTierLevel::new(self.profile_id(), self.tier_flag().into(), self.level_id())
+    }
+
+    /// `interop-constraints`; where it is absent frames alone, one layer, and no general ones.
+    ///
+    /// # Errors
+    ///
+    /// Where the value is no base64, or isn't as long as it says.
+    pub fn interop_constraints(&self) -> Result<InteropConstraints, ConstraintsError> {
+        let of = self.of.interop_constraints()?;
+        Ok(InteropConstraints { of })
     }
 }
 
@@ -56,6 +66,5 @@ getters! {
     }
     texts {
         sub_profile_id: SubProfileId;
-        interop_constraints: InteropConstraints;
     }
 }

@@ -258,10 +258,9 @@ fn what_is_taken_where_nothing_is_said() {
         Some(H266ProfileTierLevel::FALLBACK)
     );
     assert_eq!((none.sprop_sublayer_id(), none.sprop_ols_id()), (6, None));
-    assert_eq!(
-        (none.sprop_max_don_diff(), none.interop_constraints()),
-        (0, None)
-    );
+    assert_eq!(none.sprop_max_don_diff(), 0);
+    let constraints = none.interop_constraints().unwrap();
+    assert!(constraints.is_frame_only() && !constraints.is_multilayer());
 }
 
 /// Numbers at the ends of their ranges, and values that are bytes.

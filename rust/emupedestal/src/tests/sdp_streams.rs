@@ -85,9 +85,65 @@ fn streams_of_h266() {
     assert_eq!(refused("00 81 00"), StreamError::NoParameterSet);
     assert_eq!(refused("00 79 00 0b 02 33"), StreamError::ShortParameterSet);
     assert_eq!(refused("00 79 00 0a 02 33 80"), StreamError::NoProfile);
+    // general constraints that end too early
     assert_eq!(
         refused("00 79 00 0b 02 33 a0"),
-        StreamError::GeneralConstraints
+        StreamError::ShortParameterSet
+    );
+}
+
+/// Of 71 general constraints the first is set, and of five additional bits all are; a byte stands behind them.
+#[test]
+fn general_constraints_of_h266() {
+    let sps = bytes("00 79 00 0b 02 33 a0 80 00 00 03 00 00 03 00 00 03 00 01 7e ff");
+    let format = H266Parameters::of_units(&[&sps]).unwrap();
+    let constraints = format.interop_constraints().unwrap();
+    let wanted = bytes("a0 80 00 00 00 00 00 00 00 01 7e");
+    assert_eq!(constraints.as_bytes(), wanted);
+    assert!(constraints.is_frame_only() && !constraints.is_multilayer());
+    assert!(constraints.has_general());
+    assert_eq!(constraints.to_string(), "oIAAAAAAAAAAAX4=");
+    assert_eq!("oIAAAAAAAAAAAX4=".parse(), Ok(constraints.clone()));
+    assert_eq!(InteropConstraints::from_bytes(wanted), Ok(constraints));
+    let early = H266Parameters::of_units(&[&sps[..19]]);
+    assert_eq!(early, Err(StreamError::ShortParameterSet));
+    let refused = |text: &str| text.parse::<InteropConstraints>().unwrap_err();
+    assert_eq!(refused("gA="), ConstraintsError::NotBase64);
+    assert_eq!(refused("oA=="), ConstraintsError::Short);
+    assert_eq!(refused("oIAAAAAAAAAAAX7/"), ConstraintsError::Long);
+}
+
+/// Sets of levels are read with their place, and written in lower case.
+#[test]
+fn sets_of_levels() {
+    let line = "sprop-level-parameter-sets=42E00B:Z0LgCw==,aMs=:4de00b:aMs=";
+    let format: H264Parameters = line.parse().unwrap();
+    let levels = format.sprop_level_parameter_sets().unwrap();
+    let ids: Vec<[u8; 3]> = levels.iter().map(|it| it.profile_level_id).collect();
+    assert_eq!(ids, [[0x42, 0xe0, 0x0b], [0x4d, 0xe0, 0x0b]]);
+    assert_eq!(levels[0].sets, [bytes("67 42 e0 0b"), bytes("68 cb")]);
+    assert_eq!(levels[1].sets, [bytes("68 cb")]);
+    let text = "42e00b:Z0LgCw==,aMs=:4de00b:aMs=";
+    assert_eq!(write_level_sets(&levels).as_deref(), Ok(text));
+    assert_eq!(read_level_sets(text), Ok(levels));
+    assert_eq!(
+        H264Parameters::default().sprop_level_parameter_sets(),
+        Ok(vec![])
+    );
+    let sets = |place, fault| LevelSetsError::Sets { place, fault };
+    for (text, wanted) in [
+        ("", LevelSetsError::NoSets { place: 0 }),
+        ("42e00b:Zw==:42e00c", LevelSetsError::NoSets { place: 1 }),
+        ("42e0:Zw==", LevelSetsError::NotHexadecimal { place: 0 }),
+        ("42e00b:Zw==:42e00c:", sets(1, UnitsError::Empty { place: 0 })),
+        ("42e00b:aMs=,ZQ==", sets(0, UnitsError::OtherType { place: 1 })),
+        ("42e00b:aMs=,Zx==", sets(0, UnitsError::NotBase64 { place: 1 })),
+    ] {
+        assert_eq!(read_level_sets(text), Err(wanted), "{text}");
+    }
+    assert_eq!(
+        sets(1, UnitsError::Empty { place: 0 }).to_string(),
+        "the sets of level 1 are refused: unit 0 is empty"
     );
 }
 

@@ -107,10 +107,6 @@ pub enum StreamError {
     /// The first SPS of H.266 doesn't say them: sps_ptl_dpb_hrd_params_present_flag is 0.
     NoProfile,
 
-    /// The first SPS of H.266 has general constraints (gci_present_flag is 1), which this crate
-    /// doesn't read.
-    GeneralConstraints,
-
     /// The allocator had no memory.
     OutOfMemory,
 }
@@ -121,9 +117,6 @@ impl core::fmt::Display for StreamError {
             StreamError::NoParameterSet => write!(f, "no parameter set says a profile and a level"),
             StreamError::ShortParameterSet => write!(f, "a parameter set is too short"),
             StreamError::NoProfile => write!(f, "the parameter set says no profile"),
-            StreamError::GeneralConstraints => {
-                write!(f, "the parameter set has general constraints")
-            }
             StreamError::OutOfMemory => write!(f, "out of memory"),
         }
     }
@@ -134,5 +127,75 @@ impl core::error::Error for StreamError {}
 impl From<AllocError> for StreamError {
     fn from(_e: AllocError) -> StreamError {
         StreamError::OutOfMemory
+    }
+}
+
+/// Why a text or bytes are no constraints of H.266.
+#[derive(Debug, Clone, Copy, PartialEq, Eq, Hash)]
+#[non_exhaustive]
+pub enum ConstraintsError {
+    /// The text is no base64 (RFC 4648, section 4).
+    NotBase64,
+
+    /// They end before they say all.
+    Short,
+
+    /// Bytes stand behind them.
+    Long,
+
+    /// The allocator had no memory.
+    OutOfMemory,
+}
+
+impl core::fmt::Display for ConstraintsError {
+    fn fmt(&self, f: &mut core::fmt::Formatter<'_>) -> core::fmt::Result {
+        match self {
+            ConstraintsError::NotBase64 => write!(f, "the constraints are no base64"),
+            ConstraintsError::Short => write!(f, "the constraints are too short"),
+            ConstraintsError::Long => write!(f, "bytes stand behind the constraints"),
+            ConstraintsError::OutOfMemory => write!(f, "out of memory"),
+        }
+    }
+}
+
+impl core::error::Error for ConstraintsError {}
+
+/// Why a text is no parameter sets of levels. A refused call changes nothing.
+#[derive(Debug, Clone, Copy, PartialEq, Eq, Hash)]
+#[non_exhaustive]
+pub enum LevelSetsError {
+    /// The profile and level at this place, counted from 0, isn't six hexadecimal digits.
+    NotHexadecimal { place: usize },
+
+    /// No sets stand behind the profile and level at this place.
+    NoSets { place: usize },
+
+    /// The sets of the level at this place have this fault.
+    Sets { place: usize, fault: UnitsError },
+
+    /// The allocator had no memory.
+    OutOfMemory,
+}
+
+impl core::fmt::Display for LevelSetsError {
+    fn fmt(&self, f: &mut core::fmt::Formatter<'_>) -> core::fmt::Result {
+        match self {
+            LevelSetsError::NotHexadecimal { place } => {
+                write!(f, "level {place} is not six digits")
+            }
+            LevelSetsError::NoSets { place } => write!(f, "level {place} has no sets"),
+            LevelSetsError::Sets { place, fault } => {
+                write!(f, "the sets of level {place} are refused: {fault}")
+            }
+            LevelSetsError::OutOfMemory => write!(f, "out of memory"),
+        }
+    }
+}
+
+impl core::error::Error for LevelSetsError {}
+
+impl From<AllocError> for LevelSetsError {
+    fn from(_e: AllocError) -> LevelSetsError {
+        LevelSetsError::OutOfMemory
     }
 }

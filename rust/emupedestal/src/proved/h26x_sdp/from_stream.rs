@@ -5,6 +5,7 @@
 
 use crate::proved::h26x_cut::{ZeroRule, units};
 use crate::proved::h26x_sdp::codec::{CodecParameter, CodecParameters};
+use crate::proved::h26x_sdp::constraints::{constraints_len, has_general};
 use crate::proved::h26x_sdp::error::StreamError;
 use crate::proved::h26x_sdp::h264::{H264Parameter, H264Parameters};
 use crate::proved::h26x_sdp::h265::{H265Parameter, H265Parameters};
@@ -192,26 +193,33 @@ pub fn h265_of_units(units: &[&[u8]]) -> Result<H265Parameters, StreamError> {
     Ok(it)
 }
 
-/// The first five bytes of the first SPS of H.266, whose last three are of profile, tier, level and
-/// constraints (Rec. ITU-T H.266, sections 7.3.2.4 and 7.3.3.1).
+/// The bytes of the first SPS of H.266 as far as its constraints: behind two of them profile, tier and
+/// level stand, and behind four the constraints (Rec. ITU-T H.266, sections 7.3.2.4 and 7.3.3.1).
 fn h266_profile(units: &[&[u8]]) -> Result<Vec<u8>, StreamError> {
-    let bytes = set_bytes(2, 5, first_set(H266_SPS, units))?;
+    h266_profile_in(first_set(H266_SPS, units))
+}
+
+/// Those bytes of an SPS.
+fn h266_profile_in(sps: Option<&[u8]>) -> Result<Vec<u8>, StreamError> {
+    let bytes = set_bytes(2, 5, sps)?;
     if bytes[1] & 0x01 == 0 {
         return Err(StreamError::NoProfile);
     }
-    if bytes[4] >> 5 & 0x01 != 0 {
-        return Err(StreamError::GeneralConstraints);
+    if !has_general(&bytes[4..]) {
+        return Ok(bytes);
     }
-    Ok(bytes)
+    let bytes = set_bytes(2, 15, sps)?;
+    let len = constraints_len(&bytes[4..]);
+    set_bytes(2, 4 + len, sps)
 }
 
-/// Gives parameters what those five bytes say.
+/// Gives parameters what those bytes say.
 fn h266_put_profile(it: &mut H266Parameters, profile: &[u8]) -> Result<(), AllocError> {
     let first = profile[2];
     it.put(H266Parameter::ProfileId, number_text(first >> 1 & 0x7f)?);
     it.put(H266Parameter::TierFlag, number_text(first & 0x01)?);
     it.put(H266Parameter::LevelId, number_text(profile[3])?);
-    let constraints = STANDARD.encode(&profile[4..5])?.into_bytes();
+    let constraints = STANDARD.encode(&profile[4..])?.into_bytes();
     it.put(H266Parameter::InteropConstraints, constraints);
     Ok(())
 }
@@ -221,8 +229,7 @@ fn h266_put_profile(it: &mut H266Parameters, profile: &[u8]) -> Result<(), Alloc
 /// 9328, section 7.2).
 ///
 /// The sets are those before the first slice. The first SPS of the lowest layer says profile, tier
-/// and level. Where none is there, it's too short, it doesn't say them or it has general constraints,
-/// that is told.
+/// and level. Where none is there, it's too short or it doesn't say them, that is told.
 pub fn h266_of_units(units: &[&[u8]]) -> Result<H266Parameters, StreamError> {
     let profile = h266_profile(units)?;
     let mut it = H266Parameters::none()?;

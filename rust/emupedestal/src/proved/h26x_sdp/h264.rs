@@ -3,9 +3,12 @@
 //! The format parameters of H.264 (RFC 6184, section 8.1).
 
 use crate::proved::h26x_sdp::codec::{CodecParameter, CodecParameters};
+use crate::proved::h26x_sdp::error::LevelSetsError;
 use crate::proved::h26x_sdp::kind::{BITS_15, BITS_32, BITS_64, FLAG, Kind};
+use crate::proved::h26x_sdp::level_sets::{LevelSets, read_level_sets};
 use crate::proved::h26x_sdp::table::ParameterRow;
 use crate::proved::h26x_sdp::unit_types::H264_SETS;
+use alloc::vec::Vec;
 
 /// A format parameter of H.264, in the order in which they are written (RFC 6184, section 8.1).
 #[non_exhaustive]
@@ -245,6 +248,19 @@ impl CodecParameter for H264Parameter {
 
     fn place(self) -> usize {
         self as usize
+    }
+}
+
+impl CodecParameters<H264Parameter> {
+    /// The parameter sets of other levels, `sprop-level-parameter-sets`; `None` where it's absent.
+    pub fn level_sets(&self) -> Result<Option<Vec<LevelSets>>, LevelSetsError> {
+        let Some(text) = self.value(H264Parameter::SpropLevelParameterSets) else {
+            return Ok(None);
+        };
+        match read_level_sets(text) {
+            Ok(levels) => Ok(Some(levels)),
+            Err(error) => Err(error),
+        }
     }
 }
 

@@ -3,6 +3,8 @@
 //! The format parameters of H.266 (RFC 9328, sections 7.1 and 7.2).
 
 use crate::proved::h26x_sdp::codec::{CodecParameter, CodecParameters};
+use crate::proved::h26x_sdp::constraints::InteropConstraints;
+use crate::proved::h26x_sdp::error::ConstraintsError;
 use crate::proved::h26x_sdp::kind::{BITS_8, BITS_15, BITS_32, BITS_64, FLAG, Kind, SUB_LAYER};
 use crate::proved::h26x_sdp::table::ParameterRow;
 use crate::proved::h26x_sdp::unit_types::{H266_DCI, H266_PPS, H266_SEI, H266_SPS, H266_VPS};
@@ -218,11 +220,26 @@ impl CodecParameter for H266Parameter {
     }
 }
 
+/// A text that may be absent.
+fn text_of(text: Option<&[u8]>) -> &[u8] {
+    match text {
+        Some(text) => text,
+        None => &[],
+    }
+}
+
 impl CodecParameters<H266Parameter> {
     /// What packetizers and receivers are configured for: `sprop-max-don-diff`, or 0 where it's
     /// absent. Where it is over 0, units bear decoding order numbers (RFC 9328, section 7.2).
     pub fn max_don_diff(&self) -> Option<u32> {
         u32::try_from(self.number_or_default(H266Parameter::SpropMaxDonDiff)?).ok()
+    }
+
+    /// The constraints that `interop-constraints` says, or where it's absent frames alone, one layer
+    /// and no general ones.
+    pub fn interop_constraints(&self) -> Result<InteropConstraints, ConstraintsError> {
+        let said = self.value_or_default(H266Parameter::InteropConstraints);
+        InteropConstraints::read(text_of(said))
     }
 }
 

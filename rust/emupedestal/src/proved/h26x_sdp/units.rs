@@ -20,10 +20,10 @@ fn unit_of(text: &[u8], place: usize) -> Result<Vec<u8>, UnitsError> {
     }
 }
 
-/// What stands before the first comma of a text, and behind it, if it has one.
-fn split_piece(text: &[u8]) -> (&[u8], Option<&[u8]>) {
-    match memchr(b',', text) {
-        Some(comma) => (&text[..comma], Some(&text[comma + 1..])),
+/// What stands before the first byte of a value in a text, and behind it, if it has one.
+pub(crate) fn split_piece(text: &[u8], mark: u8) -> (&[u8], Option<&[u8]>) {
+    match memchr(mark, text) {
+        Some(place) => (&text[..place], Some(&text[place + 1..])),
         None => (text, None),
     }
 }
@@ -37,7 +37,7 @@ pub fn read_units(text: &[u8]) -> Result<Vec<Vec<u8>>, UnitsError> {
     let mut units = Vec::new();
     let mut rest = Some(text);
     while let Some(text) = rest {
-        let (piece, behind) = split_piece(text);
+        let (piece, behind) = split_piece(text, b',');
         let unit = unit_of(piece, units.len())?;
         units.try_push(unit)?;
         rest = behind;

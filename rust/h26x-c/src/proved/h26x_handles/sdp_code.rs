@@ -78,7 +78,6 @@ pub fn of_stream(error: StreamError) -> u32 {
         StreamError::NoParameterSet => 33,
         StreamError::ShortParameterSet => 34,
         StreamError::NoProfile => 35,
-        StreamError::GeneralConstraints => 36,
         StreamError::OutOfMemory => OUT_OF_MEMORY,
     }
 }

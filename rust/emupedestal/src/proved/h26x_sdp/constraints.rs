@@ -1,0 +1,94 @@
+// Made from crates/h26x_sdp/src/constraints.rt by tools/to-rust.
+
+//! The constraints of H.266 that `interop-constraints` says.
+
+use crate::proved::h26x_sdp::error::ConstraintsError;
+use crate::support::AllocError;
+use crate::support::base64::DecodeAllocError;
+use crate::support::base64::engine::general_purpose::STANDARD;
+use alloc::vec::Vec;
+
+/// The byte at a place, or 0 behind the last.
+fn byte_at(bytes: &[u8], place: usize) -> u8 {
+    if place < bytes.len() { bytes[place] } else { 0 }
+}
+
+/// Whether general constraints are among them: gci_present_flag.
+pub(crate) fn has_general(bytes: &[u8]) -> bool {
+    byte_at(bytes, 0) >> 5 & 0x01 == 1
+}
+
+/// How many bytes constraints are, of which as many as say so have to be there (Rec. ITU-T H.266,
+/// section 7.3.3.2).
+pub(crate) fn constraints_len(bytes: &[u8]) -> usize {
+    if !has_general(bytes) {
+        return 1;
+    }
+    let (high, low) = (byte_at(bytes, 9) & 0x3f, byte_at(bytes, 10) >> 6 & 0x03);
+    (89 + usize::from(high) * 4 + usize::from(low)) / 8
+}
+
+/// What `interop-constraints` of H.266 says: ptl_frame_only_constraint_flag,
+/// ptl_multilayer_enabled_flag and general_constraints_info( ) (RFC 9328, section 7.2).
+#[derive(Clone, PartialEq, Eq, Hash)]
+pub struct InteropConstraints {
+    bytes: Vec<u8>,
+}
+
+/// Of bytes it tells how many there are.
+impl core::fmt::Debug for InteropConstraints {
+    fn fmt(&self, f: &mut core::fmt::Formatter<'_>) -> core::fmt::Result {
+        use crate::support::Count;
+        f.debug_struct("InteropConstraints")
+            .field("bytes", &Count(self.bytes.len()))
+            .finish()
+    }
+}
+
+impl InteropConstraints {
+    /// The constraints of bytes: as many as they say, the last of them filled up.
+    pub fn from_bytes(bytes: Vec<u8>) -> Result<Self, ConstraintsError> {
+        let len = constraints_len(bytes.as_slice());
+        if bytes.len() < len {
+            return Err(ConstraintsError::Short);
+        }
+        if len < bytes.len() {
+            return Err(ConstraintsError::Long);
+        }
+        Ok(InteropConstraints { bytes })
+    }
+
+    /// Reads them: base64 with its padding (RFC 4648, section 4).
+    pub fn read(text: &[u8]) -> Result<Self, ConstraintsError> {
+        match STANDARD.decode(text) {
+            Ok(bytes) => InteropConstraints::from_bytes(bytes),
+            Err(DecodeAllocError::DecodeError(_)) => Err(ConstraintsError::NotBase64),
+            Err(DecodeAllocError::OutOfMemory) => Err(ConstraintsError::OutOfMemory),
+        }
+    }
+
+    /// Writes them. They are read as the same.
+    pub(crate) fn write(&self) -> Result<Vec<u8>, AllocError> {
+        Ok(STANDARD.encode(self.bytes.as_slice())?.into_bytes())
+    }
+
+    /// Their bytes, as they stand in profile_tier_level( ).
+    pub fn as_bytes(&self) -> &[u8] {
+        self.bytes.as_slice()
+    }
+
+    /// ptl_frame_only_constraint_flag: whether each picture is a frame.
+    pub fn is_frame_only(&self) -> bool {
+        byte_at(self.as_bytes(), 0) >> 7 == 1
+    }
+
+    /// ptl_multilayer_enabled_flag: whether a stream may have several layers.
+    pub fn is_multilayer(&self) -> bool {
+        byte_at(self.as_bytes(), 0) >> 6 & 0x01 == 1
+    }
+
+    /// gci_present_flag: whether general constraints are among them.
+    pub fn has_general(&self) -> bool {
+        has_general(self.as_bytes())
+    }
+}
