@@ -193,26 +193,23 @@ pub extern "C" fn h26x_sdp_number(
 /// How many units the parameter with a name has.
 #[unsafe(no_mangle)]
 pub extern "C" fn h26x_sdp_units(
-    alloc: Global,
     h: &ConstHandle,
     name: &[u8],
     count: &mut usize,
     why: &mut Refusal,
 ) -> u32
     ensures wrong { spec.is_sdp h.now.value ≡ false → result ≡ wrong_end }
-    ensures answer { (result ≡ out_of_memory) ⊎ ((result, count.new) ≡ spec.number_answer
-        (spec.units_count (spec.endpoint_units h.now.value name.now)) count.old) }
+    ensures answer { (result, count.new) ≡ spec.number_answer
+        (spec.units_count (spec.endpoint_units h.now.value name.now)) count.old }
     ensures place { (it : Refused) → spec.endpoint_units h.now.value name.now ≡ Err it →
-        spec.IsRefused it result why.new.first }
-    ensures kept { result ≡ out_of_memory → count.new ≡ count.old }
+        why.new ≡ record { first = it.place; second = 0 } }
     ensures kept_why { (units : List (List ℕ)) →
-        spec.endpoint_units h.now.value name.now ≡ Ok units → result ≢ out_of_memory →
-        why.new ≡ why.old }
+        spec.endpoint_units h.now.value name.now ≡ Ok units → why.new ≡ why.old }
 {
     let Endpoint::Sdp(it) = h.get() else {
         return tell(refused_with(WRONG_END), why);
     };
-    match it.units(alloc, name) {
+    match it.units(name) {
         Ok(units) => {
             *count = units.len();
             OK
@@ -224,7 +221,6 @@ pub extern "C" fn h26x_sdp_units(
 /// A unit of the parameter with a name, counted from 0, where there is room.
 #[unsafe(no_mangle)]
 pub extern "C" fn h26x_sdp_unit(
-    alloc: Global,
     h: &ConstHandle,
     name: &[u8],
     i: usize,
@@ -233,19 +229,17 @@ pub extern "C" fn h26x_sdp_unit(
     why: &mut Refusal,
 ) -> u32
     ensures wrong { spec.is_sdp h.now.value ≡ false → result ≡ wrong_end }
-    ensures answer { (result ≡ out_of_memory) ⊎ ((result, (to.new, len.new)) ≡ spec.copy_answer
-        (spec.nth_unit i (spec.endpoint_units h.now.value name.now)) to.old len.old) }
+    ensures answer { (result, (to.new, len.new)) ≡ spec.copy_answer
+        (spec.nth_unit i (spec.endpoint_units h.now.value name.now)) to.old len.old }
     ensures place { (it : Refused) → spec.endpoint_units h.now.value name.now ≡ Err it →
-        spec.IsRefused it result why.new.first }
-    ensures kept { result ≡ out_of_memory → (to.new ≡ to.old) × (len.new ≡ len.old) }
+        why.new ≡ record { first = it.place; second = 0 } }
     ensures kept_why { (units : List (List ℕ)) →
-        spec.endpoint_units h.now.value name.now ≡ Ok units → result ≢ out_of_memory →
-        why.new ≡ why.old }
+        spec.endpoint_units h.now.value name.now ≡ Ok units → why.new ≡ why.old }
 {
     let Endpoint::Sdp(it) = h.get() else {
         return tell(refused_with(WRONG_END), why);
     };
-    match it.units(alloc, name) {
+    match it.units(name) {
         Ok(units) => match units.get(i) {
             Some(unit) => copy_out(unit.as_slice(), to, len),
             None => ABSENT,

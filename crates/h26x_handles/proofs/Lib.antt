@@ -5,3 +5,4 @@ pub mod MemoryLemmas
 pub mod ParameterLemmas
 pub mod PlacementLemmas
 pub mod SkipLemmas
+pub mod KeptUnitsLemmas

@@ -8,3 +8,4 @@ pub mod Shown
 pub mod PlacementAnswer
 pub mod UnitsState
 pub mod AccessUnits
+pub mod KeptUnits

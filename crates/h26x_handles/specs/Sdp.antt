@@ -143,12 +143,6 @@ named_units rows it name = elim (row_of rows name) [
 abbrev pub sdp_units : SdpEndpoint → List ℕ → Result (List (List ℕ)) Refused
 sdp_units it = named_units (sdp_rows (sdp_codec it)) (sdp_parameters it)
 
--- what a call answers is that, or want of memory
-abbrev pub SaysNamedUnits : Result (Vec (Vec ℕ Global) Global) Refused →
-    Result (List (List ℕ)) Refused → Type 0
-SaysNamedUnits (Ok units) read = read ≡ Ok (units_view units.items)
-SaysNamedUnits (Err it) read = (it ≡ refused_with out_of_memory) ⊎ (read ≡ Err it)
-
 -- the parameters that the RFC doesn't have, in their order
 abbrev pub sdp_others : SdpEndpoint → List Pair
 sdp_others it = (sdp_parameters it).others

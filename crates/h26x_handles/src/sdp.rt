@@ -5,21 +5,22 @@ ghost use Rattle.h26x_cut.specs.Cutting.{AreUnits};
 ghost use Rattle.h26x_codec.specs.Repeating.{zero_rule};
 ghost use Rattle.h26x_sdp.specs.Answers.{answer_by, rules_of};
 ghost use Rattle.h26x_sdp.specs.ParametersViews.{other_view};
+ghost use Rattle.h26x_sdp.specs.UnitsViews.{units_view};
 ghost use Rattle.h26x_handles.specs.Codes as codes;
 ghost use Rattle.h26x_handles.specs.SdpCodes.{no_answer};
 ghost use Rattle.h26x_handles.specs.SdpCodes as code;
 ghost use Rattle.h26x_handles.specs.Sdp as spec;
 
 use crate::code::{NOT_OF_THIS_CODEC, OUT_OF_MEMORY};
+use crate::kept_parameters::KeptParameters;
 use crate::sdp_code::{
-    ABSENT, NO_ANSWER, OTHER_KIND, Refused, UNKNOWN_NAME, of_parameters, of_stream, of_units,
-    refused_with,
+    ABSENT, NO_ANSWER, OTHER_KIND, Refused, UNKNOWN_NAME, of_parameters, of_stream,
 };
 use crate::sdp_parameter::{ListedParameter, parameter_of};
 use h26x_codec::Codec;
 use h26x_sdp::{
-    CodecParameters, CodecRules, H264Parameters, H265Parameters, H266Parameters, Kind,
-    OtherParameter, h264_of_payload, h265_of_payload, h266_of_payload,
+    CodecParameters, H264Parameter, H265Parameter, H266Parameter, Kind, OtherParameter,
+    h264_of_payload, h265_of_payload, h266_of_payload,
 };
 use std::alloc::{AllocError, Global};
 use std::slice;
@@ -27,9 +28,9 @@ use std::slice;
 /// The format parameters of a codec.
 #[derive(Drop)]
 pub enum SdpEndpoint {
-    H264(H264Parameters),
-    H265(H265Parameters),
-    H266(H266Parameters),
+    H264(KeptParameters<H264Parameter>),
+    H265(KeptParameters<H265Parameter>),
+    H266(KeptParameters<H266Parameter>),
 }
 
 /// Whether a parameter is a number.
@@ -39,16 +40,6 @@ fn is_number(kind: Kind) -> bool
     match kind {
         Kind::Number { .. } | Kind::HexadecimalNumber { .. } => true,
         Kind::Hexadecimal { .. } | Kind::TxMode | Kind::Units(_) | Kind::Text => false,
-    }
-}
-
-/// Whether a parameter is units.
-fn is_units(kind: Kind) -> bool
-    ensures { result ≡ spec.is_units kind }
-{
-    match kind {
-        Kind::Units(_) => true,
-        _ => false,
     }
 }
 
@@ -95,39 +86,20 @@ fn number_of<P: ListedParameter>(
     number.ok_or(ABSENT)
 }
 
-/// The units of the parameter with a name.
-#[tactic(auto, using(crate::proofs::ErrorLemmas::says_units_or))]
-fn units_of<P: ListedParameter>(
-    alloc: Global,
-    it: &CodecParameters<P>,
-    name: &[u8],
-) -> Result<Vec<Vec<u8>>, Refused>
-    ensures { spec.SaysNamedUnits result (spec.named_units P.rows it.now name.now) }
-{
-    let Some((parameter, kind)) = parameter_of(name) else {
-        return Err(refused_with(UNKNOWN_NAME));
-    };
-    if !is_units(kind) {
-        return Err(refused_with(OTHER_KIND));
-    }
-    match it.units(alloc, parameter) {
-        Ok(Some(units)) => Ok(units),
-        Ok(None) => Err(refused_with(ABSENT)),
-        Err(error) => Err(of_units(error)),
-    }
-}
-
 /// The answer to an offered format by one of ours, or that there is none.
-fn answer_of<P: CodecRules>(
+fn answer_of<P: ListedParameter>(
     alloc: Global,
-    offered: &CodecParameters<P>,
-    ours: &CodecParameters<P>,
-) -> Result<CodecParameters<P>, u32>
+    offered: &KeptParameters<P>,
+    ours: &KeptParameters<P>,
+) -> Result<KeptParameters<P>, u32>
     ensures { (result ≡ Err codes.out_of_memory) ⊎ (result
         ≡ spec.answer_or_code (rules_of P.rows P.roles P.terms) offered.now ours.now) }
 {
-    match offered.answer(alloc, slice::from_ref(ours)) {
-        Ok(Some(answer)) => Ok(answer),
+    match offered
+        .parameters()
+        .answer(alloc, slice::from_ref(ours.parameters()))
+    {
+        Ok(Some(answer)) => KeptParameters::of(alloc, answer),
         Ok(None) => Err(NO_ANSWER),
         Err(_) => Err(OUT_OF_MEMORY),
     }
@@ -140,15 +112,15 @@ impl SdpEndpoint {
             ⊎ (result ≡ spec.sdp_read codec text.now) }
     {
         match codec {
-            Codec::H264 => match H264Parameters::read(alloc, text) {
+            Codec::H264 => match KeptParameters::<H264Parameter>::read(alloc, text) {
                 Ok(it) => Ok(SdpEndpoint::H264(it)),
                 Err(error) => Err(of_parameters(error)),
             },
-            Codec::H265 => match H265Parameters::read(alloc, text) {
+            Codec::H265 => match KeptParameters::<H265Parameter>::read(alloc, text) {
                 Ok(it) => Ok(SdpEndpoint::H265(it)),
                 Err(error) => Err(of_parameters(error)),
             },
-            Codec::H266 => match H266Parameters::read(alloc, text) {
+            Codec::H266 => match KeptParameters::<H266Parameter>::read(alloc, text) {
                 Ok(it) => Ok(SdpEndpoint::H266(it)),
                 Err(error) => Err(of_parameters(error)),
             },
@@ -163,15 +135,15 @@ impl SdpEndpoint {
     {
         match codec {
             Codec::H264 => match h264_of_payload(alloc, payload) {
-                Ok(it) => Ok(SdpEndpoint::H264(it)),
+                Ok(it) => Ok(SdpEndpoint::H264(KeptParameters::of(alloc, it)?)),
                 Err(error) => Err(of_stream(error)),
             },
             Codec::H265 => match h265_of_payload(alloc, payload) {
-                Ok(it) => Ok(SdpEndpoint::H265(it)),
+                Ok(it) => Ok(SdpEndpoint::H265(KeptParameters::of(alloc, it)?)),
                 Err(error) => Err(of_stream(error)),
             },
             Codec::H266 => match h266_of_payload(alloc, payload) {
-                Ok(it) => Ok(SdpEndpoint::H266(it)),
+                Ok(it) => Ok(SdpEndpoint::H266(KeptParameters::of(alloc, it)?)),
                 Err(error) => Err(of_stream(error)),
             },
         }
@@ -212,9 +184,9 @@ impl SdpEndpoint {
         ensures { IfOk result (λ text. text.items ≡ spec.sdp_text self.now) }
     {
         match self {
-            SdpEndpoint::H264(it) => it.write(alloc),
-            SdpEndpoint::H265(it) => it.write(alloc),
-            SdpEndpoint::H266(it) => it.write(alloc),
+            SdpEndpoint::H264(it) => it.parameters().write(alloc),
+            SdpEndpoint::H265(it) => it.parameters().write(alloc),
+            SdpEndpoint::H266(it) => it.parameters().write(alloc),
         }
     }
 
@@ -225,9 +197,9 @@ impl SdpEndpoint {
             (λ code. spec.sdp_value self.now name.now or_default ≡ Err code) }
     {
         match self {
-            SdpEndpoint::H264(it) => value_of(it, name, or_default),
-            SdpEndpoint::H265(it) => value_of(it, name, or_default),
-            SdpEndpoint::H266(it) => value_of(it, name, or_default),
+            SdpEndpoint::H264(it) => value_of(it.parameters(), name, or_default),
+            SdpEndpoint::H265(it) => value_of(it.parameters(), name, or_default),
+            SdpEndpoint::H266(it) => value_of(it.parameters(), name, or_default),
         }
     }
 
@@ -236,20 +208,22 @@ impl SdpEndpoint {
         ensures { result ≡ spec.sdp_number self.now name.now or_default }
     {
         match self {
-            SdpEndpoint::H264(it) => number_of(it, name, or_default),
-            SdpEndpoint::H265(it) => number_of(it, name, or_default),
-            SdpEndpoint::H266(it) => number_of(it, name, or_default),
+            SdpEndpoint::H264(it) => number_of(it.parameters(), name, or_default),
+            SdpEndpoint::H265(it) => number_of(it.parameters(), name, or_default),
+            SdpEndpoint::H266(it) => number_of(it.parameters(), name, or_default),
         }
     }
 
     /// The units of the parameter with a name, without regard to case.
-    pub fn units(&self, alloc: Global, name: &[u8]) -> Result<Vec<Vec<u8>>, Refused>
-        ensures { spec.SaysNamedUnits result (spec.sdp_units self.now name.now) }
+    pub fn units(&self, name: &[u8]) -> Result<&[Vec<u8>], Refused>
+        ensures { MatchResult result
+            (λ units. spec.sdp_units self.now name.now ≡ Ok (units_view units.now))
+            (λ it. spec.sdp_units self.now name.now ≡ Err it) }
     {
         match self {
-            SdpEndpoint::H264(it) => units_of(alloc, it, name),
-            SdpEndpoint::H265(it) => units_of(alloc, it, name),
-            SdpEndpoint::H266(it) => units_of(alloc, it, name),
+            SdpEndpoint::H264(it) => it.units(name),
+            SdpEndpoint::H265(it) => it.units(name),
+            SdpEndpoint::H266(it) => it.units(name),
         }
     }
 
@@ -258,9 +232,9 @@ impl SdpEndpoint {
         ensures { map other_view result.now ≡ spec.sdp_others self.now }
     {
         match self {
-            SdpEndpoint::H264(it) => it.others(),
-            SdpEndpoint::H265(it) => it.others(),
-            SdpEndpoint::H266(it) => it.others(),
+            SdpEndpoint::H264(it) => it.parameters().others(),
+            SdpEndpoint::H265(it) => it.parameters().others(),
+            SdpEndpoint::H266(it) => it.parameters().others(),
         }
     }
 
@@ -271,8 +245,8 @@ impl SdpEndpoint {
     {
         match self {
             SdpEndpoint::H264(_) => Err(NOT_OF_THIS_CODEC),
-            SdpEndpoint::H265(it) => it.max_don_diff().ok_or(ABSENT),
-            SdpEndpoint::H266(it) => it.max_don_diff().ok_or(ABSENT),
+            SdpEndpoint::H265(it) => it.parameters().max_don_diff().ok_or(ABSENT),
+            SdpEndpoint::H266(it) => it.parameters().max_don_diff().ok_or(ABSENT),
         }
     }
 }
