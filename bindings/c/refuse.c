@@ -388,12 +388,10 @@ static void refuse_formats(const struct format *f)
     memset(to, 0xee, sizeof to);
     refuse_each(h26x_sdp_write(&it, to, sizeof to, &len), len == 0 && to[0] == 0xee);
     expect(len == strlen(f->line) && memcmp(to, f->line, len) == 0);
-    refuse_each(h26x_sdp_units(&it, TEXT(f->units), &count, &why), count == 0);
-    memset(to, 0xee, sizeof to);
-    len = 0;
-    refuse_each(h26x_sdp_unit(&it, TEXT(f->units), 0, to, sizeof to, &len, &why), len == 0 && to[0] == 0xee);
-    expect(count > 0 && len > 1);
 
+    without_memory(h26x_sdp_units(&it, TEXT(f->units), &count, &why) == H26X_OK);
+    without_memory(h26x_sdp_unit(&it, TEXT(f->units), 0, to, sizeof to, &len, &why) == H26X_OK);
+    expect(count > 0 && len > 1);
     without_memory(h26x_sdp_value(&it, TEXT(f->units), false, to, sizeof to, &len) == H26X_OK);
     without_memory(h26x_sdp_number(&it, TEXT("SPROP-MAX-DON-DIFF"), true, &value)
                    == (f->codec == H26X_H264 ? H26X_SDP_ABSENT : H26X_OK));

@@ -4,6 +4,8 @@ package h26x
 import "C"
 
 import (
+	"encoding/hex"
+	"fmt"
 	"runtime"
 	"strings"
 	"sync"
@@ -178,51 +180,84 @@ func (f *FormatParameters) number(name string, orDefault bool) (uint64, error) {
 // Its errors are ErrSDPOtherKind where the RFC has no units there; those of the first fault, of which First is the place
 // of the unit, from 0: ErrSDPNotBase64, ErrSDPEmptyUnit, ErrSDPOtherType and ErrSDPStartCode; and ErrOutOfMemory.
 func (f *FormatParameters) Units(name string) ([][]byte, error) {
-	count, err := f.countOfUnits(name)
-	if err != nil {
+	f.mu.RLock()
+	defer f.mu.RUnlock()
+	if f.call == nil {
+		return nil, ErrClosed
+	}
+	bytes, count, why := []byte(name), new(C.size_t), new(C.h26x_refusal)
+	code := C.h26x_sdp_units(&f.call.handle, at(bytes), C.size_t(len(bytes)), count, why)
+	if err := refused(code, *why); err != nil {
 		return nil, err
 	}
-	value, err := f.Value(name)
-	if err != nil {
-		return nil, err
-	}
-	// Each is read by itself, since a call for one of many reads them all.
-	units := make([][]byte, 0, count)
-	for _, one := range strings.SplitN(value, ",", count) {
-		unit, err := unitOf(f.codec, name, one)
+	units := make([][]byte, 0, int(*count))
+	for i := 0; i < int(*count); i++ {
+		unit, err := written(func(to *C.uint8_t, room C.size_t, size *C.size_t) C.uint32_t {
+			return C.h26x_sdp_unit(&f.call.handle, at(bytes), C.size_t(len(bytes)), C.size_t(i), to, room, size, nil)
+		})
 		if err != nil {
 			return nil, err
 		}
-		units = append(units, unit)
+		units = append(units, []byte(unit))
 	}
 	return units, nil
 }
 
-// countOfUnits is how many units a parameter has, or why it has none.
-func (f *FormatParameters) countOfUnits(name string) (int, error) {
-	f.mu.RLock()
-	defer f.mu.RUnlock()
-	if f.call == nil {
-		return 0, ErrClosed
-	}
-	bytes, count, why := []byte(name), new(C.size_t), new(C.h26x_refusal)
-	code := C.h26x_sdp_units(&f.call.handle, at(bytes), C.size_t(len(bytes)), count, why)
-	return int(*count), refused(code, *why)
+// LevelParameterSets are the parameter sets of a level of H.264 (RFC 6184, 8.1).
+type LevelParameterSets struct {
+	ProfileLevelID [3]byte // profile_idc, profile_iop and level_idc, as in profile-level-id
+	Sets           [][]byte
 }
 
-// unitOf is the unit of a parameter that has one.
-func unitOf(codec Codec, name, value string) ([]byte, error) {
-	one, err := ReadFormatParameters(codec, name+"="+value)
+// LevelParameterSets are those of sprop-level-parameter-sets, the sets of other levels: ErrSDPAbsent where it isn't
+// given.
+//
+// What is no level is told with its place, as a LevelError.
+func (f *FormatParameters) LevelParameterSets() ([]LevelParameterSets, error) {
+	value, err := f.Value("sprop-level-parameter-sets")
 	if err != nil {
 		return nil, err
 	}
-	defer one.Close()
-	bytes := []byte(name)
-	unit, err := written(func(to *C.uint8_t, room C.size_t, size *C.size_t) C.uint32_t {
-		return C.h26x_sdp_unit(&one.call.handle, at(bytes), C.size_t(len(bytes)), 0, to, room, size, nil)
-	})
-	return []byte(unit), err
+	texts := strings.Split(value, ":")
+	var levels []LevelParameterSets
+	for ; len(texts) > 1; texts = texts[2:] {
+		level, err := levelOf(texts[0], texts[1])
+		if err != nil {
+			return nil, &LevelError{len(levels), err}
+		}
+		levels = append(levels, level)
+	}
+	if len(texts) == 1 {
+		return nil, &LevelError{len(levels), ErrSDPAbsent}
+	}
+	return levels, nil
 }
+
+// levelOf is a level of its two texts, each of which is read as what it is outside.
+func levelOf(id, sets string) (LevelParameterSets, error) {
+	var level LevelParameterSets
+	one, err := ReadFormatParameters(H264, "profile-level-id="+id+";sprop-parameter-sets="+sets)
+	if err != nil {
+		return level, err
+	}
+	defer one.Close()
+	if _, err := hex.Decode(level.ProfileLevelID[:], []byte(id)); err != nil {
+		return level, err
+	}
+	level.Sets, err = one.Units("sprop-parameter-sets")
+	return level, err
+}
+
+// A LevelError says which level, from 0, of sprop-level-parameter-sets is none, and why.
+type LevelError struct {
+	Level int
+	Err   error
+}
+
+func (e *LevelError) Error() string { return fmt.Sprintf("h26x: level %d: %v", e.Level, e.Err) }
+
+// Unwrap is why.
+func (e *LevelError) Unwrap() error { return e.Err }
 
 // A FormatParameter is a name and a value.
 type FormatParameter struct {

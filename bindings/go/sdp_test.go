@@ -237,6 +237,39 @@ func TestManyUnits(t *testing.T) {
 	}
 }
 
+func TestSetsOfLevels(t *testing.T) {
+	const name = "sprop-level-parameter-sets="
+	levels, err := formatOf(t, h26x.H264, name+"42E00B:Z0LgCw==,aMs=:4de00b:aMs=").LevelParameterSets()
+	done(t, err)
+	if len(levels) != 2 || levels[0].ProfileLevelID != [3]byte{0x42, 0xe0, 0x0b} ||
+		levels[1].ProfileLevelID != [3]byte{0x4d, 0xe0, 0x0b} {
+		t.Fatalf("%v", levels)
+	}
+	sameAll(t, levels[0].Sets, many("6742e00b|68cb"))
+	sameAll(t, levels[1].Sets, many("68cb"))
+	if _, err := formatOf(t, h26x.H264, "").LevelParameterSets(); !errors.Is(err, h26x.ErrSDPAbsent) {
+		t.Errorf("none: %v", err)
+	}
+	for _, one := range []struct {
+		value string
+		level int
+		code  h26x.Code
+	}{
+		{"", 0, h26x.ErrSDPAbsent},
+		{"42e00b:Zw==:42e00c", 1, h26x.ErrSDPAbsent},
+		{"42e0:Zw==", 0, h26x.ErrSDPNotHexadecimal},
+		{"42e00b:Zw==:42e00c:", 1, h26x.ErrSDPEmptyUnit},
+		{"42e00b:Zw==,Zw", 0, h26x.ErrSDPNotBase64},
+		{"42e00b:aMs=:42e00c:aMs=,ZQ==", 1, h26x.ErrSDPOtherType},
+	} {
+		levels, err := formatOf(t, h26x.H264, name+one.value).LevelParameterSets()
+		var fault *h26x.LevelError
+		if levels != nil || !errors.As(err, &fault) || fault.Level != one.level || !errors.Is(err, one.code) {
+			t.Errorf("%q: %v and %v", one.value, levels, err)
+		}
+	}
+}
+
 func TestOthers(t *testing.T) {
 	others, err := formatOf(t, h26x.H265, "x=12;level-id=93; Name = a=b ;y;x=3").Others()
 	done(t, err)

@@ -711,7 +711,7 @@ H26X_API uint32_t h26x_sdp_read(uint32_t codec, const uint8_t *text, size_t text
                                 h26x_refusal *why) H26X_MUST_USE;
 
 /* What a sender says of its stream, of the bytes that it begins with (Annex B): profile, tier and level of the first SPS,
- * and the sets before the first slice. One of the codes from 33 to 36; H26X_UNKNOWN_CODEC, H26X_OUT_OF_MEMORY. */
+ * and the sets before the first slice. One of the codes from 33 to 35; H26X_UNKNOWN_CODEC, H26X_OUT_OF_MEMORY. */
 H26X_API uint32_t h26x_sdp_of_payload(uint32_t codec, const uint8_t *payload, size_t payload_len, h26x_sdp *made)
     H26X_MUST_USE;
 
@@ -755,13 +755,13 @@ H26X_API uint32_t h26x_sdp_number(const h26x_sdp *h, const uint8_t *name, size_t
 
 /* How many units the parameter with a name has, out of base64: sprop-parameter-sets, sprop-vps and so on.
  * H26X_SDP_UNKNOWN_NAME, H26X_SDP_OTHER_KIND, H26X_SDP_ABSENT, or one of the codes from 29 to 32 by the first fault, since
- * h26x_sdp_read doesn't look into base64; H26X_OUT_OF_MEMORY, H26X_WRONG_END. All but H26X_OK leave *count. */
+ * h26x_sdp_read refuses none of them; H26X_WRONG_END. All but H26X_OK leave *count. */
 H26X_API uint32_t h26x_sdp_units(const h26x_sdp *h, const uint8_t *name, size_t name_len, size_t *count,
                                  h26x_refusal *why) H26X_MUST_USE;
 
 /* Unit i of them to the front of `to`. The same answers; H26X_SDP_ABSENT past the last; H26X_NO_ROOM tells *len and leaves
- * `to`. Give a peer's sets to the decoder before the first picture, each behind 00 00 00 01. Each call reads all of them:
- * where a peer may send thousands, bound *count first, or read the text of h26x_sdp_value as base64 between commas. */
+ * `to`. Give a peer's sets to the decoder before the first picture, each behind 00 00 00 01. All are read once, when the
+ * parameters are made. */
 H26X_API uint32_t h26x_sdp_unit(const h26x_sdp *h, const uint8_t *name, size_t name_len, size_t i, uint8_t *to,
                                 size_t room, size_t *len, h26x_refusal *why) H26X_MUST_USE;
 

@@ -16,6 +16,7 @@ from h26x import (
     Codec,
     Error,
     FormatParameters,
+    LevelError,
     NotOfThisCodec,
     RtpMap,
     RtpMapError,
@@ -263,6 +264,31 @@ def test_units_of_any_length() -> None:
     assert it.units("sprop-parameter-sets") == units
     assert it.value("sprop-parameter-sets") == text
     assert str(it) == "sprop-parameter-sets=" + text
+
+
+def test_sets_of_levels() -> None:
+    text = "sprop-level-parameter-sets=42E00B:Z0LgCw==,aMs=:4de00b:aMs="
+    first, second = read(H264, text).level_parameter_sets()
+    assert first == (some("42e00b"), many("6742e00b|68cb"))
+    assert (second.profile_level_id, second.sets) == (some("4de00b"), many("68cb"))
+    assert read(H264, "").level_parameter_sets() == []
+
+
+@pytest.mark.parametrize(
+    "value, level, fault",
+    [
+        ("", 0, SdpNotHexadecimal),
+        ("42e00b:Zw==:42e00c", 1, SdpEmptyUnit),
+        ("42e0:Zw==", 0, SdpNotHexadecimal),
+        ("42e00b:Zw==:42e00c:", 1, SdpEmptyUnit),
+        ("42e00b:Zw==,Zw", 0, SdpNotBase64),
+        ("42e00b:aMs=:42e00c:aMs=,ZQ==", 1, SdpOtherType),
+    ],
+)
+def test_what_is_no_level(value: str, level: int, fault: Type[Error]) -> None:
+    with pytest.raises(LevelError) as told:
+        read(H264, "sprop-level-parameter-sets=" + value).level_parameter_sets()
+    assert told.value.level == level and type(told.value.__cause__) is fault
 
 
 @pytest.mark.parametrize(

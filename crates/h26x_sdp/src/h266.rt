@@ -204,7 +204,7 @@ impl CodecParameter for H266Parameter {
 
 /// A text that may be absent.
 fn text_of(text: Option<&[u8]>) -> &[u8]
-    ensures { result.now ≡ constraints_said (option_map (λ it. it.now) text) }
+    ensures { result.now ≡ constraints_said (option_map (λ it. it.now) text.entry) }
 {
     match text {
         Some(text) => text,

@@ -103,7 +103,7 @@ from .profile import (
     profile_level,
 )
 from .receiver import Outcome, Received, Receiver
-from .sdp import FormatParameters, RtpMap, fits_single_units
+from .sdp import FormatParameters, LevelError, LevelParameterSets, RtpMap, fits_single_units
 from .shown import Kind, Part, ShownPacket, paci_packet
 
 #: The version of this package.
@@ -143,6 +143,8 @@ __all__ = [
     "H266Level",
     "H266Profile",
     "Kind",
+    "LevelError",
+    "LevelParameterSets",
     "NaluTypeNotHandled",
     "NoRoom",
     "NotOfThisCodec",

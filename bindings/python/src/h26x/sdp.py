@@ -3,17 +3,31 @@ type in an `a=fmtp` line (RFC 6184, 8; RFC 7798, 7; RFC 9328, 7)."""
 
 from __future__ import annotations
 
-from base64 import b64decode
 from contextlib import ExitStack
 from ctypes import byref, c_size_t, c_uint8, c_uint32, c_uint64
 from dataclasses import dataclass
-from typing import Any, List, NoReturn, Optional, Tuple
+from typing import Any, List, NamedTuple, NoReturn, Optional, Tuple
 
 from ._handle import Owner
 from ._library import Handle, Refusal, library
 from ._memory import Buffer, Room, as_bytes, number
 from .codec import Codec, codec_of
-from .errors import NoRoom, SdpAbsent, SdpNoAnswer, check, error_of
+from .errors import NoRoom, OutOfMemory, SdpAbsent, SdpNoAnswer, check, error_of
+
+
+class LevelParameterSets(NamedTuple):
+    """The parameter sets of a level of H.264 (RFC 6184, 8.1)."""
+
+    profile_level_id: bytes  # profile_idc, profile_iop and level_idc
+    sets: List[bytes]
+
+
+class LevelError(ValueError):
+    """A level of sprop-level-parameter-sets is none; its cause says why."""
+
+    def __init__(self, level: int) -> None:
+        super().__init__(f"level {level} is none")
+        self.level = level  # its place, from 0
 
 
 class FormatParameters(Owner):
@@ -118,18 +132,37 @@ class FormatParameters(Owner):
                 return []
             if code != 0:
                 raise error_of(code, why.first, why.second)
-            if count.value == 0:
-                return []
-            # Each call for one of many reads them all; that each is base64 is known now.
-            text = self._written(library.h26x_sdp_value, *given, False)
-            return [b64decode(unit) for unit in text.split(b",")]
+            call = library.h26x_sdp_unit
+            return [self._written(call, *given, i, more=(byref(why),)) for i in range(count.value)]
 
-    def _written(self, call: Any, *arguments: Any) -> bytes:
+    def level_parameter_sets(self) -> List[LevelParameterSets]:
+        """The parameter sets of other levels of H.264, those of sprop-level-parameter-sets; none where it is
+        absent. Raises a LevelError, which says what is wrong with the first level that is none; or
+        OutOfMemory.
+
+        >>> line = "sprop-level-parameter-sets=42e00b:Z0LgCw==,aMs=:4de00b:aMs="
+        >>> FormatParameters.read(Codec.H264, line).level_parameter_sets()[1]
+        LevelParameterSets(profile_level_id=b'M\\xe0\\x0b', sets=[b'h\\xcb'])
+        """
+        value = self.value("sprop-level-parameter-sets")
+        if value is None:
+            return []
+        texts, levels = value.split(":"), []
+        for n in range((len(texts) + 1) // 2):
+            try:
+                levels.append(_level_of(*texts[2 * n : 2 * n + 2]))
+            except OutOfMemory:
+                raise
+            except ValueError as fault:
+                raise LevelError(n) from fault
+        return levels
+
+    def _written(self, call: Any, *arguments: Any, more: Tuple[Any, ...] = ()) -> bytes:
         """What a call writes, for who has the lock."""
         room, size = self._room, c_size_t()
         while True:
             to = (room.address, room.size, byref(size))
-            code = call(self._live(), *arguments, *to)
+            code = call(self._live(), *arguments, *to, *more)
             if code != NoRoom.code:
                 check(code)
                 return room.copy(0, size.value)
@@ -240,6 +273,13 @@ def fits_single_units(payload: Buffer, limit: int) -> bool:
     `packetize_unit`, since `packetize` puts both into one packet."""
     data = as_bytes(payload)
     return bool(library.h26x_fits_single_units(data, len(data), number("limit", limit)))
+
+
+def _level_of(digits: str, sets: str = "") -> LevelParameterSets:
+    """A level of its two texts, each of which is read as what it is outside."""
+    text = f"profile-level-id={digits};sprop-parameter-sets={sets}"
+    with FormatParameters.read(Codec.H264, text) as level:
+        return LevelParameterSets(bytes.fromhex(digits), level.units("sprop-parameter-sets"))
 
 
 def _read(codec: Codec, text: str) -> Handle:

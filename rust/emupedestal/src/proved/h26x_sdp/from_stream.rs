@@ -199,18 +199,24 @@ fn h266_profile(units: &[&[u8]]) -> Result<Vec<u8>, StreamError> {
     h266_profile_in(first_set(H266_SPS, units))
 }
 
+/// The same of an SPS with general constraints, which say how long they are.
+fn with_general(sps: Option<&[u8]>) -> Result<Vec<u8>, StreamError> {
+    let bytes = set_bytes(2, 15, sps)?;
+    let len = constraints_len(&bytes[4..]);
+    set_bytes(2, 4 + len, sps)
+}
+
 /// Those bytes of an SPS.
 fn h266_profile_in(sps: Option<&[u8]>) -> Result<Vec<u8>, StreamError> {
     let bytes = set_bytes(2, 5, sps)?;
     if bytes[1] & 0x01 == 0 {
         return Err(StreamError::NoProfile);
     }
-    if !has_general(&bytes[4..]) {
-        return Ok(bytes);
+    if has_general(&bytes[4..]) {
+        with_general(sps)
+    } else {
+        Ok(bytes)
     }
-    let bytes = set_bytes(2, 15, sps)?;
-    let len = constraints_len(&bytes[4..]);
-    set_bytes(2, 4 + len, sps)
 }
 
 /// Gives parameters what those bytes say.

@@ -4,14 +4,14 @@
 
 use crate::proved::h26x_codec::Codec;
 use crate::proved::h26x_handles::code::{NOT_OF_THIS_CODEC, OUT_OF_MEMORY};
+use crate::proved::h26x_handles::kept_parameters::KeptParameters;
 use crate::proved::h26x_handles::sdp_code::{
-    ABSENT, NO_ANSWER, OTHER_KIND, Refused, UNKNOWN_NAME, of_parameters, of_stream, of_units,
-    refused_with,
+    ABSENT, NO_ANSWER, OTHER_KIND, Refused, UNKNOWN_NAME, of_parameters, of_stream,
 };
 use crate::proved::h26x_handles::sdp_parameter::{ListedParameter, parameter_of};
 use crate::proved::h26x_sdp::{
-    CodecParameters, CodecRules, H264Parameters, H265Parameters, H266Parameters, Kind,
-    OtherParameter, h264_of_payload, h265_of_payload, h266_of_payload,
+    CodecParameters, H264Parameter, H265Parameter, H266Parameter, Kind, OtherParameter,
+    h264_of_payload, h265_of_payload, h266_of_payload,
 };
 use crate::support::AllocError;
 use alloc::vec::Vec;
@@ -19,9 +19,9 @@ use core::slice;
 
 /// The format parameters of a codec.
 pub enum SdpEndpoint {
-    H264(H264Parameters),
-    H265(H265Parameters),
-    H266(H266Parameters),
+    H264(KeptParameters<H264Parameter>),
+    H265(KeptParameters<H265Parameter>),
+    H266(KeptParameters<H266Parameter>),
 }
 
 /// Whether a parameter is a number.
@@ -29,14 +29,6 @@ fn is_number(kind: Kind) -> bool {
     match kind {
         Kind::Number { .. } | Kind::HexadecimalNumber { .. } => true,
         Kind::Hexadecimal { .. } | Kind::TxMode | Kind::Units(_) | Kind::Text => false,
-    }
-}
-
-/// Whether a parameter is units.
-fn is_units(kind: Kind) -> bool {
-    match kind {
-        Kind::Units(_) => true,
-        _ => false,
     }
 }
 
@@ -77,31 +69,16 @@ fn number_of<P: ListedParameter>(
     number.ok_or(ABSENT)
 }
 
-/// The units of the parameter with a name.
-fn units_of<P: ListedParameter>(
-    it: &CodecParameters<P>,
-    name: &[u8],
-) -> Result<Vec<Vec<u8>>, Refused> {
-    let Some((parameter, kind)) = parameter_of(name) else {
-        return Err(refused_with(UNKNOWN_NAME));
-    };
-    if !is_units(kind) {
-        return Err(refused_with(OTHER_KIND));
-    }
-    match it.units(parameter) {
-        Ok(Some(units)) => Ok(units),
-        Ok(None) => Err(refused_with(ABSENT)),
-        Err(error) => Err(of_units(error)),
-    }
-}
-
 /// The answer to an offered format by one of ours, or that there is none.
-fn answer_of<P: CodecRules>(
-    offered: &CodecParameters<P>,
-    ours: &CodecParameters<P>,
-) -> Result<CodecParameters<P>, u32> {
-    match offered.answer(slice::from_ref(ours)) {
-        Ok(Some(answer)) => Ok(answer),
+fn answer_of<P: ListedParameter>(
+    offered: &KeptParameters<P>,
+    ours: &KeptParameters<P>,
+) -> Result<KeptParameters<P>, u32> {
+    match offered
+        .parameters()
+        .answer(slice::from_ref(ours.parameters()))
+    {
+        Ok(Some(answer)) => KeptParameters::of(answer),
         Ok(None) => Err(NO_ANSWER),
         Err(_) => Err(OUT_OF_MEMORY),
     }
@@ -111,15 +88,15 @@ impl SdpEndpoint {
     /// Reads what stands behind the payload type in an `a=fmtp` line.
     pub fn read(codec: Codec, text: &[u8]) -> Result<Self, Refused> {
         match codec {
-            Codec::H264 => match H264Parameters::read(text) {
+            Codec::H264 => match KeptParameters::<H264Parameter>::read(text) {
                 Ok(it) => Ok(SdpEndpoint::H264(it)),
                 Err(error) => Err(of_parameters(error)),
             },
-            Codec::H265 => match H265Parameters::read(text) {
+            Codec::H265 => match KeptParameters::<H265Parameter>::read(text) {
                 Ok(it) => Ok(SdpEndpoint::H265(it)),
                 Err(error) => Err(of_parameters(error)),
             },
-            Codec::H266 => match H266Parameters::read(text) {
+            Codec::H266 => match KeptParameters::<H266Parameter>::read(text) {
                 Ok(it) => Ok(SdpEndpoint::H266(it)),
                 Err(error) => Err(of_parameters(error)),
             },
@@ -130,15 +107,15 @@ impl SdpEndpoint {
     pub fn of_payload(codec: Codec, payload: &[u8]) -> Result<Self, u32> {
         match codec {
             Codec::H264 => match h264_of_payload(payload) {
-                Ok(it) => Ok(SdpEndpoint::H264(it)),
+                Ok(it) => Ok(SdpEndpoint::H264(KeptParameters::of(it)?)),
                 Err(error) => Err(of_stream(error)),
             },
             Codec::H265 => match h265_of_payload(payload) {
-                Ok(it) => Ok(SdpEndpoint::H265(it)),
+                Ok(it) => Ok(SdpEndpoint::H265(KeptParameters::of(it)?)),
                 Err(error) => Err(of_stream(error)),
             },
             Codec::H266 => match h266_of_payload(payload) {
-                Ok(it) => Ok(SdpEndpoint::H266(it)),
+                Ok(it) => Ok(SdpEndpoint::H266(KeptParameters::of(it)?)),
                 Err(error) => Err(of_stream(error)),
             },
         }
@@ -172,45 +149,45 @@ impl SdpEndpoint {
     /// Writes them.
     pub(crate) fn write(&self) -> Result<Vec<u8>, AllocError> {
         match self {
-            SdpEndpoint::H264(it) => it.write(),
-            SdpEndpoint::H265(it) => it.write(),
-            SdpEndpoint::H266(it) => it.write(),
+            SdpEndpoint::H264(it) => it.parameters().write(),
+            SdpEndpoint::H265(it) => it.parameters().write(),
+            SdpEndpoint::H266(it) => it.parameters().write(),
         }
     }
 
     /// The value of the parameter with a name, without regard to case.
     pub fn value(&self, name: &[u8], or_default: bool) -> Result<&[u8], u32> {
         match self {
-            SdpEndpoint::H264(it) => value_of(it, name, or_default),
-            SdpEndpoint::H265(it) => value_of(it, name, or_default),
-            SdpEndpoint::H266(it) => value_of(it, name, or_default),
+            SdpEndpoint::H264(it) => value_of(it.parameters(), name, or_default),
+            SdpEndpoint::H265(it) => value_of(it.parameters(), name, or_default),
+            SdpEndpoint::H266(it) => value_of(it.parameters(), name, or_default),
         }
     }
 
     /// The number of the parameter with a name, without regard to case.
     pub fn number(&self, name: &[u8], or_default: bool) -> Result<u64, u32> {
         match self {
-            SdpEndpoint::H264(it) => number_of(it, name, or_default),
-            SdpEndpoint::H265(it) => number_of(it, name, or_default),
-            SdpEndpoint::H266(it) => number_of(it, name, or_default),
+            SdpEndpoint::H264(it) => number_of(it.parameters(), name, or_default),
+            SdpEndpoint::H265(it) => number_of(it.parameters(), name, or_default),
+            SdpEndpoint::H266(it) => number_of(it.parameters(), name, or_default),
         }
     }
 
     /// The units of the parameter with a name, without regard to case.
-    pub fn units(&self, name: &[u8]) -> Result<Vec<Vec<u8>>, Refused> {
+    pub fn units(&self, name: &[u8]) -> Result<&[Vec<u8>], Refused> {
         match self {
-            SdpEndpoint::H264(it) => units_of(it, name),
-            SdpEndpoint::H265(it) => units_of(it, name),
-            SdpEndpoint::H266(it) => units_of(it, name),
+            SdpEndpoint::H264(it) => it.units(name),
+            SdpEndpoint::H265(it) => it.units(name),
+            SdpEndpoint::H266(it) => it.units(name),
         }
     }
 
     /// The parameters that the RFC doesn't have, in their order.
     pub fn others(&self) -> &[OtherParameter] {
         match self {
-            SdpEndpoint::H264(it) => it.others(),
-            SdpEndpoint::H265(it) => it.others(),
-            SdpEndpoint::H266(it) => it.others(),
+            SdpEndpoint::H264(it) => it.parameters().others(),
+            SdpEndpoint::H265(it) => it.parameters().others(),
+            SdpEndpoint::H266(it) => it.parameters().others(),
         }
     }
 
@@ -219,8 +196,8 @@ impl SdpEndpoint {
     pub fn max_don_diff(&self) -> Result<u32, u32> {
         match self {
             SdpEndpoint::H264(_) => Err(NOT_OF_THIS_CODEC),
-            SdpEndpoint::H265(it) => it.max_don_diff().ok_or(ABSENT),
-            SdpEndpoint::H266(it) => it.max_don_diff().ok_or(ABSENT),
+            SdpEndpoint::H265(it) => it.parameters().max_don_diff().ok_or(ABSENT),
+            SdpEndpoint::H266(it) => it.parameters().max_don_diff().ok_or(ABSENT),
         }
     }
 }
