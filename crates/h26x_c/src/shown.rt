@@ -5,7 +5,7 @@ ghost use Rattle.h265_packets.specs.declared.payload.H265Payload.{H265Payload};
 ghost use Rattle.h26x_receiver.specs.AnyDepacketizer.{any_depacketizer_shown};
 ghost use Rattle.h26x_handles.specs.Codes.{ok, wrong_end, not_of_this_codec};
 ghost use Rattle.h26x_handles.specs.Copies.{with_front};
-ghost use Rattle.h26x_handles.specs.Shown.{may_show, part_without_don, first_part, other_part, payload_parts, payload_kind_number, payload_header, payload_word, nth_part, don_number, endpoint_shown, any_depacketizer_parts, endpoint_parts};
+ghost use Rattle.h26x_handles.specs.Shown.{shows_packets, part_without_don, first_part, other_part, payload_parts, payload_kind_number, payload_header, payload_word, nth_part, don_number, endpoint_shown, any_depacketizer_parts, endpoint_parts};
 
 use crate::const_handle::ConstHandle;
 use h26x_handles::code::{NOT_OF_THIS_CODEC, OK, WRONG_END};
@@ -30,8 +30,8 @@ pub struct Shown {
 /// The packet that was accepted last, in numbers.
 #[unsafe(no_mangle)]
 pub extern "C" fn h26x_h265_shown(d: &ConstHandle, shown: &mut Shown) -> u32
-    ensures wrong { may_show d.now.value ≡ false → result ≡ wrong_end }
-    ensures none { may_show d.now.value ≡ true → endpoint_shown d.now.value ≡ None →
+    ensures wrong { shows_packets d.now.value ≡ false → result ≡ wrong_end }
+    ensures none { shows_packets d.now.value ≡ true → endpoint_shown d.now.value ≡ None →
         result ≡ not_of_this_codec }
     ensures answer { (it : H265Payload) → endpoint_shown d.now.value ≡ Some it → result ≡ ok }
     ensures kind { (it : H265Payload) → endpoint_shown d.now.value ≡ Some it →

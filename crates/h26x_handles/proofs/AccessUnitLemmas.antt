@@ -4,7 +4,7 @@ use Rattle.std.specs.Prelude.{MatchOption}
 use Rattle.h26x_access_units.specs.ReceivedUnit.{ReceivedUnitValue}
 use Rattle.h26x_access_units.specs.Reception.{Reception, IsNext}
 use Rattle.h26x_codec.specs.declared.codec.Codec.{Codec}
-use Rattle.h26x_handles.specs.UnitsState.{UnitsState, units_state, unit_without_room, with_unit, next_answer, IsUnitGiven}
+use Rattle.h26x_handles.specs.UnitsState.{UnitsState, units_state, unit_without_room, buffer_with_unit, next_answer, IsUnitGiven}
 use Rattle.h26x_handles.specs.declared.access_units.NextAnswer.{NextAnswer}
 
 -- its receiver
@@ -17,7 +17,7 @@ stands_by codec r left new is = is ∙ ap (λ (x : Reception). units_state codec
 
 -- the one that had no room before
 pub kept_given : (now : ℕ) (codec : Codec) (r : Reception) (left : Option ReceivedUnitValue) (new : UnitsState) (kept : ReceivedUnitValue) (to new_to : List ℕ) (answer : NextAnswer) →
-    left ≡ Some kept → new ≡ units_state codec r (unit_without_room (Some kept) to) → new_to ≡ with_unit (Some kept) to → answer ≡ next_answer (Some kept) to →
+    left ≡ Some kept → new ≡ units_state codec r (unit_without_room (Some kept) to) → new_to ≡ buffer_with_unit (Some kept) to → answer ≡ next_answer (Some kept) to →
     IsUnitGiven now (units_state codec r left) new to new_to answer
 kept_given now codec r left new kept to new_to answer there after put told = record {
   unit = Some kept;
@@ -31,7 +31,7 @@ kept_given now codec r left new kept to new_to answer there after put told = rec
 -- what the receiver gives out
 pub next_given : (now : ℕ) (codec : Codec) (r next : Reception) (left given : Option ReceivedUnitValue) (new : UnitsState) (unit : ReceivedUnitValue) (to new_to : List ℕ) (answer : NextAnswer) →
     left ≡ None → IsNext now r next given → given ≡ Some unit → new ≡ units_state codec next (unit_without_room (Some unit) to) →
-    new_to ≡ with_unit (Some unit) to → answer ≡ next_answer (Some unit) to → IsUnitGiven now (units_state codec r left) new to new_to answer
+    new_to ≡ buffer_with_unit (Some unit) to → answer ≡ next_answer (Some unit) to → IsUnitGiven now (units_state codec r left) new to new_to answer
 next_given now codec r next left given new unit to new_to answer none is some after put told = record {
   unit = Some unit;
   is_next = subst (λ (l : Option ReceivedUnitValue). MatchOption l (IsNext now r new.reception (Some unit)) (λ (k : ReceivedUnitValue). (Some unit ≡ Some k) × (new.reception ≡ r)))

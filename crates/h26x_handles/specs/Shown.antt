@@ -74,10 +74,10 @@ any_depacketizer_parts depacketizer = elim (any_depacketizer_shown depacketizer)
     [ None ↦ [] | Some it ↦ payload_parts it ]
 
 -- whether it is a depacketizer or a receiver of packets, whose packets can be shown
-abbrev pub may_show : Endpoint → Bool
-may_show (e.Receiving it) = true
-may_show (e.Sequenced it) = true
-may_show it = false
+abbrev pub shows_packets : Endpoint → Bool
+shows_packets (e.Receiving it) = true
+shows_packets (e.Sequenced it) = true
+shows_packets it = false
 
 -- what an endpoint shows
 abbrev pub endpoint_shown : Endpoint → Option H265Payload

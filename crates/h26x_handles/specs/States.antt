@@ -16,7 +16,7 @@ use Rattle.h26x_handles.specs.declared.packetizer.AnyPacketizer.{AnyPacketizer}
 use Rattle.h26x_handles.specs.declared.packetizer.AnyPacketizer.TheVariants as s
 use Rattle.h26x_core.specs.declared.extra.CodecExtra.{CodecExtra}
 use Rattle.h26x_model.specs.Receive.RunLimit.{run_len}
-use Rattle.h26x_receiver.specs.Sequenced.{SequencedDepacketization, sequenced_depacketization, after_taken_packet, is_run_kept, expected_after_skip, skip_answer}
+use Rattle.h26x_receiver.specs.Sequenced.{SequencedDepacketization, sequenced_depacketization, after_taken_packet, is_run_kept, expected_after_skip}
 use Rattle.h26x_receiver.specs.AnyDepacketizer.{any_depacketizer_state, any_depacketizer_with_avc, any_depacketizer_codec, any_depacketizer_with_donl, any_depacketizer_with_run, fresh_any_depacketizer, any_depacketizer_showing, are_same_depacketizers}
 use Rattle.h26x_receiver.specs.declared.any.AnyDepacketizer.{AnyDepacketizer}
 use Rattle.h26x_handles.specs.Endpoint.{SequencedEndpoint}

@@ -91,9 +91,9 @@ next_answer (Some unit) to = if nat_le (length unit.bytes) (length to)
     then answers.Written (unit_told unit) else answers.NoRoom (unit_told unit)
 
 -- that buffer then
-abbrev pub with_unit : Option ReceivedUnitValue → List ℕ → List ℕ
-with_unit None to = to
-with_unit (Some unit) to = with_front unit.bytes to
+abbrev pub buffer_with_unit : Option ReceivedUnitValue → List ℕ → List ℕ
+buffer_with_unit None to = to
+buffer_with_unit (Some unit) to = with_front unit.bytes to
 
 -- what has no room there
 abbrev pub unit_without_room : Option ReceivedUnitValue → List ℕ → Option ReceivedUnitValue
@@ -102,17 +102,17 @@ unit_without_room (Some unit) to =
     if nat_le (length unit.bytes) (length to) then None else Some unit
 
 -- an access unit, or none, is the next: the one that had no room before, or what the receiver gives out
-abbrev pub IsNextUnit : ℕ → UnitsState → Reception → Option ReceivedUnitValue → Type 0
-IsNextUnit now it reception unit = MatchOption it.left (IsNext now it.reception reception unit)
+abbrev pub IsNextGiven : ℕ → UnitsState → Reception → Option ReceivedUnitValue → Type 0
+IsNextGiven now it reception unit = MatchOption it.left (IsNext now it.reception reception unit)
     (λ kept. (unit ≡ Some kept) × (reception ≡ it.reception))
 
 -- The next access unit goes to a buffer where it has room there, and else stays for the next call.
 pub record IsUnitGiven (now : ℕ) (it new : UnitsState) (to new_to : List ℕ)
     (answer : NextAnswer) : Type 0 where
   pub unit : Option ReceivedUnitValue
-  pub is_next : IsNextUnit now it new.reception unit
+  pub is_next : IsNextGiven now it new.reception unit
   pub stands : new ≡ record it { reception = new.reception; left = unit_without_room unit to }
-  pub put : new_to ≡ with_unit unit to
+  pub put : new_to ≡ buffer_with_unit unit to
   pub answered : answer ≡ next_answer unit to
 
 -- Without memory nothing changed, or packets were taken that were due, none of them lost; and no access

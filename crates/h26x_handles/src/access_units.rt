@@ -5,7 +5,7 @@ ghost use Rattle.std.specs.Prelude.{◌≡◌, ◌≢◌, ◌<◌, ◌≤◌, �
 ghost use Rattle.h26x_access_units.specs.ReceivedUnit.{received_unit_value};
 ghost use Rattle.h26x_access_units.specs.Reception.{reception_answer, after_reception};
 ghost use Rattle.h26x_frames.specs.Rtp.{rtp_body};
-ghost use Rattle.h26x_handles.specs.UnitsState.{units_codec_or_code, fresh_access_units, pushed_numbers, unit_told, next_answer, with_unit, unit_without_room, units_push_answer, units_after_push, IsUnitGiven, IsOutOfMemory, next_numbers, units_deadline, units_missing, units_finished, units_restarted};
+ghost use Rattle.h26x_handles.specs.UnitsState.{units_codec_or_code, fresh_access_units, pushed_numbers, unit_told, next_answer, buffer_with_unit, unit_without_room, units_push_answer, units_after_push, IsUnitGiven, IsOutOfMemory, next_numbers, units_deadline, units_missing, units_finished, units_restarted};
 ghost use Rattle.h26x_handles.specs.Copies.{with_first};
 
 use crate::code::{NO_ROOM, NOTHING_YET, OK, OUT_OF_RANGE, codec_wanted, number_of};
@@ -213,7 +213,7 @@ impl AccessUnitEndpoint {
     fn give(&mut self, unit: ReceivedUnit, to: &mut [u8]) -> NextAnswer
         requires { let u = ⟦<AccessUnitEndpoint as GivesUnits>⟧.units in (u self.old).left ≡ None }
         ensures answer { result ≡ next_answer (Some (received_unit_value unit)) to.old }
-        ensures put { to.new ≡ with_unit (Some (received_unit_value unit)) to.old }
+        ensures put { to.new ≡ buffer_with_unit (Some (received_unit_value unit)) to.old }
         ensures after { let u = ⟦<AccessUnitEndpoint as GivesUnits>⟧.units in
             u self.new ≡ record (u self.old) {
               left = unit_without_room (Some (received_unit_value unit)) to.old;
