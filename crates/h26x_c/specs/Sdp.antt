@@ -66,9 +66,9 @@ endpoint_answer (e.Sdp offered) (e.Sdp ours) = sdp_answer offered ours
 endpoint_answer offered ours = Err wrong_end
 
 -- the units of the parameter with a name, or why there are none
-abbrev pub endpoint_units : Endpoint → List ℕ → Result (List (List ℕ)) Refused
-endpoint_units (e.Sdp it) name = sdp_units it name
-endpoint_units it name = Err (refused_with wrong_end)
+abbrev pub endpoint_sdp_units : Endpoint → List ℕ → Result (List (List ℕ)) Refused
+endpoint_sdp_units (e.Sdp it) name = sdp_units it name
+endpoint_sdp_units it name = Err (refused_with wrong_end)
 
 abbrev pub units_count : Result (List (List ℕ)) Refused → Result ℕ ℕ
 units_count = result_map_both length (λ it. it.code)

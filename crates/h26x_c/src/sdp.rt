@@ -200,11 +200,11 @@ pub extern "C" fn h26x_sdp_units(
 ) -> u32
     ensures wrong { spec.is_sdp h.now.value ≡ false → result ≡ wrong_end }
     ensures answer { (result, count.new) ≡ spec.number_answer
-        (spec.units_count (spec.endpoint_units h.now.value name.now)) count.old }
-    ensures place { (it : Refused) → spec.endpoint_units h.now.value name.now ≡ Err it →
+        (spec.units_count (spec.endpoint_sdp_units h.now.value name.now)) count.old }
+    ensures place { (it : Refused) → spec.endpoint_sdp_units h.now.value name.now ≡ Err it →
         why.new ≡ record { first = it.place; second = 0 } }
     ensures kept_why { (units : List (List ℕ)) →
-        spec.endpoint_units h.now.value name.now ≡ Ok units → why.new ≡ why.old }
+        spec.endpoint_sdp_units h.now.value name.now ≡ Ok units → why.new ≡ why.old }
 {
     let Endpoint::Sdp(it) = h.get() else {
         return tell(refused_with(WRONG_END), why);
@@ -230,11 +230,11 @@ pub extern "C" fn h26x_sdp_unit(
 ) -> u32
     ensures wrong { spec.is_sdp h.now.value ≡ false → result ≡ wrong_end }
     ensures answer { (result, (to.new, len.new)) ≡ spec.copy_answer
-        (spec.nth_unit i (spec.endpoint_units h.now.value name.now)) to.old len.old }
-    ensures place { (it : Refused) → spec.endpoint_units h.now.value name.now ≡ Err it →
+        (spec.nth_unit i (spec.endpoint_sdp_units h.now.value name.now)) to.old len.old }
+    ensures place { (it : Refused) → spec.endpoint_sdp_units h.now.value name.now ≡ Err it →
         why.new ≡ record { first = it.place; second = 0 } }
     ensures kept_why { (units : List (List ℕ)) →
-        spec.endpoint_units h.now.value name.now ≡ Ok units → why.new ≡ why.old }
+        spec.endpoint_sdp_units h.now.value name.now ≡ Ok units → why.new ≡ why.old }
 {
     let Endpoint::Sdp(it) = h.get() else {
         return tell(refused_with(WRONG_END), why);
