@@ -6,3 +6,4 @@ pub mod ParameterLemmas
 pub mod PlacementLemmas
 pub mod SkipLemmas
 pub mod KeptUnitsLemmas
+pub mod UnitCaseLemmas

@@ -1,10 +1,20 @@
-//! What is answered of packets that were to go into memory, at each code, and worked cases of it.
-//! Each is the contract of a function without a result.
+//! What is answered at each code of packets that were to go into memory and of access units, and worked
+//! cases of it. Each is the contract of a function without a result.
 
-ghost use Rattle.std.specs.Prelude.{◌≡◌, ◌⊎◌, ℕ, List, [], ◌∷◌};
+ghost use Rattle.std.specs.Prelude.{◌≡◌, ◌⊎◌, ◌<◌, ◌≤◌, ◌+◌, ◌^◌, ℕ, Bool, true, false, List, [], ◌∷◌, ◌++◌, drop, length, Some, None, Ok, Err};
 ghost use Rattle.h26x_payload.specs.Placement.{ArePlaced, HaveNoRoom};
-ghost use Rattle.h26x_handles.specs.Codes.{ok, no_room, out_of_memory};
+ghost use Rattle.h26x_codec.specs.declared.codec.Codec.{Codec};
+ghost use Rattle.h26x_codec.specs.declared.codec.Codec.TheVariants as codecs;
+ghost use Rattle.h26x_access_units.specs.declared.config.AccessUnitConfig.{AccessUnitConfig};
+ghost use Rattle.h26x_access_units.specs.JitterBuffer.{due_packet};
+ghost use Rattle.h26x_access_units.specs.ReceivedUnit.{ReceivedUnitValue};
+ghost use Rattle.h26x_access_units.specs.Reception.{Reception, IsNext, ended_if_anew};
+ghost use Rattle.h26x_handles.specs.Codes.{ok, no_room, out_of_memory, out_of_range, unknown_codec, not_of_this_codec};
+ghost use Rattle.h26x_handles.specs.Copies.{with_first};
 ghost use Rattle.h26x_handles.specs.PlacementAnswer.{AreCounted, IsPlacementAnswer};
+ghost use Rattle.h26x_handles.specs.UnitsState.{UnitsState, units_state, units_codec_or_code, fresh_access_units, unit_told, IsNextGiven, IsUnitGiven, IsOutOfMemory};
+ghost use Rattle.h26x_handles.specs.declared.access_units.NextAnswer.TheVariants as answers;
+ghost use Rattle.h26x_handles.specs.declared.access_units.UnitTold.{UnitTold};
 
 /// What each code says of packets: they stand in memory, or have no room there, and are counted
 /// either way; or memory lacked, and both numbers are 0. There is no other code.
@@ -39,4 +49,79 @@ pub fn packets_answered()
         (9 ∷ 9 ∷ 9 ∷ 9 ∷ 9 ∷ []) (9 ∷ 9 ∷ 9 ∷ 9 ∷ 9 ∷ []) (7 ∷ []) (7 ∷ []) no_room 2 5 }
     ensures out_of_memory { IsPlacementAnswer 1 ((1 ∷ 2 ∷ []) ∷ (3 ∷ []) ∷ [])
         (9 ∷ []) (9 ∷ []) (7 ∷ []) (7 ∷ []) out_of_memory 0 0 }
+{}
+
+/// A receiver of access units has a window of 1 to 2^14 places, and numbers where its codec has them.
+pub fn receivers_by_code()
+    ensures smallest { units_codec_or_code 264 false 1 ≡ Ok codecs.H264 }
+    ensures largest { units_codec_or_code 265 true (2 ^ 14) ≡ Ok codecs.H265 }
+    ensures without_numbers { units_codec_or_code 266 false 64 ≡ Ok codecs.H266 }
+    ensures none { units_codec_or_code 264 false 0 ≡ Err out_of_range }
+    ensures too_large { units_codec_or_code 264 false (2 ^ 14 + 1) ≡ Err out_of_range }
+    ensures numbers { units_codec_or_code 264 true 0 ≡ Err not_of_this_codec }
+    ensures no_codec { units_codec_or_code 263 true 0 ≡ Err unknown_codec }
+{}
+
+/// What each answer says of the next access unit: it stands at the front of the buffer, and all behind
+/// it is as before; or it has no room, and is kept; or there is none.
+pub fn next_by_answer()
+    ensures written { (now : ℕ) (it new : UnitsState) (to new_to : List ℕ) (told : UnitTold) →
+        IsUnitGiven now it new to new_to (answers.Written told) → (unit : ReceivedUnitValue)
+        × IsNextGiven now it new.reception (Some unit) × (told ≡ unit_told unit)
+        × (length unit.bytes ≤ length to) × (new_to ≡ unit.bytes ++ drop (length unit.bytes) to)
+        × (new ≡ units_state it.codec new.reception None) }
+    ensures no_room { (now : ℕ) (it new : UnitsState) (to new_to : List ℕ) (told : UnitTold) →
+        IsUnitGiven now it new to new_to (answers.NoRoom told) → (unit : ReceivedUnitValue)
+        × IsNextGiven now it new.reception (Some unit) × (told ≡ unit_told unit)
+        × (length to < length unit.bytes) × (new_to ≡ to)
+        × (new ≡ units_state it.codec new.reception (Some unit)) }
+    ensures none { (now : ℕ) (it new : UnitsState) (to new_to : List ℕ) →
+        IsUnitGiven now it new to new_to answers.NothingYet → IsNextGiven now it new.reception None
+        × (new_to ≡ to) × (new ≡ units_state it.codec new.reception None) }
+    ensures kept { (now : ℕ) (codec : Codec) (r new : Reception) (unit kept : ReceivedUnitValue) →
+        IsNextGiven now (units_state codec r (Some kept)) new (Some unit) →
+        (unit ≡ kept) × (new ≡ r) }
+    ensures received { (now : ℕ) (codec : Codec) (r new : Reception) (unit : ReceivedUnitValue) →
+        IsNextGiven now (units_state codec r None) new (Some unit) → IsNext now r new (Some unit) }
+{}
+
+/// An access unit of two bytes, which had no room before, in three bytes, in two and in one; and a
+/// receiver before any packet.
+pub fn units_given()
+    ensures room { (now : ℕ) (codec : Codec) (r : Reception) (other : ReceivedUnitValue) →
+        let unit = record other { bytes = 1 ∷ 2 ∷ [] } in
+        IsUnitGiven now (units_state codec r (Some unit)) (units_state codec r None)
+        (9 ∷ 9 ∷ 9 ∷ []) (1 ∷ 2 ∷ 9 ∷ []) (answers.Written (unit_told unit)) }
+    ensures fits { (now : ℕ) (codec : Codec) (r : Reception) (other : ReceivedUnitValue) →
+        let unit = record other { bytes = 1 ∷ 2 ∷ [] } in
+        IsUnitGiven now (units_state codec r (Some unit)) (units_state codec r None)
+        (9 ∷ 9 ∷ []) (1 ∷ 2 ∷ []) (answers.Written (unit_told unit)) }
+    ensures no_room { (now : ℕ) (codec : Codec) (r : Reception) (other : ReceivedUnitValue) →
+        let unit = record other { bytes = 1 ∷ 2 ∷ [] } in
+        IsUnitGiven now (units_state codec r (Some unit)) (units_state codec r (Some unit))
+        (9 ∷ []) (9 ∷ []) (answers.NoRoom (unit_told unit)) }
+    ensures none { (now : ℕ) (codec : Codec) (has_donl is_avc : Bool) (config : AccessUnitConfig) →
+        let it = fresh_access_units codec has_donl is_avc config in
+        IsUnitGiven now it it (9 ∷ []) (9 ∷ []) answers.NothingYet }
+{}
+
+/// Want of memory: no access unit waits for room, and where no packet is due and the stream hasn't
+/// begun anew nothing changed. Where it has, the access unit that was open may have ended.
+pub fn units_without_memory()
+    ensures none { (now : ℕ) (it new : UnitsState) → IsOutOfMemory now it new → it.left ≡ None }
+    ensures stays { (now : ℕ) (it new : UnitsState) → IsOutOfMemory now it new →
+        new ≡ units_state it.codec new.reception None }
+    ensures not_due { (now : ℕ) (it new : UnitsState) → IsOutOfMemory now it new →
+        it.reception.is_anew ≡ false → due_packet now it.reception.waiting ≡ None → new ≡ it }
+    ensures kept { (now : ℕ) (codec : Codec) (r : Reception) →
+        IsOutOfMemory now (units_state codec r None) (units_state codec r None) }
+    ensures anew { (now : ℕ) (codec : Codec) (r : Reception) →
+        IsOutOfMemory now (units_state codec r None) (units_state codec (ended_if_anew r) None) }
+{}
+
+/// Two numbers, where there is room for three, for two and for one.
+pub fn first_numbers()
+    ensures more { with_first {A = ℕ} (1 ∷ 2 ∷ []) (7 ∷ 8 ∷ 9 ∷ []) ≡ 1 ∷ 2 ∷ 9 ∷ [] }
+    ensures as_many { with_first {A = ℕ} (1 ∷ 2 ∷ []) (7 ∷ 8 ∷ []) ≡ 1 ∷ 2 ∷ [] }
+    ensures fewer { with_first {A = ℕ} (1 ∷ 2 ∷ []) (7 ∷ []) ≡ 1 ∷ [] }
 {}
