@@ -12,8 +12,6 @@ pub mod laws;
 mod numbers;
 mod pushed;
 mod receiver;
-#[cfg(test)]
-mod tests;
 mod unit;
 
 pub use arrival::Arrival;

@@ -156,8 +156,3 @@ impl<'a> Iterator for UnitSlices<'a> {
         None
     }
 }
-
-#[cfg(test)]
-mod plain;
-#[cfg(test)]
-mod tests;

@@ -11,8 +11,6 @@ pub mod laws;
 mod line;
 mod session;
 mod settings;
-#[cfg(test)]
-mod tests;
 mod to_digits;
 
 pub use error::RunError;

@@ -1,11 +1,11 @@
-//! The plain forward scan: what `units` must equal, kept for the tests.
+//! The plain forward scan: what `units` must equal, kept to compare.
 
 ghost use Rattle.std.specs.Prelude.{◌≡◌, ◌-◌, ◌≤◌, length, take};
 ghost use Rattle.std.specs.Iterator.{YieldsFirstBy, item_count};
 ghost use Rattle.h26x_cut.specs.Cutting.{AreUnits, trimmed, without_zeros};
 ghost use Rattle.h26x_cut.specs.Slices.{IsFirstCode};
 
-use crate::ZeroRule;
+use h26x_cut::ZeroRule;
 use std::marker::Model;
 
 /// The units of a payload that are left, in order.

@@ -3,9 +3,9 @@
 
 mod by_table;
 
-use crate::answers::Answers;
-use crate::digits::Digits;
 use by_table::TableDigits;
+use h26x_session::answers::Answers;
+use h26x_session::digits::Digits;
 use std::alloc::{AllocError, Global};
 use std::process::Abort;
 use std::test::Fail;

@@ -1,7 +1,12 @@
+//! Payloads and their units, and beside what the plain scan finds.
+
 ghost use Rattle.std.specs.Prelude.{◌<◌};
 
-use super::*;
+mod plain;
+
+use h26x_cut::{ZeroRule, next_unit, units};
 use std::alloc::{AllocError, Global};
+use std::ops::Range;
 use std::test::Fail;
 
 /// A payload, its units under the rule of all zeros, and those under the rule of at most three.
