@@ -3,8 +3,8 @@
 //
 //     drawn SEED COUNT
 //
-// with as many packets. At the first difference the smallest list of calls that was found to show it is printed, and the
-// status is 1; so it is where no packet had one of the answers, which a million are enough for.
+// with as many packets. At the first difference the smallest list of calls that was found to show one is printed, and
+// the status is 1; so it is where no packet had one of the answers, which a million are enough for.
 #include "network.hpp"
 #include <cinttypes>
 #include <cstdio>
@@ -182,7 +182,7 @@ private:
         is_same(h26x_access_units_missing(&u, numbers, room, &count) == H26X_OK, "h26x_access_units_missing");
         is_same(count == missing.size(), "how many numbers are missing");
         for (size_t i = 0; i < 20; i++)
-            is_same(numbers[i] == (i < room && i < missing.size() ? missing[i] : 0xeeee), "the numbers that are missing");
+            is_same(numbers[i] == (i < room && i < missing.size() ? missing[i] : 0xeeee), "the missing numbers");
         many_missing = missing.size() > 8;
         totals.missing += missing.size();
     }
@@ -324,14 +324,15 @@ int main(int argc, char **argv)
         const Outcome outcome = outcome_of(network, totals);
         if (outcome.difference == nullptr)
             continue;
-        printf("seed %" PRIu64 ", network %" PRIu64 ": %s differs; as in:\n", seed, totals.networks, outcome.difference);
+        printf("seed %" PRIu64 ", network %" PRIu64 ": %s differs; as in:\n", seed, totals.networks,
+               outcome.difference);
         print(smallest(network));
         return 1;
     }
     const h26x_access_units_counts &c = totals.counts;
-    printf("%" PRIu64 " packets in %" PRIu64 " networks, %" PRIu64 " of them refused, %" PRIu64 " access units, %" PRIu64
-           " of them whole: each answer is the model's\n",
-           totals.packets, totals.networks, c.refused, c.units, c.whole);
+    printf("%" PRIu64 " packets, %" PRIu64 " of them refused, in %" PRIu64 " networks, %" PRIu64 " access units, %"
+           PRIu64 " of them whole: each answer is the model's\n",
+           totals.packets, c.refused, totals.networks, c.units, c.whole);
     if (const char *missed = never(totals)) {
         printf("but none was: %s\n", missed);
         return 1;

@@ -277,8 +277,8 @@ inline size_t text_len(const AccessUnit &unit)
     return len;
 }
 
-// An access unit that has ended. Whether it is clean is known once it is given out; is_whole stands for what is known of
-// its own packets until then.
+// An access unit that has ended. Whether it is clean is known once it is given out; until then is_whole stands for what
+// is known of its own packets.
 inline Given ended_unit(const h26x_access_units_config &config, const AccessUnit &unit)
 {
     Given it{};
