@@ -494,6 +494,7 @@ private:
             take(waiting.take_first());
         if (stream.ended.empty() && waiting.is_over) {
             waiting = {};
+            stray.reset();
             end_stream();
         }
         if (stream.ended.empty())

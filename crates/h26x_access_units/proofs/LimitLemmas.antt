@@ -219,7 +219,7 @@ anew_within most s is = elim (has_no_unit s.frames.ended && s.is_anew) as (λ b.
 
 over_within : (most : ℕ) (s : Reception) → IsWithinLimits most s → IsWithinLimits most (ended_if_over s)
 over_within most s is = elim (has_no_unit s.frames.ended && s.waiting.is_over) as (λ b. (has_no_unit s.frames.ended && s.waiting.is_over) ≡ b → IsWithinLimits most (ended_if_over s)) [
-  | true ↦ λ e. rw e (record { waiting = omega arith; stray = is.stray; run = omega arith; unit = omega arith })
+  | true ↦ λ e. rw e (record { waiting = omega arith; stray = omega arith; run = omega arith; unit = omega arith })
   | false ↦ λ e. rw e is
 ] refl
 

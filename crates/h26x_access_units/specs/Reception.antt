@@ -151,10 +151,12 @@ pub data IsDrained (now : ℕ) (s : Reception) : Reception → Type 0 where
   more : {t u : Reception} → IsDrained now s t → t.frames.ended ≡ [] → IsDueTaken now t u →
       IsDrained now s u
 
--- after the end of the stream: the access unit that was open ended, and any number is next
+-- after the end of the stream: the access unit that was open ended, no stray waits, and any number is
+-- next
 abbrev pub after_finish : Reception → Reception
 after_finish s = record s {
   waiting = fresh_jitter s.waiting.config;
+  stray = None;
   frames = after_end s.frames;
   numbers = after_last s.numbers;
 }

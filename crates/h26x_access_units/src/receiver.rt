@@ -332,6 +332,7 @@ impl<D: RunDepacketizer> AccessUnitReceiver<D> {
             self.frames.end(&mut self.ended)?;
             self.numbers.end();
             self.waiting.restart();
+            self.stray = None;
         }
         Ok(())
     }

@@ -319,6 +319,14 @@ fn strays_and_a_stream_that_begins_anew(rt: HostRuntime) -> Result<(), PacketErr
             Step::Unit(200, 6000, 6, [false, false, false], 45_547, 45_547, 0),
             Step::Unit(200, 9000, 6, [true, false, false], 45_548, 45_548, 0),
             Step::None(200),
+            // A stray goes with the stream's end: the next one begins with the number behind it.
+            Step::Push(200, 10, 12000, true, SLICE, Pushed::Stray),
+            Step::Finish,
+            Step::None(200),
+            Step::Push(200, 11, 15000, true, SLICE, Pushed::Held),
+            Step::Finish,
+            Step::Unit(200, 15000, 6, [false, false, false], 11, 11, 0),
+            Step::None(200),
         ],
     )?;
     assert!(rt; at.is_none(), "{at:?}");
