@@ -76,6 +76,24 @@ def may_stand_twice(text, number):
     return not any(re.search(r"\btrait\b", it) or parted_at_for(it)[1] for it in heads)
 
 
+def is_plain(text, number):
+    """Whether a function has its path from where it stands: it is no trait's, in no cycle of calls, and
+    if it is a type's, that is of the same text."""
+    if not may_stand_twice(text, number):
+        return False
+    lines, (first, _) = text.split("\n"), functions(text)[number]
+    heads = (head_of(lines, at) for at in outer_of(lines, first))
+    types = (name_of_impl(it) for it in heads if OUTER.match(it)[1])
+    return all(re.search(rf"\b(?:struct|enum) {it}\b", text) for it in types)
+
+
+def tests_in(file, text):
+    """What the paths of modules begin with that a file has for tests alone."""
+    folder = re.sub(r"(/lib|/main)?\.rt$", "", file)
+    names = re.findall(r"^#\[cfg\(test\)\]\n(?:pub(?:\(.*\))? )?mod (\w+);", text, re.M)
+    return [f"{folder}/{it}{end}" for it in names for end in (".rt", "/")]
+
+
 def renamed(lines, name):
     """The lines of a function's item under another name."""
     at = next(at for at, line in enumerate(lines) if HEAD.match(line))
