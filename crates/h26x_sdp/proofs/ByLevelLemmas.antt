@@ -1,5 +1,5 @@
 -- Answers whose level is a number are those that the RFCs allow.
-use Rattle.std.proofs.Common.{◌≡◌, ℕ, ◌<◌, ◌≤◌, true, false, not, ◌&&◌, cond, List, length, get_or, Option, Some, None, ◌⊎◌, inl, inr, refl, sym, ap, subst, ◌∙◌, arith, Bool}
+use Rattle.std.proofs.Common.{◌≡◌, ℕ, ◌<◌, ◌≤◌, true, false, not, ◌&&◌, cond, List, length, Option, Some, None, inl, inr, refl, sym, ap, subst, ◌∙◌, arith, Bool}
 use Rattle.std.specs.Prelude.{◌||◌, nat_lt, nat_le, min, max}
 use Rattle.std.specs.Option.{option_map, option_and_then, option_or}
 use Rattle.std.proofs.lemmas.Bool.{and_parts}
@@ -11,9 +11,9 @@ use Rattle.h26x_sdp.specs.Kinds.{number_of}
 use Rattle.h26x_sdp.specs.Tables.{ParameterRow, row_at}
 use Rattle.h26x_sdp.specs.Parameters.{AreParameters}
 use Rattle.h26x_sdp.specs.Reading.{FormatParameters, value_at, number_at, value_or_default, number_or_default}
-use Rattle.h26x_sdp.specs.Answers.{Terms, Rules, answered_value, answered_values, answered, holds}
+use Rattle.h26x_sdp.specs.Answers.{Terms, Rules, answered_value, answered, holds}
 use Rattle.h26x_sdp.specs.AnswersByLevel.{LevelRows, levels_by, levels_of, highest_value, lower_level, lower_highest, is_positive, can_hold, terms_of_levels, terms_if_known, terms_by_level}
-use Rattle.h26x_sdp.specs.AllowedByLevel.{is_configuration, is_choice, role_at, IsSameConfiguration, IsAnswerByLevel, MaySendByLevel}
+use Rattle.h26x_sdp.specs.AllowedByLevel.{is_configuration, is_choice, role_at, IsAnswerByLevel, MaySendByLevel}
 use Rattle.h26x_sdp.proofs.PartLemmas.{by_test}
 use Rattle.h26x_sdp.proofs.AnswersLemmas.{answered_at}
 use Rattle.h26x_sdp.proofs.AnswersH264Lemmas.{long_values}

@@ -1,19 +1,18 @@
 -- Answers of H.265 and of H.266 are parameters, and are answered again.
-use Rattle.std.proofs.Common.{◌≡◌, ℕ, zero, suc, ◌+◌, ◌<◌, true, false, not, ◌&&◌, cond, List, [], ◌∷◌, length, Option, Some, None, refl, sym, ap, subst, ◌∙◌, arith, Bool}
+use Rattle.std.proofs.Common.{◌≡◌, ℕ, zero, suc, ◌<◌, true, false, not, cond, List, [], ◌∷◌, length, Option, Some, None, refl, sym, ap, subst, ◌∙◌, arith, Bool}
 use Rattle.std.specs.Prelude.{◌||◌, nat_lt, nat_eq, min}
 use Rattle.std.specs.Option.{option_map, option_and_then, option_or}
 use Rattle.std.specs.Cmp.Lexicographic.{pointwise, other_text}
-use Rattle.h26x_sdp.specs.declared.kind.Kind.{Kind}
 use Rattle.h26x_sdp.specs.declared.kind.Kind.TheVariants.{Units}
 use Rattle.h26x_sdp.specs.UnitTypes.{h266_vps}
 use Rattle.h26x_sdp.specs.declared.answer.Role.TheVariants as role
 use Rattle.h26x_sdp.specs.declared.answer.by_level.Levels.{Levels}
 use Rattle.h26x_sdp.specs.Kinds.{fault_in, number_of}
 use Rattle.h26x_sdp.specs.Tables.{ParameterRow, row_at}
-use Rattle.h26x_sdp.specs.Parameters.{IsValue, IsValueIfGiven, AreValues, AreParameters}
+use Rattle.h26x_sdp.specs.Parameters.{IsValueIfGiven, AreValues, AreParameters}
 use Rattle.h26x_sdp.specs.Reading.{FormatParameters, value_at, value_or_default, number_or_default}
-use Rattle.h26x_sdp.specs.Answers.{Terms, Rules, only_if, same_if_given, same_number, answered, answered_values, are_symmetric, common_terms, answer_by}
-use Rattle.h26x_sdp.specs.AnswersByLevel.{LevelRows, highest_value, lower_level, lower_highest, can_hold, terms_by_level, terms_of_levels}
+use Rattle.h26x_sdp.specs.Answers.{Terms, Rules, only_if, same_if_given, same_number, answered, are_symmetric, common_terms, answer_by}
+use Rattle.h26x_sdp.specs.AnswersByLevel.{LevelRows, highest_value, can_hold, terms_by_level}
 use Rattle.h26x_sdp.specs.AnsweredAgain.{IsAnsweredAgain}
 use Rattle.h26x_sdp.specs.AnswersH265 as h265
 use Rattle.h26x_sdp.specs.AnswersH266 as h266
@@ -21,7 +20,7 @@ use Rattle.h26x_sdp.proofs.PartLemmas.{by_test}
 use Rattle.h26x_sdp.proofs.AnswersLemmas.{answer_parts}
 use Rattle.h26x_sdp.proofs.AnswersH264Lemmas.{long_values}
 use Rattle.h26x_sdp.proofs.KeptLemmas.{answer_kept, symmetric_again, SameTerms, row_again}
-use Rattle.h26x_sdp.proofs.ByLevelLemmas.{Describes, AgreedByLevel, agreed_by_level, row_of_answer, TermsAgain, terms_again}
+use Rattle.h26x_sdp.proofs.ByLevelLemmas.{Describes, AgreedByLevel, agreed_by_level, row_of_answer, terms_again}
 use Rattle.h26x_sdp.proofs.TieredLemmas.{h265_describes, h266_describes, common_parts, h265_parts, h266_parts}
 
 -- the value of each row is one of its kind

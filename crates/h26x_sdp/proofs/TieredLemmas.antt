@@ -1,17 +1,15 @@
 -- Answers of H.265 and of H.266.
-use Rattle.std.proofs.Common.{◌≡◌, ℕ, ◌<◌, true, false, not, ◌&&◌, cond, List, [], ◌∷◌, length, Option, Some, None, refl, sym, ap, subst, ◌∙◌, arith, Bool}
-use Rattle.std.specs.Option.{option_map, option_and_then}
-use Rattle.h26x_sdp.specs.declared.answer.Role.TheVariants as role
+use Rattle.std.proofs.Common.{◌≡◌, ◌<◌, true, false, cond, Option, Some, None, refl, sym, subst, arith, Bool}
+use Rattle.std.specs.Option.{option_and_then}
 use Rattle.h26x_sdp.specs.Parameters.{AreParameters}
-use Rattle.h26x_sdp.specs.Reading.{FormatParameters, value_at}
-use Rattle.h26x_sdp.specs.Answers.{Terms, Rules, answered, are_symmetric, common_terms, answer_by, same_number}
+use Rattle.h26x_sdp.specs.Reading.{FormatParameters}
+use Rattle.h26x_sdp.specs.Answers.{Terms, Rules, are_symmetric, common_terms, answer_by, same_number}
 use Rattle.h26x_sdp.specs.AnswersByLevel.{terms_by_level}
 use Rattle.h26x_sdp.specs.AnswersH265 as h265
 use Rattle.h26x_sdp.specs.AnswersH266 as h266
 use Rattle.h26x_sdp.specs.AllowedByLevel.{IsAnswerByLevel}
-use Rattle.h26x_sdp.proofs.PartLemmas.{by_test}
 use Rattle.h26x_sdp.proofs.AnswersLemmas.{answer_parts}
-use Rattle.h26x_sdp.proofs.ByLevelLemmas.{Describes, AgreedByLevel, agreed_by_level, allowed_by_level}
+use Rattle.h26x_sdp.proofs.ByLevelLemmas.{Describes, agreed_by_level, allowed_by_level}
 
 pub h265_describes : Describes h265.rules h265.by
 h265_describes =

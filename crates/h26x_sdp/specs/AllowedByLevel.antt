@@ -1,6 +1,6 @@
 -- What RFC 7798, section 7.2.2, and RFC 9328, section 7.3.2, allow as the answer to an offered format,
 -- for unicast, and what an end may send.
-use Rattle.std.specs.Prelude.{◌≡◌, ◌⊎◌, ℕ, ◌<◌, ◌≤◌, Bool, true, false, List, length, slice_index_or, Some, None}
+use Rattle.std.specs.Prelude.{◌≡◌, ◌⊎◌, ℕ, ◌<◌, ◌≤◌, Bool, true, false, length, slice_index_or, Some, None}
 use Rattle.h26x_sdp.specs.declared.answer.Role.{Role}
 use Rattle.h26x_sdp.specs.declared.answer.Role.TheVariants as role
 use Rattle.h26x_sdp.specs.declared.answer.by_level.Levels.{Levels}

@@ -1,5 +1,5 @@
 -- Answers to offers whose level is a number (RFC 7798, section 7.2.2; RFC 9328, section 7.3.2).
-use Rattle.std.specs.Prelude.{ℕ, min, max, nat_lt, nat_le, Bool, true, false, not, ◌&&◌, ◌||◌, if◌then◌else◌, List, Option, Some, None}
+use Rattle.std.specs.Prelude.{ℕ, min, max, nat_lt, nat_le, Bool, false, not, ◌&&◌, ◌||◌, if◌then◌else◌, List, Option, Some, None}
 use Rattle.std.specs.Option.{option_map}
 use Rattle.h26x_sdp.specs.declared.answer.by_level.Levels.{Levels}
 use Rattle.h26x_sdp.specs.declared.answer.by_level.LevelParameters.{LevelParameters}

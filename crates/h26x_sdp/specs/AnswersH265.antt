@@ -1,11 +1,10 @@
 -- Answers to offers of H.265 (RFC 7798, section 7.2.2).
-use Rattle.std.specs.Prelude.{ℕ, ◌+◌, ◌-◌, ◌*◌, ◌^◌, ◌==◌, Bool, if◌then◌else◌, List, [], ◌∷◌, Option, Some, None, Result, Ok, Err}
-use Rattle.std.specs.Option.{option_map, option_and_then}
+use Rattle.std.specs.Prelude.{ℕ, ◌+◌, ◌-◌, ◌*◌, ◌^◌, if◌then◌else◌, List, [], ◌∷◌, Option, Some, None, Result, Ok}
+use Rattle.std.specs.Option.{option_map}
 use Rattle.hex.specs.Hex.{decode_sized}
 use Rattle.hex.specs.declared.error.FromHexError.{FromHexError}
 use Rattle.h26x_sdp.specs.declared.answer.Role.{Role}
 use Rattle.h26x_sdp.specs.declared.answer.Role.TheVariants as role
-use Rattle.h26x_sdp.specs.declared.h265.H265Parameter.{H265Parameter}
 use Rattle.h26x_sdp.specs.declared.h265.H265Parameter.TheVariants as p
 use Rattle.h26x_sdp.specs.Reading.{FormatParameters, value_at, number_or_default}
 use Rattle.h26x_sdp.specs.H265Rows.{rows, row_place}

@@ -1,11 +1,10 @@
 -- Answers to offers of H.266 (RFC 9328, section 7.3.2).
-use Rattle.std.specs.Prelude.{ℕ, ◌==◌, Bool, not, ◌||◌, if◌then◌else◌, List, [], ◌∷◌, Option, Some, None}
+use Rattle.std.specs.Prelude.{ℕ, Bool, not, ◌||◌, if◌then◌else◌, List, [], ◌∷◌, Option, Some, None}
 use Rattle.std.specs.Option.{option_and_then}
 use Rattle.h26x_sdp.specs.declared.kind.Kind.TheVariants.{Units}
 use Rattle.h26x_sdp.specs.UnitTypes.{h266_vps}
 use Rattle.h26x_sdp.specs.declared.answer.Role.{Role}
 use Rattle.h26x_sdp.specs.declared.answer.Role.TheVariants as role
-use Rattle.h26x_sdp.specs.declared.h266.H266Parameter.{H266Parameter}
 use Rattle.h26x_sdp.specs.declared.h266.H266Parameter.TheVariants as p
 use Rattle.h26x_sdp.specs.Reading.{FormatParameters, value_at, number_or_default}
 use Rattle.h26x_sdp.specs.H266Rows.{rows, row_place}

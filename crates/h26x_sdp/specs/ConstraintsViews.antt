@@ -1,5 +1,5 @@
 -- What the calls on constraints of H.266 say.
-use Rattle.std.specs.Prelude.{◌≡◌, List, ℕ, Option, Some, None, Result, Ok, Err}
+use Rattle.std.specs.Prelude.{◌≡◌, List, ℕ, Result, Err}
 use Rattle.h26x_sdp.specs.declared.error.ConstraintsError.{ConstraintsError}
 use Rattle.h26x_sdp.specs.declared.error.ConstraintsError.TheVariants.{NotBase64, Short, Long, OutOfMemory}
 

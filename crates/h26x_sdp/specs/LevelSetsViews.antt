@@ -1,7 +1,6 @@
 -- What the calls on parameter sets of levels say.
-use Rattle.std.specs.Prelude.{◌≡◌, ℕ, List, map, Option, Some, None, Result, Ok, Err, Vec}
+use Rattle.std.specs.Prelude.{◌≡◌, List, map, Option, Some, None, Result, Ok, Err, Vec}
 use Rattle.std.specs.declared.alloc.Global.{Global}
-use Rattle.h26x_sdp.specs.declared.error.UnitsError.{UnitsError}
 use Rattle.h26x_sdp.specs.declared.error.LevelSetsError.{LevelSetsError}
 use Rattle.h26x_sdp.specs.declared.error.LevelSetsError.TheVariants.{NotHexadecimal, NoSets, Sets, OutOfMemory}
 use Rattle.h26x_sdp.specs.declared.level_sets.LevelSets.{LevelSets}

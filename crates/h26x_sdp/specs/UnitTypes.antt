@@ -1,6 +1,6 @@
 -- The types of NAL units, and which of them a parameter is for (RFC 6184, sections 1.3 and 8.1; RFC
 -- 7798, sections 1.1.4 and 7.1; RFC 9328, sections 1.1.4 and 7.2).
-use Rattle.std.specs.Prelude.{ℕ, zero, suc, ◌+◌, nat_le, Bool, false, ◌&&◌, ◌||◌, if◌then◌else◌, List, [], ◌∷◌, Option, Some, None, Result, Ok, Err}
+use Rattle.std.specs.Prelude.{ℕ, ◌+◌, nat_le, Bool, false, ◌&&◌, ◌||◌, if◌then◌else◌, List, [], ◌∷◌, Option, Some, None, Result, Ok, Err}
 use Rattle.std.specs.Option.{option_or}
 use Rattle.h26x_core.specs.H264Unit as h264
 use Rattle.h26x_core.specs.H265Unit as h265

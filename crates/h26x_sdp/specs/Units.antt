@@ -1,5 +1,5 @@
 -- NAL units in base64 (RFC 6184, section 8.1; RFC 7798, section 7.1; RFC 9328, section 7.2).
-use Rattle.std.specs.Prelude.{ℕ, ◌+◌, ◌<◌, ◌==◌, Bool, if◌then◌else◌, List, [], ◌∷◌, length, map, Option, None, Result, Ok, Err}
+use Rattle.std.specs.Prelude.{ℕ, ◌+◌, ◌<◌, ◌==◌, Bool, List, [], ◌∷◌, length, map, Option, Result, Ok, Err}
 use Rattle.std.specs.List.{slice_split, join_with_byte, AllByRecursion}
 use Rattle.std.specs.Option.{option_map, option_and_then}
 use Rattle.base64.specs.Engines.{standard}

@@ -1,4 +1,4 @@
-use Rattle.std.proofs.Common.{◌≡◌, ◌∙◌, List, ℕ, Ok, MatchResult, ap, subst, rules}
+use Rattle.std.proofs.Common.{◌≡◌, ◌∙◌, Ok, MatchResult, ap, subst, rules}
 use Rattle.h26x_sdp.specs.FromStream.{h265_of_units}
 use Rattle.h26x_sdp.specs.FromStreamViews.{slices_view, FailsStream}
 use Rattle.h26x_sdp.proofs.from_stream.h265_of_payload.Goals as goal
