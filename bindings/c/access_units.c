@@ -1,6 +1,7 @@
 /* Access units, of packets as a network brings them: lost, late, twice, in any order, with markers and
  * without, and what is told and counted of all (RFC 3550, 5.1 and A.1; RFC 4585, 6.2.1). */
 #include "calls.h"
+#include <stdio.h>
 #include <string.h>
 
 /* What the packets of a test are given to. */
@@ -314,6 +315,18 @@ static void check_limits(struct tally *t, const struct packets *p)
     holds(&it, 0, 13, 3000, true, p->key);
     gives(&it, 100, p->key_unit, .first = 10, .last = 11, .extra = KEY);
     gives(&it, 100, p->key_unit, .timestamp = 3000, .first = 12, .last = 13, .extra = KEY);
+    counts(&it, .taken = 4, .units = 2, .texts_given_up = 2);
+    h26x_access_units_free(it.u);
+
+    /* One that is as long as its limit stays. */
+    char both[64];
+    snprintf(both, sizeof both, "%s%s", p->slice_unit, p->key_unit);
+    config.unit_limit = bytes_of(p->slice_unit).len;
+    it = receiver_of(t, config);
+    holds(&it, 0, 10, 0, false, p->slice);
+    holds(&it, 0, 11, 0, true, p->key);
+    gives(&it, 100, both, .first = 10, .last = 11, .extra = KEY);
+    counts(&it, .taken = 2, .units = 1);
     h26x_access_units_free(it.u);
 }
 

@@ -574,7 +574,7 @@ static void *give(int s, const struct drawn *d)
         unit->len, unit->timestamp, unit->missing, unit->first, unit->last, unit->extra, unit->is_whole,
         unit->is_clean, unit->continues, counts->taken, counts->lost, counts->late, counts->twice,
         counts->stray, counts->refused, counts->skipped, counts->anew, counts->units, counts->whole,
-        counts->units_given_up};
+        counts->units_given_up, counts->texts_given_up};
     memcpy(a->numbers, numbers, sizeof numbers);
     return made;
 }

@@ -129,6 +129,8 @@ type Counts struct {
 	Whole uint64
 	// UnitsGivenUp: NAL units that were longer than the run's limit.
 	UnitsGivenUp uint64
+	// TextsGivenUp: texts of open access units that were longer than their limit.
+	TextsGivenUp uint64
 }
 
 // An AccessUnitReceiver takes packets as a network brings them, some lost, some twice and in any order, and gives out
@@ -381,5 +383,6 @@ func (r *AccessUnitReceiver) Counts() (Counts, error) {
 		Units:        uint64(told.units),
 		Whole:        uint64(told.whole),
 		UnitsGivenUp: uint64(told.units_given_up),
+		TextsGivenUp: uint64(told.texts_given_up),
 	}, nil
 }

@@ -300,6 +300,7 @@ func TestLimitsOfWhatIsOpen(t *testing.T) {
 		for sequence := uint16(11); sequence < 14; sequence++ {
 			pushes(t, r, 0, sequence, 3000, false, slice, h26x.Held)
 			gives(t, r, 0)
+			counts(t, r, h26x.Counts{Taken: uint64(sequence - 9), Units: 1, TextsGivenUp: uint64(sequence / 13)})
 		}
 		pushes(t, r, 0, 14, 3000, true, key, h26x.Held)
 		unit = one(codec, 3000, 11, key)
@@ -386,7 +387,7 @@ func TestDefaultsOfSettings(t *testing.T) {
 	gives(t, r, 0)
 	pushes(t, r, 0, 1002, 3000, true, f.start, h26x.Held)
 	gives(t, r, 0, h26x.AccessUnit{Timestamp: 3000, Data: []byte{}, First: 1001, Last: 1002})
-	counts(t, r, h26x.Counts{Taken: 3, Units: 2, UnitsGivenUp: 1})
+	counts(t, r, h26x.Counts{Taken: 3, Units: 2, UnitsGivenUp: 1, TextsGivenUp: 1})
 
 	// Without a setting 8,000,000 bytes may wait, and a packet.
 	r = newAccessUnitReceiver(t, h26x.H264, h26x.AccessUnitConfig{Window: 1 << 14})
@@ -415,8 +416,10 @@ func TestDefaultLimitsOfWhatIsOpen(t *testing.T) {
 		done(t, r.Finish())
 		unit, err = r.Next(0)
 		done(t, err)
-		if len(unit.Data) != (1-more)*8_000_000 {
-			t.Errorf("%d bytes more: got %d", more, len(unit.Data))
+		counted, err = r.Counts()
+		done(t, err)
+		if len(unit.Data) != (1-more)*8_000_000 || counted.TextsGivenUp != uint64(more) {
+			t.Errorf("%d bytes more: got %d, and %d given up", more, len(unit.Data), counted.TextsGivenUp)
 		}
 	}
 }

@@ -440,6 +440,7 @@ typedef struct {
     uint64_t units;          /* access units that ended and were told of */
     uint64_t whole;          /* those of them that are known to be whole */
     uint64_t units_given_up; /* NAL units that were longer than run_limit */
+    uint64_t texts_given_up; /* texts of open access units that were longer than unit_limit */
 } h26x_access_units_counts;
 
 /* A receiver of access units that takes any number as the first. H26X_UNKNOWN_CODEC, H26X_NOT_OF_THIS_CODEC (numbers for

@@ -226,6 +226,8 @@ def test_limits_of_what_is_open(codec: Codec) -> None:
     for sequence in range(11, 14):
         pushes(receiver, 0, (sequence, 3000, False, slice_))
         gives(receiver, 0)
+        given_up = sequence // 13
+        assert receiver.counts() == Counts(taken=sequence - 9, units=1, texts_given_up=given_up)
     pushes(receiver, 0, (14, 3000, True, key))
     gives(receiver, 0, one(codec, 3000, 11, key, last=14))
 
@@ -297,6 +299,7 @@ def test_default_limits_of_what_is_open(more: int) -> None:
     pushes(receiver, 0, (1, 0, False, b"\x61" + bytes(8_000_000 - 5 + more)))
     receiver.finish()
     assert [len(unit.data) for unit in receiver.units(0)] == [(1 - more) * 8_000_000]
+    assert receiver.counts().texts_given_up == more
 
 
 def test_settings_of_nothing() -> None:
@@ -315,7 +318,7 @@ def test_settings_of_nothing() -> None:
     gives(receiver, 0)
     pushes(receiver, 0, (1002, 3000, True, FRAGMENTS[Codec.H264].start))
     gives(receiver, 0, one(Codec.H264, 3000, 1001, key, data=b"", keyframe=None, last=1002))
-    assert receiver.counts() == Counts(taken=3, units=2, units_given_up=1)
+    assert receiver.counts() == Counts(taken=3, units=2, units_given_up=1, texts_given_up=1)
 
 
 def test_refused_settings() -> None:

@@ -43,6 +43,7 @@ counts_told counts = record {
   units = counts.units;
   whole = counts.whole;
   units_given_up = counts.units_given_up;
+  texts_given_up = counts.texts_given_up;
 }
 
 -- the code and what is told say what came of a call for the next access unit, and that came of it

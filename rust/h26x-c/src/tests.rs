@@ -119,7 +119,7 @@ fn structs_of_the_header() {
     assert_eq!((offset_of!(Config, held_limit), offset_of!(Config, run_limit)), (16, 16 + word));
     assert_eq!((offset_of!(Config, unit_limit), size_of::<Config>()), (16 + 2 * word, 16 + 3 * word));
     assert_eq!((offset_of!(Counts, lost), offset_of!(Counts, units_given_up)), (8, 80));
-    assert_eq!(size_of::<Counts>(), 88);
+    assert_eq!((offset_of!(Counts, texts_given_up), size_of::<Counts>()), (88, 96));
 }
 
 /// NULL is a buffer of length 0, whatever length is said, an output that isn't wanted, and nothing to be freed.

@@ -411,12 +411,14 @@ impl Reception {
             refused,
             units,
             units_given_up,
+            texts_given_up,
             ..
         } = self.counts;
         let mut tally = self.tally;
         debug_assert_eq!(refused, tally.refused + tally.parts);
         debug_assert_eq!(units, tally.access_units);
         debug_assert_eq!(units_given_up, self.runs.too_long);
+        debug_assert_eq!(texts_given_up, 0);
         (tally.given_up, tally.too_long) = (self.runs.given_up, self.runs.too_long);
         tally.advice = self.numbers.advice();
         Ok(tally)

@@ -96,6 +96,7 @@ class UnitsCounts(Structure):
             "units",
             "whole",
             "units_given_up",
+            "texts_given_up",
         )
     ]
 

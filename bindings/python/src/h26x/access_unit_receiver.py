@@ -119,6 +119,8 @@ class Counts:
     whole: int = 0
     #: NAL units that were longer than the run's limit.
     units_given_up: int = 0
+    #: Texts of open access units that were longer than their limit.
+    texts_given_up: int = 0
 
 
 class AccessUnitReceiver(Owner):

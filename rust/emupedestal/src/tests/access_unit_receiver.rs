@@ -211,6 +211,25 @@ fn more_bytes_than_the_limit() {
     assert_eq!(push(&mut it, 0, (9, 30, true, "61")), Ok(Pushed::Held));
 }
 
+/// Two slices make 12 bytes, of which the third is no part: it bears the marker.
+#[test]
+fn texts_longer_than_the_limit() {
+    for (unit_limit, len, given_up) in [(12, 18, 0), (11, 6, 1)] {
+        let limits = AccessUnitConfig {
+            unit_limit,
+            ..config(1, u32::MAX)
+        };
+        let mut it = AccessUnitReceiver::new(Codec::H264, limits);
+        let mut ended = Vec::new();
+        for (sequence, marker) in [(7, false), (8, false), (9, true)] {
+            push(&mut it, 0, (sequence, 10, marker, "6101")).unwrap();
+            ended.extend(units(&mut it, 0));
+        }
+        assert_eq!((ended.len(), ended[0].bytes.len()), (1, len));
+        assert_eq!(it.counts().texts_given_up, given_up);
+    }
+}
+
 #[test]
 fn packets_by_value() {
     let mut it = receiver(1, u32::MAX);
