@@ -1,6 +1,6 @@
 //! Where a call writes a handle.
 
-ghost use Rattle.std.specs.Prelude.{◌≡◌, ◌≢◌, ◌⊎◌, Option, Some, None};
+ghost use Rattle.std.specs.Prelude.{◌≡◌, ◌≢◌, ◌⊎◌, Option, Some};
 ghost use Rattle.h26x_handles.specs.declared.endpoint.Endpoint.{Endpoint};
 ghost use Rattle.h26x_handles.specs.Codes.{ok, out_of_memory};
 ghost use Rattle.h26x_c.specs.Owned.{place_owned, place_coded};

@@ -1,10 +1,10 @@
 -- What an answer for the next access unit says, and what stands where nothing is due.
-use Rattle.std.proofs.Common.{◌≡◌, ◌∙◌, ◌⊎◌, refl, ap, ℕ, ◌<◌, ◌≤◌, Bool, true, false, if◌then◌else◌, List, [], ◌++◌, drop, length, Option, Some, None, ⊎_elim, arith}
+use Rattle.std.proofs.Common.{◌≡◌, ◌∙◌, ◌⊎◌, refl, ap, ℕ, ◌<◌, ◌≤◌, Bool, true, false, if◌then◌else◌, List, ◌++◌, drop, length, Option, Some, None, ⊎_elim, arith}
 use Rattle.std.specs.Prelude.{◌&&◌, nat_le}
 use Rattle.std.proofs.lemmas.Bool.Decides.{nat_tests}
 use Rattle.h26x_access_units.specs.JitterBuffer.{due_packet}
 use Rattle.h26x_access_units.specs.ReceivedUnit.{ReceivedUnitValue}
-use Rattle.h26x_access_units.specs.Reception.{Reception, has_no_unit, IsDrained, none, more, IsDueTaken, ended_if_anew}
+use Rattle.h26x_access_units.specs.Reception.{Reception, has_no_unit, IsDrained, none, more, ended_if_anew}
 use Rattle.h26x_handles.specs.UnitsState.{UnitsState, units_state, unit_told, unit_without_room, buffer_with_unit, next_answer, IsNextGiven}
 use Rattle.h26x_handles.specs.declared.access_units.NextAnswer.{NextAnswer}
 use Rattle.h26x_handles.specs.declared.access_units.NextAnswer.TheVariants as answers

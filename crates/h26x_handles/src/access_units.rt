@@ -1,9 +1,8 @@
 //! A receiver of access units, of packets as a network brings them, and the access unit that had no
 //! room where it was to be written.
 
-ghost use Rattle.std.specs.Prelude.{◌≡◌, ◌≢◌, ◌<◌, ◌≤◌, ◌^◌, [], false, None, Err, IfOk, IsOk, OnErr, length};
+ghost use Rattle.std.specs.Prelude.{◌≡◌, ◌<◌, ◌≤◌, ◌^◌, [], false, None, Err, IfOk, OnErr, length};
 ghost use Rattle.h26x_access_units.specs.ReceivedUnit.{received_unit_value};
-ghost use Rattle.h26x_access_units.specs.Reception.{reception_answer, after_reception};
 ghost use Rattle.h26x_frames.specs.Rtp.{rtp_body};
 ghost use Rattle.h26x_handles.specs.UnitsState.{units_codec_or_code, fresh_access_units, pushed_numbers, unit_told, next_answer, buffer_with_unit, unit_without_room, units_push_answer, units_after_push, IsUnitGiven, IsOutOfMemory, next_numbers, units_deadline, units_missing, units_finished, units_restarted};
 ghost use Rattle.h26x_handles.specs.Copies.{with_first};
