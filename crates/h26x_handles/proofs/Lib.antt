@@ -1,7 +1,9 @@
 pub mod AccessUnitLemmas
 pub mod CopyLemmas
 pub mod ErrorLemmas
+pub mod HeaderLemmas
 pub mod MemoryLemmas
+pub mod NumberLemmas
 pub mod ParameterLemmas
 pub mod PlacementLemmas
 pub mod SkipLemmas

@@ -1,12 +1,21 @@
 -- What stands behind a handle.
-use Rattle.std.specs.Prelude.{ℕ, List, Option}
+use Rattle.std.specs.Prelude.{ℕ, Bool, false, List, Option}
 use Rattle.h26x_handles.specs.declared.packetizer.AnyPacketizer.{AnyPacketizer}
+use Rattle.h26x_handles.specs.declared.packetizer.AnyPacketizer.TheVariants as s
 use Rattle.h26x_receiver.specs.declared.any.AnyDepacketizer.{AnyDepacketizer}
 
--- a packetizer, and the packets of its last call
+-- whether packets of a packetizer bear decoding order numbers
+abbrev pub has_numbers : AnyPacketizer → Bool
+has_numbers (s.H264 it) = false
+has_numbers (s.H265 it) = it.codec.has_donl
+has_numbers (s.H266 it) = it.codec.has_donl
+
+-- a packetizer, the packets of its last call, and whether aggregates of H.265 get the header of their
+-- units
 pub record SendingEndpoint : Type 0 where
   pub packetizer : AnyPacketizer
   pub packets : List (List ℕ)
+  pub lowest_header : Bool
 
 -- a depacketizer, and what its last accepted packet completed and had no room for
 pub record ReceivingEndpoint : Type 0 where

@@ -1,5 +1,6 @@
 pub mod Codes
 pub mod Copies
+pub mod Headers
 pub mod Endpoint
 pub mod States
 pub mod SdpCodes

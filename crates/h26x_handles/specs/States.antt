@@ -19,8 +19,9 @@ use Rattle.h26x_model.specs.Receive.RunLimit.{run_len}
 use Rattle.h26x_receiver.specs.Sequenced.{SequencedDepacketization, sequenced_depacketization, after_taken_packet, is_run_kept, expected_after_skip}
 use Rattle.h26x_receiver.specs.AnyDepacketizer.{any_depacketizer_state, any_depacketizer_with_avc, any_depacketizer_codec, any_depacketizer_with_donl, any_depacketizer_with_run, fresh_any_depacketizer, any_depacketizer_showing, are_same_depacketizers}
 use Rattle.h26x_receiver.specs.declared.any.AnyDepacketizer.{AnyDepacketizer}
-use Rattle.h26x_handles.specs.Endpoint.{SequencedEndpoint}
+use Rattle.h26x_handles.specs.Endpoint.{SendingEndpoint, SequencedEndpoint}
 use Rattle.h26x_handles.specs.Codes.{extra_with_number}
+use Rattle.h26x_handles.specs.Headers.{headers_wanted}
 use Rattle.h26x_handles.specs.Sdp.{sdp_codec}
 use Rattle.h26x_handles.specs.declared.endpoint.Endpoint.{Endpoint}
 use Rattle.h26x_handles.specs.declared.endpoint.Endpoint.TheVariants as e
@@ -67,6 +68,20 @@ after_told_packet is_avc it extra packet = after_packets
 abbrev pub endpoint_packetizer_state : Endpoint → Option PacketizerState
 endpoint_packetizer_state (e.Sending it) = Some (any_packetizer_state it.packetizer)
 endpoint_packetizer_state it = None
+
+-- where aggregates get the header of their units: whether packets bear decoding order numbers
+abbrev pub headers_asked : SendingEndpoint → Option Bool
+headers_asked it = headers_wanted it.lowest_header (any_packetizer_codec it.packetizer)
+    (any_packetizer_state it.packetizer).format.has_donl
+
+abbrev pub endpoint_headers : Endpoint → Option Bool
+endpoint_headers (e.Sending it) = headers_asked it
+endpoint_headers it = None
+
+-- whether that is asked for
+abbrev pub endpoint_lowest_header : Endpoint → Bool
+endpoint_lowest_header (e.Sending it) = it.lowest_header
+endpoint_lowest_header it = false
 
 -- the packets of its last call
 abbrev pub endpoint_packets : Endpoint → List (List ℕ)
@@ -189,6 +204,10 @@ place_packetizer_state (Some it) = endpoint_packetizer_state it
 abbrev pub place_packets : Option Endpoint → List (List ℕ)
 place_packets None = []
 place_packets (Some it) = endpoint_packets it
+
+abbrev pub place_lowest_header : Option Endpoint → Bool
+place_lowest_header None = false
+place_lowest_header (Some it) = endpoint_lowest_header it
 
 -- an endpoint whose depacketizer reads numbers or not
 abbrev pub endpoint_with_donl : Bool → Endpoint → Endpoint

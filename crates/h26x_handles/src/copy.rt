@@ -46,7 +46,7 @@ pub fn copy_first(numbers: &[u16], to: &mut [u16]) -> usize
 }
 
 /// Where packets end that have no headroom.
-fn ends_of(packets: &PacketBuffer) -> &[usize]
+pub fn ends_of(packets: &PacketBuffer) -> &[usize]
     requires { packets.now.headroom ≡ 0 }
     ensures ends { result.now ≡ end_offsets 0 packets.now.packets }
     ensures count { length result.now ≡ length packets.now.packets }
@@ -55,7 +55,7 @@ fn ends_of(packets: &PacketBuffer) -> &[usize]
 }
 
 /// Where the packet at a place begins.
-fn start_of(packets: &PacketBuffer, place: usize) -> usize
+pub fn start_of(packets: &PacketBuffer, place: usize) -> usize
     requires headroom { packets.now.headroom ≡ 0 }
     requires place { place ≤ length packets.now.packets }
     ensures { result ≡ length (concat (take place packets.now.packets)) }

@@ -10,6 +10,7 @@ pub mod cases;
 pub mod code;
 pub mod copy;
 pub mod endpoint;
+pub mod headers;
 pub mod kept_parameters;
 pub mod packetizer;
 pub mod receiving;

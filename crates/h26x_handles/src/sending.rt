@@ -1,26 +1,34 @@
 //! A packetizer, and the packets of its last call.
 
-ghost use Rattle.std.specs.Prelude.{◌≡◌, [], Err, true, IfOk, OnOk, OnErr, IsOk, length, drop};
+ghost use Rattle.std.specs.Prelude.{◌≡◌, ◌≤◌, [], Err, true, false, IfOk, OnOk, OnErr, IsOk, length, drop};
 ghost use Rattle.std.specs.List.{concat};
 ghost use Rattle.h26x_model.specs.Send.PacketizerState.{state_packets, after_entries, has_no_effect, one_unit_items, one_unit_packets, after_one_unit};
+ghost use Rattle.h26x_payload.specs.Placement.{IsPlacement, if_placed, is_placed};
 ghost use Rattle.h26x_codec.specs.Codec.{codec_format, fresh_packetizer_state, next_call};
-ghost use Rattle.h26x_handles.specs.States.{any_packetizer_state, any_packetizer_codec, payload_entries};
+ghost use Rattle.h26x_handles.specs.States.{any_packetizer_state, any_packetizer_codec, any_packetizer_with_donl, any_packetizer_with_max_packet_size, payload_entries, headers_asked};
+ghost use Rattle.h26x_handles.specs.Headers.{headed};
 ghost use Rattle.h26x_handles.specs.Copies.{nth_packet, AreCopied};
 
+use crate::code::may_have_donl;
 use crate::copy::{bytes_from, copy_packets};
+use crate::headers::{headers_wanted, set_headers, set_placed_headers};
 use crate::packetizer::AnyPacketizer;
 use h26x_codec::Codec;
 use h26x_core::PacketError;
-use h26x_payload::PacketBuffer;
+use h26x_payload::{PacketBuffer, Placement};
 use std::alloc::Global;
 use std::marker::Model;
 use std::mem;
 
-/// A packetizer of a codec, and the packets of its last call.
+/// A packetizer of a codec, the packets of its last call, and whether aggregates of H.265 get the
+/// header of their units.
 #[derive(Drop)]
 pub struct SendingEndpoint {
     /// The packetizer.
     pub packetizer: AnyPacketizer,
+    // As the packetizer has it.
+    has_donl: bool,
+    lowest_header: bool,
     packets: PacketBuffer,
     // Where a call writes: the packets of before stay until it is carried out.
     spare: PacketBuffer,
@@ -28,13 +36,18 @@ pub struct SendingEndpoint {
 
 impl Model for SendingEndpoint {
     ghost use Rattle.std.specs.Prelude.{◌≡◌};
-    ghost use Rattle.h26x_handles.specs.Endpoint.{SendingEndpoint};
+    ghost use Rattle.h26x_handles.specs.Endpoint.{SendingEndpoint, has_numbers};
 
     ghost Value = { SendingEndpoint };
 
-    ghost view = { λ it. record { packetizer = it.packetizer; packets = it.packets.packets } };
+    ghost view = { λ it. record {
+      packetizer = it.packetizer;
+      packets = it.packets.packets;
+      lowest_header = it.lowest_header;
+    } };
 
-    ghost invariant = { λ it. (it.packets.headroom ≡ 0) × (it.spare.headroom ≡ 0) };
+    ghost invariant = { λ it. (has_numbers it.packetizer ≡ it.has_donl)
+        × ((it.packets.headroom ≡ 0) × (it.spare.headroom ≡ 0)) };
 }
 
 impl SendingEndpoint {
@@ -44,9 +57,12 @@ impl SendingEndpoint {
         ensures fresh { any_packetizer_state result.packetizer
             ≡ fresh_packetizer_state (codec_format codec has_donl) }
         ensures none { result.packets ≡ [] }
+        ensures off { result.lowest_header ≡ false }
     {
         SendingEndpoint {
             packetizer: AnyPacketizer::new(alloc, codec, has_donl),
+            has_donl: has_donl && may_have_donl(codec),
+            lowest_header: false,
             packets: PacketBuffer::new(alloc, 0),
             spare: PacketBuffer::new(alloc, 0),
         }
@@ -56,34 +72,74 @@ impl SendingEndpoint {
     pub fn clone(&self, alloc: Global) -> Result<Self, PacketError>
         ensures same { IfOk result (λ it. it.packetizer ≡ self.now.packetizer) }
         ensures none { IfOk result (λ it. it.packets ≡ []) }
+        ensures lowest { IfOk result (λ it. it.lowest_header ≡ self.now.lowest_header) }
         ensures memory { OnErr result (result ≡ Err PacketError.OutOfMemory) }
     {
         Ok(SendingEndpoint {
             packetizer: self.packetizer.clone()?,
+            has_donl: self.has_donl,
+            lowest_header: self.lowest_header,
             packets: PacketBuffer::new(alloc, 0),
             spare: PacketBuffer::new(alloc, 0),
         })
     }
 
+    /// Turns numbers on, from 0, or off; that of H.264 stays as it is.
+    pub fn with_donl(&mut self, has_donl: bool)
+        ensures { self.new ≡ record self.old {
+          packetizer = any_packetizer_with_donl has_donl self.old.packetizer;
+        } }
+    {
+        self.packetizer.with_donl(has_donl);
+        self.has_donl = has_donl && may_have_donl(self.packetizer.codec());
+    }
+
+    /// Sets the largest packet size, in bytes; that of H.264 stays as it is.
+    pub fn with_max_packet_size(&mut self, bytes: u16)
+        requires { 4 ≤ bytes }
+        ensures { self.new ≡ record self.old {
+          packetizer = any_packetizer_with_max_packet_size bytes self.old.packetizer;
+        } }
+    {
+        self.packetizer.with_max_packet_size(bytes);
+    }
+
+    /// Sets whether aggregates of H.265 get the header of their units (RFC 7798, 4.4.2).
+    pub fn with_lowest_header(&mut self, lowest_header: bool)
+        ensures { self.new ≡ record self.old { lowest_header = lowest_header } }
+    {
+        self.lowest_header = lowest_header;
+    }
+
+    /// Where aggregates get the header of their units: whether packets bear decoding order numbers.
+    fn headers(&self) -> Option<bool>
+        ensures { result ≡ headers_asked self.now }
+    {
+        headers_wanted(self.lowest_header, self.packetizer.codec(), self.has_donl)
+    }
+
     /// Makes the packets of a payload, which take the place of the last call's.
     pub fn packetize(&mut self, mtu: usize, payload: &[u8]) -> Result<(), PacketError>
-        ensures packets { OnOk result (self.new.packets
-            ≡ state_packets (any_packetizer_state self.old.packetizer)
-            (payload_entries (any_packetizer_state self.old.packetizer) mtu payload.now)) }
+        ensures packets { OnOk result (self.new.packets ≡ headed (headers_asked self.old)
+            (state_packets (any_packetizer_state self.old.packetizer)
+            (payload_entries (any_packetizer_state self.old.packetizer) mtu payload.now))) }
         ensures after { OnOk result (any_packetizer_state self.new.packetizer
             ≡ after_entries (any_packetizer_state self.old.packetizer)
             (payload_entries (any_packetizer_state self.old.packetizer) mtu payload.now)) }
         ensures codec { any_packetizer_codec self.new.packetizer
             ≡ any_packetizer_codec self.old.packetizer }
+        ensures lowest { self.new.lowest_header ≡ self.old.lowest_header }
         ensures kept { OnErr result (self.new ≡ self.old) }
         ensures memory { OnErr result (result ≡ Err PacketError.OutOfMemory) }
         ensures free { has_no_effect (any_packetizer_state self.old.packetizer).format
             (next_call (any_packetizer_state self.old.packetizer) mtu payload.now) ≡ true →
             IsOk result }
     {
+        let headers = self.headers();
         self.spare.clear();
         self.packetizer
             .packetize_into(mtu, payload, &mut self.spare)?;
+        set_headers(headers, &mut self.spare);
         mem::swap(&mut self.packets, &mut self.spare);
         Ok(())
     }
@@ -96,6 +152,7 @@ impl SendingEndpoint {
             ≡ after_one_unit (any_packetizer_state self.old.packetizer) mtu unit.now) }
         ensures codec { any_packetizer_codec self.new.packetizer
             ≡ any_packetizer_codec self.old.packetizer }
+        ensures lowest { self.new.lowest_header ≡ self.old.lowest_header }
         ensures kept { OnErr result (self.new ≡ self.old) }
         ensures memory { OnErr result (result ≡ Err PacketError.OutOfMemory) }
 
@@ -108,6 +165,76 @@ impl SendingEndpoint {
             .packetize_unit_into(mtu, unit, &mut self.spare)?;
         mem::swap(&mut self.packets, &mut self.spare);
         Ok(())
+    }
+
+    /// Copies the packets of a payload straight to memory where they fit; else nothing is done.
+    pub fn packetize_to_memory(
+        &mut self,
+        mtu: usize,
+        payload: &[u8],
+        headroom: usize,
+        to: &mut [u8],
+        ends: &mut [usize],
+    ) -> Result<Placement, PacketError>
+        ensures packets { IfOk result (λ it. IsPlacement headroom (headed (headers_asked self.old)
+            (state_packets (any_packetizer_state self.old.packetizer)
+            (payload_entries (any_packetizer_state self.old.packetizer) mtu payload.now)))
+            to.old to.new ends.old ends.new it) }
+        ensures after { IfOk result (λ it. any_packetizer_state self.new.packetizer ≡ if_placed it
+            (after_entries (any_packetizer_state self.old.packetizer)
+            (payload_entries (any_packetizer_state self.old.packetizer) mtu payload.now))
+            (any_packetizer_state self.old.packetizer)) }
+        ensures codec { any_packetizer_codec self.new.packetizer
+            ≡ any_packetizer_codec self.old.packetizer }
+        ensures kept_packets { self.new.packets ≡ self.old.packets }
+        ensures lowest { self.new.lowest_header ≡ self.old.lowest_header }
+        ensures kept_unplaced { IfOk result (λ it. is_placed it ≡ false → self.new ≡ self.old) }
+        ensures kept { OnErr result (self.new ≡ self.old) }
+        ensures kept_memory { OnErr result ((to.new ≡ to.old) × (ends.new ≡ ends.old)) }
+        ensures memory { OnErr result (result ≡ Err PacketError.OutOfMemory) }
+        ensures free { has_no_effect (any_packetizer_state self.old.packetizer).format
+            (next_call (any_packetizer_state self.old.packetizer) mtu payload.now) ≡ true →
+            IsOk result }
+    {
+        let headers = self.headers();
+        let made = self
+            .packetizer
+            .packetize_to_memory(mtu, payload, headroom, to, ends)?;
+        set_placed_headers(headers, made, headroom, to, ends);
+        Ok(made)
+    }
+
+    /// Copies the packets of one unit as it is straight to memory where they fit; else nothing is
+    /// done.
+    pub fn packetize_unit_to_memory(
+        &mut self,
+        mtu: usize,
+        unit: &[u8],
+        headroom: usize,
+        to: &mut [u8],
+        ends: &mut [usize],
+    ) -> Result<Placement, PacketError>
+        ensures packets { IfOk result (λ it. IsPlacement headroom
+            (one_unit_packets (any_packetizer_state self.old.packetizer) mtu unit.now)
+            to.old to.new ends.old ends.new it) }
+        ensures after { IfOk result (λ it. any_packetizer_state self.new.packetizer ≡ if_placed it
+            (after_one_unit (any_packetizer_state self.old.packetizer) mtu unit.now)
+            (any_packetizer_state self.old.packetizer)) }
+        ensures codec { any_packetizer_codec self.new.packetizer
+            ≡ any_packetizer_codec self.old.packetizer }
+        ensures kept_packets { self.new.packets ≡ self.old.packets }
+        ensures lowest { self.new.lowest_header ≡ self.old.lowest_header }
+        ensures kept_unplaced { IfOk result (λ it. is_placed it ≡ false → self.new ≡ self.old) }
+        ensures kept { OnErr result (self.new ≡ self.old) }
+        ensures kept_memory { OnErr result ((to.new ≡ to.old) × (ends.new ≡ ends.old)) }
+        ensures memory { OnErr result (result ≡ Err PacketError.OutOfMemory) }
+
+        // Nothing is sent without memory.
+        ensures free { one_unit_items (any_packetizer_state self.old.packetizer) mtu unit.now ≡ [] →
+            IsOk result }
+    {
+        self.packetizer
+            .packetize_unit_to_memory(mtu, unit, headroom, to, ends)
     }
 
     /// How many packets there are.
