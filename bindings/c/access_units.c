@@ -527,6 +527,7 @@ static void check_as_other_ends(struct tally *t, void *at)
     expect(t, h26x_packetizer_clone(&p, &made_p) == H26X_WRONG_END && made_p.at == NULL);
     expect(t, h26x_packetizer_set_numbers(&p, true) == H26X_WRONG_END);
     expect(t, h26x_packetizer_set_max_size(&p, 9) == H26X_WRONG_END);
+    expect(t, h26x_packetizer_set_lowest_header(&p, true) == H26X_WRONG_END);
     expect(t, h26x_packet_count(&p) == 0 && h26x_packet_len(&p, 0) == 0 && h26x_packets_len(&p) == 0);
     expect(t, h26x_packet_copy(&p, 0, to, 8) == 0 && h26x_packets_copy(&p, 0, to, 8, ends, 1) == 0);
     expect(t, h26x_depacketize(&d, false, packet, 2, to, 8, &size, &extra, &why) == H26X_WRONG_END);

@@ -26,7 +26,8 @@
     X(is_partition_head) X(is_partition_tail) X(detect_keyframe) X(detect_h264_nalu) X(next_unit)  \
     X(set_lowest_header)                                                                           \
     X(unit_is_plain) X(out_size_hint) X(h264_profile_level) X(h265_is_known) X(h266_is_known)      \
-    X(packetizer_clone) X(packetizer_set_numbers) X(packetizer_set_max_size) X(packetize)          \
+    X(packetizer_clone) X(packetizer_set_numbers) X(packetizer_set_max_size)                       \
+    X(packetizer_set_lowest_header) X(packetize)                                                   \
     X(packetize_unit) X(packetize_into) X(packets_size) X(packetize_unit_into) X(packet_count)     \
     X(packet_len) X(packets_len) X(packet_copy) X(packets_copy) X(depacketizer_clone)              \
     X(depacketizer_same) X(depacketizer_set_numbers) X(depacketize) X(written_copy) X(give_up_run) \
@@ -281,6 +282,8 @@ static uint64_t sends(int s, const struct drawn *d, struct answer *a, struct out
         return l->packetizer_set_numbers(P, d->numbers);
     case CALL_packetizer_set_max_size:
         return l->packetizer_set_max_size(P, d->x % 4 == 0 ? d->y % 9 : d->y % 3000);
+    case CALL_packetizer_set_lowest_header:
+        return l->packetizer_set_lowest_header(P, d->numbers);
     case CALL_packetize:
         return l->packetize(P, d->mtu, d->bytes, d->len, count);
     case CALL_packetize_unit:

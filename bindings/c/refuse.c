@@ -168,6 +168,8 @@ static void refuse_sending(const struct codec *c)
                    == (c->number == H26X_H264 ? H26X_NOT_OF_THIS_CODEC : H26X_OK));
     without_memory(h26x_packetizer_set_max_size(&copy, 4)
                    == (c->number == H26X_H264 ? H26X_NOT_OF_THIS_CODEC : H26X_OK));
+    without_memory(h26x_packetizer_set_lowest_header(&copy, true)
+                   == (c->number == H26X_H264 ? H26X_NOT_OF_THIS_CODEC : H26X_OK));
 
     h26x_packetizer_free(p);
     h26x_packetizer_free(copy);

@@ -38,6 +38,7 @@ static void check_h264(struct tally *t)
     expect(t, h26x_packetizer_set_numbers(&p, true) == H26X_NOT_OF_THIS_CODEC);
     expect(t, h26x_packetizer_set_numbers(&p, false) == H26X_NOT_OF_THIS_CODEC);
     expect(t, h26x_packetizer_set_max_size(&p, 1000) == H26X_NOT_OF_THIS_CODEC);
+    expect(t, h26x_packetizer_set_lowest_header(&p, true) == H26X_NOT_OF_THIS_CODEC);
     h26x_packetizer_free(p);
 }
 
@@ -255,6 +256,50 @@ static void check_into(struct tally *t)
     h26x_packetizer_free(p);
 }
 
+/* Sets of layer 0 and temporal id 1 before a slice of layer 1 and temporal id 3, by RFC 7798, 4.4.2. */
+static void check_lowest_header(struct tally *t)
+{
+    const char *units = "000001 4001 000001 4201 000001 4401 000001 020baa";
+    const char *sent = "600b 0002 4001 0002 4201 0002 4401|020baa";
+    const char *wanted = "6001 0002 4001 0002 4201 0002 4401|020baa";
+    const char *numbered = "000001 4201 000001 4401 000001 0203aa";
+    h26x_packetizer p = made(t, H26X_H265, false), q;
+    sends(t, &p, 1200, units, sent);
+    expect(t, h26x_packetizer_set_lowest_header(&p, true) == H26X_OK);
+    holds_at(t, &p, 2, sent, __FILE__, __LINE__);
+    expect(t, h26x_packetizer_clone(&p, &q) == H26X_OK);
+    sends(t, &q, 1200, units, wanted);
+    h26x_packetizer_free(q);
+    sends(t, &p, 1200, units, wanted);
+    makes_into(t, h26x_packetize_into, &p, 1200, units, 2, 21, 2, H26X_OK, 2, 21,
+               "eeee 6001 0002 4001 0002 4201 0002 4401 eeee 020baa");
+    makes_into(t, h26x_packetize_into, &p, 1200, units, 2, 20, 2, H26X_NO_ROOM, 2, 21, "");
+    sends(t, &p, 1200, "000001 0201bb 000001 4001 000001 4201 000001 4401 000001 020baa",
+          "0201bb|6001 0002 4001 0002 4201 0002 4401|020baa");
+
+    /* F of a set is the packet's. A unit as it is stays. */
+    sends(t, &p, 1200, "000001 c001 000001 4201 000001 4401 000001 020baa",
+          "e001 0002 c001 0002 4201 0002 4401|020baa");
+    sends_unit(t, &p, 1200, "600b 0002 4001 0002 4201", "600b 0002 4001 0002 4201");
+    makes_into(t, h26x_packetize_unit_into, &p, 1200, "600b 0002 4001 0002 4201", 0, 64, 3, H26X_OK, 1, 10,
+               "600b 0002 4001 0002 4201");
+    expect(t, h26x_packetizer_set_numbers(&p, true) == H26X_OK);
+    sends(t, &p, 1200, numbered, "6001 0000 0002 4201 00 0002 4401|02030002aa");
+    makes_into(t, h26x_packetize_into, &p, 1200, numbered, 0, 64, 3, H26X_OK, 2, 18,
+               "6001 0003 0002 4201 00 0002 4401 02030005aa");
+    expect(t, h26x_packetizer_set_lowest_header(&p, false) == H26X_OK);
+    sends(t, &p, 1200, numbered, "6003 0006 0002 4201 00 0002 4401|02030008aa");
+    h26x_packetizer_free(p);
+
+    /* Those of H.266 have it (RFC 9328, 4.3.2). */
+    p = made(t, H26X_H266, false);
+    expect(t, h26x_packetizer_set_lowest_header(&p, true) == H26X_OK);
+    sends(t, &p, 1200, "000001 027abb 000001 0183cc 000001 0039dd", "01e2 0003 027abb 0003 0183cc|0039dd");
+    makes_into(t, h26x_packetize_into, &p, 1200, "600b 0002 4001 0002 4201", 0, 64, 3, H26X_OK, 1, 10,
+               "600b 0002 4001 0002 4201");
+    h26x_packetizer_free(p);
+}
+
 static void check_refusals(struct tally *t)
 {
     h26x_packetizer p = {NULL}, depacketizer;
@@ -278,6 +323,7 @@ static void check_refusals(struct tally *t)
     expect(t, h26x_packetizer_clone(&depacketizer, &p) == H26X_WRONG_END && p.at == NULL);
     expect(t, h26x_packetizer_set_numbers(&depacketizer, true) == H26X_WRONG_END);
     expect(t, h26x_packetizer_set_max_size(&depacketizer, 9) == H26X_WRONG_END);
+    expect(t, h26x_packetizer_set_lowest_header(&depacketizer, true) == H26X_WRONG_END);
     expect(t, h26x_packet_count(&depacketizer) == 0 && h26x_packet_len(&depacketizer, 0) == 0);
     expect(t, h26x_packet_copy(&depacketizer, 0, to, 8) == 0 && to[0] == 7);
     expect(t, h26x_packets_copy(&depacketizer, 0, to, 8, &count, 1) == 0 && to[0] == 7);
@@ -295,5 +341,6 @@ void check_sending(struct tally *t)
     check_copies(t);
     check_joined(t);
     check_into(t);
+    check_lowest_header(t);
     check_refusals(t);
 }

@@ -267,6 +267,7 @@ static void check_ends(struct tally *t)
     expect(t, h26x_packetizer_clone(&as_packetizer, &room) == H26X_WRONG_END && room.at == NULL);
     expect(t, h26x_packetizer_set_numbers(&as_packetizer, true) == H26X_WRONG_END);
     expect(t, h26x_packetizer_set_max_size(&as_packetizer, 9) == H26X_WRONG_END);
+    expect(t, h26x_packetizer_set_lowest_header(&as_packetizer, true) == H26X_WRONG_END);
     expect(t, h26x_packet_count(&as_packetizer) == 0 && h26x_packet_len(&as_packetizer, 0) == 0);
     expect(t, h26x_packet_copy(&as_packetizer, 0, to, 8) == 0 && to[0] == 7);
     expect(t, h26x_packets_copy(&as_packetizer, 0, to, 8, ends, 1) == 0 && to[0] == 7);

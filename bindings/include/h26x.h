@@ -163,6 +163,12 @@ H26X_API uint32_t h26x_packetizer_set_numbers(h26x_packetizer *p, bool numbers);
  * call is longer, whatever its `mtu`; it is 1200 at first. H26X_NOT_OF_THIS_CODEC for H.264; H26X_WRONG_END. */
 H26X_API uint32_t h26x_packetizer_set_max_size(h26x_packetizer *p, uint16_t bytes);
 
+/* Sets whether h26x_packetize and h26x_packetize_into give the sets of H.265 that go in one packet the header that
+ * RFC 7798, 4.4.2 asks for, as h26x_set_lowest_header does. Off at first: they have LayerId and TID of the unit behind
+ * them (str0m's rule), 60 0b before a slice of TID 3. Where a forwarder drops packets by TID turn it on, or the sets
+ * are dropped too. Those of H.266 have their header either way. H26X_NOT_OF_THIS_CODEC for H.264; H26X_WRONG_END. */
+H26X_API uint32_t h26x_packetizer_set_lowest_header(h26x_packetizer *p, bool lowest);
+
 /* Makes the packets of a payload, which is one unit, or units behind start codes: of an access unit, or a part of
  * one. They take the place of those of the call before, and *count is how many there are. No packet has more than
  * `mtu` bytes, RTP's header not counted, and of H.265 and H.266 none more than the largest packet size, which is
@@ -559,9 +565,7 @@ H26X_API bool h26x_detect_h264_nalu(const uint8_t *packet, size_t packet_len, ui
 
 /* Gives an aggregation packet of H.265 the header that RFC 7798, 4.4.2 asks for: the lowest LayerId and the lowest TID
  * of the units in it, and F where one has it. `numbers`: whether packets bear decoding order numbers. Every other
- * packet stays, and those of H.264 and H.266 and of an unknown codec.
- * A packetizer sends sets with LayerId and TID of the unit behind them (str0m's rule): 60 0b before a slice of TID 3.
- * Where a forwarder drops packets by TID, make this call of each packet that is sent, or the sets are dropped too. */
+ * packet stays, and those of H.264 and H.266 and of an unknown codec. */
 H26X_API void h26x_set_lowest_header(uint32_t codec, bool numbers, uint8_t *packet, size_t packet_len);
 
 /* Where the next unit of a payload stands, from `from` on: the bytes from *begin up to *end, which are written where
