@@ -24,6 +24,7 @@ func closedCalls(p *h26x.Packetizer, d *h26x.Depacketizer, r *h26x.Receiver, u *
 		"PacketizeUnitInto": func() error { return p.PacketizeUnitInto(99, unit, h26x.NewPackets(0)) },
 		"SetDONL":           func() error { return p.SetDONL(true) },
 		"SetMaxPacketSize":  func() error { return p.SetMaxPacketSize(9) },
+		"SetLowestHeader":   func() error { return p.SetLowestHeader(true) },
 		"Clone":             func() error { _, err := p.Clone(); return err },
 		"Unmarshal":         func() error { _, err := d.Unmarshal(unit); return err },
 		"Append":            func() error { _, _, err := d.Append(nil, unit); return err },

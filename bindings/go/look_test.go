@@ -270,6 +270,7 @@ func TestEachCallIsMade(t *testing.T) {
 		"h26x_packet_copy":       "the same",
 		"h26x_packets_copy":      "the same",
 		"h26x_packets_size":      "Packets grow",
+		"h26x_set_lowest_header": "a packetizer's setting does it",
 		"h26x_depacketizer_same": "it would lock two at once",
 	}
 	files, err := os.ReadDir(".")

@@ -11,13 +11,6 @@ static uint32_t packets_into(bool is_unit, h26x_packetizer *p, size_t mtu, const
     return is_unit ? h26x_packetize_unit_into(p, mtu, bytes, len, headroom, to, room, ends, ends_room, count, size)
                    : h26x_packetize_into(p, mtu, bytes, len, headroom, to, room, ends, ends_room, count, size);
 }
-
-// Gives packets of H.265 that were made the headers of their units.
-static void set_lowest_headers(bool numbers, uint8_t *to, size_t headroom, const size_t *ends, size_t count)
-{
-    for (size_t i = 0, begin = headroom; i < count; begin = ends[i++] + headroom)
-        h26x_set_lowest_header(H26X_H265, numbers, to + begin, ends[i] - begin);
-}
 */
 import "C"
 
@@ -32,9 +25,6 @@ type Packetizer struct {
 	mu    sync.RWMutex
 	codec Codec
 	call  *sending
-	// Whether packets bear decoding order numbers, and whether aggregates of H.265 have the header of their
-	// units.
-	donl, lowest bool
 	// Memory in which packets are made that go into slices of their own.
 	kept Packets
 }
@@ -88,9 +78,7 @@ func (p *Packetizer) Clone() (*Packetizer, error) {
 	if err := refusedBy(C.h26x_packetizer_clone(&p.call.handle, &call.handle)); err != nil {
 		return nil, err
 	}
-	clone := ownPacketizer(p.codec, call)
-	clone.donl, clone.lowest = p.donl, p.lowest
-	return clone, nil
+	return ownPacketizer(p.codec, call), nil
 }
 
 // SetDONL sets whether packets bear decoding order numbers, from 0 on (H.265 and H.266), as
@@ -101,11 +89,7 @@ func (p *Packetizer) SetDONL(donl bool) error {
 	if p.call == nil {
 		return ErrClosed
 	}
-	if err := refusedBy(C.h26x_packetizer_set_numbers(&p.call.handle, C.bool(donl))); err != nil {
-		return err
-	}
-	p.donl = donl
-	return nil
+	return refusedBy(C.h26x_packetizer_set_numbers(&p.call.handle, C.bool(donl)))
 }
 
 // SetLowestHeader sets whether parameter sets of H.265 that go in one packet have the header that RFC 7798,
@@ -121,11 +105,7 @@ func (p *Packetizer) SetLowestHeader(lowest bool) error {
 	if p.call == nil {
 		return ErrClosed
 	}
-	if p.codec == H264 {
-		return ErrNotOfThisCodec
-	}
-	p.lowest = lowest
-	return nil
+	return refusedBy(C.h26x_packetizer_set_lowest_header(&p.call.handle, C.bool(lowest)))
 }
 
 // SetMaxPacketSize sets the largest packet size of H.265 and H.266, in bytes: no packet of a later call is
@@ -226,10 +206,6 @@ func (p *Packetizer) makes(isUnit bool, mtu uint16, bytes []byte, into *Packets)
 				return err
 			}
 			into.count = int(call.count)
-			if p.lowest && p.codec == H265 && !isUnit {
-				C.set_lowest_headers(C.bool(p.donl), at(into.bytes), C.size_t(into.headroom), into.endsAt(),
-					call.count)
-			}
 			return nil
 		}
 		into.grow(int(call.count), int(call.size))

@@ -152,6 +152,7 @@ def closed_calls() -> List[Callable[[], Any]]:
         lambda: packetizer.packets_size(1500, b"\2\1\3"),
         lambda: setattr(packetizer, "donl", True),
         lambda: setattr(packetizer, "max_packet_size", 9),
+        lambda: setattr(packetizer, "lowest_header", True),
         packetizer.copy,
         lambda: depacketizer.depacketize(b"\2\1\3"),
         lambda: setattr(depacketizer, "donl", True),

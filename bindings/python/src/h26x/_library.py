@@ -137,6 +137,7 @@ CALLS: Dict[str, Tuple[Any, List[Any]]] = {
     "packetizer_free": _FREE,
     "packetizer_set_numbers": _SET,
     "packetizer_set_max_size": (c_uint32, [_HANDLE, c_uint16]),
+    "packetizer_set_lowest_header": (c_uint32, [_HANDLE, c_bool]),
     "packetize": _MAKE,
     "packetize_unit": _MAKE,
     "packetize_into": _INTO,

@@ -2,14 +2,14 @@
 
 from __future__ import annotations
 
-from ctypes import byref, c_size_t, c_uint8
+from ctypes import byref, c_size_t
 from typing import Any, List, Optional, Tuple, Union
 
 from ._handle import Owner
 from ._library import Handle, library
 from ._memory import Buffer, Ends, Room, Target, as_bytes, number
 from .codec import Codec, codec_of
-from .errors import NoRoom, NotOfThisCodec, check
+from .errors import NoRoom, check
 
 #: The largest packet size of H.265 and H.266 at first, in bytes.
 DEFAULT_MAX_PACKET_SIZE = 1200
@@ -93,8 +93,7 @@ class Packetizer(Owner):
 
     @lowest_header.setter
     def lowest_header(self, value: bool) -> None:
-        if self._codec is Codec.H264:
-            check(NotOfThisCodec.code)
+        check(self._with_handle(library.h26x_packetizer_set_lowest_header, value))
         self._lowest_header = value
 
     def packetize(self, mtu: int, payload: Buffer) -> List[bytes]:
@@ -240,16 +239,4 @@ class Packetizer(Owner):
             ends.grow(self._count.value)
             return False
         check(code)
-        is_lowest = self._lowest_header and self._codec is Codec.H265
-        if is_lowest and call is library.h26x_packetize_into:
-            self._set_lowest_headers(address, headroom)
         return True
-
-    def _set_lowest_headers(self, address: int, headroom: int) -> None:
-        """Gives the packets that were made at an address the headers of their units."""
-        begin = 0
-        for end in self._ends.copy(self._count.value):
-            begin += headroom
-            packet = byref(c_uint8.from_address(address + begin))
-            library.h26x_set_lowest_header(Codec.H265, self._donl, packet, end - begin)
-            begin = end
