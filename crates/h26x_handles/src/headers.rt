@@ -12,7 +12,7 @@ use h26x_codec::Codec;
 use h26x_payload::{PacketBuffer, Placement};
 use h265_payload::set_lowest_header;
 
-/// Whether packets bear decoding order numbers, where it is asked for that header and they are of H.265.
+/// Whether packets bear decoding order numbers, where that header is asked for and they are of H.265.
 pub fn headers_wanted(is_asked: bool, codec: Codec, has_donl: bool) -> Option<bool>
     ensures { result ≡ headers_wanted is_asked codec has_donl }
 {
