@@ -7,8 +7,9 @@ ghost use Rattle.h26x_codec.specs.Codec.{codec_format, fresh_packetizer_state, n
 ghost use Rattle.h26x_codec.specs.declared.codec.Codec.{Codec};
 ghost use Rattle.h26x_handles.specs.Codes.{codec_or_code, may_have_donl, ok, out_of_memory, wrong_end, not_of_this_codec, out_of_range};
 ghost use Rattle.h26x_handles.specs.Copies.{with_front, nth_packet, AreCopied};
+ghost use Rattle.h26x_handles.specs.Headers.{headed};
 ghost use Rattle.h26x_handles.specs.PlacementAnswer.{AreCounted, IsPlacementAnswer};
-ghost use Rattle.h26x_handles.specs.States.{endpoint_packetizer_state, endpoint_packets, endpoint_codec, place_packetizer_state, place_packets, endpoint_without_output, payload_entries};
+ghost use Rattle.h26x_handles.specs.States.{endpoint_packetizer_state, endpoint_packets, endpoint_codec, endpoint_headers, endpoint_lowest_header, place_packetizer_state, place_packets, place_lowest_header, endpoint_without_output, payload_entries};
 
 use crate::const_handle::ConstHandle;
 use crate::handle::Handle;
@@ -36,6 +37,7 @@ pub extern "C" fn h26x_packetizer_new(
     ensures made { (c : Codec) → codec_or_code codec numbers ≡ Ok c → result ≡ ok →
         place_packetizer_state made.new.value ≡ Some (fresh_packetizer_state (codec_format c numbers)) }
     ensures none { result ≡ ok → place_packets made.new.value ≡ [] }
+    ensures off { result ≡ ok → place_lowest_header made.new.value ≡ false }
     ensures kept { result ≢ ok → made.new ≡ made.old }
 {
     match codec_wanted(codec, numbers) {
@@ -87,6 +89,7 @@ pub extern "C" fn h26x_packetizer_set_numbers(p: &mut Handle, numbers: bool) -> 
           next_don = 0;
         })) }
     ensures packets { endpoint_packets p.new.value ≡ endpoint_packets p.old.value }
+    ensures lowest { endpoint_lowest_header p.new.value ≡ endpoint_lowest_header p.old.value }
     ensures kept { result ≢ ok → p.new.value ≡ p.old.value }
 {
     match p.get_mut() {
@@ -94,7 +97,7 @@ pub extern "C" fn h26x_packetizer_set_numbers(p: &mut Handle, numbers: bool) -> 
             if !may_have_donl(it.packetizer.codec()) {
                 return NOT_OF_THIS_CODEC;
             }
-            it.packetizer.with_donl(numbers);
+            it.with_donl(numbers);
             OK
         }
         _ => WRONG_END,
@@ -113,6 +116,7 @@ pub extern "C" fn h26x_packetizer_set_max_size(p: &mut Handle, bytes: u16) -> u3
         may_have_donl (endpoint_codec p.old.value) ≡ true → 4 ≤ bytes → (result ≡ ok)
         × (endpoint_packetizer_state p.new.value ≡ Some (record it { max_packet_size = bytes })) }
     ensures packets { endpoint_packets p.new.value ≡ endpoint_packets p.old.value }
+    ensures lowest { endpoint_lowest_header p.new.value ≡ endpoint_lowest_header p.old.value }
     ensures kept { result ≢ ok → p.new.value ≡ p.old.value }
 {
     match p.get_mut() {
@@ -123,7 +127,34 @@ pub extern "C" fn h26x_packetizer_set_max_size(p: &mut Handle, bytes: u16) -> u3
             if bytes < 4 {
                 return OUT_OF_RANGE;
             }
-            it.packetizer.with_max_packet_size(bytes);
+            it.with_max_packet_size(bytes);
+            OK
+        }
+        _ => WRONG_END,
+    }
+}
+
+/// Sets whether aggregation packets of H.265 get the header of their units (RFC 7798, 4.4.2). Those of
+/// H.266 have it in any case.
+#[unsafe(no_mangle)]
+pub extern "C" fn h26x_packetizer_set_lowest_header(p: &mut Handle, lowest: bool) -> u32
+    ensures wrong { endpoint_packetizer_state p.old.value ≡ None → result ≡ wrong_end }
+    ensures none { (it : PacketizerState) → endpoint_packetizer_state p.old.value ≡ Some it →
+        may_have_donl (endpoint_codec p.old.value) ≡ false → result ≡ not_of_this_codec }
+    ensures set { (it : PacketizerState) → endpoint_packetizer_state p.old.value ≡ Some it →
+        may_have_donl (endpoint_codec p.old.value) ≡ true →
+        (result ≡ ok) × (endpoint_lowest_header p.new.value ≡ lowest) }
+    ensures state { endpoint_packetizer_state p.new.value ≡ endpoint_packetizer_state p.old.value }
+    ensures codec { endpoint_codec p.new.value ≡ endpoint_codec p.old.value }
+    ensures packets { endpoint_packets p.new.value ≡ endpoint_packets p.old.value }
+    ensures kept { result ≢ ok → p.new.value ≡ p.old.value }
+{
+    match p.get_mut() {
+        Endpoint::Sending(it) => {
+            if !may_have_donl(it.packetizer.codec()) {
+                return NOT_OF_THIS_CODEC;
+            }
+            it.with_lowest_header(lowest);
             OK
         }
         _ => WRONG_END,
@@ -145,12 +176,14 @@ pub extern "C" fn h26x_packetize(
         has_no_effect it.format (next_call it mtu payload.now) ≡ true → result ≡ ok }
     ensures packets { (it : PacketizerState) → endpoint_packetizer_state p.old.value ≡ Some it →
         result ≡ ok →
-        endpoint_packets p.new.value ≡ state_packets it (payload_entries it mtu payload.now) }
+        endpoint_packets p.new.value ≡ headed (endpoint_headers p.old.value)
+        (state_packets it (payload_entries it mtu payload.now)) }
     ensures after { (it : PacketizerState) → endpoint_packetizer_state p.old.value ≡ Some it →
         result ≡ ok →
         endpoint_packetizer_state p.new.value ≡ Some
         (after_entries it (payload_entries it mtu payload.now)) }
     ensures codec { endpoint_codec p.new.value ≡ endpoint_codec p.old.value }
+    ensures lowest { endpoint_lowest_header p.new.value ≡ endpoint_lowest_header p.old.value }
     ensures kept { result ≢ ok → p.new.value ≡ p.old.value }
     ensures count { count.new ≡ length (endpoint_packets p.new.value) }
 {
@@ -188,6 +221,7 @@ pub extern "C" fn h26x_packetize_unit(
         result ≡ ok →
         endpoint_packetizer_state p.new.value ≡ Some (after_one_unit it mtu unit.now) }
     ensures codec { endpoint_codec p.new.value ≡ endpoint_codec p.old.value }
+    ensures lowest { endpoint_lowest_header p.new.value ≡ endpoint_lowest_header p.old.value }
     ensures kept { result ≢ ok → p.new.value ≡ p.old.value }
     ensures count { count.new ≡ length (endpoint_packets p.new.value) }
 
@@ -263,7 +297,8 @@ pub extern "C" fn h26x_packetize_into(
 ) -> u32
     ensures wrong { endpoint_packetizer_state p.old.value ≡ None → result ≡ wrong_end }
     ensures answer { (it : PacketizerState) → endpoint_packetizer_state p.old.value ≡ Some it →
-        IsPlacementAnswer headroom (state_packets it (payload_entries it mtu payload.now))
+        IsPlacementAnswer headroom (headed (endpoint_headers p.old.value)
+        (state_packets it (payload_entries it mtu payload.now)))
         to.old to.new ends.old ends.new result count.new size.new }
     ensures free { (it : PacketizerState) → endpoint_packetizer_state p.old.value ≡ Some it →
         has_no_effect it.format (next_call it mtu payload.now) ≡ true → result ≢ out_of_memory }
@@ -272,6 +307,7 @@ pub extern "C" fn h26x_packetize_into(
         endpoint_packetizer_state p.new.value ≡ Some
         (after_entries it (payload_entries it mtu payload.now)) }
     ensures codec { endpoint_codec p.new.value ≡ endpoint_codec p.old.value }
+    ensures lowest { endpoint_lowest_header p.new.value ≡ endpoint_lowest_header p.old.value }
     ensures packets { endpoint_packets p.new.value ≡ endpoint_packets p.old.value }
     ensures kept { result ≢ ok → p.new.value ≡ p.old.value }
     ensures kept_to { result ≢ ok → to.new ≡ to.old }
@@ -280,9 +316,7 @@ pub extern "C" fn h26x_packetize_into(
 {
     match p.get_mut() {
         Endpoint::Sending(it) => {
-            let made = it
-                .packetizer
-                .packetize_to_memory(mtu, payload, headroom, to, ends);
+            let made = it.packetize_to_memory(mtu, payload, headroom, to, ends);
             code_of_placement(made, count, size)
         }
         _ => {
@@ -313,6 +347,7 @@ pub extern "C" fn h26x_packetize_unit_into(
         result ≡ ok →
         endpoint_packetizer_state p.new.value ≡ Some (after_one_unit it mtu unit.now) }
     ensures codec { endpoint_codec p.new.value ≡ endpoint_codec p.old.value }
+    ensures lowest { endpoint_lowest_header p.new.value ≡ endpoint_lowest_header p.old.value }
     ensures packets { endpoint_packets p.new.value ≡ endpoint_packets p.old.value }
     ensures kept { result ≢ ok → p.new.value ≡ p.old.value }
     ensures kept_to { result ≢ ok → to.new ≡ to.old }
@@ -325,9 +360,7 @@ pub extern "C" fn h26x_packetize_unit_into(
 {
     match p.get_mut() {
         Endpoint::Sending(it) => {
-            let made = it
-                .packetizer
-                .packetize_unit_to_memory(mtu, unit, headroom, to, ends);
+            let made = it.packetize_unit_to_memory(mtu, unit, headroom, to, ends);
             code_of_placement(made, count, size)
         }
         _ => {
