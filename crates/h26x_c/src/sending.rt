@@ -7,7 +7,7 @@ ghost use Rattle.h26x_codec.specs.Codec.{codec_format, fresh_packetizer_state, n
 ghost use Rattle.h26x_codec.specs.declared.codec.Codec.{Codec};
 ghost use Rattle.h26x_handles.specs.Codes.{codec_or_code, may_have_donl, ok, out_of_memory, wrong_end, not_of_this_codec, out_of_range};
 ghost use Rattle.h26x_handles.specs.Copies.{with_front, nth_packet, AreCopied};
-ghost use Rattle.h26x_handles.specs.Headers.{headed};
+ghost use Rattle.h26x_handles.specs.Headers.{under_headers};
 ghost use Rattle.h26x_handles.specs.PlacementAnswer.{AreCounted, IsPlacementAnswer};
 ghost use Rattle.h26x_handles.specs.States.{endpoint_packetizer_state, endpoint_packets, endpoint_codec, endpoint_headers, endpoint_lowest_header, place_packetizer_state, place_packets, place_lowest_header, endpoint_without_output, payload_entries};
 
@@ -176,7 +176,7 @@ pub extern "C" fn h26x_packetize(
         has_no_effect it.format (next_call it mtu payload.now) ≡ true → result ≡ ok }
     ensures packets { (it : PacketizerState) → endpoint_packetizer_state p.old.value ≡ Some it →
         result ≡ ok →
-        endpoint_packets p.new.value ≡ headed (endpoint_headers p.old.value)
+        endpoint_packets p.new.value ≡ under_headers (endpoint_headers p.old.value)
         (state_packets it (payload_entries it mtu payload.now)) }
     ensures after { (it : PacketizerState) → endpoint_packetizer_state p.old.value ≡ Some it →
         result ≡ ok →
@@ -297,7 +297,7 @@ pub extern "C" fn h26x_packetize_into(
 ) -> u32
     ensures wrong { endpoint_packetizer_state p.old.value ≡ None → result ≡ wrong_end }
     ensures answer { (it : PacketizerState) → endpoint_packetizer_state p.old.value ≡ Some it →
-        IsPlacementAnswer headroom (headed (endpoint_headers p.old.value)
+        IsPlacementAnswer headroom (under_headers (endpoint_headers p.old.value)
         (state_packets it (payload_entries it mtu payload.now)))
         to.old to.new ends.old ends.new result count.new size.new }
     ensures free { (it : PacketizerState) → endpoint_packetizer_state p.old.value ≡ Some it →

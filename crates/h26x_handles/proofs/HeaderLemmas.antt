@@ -15,7 +15,7 @@ use Rattle.h26x_payload.proofs.PlacementLemmas.{size_next, size_of_first}
 use Rattle.h265_payload.specs.LowestHeader.{with_lowest_header, with_lowest_headers}
 use Rattle.h265_payload.proofs.LowestLemmas.{is_headed}
 use Rattle.h26x_handles.specs.Copies.{end_offsets}
-use Rattle.h26x_handles.specs.Headers.{headed}
+use Rattle.h26x_handles.specs.Headers.{under_headers}
 use Rattle.h26x_handles.proofs.CopyLemmas.{end_at}
 
 -- packets of which the first ones, so many, were written anew
@@ -469,19 +469,19 @@ placed_of h ps memory to before ends made size is placement = subst (λ m. IsPla
 
 pub headed_placed : (headers : Option Bool) (has_donl : Bool) (h : ℕ) (ps : List (List ℕ)) (memory to before ends now : List ℕ) (made : Placement) (size : PacketsSize) → headers ≡ Some has_donl →
     made ≡ p.Placed size → now ≡ packets_over h (with_lowest_headers has_donl (packets_from h 0 to (take size.packets ends))) to → IsPlacement h ps memory to before ends made →
-    IsPlacement h (headed headers ps) memory now before ends made
+    IsPlacement h (under_headers headers ps) memory now before ends made
 headed_placed headers has_donl h ps memory to before ends now made size asked is set placement =
     let it = placed_of h ps memory to before ends made size is placement in
-    subst (λ m. IsPlacement h (headed headers ps) memory now before ends m) (sym is)
-    (subst (λ asked. IsPlacement h (headed asked ps) memory now before ends (p.Placed size)) (sym asked)
+    subst (λ m. IsPlacement h (under_headers headers ps) memory now before ends m) (sym is)
+    (subst (λ asked. IsPlacement h (under_headers asked ps) memory now before ends (p.Placed size)) (sym asked)
     (subst (λ (l : List ℕ). IsPlacement h (with_lowest_headers has_donl ps) memory l before ends (p.Placed size)) (sym set)
     (placed_anew (with_lowest_header has_donl) (λ packet. (is_headed has_donl packet).len) h ps memory to before ends size it.0 it.1)))
 
 pub headed_no_room : (headers : Option Bool) (has_donl : Bool) (h : ℕ) (ps : List (List ℕ)) (memory to before ends : List ℕ) (made : Placement) (size : PacketsSize) → headers ≡ Some has_donl →
-    made ≡ p.NoRoom size → IsPlacement h ps memory to before ends made → IsPlacement h (headed headers ps) memory to before ends made
+    made ≡ p.NoRoom size → IsPlacement h ps memory to before ends made → IsPlacement h (under_headers headers ps) memory to before ends made
 headed_no_room headers has_donl h ps memory to before ends made size asked is placement =
     let it : HaveNoRoom h ps memory to before ends × IsSizeOf h ps size = subst (λ m. IsPlacement h ps memory to before ends m) is placement in
     let long : (packet : List ℕ) → length (with_lowest_header has_donl packet) ≡ length packet = λ packet. (is_headed has_donl packet).len in
-    subst (λ m. IsPlacement h (headed headers ps) memory to before ends m) (sym is)
-    (subst (λ asked. IsPlacement h (headed asked ps) memory to before ends (p.NoRoom size)) (sym asked)
+    subst (λ m. IsPlacement h (under_headers headers ps) memory to before ends m) (sym is)
+    (subst (λ asked. IsPlacement h (under_headers asked ps) memory to before ends (p.NoRoom size)) (sym asked)
     (no_room_anew (with_lowest_header has_donl) long h ps memory to before ends it.0, sized_anew (with_lowest_header has_donl) long h ps size it.1))

@@ -14,9 +14,9 @@ headers_wanted is_asked codec has_donl = None
 
 -- packets, or the same with the headers of their units (RFC 7798, 4.4.2) where it is said whether they
 -- bear decoding order numbers
-abbrev pub headed : Option Bool → List (List ℕ) → List (List ℕ)
-headed None packets = packets
-headed (Some has_donl) packets = with_lowest_headers has_donl packets
+abbrev pub under_headers : Option Bool → List (List ℕ) → List (List ℕ)
+under_headers None packets = packets
+under_headers (Some has_donl) packets = with_lowest_headers has_donl packets
 
 -- packets came to stand in memory, or had no room there
 abbrev pub IsPlaced : ℕ → List ℕ → List ℕ → Placement → Type 0

@@ -5,7 +5,7 @@ ghost use Rattle.std.specs.List.{between};
 ghost use Rattle.h26x_payload.specs.Buffer.{packets_from, last_end, AreEnds};
 ghost use Rattle.h26x_payload.specs.Placement.{packets_over, IsPlacement};
 ghost use Rattle.h265_payload.specs.LowestHeader.{with_lowest_header, with_lowest_headers};
-ghost use Rattle.h26x_handles.specs.Headers.{headers_wanted, headed, IsPlaced};
+ghost use Rattle.h26x_handles.specs.Headers.{headers_wanted, under_headers, IsPlaced};
 
 use crate::copy::{ends_of, start_of};
 use h26x_codec::Codec;
@@ -81,7 +81,7 @@ fn set_in_memory(has_donl: bool, headroom: usize, to: &mut [u8], ends: &[usize])
 /// Gives packets without headroom the header, if it is said whether they bear decoding order numbers.
 pub fn set_headers(headers: Option<bool>, packets: &mut PacketBuffer)
     requires { packets.old.headroom ≡ 0 }
-    ensures { packets.new ≡ record packets.old { packets = headed headers packets.old.packets } }
+    ensures { packets.new ≡ record packets.old { packets = under_headers headers packets.old.packets } }
 {
     if let Some(has_donl) = headers {
         set_all(has_donl, packets);
@@ -99,7 +99,7 @@ pub fn set_placed_headers(
     requires { IsPlaced headroom to.old ends.now made }
     ensures { (packets : List (List ℕ)) (memory before : List ℕ) →
         IsPlacement headroom packets memory to.old before ends.now made →
-        IsPlacement headroom (headed headers packets) memory to.new before ends.now made }
+        IsPlacement headroom (under_headers headers packets) memory to.new before ends.now made }
 {
     let Some(has_donl) = headers else {
         return;

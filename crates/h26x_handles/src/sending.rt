@@ -6,7 +6,7 @@ ghost use Rattle.h26x_model.specs.Send.PacketizerState.{state_packets, after_ent
 ghost use Rattle.h26x_payload.specs.Placement.{IsPlacement, if_placed, is_placed};
 ghost use Rattle.h26x_codec.specs.Codec.{codec_format, fresh_packetizer_state, next_call};
 ghost use Rattle.h26x_handles.specs.States.{any_packetizer_state, any_packetizer_codec, any_packetizer_with_donl, any_packetizer_with_max_packet_size, payload_entries, headers_asked};
-ghost use Rattle.h26x_handles.specs.Headers.{headed};
+ghost use Rattle.h26x_handles.specs.Headers.{under_headers};
 ghost use Rattle.h26x_handles.specs.Copies.{nth_packet, AreCopied};
 
 use crate::code::may_have_donl;
@@ -120,7 +120,7 @@ impl SendingEndpoint {
 
     /// Makes the packets of a payload, which take the place of the last call's.
     pub fn packetize(&mut self, mtu: usize, payload: &[u8]) -> Result<(), PacketError>
-        ensures packets { OnOk result (self.new.packets ≡ headed (headers_asked self.old)
+        ensures packets { OnOk result (self.new.packets ≡ under_headers (headers_asked self.old)
             (state_packets (any_packetizer_state self.old.packetizer)
             (payload_entries (any_packetizer_state self.old.packetizer) mtu payload.now))) }
         ensures after { OnOk result (any_packetizer_state self.new.packetizer
@@ -176,8 +176,8 @@ impl SendingEndpoint {
         to: &mut [u8],
         ends: &mut [usize],
     ) -> Result<Placement, PacketError>
-        ensures packets { IfOk result (λ it. IsPlacement headroom (headed (headers_asked self.old)
-            (state_packets (any_packetizer_state self.old.packetizer)
+        ensures packets { IfOk result (λ it. IsPlacement headroom (under_headers
+            (headers_asked self.old) (state_packets (any_packetizer_state self.old.packetizer)
             (payload_entries (any_packetizer_state self.old.packetizer) mtu payload.now)))
             to.old to.new ends.old ends.new it) }
         ensures after { IfOk result (λ it. any_packetizer_state self.new.packetizer ≡ if_placed it

@@ -1,6 +1,6 @@
 -- The constraints of H.266 that `interop-constraints` says: ptl_frame_only_constraint_flag,
--- ptl_multilayer_enabled_flag and general_constraints_info( ), which ends with a byte (RFC 9328, section
--- 7.2; Rec. ITU-T H.266, sections 7.3.3.1 and 7.3.3.2).
+-- ptl_multilayer_enabled_flag and general_constraints_info( ), which ends with a byte (RFC 9328,
+-- section 7.2; Rec. ITU-T H.266, sections 7.3.3.1 and 7.3.3.2).
 use Rattle.std.specs.Prelude.{ℕ, ◌+◌, ◌*◌, ◌/◌, ◌==◌, nat_lt, Bool, if◌then◌else◌, List, [], length, slice_index_or, Option, Some, None, Result, Ok, Err}
 use Rattle.base64.specs.Engines.{standard}
 use Rattle.base64.specs.GeneralPurpose.{encode_of, decode_of}

@@ -87,7 +87,8 @@ pub fn read_level_sets(alloc: Global, text: &[u8]) -> Result<Vec<LevelSets>, Lev
 /// Writes a level at the end of a text.
 fn push_level(alloc: Global, text: &mut Vec<u8>, level: &LevelSets) -> Result<(), AllocError>
     ensures { OnOk result (text.new.items ≡ text.old.items
-        ++ (encode_lower level.now.profile_level_id ++ 58 ∷ units_text (units_view level.now.sets.items))) }
+        ++ (encode_lower level.now.profile_level_id
+        ++ 58 ∷ units_text (units_view level.now.sets.items))) }
 {
     let id = hex::encode(alloc, level.profile_level_id)?.into_bytes();
     let sets = write_units(alloc, level.sets.as_slice())?;

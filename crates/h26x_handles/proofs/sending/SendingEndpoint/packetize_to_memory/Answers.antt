@@ -2,7 +2,7 @@ use Rattle.std.proofs.Common.{subst}
 use Rattle.h26x_model.specs.Send.PacketizerState.{state_packets}
 use Rattle.h26x_payload.specs.Placement.{IsPlacement}
 use Rattle.h26x_handles.specs.Endpoint.{SendingEndpoint}
-use Rattle.h26x_handles.specs.Headers.{headed}
+use Rattle.h26x_handles.specs.Headers.{under_headers}
 use Rattle.h26x_handles.specs.States.{any_packetizer_state, payload_entries, headers_asked}
 use Rattle.h26x_handles.proofs.sending.SendingEndpoint.packetize_to_memory.Goals as goal
 
@@ -21,7 +21,7 @@ returns-clause-packets c =
     let ends = c.packetize_to_memory.new.ends in
     let made = c.in_ok-made.made in
     subst (λ (it : SendingEndpoint). IsPlacement c.args.headroom
-    (headed (headers_asked c.args.self.now) (state_packets (any_packetizer_state it.packetizer) (payload_entries (any_packetizer_state it.packetizer) c.args.mtu c.args.payload.now))) c.args.to.now to
+    (under_headers (headers_asked c.args.self.now) (state_packets (any_packetizer_state it.packetizer) (payload_entries (any_packetizer_state it.packetizer) c.args.mtu c.args.payload.now))) c.args.to.now to
     c.args.ends.now ends made) c.self.view_is
-    (subst (λ asked. IsPlacement c.args.headroom (headed asked packets) c.args.to.now to c.args.ends.now ends made) c.headers-headers.ensures
+    (subst (λ asked. IsPlacement c.args.headroom (under_headers asked packets) c.args.to.now to c.args.ends.now ends made) c.headers-headers.ensures
     (c.set_placed_headers.ensures packets c.args.to.now c.args.ends.now c.in_ok-made.ensures.packets))
