@@ -9,6 +9,7 @@ pub mod access_units;
 pub mod code;
 pub mod copy;
 pub mod endpoint;
+pub mod headers;
 pub mod kept_parameters;
 pub mod packetizer;
 pub mod receiving;

@@ -33,6 +33,8 @@ pub struct Counts {
     pub whole: u64,
     /// NAL units that were given up, since they were longer than the limit.
     pub units_given_up: u64,
+    /// Texts of access units that were given up, since they were longer than the limit.
+    pub texts_given_up: u64,
 }
 
 /// How many open NAL units were given up.
@@ -58,6 +60,7 @@ impl Counts {
             units: 0,
             whole: 0,
             units_given_up: 0,
+            texts_given_up: 0,
         }
     }
 
@@ -86,8 +89,8 @@ impl Counts {
         self.lost = self.lost.saturating_add(dropped as u64);
     }
 
-    /// Counts what became of a packet that was due.
-    fn answer(&mut self, received: &Result<Received, PacketError>) {
+    /// Counts what became of a packet that was due; where it was taken, whether a text was given up.
+    fn answer(&mut self, received: &Result<Received, PacketError>, text: bool) {
         match received {
             Ok(Received::Late(_)) => self.late = self.late.saturating_add(1),
             Ok(received) => {
@@ -95,6 +98,7 @@ impl Counts {
                 self.taken = self.taken.saturating_add(1);
                 self.lost = self.lost.saturating_add(missing);
                 self.units_given_up = self.units_given_up.saturating_add(given_up(*received));
+                self.texts_given_up = self.texts_given_up.saturating_add(u64::from(text));
             }
             Err(_) => self.refused = self.refused.saturating_add(1),
         }
@@ -112,15 +116,16 @@ impl Counts {
         }
     }
 
-    /// Counts what became of a packet that was due.
+    /// Counts what became of a packet that was due; where it was taken, whether a text was given up.
     pub(crate) fn note(
         &mut self,
         packet: &RtpPacket<'_>,
         received: &Result<Received, PacketError>,
+        text: bool,
     ) {
         match received {
             Ok(received) if packet.payload.is_empty() => self.skip(*received),
-            _ => self.answer(received),
+            _ => self.answer(received, text),
         }
     }
 

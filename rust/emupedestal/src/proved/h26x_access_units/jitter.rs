@@ -206,6 +206,13 @@ impl JitterBuffer {
         }
     }
 
+    /// Drops the first packet, due or not, and keeps its memory, as [`ReorderBuffer::give_back`] does.
+    pub fn drop_first(&mut self) {
+        if let Some(packet) = self.pop_first() {
+            self.buffer.give_back(packet);
+        }
+    }
+
     /// The numbers that are missing before packets that wait, in order, from the one that is due on:
     /// for a NACK (RFC 4585, 6.2.1). Of a stream that begins the first of them are those of the window
     /// before the first packet that came.

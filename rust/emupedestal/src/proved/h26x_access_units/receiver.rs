@@ -163,8 +163,9 @@ impl<D: RunDepacketizer> AccessUnitReceiver<D> {
         }
         self.frames.forget_marker();
         self.numbers.note(&packet, &received);
-        self.counts.note(&packet, &received);
-        let _ = self.waiting.pop_first();
+        self.counts
+            .note(&packet, &received, self.frames.is_text_given_up);
+        self.waiting.drop_first();
         Ok(true)
     }
 
@@ -195,6 +196,7 @@ impl<D: RunDepacketizer> AccessUnitReceiver<D> {
             self.frames.end(&mut self.ended)?;
             self.numbers.end();
             self.waiting.restart();
+            self.stray = None;
         }
         Ok(())
     }

@@ -158,16 +158,19 @@ impl OpenAccessUnit {
     }
 
     /// Gives up its text where that has more bytes than this, with what it tells; it isn't whole then.
-    /// A run that is open stays. The memory goes back where the run doesn't stand in it.
+    /// A run that is open stays. The memory goes back where the run doesn't stand in it. The answer is
+    /// whether it had more.
     #[inline]
-    pub(crate) fn limit(&mut self, most: usize) {
+    pub(crate) fn limit(&mut self, most: usize) -> bool {
         if let Some(unit) = &mut self.unit {
             if unit.text.len() > most {
                 unit.text.give_up_text();
                 unit.extra = CodecExtra::None;
                 unit.is_whole = false;
+                return true;
             }
         }
+        false
     }
 
     /// Forgets that a marker ended the last one.

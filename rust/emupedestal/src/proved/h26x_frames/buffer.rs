@@ -5,6 +5,7 @@
 use crate::proved::h26x_frames::order::NumberOrder;
 use crate::proved::h26x_frames::packet::RtpPacket;
 use crate::proved::h26x_frames::pushed::Pushed;
+use crate::proved::h26x_frames::spare::SparePayloads;
 use crate::support::AllocError;
 use crate::support::TryVec;
 use alloc::vec::Vec;
@@ -112,6 +113,7 @@ pub struct NotHeld {
 #[derive(Debug, Clone)]
 pub struct ReorderBuffer {
     held: NumberOrder<HeldPacket>,
+    spare: SparePayloads,
 }
 
 impl ReorderBuffer {
@@ -129,6 +131,7 @@ impl ReorderBuffer {
         assert!(window <= 16384);
         ReorderBuffer {
             held: NumberOrder::new(window),
+            spare: SparePayloads::none(),
         }
     }
 
@@ -173,7 +176,8 @@ impl ReorderBuffer {
     fn push_at(&mut self, sequence: u16, packet: &RtpPacket<'_>) -> Result<Pushed, AllocError> {
         match self.held.place_of(sequence) {
             Ok((due, place)) => {
-                let held = HeldPacket::copy(sequence, packet)?;
+                let payload = self.spare.copy(packet.payload)?;
+                let held = HeldPacket::new(sequence, packet.timestamp, packet.marker, payload);
                 self.held.put(due, place, held)?;
                 Ok(Pushed::Held)
             }
@@ -209,6 +213,12 @@ impl ReorderBuffer {
     /// caller has waited long enough.
     pub fn pop_first(&mut self) -> Option<HeldPacket> {
         self.held.pop_first()
+    }
+
+    /// Takes back a packet that was given out, for its memory: a later one is copied there. That of 64
+    /// is kept, each of 2048 bytes at most.
+    pub fn give_back(&mut self, packet: HeldPacket) {
+        self.spare.keep(packet.payload);
     }
 
     /// Drops what it holds, and takes any sequence number as the next: for a peer that begins anew,

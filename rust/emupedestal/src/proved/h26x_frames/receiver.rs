@@ -81,6 +81,8 @@ pub struct FrameReceiver<D: RunDepacketizer> {
     pub unit: OpenAccessUnit,
     /// How many bytes the text of an open access unit may hold from a packet to the next.
     pub unit_limit: usize,
+    /// Whether the last packet that was taken left a text that was longer, which was given up.
+    pub is_text_given_up: bool,
     spare: SpareMemory,
 }
 
@@ -93,6 +95,7 @@ impl<D: RunDepacketizer> FrameReceiver<D> {
             packets,
             unit: OpenAccessUnit::none(),
             unit_limit,
+            is_text_given_up: false,
             spare: SpareMemory::none(),
         }
     }
@@ -107,7 +110,7 @@ impl<D: RunDepacketizer> FrameReceiver<D> {
     ///
     /// The open run is within its limit after each packet, and so is the text of the access unit that
     /// is open: where it is longer, as where a peer sends neither a marker nor another timestamp, it
-    /// is given up, and what follows of that access unit is not told to be whole.
+    /// is given up (`is_text_given_up`), and what follows of that access unit is not told to be whole.
     pub fn receive(
         &mut self,
         packet: &RtpPacket<'_>,
@@ -117,7 +120,7 @@ impl<D: RunDepacketizer> FrameReceiver<D> {
         let (packets, unit, spare) = (&mut self.packets, &mut self.unit, &mut self.spare);
         let received = take(packets, unit, spare, packet, out);
         if was_taken(&received) {
-            self.unit.limit(self.unit_limit);
+            self.is_text_given_up = self.unit.limit(self.unit_limit);
         }
         received
     }

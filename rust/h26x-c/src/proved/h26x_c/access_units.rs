@@ -44,6 +44,7 @@ pub struct Counts {
     pub units: u64,
     pub whole: u64,
     pub units_given_up: u64,
+    pub texts_given_up: u64,
 }
 
 /// The settings of a receiver.
@@ -72,6 +73,7 @@ fn counts_told(counts: crate::proved::h26x_access_units::Counts) -> Counts {
         units: counts.units,
         whole: counts.whole,
         units_given_up: counts.units_given_up,
+        texts_given_up: counts.texts_given_up,
     }
 }
 

@@ -646,6 +646,12 @@ pub unsafe extern "C" fn h26x_packetizer_set_max_size(p: *mut Handle, bytes: u16
 }
 
 #[unsafe(no_mangle)]
+pub unsafe extern "C" fn h26x_packetizer_set_lowest_header(p: *mut Handle, lowest: bool) -> u32 {
+    // SAFETY: a caller owes what the header says.
+    unsafe { super::sending::h26x_packetizer_set_lowest_header(pointers::lent(p), lowest) }
+}
+
+#[unsafe(no_mangle)]
 pub unsafe extern "C" fn h26x_packetize(
     p: *mut Handle,
     mtu: usize,

@@ -49,7 +49,7 @@ pub fn h26x_packetizer_set_numbers(p: &mut Handle, numbers: bool) -> u32 {
             if !may_have_donl(it.packetizer.codec()) {
                 return NOT_OF_THIS_CODEC;
             }
-            it.packetizer.with_donl(numbers);
+            it.with_donl(numbers);
             OK
         }
         _ => WRONG_END,
@@ -66,7 +66,22 @@ pub fn h26x_packetizer_set_max_size(p: &mut Handle, bytes: u16) -> u32 {
             if bytes < 4 {
                 return OUT_OF_RANGE;
             }
-            it.packetizer.with_max_packet_size(bytes);
+            it.with_max_packet_size(bytes);
+            OK
+        }
+        _ => WRONG_END,
+    }
+}
+
+/// Sets whether aggregation packets of H.265 get the header of their units (RFC 7798, 4.4.2). Those of
+/// H.266 have it in any case.
+pub fn h26x_packetizer_set_lowest_header(p: &mut Handle, lowest: bool) -> u32 {
+    match p.get_mut() {
+        Endpoint::Sending(it) => {
+            if !may_have_donl(it.packetizer.codec()) {
+                return NOT_OF_THIS_CODEC;
+            }
+            it.with_lowest_header(lowest);
             OK
         }
         _ => WRONG_END,
@@ -160,9 +175,7 @@ pub fn h26x_packetize_into(
 ) -> u32 {
     match p.get_mut() {
         Endpoint::Sending(it) => {
-            let made = it
-                .packetizer
-                .packetize_to_memory(mtu, payload, headroom, to, ends);
+            let made = it.packetize_to_memory(mtu, payload, headroom, to, ends);
             code_of_placement(made, count, size)
         }
         _ => {
@@ -186,9 +199,7 @@ pub fn h26x_packetize_unit_into(
 ) -> u32 {
     match p.get_mut() {
         Endpoint::Sending(it) => {
-            let made = it
-                .packetizer
-                .packetize_unit_to_memory(mtu, unit, headroom, to, ends);
+            let made = it.packetize_unit_to_memory(mtu, unit, headroom, to, ends);
             code_of_placement(made, count, size)
         }
         _ => {

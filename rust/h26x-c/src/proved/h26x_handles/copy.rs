@@ -35,12 +35,12 @@ pub fn copy_first(numbers: &[u16], to: &mut [u16]) -> usize {
 }
 
 /// Where packets end that have no headroom.
-fn ends_of(packets: &PacketBuffer) -> &[usize] {
+pub(crate) fn ends_of(packets: &PacketBuffer) -> &[usize] {
     packets.ends()
 }
 
 /// Where the packet at a place begins.
-fn start_of(packets: &PacketBuffer, place: usize) -> usize {
+pub(crate) fn start_of(packets: &PacketBuffer, place: usize) -> usize {
     if place == 0 {
         return 0;
     }

@@ -4,15 +4,21 @@
 
 use crate::proved::h26x_codec::Codec;
 use crate::proved::h26x_core::PacketError;
+use crate::proved::h26x_handles::code::may_have_donl;
 use crate::proved::h26x_handles::copy::{bytes_from, copy_packets};
+use crate::proved::h26x_handles::headers::{headers_wanted, set_headers, set_placed_headers};
 use crate::proved::h26x_handles::packetizer::AnyPacketizer;
-use crate::proved::h26x_payload::PacketBuffer;
+use crate::proved::h26x_payload::{PacketBuffer, Placement};
 use core::mem;
 
-/// A packetizer of a codec, and the packets of its last call.
+/// A packetizer of a codec, the packets of its last call, and whether aggregates of H.265 get the
+/// header of their units.
 pub struct SendingEndpoint {
     /// The packetizer.
     pub packetizer: AnyPacketizer,
+    // As the packetizer has it.
+    has_donl: bool,
+    lowest_header: bool,
     packets: PacketBuffer,
     // Where a call writes: the packets of before stay until it is carried out.
     spare: PacketBuffer,
@@ -23,6 +29,8 @@ impl SendingEndpoint {
     pub fn new(codec: Codec, has_donl: bool) -> Self {
         SendingEndpoint {
             packetizer: AnyPacketizer::new(codec, has_donl),
+            has_donl: has_donl && may_have_donl(codec),
+            lowest_header: false,
             packets: PacketBuffer::new(0),
             spare: PacketBuffer::new(0),
         }
@@ -32,16 +40,46 @@ impl SendingEndpoint {
     pub fn try_clone(&self) -> Result<Self, PacketError> {
         Ok(SendingEndpoint {
             packetizer: self.packetizer.try_clone()?,
+            has_donl: self.has_donl,
+            lowest_header: self.lowest_header,
             packets: PacketBuffer::new(0),
             spare: PacketBuffer::new(0),
         })
     }
 
+    /// Turns numbers on, from 0, or off; that of H.264 stays as it is.
+    pub fn with_donl(&mut self, has_donl: bool) {
+        self.packetizer.with_donl(has_donl);
+        self.has_donl = has_donl && may_have_donl(self.packetizer.codec());
+    }
+
+    /// Sets the largest packet size, in bytes; that of H.264 stays as it is.
+    ///
+    /// # Panics
+    ///
+    /// Unless `4 <= bytes`.
+    pub fn with_max_packet_size(&mut self, bytes: u16) {
+        assert!(4 <= bytes);
+        self.packetizer.with_max_packet_size(bytes);
+    }
+
+    /// Sets whether aggregates of H.265 get the header of their units (RFC 7798, 4.4.2).
+    pub fn with_lowest_header(&mut self, lowest_header: bool) {
+        self.lowest_header = lowest_header;
+    }
+
+    /// Where aggregates get the header of their units: whether packets bear decoding order numbers.
+    fn headers(&self) -> Option<bool> {
+        headers_wanted(self.lowest_header, self.packetizer.codec(), self.has_donl)
+    }
+
     /// Makes the packets of a payload, which take the place of the last call's.
     pub fn packetize(&mut self, mtu: usize, payload: &[u8]) -> Result<(), PacketError> {
+        let headers = self.headers();
         self.spare.clear();
         self.packetizer
             .packetize_into(mtu, payload, &mut self.spare)?;
+        set_headers(headers, &mut self.spare);
         mem::swap(&mut self.packets, &mut self.spare);
         Ok(())
     }
@@ -53,6 +91,37 @@ impl SendingEndpoint {
             .packetize_unit_into(mtu, unit, &mut self.spare)?;
         mem::swap(&mut self.packets, &mut self.spare);
         Ok(())
+    }
+
+    /// Copies the packets of a payload straight to memory where they fit; else nothing is done.
+    pub fn packetize_to_memory(
+        &mut self,
+        mtu: usize,
+        payload: &[u8],
+        headroom: usize,
+        to: &mut [u8],
+        ends: &mut [usize],
+    ) -> Result<Placement, PacketError> {
+        let headers = self.headers();
+        let made = self
+            .packetizer
+            .packetize_to_memory(mtu, payload, headroom, to, ends)?;
+        set_placed_headers(headers, made, headroom, to, ends);
+        Ok(made)
+    }
+
+    /// Copies the packets of one unit as it is straight to memory where they fit; else nothing is
+    /// done.
+    pub fn packetize_unit_to_memory(
+        &mut self,
+        mtu: usize,
+        unit: &[u8],
+        headroom: usize,
+        to: &mut [u8],
+        ends: &mut [usize],
+    ) -> Result<Placement, PacketError> {
+        self.packetizer
+            .packetize_unit_to_memory(mtu, unit, headroom, to, ends)
     }
 
     /// How many packets there are.
