@@ -135,9 +135,18 @@ fn sets_of_levels() {
         ("", LevelSetsError::NoSets { place: 0 }),
         ("42e00b:Zw==:42e00c", LevelSetsError::NoSets { place: 1 }),
         ("42e0:Zw==", LevelSetsError::NotHexadecimal { place: 0 }),
-        ("42e00b:Zw==:42e00c:", sets(1, UnitsError::Empty { place: 0 })),
-        ("42e00b:aMs=,ZQ==", sets(0, UnitsError::OtherType { place: 1 })),
-        ("42e00b:aMs=,Zx==", sets(0, UnitsError::NotBase64 { place: 1 })),
+        (
+            "42e00b:Zw==:42e00c:",
+            sets(1, UnitsError::Empty { place: 0 }),
+        ),
+        (
+            "42e00b:aMs=,ZQ==",
+            sets(0, UnitsError::OtherType { place: 1 }),
+        ),
+        (
+            "42e00b:aMs=,Zx==",
+            sets(0, UnitsError::NotBase64 { place: 1 }),
+        ),
     ] {
         assert_eq!(read_level_sets(text), Err(wanted), "{text}");
     }
