@@ -2,7 +2,7 @@
 
 ghost use Rattle.std.specs.Prelude.{◌≡◌};
 
-use h26x_access_units::{AccessUnitConfig, AccessUnitReceiver, Pushed, ReceivedUnit};
+use h26x_access_units::{AccessUnitConfig, AccessUnitReceiver, Pushed, ReceivedUnit, Receives};
 use h26x_core::PacketError;
 use h26x_frames::RtpPacket;
 use h264_payload::H264Depacketizer;
