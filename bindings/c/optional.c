@@ -233,7 +233,8 @@ static void check_frees(struct tally *t)
 
 static bool is_code(uint32_t n)
 {
-    return n <= H26X_NOTHING_YET || (H26X_SDP_OPEN_BRACE <= n && n <= H26X_SDP_CLOCK_RATE);
+    return n <= H26X_NOTHING_YET || (H26X_SDP_OPEN_BRACE <= n && n <= H26X_SDP_NO_PROFILE)
+           || (H26X_SDP_NO_ANSWER <= n && n <= H26X_SDP_CLOCK_RATE);
 }
 
 /* Each code has words of its own, and so do numbers that are none. */

@@ -80,7 +80,7 @@ def test_each_has_words_of_its_own() -> None:
     [
         (h26x.ParametersError, range(20, 26)),
         (h26x.UnitsError, range(29, 33)),
-        (h26x.StreamError, range(33, 37)),
+        (h26x.StreamError, range(33, 36)),
         (h26x.RtpMapError, range(38, 41)),
     ],
 )
