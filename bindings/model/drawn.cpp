@@ -289,6 +289,7 @@ const char *never(const Totals &t)
         {t.counts.whole, "whole"},
         {t.counts.units - t.counts.whole, "not whole"},
         {t.counts.units_given_up, "a unit given up"},
+        {t.counts.texts_given_up, "a text given up"},
     };
     for (const auto &it : all)
         if (it.count == 0)

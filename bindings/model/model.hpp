@@ -600,6 +600,7 @@ private:
             end_unit(true);
         } else if (text_len(*stream.open) > config.unit_limit) {
             stream.open->packets.back().is_text_given_up = true;
+            counts.texts_given_up++;
         }
     }
 };
