@@ -36,12 +36,11 @@ class Room:
         self._put(0)
 
     def _put(self, size: int) -> None:
-        self.size = size
-        # At least a byte, so that there is an address.
-        self._bytes = bytearray(size + 1)
-        self.view = memoryview(self._bytes)
-        self._first = ctypes.c_char.from_buffer(self._bytes)
-        self.address = ctypes.addressof(self._first)
+        # At least a byte, so that there is an address. Where memory lacks, what stands here stays.
+        made = bytearray(size + 1)
+        view, first = memoryview(made), ctypes.c_char.from_buffer(made)
+        self._bytes, self.view, self._first = made, view, first
+        self.address, self.size = ctypes.addressof(first), size
 
     def grow(self, size: int) -> None:
         """Makes room for so many bytes. Where it grows, what stood here is gone."""

@@ -123,7 +123,7 @@ class FormatParameters(Owner):
         is absent. Give a peer's sets to the decoder before the first picture, each behind 00 00 00 01.
 
         Raises SdpOtherKind where the RFC has no units there; a UnitsError, since `read` doesn't look into
-        base64; or OutOfMemory."""
+        base64; or MemoryError."""
         named, count, why = _utf8(name), c_size_t(), Refusal()
         given = (named, len(named))
         with self._lock:
