@@ -62,7 +62,7 @@ fn without_code_zeros(piece: &[u8], rule: ZeroRule) -> &[u8]
 }
 
 /// The units of a payload, in order, as slices of it.
-pub fn units(payload: &[u8], rule: ZeroRule) -> PlainSlices<'_>
+pub(crate) fn units(payload: &[u8], rule: ZeroRule) -> PlainSlices<'_>
     ensures { AreUnits rule payload.now result }
 {
     match first_code(payload) {

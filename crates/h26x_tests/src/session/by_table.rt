@@ -14,7 +14,7 @@ pub struct TableDigits {
 
 impl TableDigits {
     /// The digits of either case.
-    pub fn new() -> Self {
+    pub(crate) fn new() -> Self {
         let mut values = [NONE; 256];
         for (digit, value) in b"0123456789abcdef".iter().zip(0..16) {
             values[usize::from(*digit)] = value;
@@ -24,7 +24,7 @@ impl TableDigits {
     }
 
     /// Reads a text of two digits each into `bytes`, in the place of what it holds.
-    pub fn read(&self, text: &[u8], bytes: &mut Vec<u8>) -> Result<bool, AllocError> {
+    pub(crate) fn read(&self, text: &[u8], bytes: &mut Vec<u8>) -> Result<bool, AllocError> {
         bytes.resize(text.len() / 2, 0)?;
         let mut all = 0;
         for (byte, pair) in bytes.iter_mut().zip(text.chunks_exact(2)) {
