@@ -236,8 +236,8 @@ static void check_markers(struct tally *t, const struct packets *p)
     holds(&it, 100, 13, 6000, false, p->start);
     holds(&it, 100, 14, 6000, true, "");
     skips(&it, 100, 15, H26X_HELD, 0);
-    skips(&it, 100, 15, H26X_TWICE, 0);
-    skips(&it, 100, 12, H26X_PUSHED_LATE, 1);
+    skips(&it, 100, 15, H26X_PUSHED_LATE, 1);
+    skips(&it, 100, 12, H26X_PUSHED_LATE, 4);
     expect(t, h26x_access_units_push(&it.u, 100, 16, 6000, true, NULL, 9, &pushed, NULL) == H26X_OK);
     expect(t, pushed == H26X_HELD);
     holds(&it, 100, 17, 6000, false, p->middle);
@@ -248,7 +248,7 @@ static void check_markers(struct tally *t, const struct packets *p)
     gives(&it, 100, p->slice_unit, .timestamp = 9000, .first = 19, .last = 19, .extra = SLICE,
           .is_whole = true, .is_clean = true);
     gives_none(&it, 100);
-    counts(&it, .taken = 7, .late = 1, .twice = 1, .skipped = 3, .units = 5, .whole = 3);
+    counts(&it, .taken = 7, .late = 2, .skipped = 3, .units = 5, .whole = 3);
     h26x_access_units_free(it.u);
 }
 
@@ -290,8 +290,6 @@ static void check_limits(struct tally *t, const struct packets *p)
     pushes(&it, 0, 11, 0, true, p->slice, H26X_FULL, 0);
     gives_none(&it, 0);
     holds(&it, 0, 11, 0, false, p->middle);
-    pushes(&it, 0, 12, 0, true, p->end, H26X_FULL, 0);
-    gives_none(&it, 0);
     holds(&it, 0, 12, 0, true, p->end);
     gives(&it, 0, "", .first = 10, .last = 12);
     counts(&it, .taken = 3, .units = 1, .units_given_up = 1);
@@ -301,8 +299,8 @@ static void check_limits(struct tally *t, const struct packets *p)
     it = receiver_of(t, settings(p->codec));
     pushes_at(&it, 0, 10, 0, true, p->codec == H26X_H264 ? "7f01" : "ff", H26X_HELD, 0, __LINE__);
     holds(&it, 0, 11, 0, true, p->key);
-    gives(&it, 100, p->key_unit, .first = 11, .last = 11, .extra = KEY);
-    counts(&it, .taken = 1, .refused = 1, .units = 1);
+    gives(&it, 100, p->key_unit, .missing = 1, .first = 11, .last = 11, .extra = KEY);
+    counts(&it, .taken = 1, .lost = 1, .refused = 1, .units = 1);
     h26x_access_units_free(it.u);
 
     /* An open access unit that is longer than its limit is given up; what comes then isn't whole. */
@@ -354,7 +352,7 @@ static void check_ends_of_streams(struct tally *t, const struct packets *p)
     gives_none(&it, 85);
     expect(t, h26x_access_units_finish(&it.u) == H26X_OK);
     gives(&it, 85, p->key_unit, .timestamp = 3000, .first = 45541, .last = 45541, .extra = KEY);
-    counts(&it, .taken = 4, .lost = 1, .late = 1, .units = 4);
+    counts(&it, .taken = 5, .lost = 1, .late = 1, .units = 4);
     h26x_access_units_free(it.u);
 }
 

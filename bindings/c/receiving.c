@@ -95,6 +95,62 @@ static void check_avc_and_room(struct tally *t)
     h26x_depacketizer_free(d);
 }
 
+/* Gives a packet without room for what it completes, and compares what is kept then. */
+static void keeps(struct tally *t, h26x_depacketizer *d, bool avc, const char *packet, uint32_t code,
+                  const char *kept)
+{
+    struct bytes in = bytes_of(packet);
+    uint8_t to[ROOM], extra = 0;
+    size_t len = 99;
+    h26x_refusal why = {0, 0};
+    expect(t, h26x_depacketize(d, avc, in.at, in.len, NULL, 0, &len, &extra, &why) == code);
+    expect(t, why.first == (code == H26X_NALU_TYPE_NOT_HANDLED ? 31 : 0) && why.second == 0);
+    expect(t, is_same(to, h26x_written_copy(d, to, sizeof to), kept));
+}
+
+/* Gives a packet of six bytes' text memory of so many bytes of 77, and compares that memory and what is kept. */
+static void fills(struct tally *t, size_t room, const char *memory, const char *kept)
+{
+    h26x_depacketizer d = made(t, H26X_H264, false);
+    struct bytes in = bytes_of("6501");
+    uint8_t to[ROOM], extra = 0;
+    size_t len = 99;
+    h26x_refusal why;
+    keeps(t, &d, false, "6701", H26X_OK, "00000001 6701");
+    memset(to, 0x77, sizeof to);
+    expect(t, h26x_depacketize(&d, false, in.at, in.len, to, room, &len, &extra, &why) == H26X_OK);
+    expect(t, len == 6 && is_same(to, room, memory) && to[room] == 0x77);
+    expect(t, is_same(to, h26x_written_copy(&d, to, sizeof to), kept));
+    h26x_depacketizer_free(d);
+}
+
+/* What a packet completes is kept where there is no room for it: by its own form, and behind a refusal. */
+static void check_kept(struct tally *t)
+{
+    h26x_depacketizer d = made(t, H26X_H264, false), e;
+    keeps(t, &d, false, "6501", H26X_OK, "00000001 6501");
+    keeps(t, &d, false, "7f01", H26X_NALU_TYPE_NOT_HANDLED, "00000001 6501");
+    h26x_depacketizer_free(d);
+    d = made(t, H26X_H264, false);
+    keeps(t, &d, true, "6501", H26X_OK, "00000002 6501");
+    keeps(t, &d, false, "6501", H26X_OK, "00000001 6501");
+    h26x_depacketizer_free(d);
+
+    /* A copy goes on with the open unit, also when that is given up in the other. */
+    d = made(t, H26X_H266, false);
+    keeps(t, &d, false, "00e98701", H26X_OK, "");
+    expect(t, h26x_depacketizer_clone(&d, &e) == H26X_OK && h26x_depacketizer_same(&d, &e));
+    expect(t, h26x_give_up_run(&d) == H26X_OK && !h26x_depacketizer_same(&d, &e));
+    keeps(t, &e, false, "00e94702", H26X_OK, "00000001 00390102");
+    keeps(t, &d, false, "00e94702", H26X_OK, "");
+    h26x_depacketizer_free(e);
+    h26x_depacketizer_free(d);
+
+    fills(t, 7, "00000001 6501 77", "");
+    fills(t, 6, "00000001 6501", "");
+    fills(t, 5, "7777777777", "00000001 6501");
+}
+
 /* Lengths for one packet, start codes for the next; the handle is the same after each. */
 static void check_lengths(struct tally *t, uint32_t codec, const char *packet, const char *lengths,
                           const char *codes)
@@ -218,6 +274,7 @@ void check_receiving(struct tally *t)
     check_h265(t);
     check_h266(t);
     check_avc_and_room(t);
+    check_kept(t);
     check_lengths(t, H26X_H264, "78 0002 6742 0001 68", "00000002 6742 00000001 68",
                   "00000001 6742 00000001 68");
     check_lengths(t, H26X_H265, "6001 0003 0201aa 0002 0201", "00000003 0201aa 00000002 0201",

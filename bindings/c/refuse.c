@@ -199,6 +199,128 @@ static void refuse_placing(const struct codec *c)
     h26x_packetizer_free(p);
 }
 
+/* Bytes of a text that may have zeros. */
+struct text {
+    const void *at;
+    size_t len;
+};
+#define BYTES(text) {text, sizeof text - 1}
+
+/* Bytes that are sent as a payload or as a unit as it is, within a limit. */
+struct sent {
+    bool as_it_is;
+    size_t limit;
+    struct text bytes;
+};
+
+/* Calls, and the packets of all of them. */
+static const struct placing {
+    uint32_t codec;
+    bool numbers;
+    struct sent sent[6];
+    struct text packets[8];
+} placings[] = {
+    /* A PPS and a unit in fragments, an SPS as it is and one that waits, and the sets before a unit. */
+    {H26X_H264, false,
+     {{false, 5, BYTES("\0\0\1\10\11\0\0\1\x65\1\2\3\4\5\6")}, {true, 9, BYTES("\7\5")},
+      {false, 9, BYTES("\7\6")}, {true, 5, BYTES("\x65\1\2\3\4\5\6")}, {false, 9, BYTES("\5")}},
+     {BYTES("\x7c\x85\1\2\3"), BYTES("\x7c\x45\4\5\6"), BYTES("\7\5"), BYTES("\x7c\x85\1\2\3"),
+      BYTES("\x7c\x45\4\5\6"), BYTES("\x78\0\2\7\6\0\2\10\11"), BYTES("\5")}},
+    /* Sets that wait, a unit as it is, and the sets before a unit. */
+    {H26X_H265, false,
+     {{false, 17, BYTES("\0\0\1\x40\1\x0c\0\0\1\x42\1\1\0\0\1\x44\1\xc1")},
+      {true, 4, BYTES("\x26\1\xaa\xbb\xcc")}, {false, 17, BYTES("\x26\1\xaf")}},
+     {BYTES("\x62\1\x93\xaa"), BYTES("\x62\1\x13\xbb"), BYTES("\x62\1\x53\xcc"),
+      BYTES("\x60\1\0\3\x40\1\x0c\0\3\x42\1\1\0\3\x44\1\xc1"), BYTES("\x26\1\xaf")}},
+    /* Units with numbers. */
+    {H26X_H265, true,
+     {{false, 5, BYTES("\2\1\xaa")}, {true, 6, BYTES("\2\1\xaa\xbb\xcc")}, {false, 5, BYTES("\2\1\xaa")}},
+     {BYTES("\2\1\0\0\xaa"), BYTES("\x62\1\x81\0\1\xaa"), BYTES("\x62\1\x41\xbb\xcc"),
+      BYTES("\2\1\0\2\xaa")}},
+    {H26X_H266, false,
+     {{false, 1200, BYTES("\0\0\1\0\x79\xbb\0\0\1\x80\x81\xcc")}, {true, 4, BYTES("\0\11\xaa\xaa\xaa")},
+      {false, 1200, BYTES("\0\x39\xdd")}},
+     {BYTES("\0\xe9\x81\xaa"), BYTES("\0\xe9\1\xaa"), BYTES("\0\xe9\x41\xaa"),
+      BYTES("\x80\xe1\0\3\0\x79\xbb\0\3\x80\x81\xcc"), BYTES("\0\x39\xdd")}},
+    {H26X_H266, true,
+     {{false, 5, BYTES("\0\11\xaa")}, {true, 6, BYTES("\0\11\xaa\xbb\xcc")}, {false, 5, BYTES("\0\11\xaa")}},
+     {BYTES("\0\11\0\0\xaa"), BYTES("\0\xe9\x81\0\1\xaa"), BYTES("\0\xe9\x41\xbb\xcc"),
+      BYTES("\0\11\0\2\xaa")}},
+};
+
+/* Places what is sent, each packet behind one byte. */
+static uint32_t place(h26x_packetizer *p, const struct sent *sent, size_t ends[4], size_t *count, size_t *size)
+{
+    const struct text *it = &sent->bytes;
+    if (sent->as_it_is)
+        return h26x_packetize_unit_into(p, sent->limit, it->at, it->len, 1, to, 32, ends, 4, count, size);
+    return h26x_packetize_into(p, sent->limit, it->at, it->len, 1, to, 32, ends, 4, count, size);
+}
+
+/* Whether the memory and the ends are as they were. */
+static bool is_as_before(const size_t ends[4])
+{
+    for (size_t i = 0; i < 32; i++)
+        if (to[i] != 0xee)
+            return false;
+    return ends[0] == 99 && ends[1] == 99 && ends[2] == 99 && ends[3] == 99;
+}
+
+/* Each call's packets in the caller's memory, to the byte; a refusal leaves that, and what they come from. */
+static void refuse_each_placing(const struct placing *it)
+{
+    const struct text *packet_at = it->packets;
+    const size_t before = refused;
+    h26x_packetizer p = {NULL};
+    expect(h26x_packetizer_new(it->codec, it->numbers, &p) == H26X_OK);
+    for (const struct sent *sent = it->sent; sent->limit != 0; sent++) {
+        size_t count = 99, size = 98, start = 0, ends[4] = {99, 99, 99, 99};
+        memset(to, 0xee, sizeof to);
+        refuse_each(place(&p, sent, ends, &count, &size), count == 0 && size == 0 && is_as_before(ends));
+        for (size_t i = 0; i < count; i++, packet_at++) {
+            expect(packet_at->len == ends[i] - start - 1 && to[start] == 0xee);
+            expect(memcmp(to + start + 1, packet_at->at, packet_at->len) == 0);
+            start = ends[i];
+        }
+        expect(start == size && to[size] == 0xee && (count == 4 || ends[count] == 99));
+    }
+    expect(packet_at->at == NULL && refused > before);
+    h26x_packetizer_free(p);
+}
+
+/* The size of two fragments, each behind one byte. */
+static void refuse_size(void)
+{
+    const size_t before = refused;
+    h26x_packetizer p = {NULL};
+    size_t count = 99, size = 98;
+    expect(h26x_packetizer_new(H26X_H264, false, &p) == H26X_OK);
+    refuse_each(h26x_packets_size(&p, 5, (const uint8_t *)"\x65\1\2\3\4\5\6", 7, 1, &count, &size),
+                count == 0 && size == 0);
+    expect(count == 2 && size == 12 && refused > before);
+    h26x_packetizer_free(p);
+}
+
+/* Units without a whole header, and one for whose fragments there is no room, aren't placed. */
+static void place_nothing(uint32_t codec, bool numbers)
+{
+    static const struct sent of_h264[] = {{true, 1500, BYTES("")}, {true, 0, BYTES("\x65")},
+                                          {true, 2, BYTES("\x65\1\2")}};
+    static const struct sent of_others[] = {{true, 1500, BYTES("")}, {true, 1500, BYTES("\2")},
+                                            {true, 3, BYTES("\2\1\xaa")}, {true, 3, BYTES("\2\1\xaa\xbb")}};
+    const bool is_h264 = codec == H26X_H264;
+    h26x_packetizer p = {NULL};
+    expect(h26x_packetizer_new(codec, numbers, &p) == H26X_OK);
+    for (size_t i = 0; i < (is_h264 ? 3 : 4); i++) {
+        const struct sent *sent = is_h264 ? &of_h264[i] : &of_others[i];
+        size_t count = 99, size = 98;
+        without_memory(h26x_packetize_unit_into(&p, sent->limit, sent->bytes.at, sent->bytes.len, 1, NULL, 0, NULL, 0,
+                                                &count, &size) == H26X_OK);
+        expect(count == 0 && size == 0);
+    }
+    h26x_packetizer_free(p);
+}
+
 static void refuse_receiving(const struct codec *c)
 {
     h26x_packetizer p;
@@ -296,6 +418,115 @@ static void refuse_receiving_sequenced(const struct codec *c)
     without_memory(h26x_receiver_skip(&r, 4, &received, &missing) == H26X_OK);
     without_memory(h26x_receiver_restart(&r) == H26X_OK && h26x_receiver_run_len(&r) == 0);
     h26x_packetizer_free(p);
+    h26x_receiver_free(r);
+}
+
+/* A fragment of a codec: which one, of so many bytes. */
+static size_t fragment(const struct codec *c, size_t which, size_t data, uint8_t byte)
+{
+    memset(packet, byte, sizeof packet);
+    memcpy(packet, c->begins[which], c->fragment_header);
+    return c->fragment_header + data;
+}
+
+/* Gives the fragment in `packet` to a receiver without room: a refusal leaves what the one before completed. */
+static void give(h26x_receiver *r, uint16_t sequence, size_t len)
+{
+    const size_t kept = h26x_written_copy(&r->at, NULL, 0), run_len = h26x_receiver_run_len(r), before = refused;
+    size_t written = 9;
+    uint8_t told = 0;
+    uint32_t received = 9;
+    uint16_t missing = 9;
+    h26x_refusal why;
+    refuse_each(h26x_receive(r, sequence, packet, len, NULL, 0, &written, &told, &received, &missing, &why),
+                written == 0 && told == 0 && received == 9 && h26x_receiver_run_len(r) == run_len
+                    && h26x_written_copy(&r->at, NULL, 0) == kept);
+    expect(received == H26X_IN_ORDER && missing == 0 && refused > before);
+}
+
+/* Gives the last fragment of the unit, which is kept whole. */
+static void give_end(const struct codec *c, h26x_receiver *r)
+{
+    static const uint8_t bytes[3] = {0xaa, 0xbb, 0xcc}, lens[3] = {40, 100, 40};
+    give(r, 1, fragment(c, 3, 40, 0xcc));
+    memcpy(to, "\0\0\0\1", 4);
+    memcpy(to + 4, c->unit, c->unit_header);
+    size_t len = 4 + c->unit_header;
+    for (size_t i = 0; i < 3; len += lens[i], i++)
+        memset(to + len, bytes[i], lens[i]);
+    expect(h26x_written_copy(&r->at, packet, sizeof packet) == len && memcmp(packet, to, len) == 0);
+}
+
+/* What is completed without room is kept, of a copy too. */
+static void refuse_keeping(const struct codec *c)
+{
+    const size_t before = refused;
+    h26x_receiver r = {{NULL}}, copy = {{NULL}};
+    expect(h26x_receiver_new(c->number, false, false, 1000, &r) == H26X_OK);
+    give(&r, 65535, fragment(c, 1, 40, 0xaa));
+    give(&r, 0, fragment(c, 2, 100, 0xbb));
+    refuse_each(h26x_receiver_clone(&r, &copy), copy.at.at == NULL);
+    expect(refused > before);
+    give_end(c, &r);
+    give_end(c, &copy);
+    h26x_receiver_free(copy);
+    h26x_receiver_free(r);
+}
+
+/* Units that are packets, for which there is room, or is kept; and a start with room for all that it could
+ * complete: memory for its unit is all that can lack. */
+static void receive_with_room(void)
+{
+    h26x_depacketizer d = {NULL};
+    h26x_receiver r = {{NULL}};
+    size_t written = 0;
+    uint8_t told = 0;
+    uint32_t received;
+    memset(packet, 0x61, sizeof packet);
+    expect(h26x_depacketizer_new(H26X_H264, false, &d) == H26X_OK);
+    without_memory(h26x_depacketize(&d, false, packet, 60, to, 64, &written, &told, NULL) == H26X_OK);
+    expect(written == 64 && to[4] == 0x61);
+    for (int i = 0; i < 2; i++)
+        expect(h26x_depacketize(&d, false, packet, 60, NULL, 0, &written, &told, NULL) == H26X_OK && written == 64);
+    without_memory(h26x_depacketize(&d, false, packet, 60, NULL, 0, &written, &told, NULL) == H26X_OK);
+    h26x_depacketizer_free(d);
+
+    const size_t len = fragment(&codecs[0], 1, 41, 9);
+    size_t before = refused;
+    expect(h26x_depacketizer_new(H26X_H264, false, &d) == H26X_OK);
+    refuse_each(h26x_depacketize(&d, false, packet, len, to, 64, &written, &told, NULL), written == 0);
+    expect(refused > before);
+    before = refused;
+    expect(h26x_receiver_new(H26X_H264, false, false, 1000, &r) == H26X_OK);
+    refuse_each(h26x_receive(&r, 7, packet, len, to, 64, &written, &told, &received, NULL, NULL),
+                h26x_receiver_run_len(&r) == 0);
+    expect(refused > before);
+    h26x_depacketizer_free(d);
+    h26x_receiver_free(r);
+}
+
+/* Fragments without a start, one that is late and one that is refused, a unit that has room, settings and a
+ * restart take no memory. */
+static void receive_without_memory(void)
+{
+    static const uint8_t middle[] = {0, 0xe9, 7, 1}, one[] = {0, 0x39, 0xff, 0xff, 0xcc, 0xdd};
+    h26x_receiver r = {{NULL}};
+    size_t written = 0;
+    uint8_t told = 0;
+    uint32_t received = 9;
+    uint16_t count = 9;
+    expect(h26x_receiver_new(H26X_H266, false, false, 1000, &r) == H26X_OK);
+    without_memory(h26x_receiver_set_avc(&r, true) == H26X_OK && h26x_receiver_set_numbers(&r, true) == H26X_OK);
+    without_memory(h26x_receive(&r, 9, middle, 4, to, 8, &written, &told, &received, &count, NULL) == H26X_OK);
+    expect(received == H26X_IN_ORDER && count == 0);
+    without_memory(h26x_receive(&r, 9, middle, 4, to, 8, &written, &told, &received, &count, NULL) == H26X_OK);
+    expect(received == H26X_LATE && count == 1);
+    without_memory(h26x_receive(&r, 20, middle, 0, to, 8, &written, &told, &received, &count, NULL)
+                   == H26X_SHORT_PACKET);
+    without_memory(h26x_receive(&r, 10, one, 6, to, 8, &written, &told, &received, &count, NULL) == H26X_OK);
+    expect(received == H26X_IN_ORDER && count == 0 && written == 8 && memcmp(to, "\0\0\0\4\0\x39\xcc\xdd", 8) == 0);
+    without_memory(h26x_receiver_restart(&r) == H26X_OK && h26x_receiver_run_len(&r) == 0);
+    expect(h26x_written_copy(&r.at, packet, sizeof packet) == 0);
     h26x_receiver_free(r);
 }
 
@@ -433,9 +664,17 @@ int main(void)
         refuse_placing(c);
         refuse_receiving(c);
         refuse_receiving_sequenced(c);
+        refuse_keeping(c);
         refuse_receiving_units(c);
         look_without_memory(c);
     }
+    for (size_t i = 0; i < sizeof placings / sizeof placings[0]; i++) {
+        refuse_each_placing(&placings[i]);
+        place_nothing(placings[i].codec, placings[i].numbers);
+    }
+    refuse_size();
+    receive_with_room();
+    receive_without_memory();
     refuse_packing();
     for (size_t i = 0; i < sizeof formats / sizeof formats[0]; i++)
         refuse_formats(&formats[i]);

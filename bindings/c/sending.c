@@ -114,6 +114,52 @@ static void check_units(struct tally *t)
     h26x_packetizer_free(p);
 }
 
+/* Whether it holds these packets of its last call, which have so many bytes, and none behind them. */
+static void holds(struct tally *t, h26x_packetizer *p, size_t count, const char *packets, size_t bytes)
+{
+    holds_at(t, p, count, packets, __FILE__, __LINE__);
+    expect(t, h26x_packet_len(p, count) == 0 && h26x_packets_len(p) == bytes);
+}
+
+/* The packets of the last call alone are held. A copy holds none; then both go on. */
+static void check_held(struct tally *t)
+{
+    h26x_packetizer p = made(t, H26X_H264, false), q;
+    holds(t, &p, 0, "", 0);
+    sends(t, &p, 4, "6501020304", "7c850102|7c450304");
+    holds(t, &p, 2, "7c850102|7c450304", 8);
+    h26x_packetizer_free(p);
+    p = made(t, H26X_H265, true);
+    sends(t, &p, 100, "0201aa", "02010000aa");
+    sends(t, &p, 100, "0201bb", "02010001bb");
+    holds(t, &p, 1, "02010001bb", 5);
+    h26x_packetizer_free(p);
+    p = made(t, H26X_H266, true);
+    sends(t, &p, 100, "0039aa", "00390000aa");
+    expect(t, h26x_packetizer_clone(&p, &q) == H26X_OK);
+    holds(t, &q, 0, "", 0);
+    holds(t, &p, 1, "00390000aa", 5);
+    sends(t, &q, 100, "0039bb", "00390001bb");
+    holds(t, &q, 1, "00390001bb", 5);
+    holds(t, &p, 1, "00390000aa", 5);
+    h26x_packetizer_free(q);
+    h26x_packetizer_free(p);
+
+    /* Units as they are. */
+    p = made(t, H26X_H264, false);
+    sends_unit(t, &p, 100, "67aa", "67aa");
+    holds(t, &p, 1, "67aa", 2);
+    sends_unit(t, &p, 100, "6501", "6501");
+    sends_unit(t, &p, 100, "65020304000001", "65020304000001");
+    holds(t, &p, 1, "65020304000001", 7);
+    h26x_packetizer_free(p);
+    p = made(t, H26X_H265, true);
+    sends_unit(t, &p, 100, "4201aa", "42010000aa");
+    sends_unit(t, &p, 100, "4201bb", "42010001bb");
+    holds(t, &p, 1, "42010001bb", 5);
+    h26x_packetizer_free(p);
+}
+
 /* The largest size of H.265 and H.266: 1200 at first. */
 static void check_max_size(struct tally *t, uint32_t codec, uint8_t first, uint8_t second)
 {
@@ -179,24 +225,23 @@ static void check_joined(struct tally *t)
 typedef uint32_t into_call(h26x_packetizer *p, size_t mtu, const uint8_t *bytes, size_t len, size_t headroom,
                            uint8_t *to, size_t room, size_t *ends, size_t ends_room, size_t *count, size_t *size);
 
-/* Makes packets in memory of 0xee, and compares the answer, how many and how long they are, and all of that memory:
- * `memory` has its bytes up to the size, or nothing where it is left. */
+/* Makes packets in memory of 0xee, and compares the answer, how many and how long they are, where each ends, and all of
+ * that memory: `memory` has the packets behind their headroom with '|' between two, or nothing where it is left. */
 static void makes_into(struct tally *t, into_call *call, h26x_packetizer *p, size_t mtu, const char *bytes,
                        size_t headroom, size_t room, size_t ends_room, uint32_t code, size_t count, size_t size,
                        const char *memory)
 {
-    struct bytes b = bytes_of(bytes), m = bytes_of(memory);
+    struct bytes b = bytes_of(bytes);
     uint8_t to[64];
-    size_t ends[4] = {99, 99, 99, 99}, made = 98, bytes_made = 97;
+    size_t ends[4] = {99, 99, 99, 99}, made = 98, bytes_made = 97, start = 0;
     memset(to, 0xee, sizeof to);
     expect(t, call(p, mtu, b.at, b.len, headroom, to, room, ends, ends_room, &made, &bytes_made) == code);
     expect(t, made == count && bytes_made == size);
-    expect(t, is_same(to, m.len, memory));
-    for (size_t i = m.len; i < sizeof to; i++)
+    for (size_t i = 0; *memory != '\0'; memory = behind_bar(memory), start = ends[i++])
+        expect(t, ends[i] >= start && is_same(to + start, ends[i] - start, memory));
+    for (size_t i = start; i < sizeof to; i++)
         expect(t, to[i] == 0xee);
-    expect(t, code == H26X_OK ? ends[count] == 99 : ends[0] == 99);
-    if (code == H26X_OK && count > 0)
-        expect(t, ends[count - 1] == size);
+    expect(t, code == H26X_OK ? start == size && ends[count] == 99 : start == 0 && ends[0] == 99);
 }
 
 /* Asks how much memory packets take, which leaves the packetizer. */
@@ -212,12 +257,12 @@ static void takes_memory(struct tally *t, h26x_packetizer *p, size_t mtu, const 
 /* Packets straight in the caller's memory. */
 static void check_into(struct tally *t)
 {
-    static const char frame[] = "6501020304", packets[] = "eeee7c850102 eeee7c450304";
+    static const char frame[] = "6501020304", packets[] = "eeee7c850102|eeee7c450304";
     into_call *payload = h26x_packetize_into, *as_it_is = h26x_packetize_unit_into;
     h26x_packetizer p = made(t, H26X_H264, false);
     makes_into(t, payload, &p, 4, frame, 2, 64, 3, H26X_OK, 2, 12, packets);
     makes_into(t, payload, &p, 4, frame, 2, 12, 2, H26X_OK, 2, 12, packets);
-    makes_into(t, payload, &p, 4, frame, 0, 8, 2, H26X_OK, 2, 8, "7c8501027c450304");
+    makes_into(t, payload, &p, 4, frame, 0, 8, 2, H26X_OK, 2, 8, "7c850102|7c450304");
 
     /* One byte, or one end, is missing; with no room at all it tells how much it takes. */
     makes_into(t, payload, &p, 4, frame, 2, 11, 2, H26X_NO_ROOM, 2, 12, "");
@@ -236,7 +281,7 @@ static void check_into(struct tally *t)
     makes_into(t, as_it_is, &p, 1500, "65000001", 1, 64, 3, H26X_OK, 1, 5, "ee65000001");
     makes_into(t, as_it_is, &p, 4, frame, 0, 7, 3, H26X_NO_ROOM, 2, 8, "");
     makes_into(t, as_it_is, &p, 2, frame, 0, 0, 0, H26X_OK, 0, 0, "");
-    makes_into(t, payload, &p, 1500, "050405", 1, 64, 3, H26X_OK, 2, 16, "ee7800030700010003080203 ee050405");
+    makes_into(t, payload, &p, 1500, "050405", 1, 64, 3, H26X_OK, 2, 16, "ee7800030700010003080203|ee050405");
 
     /* The packets of the handle stay. */
     sends(t, &p, 4, frame, "7c850102|7c450304");
@@ -252,7 +297,49 @@ static void check_into(struct tally *t)
     makes_into(t, payload, &p, 100, "0201bb", 0, 5, 3, H26X_OK, 1, 5, "02010001bb");
     h26x_packetizer_free(p);
     p = made(t, H26X_H266, false);
-    makes_into(t, payload, &p, 4, "0039aabbcc", 1, 64, 3, H26X_OK, 3, 15, "ee00e987aa ee00e907bb ee00e947cc");
+    makes_into(t, payload, &p, 4, "0039aabbcc", 1, 64, 3, H26X_OK, 3, 15, "ee00e987aa|ee00e907bb|ee00e947cc");
+    h26x_packetizer_free(p);
+}
+
+/* Tells how much memory a payload takes, and makes its packets there. */
+static void places(struct tally *t, h26x_packetizer *p, size_t mtu, const char *payload, size_t headroom, size_t room,
+                   size_t ends_room, uint32_t code, size_t count, size_t size, const char *memory)
+{
+    takes_memory(t, p, mtu, payload, headroom, H26X_OK, count, size);
+    makes_into(t, h26x_packetize_into, p, mtu, payload, headroom, room, ends_room, code, count, size, memory);
+}
+
+/* Rows of one packetizer each, told and placed in turn. */
+static void check_placed(struct tally *t)
+{
+    static const char frame[] = "6501020304";
+    into_call *as_it_is = h26x_packetize_unit_into;
+    h26x_packetizer p = made(t, H26X_H264, false);
+    places(t, &p, 4, frame, 2, 14, 3, H26X_OK, 2, 12, "eeee7c850102|eeee7c450304");
+    places(t, &p, 4, frame, 0, 8, 2, H26X_OK, 2, 8, "7c850102|7c450304");
+    places(t, &p, 4, frame, 2, 11, 2, H26X_NO_ROOM, 2, 12, "");
+    places(t, &p, 4, frame, 2, 12, 1, H26X_NO_ROOM, 2, 12, "");
+    places(t, &p, 4, frame, SIZE_MAX, 1, 2, H26X_NO_ROOM, 2, SIZE_MAX, "");
+    /* Sets wait where nothing is placed. */
+    places(t, &p, 9, "000001 0705 000001 0809 000001 06", 0, 9, 2, H26X_NO_ROOM, 2, 10, "");
+    places(t, &p, 9, "000001 0705 000001 0809 000001 0906", 1, 1, 1, H26X_OK, 0, 0, "");
+    places(t, &p, 9, "000001 0706", 1, 0, 0, H26X_OK, 0, 0, "");
+    makes_into(t, as_it_is, &p, 9, "6500000165", 1, 6, 1, H26X_OK, 1, 6, "ee6500000165");
+    makes_into(t, as_it_is, &p, 4, frame, 0, 1, 2, H26X_NO_ROOM, 2, 8, "");
+    places(t, &p, 9, "05", 1, 12, 2, H26X_OK, 2, 12, "ee78 00020706 00020809|ee05");
+    h26x_packetizer_free(p);
+
+    /* Numbers are taken by calls that are carried out. */
+    p = made(t, H26X_H265, true);
+    makes_into(t, as_it_is, &p, 100, "4201aa", 0, 4, 1, H26X_NO_ROOM, 1, 5, "");
+    makes_into(t, as_it_is, &p, 100, "4201aa", 0, 5, 1, H26X_OK, 1, 5, "42010000aa");
+    places(t, &p, 100, "0201bb", 0, 4, 1, H26X_NO_ROOM, 1, 5, "");
+    places(t, &p, 6, "2601aabbccdd", 1, 14, 2, H26X_OK, 2, 14, "ee6201930001aa|ee620153bbccdd");
+    h26x_packetizer_free(p);
+    p = made(t, H26X_H266, false);
+    places(t, &p, 17, "000001 007101 000001 007902 000001 008103 000001 0039dd", 1, 22, 2, H26X_OK, 2, 22,
+           "ee00e1 0003007101 0003007902 0003008103|ee0039dd");
+    places(t, &p, 4, "0039aabbcc", 1, 15, 3, H26X_OK, 3, 15, "ee00e987aa|ee00e907bb|ee00e947cc");
     h26x_packetizer_free(p);
 }
 
@@ -272,7 +359,7 @@ static void check_lowest_header(struct tally *t)
     h26x_packetizer_free(q);
     sends(t, &p, 1200, units, wanted);
     makes_into(t, h26x_packetize_into, &p, 1200, units, 2, 21, 2, H26X_OK, 2, 21,
-               "eeee 6001 0002 4001 0002 4201 0002 4401 eeee 020baa");
+               "eeee 6001 0002 4001 0002 4201 0002 4401|eeee 020baa");
     makes_into(t, h26x_packetize_into, &p, 1200, units, 2, 20, 2, H26X_NO_ROOM, 2, 21, "");
     sends(t, &p, 1200, "000001 0201bb 000001 4001 000001 4201 000001 4401 000001 020baa",
           "0201bb|6001 0002 4001 0002 4201 0002 4401|020baa");
@@ -286,7 +373,7 @@ static void check_lowest_header(struct tally *t)
     expect(t, h26x_packetizer_set_numbers(&p, true) == H26X_OK);
     sends(t, &p, 1200, numbered, "6001 0000 0002 4201 00 0002 4401|02030002aa");
     makes_into(t, h26x_packetize_into, &p, 1200, numbered, 0, 64, 3, H26X_OK, 2, 18,
-               "6001 0003 0002 4201 00 0002 4401 02030005aa");
+               "6001 0003 0002 4201 00 0002 4401|02030005aa");
     expect(t, h26x_packetizer_set_lowest_header(&p, false) == H26X_OK);
     sends(t, &p, 1200, numbered, "6003 0006 0002 4201 00 0002 4401|02030008aa");
     h26x_packetizer_free(p);
@@ -336,11 +423,13 @@ void check_sending(struct tally *t)
     check_h265(t);
     check_h266(t);
     check_units(t);
+    check_held(t);
     check_max_size(t, H26X_H265, 0x26, 0x01);
     check_max_size(t, H26X_H266, 0x00, 0x39);
     check_copies(t);
     check_joined(t);
     check_into(t);
+    check_placed(t);
     check_lowest_header(t);
     check_refusals(t);
 }

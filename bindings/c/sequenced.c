@@ -1,6 +1,7 @@
 /* Packets with their sequence numbers: what is missing, late or too long, and what is written then
  * (RFC 3550, 5.1). */
 #include "calls.h"
+#include <string.h>
 
 /* What the packets of a test are given to, and what is told so far. */
 struct receiving {
@@ -187,6 +188,92 @@ static void check_room(struct tally *t)
     h26x_receiver_free(it.r);
 }
 
+/* Gives a packet memory of so many bytes of 77, and compares its answer, what became of it, how many bytes it
+ * completed, that memory, what is kept, what was told by then and how much stays open. */
+static void keeps_at(struct receiving *it, uint16_t sequence, const char *packet, size_t room, uint32_t code,
+                     uint32_t received, uint16_t count, size_t completed, const char *memory, const char *kept,
+                     uint8_t told, size_t run_len, int line)
+{
+    struct bytes in = bytes_of(packet);
+    uint8_t to[ROOM];
+    size_t len = 99;
+    uint32_t became = 99;
+    uint16_t counted = 99;
+    h26x_refusal why = {0, 0};
+    memset(to, 0x77, sizeof to);
+    expect_at(it->tally, h26x_receive(&it->r, sequence, in.at, in.len, to, room, &len, &it->told, &became, &counted,
+                                      &why) == code, packet, __FILE__, line);
+    expect_at(it->tally, code != H26X_OK || (became == received && counted == count), packet, __FILE__, line);
+    expect_at(it->tally, why.first == (code == H26X_NALU_TYPE_NOT_HANDLED ? 31 : 0), packet, __FILE__, line);
+    expect_at(it->tally, len == completed && is_same(to, room, memory) && to[room] == 0x77, packet, __FILE__, line);
+    expect_at(it->tally, is_same(to, h26x_written_copy(&it->r.at, to, sizeof to), kept), packet, __FILE__, line);
+    expect_at(it->tally, it->told == told && h26x_receiver_run_len(&it->r) == run_len, packet, __FILE__, line);
+}
+/* Without memory. */
+#define keeps(it, sequence, packet, received, count, completed, kept, told, run_len) \
+    keeps_at(it, sequence, packet, 0, H26X_OK, received, count, completed, "", kept, told, run_len, __LINE__)
+
+/* What is completed is kept where there is no room for it. */
+static void check_kept(struct tally *t)
+{
+    const char *unit = "00000001 6501";
+    struct receiving it = receiver_of(t, H26X_H264, false, false, 1000), copy = {.tally = t};
+    h26x_h265_packet shown;
+    /* A unit of which a packet is missing, one that is whole, and packets that are late or refused. */
+    keeps(&it, 65534, "7c8501", H26X_IN_ORDER, 0, 0, "", 0, 1);
+    keeps(&it, 0, "7c4503", H26X_GAP, 1, 0, "", 0, 0);
+    keeps(&it, 1, "7c8501", H26X_IN_ORDER, 0, 0, "", 0, 1);
+    keeps(&it, 2, "7c4502", H26X_IN_ORDER, 0, 7, "00000001 650102", 2, 0);
+    keeps(&it, 2, "7c8501", H26X_LATE, 1, 0, "00000001 650102", 2, 0);
+    keeps(&it, 3, "7c8505", H26X_IN_ORDER, 0, 0, "", 2, 1);
+    keeps(&it, 4, "6501", H26X_IN_ORDER, 0, 6, unit, 2, 1);
+    keeps_at(&it, 5, "7f01", 0, H26X_NALU_TYPE_NOT_HANDLED, 0, 0, 0, "", unit, 2, 1, __LINE__);
+    h26x_receiver_free(it.r);
+
+    /* Runs at a limit of two bytes, behind lengths. */
+    it = receiver_of(t, H26X_H266, false, true, 2);
+    keeps(&it, 1, "00e9870102", H26X_IN_ORDER, 0, 0, "", 0, 2);
+    keeps(&it, 2, "00e9470304", H26X_IN_ORDER, 0, 10, "00000006 003901020304", 2, 0);
+    keeps(&it, 4, "00e987010203", H26X_TOO_LONG, 1, 0, "", 2, 0);
+    keeps(&it, 5, "00e9470304", H26X_IN_ORDER, 0, 0, "", 2, 0);
+    h26x_receiver_free(it.r);
+
+    /* A copy goes on with the open unit, and not with what was completed. */
+    it = receiver_of(t, H26X_H265, true, false, 1000);
+    keeps(&it, 8, "6201930005aa", H26X_IN_ORDER, 0, 0, "", 0, 1);
+    expect(t, h26x_receiver_clone(&it.r, &copy.r) == H26X_OK);
+    keeps(&copy, 9, "620153bb", H26X_IN_ORDER, 0, 8, "00000001 2601aabb", 2, 0);
+    h26x_receiver_free(copy.r);
+    keeps(&it, 9, "620153bb", H26X_IN_ORDER, 0, 8, "00000001 2601aabb", 2, 0);
+    expect(t, h26x_receiver_clone(&it.r, &copy.r) == H26X_OK);
+    expect(t, h26x_written_copy(&copy.r.at, (uint8_t[1]){0}, 1) == 0);
+    copy.told = 2;
+    keeps(&copy, 9, "620153bb", H26X_LATE, 1, 0, "", 2, 0);
+    h26x_receiver_free(copy.r);
+    h26x_receiver_free(it.r);
+
+    /* A restart gives the unit up and takes any number; then a unit without a number, behind its length. */
+    it = receiver_of(t, H26X_H265, true, false, 1000);
+    keeps(&it, 8, "6201930005aa", H26X_IN_ORDER, 0, 0, "", 0, 1);
+    expect(t, h26x_receiver_restart(&it.r) == H26X_OK && h26x_receiver_set_numbers(&it.r, false) == H26X_OK);
+    expect(t, h26x_receiver_set_avc(&it.r, true) == H26X_OK && h26x_receiver_run_len(&it.r) == 0);
+    expect(t, h26x_h265_shown(&it.r.at, &shown) == H26X_OK);
+    keeps(&it, 40000, "620153bb", H26X_IN_ORDER, 0, 0, "", 0, 0);
+    keeps(&it, 40001, "0201cc", H26X_IN_ORDER, 0, 7, "00000003 0201cc", 1, 0);
+    h26x_receiver_free(it.r);
+
+    /* A late packet leaves what is told, and units go where they have room. */
+    it = receiver_of(t, H26X_H264, false, false, 1000);
+    keeps(&it, 1, "6501", H26X_IN_ORDER, 0, 6, unit, 2, 0);
+    keeps(&it, 1, "6101", H26X_LATE, 1, 0, unit, 2, 0);
+    keeps_at(&it, 2, "6501", 5, H26X_OK, H26X_IN_ORDER, 0, 6, "7777777777", unit, 2, 0, __LINE__);
+    keeps(&it, 3, "6701", H26X_IN_ORDER, 0, 6, "00000001 6701", 2, 0);
+    keeps_at(&it, 4, "6501", 6, H26X_OK, H26X_IN_ORDER, 0, 6, unit, "", 2, 0, __LINE__);
+    keeps(&it, 5, "6701", H26X_IN_ORDER, 0, 6, "00000001 6701", 2, 0);
+    keeps_at(&it, 6, "6501", 5, H26X_OK, H26X_IN_ORDER, 0, 6, "7777777777", unit, 2, 0, __LINE__);
+    h26x_receiver_free(it.r);
+}
+
 /* Decoding order numbers, and what a receiver of H.265 shows. */
 static void check_shown(struct tally *t)
 {
@@ -285,6 +372,7 @@ void check_sequenced(struct tally *t)
         check_skipped(t, &fragments[i]);
     }
     check_room(t);
+    check_kept(t);
     check_shown(t);
     check_ends(t);
 }

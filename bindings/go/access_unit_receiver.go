@@ -25,7 +25,7 @@ type Pushed uint32
 
 // What becomes of a packet.
 const (
-	// Held: it waits for those before it, or to be taken.
+	// Held: it waits for those before it, or to be taken, or was taken.
 	Held Pushed = C.H26X_HELD
 	// PushedLate: dropped: it came after its place was passed.
 	PushedLate Pushed = C.H26X_PUSHED_LATE
@@ -109,7 +109,7 @@ type AccessUnit struct {
 type Counts struct {
 	// Taken: packets that were taken, and not refused.
 	Taken uint64
-	// Lost: numbers that are missing before packets that were taken or numbers that were skipped.
+	// Lost: numbers that are missing before packets taken, or numbers skipped or refused, and these.
 	Lost uint64
 	// Late: packets that came after their place was passed.
 	Late uint64

@@ -335,7 +335,7 @@ func TestTheEndOfAStreamAndAnotherSender(t *testing.T) {
 	}
 }
 
-// What is refused is passed over, and is told as missing by the next packet.
+// What is refused is passed over, and counts as missing.
 func TestRefusedPackets(t *testing.T) {
 	refused := map[h26x.Codec][]byte{h26x.H264: some("7f01"), h26x.H265: some("a601ff"), h26x.H266: some("8039ff")}
 	for _, codec := range codecs {

@@ -410,7 +410,7 @@ typedef struct {
 
 /* What became of a packet that was given. */
 enum h26x_pushed {
-    H26X_HELD = 0,        /* it waits for those before it, or to be taken */
+    H26X_HELD = 0,        /* it waits for those before it, or to be taken, or was taken */
     H26X_PUSHED_LATE = 1, /* dropped: *behind is how far it is behind the one that is due; of all others *behind is 0 */
     H26X_TWICE = 2,       /* dropped: a packet with its number waits */
     H26X_FULL = 3,        /* dropped: more than held_limit bytes wait. Take access units, and give it again */
@@ -436,7 +436,7 @@ typedef struct {
 /* What was counted since it was made. Each count stays at 2^64 - 1. */
 typedef struct {
     uint64_t taken;          /* packets that were taken, and not refused */
-    uint64_t lost;           /* numbers that are missing before packets that were taken or numbers that were skipped */
+    uint64_t lost;           /* numbers that are missing before packets taken, or numbers skipped or refused, and these */
     uint64_t late;           /* packets that came after their place was passed */
     uint64_t twice;          /* packets that came while one with their number waited */
     uint64_t stray;          /* packets whose number was too far from the one that was due */
@@ -467,9 +467,10 @@ static inline void h26x_access_units_close(h26x_access_units *u)
     }
 }
 
-/* Takes a packet that came at this tick, and copies it where it waits; *pushed and *behind tell what became of it. One
- * without a payload came and bears nothing, as h26x_access_units_skip has it. Then call h26x_access_units_next until it
- * has none. H26X_OUT_OF_MEMORY changes nothing, so the packet can be given again; H26X_WRONG_END. Both leave *pushed and
+/* Takes a packet that came at this tick, and copies it where it waits: the one that is due is taken at once where none
+ * waits and no access unit has ended that wasn't given out. *pushed and *behind tell what became of it. One without a
+ * payload came and bears nothing, as h26x_access_units_skip has it. Then call h26x_access_units_next until it has none.
+ * H26X_OUT_OF_MEMORY changes nothing, so the packet can be given again; H26X_WRONG_END. Both leave *pushed and
  * *behind. */
 H26X_API uint32_t h26x_access_units_push(h26x_access_units *u, uint32_t now, uint16_t sequence, uint32_t timestamp,
                                          bool marker, const uint8_t *payload, size_t payload_len, uint32_t *pushed,

@@ -224,6 +224,12 @@ inline size_t open_len(const Fragments &fragments)
     return len;
 }
 
+// Whether a run is open behind fragments: its end has yet to come.
+inline bool is_run_open(const Fragments &fragments)
+{
+    return start_before(fragments, fragments.size()) < fragments.size();
+}
+
 // The unit that the last of fragments ends, if it is an end and a run leads to it.
 inline std::vector<Bytes> units_ended(const Fragments &fragments)
 {
@@ -250,7 +256,7 @@ struct Packet {
 struct Taken {
     uint16_t number;
     uint32_t missing;           // numbers, since the packet that was taken before it
-    bool is_sound;              // it follows that packet, bytes stand of it, and its run isn't too long
+    bool is_sound;              // it follows that packet, bytes of it stand, and no run is given up or too long
     bool is_text_given_up;      // the text with it was longer than the limit
     std::vector<Bytes> brought; // units
 };
@@ -380,6 +386,11 @@ public:
         behind = 0;
         if (is_far(packet.number))
             return push_far(now, packet);
+        if (is_taken_at_once(packet.number)) {
+            waiting.due = *waiting.due + 1;
+            take(packet);
+            return H26X_HELD;
+        }
         if (waiting.bytes() > config.held_limit)
             return H26X_FULL;
         const uint32_t answer = waiting.put(config.window, now, packet, behind);
@@ -452,6 +463,13 @@ private:
         const int64_t place = waiting.place_of(number);
         return place > waiting.newest() && place - waiting.newest() >= config.far_away
             && *waiting.due + 65536 - place >= config.far_away;
+    }
+
+    // It is the next one, and nothing is before it: neither a packet that waits, nor an access unit that ended or is to.
+    bool is_taken_at_once(uint16_t number) const
+    {
+        return waiting.packets.empty() && waiting.due && waiting.place_of(number) == *waiting.due
+            && stream.ended.empty() && !is_anew;
     }
 
     uint32_t push_far(uint32_t now, const Packet &packet)
@@ -531,24 +549,18 @@ private:
         stream.ended = std::move(ended);
     }
 
-    // A packet that was due: it is behind the one expected, where that is 32768 places back or more, bears nothing, is
-    // refused, or is taken.
+    // A packet that was due: it bears nothing, is refused, and then missing itself, or is taken.
     void take(const Packet &packet)
     {
         const uint16_t missing =
             stream.expected ? static_cast<uint16_t>(packet.number - *stream.expected) : uint16_t{0};
         const bool is_expected = stream.expected && missing == 0;
-        if (missing >= 1 << 15) {
-            counts.late++;
-        } else if (packet.payload.empty()) {
+        if (packet.payload.empty()) {
             counts.skipped++;
-            counts.lost += missing;
-            stream.skipped_gap += missing;
-            stream.expected = static_cast<uint16_t>(packet.number + 1);
-            if (!is_expected)
-                open_gap();
+            pass_over(packet.number, missing, !is_expected);
         } else if (Read reading = read(config, packet.payload); !reading) {
             counts.refused++;
+            pass_over(packet.number, missing + 1u, true);
         } else {
             counts.taken++;
             counts.lost += missing;
@@ -556,9 +568,14 @@ private:
         }
     }
 
-    // Numbers are missing before one that bears nothing.
-    void open_gap()
+    // A number that bears nothing, and up to which so many are missing.
+    void pass_over(uint16_t number, uint32_t missing, bool is_gap)
     {
+        counts.lost += missing;
+        stream.skipped_gap += missing;
+        stream.expected = static_cast<uint16_t>(number + 1);
+        if (!is_gap)
+            return;
         stream.is_gap = true;
         stream.fragments.clear();
         if (stream.open)
@@ -579,6 +596,8 @@ private:
         }
         Taken taken{packet.number, stream.skipped_gap + missing, follows, false, std::move(reading.units)};
         if (reading.is_fragment) {
+            if (reading.is_start && is_run_open(stream.fragments))
+                taken.is_sound = false;
             stream.fragments.push_back(std::move(reading));
             taken.brought = units_ended(stream.fragments);
         }

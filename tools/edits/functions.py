@@ -110,15 +110,18 @@ def head_of(lines, at):
 
 
 def name_of_impl(head):
-    """How the prover names an impl: by its type, behind which its trait stands."""
+    """How the prover names an impl: by its type, behind which its trait stands, or where it is of a
+    generic type with one argument, and no trait's, the argument."""
     head = re.sub(r"^(unsafe )?impl\s*", "", head)
-    if head.startswith("<"):
+    is_whole = not head.startswith("<")
+    if not is_whole:
         head = head[closing(head) + 1 :].strip()
     head = re.split(r"\bwhere\b|\{", head)[0].strip()
     trait, has_trait, type_of = parted_at_for(head)
     first = re.compile(r"[&\s]*(?:mut )?(?:\w+::)*(\w+)")
     if not has_trait:
-        return first.match(head)[1]
+        argument = re.fullmatch(r"[^<]*<(\w+)>", head) if is_whole else None
+        return first.match(head)[1] + (f"+{argument[1]}" if argument else "")
     its = first.match(type_of)[1]
     return its[0].upper() + its[1:] + words_of(trait)
 

@@ -34,7 +34,7 @@ class Target:
         """Whether a name is the function's or that of a closure in it, whichever module names it."""
         *outer, own = self.path.split("::")
         inside = "::".join([*outer, "fn", own]) + "::"
-        plain = name.partition("+")[0]
+        plain = name if "+" in self.path else name.partition("+")[0]
         same = plain == self.path or plain.endswith(f"::{self.path}")
         return same or name.startswith(inside) or f"::{inside}" in name
 

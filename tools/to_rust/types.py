@@ -37,7 +37,8 @@ ADDED = {
     "H265Parameter": "PartialOrd Ord Hash", "H266Parameter": "PartialOrd Ord Hash",
     "LevelSets": "Clone PartialEq Eq Hash", "InteropConstraints": "Clone PartialEq Eq Hash",
     "Fault": "Hash", "ParametersError": "Hash", "UnitsError": "Hash", "RtpMapError": "Hash",
-    "ConstraintsError": "Hash", "LevelSetsError": "Hash",
+    "ConstraintsError": "Hash", "LevelSetsError": "Hash", "CapabilityPointsError": "Hash",
+    "ParallelTool": "Hash", "CapabilityPoint": "Hash",
 }
 LISTED = {"H264Parameter", "H265Parameter", "H266Parameter"}
 GROWING = {"CodecExtra", "Fault"} | LISTED

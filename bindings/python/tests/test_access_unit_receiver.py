@@ -256,7 +256,7 @@ def test_the_end_of_a_stream_and_another_sender(codec: Codec) -> None:
 
 
 def test_refused_packets(codec: Codec) -> None:
-    """They are passed over, and told as missing by the next packet."""
+    """They are passed over, and count as missing."""
     refused = {Codec.H264: some("7f01"), Codec.H265: some("a601ff"), Codec.H266: some("8039ff")}
     receiver, (key, slice_) = AccessUnitReceiver(codec, AT_ONCE), PICTURES[codec]
     pushes(receiver, 0, (10, 0, True, key))

@@ -5,6 +5,9 @@ use Rattle.std.specs.List.{list_any, AllByRecursion}
 use Rattle.h26x_core.specs.Word.{flag}
 use Rattle.h26x_core.specs.H265Unit.{is_forbidden, type_of, layer_id, temporal_id}
 use Rattle.h26x_model.specs.Payload.TwoBytes.{two_byte_detects}
+use Rattle.h26x_model.specs.Send.Calls.{Call, AreCalls}
+use Rattle.h26x_model.specs.Send.PacketizerState.{PacketizerState, calls_packets}
+use Rattle.h26x_model.specs.Carry.Laws.{AreCallsCarried}
 use Rattle.h26x_model.specs.Receive.DepacketizerState.{Depacketization, after_packets}
 use Rattle.h265_payload.specs.H265.{read, h265_header}
 use Rattle.h265_payload.specs.Shown.{units_in}
@@ -103,3 +106,8 @@ with_lowest_headers has_donl packets = map (with_lowest_header has_donl) packets
 abbrev pub AreTakenAlike : Bool → Depacketization → List (List ℕ) → Type 0
 AreTakenAlike has_donl w packets =
     after_packets w (with_lowest_headers has_donl packets) ≡ after_packets w packets
+
+-- those that calls send, where packets can carry their units
+abbrev pub CallsAreTakenAlike : Bool → PacketizerState → Depacketization → List Call → Type 0
+CallsAreTakenAlike has_donl s w calls = AreCalls calls → AreCallsCarried s calls →
+    AreTakenAlike has_donl w (calls_packets s calls)

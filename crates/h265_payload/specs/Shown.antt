@@ -7,6 +7,7 @@ use Rattle.h26x_core.specs.H265Unit.{type_of}
 use Rattle.h26x_core.specs.Pieces.{pieces_of}
 use Rattle.h26x_model.specs.Payload.Reading.{Reading, Single, Aggregate, Fragment, Paci, Refused}
 use Rattle.h265_packets.specs.Header.{with_type}
+use Rattle.h265_packets.specs.Paci.{paci_fields}
 use Rattle.h265_payload.specs.H265.{paci_head}
 use Rattle.h265_packets.specs.Payload.{OtherUnit, AggregationPacket, units_shown, empty_single}
 use Rattle.h265_packets.specs.declared.payload.H265Payload.{H265Payload}
@@ -85,6 +86,15 @@ shown_paci header (a ∷ b ∷ rest) = p.H265PACIPacket (record {
   payload = drop (field (a * 256 + b) 8 4) rest;
 })
 shown_paci header rest = p.H265SingleNALUnitPacket empty_single
+
+-- that of a unit, by the bytes of its header and the data behind it, and an extension
+abbrev pub shown_paci_of : ℕ → ℕ → List ℕ → List ℕ → H265Payload
+shown_paci_of high low body phes = p.H265PACIPacket (record {
+  header = with_type high 50 * 256 + low;
+  fields = paci_fields high phes;
+  phes = phes;
+  payload = body;
+})
 
 -- an accepted packet, by its type
 abbrev pub shown : Bool → List ℕ → H265Payload

@@ -3,15 +3,15 @@
 ghost use Rattle.std.specs.Prelude.{◌≡◌, ◌++◌, true, false, [], ◌∷◌, Some, None, Err, IfOk, OnOk, OnErr};
 ghost use Rattle.h26x_core.specs.Front.{IsFrontOf};
 ghost use Rattle.h26x_core.specs.Hint.{size_hint};
-ghost use Rattle.h26x_core.specs.ByteStream.{byte_stream};
-ghost use Rattle.h26x_model.specs.Payload.Extra.{extra_after};
-ghost use Rattle.h26x_model.specs.Receive.DepacketizerState.{after_packets, IsPacketOutcome};
+ghost use Rattle.h26x_model.specs.Payload.Reading.{is_start};
+ghost use Rattle.h26x_model.specs.Receive.DepacketizerState.{after_packets, IsPacketOutcome, AreWritten};
 ghost use Rattle.h26x_model.specs.Receive.RunLimit.{run_len};
 ghost use Rattle.h265_packets.specs.Payload.{empty_single};
 ghost use Rattle.h26x_payload.specs.AccessUnit.{may_begin, is_last};
 ghost use Rattle.h26x_payload.specs.OpenText.{IsSameText, text_depacketization, met_depacketization};
 ghost use Rattle.h26x_payload.specs.UnitSink.{bytes_brought, grown_to, IsRoomTold};
 ghost use Rattle.h26x_model.specs.Payload.TwoBytes.{is_two_byte_fragment};
+ghost use Rattle.h26x_model.specs.Where.{Where};
 ghost use Rattle.h265_payload.specs.H265.{h265_header};
 ghost use Rattle.h265_payload.specs.Setting.{setting, setting_format};
 ghost use Rattle.h265_payload.specs.Shown.{shown, is_aggregate, units_of_aggregate};
@@ -23,7 +23,7 @@ use crate::spare::Spare;
 use h26x_core::{CodecExtra, Depacketizer, PacketError};
 use h26x_payload::{
     DonlFormat, OpenRun, OpenText, PacketReader, PayloadFormat, RunRule, UnitSink, check_lengths,
-    out_size_hint, take_in_text, take_packet,
+    out_size_hint, starts_run, take_in_text, take_packet,
 };
 use h265_packets::H265Payload;
 use std::alloc::Global;
@@ -161,10 +161,8 @@ impl H265Depacketizer {
 
         // The units of an aggregate are those that are shown.
         ensures aggregate { OnOk result (is_aggregate self.new.payload ≡ true →
-            ((W.sink out.new).bytes ≡ (W.sink out.old).bytes ++ byte_stream self.old.is_avc
-            (units_of_aggregate self.new.payload))
-            × (codec_extra.new ≡ extra_after (setting_format self.old.codec) codec_extra.old
-            (units_of_aggregate self.new.payload))) }
+            AreWritten (h265_depacketization self.old (W.sink out.old).bytes codec_extra.old)
+            (units_of_aggregate self.new.payload) (W.sink out.new).bytes codec_extra.new) }
 
         ensures kept { OnErr result (self.new ≡ self.old) }
         ensures kept_sink { OnErr result (W.sink out.new ≡ W.sink out.old) }
@@ -217,6 +215,13 @@ impl H265Depacketizer {
         let (payload, spare) = (&mut self.payload, &mut self.spare);
         show(codec.has_donl, packet, parts, payload, spare);
         Ok(())
+    }
+
+    /// Whether a packet is a fragment that starts, which gives up a run that is open.
+    pub fn starts_run(&self, packet: &[u8]) -> bool
+        ensures { result ≡ is_start ((setting_format self.now.codec).read packet.now) }
+    {
+        starts_run(self.codec, packet)
     }
 
     /// The same depacketizer again, with its settings, its open run and what it shows. `OutOfMemory`
@@ -313,10 +318,8 @@ impl Depacketizer for H265Depacketizer {
 
         // The units of an aggregate are those that are shown.
         ensures aggregate { OnOk result (is_aggregate self.new.payload ≡ true →
-            (out.new.items ≡ out.old.items ++ byte_stream self.old.is_avc
-            (units_of_aggregate self.new.payload))
-            × (codec_extra.new ≡ extra_after (setting_format self.old.codec) codec_extra.old
-            (units_of_aggregate self.new.payload))) }
+            AreWritten (h265_depacketization self.old out.old.items codec_extra.old)
+            (units_of_aggregate self.new.payload) out.new.items codec_extra.new) }
 
         ensures accepted { OnOk result (IsFrontOf out.old.items out.new.items) }
         ensures kept_out { OnErr result (out.new.items ≡ out.old.items) }

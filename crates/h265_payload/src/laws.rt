@@ -5,18 +5,17 @@ ghost use Rattle.std.specs.Prelude.{◌≡◌, ◌+◌, ◌*◌, ◌<◌, ◌≤
 ghost use Rattle.h26x_core.specs.Word.{field, is_set};
 ghost use Rattle.h26x_core.specs.H265Unit.{is_forbidden, type_of};
 ghost use Rattle.h26x_model.specs.Payload.Reading.{Paci, HasOneReading};
-ghost use Rattle.h26x_model.specs.Payload.Facts.{IsPayloadFormat, AreCarried};
-ghost use Rattle.h26x_model.specs.Send.Calls.{Call, AreCalls, all_entries};
-ghost use Rattle.h26x_model.specs.Send.PacketizerState.{PacketizerState, IsPacketizerState, state_units, state_packets};
+ghost use Rattle.h26x_model.specs.Payload.Facts.{IsPayloadFormat};
+ghost use Rattle.h26x_model.specs.Send.Calls.{Call};
+ghost use Rattle.h26x_model.specs.Send.PacketizerState.{PacketizerState, IsPacketizerState};
 ghost use Rattle.h26x_model.specs.Receive.DepacketizerState.{Depacketization};
 ghost use Rattle.h26x_model.specs.Send.Fragments.{HasRoomFrom};
 ghost use Rattle.h26x_cut.specs.declared.ZeroRule.TheVariants.{All};
 ghost use Rattle.h26x_payload.specs.Units.{CutsBy};
 ghost use Rattle.h265_payload.specs.H265.{h265, read};
 ghost use Rattle.h265_payload.specs.Reading.{IsReading};
-ghost use Rattle.h265_payload.specs.Shown.{shown, ShowsReading};
-ghost use Rattle.h265_payload.specs.LowestHeader.{IsHeadedByUnits, IsReadAlike, IsDetectedAlike, AreTakenAlike};
-ghost use Rattle.h265_packets.specs.Header.{with_type};
+ghost use Rattle.h265_payload.specs.Shown.{shown, shown_paci_of, ShowsReading};
+ghost use Rattle.h265_payload.specs.LowestHeader.{IsHeadedByUnits, IsReadAlike, IsDetectedAlike, CallsAreTakenAlike};
 ghost use Rattle.h265_packets.specs.Paci.{paci_fields, paci_packet};
 ghost use Rattle.h265_packets.specs.declared.payload.H265Payload.TheVariants as p;
 
@@ -62,12 +61,8 @@ pub fn paci_is_read_back()
         read has_donl (paci_packet (high ∷ low ∷ body) phes)
         ≡ Paci (high ∷ low ∷ []) (paci_fields high phes) phes body }
     ensures shows { (has_donl : Bool) (high low : ℕ) (body phes : List ℕ) → length phes ≤ 31 →
-        shown has_donl (paci_packet (high ∷ low ∷ body) phes) ≡ p.H265PACIPacket (record {
-          header = with_type high 50 * 256 + low;
-          fields = paci_fields high phes;
-          phes = phes;
-          payload = body;
-        }) }
+        shown has_donl (paci_packet (high ∷ low ∷ body) phes)
+        ≡ shown_paci_of high low body phes }
     ensures a { (high : ℕ) (phes : List ℕ) → length phes ≤ 31 →
         is_set (paci_fields high phes) 15 ≡ is_forbidden high }
     ensures ctype { (high : ℕ) (phes : List ℕ) → length phes ≤ 31 →
@@ -96,7 +91,5 @@ pub fn lowest_headers_change_no_reading()
         IsDetectedAlike has_donl high low rest }
     ensures taken { (has_donl : Bool) (s : PacketizerState) (w : Depacketization)
         (calls : List Call) → s.format ≡ h265 has_donl → w.state.format ≡ h265 has_donl →
-        IsPacketizerState s → AreCalls calls →
-        AreCarried s.format (state_units s (all_entries s.format calls)) →
-        AreTakenAlike has_donl w (state_packets s (all_entries s.format calls)) }
+        IsPacketizerState s → CallsAreTakenAlike has_donl s w calls }
 {}

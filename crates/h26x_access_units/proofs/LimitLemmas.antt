@@ -1,6 +1,6 @@
 -- What a receiver holds stays within its limits.
 use Rattle.std.proofs.Common.{◌≡◌, ◌∙◌, ap, sym, subst, refl, ℕ, ◌+◌, ◌≤◌, Bool, true, false, cond, List, [], ◌∷◌, length, Option, Some, None, Result, Ok, Err, arith}
-use Rattle.std.specs.Prelude.{◌==◌, ◌||◌, ◌&&◌, nat_lt, nat_le, max}
+use Rattle.std.specs.Prelude.{◌==◌, ◌||◌, ◌&&◌, nat_lt, nat_le, max, IfOk, OnOk, OnErr, MatchBool}
 use Rattle.std.specs.Option.{option_map}
 use Rattle.std.proofs.lemmas.Bool.Decides.{nat_tests}
 use Rattle.h26x_core.specs.declared.error.PacketError.{PacketError}
@@ -14,14 +14,14 @@ use Rattle.h26x_frames.specs.Rtp.{RtpBody}
 use Rattle.h26x_frames.specs.ReorderBuffer.{BufferState, due_at, put_packet, push_answer, after_push, without_first_of}
 use Rattle.h26x_frames.specs.declared.pushed.Pushed as buffers
 use Rattle.h26x_frames.specs.declared.pushed.Pushed.TheVariants as frames
-use Rattle.h26x_frames.specs.AccessUnit.{AccessUnitValue, UnitDepacketization, unit_len, unit_within, whole_if, taken_by, after_rtp, after_taken_rtp, after_unit_skip}
+use Rattle.h26x_frames.specs.AccessUnit.{AccessUnitValue, UnitDepacketization, unit_len, unit_within, whole_if, taken_by, after_rtp, after_taken_rtp, after_unit_skip, behind_missing, after_pass_over}
 use Rattle.h26x_access_units.specs.declared.config.AccessUnitConfig.{AccessUnitConfig}
 use Rattle.h26x_access_units.specs.declared.pushed.Pushed.{Pushed}
 use Rattle.h26x_access_units.specs.declared.pushed.Pushed.TheVariants as pushes
 use Rattle.h26x_access_units.specs.Numbers.{bears_nothing}
 use Rattle.h26x_access_units.specs.JitterBuffer.{JitterState, held_bytes, is_full, is_far, jitter_answer, after_jitter, with_held_limit, fresh_jitter}
 use Rattle.h26x_access_units.specs.Pushed.{as_pushed}
-use Rattle.h26x_access_units.specs.Reception.{Reception, reception_answer, after_reception, is_behind_stray, pushed_to, anew_of, frames_after, IsDueTaken, IsDrained, none, more, ended_if_anew, ended_if_over, has_no_unit, without_given, without_given_of, fresh_reception, IsNext}
+use Rattle.h26x_access_units.specs.Reception.{Reception, reception_answer, after_reception, is_behind_stray, pushed_to, anew_of, frames_after, is_taken_at_once, IsDueTaken, IsPushed, IsDrained, none, more, ended_if_anew, ended_if_over, has_no_unit, without_given, without_given_of, fresh_reception, IsNext}
 use Rattle.h26x_access_units.specs.ReceivedUnit.{ReceivedUnitValue}
 use Rattle.h26x_access_units.specs.Limits.{stray_len, IsWithinLimits, StaysWithinLimits}
 
@@ -183,17 +183,27 @@ same_len : (unit : Option AccessUnitValue) → unit_len (option_map (whole_if fa
 same_len None = refl
 same_len (Some unit) = refl
 
+behind_within : (most limit : ℕ) (s : UnitDepacketization) (number : ℕ) → AreWithin most limit s → AreWithin most limit (behind_missing s number)
+behind_within most limit s number is = record { run = omega arith; unit = let same = same_len s.unit in let at = is.unit in omega (arith, same, at) }
+
 skipped_within : (most limit : ℕ) (s : UnitDepacketization) (number : ℕ) → AreWithin most limit s → AreWithin most limit (after_unit_skip s number)
 skipped_within most limit s number is = elim (is_run_kept s.expected number) as (λ b. is_run_kept s.expected number ≡ b → AreWithin most limit (after_unit_skip s number)) [
   | true ↦ λ e. rw e (record { run = is.run; unit = is.unit })
-  | false ↦ λ e. rw e (record { run = omega arith; unit = let same = same_len s.unit in let at = is.unit in omega (arith, same, at) })
+  | false ↦ λ e. rw e (behind_within most limit s number is)
 ] refl
 
-frames_within : (most limit : ℕ) (s : UnitDepacketization) (p : ℕ × RtpBody) (answer : Result Received PacketError) → AreWithin most limit s → AreWithin most limit (frames_after most limit s p answer)
-frames_within most limit s p answer is = elim (bears_nothing p.1.payload) as (λ b. AreWithin most limit (cond b (after_unit_skip s p.0) (after_rtp most limit s p answer))) [
-  | true ↦ skipped_within most limit s p.0 is
-  | false ↦ answered_within most limit s p answer is
+passed_over_within : (most limit : ℕ) (s : UnitDepacketization) (number : ℕ) → AreWithin most limit s → AreWithin most limit (after_pass_over s number)
+passed_over_within most limit s number is = elim (is_late s.expected number) as (λ b. AreWithin most limit (cond b s (behind_missing s number))) [
+  | true ↦ is
+  | false ↦ behind_within most limit s number is
 ]
+
+frames_within : (most limit : ℕ) (s : UnitDepacketization) (p : ℕ × RtpBody) (answer : Result Received PacketError) → AreWithin most limit s → AreWithin most limit (frames_after most limit s p answer)
+frames_within most limit s p (Ok answer) is = elim (bears_nothing p.1.payload) as (λ b. AreWithin most limit (cond b (after_unit_skip s p.0) (after_rtp most limit s p (Ok answer)))) [
+  | true ↦ skipped_within most limit s p.0 is
+  | false ↦ answered_within most limit s p (Ok answer) is
+]
+frames_within most limit s p (Err error) is = passed_over_within most limit s p.0 is
 
 -- a packet that goes takes its bytes with it
 goes_bytes : (window : ℕ) (due : Option ℕ) (held : List (ℕ × RtpBody)) → held_bytes (without_first_of window due held).held ≤ held_bytes held
@@ -239,9 +249,26 @@ next_within most now s new unit it is =
     (given_within most (ended_if_over it.drained) (over_within most it.drained (drained_within most now (ended_if_anew s) it.drained it.taken (anew_within most s is))))
 
 -- where a packet came and is answered so
-pub pushed_within : (now : ℕ) (s new : Reception) (p : ℕ × RtpBody) (answer : Pushed) → answer ≡ reception_answer s p → new ≡ after_reception now s p answer →
+pub pushed_within : (now : ℕ) (s new : Reception) (p : ℕ × RtpBody) (answer : Pushed) → answer ≡ reception_answer s p → IsPushed now s p answer new →
     StaysWithinLimits (length p.1.payload) s new
-pushed_within now s new p answer is stands = λ most small at. subst (IsWithinLimits most) (sym (stands ∙ ap (after_reception now s p) is)) (push_within most now s p small at)
+pushed_within now s new p answer is pushed = λ most small at.
+    let waits = subst (λ (a : Pushed). IsWithinLimits most (after_reception now s p a)) (sym is) (push_within most now s p small at) in
+    elim (is_taken_at_once s p.0) as (λ b. MatchBool b (IsDueTaken now (after_reception now s p answer) new) (new ≡ after_reception now s p answer) → IsWithinLimits most new) [
+      | true ↦ λ taken. due_within most now (after_reception now s p answer) new taken waits
+      | false ↦ λ stands. subst (IsWithinLimits most) (sym stands) waits
+    ] pushed
+
+-- so of one that is too far, and of one that is taken at once, where memory may lack
+pub far_within : {E : Type 0} (now : ℕ) (s new : Reception) (p : ℕ × RtpBody) (result : Result Pushed E) → IfOk result (λ answer. answer ≡ reception_answer s p) → IfOk result (λ answer. new ≡ after_reception now s p answer) →
+    OnErr result (new ≡ s) → StaysWithinLimits (length p.1.payload) s new
+far_within now s new p (Ok answer) is stands kept = λ most small at. subst (IsWithinLimits most) (sym (stands ∙ ap (after_reception now s p) is)) (push_within most now s p small at)
+far_within now s new p (Err error) is stands kept = λ most small at. subst (IsWithinLimits most) (sym kept) at
+
+pub at_once_within : {E : Type 0} (now : ℕ) (s new : Reception) (p : ℕ × RtpBody) (result : Result Pushed E) → pushes.Held ≡ reception_answer s p →
+    OnOk result ((at : ℕ) → IsDueTaken at (after_reception at s p pushes.Held) new) → OnErr result (new ≡ s) → StaysWithinLimits (length p.1.payload) s new
+at_once_within now s new p (Ok answer) is taken kept = λ most small at.
+    due_within most now (after_reception now s p pushes.Held) new (taken now) (subst (λ (a : Pushed). IsWithinLimits most (after_reception now s p a)) (sym is) (push_within most now s p small at))
+at_once_within now s new p (Err error) is taken kept = λ most small at. subst (IsWithinLimits most) (sym kept) at
 
 -- where memory lacks for the next access unit
 pub left_within : (len now : ℕ) (s new : Reception) → IsDrained now (ended_if_anew s) new → StaysWithinLimits len s new

@@ -1,20 +1,28 @@
--- Packets that are due, taken one after the other.
-use Rattle.std.proofs.Common.{◌≡◌, ◌∙◌, ap, sym, ℕ, ◌+◌, Bool, true, false, cond, List, [], ◌∷◌, length, Option, Some, None, refl, arith}
-use Rattle.std.specs.Prelude.{slice_get}
+-- Packets that are due, taken one after the other, or at once.
+use Rattle.std.proofs.Common.{◌≡◌, ◌∙◌, ap, sym, subst, ℕ, ◌+◌, ◌<◌, Bool, true, false, cond, List, [], ◌∷◌, length, Option, Some, None, refl, arith}
+use Rattle.std.specs.Prelude.{◌==◌, ◌||◌, ◌&&◌, nat_lt, nat_le, slice_get}
+use Rattle.h26x_receiver.specs.Sequence.{distance_ahead, distance_behind, is_late}
+use Rattle.std.proofs.lemmas.Bool.Decides.{nat_tests}
 use Rattle.h26x_frames.specs.Rtp.{RtpBody}
-use Rattle.h26x_frames.specs.ReorderBuffer.{first_ready, without_first_of}
+use Rattle.h26x_frames.specs.ReorderBuffer.{BufferState, buffer_state, goes_straight, push_answer, after_push, first_ready, next_packet, without_first_of}
+use Rattle.h26x_frames.proofs.BufferLemmas.{none_held, held_alone}
 use Rattle.h26x_core.specs.declared.error.PacketError.{PacketError}
-use Rattle.std.specs.Prelude.{Result, Ok, Err, MatchBool, not}
+use Rattle.std.specs.Prelude.{Result, Ok, Err, IfOk, MatchBool, not}
 use Rattle.h26x_receiver.specs.declared.received.Received.{Received}
 use Rattle.h26x_receiver.specs.declared.received.Received.TheVariants.{InOrder, Gap, TooLong, Late}
 use Rattle.h26x_receiver.specs.Sequenced.{is_taken}
-use Rattle.h26x_frames.specs.AccessUnit.{AccessUnitValue, UnitDepacketization, is_text_given_up}
+use Rattle.h26x_frames.specs.AccessUnit.{AccessUnitValue, UnitDepacketization, is_text_given_up, after_rtp, after_end}
 use Rattle.h26x_access_units.specs.declared.counts.Counts.{Counts}
 use Rattle.h26x_access_units.specs.declared.numbers.NumbersSoFar.{NumbersSoFar}
-use Rattle.h26x_access_units.specs.Counts.{counted_due}
-use Rattle.h26x_access_units.specs.Numbers.{bears_nothing, numbers_after}
-use Rattle.h26x_access_units.specs.JitterBuffer.{JitterState, is_pressed, without_due}
-use Rattle.h26x_access_units.specs.Reception.{Reception, reception, frames_after, marker_forgotten, after_due, has_no_unit, IsDueTaken, IsDrained, none, more}
+use Rattle.h26x_frames.specs.declared.pushed.Pushed.TheVariants as frames
+use Rattle.h26x_access_units.specs.declared.pushed.Pushed.{Pushed}
+use Rattle.h26x_access_units.specs.declared.pushed.Pushed.TheVariants as pushes
+use Rattle.h26x_access_units.specs.Counts.{counted_due, counted_skip, counted_answer}
+use Rattle.h26x_access_units.specs.Pushed.{as_pushed}
+use Rattle.h26x_access_units.specs.Numbers.{bears_nothing, numbers_after, after_last}
+use Rattle.h26x_access_units.specs.JitterBuffer.{JitterState, is_far, is_full, jitter_answer, is_pressed, due_packet, with_packet, without_due}
+use Rattle.h26x_access_units.specs.ReceivedUnit.{ReceivedUnitValue}
+use Rattle.h26x_access_units.specs.Reception.{Reception, reception, frames_after, marker_forgotten, after_due, is_behind_stray, reception_answer, after_reception, has_no_unit, is_taken_at_once, ended_if_anew, IsDueTaken, IsPushed, IsDrained, none, more, IsNext}
 
 -- where nothing is held nothing is ready
 none_ready : (window : ℕ) (due : Option ℕ) → first_ready {A = RtpBody} window due [] ≡ None
@@ -34,27 +42,141 @@ taken_falls now s t it =
     ap (λ (r : Reception). length r.waiting.buffer.held + 1) it.stands
     ∙ goes (is_pressed now s.waiting) s.waiting.buffer.window s.waiting.buffer.due s.waiting.buffer.held it.packet it.due
 
+-- what stands after a packet with a payload
+pub taken_as : (most limit : ℕ) (s new : UnitDepacketization) (p : ℕ × RtpBody) (a : Result Received PacketError) → bears_nothing p.1.payload ≡ false → new ≡ after_rtp most limit s p a →
+    IfOk a (λ received. new ≡ frames_after most limit s p (Ok received))
+taken_as most limit s new p (Ok received) some is = rw some is
+taken_as most limit s new p (Err error) some is = tt
+
+pub some_bytes : (bytes : List ℕ) → (length bytes == 0) ≡ false → bears_nothing bytes ≡ false
+some_bytes [] some = absurd (let bad = some in cc)
+some_bytes (byte ∷ bytes) some = refl
+
 -- of a packet that wasn't taken it doesn't count whether a text was given up
-pub counted_as : (c : Counts) (payload : List ℕ) (a : Result Received PacketError) (x y : Bool) →
-    (bears_nothing payload ≡ false → is_taken a ≡ true → x ≡ y) → counted_due c payload a x ≡ counted_due c payload a y
-counted_as c [] (Ok answer) x y same = refl
-counted_as c (byte ∷ bytes) (Ok (Late n)) x y same = refl
-counted_as c (byte ∷ bytes) (Ok InOrder) x y same = ap (counted_due c (byte ∷ bytes) (Ok InOrder)) (same refl refl)
-counted_as c (byte ∷ bytes) (Ok (Gap n)) x y same = ap (counted_due c (byte ∷ bytes) (Ok (Gap n))) (same refl refl)
-counted_as c (byte ∷ bytes) (Ok (TooLong n)) x y same = ap (counted_due c (byte ∷ bytes) (Ok (TooLong n))) (same refl refl)
-counted_as c payload (Err error) x y same = refl
+pub counted_as : (expected : Option ℕ) (c : Counts) (p : ℕ × RtpBody) (answer : Received) (x y : Bool) →
+    (bears_nothing p.1.payload ≡ false → is_taken (Ok answer) ≡ true → x ≡ y) → counted_due expected c p (Ok answer) x ≡ counted_due expected c p (Ok answer) y
+counted_as expected c p answer x y = by (bears_nothing p.1.payload) answer
+  where
+    by : (b : Bool) (answer : Received) → (b ≡ false → is_taken (Ok answer) ≡ true → x ≡ y) → cond b (counted_skip c answer) (counted_answer c answer x) ≡ cond b (counted_skip c answer) (counted_answer c answer y)
+    by true answer same = refl
+    by false (Late n) same = refl
+    by false InOrder same = ap (counted_answer c InOrder) (same refl refl)
+    by false (Gap n) same = ap (counted_answer c (Gap n)) (same refl refl)
+    by false (TooLong n) same = ap (counted_answer c (TooLong n)) (same refl refl)
 
 -- what stands after a packet that was due, by its parts
 pub due_stands : (s : Reception) (p : ℕ × RtpBody) (a : Result Received PacketError) (waiting : JitterState) (frames : UnitDepacketization) (numbers : NumbersSoFar) (counts : Counts) (run unit : ℕ) →
-    waiting ≡ without_due s.waiting → frames ≡ marker_forgotten (frames_after s.run_limit s.unit_limit s.frames p a) → numbers ≡ numbers_after s.numbers p a → counts ≡ counted_due s.counts p.1.payload a (is_text_given_up s.run_limit s.unit_limit s.frames p) →
+    waiting ≡ without_due s.waiting → frames ≡ marker_forgotten (frames_after s.run_limit s.unit_limit s.frames p a) → numbers ≡ numbers_after s.frames.expected s.numbers p a →
+    counts ≡ counted_due s.frames.expected s.counts p a (is_text_given_up s.run_limit s.unit_limit s.frames p) →
     run ≡ s.run_limit → unit ≡ s.unit_limit → reception waiting s.stray s.is_anew frames numbers s.is_clean counts run unit ≡ after_due s p a
 due_stands s p a waiting frames numbers counts run unit w f n c r u =
+    let after = after_due s p a in
     ap (λ (x : JitterState). reception x s.stray s.is_anew frames numbers s.is_clean counts run unit) w
-    ∙ ap (λ (x : UnitDepacketization). reception (without_due s.waiting) s.stray s.is_anew x numbers s.is_clean counts run unit) f
-    ∙ ap (λ (x : NumbersSoFar). reception (without_due s.waiting) s.stray s.is_anew (marker_forgotten (frames_after s.run_limit s.unit_limit s.frames p a)) x s.is_clean counts run unit) n
-    ∙ ap (λ (x : Counts). reception (without_due s.waiting) s.stray s.is_anew (marker_forgotten (frames_after s.run_limit s.unit_limit s.frames p a)) (numbers_after s.numbers p a) s.is_clean x run unit) c
-    ∙ ap (λ (x : ℕ). reception (without_due s.waiting) s.stray s.is_anew (marker_forgotten (frames_after s.run_limit s.unit_limit s.frames p a)) (numbers_after s.numbers p a) s.is_clean (counted_due s.counts p.1.payload a (is_text_given_up s.run_limit s.unit_limit s.frames p)) x unit) r
-    ∙ ap (λ (x : ℕ). reception (without_due s.waiting) s.stray s.is_anew (marker_forgotten (frames_after s.run_limit s.unit_limit s.frames p a)) (numbers_after s.numbers p a) s.is_clean (counted_due s.counts p.1.payload a (is_text_given_up s.run_limit s.unit_limit s.frames p)) s.run_limit x) u
+    ∙ ap (λ (x : UnitDepacketization). reception after.waiting s.stray s.is_anew x numbers s.is_clean counts run unit) f
+    ∙ ap (λ (x : NumbersSoFar). reception after.waiting s.stray s.is_anew after.frames x s.is_clean counts run unit) n
+    ∙ ap (λ (x : Counts). reception after.waiting s.stray s.is_anew after.frames after.numbers s.is_clean x run unit) c
+    ∙ ap (λ (x : ℕ). reception after.waiting s.stray s.is_anew after.frames after.numbers s.is_clean after.counts x unit) r
+    ∙ ap (λ (x : ℕ). reception after.waiting s.stray s.is_anew after.frames after.numbers s.is_clean after.counts s.run_limit x) u
+
+-- a packet that needn't wait is due where it waits, whatever the tick
+pub straight_is_due : (now at : ℕ) (j : JitterState) (p : ℕ × RtpBody) → p.0 < 65536 → goes_straight j.buffer p.0 ≡ true → due_packet now (with_packet at j p) ≡ Some p
+straight_is_due now at j p small is = by (is_pressed now (with_packet at j p)) (after_push j.buffer p) (held_alone j.buffer p.0 p.1 small is)
+  where
+    by : (pressed : Bool) (b : BufferState RtpBody) → b ≡ buffer_state j.buffer.window (Some p.0) (p ∷ []) → cond pressed (slice_get b.held 0) (next_packet b) ≡ Some p
+    by true b alone = ap (λ (x : BufferState RtpBody). slice_get x.held 0) alone
+    by false b alone =
+        let same : (p.0 == p.0) ≡ true = grind (arith, nat_tests) in
+        ap next_packet alone ∙ rw same refl
+
+-- where none has ended
+none_of_units : (units : List AccessUnitValue) → has_no_unit units ≡ true → units ≡ []
+none_of_units [] is = refl
+none_of_units (unit ∷ units) is = absurd (let bad = is in cc)
+
+-- what is known of a packet that is taken at once
+pub at_once : (s : Reception) (number : ℕ) → is_taken_at_once s number ≡ true → (goes_straight s.waiting.buffer number ≡ true) × (has_no_unit s.frames.ended ≡ true) × (s.is_anew ≡ false)
+at_once s number = by (goes_straight s.waiting.buffer number) (has_no_unit s.frames.ended) s.is_anew
+  where
+    by : (a b c : Bool) → (a && (b && not c)) ≡ true → (a ≡ true) × (b ≡ true) × (c ≡ false)
+    by true true false e = (refl, refl, refl)
+    by true true true e = absurd (let bad = e in cc)
+    by true false c e = absurd (let bad = e in cc)
+    by false b c e = absurd (let bad = e in cc)
+
+-- it is answered as one that is held
+neither : (a b : Bool) → a ≡ false → b ≡ false → (a || b) ≡ false
+neither true b e f = e
+neither false b e f = f
+
+not_outside : (none a b : Bool) → a ≡ false → cond none false (a && b) ≡ false
+not_outside true a b e = refl
+not_outside false true b e = absurd (let bad = e in cc)
+not_outside false false b e = refl
+
+abbrev answer_at : Reception → ℕ × RtpBody → BufferState RtpBody → Pushed
+answer_at s p b = reception_answer (record s { waiting = record s.waiting { buffer = b } }) p
+
+straight_answer : (s : Reception) (p : ℕ × RtpBody) (window : ℕ) → p.0 < 65536 → length p.1.payload < 18446744073709551616 → answer_at s p (buffer_state window (Some p.0) []) ≡ pushes.Held
+straight_answer s p window small len =
+    let same : nat_lt (distance_ahead p.0 p.0) (distance_ahead p.0 p.0) ≡ false = grind (arith, nat_tests) in
+    let near : is_far s.waiting.config.far (buffer_state window (Some p.0) []) p.0 ≡ false = not_outside (s.waiting.config.far == 0) _ _ same in
+    let few : nat_lt s.waiting.config.held_limit 0 ≡ false = grind (arith, nat_tests) in
+    let counted : nat_le 18446744073709551616 (0 + length p.1.payload) ≡ false = grind (arith, nat_tests) in
+    let full : is_full (record s.waiting { buffer = buffer_state window (Some p.0) [] }) (length p.1.payload) ≡ false = neither _ _ few counted in
+    let early : is_late (Some p.0) p.0 ≡ false = grind (arith, nat_tests) in
+    let b = buffer_state window (Some p.0) [] in
+    ap (λ (f : Bool). cond f (cond (is_behind_stray s.stray p.0) pushes.Anew pushes.Stray) (jitter_answer (record s.waiting { buffer = b }) p)) near
+    ∙ ap (λ (f : Bool). cond f pushes.Full (as_pushed (push_answer b p.0))) full
+    ∙ ap (λ (l : Bool). as_pushed (cond l (frames.Late (distance_behind (Some p.0) p.0)) frames.Held)) early
+
+pub held_at_once : (s : Reception) (p : ℕ × RtpBody) → p.0 < 65536 → length p.1.payload < 18446744073709551616 → is_taken_at_once s p.0 ≡ true → pushes.Held ≡ reception_answer s p
+held_at_once s p small len is =
+    let b = s.waiting.buffer in
+    let at = none_held b.window b.due b.held p.0 (at_once s p.0 is).0 in
+    sym (ap (λ (h : List (ℕ × RtpBody)). answer_at s p (buffer_state b.window b.due h)) at.0 ∙ ap (λ (d : Option ℕ). answer_at s p (buffer_state b.window d [])) at.1 ∙ straight_answer s p b.window small len)
+
+-- one that was taken at this tick may be taken at another one
+taken_later : (now later : ℕ) (s t : Reception) (p : ℕ × RtpBody) → p.0 < 65536 → goes_straight s.waiting.buffer p.0 ≡ true →
+    IsDueTaken now (after_reception now s p pushes.Held) t → IsDueTaken later (after_reception now s p pushes.Held) t
+taken_later now later s t p small is it =
+    let same : Some p ≡ Some it.packet = sym (straight_is_due now now s.waiting p small is) ∙ it.due in
+    record { packet = it.packet; answer = it.answer; due = straight_is_due later now s.waiting p small is ∙ same; answered = it.answered; room = it.room; stands = it.stands }
+
+-- one more that was taken first
+one_before : (now : ℕ) (s t u : Reception) → s.frames.ended ≡ [] → IsDueTaken now s t → IsDrained now t u → IsDrained now s u
+one_before now s t u empty taken none = more none empty taken
+one_before now s t u empty taken (more before ended last) = more (one_before now s t _ empty taken before) ended last
+
+-- where the stream hasn't begun anew none is ended for that
+pub not_anew : (s : Reception) → s.is_anew ≡ false → ended_if_anew s ≡ s
+not_anew s is = by (has_no_unit s.frames.ended) s.is_anew is
+  where
+    by : (b c : Bool) → c ≡ false → cond (b && c) (record s { is_anew = false; frames = after_end s.frames; numbers = after_last s.numbers }) s ≡ s
+    by true false e = refl
+    by false c e = refl
+    by true true e = absurd (let bad = e in cc)
+
+-- what is given out next is the same whether a packet was taken at once or waited
+pub as_if_it_waited : (now later : ℕ) (s t new : Reception) (p : ℕ × RtpBody) (unit : Option ReceivedUnitValue) → p.0 < 65536 → IsPushed now s p pushes.Held t → IsNext later t new unit →
+    IsNext later (after_reception now s p pushes.Held) new unit
+as_if_it_waited now later s t new p unit small pushed next =
+    elim (is_taken_at_once s p.0) as (λ b. is_taken_at_once s p.0 ≡ b → MatchBool b (IsDueTaken now (after_reception now s p pushes.Held) t) (t ≡ after_reception now s p pushes.Held) → IsNext later (after_reception now s p pushes.Held) new unit) [
+      | true ↦ λ is taken.
+          let at = at_once s p.0 is in
+          let waits = after_reception now s p pushes.Held in
+          let empty : s.frames.ended ≡ [] = none_of_units s.frames.ended at.1 in
+          let anew : t.is_anew ≡ false = ap (λ (r : Reception). r.is_anew) taken.stands ∙ at.2 in
+          let rest : IsDrained later t next.drained = subst (λ (r : Reception). IsDrained later r next.drained) (not_anew t anew) next.taken in
+          let all : IsDrained later waits next.drained = one_before later waits t next.drained empty (taken_later now later s t p small at.0 taken) rest in
+          record {
+            drained = next.drained;
+            taken = subst (λ (r : Reception). IsDrained later r next.drained) (sym (not_anew waits at.2)) all;
+            until = next.until;
+            unit_is = next.unit_is;
+            stands = next.stands;
+          }
+      | false ↦ λ is stands. subst (λ (r : Reception). IsNext later r new unit) stands next
+    ] refl pushed
 
 -- before any was taken
 pub none_more : (now : ℕ) (s : Reception) → IsDrained now s s

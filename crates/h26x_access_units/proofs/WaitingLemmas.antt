@@ -1,12 +1,13 @@
 -- Packets that wait and their arrivals, where one comes and where one goes.
 use Rattle.std.proofs.Common.{◌≡◌, ◌∙◌, ap, sym, subst, refl, ℕ, ◌+◌, ◌<◌, true, false, List, [], ◌∷◌, ◌++◌, length, Option, Some, None, arith}
-use Rattle.std.specs.Prelude.{slice_get}
+use Rattle.std.specs.Prelude.{◌==◌, slice_get}
+use Rattle.std.proofs.lemmas.Bool.Decides.{nat_tests}
 use Rattle.std.specs.Option.{unwrap_or}
 use Rattle.h26x_receiver.specs.Sequence.{next_sequence_number, is_late}
 use Rattle.h26x_frames.specs.Rtp.{RtpBody}
-use Rattle.h26x_frames.specs.ReorderBuffer.{BufferState, buffer_state, due_at, put_packet, is_number_held, push_answer, after_push, without_first, IsHeldInOrder}
+use Rattle.h26x_frames.specs.ReorderBuffer.{BufferState, buffer_state, due_at, put_packet, is_number_held, goes_straight, push_answer, after_push, without_first, IsHeldInOrder}
 use Rattle.h26x_frames.specs.declared.pushed.Pushed.TheVariants as pushes
-use Rattle.h26x_frames.proofs.BufferLemmas.{order_at, put_in_order, rest_in_order}
+use Rattle.h26x_frames.proofs.BufferLemmas.{order_at, put_in_order, rest_in_order, none_held, straight_goes}
 use Rattle.h26x_access_units.specs.declared.arrival.Arrival.{Arrival}
 use Rattle.h26x_access_units.specs.Arrival.{arrival_of, without_number, not_passed, is_first_passed, from_at, AreArrivals, IsLetGo}
 use Rattle.h26x_access_units.proofs.PassedLemmas.{one_waits, first_stays, one_kept, early_is}
@@ -136,3 +137,43 @@ went_on b n p from since old new is stands order kept it =
       window = ap (λ (x : BufferState RtpBody). x.window) stands ∙ went.window;
       bytes = ap held_bytes held;
     }
+
+-- where none waits there is no arrival
+none_arrived : (from : ℕ) (due : Option ℕ) (arrivals : List Arrival) → AreArrivals from due [] arrivals → is_first_passed due arrivals ≡ false → arrivals ≡ []
+none_arrived from None arrivals kept first = kept
+none_arrived from (Some due) [] kept first = refl
+none_arrived from (Some due) (a ∷ arrivals) kept first = absurd (let bad = kept.each.0.waits first in cc)
+
+-- what stands once a packet went that needn't wait
+pub record WentStraight (b n : BufferState RtpBody) (number : ℕ) (arrivals : List Arrival) : Type 0 where
+  pub order : IsHeldInOrder n.due n.held
+  pub kept : AreArrivals (next_sequence_number number) n.due n.held arrivals
+  pub first : is_first_passed n.due arrivals ≡ false
+  pub waits : (now : ℕ) (body : RtpBody) → not_passed n.due arrivals ≡ without_arrival_of (after_push b (number, body)).held (not_passed b.due arrivals ++ arrival_of number now ∷ [])
+  pub window : n.window ≡ b.window
+  pub bytes : held_bytes n.held ≡ held_bytes b.held
+
+went_straight_at : (window number : ℕ) → number < 65536 → WentStraight (buffer_state window (Some number) []) (buffer_state window (Some (next_sequence_number number)) []) number []
+went_straight_at window number small = record {
+  order = (omega arith, tt);
+  kept = record { small = omega arith; span = omega arith; each = tt; own = tt };
+  first = refl;
+  waits = λ now body.
+      let early : is_late (Some number) number ≡ false = grind (arith, nat_tests) in
+      let same : (number == number) ≡ true = grind (arith, nat_tests) in
+      rw (early, same) refl;
+  window = refl;
+  bytes = refl;
+}
+
+pub went_straight : (b n : BufferState RtpBody) (from number : ℕ) (arrivals : List Arrival) → number < 65536 → goes_straight b number ≡ true → n ≡ buffer_state b.window (Some (next_sequence_number number)) b.held →
+    AreArrivals from b.due b.held arrivals → is_first_passed b.due arrivals ≡ false → WentStraight b n number arrivals
+went_straight b n from number arrivals small is stands kept first =
+    let at = none_held b.window b.due b.held number is in
+    let next = buffer_state b.window (Some (next_sequence_number number)) [] in
+    let goes : n ≡ next = stands ∙ ap (λ (h : List (ℕ × RtpBody)). buffer_state b.window (Some (next_sequence_number number)) h) at.0 in
+    let none : arrivals ≡ [] = none_arrived from b.due arrivals (subst (λ (h : List (ℕ × RtpBody)). AreArrivals from b.due h arrivals) at.0 kept) first in
+    subst (λ (x : BufferState RtpBody). WentStraight b x number arrivals) (sym goes)
+    (subst (λ (l : List Arrival). WentStraight b next number l) (sym none)
+    (subst (λ (h : List (ℕ × RtpBody)). WentStraight (buffer_state b.window b.due h) next number []) (sym at.0)
+    (subst (λ (d : Option ℕ). WentStraight (buffer_state b.window d []) next number []) (sym at.1) (went_straight_at b.window number small))))

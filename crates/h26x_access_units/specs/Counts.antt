@@ -1,14 +1,15 @@
 -- What a receiver counts (ours).
-use Rattle.std.specs.Prelude.{ℕ, ◌+◌, ◌-◌, ◌^◌, min, Bool, if◌then◌else◌, List, Result, Ok, Err}
+use Rattle.std.specs.Prelude.{ℕ, ◌+◌, ◌-◌, ◌^◌, min, Bool, if◌then◌else◌, Option, Result, Ok, Err}
 use Rattle.h26x_core.specs.declared.error.PacketError.{PacketError}
 use Rattle.h26x_receiver.specs.declared.received.Received.{Received}
 use Rattle.h26x_receiver.specs.declared.received.Received.TheVariants.{TooLong, Late}
+use Rattle.h26x_frames.specs.Rtp.{RtpBody}
 use Rattle.h26x_access_units.specs.declared.counts.Counts.{Counts}
 use Rattle.h26x_access_units.specs.declared.pushed.Pushed.{Pushed}
 use Rattle.h26x_access_units.specs.declared.pushed.Pushed.TheVariants as pushes
 use Rattle.h26x_access_units.specs.declared.pushed.NotPushedReason.{NotPushedReason}
 use Rattle.h26x_access_units.specs.declared.pushed.NotPushedReason.TheVariants as reasons
-use Rattle.h26x_access_units.specs.Numbers.{missing_told, bears_nothing}
+use Rattle.h26x_access_units.specs.Numbers.{missing_told, missing_up_to, bears_nothing}
 
 -- nothing was counted
 abbrev pub no_counts : Counts
@@ -63,11 +64,17 @@ counted_taken c answer text = record c {
   texts_given_up = count_up c.texts_given_up (if text then 1 else 0);
 }
 
--- a packet that was due
-abbrev pub counted_answer : Counts → Result Received PacketError → Bool → Counts
-counted_answer c (Ok (Late n)) text = record c { late = count_up c.late 1 }
-counted_answer c (Ok answer) text = counted_taken c answer text
-counted_answer c (Err error) text = record c { refused = count_up c.refused 1 }
+-- one that was refused: so many numbers are missing up to it, its own with them
+abbrev pub counted_refused : Counts → ℕ → Counts
+counted_refused c missing = record c {
+  refused = count_up c.refused 1;
+  lost = count_up c.lost missing;
+}
+
+-- one that was due and has a payload
+abbrev pub counted_answer : Counts → Received → Bool → Counts
+counted_answer c (Late n) text = record c { late = count_up c.late 1 }
+counted_answer c answer text = counted_taken c answer text
 
 -- a number that bears nothing
 abbrev pub counted_skip : Counts → Received → Counts
@@ -77,11 +84,12 @@ counted_skip c answer = record c {
   lost = count_up c.lost (missing_told answer);
 }
 
--- a packet that was due, with its payload
-abbrev pub counted_due : Counts → List ℕ → Result Received PacketError → Bool → Counts
-counted_due c payload (Ok answer) text =
-    if bears_nothing payload then counted_skip c answer else counted_answer c (Ok answer) text
-counted_due c payload (Err error) text = counted_answer c (Err error) text
+-- any packet that was due, where a number was expected
+abbrev pub counted_due : Option ℕ → Counts → ℕ × RtpBody → Result Received PacketError → Bool →
+    Counts
+counted_due expected c p (Ok answer) text =
+    if bears_nothing p.1.payload then counted_skip c answer else counted_answer c answer text
+counted_due expected c p (Err error) text = counted_refused c (missing_up_to expected p.0)
 
 -- an access unit that is given out
 abbrev pub counted_unit : Counts → Bool → Counts

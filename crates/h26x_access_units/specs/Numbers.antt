@@ -3,6 +3,7 @@ use Rattle.std.specs.Prelude.{ℕ, ◌+◌, ◌-◌, ◌^◌, ◌==◌, min, Boo
 use Rattle.h26x_core.specs.declared.error.PacketError.{PacketError}
 use Rattle.h26x_receiver.specs.declared.received.Received.{Received}
 use Rattle.h26x_receiver.specs.declared.received.Received.TheVariants.{Gap, TooLong, Late}
+use Rattle.h26x_receiver.specs.Sequenced.{skip_answer}
 use Rattle.h26x_frames.specs.Rtp.{RtpBody}
 use Rattle.h26x_access_units.specs.declared.numbers.UnitNumbers.{UnitNumbers}
 use Rattle.h26x_access_units.specs.declared.numbers.NumbersSoFar.{NumbersSoFar}
@@ -12,6 +13,16 @@ abbrev pub missing_told : Received → ℕ
 missing_told (Gap n) = n
 missing_told (TooLong n) = n
 missing_told answer = 0
+
+-- how many are missing up to a packet that was refused, its own with them, by what is told of those
+-- before it: none where it is late
+abbrev pub missing_with : Received → ℕ
+missing_with (Late n) = 0
+missing_with answer = missing_told answer + 1
+
+-- so where a number is expected
+abbrev pub missing_up_to : Option ℕ → ℕ → ℕ
+missing_up_to expected number = missing_with (skip_answer expected number)
 
 -- before any packet
 abbrev pub fresh_numbers : NumbersSoFar
@@ -66,7 +77,7 @@ numbers_ended None timestamp = None
 numbers_ended (Some unit) timestamp =
     if unit.timestamp == timestamp then None else Some unit
 
--- after a number that was skipped, before which so many are missing
+-- after a number that was skipped or refused, up to which so many are missing
 abbrev pub after_gap : NumbersSoFar → ℕ → NumbersSoFar
 after_gap n missing = record n { skipped_gap = missing_sum n.skipped_gap missing }
 
@@ -92,13 +103,13 @@ abbrev pub numbers_taken : NumbersSoFar → ℕ × RtpBody → Received → Numb
 numbers_taken n p (Late k) = n
 numbers_taken n p answer = after_packet n p (missing_told answer)
 
--- after any that was due; one that was refused changes nothing
-abbrev pub numbers_after : NumbersSoFar → ℕ × RtpBody → Result Received PacketError →
-    NumbersSoFar
-numbers_after n p (Ok answer) =
+-- after any that was due, where a number was expected; one that was refused is missing
+abbrev pub numbers_after : Option ℕ → NumbersSoFar → ℕ × RtpBody →
+    Result Received PacketError → NumbersSoFar
+numbers_after expected n p (Ok answer) =
     if bears_nothing p.1.payload then after_gap n (missing_told answer)
     else numbers_taken n p answer
-numbers_after n p (Err error) = n
+numbers_after expected n p (Err error) = after_gap n (missing_up_to expected p.0)
 
 -- after the end, which ends the access unit that is open
 abbrev pub after_last : NumbersSoFar → NumbersSoFar

@@ -1,5 +1,5 @@
 -- What a receiver of packets that come in any order does (RFC 3550, 5.1; ours).
-use Rattle.std.specs.Prelude.{◌≡◌, ℕ, ◌-◌, ◌^◌, ◌==◌, Bool, true, false, ◌&&◌, if◌then◌else◌, List, [], ◌∷◌, length, Option, Some, None, Result, Ok, Err, MatchBool}
+use Rattle.std.specs.Prelude.{◌≡◌, ℕ, ◌-◌, ◌^◌, ◌==◌, Bool, true, false, ◌&&◌, not, if◌then◌else◌, List, [], ◌∷◌, length, Option, Some, None, Result, Ok, Err, MatchBool}
 use Rattle.h26x_core.specs.declared.error.PacketError.{PacketError}
 use Rattle.h26x_core.specs.declared.error.PacketError.TheVariants.{OutOfMemory}
 use Rattle.h26x_model.specs.Receive.DepacketizerState.{DepacketizerState}
@@ -7,7 +7,8 @@ use Rattle.h26x_receiver.specs.declared.received.Received.{Received}
 use Rattle.h26x_receiver.specs.Sequence.{next_sequence_number}
 use Rattle.h26x_receiver.specs.Sequenced.{skip_answer}
 use Rattle.h26x_frames.specs.Rtp.{RtpBody}
-use Rattle.h26x_frames.specs.AccessUnit.{AccessUnitValue, UnitDepacketization, none_open, open_depacketization, IsUnitAnswer, is_text_given_up, after_rtp, after_unit_skip, after_end}
+use Rattle.h26x_frames.specs.ReorderBuffer.{goes_straight}
+use Rattle.h26x_frames.specs.AccessUnit.{AccessUnitValue, UnitDepacketization, none_open, open_depacketization, IsUnitAnswer, is_text_given_up, after_rtp, after_unit_skip, after_pass_over, after_end}
 use Rattle.h26x_access_units.specs.declared.config.AccessUnitConfig.{AccessUnitConfig}
 use Rattle.h26x_access_units.specs.declared.counts.Counts.{Counts}
 use Rattle.h26x_access_units.specs.declared.numbers.NumbersSoFar.{NumbersSoFar}
@@ -115,24 +116,31 @@ abbrev pub IsAnswerTo : ℕ → UnitDepacketization → ℕ × RtpBody → Resul
 IsAnswerTo most s p answer = MatchBool (bears_nothing p.1.payload)
     (answer ≡ Ok (skip_answer s.expected p.0)) (IsUnitAnswer most s p answer)
 
--- that receiver afterwards
+-- whether an answer says that memory lacks
+abbrev pub lacks_memory : Result Received PacketError → Bool
+lacks_memory (Err OutOfMemory) = true
+lacks_memory answer = false
+
+-- that receiver afterwards: one that is refused for what it is is passed over
 abbrev pub frames_after : ℕ → ℕ → UnitDepacketization → ℕ × RtpBody →
     Result Received PacketError → UnitDepacketization
-frames_after most limit s p answer =
-    if bears_nothing p.1.payload then after_unit_skip s p.0 else after_rtp most limit s p answer
+frames_after most limit s p (Ok answer) =
+    if bears_nothing p.1.payload then after_unit_skip s p.0
+    else after_rtp most limit s p (Ok answer)
+frames_after most limit s p (Err error) = after_pass_over s p.0
 
 -- the same once it forgot that a marker ended the last access unit: what goes on with that may be
 -- known to be whole too
 abbrev pub marker_forgotten : UnitDepacketization → UnitDepacketization
 marker_forgotten s = record s { closed = None }
 
--- after a packet that was due and was answered so: it waits no more
+-- after a packet that was due and was answered so, but for want of memory: it waits no more
 abbrev pub after_due : Reception → ℕ × RtpBody → Result Received PacketError → Reception
 after_due s p answer = record s {
   waiting = without_due s.waiting;
   frames = marker_forgotten (frames_after s.run_limit s.unit_limit s.frames p answer);
-  numbers = numbers_after s.numbers p answer;
-  counts = counted_due s.counts p.1.payload answer
+  numbers = numbers_after s.frames.expected s.numbers p answer;
+  counts = counted_due s.frames.expected s.counts p answer
       (is_text_given_up s.run_limit s.unit_limit s.frames p);
 }
 
@@ -144,6 +152,23 @@ pub record IsDueTaken (now : ℕ) (s new : Reception) : Type 0 where
   pub answered : IsAnswerTo s.run_limit s.frames packet answer
   pub room : answer ≡ Err OutOfMemory → ⊥
   pub stands : new ≡ after_due s packet answer
+
+-- whether a list has no entry
+abbrev pub has_no_unit : List AccessUnitValue → Bool
+has_no_unit [] = true
+has_no_unit (unit ∷ units) = false
+
+-- whether a packet that comes with this number is taken at once: it needn't wait, no access unit that
+-- ended is left, and the stream hasn't begun anew
+abbrev pub is_taken_at_once : Reception → ℕ → Bool
+is_taken_at_once s number = goes_straight s.waiting.buffer number
+    && (has_no_unit s.frames.ended && not s.is_anew)
+
+-- after a packet came, at this tick, that is answered so: where it is taken at once, it is as if it had
+-- waited and was taken then
+abbrev pub IsPushed : ℕ → Reception → ℕ × RtpBody → Pushed → Reception → Type 0
+IsPushed now s p answer new = MatchBool (is_taken_at_once s p.0)
+    (IsDueTaken now (after_reception now s p answer) new) (new ≡ after_reception now s p answer)
 
 -- packets that were due were taken, one after the other, as long as no access unit had ended
 pub data IsDrained (now : ℕ) (s : Reception) : Reception → Type 0 where
@@ -160,11 +185,6 @@ after_finish s = record s {
   frames = after_end s.frames;
   numbers = after_last s.numbers;
 }
-
--- whether a list has no entry
-abbrev pub has_no_unit : List AccessUnitValue → Bool
-has_no_unit [] = true
-has_no_unit (unit ∷ units) = false
 
 -- where the stream has begun anew, and no access unit that ended is left, the one that is open ends
 abbrev pub ended_if_anew : Reception → Reception

@@ -1,18 +1,21 @@
 //! Worked cases of the definitions, each the contract of a function without a result.
 
-ghost use Rattle.std.specs.Prelude.{◌≡◌, ℕ, List, true, false, ◌-◌, ◌^◌, None, Some, Ok, [], ◌∷◌};
+ghost use Rattle.std.specs.Prelude.{◌≡◌, ℕ, List, true, false, ◌-◌, ◌^◌, None, Some, Ok, Err, [], ◌∷◌};
 ghost use Rattle.h26x_access_units.specs.Arrival.{arrival_of, without_number, not_passed, is_first_passed, deadline_of, has_waited};
 ghost use Rattle.h26x_access_units.specs.Missing.{missing_numbers};
-ghost use Rattle.h26x_access_units.specs.Numbers.{missing_sum};
+ghost use Rattle.h26x_access_units.specs.Numbers.{missing_sum, missing_up_to, fresh_numbers, numbers_after};
 ghost use Rattle.h26x_access_units.specs.Counts.{no_counts, count_up, counted_due};
 ghost use Rattle.h26x_model.specs.Receive.DepacketizerState.{DepacketizerState};
 ghost use Rattle.h26x_receiver.specs.Sequence.{is_late};
 ghost use Rattle.h26x_frames.specs.Rtp.{rtp_body};
-ghost use Rattle.h26x_frames.specs.ReorderBuffer.{IsHeldInOrder};
+ghost use Rattle.h26x_frames.specs.ReorderBuffer.{buffer_state, IsHeldInOrder};
+ghost use Rattle.h26x_frames.specs.AccessUnit.{empty_unit};
+ghost use Rattle.h26x_access_units.specs.JitterBuffer.{fresh_jitter};
 ghost use Rattle.h26x_access_units.specs.declared.config.AccessUnitConfig.{AccessUnitConfig};
-ghost use Rattle.h26x_access_units.specs.Reception.{fresh_reception};
+ghost use Rattle.h26x_access_units.specs.Reception.{fresh_reception, is_taken_at_once};
 ghost use Rattle.h26x_access_units.specs.Limits.{IsWithinLimits};
 
+use h26x_core::PacketError;
 use h26x_receiver::Received;
 
 /// A packet that came 16 ticks before they go round, and may wait for 100: the 84th is the last.
@@ -76,9 +79,46 @@ pub fn counts_at_their_end()
 /// A text that was given up counts where its packet was taken, and none behind a number that was
 /// skipped.
 pub fn texts_that_are_counted()
-    ensures taken { (counted_due no_counts (0x61 ∷ []) (Ok Received.InOrder) true).texts_given_up ≡ 1 }
-    ensures stays { (counted_due no_counts (0x61 ∷ []) (Ok Received.InOrder) false).texts_given_up
-        ≡ 0 }
-    ensures late { (counted_due no_counts (0x61 ∷ []) (Ok (Received.Late 1)) true).texts_given_up ≡ 0 }
-    ensures skipped { (counted_due no_counts [] (Ok Received.InOrder) true).texts_given_up ≡ 0 }
+    ensures taken { (counted_due None no_counts (7, rtp_body 0 false (0x61 ∷ []))
+        (Ok Received.InOrder) true).texts_given_up ≡ 1 }
+    ensures stays { (counted_due None no_counts (7, rtp_body 0 false (0x61 ∷ []))
+        (Ok Received.InOrder) false).texts_given_up ≡ 0 }
+    ensures late { (counted_due None no_counts (7, rtp_body 0 false (0x61 ∷ []))
+        (Ok (Received.Late 1)) true).texts_given_up ≡ 0 }
+    ensures skipped { (counted_due None no_counts (7, rtp_body 0 false [])
+        (Ok Received.InOrder) true).texts_given_up ≡ 0 }
+{}
+
+/// A packet that is refused is missing, with those before it.
+pub fn packets_refused_that_are_counted()
+    ensures refused { (counted_due (Some 5) no_counts (7, rtp_body 0 false (0x61 ∷ []))
+        (Err PacketError.ErrShortPacket) false).refused ≡ 1 }
+    ensures lost { (counted_due (Some 5) no_counts (7, rtp_body 0 false (0x61 ∷ []))
+        (Err PacketError.ErrShortPacket) false).lost ≡ 3 }
+    ensures numbers { (numbers_after (Some 5) fresh_numbers (7, rtp_body 0 false (0x61 ∷ []))
+        (Err PacketError.ErrShortPacket)).skipped_gap ≡ 3 }
+    ensures in_order { missing_up_to (Some 7) 7 ≡ 1 }
+    ensures first { missing_up_to None 7 ≡ 1 }
+    ensures late { missing_up_to (Some 7) 6 ≡ 0 }
+{}
+
+/// A packet is taken at once where it is the one that is due, and nothing is before it: no packet that
+/// waits, no access unit that has ended, and no stream that has begun anew.
+pub fn packets_taken_at_once()
+    ensures due { (config : AccessUnitConfig) (state : DepacketizerState) →
+        let b = buffer_state 4 (Some 7) [] in let j = record (fresh_jitter config) { buffer = b } in
+        is_taken_at_once (record (fresh_reception config state) { waiting = j }) 7 ≡ true }
+    ensures waits { (config : AccessUnitConfig) (state : DepacketizerState) →
+        let b = buffer_state 4 (Some 7) ((9, rtp_body 0 false []) ∷ []) in
+        let j = record (fresh_jitter config) { buffer = b } in
+        is_taken_at_once (record (fresh_reception config state) { waiting = j }) 7 ≡ false }
+    ensures anew { (config : AccessUnitConfig) (state : DepacketizerState) →
+        let b = buffer_state 4 (Some 7) [] in let j = record (fresh_jitter config) { buffer = b } in
+        let s = record (fresh_reception config state) { waiting = j } in
+        is_taken_at_once (record s { is_anew = true }) 7 ≡ false }
+    ensures ended { (config : AccessUnitConfig) (state : DepacketizerState) →
+        let b = buffer_state 4 (Some 7) [] in let j = record (fresh_jitter config) { buffer = b } in
+        let s = record (fresh_reception config state) { waiting = j } in
+        let f = record s.frames { ended = empty_unit 0 ∷ [] } in
+        is_taken_at_once (record s { frames = f }) 7 ≡ false }
 {}

@@ -1,11 +1,10 @@
 //! What a receiver counts.
 
-ghost use Rattle.std.specs.Prelude.{◌≡◌};
-ghost use Rattle.h26x_access_units.specs.Counts.{no_counts, given_up, counted_answer, counted_skip, counted_due, counted_push, counted_reason, counted_dropped, counted_unit};
+ghost use Rattle.std.specs.Prelude.{◌≡◌, ℕ, Option, Ok};
+ghost use Rattle.h26x_access_units.specs.Counts.{no_counts, given_up, counted_answer, counted_refused, counted_skip, counted_due, counted_push, counted_reason, counted_dropped, counted_unit};
 
 use crate::numbers::missing_told;
 use crate::pushed::{NotPushedReason, Pushed};
-use h26x_core::PacketError;
 use h26x_frames::RtpPacket;
 use h26x_receiver::Received;
 
@@ -14,7 +13,8 @@ use h26x_receiver::Received;
 pub struct Counts {
     /// Packets that were taken, and not refused.
     pub taken: u64,
-    /// Numbers that are missing before packets that were taken, and before numbers that were skipped.
+    /// Numbers that are missing before packets that were taken, and before numbers that were skipped or
+    /// refused, these with them.
     pub lost: u64,
     /// Packets that came after their place was passed.
     pub late: u64,
@@ -100,20 +100,27 @@ impl Counts {
         self.lost = self.lost.saturating_add(dropped as u64);
     }
 
-    /// Counts what became of a packet that was due; where it was taken, whether a text was given up.
-    fn answer(&mut self, received: &Result<Received, PacketError>, text: bool)
-        ensures { self.new ≡ counted_answer self.old received.now text }
+    /// Counts a packet that was refused: so many numbers are missing up to it, its own with them.
+    pub(crate) fn refuse(&mut self, missing: u32)
+        ensures { self.new ≡ counted_refused self.old missing }
+    {
+        self.refused = self.refused.saturating_add(1);
+        self.lost = self.lost.saturating_add(u64::from(missing));
+    }
+
+    /// Counts what became of a packet with a payload; where it was taken, whether a text was given up.
+    fn answer(&mut self, received: Received, text: bool)
+        ensures { self.new ≡ counted_answer self.old received text }
     {
         match received {
-            Ok(Received::Late(_)) => self.late = self.late.saturating_add(1),
-            Ok(received) => {
-                let missing = u64::from(missing_told(*received));
+            Received::Late(_) => self.late = self.late.saturating_add(1),
+            _ => {
+                let missing = u64::from(missing_told(received));
                 self.taken = self.taken.saturating_add(1);
                 self.lost = self.lost.saturating_add(missing);
-                self.units_given_up = self.units_given_up.saturating_add(given_up(*received));
+                self.units_given_up = self.units_given_up.saturating_add(given_up(received));
                 self.texts_given_up = self.texts_given_up.saturating_add(u64::from(text));
             }
-            Err(_) => self.refused = self.refused.saturating_add(1),
         }
     }
 
@@ -131,18 +138,16 @@ impl Counts {
         }
     }
 
-    /// Counts what became of a packet that was due; where it was taken, whether a text was given up.
-    pub(crate) fn note(
-        &mut self,
-        packet: &RtpPacket<'_>,
-        received: &Result<Received, PacketError>,
-        text: bool,
-    )
-        ensures { self.new ≡ counted_due self.old packet.now.1.payload received.now text }
+    /// Counts what became of a packet that was due, and not refused; where it was taken, whether a text
+    /// was given up.
+    pub(crate) fn note(&mut self, packet: &RtpPacket<'_>, received: Received, text: bool)
+        ensures { (expected : Option ℕ) →
+            self.new ≡ counted_due expected self.old packet.now (Ok received) text }
     {
-        match received {
-            Ok(received) if packet.payload.is_empty() => self.skip(*received),
-            _ => self.answer(received, text),
+        if packet.payload.is_empty() {
+            self.skip(received);
+        } else {
+            self.answer(received, text);
         }
     }
 

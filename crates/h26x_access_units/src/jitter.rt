@@ -1,8 +1,9 @@
 //! Packets that wait for those before them, by a window, by time and by bytes.
 
-ghost use Rattle.std.specs.Prelude.{◌≡◌, ◌+◌, ◌^◌, ◌<◌, ◌≤◌, ◌==◌, ◌++◌, true, false, IfOk, IfErr, OnOk, OnErr, MatchOption, length, slice_get};
+ghost use Rattle.std.specs.Prelude.{◌≡◌, ℕ, ◌+◌, ◌^◌, ◌<◌, ◌≤◌, ◌==◌, ◌++◌, true, false, IfOk, IfErr, OnOk, OnErr, MatchOption, length, slice_get};
 ghost use Rattle.std.specs.Option.{option_map};
-ghost use Rattle.h26x_frames.specs.ReorderBuffer.{numbered_packet};
+ghost use Rattle.h26x_frames.specs.Rtp.{RtpBody};
+ghost use Rattle.h26x_frames.specs.ReorderBuffer.{numbered_packet, goes_straight};
 ghost use Rattle.h26x_access_units.specs.Arrival.{deadline_of, has_waited};
 ghost use Rattle.h26x_access_units.specs.Pushed.{IsNotPushedReason};
 ghost use Rattle.h26x_access_units.specs.Missing.{numbers_from, missing_numbers, AreExactlyMissing};
@@ -220,6 +221,32 @@ impl JitterBuffer {
         }
     }
 
+    /// Whether a packet with this number needn't wait: none does, and it is the one that is due.
+    #[inline]
+    pub fn goes_straight(&self, number: u16) -> bool
+        ensures { result ≡ goes_straight self.now.buffer number }
+    {
+        self.buffer.goes_straight(number)
+    }
+
+    /// The packet with this number, which needn't wait, was taken: it is as if it had waited and gone.
+    #[inline]
+    pub fn pass(&mut self, number: u16)
+        requires { goes_straight self.old.buffer number ≡ true }
+        ensures { (now : ℕ) (body : RtpBody) → self.new
+            ≡ without_due (with_packet now self.old (number, body)) }
+    {
+        self.buffer.pass(number);
+        self.from = number.wrapping_add(1);
+    }
+
+    /// Takes back a packet that doesn't wait, for its memory, as [`ReorderBuffer::give_back`] does.
+    pub fn give_back(&mut self, packet: HeldPacket)
+        ensures { self.new ≡ self.old }
+    {
+        self.buffer.give_back(packet);
+    }
+
     /// Whether the first packet isn't to wait for those before it.
     fn is_pressed(&self, now: u32) -> bool
         ensures { result ≡ is_pressed now self.now }
@@ -272,7 +299,7 @@ impl JitterBuffer {
         ensures { self.new ≡ without_due self.old }
     {
         if let Some(packet) = self.pop_first() {
-            self.buffer.give_back(packet);
+            self.give_back(packet);
         }
     }
 

@@ -1,9 +1,8 @@
 //! The sequence numbers of the packets of access units.
 
-ghost use Rattle.std.specs.Prelude.{◌≡◌};
-ghost use Rattle.h26x_access_units.specs.Numbers.{fresh_numbers, unit_numbers, after_gap, after_packet, missing_told, first_ended, without_first_ended, after_last, numbers_after};
+ghost use Rattle.std.specs.Prelude.{◌≡◌, ℕ, Option, Ok};
+ghost use Rattle.h26x_access_units.specs.Numbers.{fresh_numbers, unit_numbers, after_gap, after_packet, missing_told, missing_with, first_ended, without_first_ended, after_last, numbers_after};
 
-use h26x_core::PacketError;
 use h26x_frames::RtpPacket;
 use h26x_receiver::Received;
 
@@ -46,6 +45,17 @@ pub(crate) struct NumbersSoFar {
     pub ended: Option<UnitNumbers>,
     /// Those of the access unit that the marker ended, until it is given out.
     pub ended_by_marker: Option<UnitNumbers>,
+}
+
+/// How many numbers are missing up to a packet that was refused, its own with them, by what is told of
+/// those before it.
+pub(crate) fn missing_with(received: Received) -> u32
+    ensures { result ≡ missing_with received }
+{
+    match received {
+        Received::Late(_) => 0,
+        answer => u32::from(missing_told(answer)) + 1,
+    }
 }
 
 /// How many numbers an answer tells to be missing.
@@ -93,11 +103,11 @@ impl NumbersSoFar {
         }
     }
 
-    /// A number was skipped, and so many are missing before it.
-    pub(crate) fn skip(&mut self, missing: u16)
+    /// A number was skipped or refused, and so many are missing up to it.
+    pub(crate) fn skip(&mut self, missing: u32)
         ensures { self.new ≡ after_gap self.old missing }
     {
-        self.skipped_gap = self.skipped_gap.saturating_add(u32::from(missing));
+        self.skipped_gap = self.skipped_gap.saturating_add(missing);
     }
 
     /// A packet was taken, and so many are missing before it.
@@ -129,14 +139,15 @@ impl NumbersSoFar {
         };
     }
 
-    /// Notes what became of a packet that was due.
-    pub(crate) fn note(&mut self, packet: &RtpPacket<'_>, received: &Result<Received, PacketError>)
-        ensures { self.new ≡ numbers_after self.old packet.now received.now }
+    /// Notes what became of a packet that was due, and not refused.
+    pub(crate) fn note(&mut self, packet: &RtpPacket<'_>, received: Received)
+        ensures { (expected : Option ℕ) →
+            self.new ≡ numbers_after expected self.old packet.now (Ok received) }
     {
-        match received {
-            Ok(received) if packet.payload.is_empty() => self.skip(missing_told(*received)),
-            Ok(received) if received.is_taken() => self.take(packet, missing_told(*received)),
-            _ => {}
+        if packet.payload.is_empty() {
+            self.skip(u32::from(missing_told(received)));
+        } else if received.is_taken() {
+            self.take(packet, missing_told(received));
         }
     }
 

@@ -8,7 +8,7 @@ use h26x_frames::{HeldPacket, NotHeldReason};
 /// What became of a packet that was given to a receiver.
 #[derive(Debug, Clone, Copy, PartialEq, Eq)]
 pub enum Pushed {
-    /// It waits for those before it, or to be taken.
+    /// It waits for those before it, or to be taken, or was taken.
     Held,
 
     /// It is dropped: its number is so far behind the one that is due.

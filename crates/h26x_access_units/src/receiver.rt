@@ -1,26 +1,26 @@
 //! A receiver that takes packets as they come and gives out access units.
 
-ghost use Rattle.std.specs.Prelude.{◌≡◌, ◌^◌, ◌<◌, ◌≤◌, ◌↔◌, ◌⊎◌, IsTrue, true, false, not, [], None, Err, IfOk, OnOk, OnErr, IfErr, MatchBool, length, map};
+ghost use Rattle.std.specs.Prelude.{◌≡◌, ℕ, ◌^◌, ◌<◌, ◌≤◌, ◌↔◌, ◌⊎◌, IsTrue, true, false, not, [], None, Ok, Err, IfOk, OnOk, OnErr, IfErr, MatchBool, length, map};
 ghost use Rattle.std.specs.Option.{option_map};
 ghost use Rattle.h26x_receiver.specs.Sequenced.{is_taken};
 ghost use Rattle.h26x_frames.specs.AccessUnit.{is_text_given_up};
 ghost use Rattle.h26x_frames.specs.Rtp.{rtp_body};
 ghost use Rattle.h26x_frames.specs.ReorderBuffer.{numbered_packet};
 ghost use Rattle.h26x_access_units.specs.Pushed.{IsNotPushedReason};
-ghost use Rattle.h26x_access_units.specs.Counts.{counted_reason};
+ghost use Rattle.h26x_access_units.specs.Counts.{counted_reason, counted_due};
 ghost use Rattle.h26x_frames.specs.Receiver.{frames_at};
 ghost use Rattle.h26x_access_units.specs.Arrival.{deadline_of};
 ghost use Rattle.h26x_access_units.specs.JitterBuffer.{is_far, due_packet};
 ghost use Rattle.h26x_access_units.specs.Missing.{missing_numbers, AreExactlyMissing};
-ghost use Rattle.h26x_access_units.specs.Numbers.{bears_nothing};
+ghost use Rattle.h26x_access_units.specs.Numbers.{bears_nothing, numbers_after};
 ghost use Rattle.h26x_access_units.specs.ReceivedUnit.{received_unit_value};
-ghost use Rattle.h26x_access_units.specs.Reception.{fresh_reception, reception_answer, after_reception, has_no_unit, ended_if_anew, ended_if_over, restarted, unit_given, without_given, frames_after, IsAnswerTo, IsDueTaken, IsDrained, IsNext};
+ghost use Rattle.h26x_access_units.specs.Reception.{fresh_reception, reception_answer, after_reception, has_no_unit, ended_if_anew, ended_if_over, restarted, unit_given, without_given, frames_after, lacks_memory, marker_forgotten, is_taken_at_once, IsAnswerTo, IsDueTaken, IsPushed, IsDrained, IsNext};
 ghost use Rattle.h26x_access_units.specs.Limits.{StaysWithinLimits};
 
 use crate::config::AccessUnitConfig;
 use crate::counts::Counts;
 use crate::jitter::JitterBuffer;
-use crate::numbers::NumbersSoFar;
+use crate::numbers::{NumbersSoFar, missing_with};
 use crate::pushed::{NotPushed, NotPushedReason, Pushed};
 use crate::unit::{ReceivedUnit, is_keyframe};
 use h26x_core::PacketError;
@@ -44,7 +44,7 @@ pub struct AccessUnitReceiver<D: RunDepacketizer> {
 
 /// Whether an answer says that memory lacks.
 fn is_want_of_memory(received: &Result<Received, PacketError>) -> bool
-    ensures { IsTrue result ↔ (received.now ≡ Err PacketError.OutOfMemory) }
+    ensures { result ≡ lacks_memory received.now }
 {
     matches!(received, Err(PacketError::OutOfMemory))
 }
@@ -57,19 +57,66 @@ fn take_packet<D: RunDepacketizer>(
 ) -> Result<Received, PacketError>
     ensures answer { IsAnswerTo frames.old.packets.run_limit
         (frames_at D.state frames.old ended.old.items) packet.now result }
-    ensures after { frames_at D.state frames.new ended.new.items
+    ensures after { IfOk result (λ received. frames_at D.state frames.new ended.new.items
         ≡ frames_after frames.old.packets.run_limit frames.old.unit_limit
-        (frames_at D.state frames.old ended.old.items) packet.now result }
+        (frames_at D.state frames.old ended.old.items) packet.now (Ok received)) }
     ensures limit { frames.new.packets.run_limit ≡ frames.old.packets.run_limit }
     ensures unit_limit { frames.new.unit_limit ≡ frames.old.unit_limit }
     ensures text { bears_nothing packet.now.1.payload ≡ false → is_taken result ≡ true →
         frames.new.is_text_given_up ≡ is_text_given_up frames.old.packets.run_limit
         frames.old.unit_limit (frames_at D.state frames.old ended.old.items) packet.now }
+    ensures kept { OnErr result (frames.new ≡ frames.old) }
+    ensures kept_ended { OnErr result (ended.new.items ≡ ended.old.items) }
 {
     if packet.payload.is_empty() {
         Ok(frames.skip(packet.sequence))
     } else {
         frames.receive(packet, ended)
+    }
+}
+
+/// Gives it a packet that is due, passes over one that it refuses, and notes what became of it. Without
+/// memory all stays as it was.
+fn take_noted<D: RunDepacketizer>(
+    frames: &mut FrameReceiver<D>,
+    ended: &mut Vec<AccessUnit>,
+    numbers: &mut NumbersSoFar,
+    counts: &mut Counts,
+    packet: &RtpPacket<'_>,
+) -> Result<Received, PacketError>
+    ensures answer { IsAnswerTo frames.old.packets.run_limit
+        (frames_at D.state frames.old ended.old.items) packet.now result }
+    ensures after { lacks_memory result ≡ false → frames_at D.state frames.new ended.new.items
+        ≡ marker_forgotten (frames_after frames.old.packets.run_limit frames.old.unit_limit
+        (frames_at D.state frames.old ended.old.items) packet.now result) }
+    ensures numbers { lacks_memory result ≡ false → numbers.new
+        ≡ numbers_after frames.old.packets.expected numbers.old packet.now result }
+    ensures counts { lacks_memory result ≡ false → counts.new
+        ≡ counted_due frames.old.packets.expected counts.old packet.now result (is_text_given_up
+        frames.old.packets.run_limit frames.old.unit_limit
+        (frames_at D.state frames.old ended.old.items) packet.now) }
+    ensures limit { frames.new.packets.run_limit ≡ frames.old.packets.run_limit }
+    ensures unit_limit { frames.new.unit_limit ≡ frames.old.unit_limit }
+    ensures kept { lacks_memory result ≡ true → frames_at D.state frames.new ended.new.items
+        ≡ frames_at D.state frames.old ended.old.items }
+    ensures kept_numbers { lacks_memory result ≡ true → numbers.new ≡ numbers.old }
+    ensures kept_counts { lacks_memory result ≡ true → counts.new ≡ counts.old }
+{
+    match take_packet(frames, packet, ended) {
+        Ok(received) => {
+            frames.forget_marker();
+            numbers.note(packet, received);
+            counts.note(packet, received, frames.is_text_given_up);
+            Ok(received)
+        }
+        Err(PacketError::OutOfMemory) => Err(PacketError::OutOfMemory),
+        Err(error) => {
+            let missing = missing_with(frames.pass_over(packet.sequence));
+            frames.forget_marker();
+            numbers.skip(missing);
+            counts.refuse(missing);
+            Err(error)
+        }
     }
 }
 
@@ -122,14 +169,15 @@ impl<D: RunDepacketizer> AccessUnitReceiver<D> {
         }
     }
 
-    /// Takes a packet that came at this tick, and copies it if it is to wait. One without a payload
-    /// came and bears nothing. Without memory all stays as it was, and it can be given again.
+    /// Takes a packet that came at this tick, and copies it if it is to wait: the one that is due is
+    /// taken at once, where none waits and no access unit has ended that `next` hasn't given out. One
+    /// without a payload came and bears nothing. Without memory all stays as it was, and it can be
+    /// given again.
     pub fn push(&mut self, now: u32, packet: &RtpPacket<'_>) -> Result<Pushed, PacketError>
         ensures answer { let r = ⟦<AccessUnitReceiver<D> as Receives>⟧.reception in
             IfOk result (λ answer. answer ≡ reception_answer (r self.old) packet.now) }
         ensures after { let r = ⟦<AccessUnitReceiver<D> as Receives>⟧.reception in
-            IfOk result (λ answer.
-            r self.new ≡ after_reception now (r self.old) packet.now answer) }
+            IfOk result (λ answer. IsPushed now (r self.old) packet.now answer (r self.new)) }
         ensures memory { OnErr result (result ≡ Err PacketError.OutOfMemory) }
         ensures kept { let r = ⟦<AccessUnitReceiver<D> as Receives>⟧.reception in
             OnErr result (r self.new ≡ r self.old) }
@@ -138,12 +186,74 @@ impl<D: RunDepacketizer> AccessUnitReceiver<D> {
         ensures bounded { let r = ⟦<AccessUnitReceiver<D> as Receives>⟧.reception in
             StaysWithinLimits (length packet.now.1.payload) (r self.old) (r self.new) }
     {
+        if self.takes_at_once(packet.sequence) {
+            self.take_at_once(packet)?;
+            return Ok(Pushed::Held);
+        }
         if self.waiting.is_far(packet.sequence) {
             return self.push_far(now, packet);
         }
         let pushed = self.waiting.push(now, packet)?;
         self.counts.push(pushed);
         Ok(pushed)
+    }
+
+    /// Whether a packet with this number is taken at once.
+    fn takes_at_once(&self, number: u16) -> bool
+        ensures { let r = ⟦<AccessUnitReceiver<D> as Receives>⟧.reception in
+            result ≡ is_taken_at_once (r self.now) number }
+    {
+        self.waiting.goes_straight(number) && !self.has_ended() && !self.is_anew
+    }
+
+    /// Takes a packet at once, which waits no more than one that is due.
+    fn take_at_once(&mut self, packet: &RtpPacket<'_>) -> Result<(), PacketError>
+        requires { let r = ⟦<AccessUnitReceiver<D> as Receives>⟧.reception in
+            is_taken_at_once (r self.old) packet.now.0 ≡ true }
+        ensures taken { let r = ⟦<AccessUnitReceiver<D> as Receives>⟧.reception in
+            OnOk result ((now : ℕ) → IsDueTaken now
+            (after_reception now (r self.old) packet.now Pushed.Held) (r self.new)) }
+        ensures memory { OnErr result (result ≡ Err PacketError.OutOfMemory) }
+        ensures kept { let r = ⟦<AccessUnitReceiver<D> as Receives>⟧.reception in
+            OnErr result (r self.new ≡ r self.old) }
+    {
+        let received = take_noted(
+            &mut self.frames,
+            &mut self.ended,
+            &mut self.numbers,
+            &mut self.counts,
+            packet,
+        );
+        if is_want_of_memory(&received) {
+            return Err(PacketError::OutOfMemory);
+        }
+        self.waiting.pass(packet.sequence);
+        Ok(())
+    }
+
+    /// So of one that has memory of its own, which is kept for another one.
+    fn take_held_at_once(&mut self, packet: HeldPacket) -> Result<Pushed, NotPushed>
+        requires { let r = ⟦<AccessUnitReceiver<D> as Receives>⟧.reception in
+            is_taken_at_once (r self.old) packet.sequence ≡ true }
+        ensures answer { IfOk result (λ answer. answer ≡ Pushed.Held) }
+        ensures taken { let r = ⟦<AccessUnitReceiver<D> as Receives>⟧.reception in
+            OnOk result ((now : ℕ) → IsDueTaken now
+            (after_reception now (r self.old) (numbered_packet packet) Pushed.Held) (r self.new)) }
+        ensures back { IfErr result (λ it. it.packet ≡ packet) }
+        ensures reason { IfErr result (λ it. it.reason ≡ NotPushedReason.OutOfMemory) }
+        ensures kept { let r = ⟦<AccessUnitReceiver<D> as Receives>⟧.reception in
+            OnErr result (r self.new ≡ r self.old) }
+    {
+        match self.take_at_once(&packet.packet()) {
+            Ok(()) => {
+                self.waiting.give_back(packet);
+                Ok(Pushed::Held)
+            }
+            Err(_) => Err(NotPushed {
+                packet,
+                reason: NotPushedReason::OutOfMemory,
+            }),
+        }
     }
 
     /// Takes a packet that is too far from the one that is due.
@@ -202,7 +312,7 @@ impl<D: RunDepacketizer> AccessUnitReceiver<D> {
             answer ≡ reception_answer (r self.old) (numbered_packet packet)) }
         ensures after { let r = ⟦<AccessUnitReceiver<D> as Receives>⟧.reception in
             IfOk result (λ answer.
-            r self.new ≡ after_reception now (r self.old) (numbered_packet packet) answer) }
+            IsPushed now (r self.old) (numbered_packet packet) answer (r self.new)) }
         ensures back { IfErr result (λ it. it.packet ≡ packet) }
         ensures reason { let r = ⟦<AccessUnitReceiver<D> as Receives>⟧.reception in
             IfErr result (λ it. IsNotPushedReason
@@ -216,6 +326,9 @@ impl<D: RunDepacketizer> AccessUnitReceiver<D> {
         ensures bounded { let r = ⟦<AccessUnitReceiver<D> as Receives>⟧.reception in
             StaysWithinLimits (length packet.payload.items) (r self.old) (r self.new) }
     {
+        if self.takes_at_once(packet.sequence) {
+            return self.take_held_at_once(packet);
+        }
         if self.waiting.is_far(packet.sequence) {
             return match self.push_far(now, &packet.packet()) {
                 Ok(pushed) => Ok(pushed),
@@ -241,8 +354,8 @@ impl<D: RunDepacketizer> AccessUnitReceiver<D> {
             IfOk result (λ answer.
             answer ≡ reception_answer (r self.old) (sequence, rtp_body 0 false [])) }
         ensures after { let r = ⟦<AccessUnitReceiver<D> as Receives>⟧.reception in
-            IfOk result (λ answer.
-            r self.new ≡ after_reception now (r self.old) (sequence, rtp_body 0 false []) answer) }
+            IfOk result (λ answer. IsPushed now (r self.old) (sequence, rtp_body 0 false []) answer
+            (r self.new)) }
         ensures memory { OnErr result (result ≡ Err PacketError.OutOfMemory) }
         ensures kept { let r = ⟦<AccessUnitReceiver<D> as Receives>⟧.reception in
             OnErr result (r self.new ≡ r self.old) }
@@ -271,14 +384,16 @@ impl<D: RunDepacketizer> AccessUnitReceiver<D> {
             Some(held) => held.packet(),
             None => return Ok(false),
         };
-        let received = take_packet(&mut self.frames, &packet, &mut self.ended);
+        let received = take_noted(
+            &mut self.frames,
+            &mut self.ended,
+            &mut self.numbers,
+            &mut self.counts,
+            &packet,
+        );
         if is_want_of_memory(&received) {
             return Err(PacketError::OutOfMemory);
         }
-        self.frames.forget_marker();
-        self.numbers.note(&packet, &received);
-        self.counts
-            .note(&packet, &received, self.frames.is_text_given_up);
         self.waiting.drop_first();
         Ok(true)
     }

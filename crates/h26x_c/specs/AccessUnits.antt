@@ -1,11 +1,13 @@
 -- What a caller of C sets and is told, and what a call for the next access unit answers.
-use Rattle.std.specs.Prelude.{◌≡◌, ℕ, List, Result}
+use Rattle.std.specs.Prelude.{◌≡◌, ◌≢◌, ℕ, List, Option, Some, Result}
+use Rattle.h26x_frames.specs.Rtp.{RtpBody}
 use Rattle.h26x_access_units.specs.declared.config.AccessUnitConfig.{AccessUnitConfig}
 use Rattle.h26x_access_units.specs.declared.counts.Counts as counted
 use Rattle.h26x_c.specs.declared.access_units.Config.{Config}
 use Rattle.h26x_c.specs.declared.access_units.Counts.{Counts}
 use Rattle.h26x_codec.specs.declared.codec.Codec.{Codec}
-use Rattle.h26x_handles.specs.UnitsState.{UnitsState, units_codec_or_code, fresh_access_units, next_numbers, IsUnitGiven}
+use Rattle.h26x_handles.specs.Codes.{out_of_memory}
+use Rattle.h26x_handles.specs.UnitsState.{UnitsState, units_codec_or_code, fresh_access_units, next_numbers, IsUnitsPushed, IsUnitGiven}
 use Rattle.h26x_handles.specs.declared.access_units.NextAnswer.{NextAnswer}
 use Rattle.h26x_handles.specs.declared.access_units.UnitTold.{UnitTold}
 
@@ -51,3 +53,14 @@ abbrev pub IsNextCode : ℕ → UnitsState → UnitsState → List ℕ → List 
     Type 0
 IsNextCode now it new to new_to code told new_told = (answer : NextAnswer)
     × ((code, new_told) ≡ next_numbers answer told) × IsUnitGiven now it new to new_to answer
+
+-- the same of what stood and stands behind a handle, if access units do, unless memory lacked
+abbrev pub IsNextOf : ℕ → Option UnitsState → Option UnitsState → List ℕ → List ℕ → ℕ → UnitTold →
+    UnitTold → Type 0
+IsNextOf now old new to new_to code told new_told =
+    (it : UnitsState) → old ≡ Some it → code ≢ out_of_memory → (next : UnitsState)
+    × (new ≡ Some next) × IsNextCode now it next to new_to code told new_told
+
+-- a packet came to what stood behind a handle at this tick, and this stands behind it now
+abbrev pub IsPushedTo : ℕ → ℕ × RtpBody → UnitsState → Option UnitsState → Type 0
+IsPushedTo now p it new = (next : UnitsState) × (new ≡ Some next) × IsUnitsPushed now p it next

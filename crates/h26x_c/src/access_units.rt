@@ -1,13 +1,14 @@
 //! The calls of a receiver of access units, of packets as a network brings them.
 
 ghost use Rattle.std.specs.Prelude.{◌≡◌, ◌≢◌, ◌⊎◌, ◌<◌, ℕ, [], true, false, Some, None, Ok, Err, length};
+ghost use Rattle.h26x_model.specs.Where.{Where};
 ghost use Rattle.h26x_codec.specs.declared.codec.Codec.{Codec};
 ghost use Rattle.h26x_frames.specs.Rtp.{rtp_body};
 ghost use Rattle.h26x_handles.specs.AccessUnits.{is_access_units, endpoint_units, endpoint_deadline, endpoint_missing};
-ghost use Rattle.h26x_handles.specs.UnitsState.{UnitsState, pushed_numbers, units_push_answer, units_after_push, units_finished, units_restarted, IsOutOfMemory};
+ghost use Rattle.h26x_handles.specs.UnitsState.{UnitsState, pushed_numbers, units_push_answer, units_finished, units_restarted, IsOutOfMemory};
 ghost use Rattle.h26x_handles.specs.Codes.{ok, out_of_memory, wrong_end};
 ghost use Rattle.h26x_handles.specs.Copies.{with_first};
-ghost use Rattle.h26x_c.specs.AccessUnits.{config_codec_or_code, fresh_units_with, units_config, counts_told, IsNextCode};
+ghost use Rattle.h26x_c.specs.AccessUnits.{config_codec_or_code, fresh_units_with, units_config, counts_told, IsPushedTo, IsNextOf};
 
 use crate::const_handle::ConstHandle;
 use crate::handle::Handle;
@@ -136,13 +137,15 @@ pub extern "C" fn h26x_access_units_push(
     ensures wrong { is_access_units u.old.value ≡ false → (result ≡ wrong_end)
         × (u.new.value ≡ u.old.value) }
     ensures answer { is_access_units u.old.value ≡ true → (result ≡ ok) ⊎ (result ≡ out_of_memory) }
-    ensures told { let v = ⟦<AccessUnitEndpoint as GivesUnits>⟧.units in (it : UnitsState) →
-        endpoint_units v u.old.value ≡ Some it → result ≡ ok →
-        (pushed.new, behind.new) ≡ pushed_numbers
-        (units_push_answer it (sequence, rtp_body timestamp marker payload.now)) }
-    ensures after { let v = ⟦<AccessUnitEndpoint as GivesUnits>⟧.units in (it : UnitsState) →
-        endpoint_units v u.old.value ≡ Some it → result ≡ ok → endpoint_units v u.new.value
-        ≡ Some (units_after_push now (sequence, rtp_body timestamp marker payload.now) it) }
+    ensures told { let v = ⟦<AccessUnitEndpoint as GivesUnits>⟧.units in
+        Where (endpoint_units v u.old.value)
+        (λ it. result ≡ ok → (pushed.new, behind.new) ≡ pushed_numbers (units_push_answer it
+        (sequence, rtp_body timestamp marker payload.now))) }
+    ensures after { let v = ⟦<AccessUnitEndpoint as GivesUnits>⟧.units in
+        Where (endpoint_units v u.old.value)
+        (λ it. result ≡ ok →
+        IsPushedTo now (sequence, rtp_body timestamp marker payload.now) it
+        (endpoint_units v u.new.value)) }
     ensures kept { let v = ⟦<AccessUnitEndpoint as GivesUnits>⟧.units in
         result ≢ ok → endpoint_units v u.new.value ≡ endpoint_units v u.old.value }
     ensures kept_told { result ≢ ok → (pushed.new ≡ pushed.old) × (behind.new ≡ behind.old) }
@@ -177,13 +180,14 @@ pub extern "C" fn h26x_access_units_skip(
     ensures wrong { is_access_units u.old.value ≡ false → (result ≡ wrong_end)
         × (u.new.value ≡ u.old.value) }
     ensures answer { is_access_units u.old.value ≡ true → (result ≡ ok) ⊎ (result ≡ out_of_memory) }
-    ensures told { let v = ⟦<AccessUnitEndpoint as GivesUnits>⟧.units in (it : UnitsState) →
-        endpoint_units v u.old.value ≡ Some it → result ≡ ok →
-        (pushed.new, behind.new) ≡ pushed_numbers
-        (units_push_answer it (sequence, rtp_body 0 false [])) }
-    ensures after { let v = ⟦<AccessUnitEndpoint as GivesUnits>⟧.units in (it : UnitsState) →
-        endpoint_units v u.old.value ≡ Some it → result ≡ ok → endpoint_units v u.new.value
-        ≡ Some (units_after_push now (sequence, rtp_body 0 false []) it) }
+    ensures told { let v = ⟦<AccessUnitEndpoint as GivesUnits>⟧.units in
+        Where (endpoint_units v u.old.value)
+        (λ it. result ≡ ok → (pushed.new, behind.new) ≡ pushed_numbers (units_push_answer it
+        (sequence, rtp_body 0 false []))) }
+    ensures after { let v = ⟦<AccessUnitEndpoint as GivesUnits>⟧.units in
+        Where (endpoint_units v u.old.value)
+        (λ it. result ≡ ok →
+        IsPushedTo now (sequence, rtp_body 0 false []) it (endpoint_units v u.new.value)) }
     ensures kept { let v = ⟦<AccessUnitEndpoint as GivesUnits>⟧.units in
         result ≢ ok → endpoint_units v u.new.value ≡ endpoint_units v u.old.value }
     ensures kept_told { result ≢ ok → (pushed.new ≡ pushed.old) × (behind.new ≡ behind.old) }
@@ -212,13 +216,13 @@ pub extern "C" fn h26x_access_units_next(
         × (u.new.value ≡ u.old.value) }
     ensures kept { is_access_units u.old.value ≡ false → (to.new ≡ to.old)
         × (unit.new ≡ unit.old) }
-    ensures given { let v = ⟦<AccessUnitEndpoint as GivesUnits>⟧.units in (it : UnitsState) →
-        endpoint_units v u.old.value ≡ Some it → result ≢ out_of_memory → (new : UnitsState)
-        × (endpoint_units v u.new.value ≡ Some new)
-        × IsNextCode now it new to.old to.new result unit.old unit.new }
-    ensures taken { let v = ⟦<AccessUnitEndpoint as GivesUnits>⟧.units in (it : UnitsState) →
-        endpoint_units v u.old.value ≡ Some it → result ≡ out_of_memory → (new : UnitsState)
-        × (endpoint_units v u.new.value ≡ Some new) × IsOutOfMemory now it new }
+    ensures given { let v = ⟦<AccessUnitEndpoint as GivesUnits>⟧.units in
+        IsNextOf now (endpoint_units v u.old.value) (endpoint_units v u.new.value)
+        to.old to.new result unit.old unit.new }
+    ensures taken { let v = ⟦<AccessUnitEndpoint as GivesUnits>⟧.units in
+        Where (endpoint_units v u.old.value)
+        (λ it. result ≡ out_of_memory → (new : UnitsState) × (endpoint_units v u.new.value ≡ Some
+        new) × IsOutOfMemory now it new) }
     ensures none { result ≡ out_of_memory → (to.new ≡ to.old) × (unit.new ≡ unit.old) }
 {
     match u.get_mut() {
@@ -233,8 +237,9 @@ pub extern "C" fn h26x_access_units_next(
 /// When to ask for the next access unit at the latest, if packets wait.
 #[unsafe(no_mangle)]
 pub extern "C" fn h26x_access_units_deadline(u: &ConstHandle, at: &mut u32) -> bool
-    ensures tick { let v = ⟦<AccessUnitEndpoint as GivesUnits>⟧.units in (tick : ℕ) →
-        endpoint_deadline v u.now.value ≡ Some tick → (result ≡ true) × (at.new ≡ tick) }
+    ensures tick { let v = ⟦<AccessUnitEndpoint as GivesUnits>⟧.units in Where (endpoint_deadline v
+        u.now.value)
+        (λ tick. (result ≡ true) × (at.new ≡ tick)) }
     ensures none { let v = ⟦<AccessUnitEndpoint as GivesUnits>⟧.units in
         endpoint_deadline v u.now.value ≡ None → (result ≡ false) × (at.new ≡ at.old) }
 {
@@ -284,9 +289,9 @@ pub extern "C" fn h26x_access_units_missing(
 pub extern "C" fn h26x_access_units_finish(u: &mut Handle) -> u32
     ensures wrong { is_access_units u.old.value ≡ false → (result ≡ wrong_end)
         × (u.new.value ≡ u.old.value) }
-    ensures finished { let v = ⟦<AccessUnitEndpoint as GivesUnits>⟧.units in (it : UnitsState) →
-        endpoint_units v u.old.value ≡ Some it → (result ≡ ok)
-        × (endpoint_units v u.new.value ≡ Some (units_finished it)) }
+    ensures finished { let v = ⟦<AccessUnitEndpoint as GivesUnits>⟧.units in
+        Where (endpoint_units v u.old.value)
+        (λ it. (result ≡ ok) × (endpoint_units v u.new.value ≡ Some (units_finished it))) }
 {
     match u.get_mut() {
         Endpoint::AccessUnits(it) => {
@@ -302,9 +307,9 @@ pub extern "C" fn h26x_access_units_finish(u: &mut Handle) -> u32
 pub extern "C" fn h26x_access_units_restart(u: &mut Handle) -> u32
     ensures wrong { is_access_units u.old.value ≡ false → (result ≡ wrong_end)
         × (u.new.value ≡ u.old.value) }
-    ensures restarted { let v = ⟦<AccessUnitEndpoint as GivesUnits>⟧.units in (it : UnitsState) →
-        endpoint_units v u.old.value ≡ Some it → (result ≡ ok)
-        × (endpoint_units v u.new.value ≡ Some (units_restarted it)) }
+    ensures restarted { let v = ⟦<AccessUnitEndpoint as GivesUnits>⟧.units in Where (endpoint_units
+        v u.old.value)
+        (λ it. (result ≡ ok) × (endpoint_units v u.new.value ≡ Some (units_restarted it))) }
 {
     match u.get_mut() {
         Endpoint::AccessUnits(it) => {
@@ -319,9 +324,9 @@ pub extern "C" fn h26x_access_units_restart(u: &mut Handle) -> u32
 #[unsafe(no_mangle)]
 pub extern "C" fn h26x_access_units_count(u: &ConstHandle, counts: &mut Counts) -> u32
     ensures wrong { is_access_units u.now.value ≡ false → result ≡ wrong_end }
-    ensures counts { let v = ⟦<AccessUnitEndpoint as GivesUnits>⟧.units in (it : UnitsState) →
-        endpoint_units v u.now.value ≡ Some it →
-        (result ≡ ok) × (counts.new ≡ counts_told it.reception.counts) }
+    ensures counts { let v = ⟦<AccessUnitEndpoint as GivesUnits>⟧.units in Where (endpoint_units v
+        u.now.value)
+        (λ it. (result ≡ ok) × (counts.new ≡ counts_told it.reception.counts)) }
     ensures kept { result ≢ ok → counts.new ≡ counts.old }
 {
     match u.get() {

@@ -1,12 +1,13 @@
 //! The calls of a depacketizer.
 
-ghost use Rattle.std.specs.Prelude.{◌≡◌, ◌≢◌, ◌⊎◌, ℕ, Bool, true, false, Some, None, Ok, Err, length};
+ghost use Rattle.std.specs.Prelude.{◌≡◌, ◌≢◌, ◌⊎◌, ℕ, true, false, Some, Ok, Err, length};
 ghost use Rattle.h26x_model.specs.Receive.DepacketizerState.{Depacketization};
+ghost use Rattle.h26x_model.specs.Where.{Where};
 ghost use Rattle.h26x_codec.specs.Codec.{codec_format, fresh_depacketizer_state};
 ghost use Rattle.h26x_codec.specs.declared.codec.Codec.{Codec};
 ghost use Rattle.h26x_c.specs.Answers.{IsAnswer};
 ghost use Rattle.h26x_handles.specs.Codes.{codec_or_code, may_have_donl, extra_number, ok, out_of_memory, wrong_end, not_of_this_codec};
-ghost use Rattle.h26x_handles.specs.Copies.{with_front, AreGivenOut};
+ghost use Rattle.h26x_handles.specs.Copies.{with_front, AreHandedOver};
 ghost use Rattle.h26x_handles.specs.States.{is_receiving, endpoint_depacketizer_state, endpoint_depacketization, endpoint_after_told_packet, endpoint_written, endpoint_codec, fresh_receiving_endpoint, endpoint_showing, endpoint_without_output, are_same_endpoints, endpoint_without_run, endpoint_with_donl};
 
 use crate::const_handle::ConstHandle;
@@ -36,7 +37,8 @@ pub extern "C" fn h26x_depacketizer_new(
         (result ≡ ok) ⊎ (result ≡ out_of_memory) }
     ensures made { (c : Codec) → codec_or_code codec numbers ≡ Ok c → result ≡ ok →
         made.new.value ≡ Some (fresh_receiving_endpoint c numbers) }
-    ensures fresh { (c : Codec) → endpoint_depacketizer_state false (fresh_receiving_endpoint c numbers)
+    ensures fresh { (c : Codec) → endpoint_depacketizer_state false (fresh_receiving_endpoint c
+        numbers)
         ≡ Some (fresh_depacketizer_state (codec_format c numbers)) }
     ensures kept { result ≢ ok → made.new ≡ made.old }
 {
@@ -91,7 +93,8 @@ pub extern "C" fn h26x_depacketizer_set_numbers(d: &mut Handle, numbers: bool) -
     ensures wrong { is_receiving d.old.value ≡ false → result ≡ wrong_end }
     ensures none { is_receiving d.old.value ≡ true →
         may_have_donl (endpoint_codec d.old.value) ≡ false → result ≡ not_of_this_codec }
-    ensures set { is_receiving d.old.value ≡ true → may_have_donl (endpoint_codec d.old.value) ≡ true →
+    ensures set { is_receiving d.old.value ≡ true → may_have_donl (endpoint_codec d.old.value) ≡
+        true →
         (result ≡ ok) × (d.new.value ≡ endpoint_with_donl numbers d.old.value) }
     ensures kept { result ≢ ok → d.new.value ≡ d.old.value }
 {
@@ -120,9 +123,8 @@ pub extern "C" fn h26x_depacketize(
     why: &mut Refusal,
 ) -> u32
     ensures wrong { is_receiving d.old.value ≡ false → result ≡ wrong_end }
-    ensures answer { (w : Depacketization) →
-        endpoint_depacketization is_avc d.old.value extra.old ≡ Some w →
-        IsAnswer w packet.now result why.new.first why.new.second }
+    ensures answer { Where (endpoint_depacketization is_avc d.old.value extra.old)
+        (λ w. IsAnswer w packet.now result why.new.first why.new.second) }
 
     // What stands after a packet that was taken.
     ensures run { (w : Depacketization) → result ≡ ok →
@@ -133,7 +135,7 @@ pub extern "C" fn h26x_depacketize(
         extra.new ≡ extra_number w.extra }
     ensures given { (w : Depacketization) → result ≡ ok →
         endpoint_after_told_packet is_avc d.old.value extra.old packet.now ≡ Some w →
-        AreGivenOut w.out to.old to.new written.new (endpoint_written d.new.value) }
+        AreHandedOver w.out to.old to.new written.new (endpoint_written d.new.value) }
     ensures rest { result ≡ ok → endpoint_without_run (endpoint_without_output d.new.value)
         ≡ endpoint_without_run (endpoint_without_output (endpoint_showing packet.now d.old.value)) }
 

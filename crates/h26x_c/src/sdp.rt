@@ -1,6 +1,7 @@
 //! The calls on format parameters of SDP.
 
-ghost use Rattle.std.specs.Prelude.{◌≡◌, ◌≢◌, ◌⊎◌, ◌&&◌, ℕ, List, true, false, Some, None, Ok, Err, length};
+ghost use Rattle.std.specs.Prelude.{◌≡◌, ◌≢◌, ◌⊎◌, ◌&&◌, ℕ, List, false, Some, None, Ok, Err, length};
+ghost use Rattle.h26x_model.specs.Where.{Where};
 ghost use Rattle.h26x_cut.specs.Cutting.{AreUnits};
 ghost use Rattle.h26x_codec.specs.Repeating.{zero_rule};
 ghost use Rattle.h26x_codec.specs.declared.codec.Codec.{Codec};
@@ -44,8 +45,8 @@ pub extern "C" fn h26x_sdp_read(
     why: &mut Refusal,
 ) -> u32
     ensures unknown { codec_with_number codec ≡ None → result ≡ unknown_codec }
-    ensures answer { (c : Codec) → codec_with_number codec ≡ Some c →
-        spec.IsMade (spec.without_place (sdp_read c text.now)) result made.new.value }
+    ensures answer { Where (codec_with_number codec)
+        (λ c. spec.IsMade (spec.without_place (sdp_read c text.now)) result made.new.value) }
     ensures place { (c : Codec) (it : Refused) → codec_with_number codec ≡ Some c →
         sdp_read c text.now ≡ Err it → spec.IsRefused it result why.new.first }
     ensures kept { result ≢ ok → made.new ≡ made.old }
@@ -69,9 +70,9 @@ pub extern "C" fn h26x_sdp_of_payload(
     made: &mut Place,
 ) -> u32
     ensures unknown { codec_with_number codec ≡ None → result ≡ unknown_codec }
-    ensures answer { (c : Codec) → codec_with_number codec ≡ Some c → (list : List (List ℕ))
-        × AreUnits (zero_rule c) payload.now list
-        × spec.IsMade (sdp_of_units c list) result made.new.value }
+    ensures answer { Where (codec_with_number codec)
+        (λ c. (list : List (List ℕ)) × AreUnits (zero_rule c) payload.now list × spec.IsMade
+        (sdp_of_units c list) result made.new.value) }
     ensures kept { result ≢ ok → made.new ≡ made.old }
 {
     let Some(codec) = codec_of(codec) else {

@@ -1,14 +1,15 @@
 //! The calls of a receiver of packets with their sequence numbers.
 
 ghost use Rattle.std.specs.Prelude.{◌≡◌, ◌≢◌, ◌⊎◌, ◌≤◌, ℕ, true, false, Some, None, Ok, Err};
+ghost use Rattle.h26x_model.specs.Where.{Where};
 ghost use Rattle.h26x_codec.specs.Codec.{codec_format};
 ghost use Rattle.h26x_codec.specs.declared.codec.Codec.{Codec};
-ghost use Rattle.h26x_c.specs.Answers.{IsSequencedCode};
+ghost use Rattle.h26x_c.specs.Answers.{IsReceiverCode};
 ghost use Rattle.h26x_receiver.specs.Sequenced.{SequencedDepacketization, skip_answer};
 ghost use Rattle.h26x_handles.specs.Codes.{codec_or_code, may_have_donl, extra_number, ok, out_of_memory, wrong_end, not_of_this_codec, says_taken, received_numbers};
-ghost use Rattle.h26x_handles.specs.Copies.{AreGivenOut};
+ghost use Rattle.h26x_handles.specs.Copies.{AreHandedOver};
 ghost use Rattle.h26x_handles.specs.Endpoint.{SequencedEndpoint};
-ghost use Rattle.h26x_handles.specs.States.{is_sequenced, endpoint_receiver, endpoint_at_work, endpoint_after_packet, receiver_run_len, endpoint_receiver_state, endpoint_expected, endpoint_run_len, endpoint_written, endpoint_codec, fresh_sequenced_endpoint, endpoint_showing, endpoint_without_output, endpoint_restarted, endpoint_after_skip, endpoint_with_donl, endpoint_with_avc};
+ghost use Rattle.h26x_handles.specs.States.{is_sequenced, endpoint_receiver, endpoint_after_packet, receiver_run_len, endpoint_receiver_state, endpoint_expected, endpoint_run_len, endpoint_written, endpoint_codec, fresh_sequenced_endpoint, endpoint_showing, endpoint_without_output, endpoint_restarted, endpoint_after_skip, endpoint_with_donl, endpoint_with_avc};
 
 use crate::const_handle::ConstHandle;
 use crate::handle::Handle;
@@ -81,7 +82,8 @@ pub extern "C" fn h26x_receiver_set_numbers(r: &mut Handle, numbers: bool) -> u3
     ensures wrong { is_sequenced r.old.value ≡ false → result ≡ wrong_end }
     ensures none { is_sequenced r.old.value ≡ true →
         may_have_donl (endpoint_codec r.old.value) ≡ false → result ≡ not_of_this_codec }
-    ensures set { is_sequenced r.old.value ≡ true → may_have_donl (endpoint_codec r.old.value) ≡ true →
+    ensures set { is_sequenced r.old.value ≡ true → may_have_donl (endpoint_codec r.old.value) ≡
+        true →
         (result ≡ ok) × (r.new.value ≡ endpoint_with_donl numbers r.old.value) }
     ensures kept { result ≢ ok → r.new.value ≡ r.old.value }
 {
@@ -129,9 +131,7 @@ pub extern "C" fn h26x_receive(
 ) -> u32
     // What is answered.
     ensures wrong { is_sequenced r.old.value ≡ false → result ≡ wrong_end }
-    ensures answer { (it : SequencedEndpoint) (w : SequencedDepacketization) →
-        endpoint_receiver r.old.value ≡ Some it → endpoint_at_work r.old.value extra.old ≡ Some w →
-        IsSequencedCode it.run_limit w sequence packet.now
+    ensures answer { IsReceiverCode r.old.value extra.old sequence packet.now
         result why.new.first why.new.second received.new count.new }
 
     // What stands after a packet that was taken.
@@ -146,12 +146,12 @@ pub extern "C" fn h26x_receive(
         extra.new ≡ extra_number w.at_work.extra }
     ensures given { (w : SequencedDepacketization) → says_taken result received.new ≡ true →
         endpoint_after_packet r.old.value extra.old sequence packet.now ≡ Some w →
-        AreGivenOut w.at_work.out to.old to.new written.new (endpoint_written r.new.value) }
+        AreHandedOver w.at_work.out to.old to.new written.new (endpoint_written r.new.value) }
     ensures rest { says_taken result received.new ≡ true →
         endpoint_restarted (endpoint_without_output r.new.value)
         ≡ endpoint_restarted (endpoint_without_output (endpoint_showing packet.now r.old.value)) }
-    ensures bounded { (it : SequencedEndpoint) → endpoint_receiver r.old.value ≡ Some it →
-        receiver_run_len it ≤ it.run_limit → endpoint_run_len r.new.value ≤ it.run_limit }
+    ensures bounded { Where (endpoint_receiver r.old.value)
+        (λ it. receiver_run_len it ≤ it.run_limit → endpoint_run_len r.new.value ≤ it.run_limit) }
 
     // A packet that was late or refused leaves everything.
     ensures kept { says_taken result received.new ≡ false → r.new.value ≡ r.old.value }

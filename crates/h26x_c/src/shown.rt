@@ -1,6 +1,7 @@
 //! The calls on the packet that a depacketizer or a receiver of H.265 shows.
 
 ghost use Rattle.std.specs.Prelude.{◌≡◌, ◌≢◌, true, false, [], ◌++◌, None, Some, length, map};
+ghost use Rattle.h26x_model.specs.Where.{Where};
 ghost use Rattle.h265_packets.specs.declared.payload.H265Payload.{H265Payload};
 ghost use Rattle.h26x_receiver.specs.AnyDepacketizer.{any_depacketizer_shown};
 ghost use Rattle.h26x_handles.specs.Codes.{ok, wrong_end, not_of_this_codec};
@@ -33,15 +34,14 @@ pub extern "C" fn h26x_h265_shown(d: &ConstHandle, shown: &mut Shown) -> u32
     ensures wrong { shows_packets d.now.value ≡ false → result ≡ wrong_end }
     ensures none { shows_packets d.now.value ≡ true → endpoint_shown d.now.value ≡ None →
         result ≡ not_of_this_codec }
-    ensures answer { (it : H265Payload) → endpoint_shown d.now.value ≡ Some it → result ≡ ok }
-    ensures kind { (it : H265Payload) → endpoint_shown d.now.value ≡ Some it →
-        shown.new.kind ≡ payload_kind_number it }
-    ensures header { (it : H265Payload) → endpoint_shown d.now.value ≡ Some it →
-        shown.new.header ≡ payload_header it }
-    ensures word { (it : H265Payload) → endpoint_shown d.now.value ≡ Some it →
-        shown.new.word ≡ payload_word it }
-    ensures parts { (it : H265Payload) → endpoint_shown d.now.value ≡ Some it →
-        shown.new.parts ≡ length (payload_parts it) }
+    ensures answer { Where (endpoint_shown d.now.value) (λ it. result ≡ ok) }
+    ensures kind { Where (endpoint_shown d.now.value)
+        (λ it. shown.new.kind ≡ payload_kind_number it) }
+    ensures header { Where (endpoint_shown d.now.value)
+        (λ it. shown.new.header ≡ payload_header it) }
+    ensures word { Where (endpoint_shown d.now.value) (λ it. shown.new.word ≡ payload_word it) }
+    ensures parts { Where (endpoint_shown d.now.value)
+        (λ it. shown.new.parts ≡ length (payload_parts it)) }
     ensures kept { result ≢ ok → shown.new ≡ shown.old }
 {
     match d.get() {
@@ -54,16 +54,15 @@ pub extern "C" fn h26x_h265_shown(d: &ConstHandle, shown: &mut Shown) -> u32
 /// Writes the packet that a depacketizer shows in numbers, where its codec shows packets.
 fn show(depacketizer: &AnyDepacketizer, shown: &mut Shown) -> u32
     ensures none { any_depacketizer_shown depacketizer.now ≡ None → result ≡ not_of_this_codec }
-    ensures answer { (it : H265Payload) → any_depacketizer_shown depacketizer.now ≡ Some it →
-        result ≡ ok }
-    ensures kind { (it : H265Payload) → any_depacketizer_shown depacketizer.now ≡ Some it →
-        shown.new.kind ≡ payload_kind_number it }
-    ensures header { (it : H265Payload) → any_depacketizer_shown depacketizer.now ≡ Some it →
-        shown.new.header ≡ payload_header it }
-    ensures word { (it : H265Payload) → any_depacketizer_shown depacketizer.now ≡ Some it →
-        shown.new.word ≡ payload_word it }
-    ensures parts { (it : H265Payload) → any_depacketizer_shown depacketizer.now ≡ Some it →
-        shown.new.parts ≡ length (payload_parts it) }
+    ensures answer { Where (any_depacketizer_shown depacketizer.now) (λ it. result ≡ ok) }
+    ensures kind { Where (any_depacketizer_shown depacketizer.now)
+        (λ it. shown.new.kind ≡ payload_kind_number it) }
+    ensures header { Where (any_depacketizer_shown depacketizer.now)
+        (λ it. shown.new.header ≡ payload_header it) }
+    ensures word { Where (any_depacketizer_shown depacketizer.now)
+        (λ it. shown.new.word ≡ payload_word it) }
+    ensures parts { Where (any_depacketizer_shown depacketizer.now)
+        (λ it. shown.new.parts ≡ length (payload_parts it)) }
     ensures kept { result ≢ ok → shown.new ≡ shown.old }
 {
     match depacketizer.shown() {
@@ -159,7 +158,8 @@ impl<'a> Part<'a> {
 /// nothing is shown.
 fn shown_part(depacketizer: &AnyDepacketizer, i: usize) -> Part<'_>
     ensures number { result.number ≡ (nth_part i (any_depacketizer_parts depacketizer.now)).number }
-    ensures bytes { result.bytes.now ≡ (nth_part i (any_depacketizer_parts depacketizer.now)).bytes }
+    ensures bytes { result.bytes.now ≡ (nth_part i (any_depacketizer_parts
+        depacketizer.now)).bytes }
 {
     match depacketizer.shown() {
         Some(packet) => part_of(packet, i),

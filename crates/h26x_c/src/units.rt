@@ -1,10 +1,10 @@
 //! The units of payloads, by their places, and what a unit is.
 
 ghost use Rattle.std.specs.Prelude.{◌≡◌, ◌↔◌, IsTrue, [], true, false, None, Some, drop};
+ghost use Rattle.h26x_model.specs.Where.{Where};
 ghost use Rattle.h26x_cut.specs.Cutting.{IsNextUnit};
 ghost use Rattle.h26x_codec.specs.Codec.{codec_format};
 ghost use Rattle.h26x_codec.specs.Plain.{IsPlainUnit};
-ghost use Rattle.h26x_codec.specs.declared.codec.Codec.{Codec};
 ghost use Rattle.h26x_handles.specs.Codes.{codec_with_number};
 
 use h26x_cut::next_unit;
@@ -20,10 +20,11 @@ pub extern "C" fn h26x_next_unit(
     end: &mut usize,
 ) -> bool
     ensures unknown { codec_with_number codec ≡ None → result ≡ false }
-    ensures none { (c : Codec) → codec_with_number codec ≡ Some c → result ≡ false →
-        (codec_format c false).units (drop from payload.now) ≡ [] }
-    ensures unit { (c : Codec) → codec_with_number codec ≡ Some c → result ≡ true →
-        IsNextUnit (codec_format c false).units payload.now from begin.new end.new }
+    ensures none { Where (codec_with_number codec)
+        (λ c. result ≡ false → (codec_format c false).units (drop from payload.now) ≡ []) }
+    ensures unit { Where (codec_with_number codec)
+        (λ c. result ≡ true → IsNextUnit (codec_format c false).units payload.now from begin.new
+        end.new) }
     ensures kept { result ≡ false → (begin.new ≡ begin.old) × (end.new ≡ end.old) }
 {
     let Some(codec) = codec_of(codec) else {
@@ -43,8 +44,8 @@ pub extern "C" fn h26x_next_unit(
 #[unsafe(no_mangle)]
 pub extern "C" fn h26x_unit_is_plain(codec: u32, unit: &[u8]) -> bool
     ensures unknown { codec_with_number codec ≡ None → result ≡ false }
-    ensures plain { (c : Codec) → codec_with_number codec ≡ Some c →
-        (IsTrue result ↔ IsPlainUnit c unit.now) }
+    ensures plain { Where (codec_with_number codec)
+        (λ c. (IsTrue result ↔ IsPlainUnit c unit.now)) }
 {
     match codec_of(codec) {
         Some(codec) => codec.is_plain_unit(unit),

@@ -1,11 +1,12 @@
 -- Payloads sent, written, and sent again.
-use Rattle.std.specs.Prelude.{◌≡◌, ℕ, Bool, List, [], ◌∷◌, ◌++◌}
+use Rattle.std.specs.Prelude.{◌≡◌, ◌⊎◌, ℕ, Bool, List, [], ◌∷◌, ◌++◌, Result, IfOk}
 use Rattle.std.specs.List.{AllByRecursion}
 use Rattle.h26x_core.specs.declared.error.PacketError.{PacketError}
+use Rattle.h26x_core.specs.declared.error.PacketError.TheVariants.{OutOfMemory}
+use Rattle.h26x_core.specs.ByteStream.{byte_stream}
 use Rattle.h26x_model.specs.Payload.Reading.{IsRead, Refused}
 use Rattle.h26x_model.specs.Payload.Format.{Format}
-use Rattle.h26x_model.specs.Send.Calls.{Call, default_max_packet_size, all_entries}
-use Rattle.h26x_model.specs.Send.Plan.{units_sent}
+use Rattle.h26x_model.specs.Send.Calls.{Call, default_max_packet_size, all_entries, all_packets, sent_by}
 use Rattle.h26x_model.specs.Payload.Facts.{AreCarried}
 use Rattle.h26x_model.specs.Send.Again.{NothingDropped}
 use Rattle.h26x_model.specs.Send.PacketizerState.{PacketizerState}
@@ -15,7 +16,8 @@ use Rattle.h26x_cut.specs.declared.ZeroRule.TheVariants.{All, AtMostThree}
 use Rattle.h26x_cut.specs.Cutting.{AreSeparable}
 use Rattle.h26x_codec.specs.declared.codec.Codec.{Codec}
 use Rattle.h26x_codec.specs.declared.codec.Codec.TheVariants as c
-use Rattle.h26x_codec.specs.Codec.{codec_format, fresh_packetizer_state}
+use Rattle.h26x_codec.specs.declared.repeated.Repeated.{Repeated}
+use Rattle.h26x_codec.specs.Codec.{codec_format, fresh_packetizer_state, next_call}
 
 -- how many zeros before 01 a start code of a codec has
 abbrev pub zero_rule : Codec → ZeroRule
@@ -47,12 +49,25 @@ repeated_call codec n limit payload = record {
 abbrev pub repeated_calls : Codec → ℕ → ℕ → List (List ℕ) → List Call
 repeated_calls codec n limit payloads = calls_like (repeated_call codec n limit []) payloads
 
+-- calls at one limit, of these payloads
+abbrev pub calls_at : PacketizerState → ℕ → List (List ℕ) → List Call
+calls_at s limit payloads = calls_like (next_call s limit []) payloads
+
+-- their packets, of a fresh packetizer
+abbrev pub packets_at : PacketizerState → ℕ → List (List ℕ) → List (List ℕ)
+packets_at s limit payloads = all_packets s.format 0 (calls_at s limit payloads)
+
+-- where packets can carry what calls send, it is written
+abbrev pub IsTextOf : Format → Bool → List Call → Result Repeated PacketError → Type 0
+IsTextOf f is_avc calls result = AreCarried f (sent_by f calls) →
+    IfOk result (λ it. it.written.items ≡ byte_stream is_avc (sent_by f calls))
+
 -- What calls send may be sent again from its text: packets can carry each unit sent, nothing is
 -- dropped for its size, and the units are told apart in their text.
 pub record MayBeRepeated (f : Format) (rule : ZeroRule) (calls : List Call) : Type 0 where
-  pub carried : AreCarried f (units_sent f (all_entries f calls))
+  pub carried : AreCarried f (sent_by f calls)
   pub kept : NothingDropped f (all_entries f calls)
-  pub apart : AreSeparable rule (units_sent f (all_entries f calls))
+  pub apart : AreSeparable rule (sent_by f calls)
 
 -- the first of the packets that is refused, and its error
 pub record IsFirstRefused (f : Format) (packets : List (List ℕ)) (error : PacketError) : Type 0
@@ -63,3 +78,7 @@ pub record IsFirstRefused (f : Format) (packets : List (List ℕ)) (error : Pack
     pub whole : packets ≡ before ++ packet ∷ later
     pub read : AllByRecursion (λ packet. IsRead (f.read packet)) before
     pub refused : f.read packet ≡ Refused error
+
+-- why packets weren't written: memory lacks, or the first of them that is refused
+abbrev pub IsRefusal : Format → List (List ℕ) → PacketError → Type 0
+IsRefusal f packets error = (error ≡ OutOfMemory) ⊎ IsFirstRefused f packets error

@@ -1,5 +1,5 @@
 -- What a run does: calls of a packetizer, and their packets through a depacketizer.
-use Rattle.std.specs.Prelude.{◌≡◌, ℕ, Bool, true, false, List, [], ◌∷◌, ◌++◌, length, map, Option, Some, Result, Ok, Err, Vec, ◌⊎◌, slice_get}
+use Rattle.std.specs.Prelude.{◌≡◌, ℕ, Bool, true, false, List, [], ◌∷◌, ◌++◌, length, map, Option, Some, Result, Ok, Err, IfErr, Vec, ◌⊎◌, slice_get}
 use Rattle.std.specs.Global.{Global}
 use Rattle.std.specs.List.{AllByRecursion}
 use Rattle.h26x_core.specs.declared.extra.CodecExtra.{CodecExtra}
@@ -8,16 +8,15 @@ use Rattle.h26x_core.specs.declared.error.PacketError.TheVariants.{OutOfMemory}
 use Rattle.h26x_model.specs.Payload.Reading.{IsRead}
 use Rattle.h26x_model.specs.Payload.Format.{Format}
 use Rattle.h26x_model.specs.Send.Group.{Entry}
-use Rattle.h26x_model.specs.Send.Calls.{Call, call_entries, all_entries, all_packets}
+use Rattle.h26x_model.specs.Send.Calls.{Call, call_entries, all_entries, all_packets, sent_by}
 use Rattle.h26x_model.specs.Carry.Loss.{keep}
-use Rattle.h26x_model.specs.Send.Plan.{units_sent}
 use Rattle.h26x_core.specs.ByteStream.{byte_stream}
 use Rattle.h26x_model.specs.Payload.Extra.{extra_after, first_extra}
 use Rattle.h26x_model.specs.Payload.Facts.{AreCarried}
 use Rattle.h26x_model.specs.Send.Rival.{TakesFewestFragments}
 use Rattle.h26x_model.specs.Send.WaitingSets.{no_waiting_sets}
-use Rattle.h26x_model.specs.Send.PacketizerState.{PacketizerState, state_units, state_packets, after_entries, has_no_effect, AreWithinLimits}
-use Rattle.h26x_model.specs.Receive.DepacketizerState.{HaveAvcLengths, Depacketization, after_packets, IsRefusalCause}
+use Rattle.h26x_model.specs.Send.PacketizerState.{PacketizerState, state_units, state_packets, call_packets, after_entries, has_no_effect, AreWithinLimits}
+use Rattle.h26x_model.specs.Receive.DepacketizerState.{DepacketizerState, depacketization, HaveAvcLengths, Depacketization, after_packets, IsRefusalCause, AreWritten}
 use Rattle.h26x_codec.specs.Codec.{next_call}
 
 -- calls of a packetizer: an mtu and a payload each
@@ -31,6 +30,16 @@ made_entries f made calls = all_entries f (keep made calls)
 -- the units that they send
 abbrev pub made_units : PacketizerState → List Bool → List Call → List (List ℕ)
 made_units s made calls = state_units s (made_entries s.format made calls)
+
+-- packets can carry these
+abbrev pub AreMadeCarried : PacketizerState → List Bool → List Call → Type 0
+AreMadeCarried s made calls = AreCarried s.format (made_units s made calls)
+
+-- what calls that were made send is written, where packets can carry it
+abbrev pub IsMadeText : PacketizerState → Depacketization → List Bool → List Call → List ℕ →
+    CodecExtra → Type 0
+IsMadeText s w made calls out told = AreMadeCarried s made calls →
+    AreWritten w (made_units s made calls) out told
 
 -- of the first calls, each without effect was made
 abbrev pub AreMade : Format → List Bool → List Call → Type 0
@@ -52,7 +61,7 @@ pub record AreSent (s : PacketizerState) (calls : List Call) (made : List Bool)
 abbrev pub IsSentCall : PacketizerState → Call → Result Bool PacketError → List (List ℕ) →
     List (List ℕ) → Option PacketizerState → Type 0
 IsSentCall s call (Ok true) packets new sender =
-    (new ≡ packets ++ state_packets s (call_entries s.format call))
+    (new ≡ packets ++ call_packets s call)
     × (sender ≡ Some (after_entries s (call_entries s.format call)))
 IsSentCall s call (Ok false) packets new sender =
     (has_no_effect s.format call ≡ false) × (new ≡ packets) × (sender ≡ Some s)
@@ -96,12 +105,24 @@ pub record IsStoppedIn (s : PacketizerState) (w : Depacketization) (calls : List
       (state_packets (after_entries s (made_entries s.format made calls)) (call_entries s.format call))
       error work
 
+-- a run that a refusal ended: nothing was done, or it stopped in a call
+abbrev pub IsBroken : PacketizerState → Depacketization → List Call → PacketError →
+    Option PacketizerState → Option Depacketization → Type 0
+IsBroken s w calls error sender work = IsUnbegun s w error sender work
+    ⊎ IsStoppedIn s w calls error sender work
+
+-- so of one that may have been refused
+abbrev pub IsBrokenIfErr : {A : Type 0} → PacketizerState → Depacketization → List Call →
+    Result A PacketError → Option PacketizerState → Option Depacketization → Type 0
+IsBrokenIfErr s w calls result sender work =
+    IfErr result (λ error. IsBroken s w calls error sender work)
+
 -- where the units that were sent can be carried, and in AVC form none is too long, memory lacked
 abbrev pub LacksMemory : (s : PacketizerState) (w : Depacketization) (calls : List Call)
     (error : PacketError) →
     List Bool → Type 0
 LacksMemory s w calls error made =
-    AreCarried s.format (made_units s made calls) →
+    AreMadeCarried s made calls →
     (w.state.is_avc ≡ true → HaveAvcLengths (made_units s made calls)) → error ≡ OutOfMemory
 
 -- what a run has done that ended in a refusal
@@ -113,11 +134,12 @@ IsStopped s w calls error sender work =
     ⊎ ((it : IsStoppedIn s w calls error sender work)
     × (w.state.format ≡ s.format → LacksMemory s w calls error (it.made ++ true ∷ [])))
 
--- what was written grew to this by the text of these units and by nothing else, and the extra is the
--- one after them
-abbrev pub AreWritten : Depacketization → List (List ℕ) → List ℕ → CodecExtra → Type 0
-AreWritten w units out told = (out ≡ w.out ++ byte_stream w.state.is_avc units)
-    × (told ≡ extra_after w.state.format w.extra units)
+-- so of one that may have been refused
+abbrev pub IsStoppedIfErr : {A : Type 0} → PacketizerState → DepacketizerState → List ℕ →
+    CodecExtra → List Call → Result A PacketError → Option PacketizerState →
+    Option Depacketization → Type 0
+IsStoppedIfErr s r out extra calls result sender work =
+    IfErr result (λ error. IsStopped s (depacketization r out extra) calls error sender work)
 
 -- nothing waits for a packetizer, and its next decoding order number is 0
 abbrev pub IsFresh : PacketizerState → Type 0
@@ -132,7 +154,7 @@ pub record AreCarriedWhole (s : PacketizerState) (w : Depacketization) (calls : 
   pub packets_are : packets ≡ all_packets s.format 0 calls
   pub within : AreWithinLimits s calls packets
   pub fewest : TakesFewestFragments s.format
-  pub written : AreCarried s.format (units_sent s.format (all_entries s.format calls)) →
-      out ≡ w.out ++ byte_stream w.state.is_avc (units_sent s.format (all_entries s.format calls))
-  pub tells : AreCarried s.format (units_sent s.format (all_entries s.format calls)) →
-      told ≡ first_extra s.format (units_sent s.format (all_entries s.format calls))
+  pub written : AreCarried s.format (sent_by s.format calls) →
+      out ≡ w.out ++ byte_stream w.state.is_avc (sent_by s.format calls)
+  pub tells : AreCarried s.format (sent_by s.format calls) →
+      told ≡ first_extra s.format (sent_by s.format calls)

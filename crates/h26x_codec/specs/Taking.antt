@@ -7,9 +7,8 @@ use Rattle.h26x_model.specs.Payload.Facts.{AreCarried}
 use Rattle.h26x_model.specs.Carry.Loss.{keep}
 use Rattle.h26x_model.specs.Receive.Run.{AreReceived}
 use Rattle.h26x_model.specs.Send.PacketizerState.{PacketizerState, IsPacketizerState, state_units, state_packets}
-use Rattle.h26x_model.specs.Receive.DepacketizerState.{Depacketization}
+use Rattle.h26x_model.specs.Receive.DepacketizerState.{Depacketization, AreWritten}
 use Rattle.h26x_model.specs.Carry.Laws.{LosesLittle}
-use Rattle.h26x_codec.specs.Runs.{AreWritten}
 
 -- What is received of these packets, by their places, is written and told, and nothing else: so a
 -- fragmented unit exactly at an end whose latest start has no earlier end since.

@@ -1,6 +1,6 @@
 //! Worked cases of what is said of whole runs. Each is the contract of a function without a result.
 
-ghost use Rattle.std.specs.Prelude.{◌≡◌, ℕ, ◌≤◌, true, false, List, [], ◌∷◌, ◌++◌, length, None, Some, Ok};
+ghost use Rattle.std.specs.Prelude.{◌≡◌, ℕ, ◌≤◌, true, false, List, [], ◌∷◌, ◌++◌, length, Some, Ok};
 ghost use Rattle.std.specs.List.{AllByRecursion};
 ghost use Rattle.h26x_core.specs.ByteStream.{annex_b, byte_stream};
 ghost use Rattle.h26x_core.specs.declared.extra.CodecExtra.{CodecExtra};
@@ -11,13 +11,13 @@ ghost use Rattle.h26x_cut.specs.Cutting.{units_of};
 ghost use Rattle.h26x_cut.specs.declared.ZeroRule.TheVariants.{All, AtMostThree};
 ghost use Rattle.h26x_model.specs.Send.Calls.{fresh_call};
 ghost use Rattle.h26x_model.specs.Send.PacketizerState.{PacketizerState};
-ghost use Rattle.h26x_model.specs.Receive.DepacketizerState.{Depacketization, depacketization};
+ghost use Rattle.h26x_model.specs.Receive.DepacketizerState.{Depacketization, depacketization, AreWritten};
 ghost use Rattle.h26x_model.specs.Receive.Outcome.{is_too_long};
 ghost use Rattle.h264_payload.specs.H264.{h264};
 ghost use Rattle.h265_payload.specs.H265.{h265};
 ghost use Rattle.h266_payload.specs.H266.{h266};
 ghost use Rattle.h26x_codec.specs.Codec.{fresh_packetizer_state, fresh_depacketizer_state};
-ghost use Rattle.h26x_codec.specs.Runs.{AreMade, AreSent, IsSentCall, AreTaken, IsLeftOver, IsStopped, LacksMemory, AreWritten, IsFresh, AreCarriedWhole};
+ghost use Rattle.h26x_codec.specs.Runs.{AreMade, AreSent, IsSentCall, AreTaken, IsLeftOver, IsStopped, LacksMemory, IsFresh, AreCarriedWhole};
 ghost use Rattle.h26x_codec.specs.Taking.{AreSomePackets, AreReceivedAs, LossIsWithin};
 ghost use Rattle.h26x_codec.specs.Repeating.{MayBeRepeated, IsFirstRefused};
 ghost use Rattle.h26x_codec.specs.Plain.{EndsUnitAt, IsPlainUnit};

@@ -1,15 +1,15 @@
 //! A depacketizer of any codec, or a caller's own.
 
-ghost use Rattle.std.specs.Prelude.{◌≡◌, [], ◌∷◌, Bool, true, false, Some, OnOk, OnErr, IsOk};
-ghost use Rattle.h26x_model.specs.Payload.Facts.{IsPayloadFormat};
+ghost use Rattle.std.specs.Prelude.{◌≡◌, [], ◌∷◌, true, Some, OnOk, OnErr, IsOk};
 ghost use Rattle.h26x_core.specs.Front.{IsFrontOf};
 ghost use Rattle.h26x_core.specs.Hint.{size_hint};
 ghost use Rattle.h26x_model.specs.Receive.Outcome.{is_startless};
-ghost use Rattle.h26x_model.specs.Receive.DepacketizerState.{DepacketizerState, Depacketization, after_packets, IsPacketOutcome, depacketizer_meaning};
+ghost use Rattle.h26x_model.specs.Receive.DepacketizerState.{after_packets, IsPacketOutcome, depacketizer_meaning};
 ghost use Rattle.h26x_core.specs.H264AccessUnit as h264_access_unit;
 ghost use Rattle.h264_payload.specs.declared.packetizer.H264.{H264};
 ghost use Rattle.h264_payload.specs.H264.{h264};
 ghost use Rattle.h26x_model.specs.Payload.TwoBytes.{is_two_byte_fragment};
+ghost use Rattle.h26x_model.specs.Where.{Where};
 ghost use Rattle.h265_payload.specs.DepacketizerView as h265_end;
 ghost use Rattle.h265_payload.specs.H265 as h265;
 ghost use Rattle.h265_payload.specs.Shown.{shown};
@@ -112,8 +112,8 @@ impl Depacketizer for CodecDepacketizer {
     /// How many bytes the units of packets of this many bytes may take when they are written. Of a
     /// codec: these bytes, four more, and four for each whole 1200 of them; at most `usize::MAX`.
     fn out_size_hint(&self, packets_size: usize) -> Option<usize>
-        ensures { (r : DepacketizerState) → codec_depacketizer_state self.now ≡ Some r →
-            result ≡ Some (size_hint packets_size) }
+        ensures { Where (codec_depacketizer_state self.now)
+            (λ r. result ≡ Some (size_hint packets_size)) }
     {
         match self {
             CodecDepacketizer::H264(it) => it.out_size_hint(packets_size),
@@ -134,15 +134,13 @@ impl Depacketizer for CodecDepacketizer {
         out: &mut Vec<u8>,
         codec_extra: &mut CodecExtra,
     ) -> Result<(), PacketError>
-        ensures outcome { (w : Depacketization) →
-            codec_depacketization self.old out.old.items codec_extra.old ≡ Some w →
-            IsPacketOutcome w packet.now result }
-        ensures taken { (w : Depacketization) →
-            codec_depacketization self.old out.old.items codec_extra.old ≡ Some w →
-            OnOk result (codec_depacketization self.new out.new.items codec_extra.new
-            ≡ Some (after_packets w (packet.now ∷ []))) }
-        ensures kept { (r : DepacketizerState) → codec_depacketizer_state self.old ≡ Some r →
-            OnErr result (self.new ≡ self.old) }
+        ensures outcome { Where (codec_depacketization self.old out.old.items codec_extra.old)
+            (λ w. IsPacketOutcome w packet.now result) }
+        ensures taken { Where (codec_depacketization self.old out.old.items codec_extra.old)
+            (λ w. OnOk result (codec_depacketization self.new out.new.items codec_extra.new ≡ Some
+            (after_packets w (packet.now ∷ [])))) }
+        ensures kept { Where (codec_depacketizer_state self.old)
+            (λ r. OnErr result (self.new ≡ self.old)) }
         ensures codec { depacketizer_codec self.new ≡ depacketizer_codec self.old }
         ensures shows { (it : h265_end.H265DepacketizerView) → self.old ≡ d.H265 it →
             OnOk result (shown_payload self.new ≡ Some (shown it.codec.has_donl packet.now)) }

@@ -1,19 +1,18 @@
 //! Laws of packetizers and depacketizers of any codec. Each is the contract of a function without a
 //! result.
 
-ghost use Rattle.std.specs.Prelude.{◌≡◌, ℕ, ◌≤◌, Bool, true, false, List, ◌++◌, Some, length};
+ghost use Rattle.std.specs.Prelude.{◌≡◌, ℕ, ◌≤◌, Bool, true, false, List, ◌++◌, length};
 ghost use Rattle.std.specs.List.{AllByRecursion};
 ghost use Rattle.h26x_core.specs.ByteStream.{byte_stream};
 ghost use Rattle.h26x_cut.specs.Cutting.{AreUnits};
-ghost use Rattle.h26x_model.specs.Payload.Facts.{IsPayloadFormat, AreCarried};
-ghost use Rattle.h26x_model.specs.Send.Again.{NothingDropped};
-ghost use Rattle.h26x_model.specs.Send.Calls.{Call, AreCalls, all_entries};
-ghost use Rattle.h26x_model.specs.Send.PacketizerState.{PacketizerState, IsPacketizerState, state_plan, state_units};
-ghost use Rattle.h26x_model.specs.Send.Plan.{units_sent};
-ghost use Rattle.h26x_model.specs.Send.WaitingSets.{entries_with_limit};
+ghost use Rattle.h26x_model.specs.Payload.Facts.{IsPayloadFormat};
+ghost use Rattle.h26x_model.specs.Send.Again.{IsSentAlike};
+ghost use Rattle.h26x_model.specs.Send.Calls.{Call, AreCalls};
+ghost use Rattle.h26x_model.specs.Send.PacketizerState.{PacketizerState, IsPacketizerState, calls_plan};
+ghost use Rattle.h26x_model.specs.Carry.Laws.{AreCallsCarried};
 ghost use Rattle.h26x_model.specs.Carry.Detection.{AreDetected};
-ghost use Rattle.h26x_model.specs.Receive.DepacketizerState.{DepacketizerState};
 ghost use Rattle.h26x_model.specs.Receive.Outcome.{is_too_long};
+ghost use Rattle.h26x_model.specs.Where.{Where};
 ghost use Rattle.h26x_codec.specs.Codec.{codec_format, codec_packetizer_state, codec_depacketizer_state};
 ghost use Rattle.h26x_codec.specs.Plain.{EndsUnitAt, IsPlainUnit};
 ghost use Rattle.h26x_codec.specs.Repeating.{zero_rule};
@@ -28,10 +27,8 @@ use h26x_payload::packetizer_states as payload_packetizer_states;
 /// and its largest packet size are of two bytes, and its format meets the facts on which the laws of
 /// every format stand. Nothing is said of a packetizer in a box.
 pub fn packetizer_states(packetizer: &CodecPacketizer)
-    ensures state { (s : PacketizerState) → codec_packetizer_state packetizer.now ≡ Some s →
-        IsPacketizerState s }
-    ensures format { (s : PacketizerState) → codec_packetizer_state packetizer.now ≡ Some s →
-        IsPayloadFormat s.format }
+    ensures state { Where (codec_packetizer_state packetizer.now) (λ s. IsPacketizerState s) }
+    ensures format { Where (codec_packetizer_state packetizer.now) (λ s. IsPayloadFormat s.format) }
 {
     match packetizer {
         CodecPacketizer::H264(it) => {
@@ -53,8 +50,7 @@ pub fn packetizer_states(packetizer: &CodecPacketizer)
 /// The format of a depacketizer of a codec meets the facts on which the laws of every format stand.
 /// Nothing is said of a depacketizer in a box.
 pub fn depacketizer_states(depacketizer: &CodecDepacketizer)
-    ensures { (s : DepacketizerState) → codec_depacketizer_state depacketizer.now ≡ Some s →
-        IsPayloadFormat s.format }
+    ensures { Where (codec_depacketizer_state depacketizer.now) (λ s. IsPayloadFormat s.format) }
 {
     match depacketizer {
         CodecDepacketizer::H264(_) => h264_payload::laws::meets_the_facts(),
@@ -67,9 +63,7 @@ pub fn depacketizer_states(depacketizer: &CodecDepacketizer)
 /// What was sent at one limit, with nothing dropped for its size, is sent again.
 pub fn what_was_sent_is_sent_again()
     ensures { (codec : Codec) (has_donl : Bool) (limit : ℕ) (units sent : List (List ℕ)) →
-        NothingDropped (codec_format codec has_donl) (entries_with_limit limit units) →
-        sent ≡ units_sent (codec_format codec has_donl) (entries_with_limit limit units) →
-        units_sent (codec_format codec has_donl) (entries_with_limit limit sent) ≡ sent }
+        IsSentAlike (codec_format codec has_donl) limit units sent }
 {
     h26x_model::laws::what_was_sent_is_sent_again();
 }
@@ -80,8 +74,7 @@ pub fn what_was_sent_is_sent_again()
 pub fn key_units_are_detected()
     ensures { (codec : Codec) (has_donl : Bool) (s : PacketizerState) (calls : List Call) →
         s.format ≡ codec_format codec has_donl → IsPacketizerState s → AreCalls calls →
-        AreCarried s.format (state_units s (all_entries s.format calls)) →
-        AreDetected s.format s.next_don (state_plan s (all_entries s.format calls)) }
+        AreCallsCarried s calls → AreDetected s.format s.next_don (calls_plan s calls) }
 {
     formats_meet_the_facts();
     h26x_model::laws::what_calls_send_is_in_order_and_detected();

@@ -14,6 +14,7 @@ ghost use Rattle.h265_payload.specs.Setting as h265_setting;
 ghost use Rattle.h266_payload.specs.Setting as h266_setting;
 ghost use Rattle.h26x_payload.specs.PacketizerView.{packetizer_state};
 ghost use Rattle.h26x_model.specs.Send.PacketizerState.{packetizer_meaning};
+ghost use Rattle.h26x_model.specs.Where.{Where};
 
 use crate::codec::Codec;
 use crate::formats::formats_meet_the_facts;
@@ -121,22 +122,22 @@ impl CodecPacketizer {
         b: &[u8],
         into: &mut PacketBuffer,
     ) -> Result<(), PacketError>
-        ensures packets { (s : PacketizerState) → codec_packetizer_state self.old ≡ Some s →
-            OnOk result (into.new ≡ with_packets into.old
-            (state_packets s (call_entries s.format (next_call s mtu b.now)))) }
-        ensures after { (s : PacketizerState) → codec_packetizer_state self.old ≡ Some s →
-            OnOk result (codec_packetizer_state self.new
-            ≡ Some (after_entries s (call_entries s.format (next_call s mtu b.now)))) }
+        ensures packets { Where (codec_packetizer_state self.old)
+            (λ s. OnOk result (into.new ≡ with_packets into.old (state_packets s (call_entries
+            s.format (next_call s mtu b.now))))) }
+        ensures after { Where (codec_packetizer_state self.old)
+            (λ s. OnOk result (codec_packetizer_state self.new ≡ Some (after_entries s (call_entries
+            s.format (next_call s mtu b.now))))) }
         ensures codec { packetizer_codec self.new ≡ packetizer_codec self.old }
 
-        ensures kept { (s : PacketizerState) → codec_packetizer_state self.old ≡ Some s →
-            OnErr result (self.new ≡ self.old) }
-        ensures memory { (s : PacketizerState) → codec_packetizer_state self.old ≡ Some s →
-            OnErr result (result ≡ Err PacketError.OutOfMemory) }
+        ensures kept { Where (codec_packetizer_state self.old)
+            (λ s. OnErr result (self.new ≡ self.old)) }
+        ensures memory { Where (codec_packetizer_state self.old)
+            (λ s. OnErr result (result ≡ Err PacketError.OutOfMemory)) }
 
         // Calls without effect take no memory.
-        ensures free { (s : PacketizerState) → codec_packetizer_state self.old ≡ Some s →
-            has_no_effect s.format (next_call s mtu b.now) ≡ true → IsOk result }
+        ensures free { Where (codec_packetizer_state self.old)
+            (λ s. has_no_effect s.format (next_call s mtu b.now) ≡ true → IsOk result) }
 
         // A packetizer in a box too.
         ensures appended { OnOk result (IsAppended into.old into.new) }
@@ -157,23 +158,24 @@ impl CodecPacketizer {
     /// The packets of one NAL unit as it is, without a start code and whatever its kind; the sets
     /// that wait stay. One in a box is given the unit as a payload.
     pub fn packetize_unit(&mut self, mtu: usize, unit: &[u8]) -> Result<Vec<Vec<u8>>, PacketError>
-        ensures packets { (s : PacketizerState) → codec_packetizer_state self.old ≡ Some s →
-            IfOk result (λ made. contents made.items ≡ one_unit_packets s mtu unit.now) }
-        ensures after { (s : PacketizerState) → codec_packetizer_state self.old ≡ Some s →
-            OnOk result (codec_packetizer_state self.new ≡ Some (after_one_unit s mtu unit.now)) }
-        ensures within { (s : PacketizerState) → codec_packetizer_state self.old ≡ Some s →
-            IfOk result (λ made. AreWithinLimit (packet_limit s.format s.max_packet_size mtu)
-            (contents made.items)) }
+        ensures packets { Where (codec_packetizer_state self.old)
+            (λ s. IfOk result (λ made. contents made.items ≡ one_unit_packets s mtu unit.now)) }
+        ensures after { Where (codec_packetizer_state self.old)
+            (λ s. OnOk result (codec_packetizer_state self.new ≡ Some (after_one_unit s mtu
+            unit.now))) }
+        ensures within { Where (codec_packetizer_state self.old)
+            (λ s. IfOk result (λ made. AreWithinLimit (packet_limit s.format s.max_packet_size mtu)
+            (contents made.items))) }
         ensures codec { packetizer_codec self.new ≡ packetizer_codec self.old }
 
-        ensures kept { (s : PacketizerState) → codec_packetizer_state self.old ≡ Some s →
-            OnErr result (self.new ≡ self.old) }
-        ensures memory { (s : PacketizerState) → codec_packetizer_state self.old ≡ Some s →
-            OnErr result (result ≡ Err PacketError.OutOfMemory) }
+        ensures kept { Where (codec_packetizer_state self.old)
+            (λ s. OnErr result (self.new ≡ self.old)) }
+        ensures memory { Where (codec_packetizer_state self.old)
+            (λ s. OnErr result (result ≡ Err PacketError.OutOfMemory)) }
 
         // Nothing is sent without memory.
-        ensures free { (s : PacketizerState) → codec_packetizer_state self.old ≡ Some s →
-            one_unit_items s mtu unit.now ≡ [] → IsOk result }
+        ensures free { Where (codec_packetizer_state self.old)
+            (λ s. one_unit_items s mtu unit.now ≡ [] → IsOk result) }
     {
         match self {
             CodecPacketizer::H264(it) => it.packetize_unit(mtu, unit),
@@ -192,20 +194,22 @@ impl CodecPacketizer {
         unit: &[u8],
         into: &mut PacketBuffer,
     ) -> Result<(), PacketError>
-        ensures packets { (s : PacketizerState) → codec_packetizer_state self.old ≡ Some s →
-            OnOk result (into.new ≡ with_packets into.old (one_unit_packets s mtu unit.now)) }
-        ensures after { (s : PacketizerState) → codec_packetizer_state self.old ≡ Some s →
-            OnOk result (codec_packetizer_state self.new ≡ Some (after_one_unit s mtu unit.now)) }
+        ensures packets { Where (codec_packetizer_state self.old)
+            (λ s. OnOk result (into.new ≡ with_packets into.old (one_unit_packets s mtu
+            unit.now))) }
+        ensures after { Where (codec_packetizer_state self.old)
+            (λ s. OnOk result (codec_packetizer_state self.new ≡ Some (after_one_unit s mtu
+            unit.now))) }
         ensures codec { packetizer_codec self.new ≡ packetizer_codec self.old }
 
-        ensures kept { (s : PacketizerState) → codec_packetizer_state self.old ≡ Some s →
-            OnErr result (self.new ≡ self.old) }
-        ensures memory { (s : PacketizerState) → codec_packetizer_state self.old ≡ Some s →
-            OnErr result (result ≡ Err PacketError.OutOfMemory) }
+        ensures kept { Where (codec_packetizer_state self.old)
+            (λ s. OnErr result (self.new ≡ self.old)) }
+        ensures memory { Where (codec_packetizer_state self.old)
+            (λ s. OnErr result (result ≡ Err PacketError.OutOfMemory)) }
 
         // Nothing is sent without memory.
-        ensures free { (s : PacketizerState) → codec_packetizer_state self.old ≡ Some s →
-            one_unit_items s mtu unit.now ≡ [] → IsOk result }
+        ensures free { Where (codec_packetizer_state self.old)
+            (λ s. one_unit_items s mtu unit.now ≡ [] → IsOk result) }
 
         // A packetizer in a box too.
         ensures appended { OnOk result (IsAppended into.old into.new) }
@@ -238,33 +242,33 @@ impl Packetizer for CodecPacketizer {
     /// Of a codec: each is within the limit of the call, the lesser of `mtu` and for H.265 and
     /// H.266 the largest packet size. `OutOfMemory` is the only error, and leaves everything.
     fn packetize(&mut self, mtu: usize, b: &[u8]) -> Result<Vec<Vec<u8>>, PacketError>
-        ensures packets { (s : PacketizerState) → codec_packetizer_state self.old ≡ Some s →
-            IfOk result (λ made. contents made.items
-            ≡ state_packets s (call_entries s.format (next_call s mtu b.now))) }
-        ensures after { (s : PacketizerState) → codec_packetizer_state self.old ≡ Some s →
-            OnOk result (codec_packetizer_state self.new
-            ≡ Some (after_entries s (call_entries s.format (next_call s mtu b.now)))) }
+        ensures packets { Where (codec_packetizer_state self.old)
+            (λ s. IfOk result (λ made. contents made.items ≡ state_packets s (call_entries s.format
+            (next_call s mtu b.now)))) }
+        ensures after { Where (codec_packetizer_state self.old)
+            (λ s. OnOk result (codec_packetizer_state self.new ≡ Some (after_entries s (call_entries
+            s.format (next_call s mtu b.now))))) }
         ensures planned { (s after : PacketizerState) → codec_packetizer_state self.old ≡ Some s →
             codec_packetizer_state self.new ≡ Some after → IfOk result (λ made.
             IsSentAsPlanned s (next_call s mtu b.now) (contents made.items) after) }
-        ensures fewest { (s : PacketizerState) → codec_packetizer_state self.old ≡ Some s →
-            TakesFewestFragments s.format }
-        ensures within { (s : PacketizerState) → codec_packetizer_state self.old ≡ Some s →
-            IfOk result (λ made. AreWithinLimit (call_limit s.format (next_call s mtu b.now))
-            (contents made.items)) }
+        ensures fewest { Where (codec_packetizer_state self.old)
+            (λ s. TakesFewestFragments s.format) }
+        ensures within { Where (codec_packetizer_state self.old)
+            (λ s. IfOk result (λ made. AreWithinLimit (call_limit s.format (next_call s mtu b.now))
+            (contents made.items))) }
         ensures codec { packetizer_codec self.new ≡ packetizer_codec self.old }
 
-        ensures kept { (s : PacketizerState) → codec_packetizer_state self.old ≡ Some s →
-            OnErr result (self.new ≡ self.old) }
-        ensures memory { (s : PacketizerState) → codec_packetizer_state self.old ≡ Some s →
-            OnErr result (result ≡ Err PacketError.OutOfMemory) }
+        ensures kept { Where (codec_packetizer_state self.old)
+            (λ s. OnErr result (self.new ≡ self.old)) }
+        ensures memory { Where (codec_packetizer_state self.old)
+            (λ s. OnErr result (result ≡ Err PacketError.OutOfMemory)) }
 
         // Calls without effect take no memory.
-        ensures free { (s : PacketizerState) → codec_packetizer_state self.old ≡ Some s →
-            has_no_effect s.format (next_call s mtu b.now) ≡ true → IsOk result }
-        ensures without_effect { (s : PacketizerState) → codec_packetizer_state self.old ≡ Some s →
-            has_no_effect s.format (next_call s mtu b.now) ≡ true →
-            IfOk result (λ made. (made.items ≡ []) × (self.new ≡ self.old)) }
+        ensures free { Where (codec_packetizer_state self.old)
+            (λ s. has_no_effect s.format (next_call s mtu b.now) ≡ true → IsOk result) }
+        ensures without_effect { Where (codec_packetizer_state self.old)
+            (λ s. has_no_effect s.format (next_call s mtu b.now) ≡ true → IfOk result (λ made.
+            (made.items ≡ []) × (self.new ≡ self.old))) }
 
         // A packetizer in a box too.
         ensures refused { OnErr result (⟦<CodecPacketizer as Packetizer>⟧.meaning self.new
@@ -283,9 +287,8 @@ impl Packetizer for CodecPacketizer {
     /// Whether a packet bears the marker bit, as the packetizer that it holds says. Of a codec: the
     /// last packet of an access unit.
     fn is_marker(&mut self, data: &[u8], previous: Option<&[u8]>, last: bool) -> bool
-        ensures is { (s : PacketizerState) → codec_packetizer_state self.old ≡ Some s → result ≡ last }
-        ensures kept { (s : PacketizerState) → codec_packetizer_state self.old ≡ Some s →
-            self.new ≡ self.old }
+        ensures is { Where (codec_packetizer_state self.old) (λ s. result ≡ last) }
+        ensures kept { Where (codec_packetizer_state self.old) (λ s. self.new ≡ self.old) }
         ensures codec { packetizer_codec self.new ≡ packetizer_codec self.old }
 
         // A packetizer in a box too.
@@ -303,8 +306,7 @@ impl Packetizer for CodecPacketizer {
     /// Whether the marker bit marks the start of a talkspurt, as the packetizer that it holds says.
     /// It does so for no video codec.
     fn marks_talkspurt(&self) -> bool
-        ensures { (s : PacketizerState) → codec_packetizer_state self.now ≡ Some s →
-            result ≡ false }
+        ensures { Where (codec_packetizer_state self.now) (λ s. result ≡ false) }
     {
         match self {
             CodecPacketizer::H264(it) => it.marks_talkspurt(),
@@ -317,8 +319,7 @@ impl Packetizer for CodecPacketizer {
     /// Whether a receiver may ask for a lost packet again, as the packetizer that it holds says. Of
     /// a codec it may.
     fn nackable(&self) -> bool
-        ensures { (s : PacketizerState) → codec_packetizer_state self.now ≡ Some s →
-            result ≡ true }
+        ensures { Where (codec_packetizer_state self.now) (λ s. result ≡ true) }
     {
         match self {
             CodecPacketizer::H264(it) => it.nackable(),

@@ -3,16 +3,14 @@
 ghost use Rattle.std.specs.Prelude.{◌≡◌, ◌≤◌, ◌⊎◌, [], ◌∷◌, false, IfOk, IfErr, OnErr, Err, map, Some, None};
 ghost use Rattle.h26x_core.specs.ByteStream.{byte_stream, annex_b};
 ghost use Rattle.h26x_model.specs.Send.Calls.{all_entries, all_packets};
-ghost use Rattle.h26x_model.specs.Send.Plan.{units_sent};
-ghost use Rattle.h26x_model.specs.Payload.Facts.{AreCarried};
 ghost use Rattle.h26x_model.specs.Receive.Received.{received};
-ghost use Rattle.h26x_model.specs.Send.PacketizerState.{PacketizerState, state_packets};
-ghost use Rattle.h26x_model.specs.Receive.DepacketizerState.{DepacketizerState};
+ghost use Rattle.h26x_model.specs.Send.PacketizerState.{state_packets};
 ghost use Rattle.h26x_model.specs.Carry.Laws.{calls_like};
+ghost use Rattle.h26x_model.specs.Where.{Where, WhereBoth};
 ghost use Rattle.h26x_payload.specs.Sending.{contents};
 ghost use Rattle.h26x_codec.specs.Codec.{codec_format, codec_packetizer_state, codec_depacketizer_state, fresh_depacketizer_state, next_call};
 ghost use Rattle.h26x_codec.specs.Runs.{IsFresh};
-ghost use Rattle.h26x_codec.specs.Repeating.{zero_rule, starting_packetizer, repeated_call, repeated_calls, MayBeRepeated, IsFirstRefused};
+ghost use Rattle.h26x_codec.specs.Repeating.{zero_rule, starting_packetizer, repeated_call, repeated_calls, calls_at, packets_at, MayBeRepeated, IsTextOf, IsRefusal};
 
 use crate::carried::Packets;
 use crate::codec::Codec;
@@ -30,7 +28,8 @@ use std::alloc::Global;
 /// A packetizer of a codec with this setting for numbers and this largest packet size.
 fn packetizer_with(alloc: Global, codec: Codec, donl: bool, max_packet_size: u16) -> CodecPacketizer
     requires { 4 ≤ max_packet_size }
-    ensures { codec_packetizer_state result ≡ Some (starting_packetizer codec donl max_packet_size) }
+    ensures { codec_packetizer_state result ≡ Some (starting_packetizer codec donl
+        max_packet_size) }
 {
     match codec {
         Codec::H264 => CodecPacketizer::H264(H264Packetizer::new(alloc)),
@@ -76,11 +75,11 @@ fn packetize_all(
     limit: usize,
     payloads: &[Vec<u8>],
 ) -> Result<Vec<Vec<u8>>, PacketError>
-    ensures sent { (s : PacketizerState) → codec_packetizer_state p.old ≡ Some s →
-        IfOk result (λ made. contents made.items ≡ state_packets s
-        (all_entries s.format (calls_like (next_call s limit []) (contents payloads.now)))) }
-    ensures memory { (s : PacketizerState) → codec_packetizer_state p.old ≡ Some s →
-        OnErr result (result ≡ Err PacketError.OutOfMemory) }
+    ensures sent { Where (codec_packetizer_state p.old)
+        (λ s. IfOk result (λ made. contents made.items ≡ state_packets s (all_entries s.format
+        (calls_like (next_call s limit []) (contents payloads.now))))) }
+    ensures memory { Where (codec_packetizer_state p.old)
+        (λ s. OnErr result (result ≡ Err PacketError.OutOfMemory)) }
 {
     packetizer_states(p);
     laws::packetizers_go_on();
@@ -112,30 +111,21 @@ fn again_with(
     limit: usize,
     payloads: &[Vec<u8>],
 ) -> Result<Repeated, PacketError>
-    ensures first { (s : PacketizerState) → codec_packetizer_state p.old ≡ Some s → IsFresh s →
-        IfOk result (λ it. it.first
-        ≡ all_packets s.format 0 (calls_like (next_call s limit []) (contents payloads.now))) }
-    ensures written { (r : DepacketizerState) → codec_depacketizer_state d.old ≡ Some r → r.run ≡ None →
-        IfOk result (λ it. it.written.items
-        ≡ byte_stream r.is_avc (received (map r.format.read it.first))) }
-    ensures second { (t : PacketizerState) → codec_packetizer_state q.old ≡ Some t → IsFresh t →
-        IfOk result (λ it. it.second
-        ≡ all_packets t.format 0 (next_call t limit it.written.items ∷ [])) }
-    ensures carried { (s : PacketizerState) (r : DepacketizerState) →
-        codec_packetizer_state p.old ≡ Some s →
-        codec_depacketizer_state d.old ≡ Some r → IsFresh s → r.format ≡ s.format →
-        AreCarried s.format
-        (units_sent s.format (all_entries s.format (calls_like (next_call s limit [])
-        (contents payloads.now)))) →
-        IfOk result (λ it. it.written.items ≡ byte_stream r.is_avc
-        (units_sent s.format (all_entries s.format (calls_like (next_call s limit [])
-        (contents payloads.now))))) }
-    ensures refused { (s : PacketizerState) (r : DepacketizerState) (t : PacketizerState) →
-        codec_packetizer_state p.old ≡ Some s →
-        codec_depacketizer_state d.old ≡ Some r → codec_packetizer_state q.old ≡ Some t →
-        IsFresh s → r.is_avc ≡ false →
-        IfErr result (λ error. (error ≡ PacketError.OutOfMemory) ⊎ IsFirstRefused r.format
-        (all_packets s.format 0 (calls_like (next_call s limit []) (contents payloads.now))) error) }
+    ensures first { Where (codec_packetizer_state p.old)
+        (λ s. IsFresh s →
+        IfOk result (λ it. it.first ≡ packets_at s limit (contents payloads.now))) }
+    ensures written { Where (codec_depacketizer_state d.old)
+        (λ r. r.run ≡ None → IfOk result (λ it. it.written.items ≡ byte_stream r.is_avc (received
+        (map r.format.read it.first)))) }
+    ensures second { Where (codec_packetizer_state q.old)
+        (λ t. IsFresh t → IfOk result (λ it. it.second ≡ all_packets t.format 0 (next_call t limit
+        it.written.items ∷ []))) }
+    ensures carried { WhereBoth (codec_packetizer_state p.old) (codec_depacketizer_state d.old)
+        (λ s r. IsFresh s → r.format ≡ s.format →
+        IsTextOf s.format r.is_avc (calls_at s limit (contents payloads.now)) result) }
+    ensures refused { WhereBoth (codec_packetizer_state p.old) (codec_depacketizer_state d.old)
+        (λ s r. Where (codec_packetizer_state q.old) (λ t. IsFresh s → r.is_avc ≡ false →
+        IfErr result (λ e. IsRefusal r.format (packets_at s limit (contents payloads.now)) e))) }
 {
     packetizer_states(p);
     depacketizer_states(d);
@@ -185,8 +175,8 @@ pub fn again(
     ensures same { MayBeRepeated (codec_format codec donl) (zero_rule codec)
         (repeated_calls codec max_packet_size limit (contents payloads.now)) →
         IfOk result (λ it. it.second ≡ it.first) }
-    ensures refused { IfErr result (λ error. (error ≡ PacketError.OutOfMemory) ⊎ IsFirstRefused
-        (codec_format codec donl) (all_packets (codec_format codec donl) 0
+    ensures refused { IfErr result (λ error. IsRefusal (codec_format codec donl)
+        (all_packets (codec_format codec donl) 0
         (repeated_calls codec max_packet_size limit (contents payloads.now))) error) }
 {
     h26x_payload::laws::sent_again();

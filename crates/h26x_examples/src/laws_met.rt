@@ -21,7 +21,7 @@ ghost use Rattle.h26x_model.specs.Send.Packets.{fragment, fragment_count, plan_p
 ghost use Rattle.h26x_model.specs.Send.PacketizerState.{PacketizerState, IsPacketizerState, state_plan, state_units, state_packets, after_entries, has_no_effect};
 ghost use Rattle.h26x_model.specs.Send.Plan.{Item, plan, item_units, units_sent};
 ghost use Rattle.h26x_model.specs.Send.WaitingSets.{entries_with_limit, sets_waiting};
-ghost use Rattle.h26x_model.specs.Receive.DepacketizerState.{Depacketization};
+ghost use Rattle.h26x_model.specs.Receive.DepacketizerState.{Depacketization, AreWritten};
 ghost use Rattle.h26x_model.specs.Receive.Received.{units_after};
 ghost use Rattle.h26x_model.specs.Receive.RunLimit.{run_len};
 ghost use Rattle.h26x_model.specs.Carry.Detection.{AreDetected};
@@ -30,7 +30,6 @@ ghost use Rattle.h26x_model.specs.Carry.Laws.{calls_like};
 ghost use Rattle.h26x_model.specs.Carry.Loss.{AreMasks, AreAllUnitsLeft, packets_left};
 ghost use Rattle.h264_payload.specs.H264.{h264};
 ghost use Rattle.h26x_codec.specs.Codec.{codec_format, fresh_depacketizer_state};
-ghost use Rattle.h26x_codec.specs.Runs.{AreWritten};
 ghost use Rattle.h26x_codec.specs.declared.codec.Codec.{Codec};
 ghost use Rattle.h26x_receiver.specs.Delivery.{IsDelivery, NoneIsRefused, mask_of_places, taken_mask};
 ghost use Rattle.h26x_receiver.specs.Sequence.{is_expected, next_sequence_number};

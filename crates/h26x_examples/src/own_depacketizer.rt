@@ -99,6 +99,10 @@ impl RunDepacketizer for CountingDepacketizer {
         self.taken = self.taken.saturating_add(1);
         Ok(())
     }
+
+    fn starts_run(&self, packet: &[u8]) -> bool {
+        self.depacketizer.starts_run(packet)
+    }
 }
 
 /// Receives packets with their sequence numbers, and counts those that were taken.

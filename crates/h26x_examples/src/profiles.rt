@@ -1,5 +1,7 @@
 //! Worked examples: what the tables say of values from outside, and the forms that serde writes.
 
+mod no_memory;
+
 use crate::sdp::params_of;
 use h26x_profile::{
     BitPattern, H264LevelIdc, H264Profile, H264ProfileIdc, H264ProfileLevel, H265Level,

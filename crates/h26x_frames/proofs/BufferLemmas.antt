@@ -7,7 +7,7 @@ use Rattle.std.proofs.lemmas.Bool.Decides.{nat_tests}
 use Rattle.h26x_receiver.specs.Sequence.{distance_ahead, next_sequence_number, is_late}
 use Rattle.std.proofs.lemmas.List.{drop_more}
 use Rattle.h26x_frames.specs.Rtp.{RtpBody}
-use Rattle.h26x_frames.specs.ReorderBuffer.{BufferState, IsBufferState, buffer_state, due_at, put_packet, is_number_held, last_number, may_go, first_ready, next_packet, without_first_of, without_first, after_push, ready_front, without_front, ready_packets, without_ready, IsReadyStep, IsNothingReady, reordered_from, AreHeldInOrder, IsHeldInOrder}
+use Rattle.h26x_frames.specs.ReorderBuffer.{BufferState, IsBufferState, buffer_state, due_at, put_packet, is_number_held, goes_straight, last_number, may_go, first_ready, next_packet, without_first_of, without_first, after_push, ready_front, without_front, ready_packets, without_ready, IsReadyStep, IsNothingReady, reordered_from, AreHeldInOrder, IsHeldInOrder}
 use Rattle.h26x_frames.proofs.HeldLemmas.{same_distance, distance_of}
 
 -- the number that is due when a packet comes
@@ -247,3 +247,34 @@ one_taken b new packets i p out more within here given stands =
     let at : drop i packets ≡ p ∷ drop (i + 1) packets = drop_more packets i p within ∙ ap (λ (q : ℕ × RtpBody). q ∷ drop (i + 1) packets) here in
     rw (given, stands, at) (append_assoc out (ready_packets (after_push b p).window (after_push b p).due (after_push b p).held)
     (reordered_from (without_ready (after_push b p).window (after_push b p).due (after_push b p).held) (drop (i + 1) packets)))
+
+-- where a packet needn't be held
+pub none_held : (window : ℕ) (due : Option ℕ) (held : List (ℕ × RtpBody)) (number : ℕ) → goes_straight (buffer_state window due held) number ≡ true → (held ≡ []) × (due ≡ Some number)
+none_held window due (q ∷ held) number is = absurd (let some : (length (q ∷ held) == 0) ≡ false = grind (arith, nat_tests) in let bad = rw some at is in cc)
+none_held window None [] number is = absurd (let bad = is in cc)
+none_held window (Some due) [] number is =
+    let same : due ≡ number = grind (arith, nat_tests) in
+    (refl, ap (λ (d : ℕ). Some d) same)
+
+-- it is held alone then
+held_alone_at : (window number : ℕ) (packet : RtpBody) → number < 65536 → after_push (buffer_state window (Some number) []) (number, packet) ≡ buffer_state window (Some number) ((number, packet) ∷ [])
+held_alone_at window number packet small =
+    let early : is_late (Some number) number ≡ false = grind (arith, nat_tests) in
+    rw early refl
+
+pub held_alone : (b : BufferState RtpBody) (number : ℕ) (packet : RtpBody) → number < 65536 → goes_straight b number ≡ true → after_push b (number, packet) ≡ buffer_state b.window (Some number) ((number, packet) ∷ [])
+held_alone b number packet small is =
+    let at = none_held b.window b.due b.held number is in
+    ap (λ (h : List (ℕ × RtpBody)). after_push (buffer_state b.window b.due h) (number, packet)) at.0
+    ∙ ap (λ (d : Option ℕ). after_push (buffer_state b.window d []) (number, packet)) at.1
+    ∙ held_alone_at b.window number packet small
+
+-- and the number behind it is due once it went
+pub straight_goes : (b : BufferState RtpBody) (number : ℕ) (packet : RtpBody) → number < 65536 → goes_straight b number ≡ true → buffer_state b.window (Some (next_sequence_number number)) b.held ≡ without_first (after_push b (number, packet))
+straight_goes b number packet small is =
+    let at = none_held b.window b.due b.held number is in
+    ap (λ (h : List (ℕ × RtpBody)). buffer_state b.window (Some (next_sequence_number number)) h) at.0
+    ∙ sym (ap (λ (x : BufferState RtpBody). without_first x) (held_alone b number packet small is))
+
+pub straight_order : (b : BufferState RtpBody) (number : ℕ) → goes_straight b number ≡ true → IsHeldInOrder (Some (next_sequence_number number)) b.held
+straight_order b number is = subst (IsHeldInOrder (Some (next_sequence_number number))) (sym (none_held b.window b.due b.held number is).0) (omega arith, tt)

@@ -7,9 +7,8 @@ use Rattle.h26x_core.specs.declared.error.PacketError.{PacketError}
 use Rattle.h26x_model.specs.Send.Calls.{all_entries}
 use Rattle.h26x_model.specs.Payload.Facts.{IsPayloadFormat}
 use Rattle.h26x_model.specs.Carry.Gaps.{whole_units}
-use Rattle.h26x_model.specs.Receive.DepacketizerState.{Depacketization}
+use Rattle.h26x_model.specs.Receive.DepacketizerState.{Depacketization, AreWritten}
 use Rattle.h26x_model.specs.Send.PacketizerState.{state_packets}
-use Rattle.h26x_codec.specs.Runs.{AreWritten}
 use Rattle.h26x_receiver.specs.declared.received.Received.{Received}
 use Rattle.h26x_receiver.specs.Sequenced.{with_expected, after_answers, HaveSequencedAnswers}
 use Rattle.h26x_receiver.specs.Delivery.{packet_of_place, WritesThoseOfCalls}

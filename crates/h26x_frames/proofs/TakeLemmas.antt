@@ -1,11 +1,13 @@
 -- What one packet that was taken leaves.
 use Rattle.std.proofs.Common.{◌≡◌, ℕ, Bool, true, false, cond, eq-eqb, length, List, [], ◌∷◌, ◌++◌, Option, Some, None, Result, Ok, Err, refl, sym, ap, ◌∙◌, arith}
-use Rattle.std.specs.Prelude.{◌==◌, ◌&&◌, nat_lt, unwrap_or, MatchBool, IfOk}
+use Rattle.std.specs.Prelude.{◌==◌, ◌&&◌, ◌||◌, nat_lt, unwrap_or, is_some, MatchBool, IfOk}
 use Rattle.std.specs.Option.{option_map}
 use Rattle.std.proofs.lemmas.List.{append-nil}
 use Rattle.std.proofs.lemmas.Bool.Decides.{nat_tests}
 use Rattle.h26x_core.specs.declared.error.PacketError.{PacketError}
 use Rattle.h26x_core.specs.declared.extra.CodecExtra.TheVariants as extras
+use Rattle.h26x_model.specs.Payload.Format.{Format}
+use Rattle.h26x_model.specs.Payload.Reading.{is_start}
 use Rattle.h26x_model.specs.Receive.DepacketizerState.{DepacketizerState}
 use Rattle.h26x_model.specs.Receive.RunLimit.{run_len, run_within, state_with_run}
 use Rattle.h26x_receiver.specs.declared.received.Received.{Received}
@@ -14,7 +16,7 @@ use Rattle.h26x_receiver.specs.Sequence.{missing_count, distance_behind, is_late
 use Rattle.h26x_receiver.specs.Sequenced.{SequencedDepacketization, sequenced_depacketization, after_sequenced_packet, after_taken_packet, answer_by_missing, is_taken, IsSequencedAnswer, after_answer}
 use Rattle.h26x_receiver.proofs.AnswerLemmas.{accepted}
 use Rattle.h26x_frames.specs.Rtp.{RtpBody, rtp_body}
-use Rattle.h26x_frames.specs.AccessUnit.{AccessUnitValue, OpenUnitView, empty_unit, whole_if, UnitDepacketization, open_depacketization, is_unit_at, taken_by, unit_with, given_out, is_run_too_long, is_following, is_run_closed, is_dropped, after_taken_rtp}
+use Rattle.h26x_frames.specs.AccessUnit.{AccessUnitValue, OpenUnitView, empty_unit, whole_if, UnitDepacketization, open_depacketization, is_unit_at, taken_by, unit_with, given_out, is_run_too_long, is_following, is_run_closed, gives_up_run, is_unit_broken, after_taken_rtp}
 
 -- an answer says whether the run was too long
 long_of : (lost : ℕ) (long : Bool) → is_run_too_long (accepted (answer_by_missing lost long)) ≡ long
@@ -71,7 +73,7 @@ at_gap gap closed state expected unit ended = record {
 -- what a packet leaves sound, by whether it follows the one before it
 abbrev sound_by : ℕ → SequencedDepacketization → ℕ × RtpBody → Bool → Bool
 sound_by most s p follow = let w = after_sequenced_packet s p.0 p.1.payload in
-    cond (nat_lt most (run_len w.state.run)) false (cond (is_dropped s.at_work w) false follow)
+    cond (nat_lt most (run_len w.state.run)) false (cond (is_unit_broken s.at_work w p.1.payload) false follow)
 
 -- one that begins an access unit
 first_taken : (most : ℕ) (gap : Bool) (closed : Option ℕ) (state : DepacketizerState) (expected : Option ℕ) (unit : Option AccessUnitValue) (ended : List AccessUnitValue) (p : ℕ × RtpBody) →
@@ -85,28 +87,35 @@ first_taken most gap closed state expected None ended p other = refl
 first_taken most gap closed state expected (Some u) ended p other = rw other refl
 
 -- a run that is measured is closed where it was, if it is not too long
-limited_same : (most : ℕ) (run : Option (List ℕ)) (same follow : Bool) →
-    cond (nat_lt most (run_len run)) false (cond (same && is_run_closed (run_within most run)) false follow) ≡ cond (nat_lt most (run_len run)) false (cond (same && is_run_closed run) false follow)
-limited_same most None same follow = refl
-limited_same most (Some run) same follow = elim (nat_lt most (length run)) as (λ b.
-    cond b false (cond (same && is_run_closed (cond b None (Some run))) false follow) ≡ cond b false (cond (same && is_run_closed (Some run)) false follow)) [ true ↦ refl | false ↦ refl ]
+limited_same : (most : ℕ) (run : Option (List ℕ)) (gives same follow : Bool) →
+    cond (nat_lt most (run_len run)) false (cond (gives || (same && is_run_closed (run_within most run))) false follow)
+    ≡ cond (nat_lt most (run_len run)) false (cond (gives || (same && is_run_closed run)) false follow)
+limited_same most None gives same follow = refl
+limited_same most (Some run) gives same follow = elim (nat_lt most (length run)) as (λ b.
+    cond b false (cond (gives || (same && is_run_closed (cond b None (Some run)))) false follow)
+    ≡ cond b false (cond (gives || (same && is_run_closed (Some run))) false follow)) [ true ↦ refl | false ↦ refl ]
+
+-- whether a unit lacks its end or its start by a packet, by what it left once its run was measured
+abbrev pub broken_by : SequencedDepacketization → List ℕ → SequencedDepacketization → Bool
+broken_by s packet work = gives_up_run s.at_work.state.run (s.at_work.state.format.read packet)
+    || ((length s.at_work.out == length work.at_work.out) && is_run_closed work.at_work.state.run)
 
 -- what a packet was taken by, and what is known of it then
 record WasTaken (most : ℕ) (follow : Bool) (s : SequencedDepacketization) (p : ℕ × RtpBody) (r : Result Received PacketError) (sound : Bool) (work : SequencedDepacketization) : Type 0 where
   pub taken : is_taken r ≡ true
   pub answer : IsSequencedAnswer most s p.0 p.1.payload r
   pub work_is : work ≡ after_taken_packet most s p.0 p.1.payload
-  pub sound_is : sound ≡ cond (is_run_too_long r) false (cond ((length s.at_work.out == length work.at_work.out) && is_run_closed work.at_work.state.run) false follow)
+  pub sound_is : sound ≡ cond (is_run_too_long r) false (cond (broken_by s p.1.payload work) false follow)
 
 sound_at : (most : ℕ) (follow : Bool) (s : SequencedDepacketization) (p : ℕ × RtpBody) (r : Result Received PacketError) (sound : Bool) (work : SequencedDepacketization) → WasTaken most follow s p r sound work →
     sound ≡ sound_by most s p follow
 sound_at most follow s p r sound work it =
-    let drops : SequencedDepacketization → Bool = λ w. (length s.at_work.out == length w.at_work.out) && is_run_closed w.at_work.state.run in
+    let broken = broken_by s p.1.payload in
     let w = after_sequenced_packet s p.0 p.1.payload in
     it.sound_is
-    ∙ ap (λ (b : Bool). cond b false (cond (drops work) false follow)) (answer_long most s p.0 p.1.payload r it.taken it.answer)
-    ∙ ap (λ (v : SequencedDepacketization). cond (nat_lt most (run_len w.state.run)) false (cond (drops v) false follow)) it.work_is
-    ∙ limited_same most w.state.run (length s.at_work.out == length w.out) follow
+    ∙ ap (λ (b : Bool). cond b false (cond (broken work) false follow)) (answer_long most s p.0 p.1.payload r it.taken it.answer)
+    ∙ ap (λ (v : SequencedDepacketization). cond (nat_lt most (run_len w.state.run)) false (cond (broken v) false follow)) it.work_is
+    ∙ limited_same most w.state.run (gives_up_run s.at_work.state.run (s.at_work.state.format.read p.1.payload)) (length s.at_work.out == length w.out) follow
 
 pub begins_taken : (most : ℕ) (gap : Bool) (closed : Option ℕ) (state : DepacketizerState) (expected : Option ℕ) (unit : Option AccessUnitValue) (ended : List AccessUnitValue) (p : ℕ × RtpBody)
     (r : Result Received PacketError) (sound : Bool) (work : SequencedDepacketization) → is_unit_at unit p.1.timestamp ≡ false → is_taken r ≡ true →
@@ -141,7 +150,7 @@ pub goes_on_taken : (most : ℕ) (gap : Bool) (closed : Option ℕ) (state : Dep
     (let t = unit.timestamp in
     let s = sequenced_depacketization state expected unit.bytes unit.extra in
     IsSequencedAnswer most s number payload r → work ≡ after_taken_packet most s number payload →
-    sound ≡ cond (is_run_too_long r) false (cond ((length unit.bytes == length work.at_work.out) && is_run_closed work.at_work.state.run) false (is_following gap closed expected t number)) →
+    sound ≡ cond (is_run_too_long r) false (cond (broken_by s payload work) false (is_following gap closed expected t number)) →
     with_unit work [] t false (whole_if sound (filled unit work)) ≡ after_taken_rtp most (at_gap gap closed state expected (Some unit) []) (number, rtp_body t false payload))
 goes_on_taken most gap closed state expected unit number payload r sound work taken answer work_is sound_is =
     let t = unit.timestamp in
@@ -200,3 +209,18 @@ same_open state expected it gap closed run unit x y is_gap is_closed is_run is_u
 pub same_unit : (unit : AccessUnitValue) (t : ℕ) → unit.timestamp ≡ t → unit.is_whole ≡ true →
     unit ≡ record { timestamp = t; bytes = unit.bytes; extra = unit.extra; is_whole = true }
 same_unit unit t stamp whole = ap (λ (x : ℕ). record unit { timestamp = x }) stamp ∙ ap (λ (b : Bool). record unit { timestamp = t; is_whole = b }) whole
+
+-- a run has a length where it is open
+pub some_len : (run : Option (List ℕ)) → is_some (option_map length run) ≡ is_some run
+some_len None = refl
+some_len (Some run) = refl
+
+-- whether a unit lacks its end or its start, by whether a run was open and how long the text was before
+pub broken_told : (most : ℕ) (s : SequencedDepacketization) (number : ℕ) (packet : List ℕ) (work : SequencedDepacketization) (had : Bool) (len : ℕ) →
+    work ≡ after_taken_packet most s number packet → had ≡ is_some s.at_work.state.run → len ≡ length s.at_work.out →
+    ((had && is_start (work.at_work.state.format.read packet)) || ((len == length work.at_work.out) && is_run_closed work.at_work.state.run)) ≡ broken_by s packet work
+broken_told most s number packet work had len work_is had_is len_is =
+    let told : Bool → ℕ → Format → Bool = λ h n f. (h && is_start (f.read packet)) || ((n == length work.at_work.out) && is_run_closed work.at_work.state.run) in
+    ap (λ (h : Bool). told h len work.at_work.state.format) had_is
+    ∙ ap (λ (n : ℕ). told (is_some s.at_work.state.run) n work.at_work.state.format) len_is
+    ∙ ap (told (is_some s.at_work.state.run) (length s.at_work.out)) (ap (λ (w : SequencedDepacketization). w.at_work.state.format) work_is)

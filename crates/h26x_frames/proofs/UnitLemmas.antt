@@ -1,6 +1,6 @@
 -- What a receiver gives out of packets that are all taken.
 use Rattle.std.proofs.Common.{◌≡◌, ℕ, ◌+◌, ◌<◌, ◌≤◌, Bool, true, false, cond, eq-eqb, List, [], ◌∷◌, ◌++◌, length, length-append, Option, Some, None, refl, sym, ap, ◌∙◌, subst, arith}
-use Rattle.std.specs.Prelude.{◌==◌, ◌&&◌, nat_lt}
+use Rattle.std.specs.Prelude.{◌==◌, ◌&&◌, ◌||◌, nat_lt}
 use Rattle.std.specs.List.{list_any, list_all}
 use Rattle.std.proofs.lemmas.List.{append-nil}
 use Rattle.std.proofs.lemmas.Bool.Decides.{nat_tests}
@@ -16,7 +16,7 @@ use Rattle.h26x_receiver.specs.Sequenced.{with_run_if}
 use Rattle.h26x_receiver.specs.Delivery.{IsNextPlace}
 use Rattle.h26x_receiver.proofs.PlaceLemmas.{number_at, expected_at, is_place, IsOn, next_number, on_place, next_in_time, next_near}
 use Rattle.h26x_frames.specs.Rtp.{RtpBody, rtp_body}
-use Rattle.h26x_frames.specs.AccessUnit.{AccessUnitValue, whole_if, UnitDepacketization, unit_depacketization, is_unit_at, is_closed_at, is_run_closed, is_dropped, given_out, after_taken_rtp}
+use Rattle.h26x_frames.specs.AccessUnit.{AccessUnitValue, whole_if, UnitDepacketization, unit_depacketization, is_unit_at, is_closed_at, is_run_closed, is_dropped, gives_up_run, is_unit_broken, given_out, after_taken_rtp}
 use Rattle.h26x_frames.specs.StampedCalls.{has_none, unit_bodies, are_runs_within, last_came}
 use Rattle.h26x_frames.specs.AnyUnits.{is_some_unit, is_unused, are_used}
 use Rattle.h26x_frames.proofs.TakeLemmas.{at_gap}
@@ -94,16 +94,29 @@ is_long most w x = nat_lt most (run_len (after_packets w (x ∷ [])).state.run)
 abbrev drops : Depacketization → List ℕ → Bool
 drops w x = is_dropped w (after_packets w (x ∷ []))
 
--- whether nothing is known to be missing, by whether a run is too long, no byte stands of the packet, and it follows
+-- whether a unit lacks its end or its start by it
+abbrev breaks : Depacketization → List ℕ → Bool
+breaks w x = is_unit_broken w (after_packets w (x ∷ [])) x
+
+-- whether nothing is known to be missing, by whether a run is too long, a unit lacks its end or its start by the packet, and it follows
 abbrev pub sound_bit : Bool → Bool → Bool → Bool
-sound_bit long dropped b = cond long false (cond dropped false b)
+sound_bit long broken b = cond long false (cond broken false b)
+
+-- what never holds
+never : (b : Bool) → cond b false false ≡ false
+never true = refl
+never false = refl
+
+-- so where the packet doesn't follow
+not_following : (whole long c d : Bool) → (whole && sound_bit long c false) ≡ (whole && sound_bit long d false)
+not_following whole long c d = ap (λ (x : Bool). whole && cond long false x) (never c ∙ sym (never d))
 
 -- what a packet leaves, where this stands
 abbrev next_work : ℕ → Depacketization → List ℕ → Depacketization
 next_work most w x = with_run_within most (after_packets w (x ∷ []))
 
 abbrev next_unit : ℕ → ℕ → Bool → Bool → Depacketization → List ℕ → AccessUnitValue
-next_unit most t whole b w x = unit_of t (next_work most w x) (whole && sound_bit (is_long most w x) (drops w x) b)
+next_unit most t whole b w x = unit_of t (next_work most w x) (whole && sound_bit (is_long most w x) (breaks w x) b)
 
 abbrev stepped : ℕ → ℕ → Bool → Bool → Depacketization → List AccessUnitValue → ℕ → Bool → List ℕ → UnitDepacketization
 stepped most t whole b w ended number marker x = at_gap false (cond marker (Some t) None) (next_work most w x).state (Some (next_sequence_number number))
@@ -114,13 +127,20 @@ step_on : (most t : ℕ) (w : Depacketization) (whole b : Bool) (ended : List Ac
     is_expected expected number ≡ b →
     after_taken_rtp most (unit_depacketization w.state expected (Some (unit_of t w whole)) ended) (number, rtp_body t marker x)
     ≡ stepped most t whole b (with_run_if b w) ended number marker x
-step_on most t w whole b ended expected number marker x is =
-    let here = with_run_if b w in
-    let next = next_work most here x in
-    let unit = next_unit most t whole b here x in
+step_on most t w whole true ended expected number marker x is =
+    let next = next_work most w x in
+    let unit = next_unit most t whole true w x in
     rw (same_place t, is) (ap (λ (l : List AccessUnitValue). at_gap false (cond marker (Some t) None) next.state (Some (next_sequence_number number))
     (cond marker None (Some unit)) (l ++ cond marker (whole_if (is_run_closed next.state.run) unit ∷ []) []))
     (append-nil ended))
+step_on most t w whole false ended expected number marker x is =
+    let here = without_open_run w in
+    let next = next_work most here x in
+    let broken = gives_up_run w.state.run (w.state.format.read x) || drops here x in
+    let left : List AccessUnitValue → Bool → UnitDepacketization = λ l h. at_gap false (cond marker (Some t) None) next.state (Some (next_sequence_number number))
+    (cond marker None (Some (unit_of t next h))) (l ++ cond marker (whole_if (is_run_closed next.state.run) (unit_of t next h) ∷ []) []) in
+    rw (same_place t, is) (ap (left (ended ++ [])) (not_following whole (is_long most here x) broken (breaks here x))
+    ∙ ap (λ (l : List AccessUnitValue). left l (whole && sound_bit (is_long most here x) (breaks here x) false)) (append-nil ended))
 
 -- where an access unit begins
 abbrev pub begun : UnitDepacketization → Depacketization
@@ -196,12 +216,17 @@ drops_is w x =
     ∙ ap (λ (b : Bool). b && is_run_closed run) (no_longer w.state.is_avc w.out units)
     ∙ elim (is_some_unit units) as (λ b. (cond b false true && is_run_closed run) ≡ cond b false (is_run_closed run)) [ true ↦ refl | false ↦ refl ]
 
+-- and so it breaks a unit
+breaks_is : (w : Depacketization) (x : List ℕ) →
+    breaks w x ≡ (gives_up_run w.state.run (w.state.format.read x) || is_unused w.state.format w.state.run x)
+breaks_is w x = ap (λ (d : Bool). gives_up_run w.state.run (w.state.format.read x) || d) (drops_is w x)
+
 -- the last packet of an access unit
-closing : (long dropped whole b c d : Bool) → (long ≡ false → c ≡ d) →
-    ((whole && sound_bit long dropped b) && c) ≡ (whole && (b && ((true && true) && (cond long false true && cond dropped false d))))
-closing long dropped false b c d h = refl
-closing true dropped true true c d h = refl
-closing true dropped true false c d h = refl
+closing : (long broken whole b c d : Bool) → (long ≡ false → c ≡ d) →
+    ((whole && sound_bit long broken b) && c) ≡ (whole && (b && ((true && true) && (cond long false true && cond broken false d))))
+closing long broken false b c d h = refl
+closing true broken true true c d h = refl
+closing true broken true false c d h = refl
 closing false true true true c d h = refl
 closing false true true false c d h = refl
 closing false false true true c d h = h refl
@@ -212,12 +237,12 @@ no_more true = refl
 no_more false = refl
 
 -- one that is not the last
-going_on : (long dropped whole b all x y u v : Bool) → (long ≡ false → x ≡ y) → (long ≡ false → u ≡ v) →
-    ((whole && sound_bit long dropped b) && (true && (all && (x && u)))) ≡ (whole && (b && ((true && all) && (cond long false y && cond dropped false v))))
-going_on long dropped false b all x y u v h k = refl
-going_on true dropped true true true x y u v h k = refl
-going_on true dropped true true false x y u v h k = refl
-going_on true dropped true false all x y u v h k = refl
+going_on : (long broken whole b all x y u v : Bool) → (long ≡ false → x ≡ y) → (long ≡ false → u ≡ v) →
+    ((whole && sound_bit long broken b) && (true && (all && (x && u)))) ≡ (whole && (b && ((true && all) && (cond long false y && cond broken false v))))
+going_on long broken false b all x y u v h k = refl
+going_on true broken true true true x y u v h k = refl
+going_on true broken true true false x y u v h k = refl
+going_on true broken true false all x y u v h k = refl
 going_on false true true true true x y u v h k = no_more y
 going_on false true true true false x y u v h k = refl
 going_on false true true false all x y u v h k = refl
@@ -227,7 +252,7 @@ going_on false false true false all x y u v h k = refl
 -- one packet, and then others
 from_step : (most first p q t : ℕ) (whole b : Bool) (w : Depacketization) (ended : List AccessUnitValue) (x : List ℕ) (packets : List (List ℕ)) (mask : List Bool) →
     length mask ≡ length packets →
-    (let holds = whole && sound_bit (is_long most w x) (drops w x) b in
+    (let holds = whole && sound_bit (is_long most w x) (breaks w x) b in
     (has_none packets ≡ false → IsLeft first t (last_came false mask) (expected_after (Some (p + 1)) (p + 1) mask) q w.state.format w.state.is_avc
     (ended ++ grown most t holds true (next_work most w x) mask packets ∷ [])
     (after_all_taken most (opened first (Some (p + 1)) t (next_work most w x) holds ended) (kept_from first (p + 1) mask (unit_bodies t packets)))) →
@@ -243,8 +268,8 @@ from_step most first p q t whole b w ended x [] [] long = λ later.
     record {
       all = append-nil (ended ++ whole_if (is_run_closed next.state.run) unit ∷ [])
           ∙ ap (λ (is : Bool). ended ++ unit_of t next is ∷ [])
-          (closing too_long (drops w x) whole b (is_run_closed (run_within most run)) (is_run_closed run) (λ short. ap is_run_closed (short_run most run short))
-          ∙ ap (λ (d : Bool). whole && (b && ((true && true) && (cond too_long false true && cond d false (is_run_closed run))))) (drops_is w x));
+          (closing too_long (breaks w x) whole b (is_run_closed (run_within most run)) (is_run_closed run) (λ short. ap is_run_closed (short_run most run short))
+          ∙ ap (λ (d : Bool). whole && (b && ((true && true) && (cond too_long false true && cond d false (is_run_closed run))))) (breaks_is w x));
       expected = ap Some (next_number first p);
       gap = refl;
       closed = refl;
@@ -259,7 +284,7 @@ from_step most first p q t whole b w ended x (y ∷ packets) (m ∷ mask) long =
     let last = last_came false (m ∷ mask) in
     let kept = kept_from first (p + 1) (m ∷ mask) (unit_bodies t rest) in
     let next = next_work most w x in
-    let holds = whole && sound_bit too_long (drops w x) b in
+    let holds = whole && sound_bit too_long (breaks w x) b in
     let e_next = expected_after (Some (p + 1)) (p + 1) (m ∷ mask) in
     let new : opened first (Some (p + 1)) t next holds ended ≡ stepped most t whole b w ended (number_at first p) false x =
     ap (λ (n : ℕ). unit_depacketization next.state (Some n) (Some (unit_of t next holds)) ended) (sym (next_number first p))
@@ -268,11 +293,11 @@ from_step most first p q t whole b w ended x (y ∷ packets) (m ∷ mask) long =
     let all = list_all (λ came. came) (m ∷ mask) in
     let same : grown most t holds true next (m ∷ mask) rest ≡ grown most t whole b w (true ∷ m ∷ mask) (x ∷ rest) =
     ap (unit_of t (after_kept_packets most next (m ∷ mask) rest))
-    (going_on too_long (drops w x) whole b all (are_runs_within f most (run_within most run) rest) (are_runs_within f most run rest)
+    (going_on too_long (breaks w x) whole b all (are_runs_within f most (run_within most run) rest) (are_runs_within f most run rest)
     (are_used f (run_within most run) rest) (are_used f run rest)
     (λ short. ap (λ (r : Option (List ℕ)). are_runs_within f most r rest) (short_run most run short))
     (λ short. ap (λ (r : Option (List ℕ)). are_used f r rest) (short_run most run short))
-    ∙ ap (λ (d : Bool). whole && (b && ((true && all) && (cond too_long false (are_runs_within f most run rest) && cond d false (are_used f run rest))))) (drops_is w x)) in
+    ∙ ap (λ (d : Bool). whole && (b && ((true && all) && (cond too_long false (are_runs_within f most run rest) && cond d false (are_used f run rest))))) (breaks_is w x)) in
     subst (λ (s : UnitDepacketization). IsLeft first t last e_next q f w.state.is_avc (ended ++ grown most t whole b w (true ∷ m ∷ mask) (x ∷ rest) ∷ []) (after_all_taken most s kept)) new
     (subst (λ (u : AccessUnitValue). IsLeft first t last e_next q f w.state.is_avc (ended ++ u ∷ []) (after_all_taken most (opened first (Some (p + 1)) t next holds ended) kept)) same
     (later refl))
@@ -310,7 +335,7 @@ goes_on most first p q t e w whole ended (true ∷ mask) (x ∷ packets) long is
     let b = is_place e p in
     let here = with_run_if b w in
     let next = next_work most here x in
-    let holds = whole && sound_bit (is_long most here x) (drops here x) b in
+    let holds = whole && sound_bit (is_long most here x) (breaks here x) b in
     let kept = kept_from first (p + 1) mask (unit_bodies t packets) in
     let step = step_on most t w whole b ended (expected_at first e) (number_at first p) (has_none packets) x (follows_at first e p gaps.0) in
     subst (λ (s : UnitDepacketization). IsLeft first t (last_came true mask) (expected_after (Some (p + 1)) (p + 1) mask) q w.state.format w.state.is_avc (ended ++ grown most t whole b here (true ∷ mask) (x ∷ packets) ∷ []) (after_all_taken most s kept)) (sym step)
@@ -318,11 +343,6 @@ goes_on most first p q t e w whole ended (true ∷ mask) (x ∷ packets) long is
     (λ more. subst (λ (c : Bool). IsLeft first t (last_came false mask) (expected_after (Some (p + 1)) (p + 1) mask) q w.state.format w.state.is_avc (ended ++ grown most t holds c (with_run_if c next) mask packets ∷ []) (after_all_taken most (opened first (Some (p + 1)) t next holds ended) kept))
     (same_place (p + 1))
     (goes_on most first (p + 1) q t (Some (p + 1)) next holds ended mask packets (omega arith) (omega arith) gaps.1 (omega arith) (λ none. absurd (let bad = sym more ∙ none in cc)))))
-
--- what never holds
-never : (b : Bool) → cond b false false ≡ false
-never true = refl
-never false = refl
 
 -- what was open is given out as not whole where its last packet is missing
 given_same : (stamp : Option ℕ) (p : ℕ) (e : Option ℕ) (shut c : Bool) (unit : Option AccessUnitValue) → IsLeftOpen stamp unit e p → given_out (cond shut false (is_place e p) && c) unit ≡ given_out false unit
@@ -362,7 +382,7 @@ begins most first p q t stamp closed e state unit ended (true ∷ mask) (x ∷ p
     let b = cond shut false (is_place e p) in
     let w = begun s in
     let next = next_work most w x in
-    let holds = true && sound_bit (is_long most w x) (drops w x) b in
+    let holds = true && sound_bit (is_long most w x) (breaks w x) b in
     let all = ended ++ given_out false unit in
     let kept = kept_from first (p + 1) mask (unit_bodies t packets) in
     let e_next = expected_after (Some (p + 1)) (p + 1) mask in

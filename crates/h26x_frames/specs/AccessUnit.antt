@@ -1,17 +1,18 @@
 -- Access units of packets with their timestamps and markers (RFC 3550, 5.1; RFC 6184, 5.1; RFC 7798,
 -- 4.1; RFC 9328, 4.1; ours).
-use Rattle.std.specs.Prelude.{◌≡◌, ℕ, ◌==◌, nat_lt, Bool, true, false, ◌&&◌, if◌then◌else◌, List, [], ◌∷◌, ◌++◌, length, map, Option, Some, None, Result, Ok, Err, ◌⊎◌}
+use Rattle.std.specs.Prelude.{◌≡◌, ℕ, ◌==◌, nat_lt, Bool, true, false, ◌&&◌, ◌||◌, if◌then◌else◌, List, [], ◌∷◌, ◌++◌, length, map, Option, Some, None, is_some, Result, Ok, Err, ◌⊎◌}
 use Rattle.std.specs.Option.{option_map}
 use Rattle.h26x_core.specs.declared.extra.CodecExtra.{CodecExtra}
 use Rattle.h26x_core.specs.declared.extra.CodecExtra.TheVariants as extras
 use Rattle.h26x_core.specs.declared.error.PacketError.{PacketError}
 use Rattle.h26x_core.specs.declared.error.PacketError.TheVariants.{OutOfMemory}
+use Rattle.h26x_model.specs.Payload.Reading.{Reading, is_start}
 use Rattle.h26x_model.specs.Receive.DepacketizerState.{DepacketizerState, Depacketization}
 use Rattle.h26x_model.specs.Receive.RunLimit.{run_len, state_with_run}
 use Rattle.h26x_receiver.specs.declared.received.Received.{Received}
 use Rattle.h26x_receiver.specs.declared.sequenced.SequencedDepacketizer.{SequencedDepacketizer}
 use Rattle.h26x_receiver.specs.declared.received.Received.TheVariants.{TooLong, Late}
-use Rattle.h26x_receiver.specs.Sequence.{is_expected}
+use Rattle.h26x_receiver.specs.Sequence.{is_expected, is_late}
 use Rattle.h26x_receiver.specs.Sequenced.{SequencedDepacketization, sequenced_depacketization, after_sequenced_packet, after_taken_packet, IsSequencedAnswer, expected_after_skip, is_run_kept}
 use Rattle.h26x_frames.specs.Rtp.{RtpBody, rtp_body}
 use Rattle.h26x_frames.specs.declared.access_unit.AccessUnit.{AccessUnit}
@@ -207,15 +208,27 @@ is_run_closed run = run_len run == 0
 abbrev pub is_dropped : Depacketization → Depacketization → Bool
 is_dropped before after = (length before.out == length after.out) && is_run_closed after.state.run
 
--- whether it is known that nothing of its access unit is missing before a packet that was taken, and
--- bytes of it stand, and it left no run that is too long
+-- whether a packet gives up the run that is open: it starts another one, though no end came (RFC
+-- 6184, 5.8; RFC 7798, 4.4.3; RFC 9328, 4.3.3)
+abbrev pub gives_up_run : Option (List ℕ) → Reading → Bool
+gives_up_run run reading = is_some run && is_start reading
+
+-- whether a unit lacks its end or its start by a packet, by what stood before it and after it: it
+-- gives up a run, or no byte stands of it
+abbrev pub is_unit_broken : Depacketization → Depacketization → List ℕ → Bool
+is_unit_broken before after packet =
+    gives_up_run before.state.run (before.state.format.read packet) || is_dropped before after
+
+-- whether it is known that nothing of its access unit is missing before a packet that was taken, no
+-- unit lacks its end or its start by it, and it left no run that is too long
 abbrev pub is_sound : ℕ → UnitDepacketization → ℕ × RtpBody → Bool
 is_sound most s p =
     if nat_lt most
     (run_len (after_sequenced_packet (taken_by s p.1.timestamp) p.0 p.1.payload).state.run)
     then false
-    else (if is_dropped (taken_by s p.1.timestamp).at_work
-    (after_sequenced_packet (taken_by s p.1.timestamp) p.0 p.1.payload) then false else follows s p)
+    else (if is_unit_broken (taken_by s p.1.timestamp).at_work
+    (after_sequenced_packet (taken_by s p.1.timestamp) p.0 p.1.payload) p.1.payload
+    then false else follows s p)
 
 -- the access unit of a packet that was taken, with what it completed
 abbrev pub unit_with : ℕ → UnitDepacketization → ℕ × RtpBody → AccessUnitValue
@@ -289,21 +302,30 @@ after_rtp most limit s p (Ok (Late n)) = s
 after_rtp most limit s p (Ok answer) = with_unit_within limit (after_taken_rtp most s p)
 after_rtp most limit s p (Err error) = s
 
--- what stands after a number that came and bears nothing of the stream: in order only the number that
--- is expected changes; where others before it are missing the open run is given up, and neither what is
--- open nor what the next packet begins is known to be whole
+-- what stands behind numbers that are missing, up to this one: the open run is given up, and neither
+-- what is open nor what the next packet begins is known to be whole
+abbrev pub behind_missing : UnitDepacketization → ℕ → UnitDepacketization
+behind_missing s number = record {
+  state = state_with_run s.state None;
+  expected = expected_after_skip s.expected number;
+  is_gap = true;
+  closed = s.closed;
+  unit = option_map (whole_if false) s.unit;
+  ended = s.ended;
+}
+
+-- what stands after a number that came and bears nothing of the stream: in order, or where it is late,
+-- only the number that is expected changes; else others before it are missing
 abbrev pub after_unit_skip : UnitDepacketization → ℕ → UnitDepacketization
 after_unit_skip s number =
     if is_run_kept s.expected number
     then record s { expected = expected_after_skip s.expected number }
-    else record {
-      state = state_with_run s.state None;
-      expected = expected_after_skip s.expected number;
-      is_gap = true;
-      closed = s.closed;
-      unit = option_map (whole_if false) s.unit;
-      ended = s.ended;
-    }
+    else behind_missing s number
+
+-- what stands after a number whose packet was refused, and which is missing: one that is late changes
+-- nothing
+abbrev pub after_pass_over : UnitDepacketization → ℕ → UnitDepacketization
+after_pass_over s number = if is_late s.expected number then s else behind_missing s number
 
 -- what stands after the end: what was open is not known to be whole, no run is open, and any number
 -- may be the first

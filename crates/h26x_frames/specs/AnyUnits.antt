@@ -1,6 +1,6 @@
 -- Access units of any sender, whatever their packets are, and what is given out of these where packets
 -- are missing (ours).
-use Rattle.std.specs.Prelude.{◌≡◌, ℕ, ◌+◌, ◌%◌, ◌^◌, ◌<◌, Bool, true, false, ◌&&◌, if◌then◌else◌, List, [], ◌∷◌, ◌++◌, length, map, take, drop, Option, None, Result}
+use Rattle.std.specs.Prelude.{◌≡◌, ℕ, ◌+◌, ◌%◌, ◌^◌, ◌<◌, Bool, true, false, ◌&&◌, ◌||◌, if◌then◌else◌, List, [], ◌∷◌, ◌++◌, length, map, take, drop, Option, None, Result}
 use Rattle.std.specs.Option.{option_map}
 use Rattle.std.specs.List.{AllByRecursion, list_any, list_all}
 use Rattle.h26x_core.specs.declared.extra.CodecExtra.TheVariants as extras
@@ -17,7 +17,7 @@ use Rattle.h26x_receiver.specs.declared.received.Received.{Received}
 use Rattle.h26x_receiver.specs.Delivery.{AreNearPlaces, taken_places, mask_of_places}
 use Rattle.h26x_frames.specs.Reordering.{in_order, IsReordered}
 use Rattle.h26x_frames.specs.Rtp.{RtpBody}
-use Rattle.h26x_frames.specs.AccessUnit.{AccessUnitValue, UnitDepacketization, IsNoneOpen, is_closed_at, is_run_closed, after_all_rtp, after_end, HaveUnitAnswers}
+use Rattle.h26x_frames.specs.AccessUnit.{AccessUnitValue, UnitDepacketization, IsNoneOpen, is_closed_at, is_run_closed, gives_up_run, after_all_rtp, after_end, HaveUnitAnswers}
 use Rattle.h26x_frames.specs.ReorderBuffer.{reordered}
 use Rattle.h26x_frames.specs.StampedCalls.{unit_bodies, body_of_place, are_runs_within, last_came, closed_after, open_after, IsOtherStamp, AreUnitsGiven, first_place}
 
@@ -31,10 +31,11 @@ abbrev pub is_unused : Format → Option (List ℕ) → List ℕ → Bool
 is_unused f run packet = if is_some_unit (reading_units run (f.read packet)) then false
     else is_run_closed (run_after run (f.read packet))
 
--- whether bytes stand of each of packets, and no run is open behind them
+-- whether bytes stand of each of packets, none gives up a run, and no run is open behind them
 abbrev pub are_used : Format → Option (List ℕ) → List (List ℕ) → Bool
 are_used f run [] = is_run_closed run
-are_used f run (packet ∷ packets) = if is_unused f run packet then false
+are_used f run (packet ∷ packets) =
+    if gives_up_run run (f.read packet) || is_unused f run packet then false
     else are_used f (run_after run (f.read packet)) packets
 
 -- the packets of an access unit, whatever they are, and their timestamp: the last bears the marker
@@ -55,7 +56,7 @@ units_that_came most f packets mask = keep
 
 -- Of one access unit, what a mask of its packets leaves: nothing where none of them came, and else the
 -- text of those units. It is known to be whole where each packet came, and the one before them, bytes
--- stand of each, no run is longer than the limit, and none is open at the end.
+-- stand of each, no run is longer than the limit or given up, and none is open at the end.
 abbrev pub any_unit_left : ℕ → Format → Bool → Bool → SentPackets → List Bool →
     List AccessUnitValue
 any_unit_left most f avc before sent mask =

@@ -6,8 +6,7 @@ use Rattle.h26x_model.specs.Send.Calls.{Call, AreCalls, all_entries}
 use Rattle.h26x_model.specs.Payload.Facts.{AreCarried}
 use Rattle.h26x_model.specs.Carry.Gaps.{whole_units}
 use Rattle.h26x_model.specs.Send.PacketizerState.{PacketizerState, IsPacketizerState, state_units, state_packets}
-use Rattle.h26x_model.specs.Receive.DepacketizerState.{Depacketization}
-use Rattle.h26x_codec.specs.Runs.{AreWritten}
+use Rattle.h26x_model.specs.Receive.DepacketizerState.{Depacketization, AreWritten}
 use Rattle.h26x_receiver.specs.declared.received.Received.{Received}
 use Rattle.h26x_receiver.specs.Sequenced.{with_expected, after_answers, HaveSequencedAnswers}
 use Rattle.h26x_receiver.specs.Delivery.{packet_of_place, mask_of_places, NoneIsRefused}

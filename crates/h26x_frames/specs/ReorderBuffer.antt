@@ -1,7 +1,7 @@
 -- A buffer of packets that came before earlier ones, by their sequence numbers (RFC 3550, 5.1; ours).
-use Rattle.std.specs.Prelude.{◌≡◌, ℕ, ◌+◌, ◌-◌, ◌%◌, ◌^◌, ◌<◌, ◌≤◌, ◌==◌, nat_lt, nat_le, Bool, ◌||◌, if◌then◌else◌, List, [], ◌∷◌, ◌++◌, length, map, Option, Some, None}
+use Rattle.std.specs.Prelude.{◌≡◌, ℕ, ◌+◌, ◌-◌, ◌%◌, ◌^◌, ◌<◌, ◌≤◌, ◌==◌, nat_lt, nat_le, Bool, ◌||◌, ◌&&◌, if◌then◌else◌, List, [], ◌∷◌, ◌++◌, length, map, Option, Some, None}
 use Rattle.std.specs.List.{list_any}
-use Rattle.h26x_receiver.specs.Sequence.{next_sequence_number, distance_ahead, distance_behind, is_late}
+use Rattle.h26x_receiver.specs.Sequence.{next_sequence_number, distance_ahead, distance_behind, is_expected, is_late}
 use Rattle.h26x_frames.specs.Reordering.{in_order, IsReordered}
 use Rattle.h26x_frames.specs.Rtp.{RtpBody, rtp_body}
 use Rattle.h26x_frames.specs.declared.buffer.HeldPacket.{HeldPacket}
@@ -65,6 +65,10 @@ after_push b p =
     if is_late (Some (due_at b.window b.due p.0)) p.0 then b
     else buffer_state b.window (Some (due_at b.window b.due p.0))
     (put_packet (due_at b.window b.due p.0) p b.held)
+
+-- whether a packet with this number needn't be held: none is, and it is the one that is due
+abbrev pub goes_straight : {A : Type 0} → BufferState A → ℕ → Bool
+goes_straight b number = (length b.held == 0) && is_expected b.due number
 
 -- the number of the last of packets
 abbrev pub last_number : {A : Type 0} → ℕ → List (ℕ × A) → ℕ

@@ -1,6 +1,7 @@
 //! Access units, and the one that is open.
 
-ghost use Rattle.std.specs.Prelude.{◌≡◌, ◌+◌, ◌≤◌, ◌==◌, nat_lt, ◌&&◌, ◌++◌, ◌∷◌, [], if◌then◌else◌, true, false, None, Some, MatchBool, map, length, vec_len, vec_capacity, is_some};
+ghost use Rattle.std.specs.Prelude.{◌≡◌, ◌+◌, ◌≤◌, ◌==◌, nat_lt, ◌&&◌, ◌||◌, ◌++◌, ◌∷◌, [], if◌then◌else◌, true, false, None, Some, MatchBool, map, length, vec_len, vec_capacity, is_some};
+ghost use Rattle.h26x_model.specs.Payload.Reading.{is_start};
 ghost use Rattle.h26x_model.specs.Receive.RunLimit.{run_len};
 ghost use Rattle.h26x_receiver.specs.Sequenced.{is_taken};
 ghost use Rattle.h26x_frames.specs.AccessUnit.{access_unit_value, open_unit_value, open_unit_view, empty_unit, whole_if, one_open, none_open, without_marker, behind_gap, is_following, is_run_closed, unit_len, unit_within, is_unit_at, given_out, IsTakenAnswer, after_taken_rtp, units_at};
@@ -8,6 +9,7 @@ ghost use Rattle.h26x_frames.specs.AccessUnit.{access_unit_value, open_unit_valu
 use crate::answers::{is_following, is_sound, was_taken};
 use crate::packet::RtpPacket;
 use h26x_core::{CodecExtra, PacketError};
+use h26x_model::laws;
 use h26x_payload::{OpenRun, OpenText};
 use h26x_receiver::{Received, RunDepacketizer, SequencedDepacketizer};
 use std::alloc::Global;
@@ -82,8 +84,11 @@ impl OpenUnit {
         ensures kept { MatchBool (is_taken result) (Unit {0}) ((packets.new ≡ packets.old)
             × (one_open self.new is_gap closed ≡ one_open self.old is_gap closed)) }
     {
+        packets.depacketizer.meets_the_facts();
+        laws::runs_grow_by_their_packets();
         let follows = is_following(is_gap, closed, packets.expected, packet);
         let len = self.text.len();
+        let had_run = self.text.met_run_len(true).is_some();
         let received = packets.receive_in_text(
             packet.sequence,
             packet.payload,
@@ -91,12 +96,32 @@ impl OpenUnit {
             &mut self.text,
             &mut self.extra,
         );
-        let is_dropped = self.is_dropped(len);
-        let is_sound = is_sound(follows, is_dropped, &received);
         if was_taken(&received) {
+            let is_broken = self.is_broken(&packets.depacketizer, packet.payload, had_run, len);
+            let is_sound = is_sound(follows, is_broken, &received);
             self.is_whole = self.is_whole && is_sound;
         }
         received
+    }
+
+    /// Whether a unit lacks its end or its start by a packet that was taken, before which a run was
+    /// open or not and the text had so many bytes. A run that is longer than the packet isn't its own.
+    #[inline]
+    fn is_broken<D: RunDepacketizer>(
+        &self,
+        depacketizer: &D,
+        payload: &[u8],
+        had_run: bool,
+        len: usize,
+    ) -> bool
+        requires { is_start ((D.state depacketizer.now).format.read payload.now) ≡ true →
+            run_len self.now.text.run ≤ length payload.now }
+        ensures { result ≡ ((had_run && is_start ((D.state depacketizer.now).format.read
+            payload.now)) || ((len == length self.now.text.text)
+            && is_run_closed self.now.text.run)) }
+    {
+        let may_be_given_up = had_run && self.text.run_len() <= payload.len();
+        may_be_given_up && depacketizer.starts_run(payload) || self.is_dropped(len)
     }
 
     /// Whether no byte stands of a packet before which the text had so many: neither there nor in a

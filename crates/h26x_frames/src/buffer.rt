@@ -1,9 +1,9 @@
 //! A buffer for packets that come before earlier ones.
 
-ghost use Rattle.std.specs.Prelude.{◌≡◌, ◌+◌, ◌^◌, ◌<◌, ◌≤◌, ◌==◌, if◌then◌else◌, false, ℕ, Ok, None, IfOk, IfErr, OnOk, OnErr, is_some, length, slice_get, slice_index_or};
+ghost use Rattle.std.specs.Prelude.{◌≡◌, ◌+◌, ◌^◌, ◌<◌, ◌≤◌, ◌==◌, if◌then◌else◌, true, false, ℕ, Ok, None, IfOk, IfErr, OnOk, OnErr, is_some, length, slice_get, slice_index_or};
 ghost use Rattle.std.specs.Option.{option_map};
 ghost use Rattle.h26x_frames.specs.Rtp.{RtpBody};
-ghost use Rattle.h26x_frames.specs.ReorderBuffer.{BufferState, numbered_packet, fresh_buffer, push_answer, after_push, next_packet, without_first};
+ghost use Rattle.h26x_frames.specs.ReorderBuffer.{BufferState, numbered_packet, fresh_buffer, goes_straight, push_answer, after_push, next_packet, without_first};
 ghost use Rattle.h26x_frames.specs.ReorderBuffer as spec;
 
 use crate::order::NumberOrder;
@@ -213,6 +213,26 @@ impl ReorderBuffer {
         ensures few { result ≡ false → length self.now.held < self.now.window }
     {
         self.held.is_ready()
+    }
+
+    /// Whether a packet with this number needn't be held: none is, and it is the one that is due. A
+    /// caller who used it tells so by `pass`.
+    #[inline]
+    pub fn goes_straight(&self, number: u16) -> bool
+        ensures { result ≡ goes_straight self.now number }
+    {
+        self.held.goes_straight(number)
+    }
+
+    /// The packet with this number, which needn't be held, was used: it is as if it had been pushed and
+    /// popped. It takes no memory.
+    #[inline]
+    pub fn pass(&mut self, number: u16)
+        requires { goes_straight self.old number ≡ true }
+        ensures { (packet : RtpBody) → self.new
+            ≡ without_first (after_push self.old (number, packet)) }
+    {
+        self.held.pass(number);
     }
 
     /// Takes a packet, and copies it. Without memory the buffer stays as it was, and the packet can be

@@ -6,18 +6,27 @@ ghost use Rattle.h26x_core.specs.declared.extra.CodecExtra.TheVariants as extras
 ghost use Rattle.h26x_model.specs.Payload.Extra.{extra_after};
 ghost use Rattle.h26x_model.specs.Send.Calls.{fresh_call};
 ghost use Rattle.h264_payload.specs.H264.{h264};
-ghost use Rattle.h26x_codec.specs.Codec.{fresh_packetizer_state, fresh_depacketizer_state};
+ghost use Rattle.h26x_codec.specs.declared.codec.Codec.TheVariants as c;
+ghost use Rattle.h26x_codec.specs.Codec.{codec_format, fresh_packetizer_state, fresh_depacketizer_state};
 ghost use Rattle.h26x_frames.specs.Reordering.{empty_buffer, put, in_order, released, AreWithinWindow, IsReordered};
-ghost use Rattle.h26x_frames.specs.ReorderBuffer.{buffer_state, fresh_buffer, push_answer, next_packet, reordered};
+ghost use Rattle.h26x_frames.specs.ReorderBuffer.{buffer_state, fresh_buffer, goes_straight, push_answer, next_packet, reordered};
 ghost use Rattle.h26x_frames.specs.BufferSteps.{Comes, GoesOut, steps_held, steps_out, AreInTurn};
 ghost use Rattle.h26x_frames.specs.Network.{IsNetwork, released_packets};
 ghost use Rattle.h26x_frames.specs.Rtp.{rtp_body};
-ghost use Rattle.h26x_frames.specs.AccessUnit.{AccessUnitValue, empty_unit, unit_depacketization, fresh_units, is_text_given_up, after_all_rtp, after_unit_skip, after_end, HaveUnitAnswers};
+ghost use Rattle.h26x_frames.specs.AccessUnit.{AccessUnitValue, empty_unit, unit_depacketization, fresh_units, gives_up_run, is_text_given_up, after_all_rtp, after_unit_skip, after_pass_over, after_end, HaveUnitAnswers};
 ghost use Rattle.h26x_frames.specs.AnyUnits.{any_units_left};
 ghost use Rattle.h26x_frames.specs.StampedCalls.{stamped_call, call_packets, sent_bodies, unit_left, units_left, sent_unit, sent_units, packets_len, AreApart, AreUnitsWithin, IsGivenOut, IsStream, IsBroughtStream, IsSentIfWhole, AreAccessUnitsLeft};
 
 use crate::pushed::Pushed;
 use h26x_receiver::Received;
+
+/// A packet needn't be held where none is and its number is the one that is due.
+pub fn packets_that_go_straight()
+    ensures due { goes_straight {A = List ℕ} (buffer_state 4 (Some 7) []) 7 ≡ true }
+    ensures other { goes_straight {A = List ℕ} (buffer_state 4 (Some 7) []) 8 ≡ false }
+    ensures held { goes_straight {A = List ℕ} (buffer_state 4 (Some 7) ((8, []) ∷ [])) 7 ≡ false }
+    ensures first { goes_straight {A = List ℕ} (fresh_buffer 4) 7 ≡ false }
+{}
 
 /// Places that come in another order, one of them twice.
 pub fn places_in_order()
@@ -191,6 +200,54 @@ pub fn markers_that_are_wrong()
         ≡ (3000, false) ∷ (6000, false) ∷ (9000, true) ∷ [] }
 {}
 
+/// A start while a run is open, in each codec, with numbers or without: the first unit's end never
+/// comes, and the access unit isn't told to be whole. So it is where the second start ends too, and
+/// where the first has no data; an access unit whose units end, each before the next starts, is whole.
+pub fn starts_that_give_up_a_run()
+    ensures h264 { map {B = List ℕ × Bool} (λ u. (u.bytes, u.is_whole))
+        (after_all_rtp 4 12 (unit_depacketization (fresh_depacketizer_state h264) (Some 7) None [])
+        ((7, rtp_body 3000 false (0x7c ∷ 0x85 ∷ 0x01 ∷ []))
+        ∷ (8, rtp_body 3000 false (0x7c ∷ 0x85 ∷ 0x02 ∷ []))
+        ∷ (9, rtp_body 3000 true (0x7c ∷ 0x45 ∷ 0x03 ∷ [])) ∷ [])
+        (Ok Received.InOrder ∷ Ok Received.InOrder ∷ Ok Received.InOrder ∷ [])).ended
+        ≡ (0x00 ∷ 0x00 ∷ 0x00 ∷ 0x01 ∷ 0x65 ∷ 0x02 ∷ 0x03 ∷ [], false) ∷ [] }
+    ensures h265 { map {B = List ℕ × Bool} (λ u. (u.bytes, u.is_whole))
+        (after_all_rtp 4 12 (unit_depacketization
+        (fresh_depacketizer_state (codec_format c.H265 false)) (Some 7) None [])
+        ((7, rtp_body 3000 false (0x62 ∷ 0x01 ∷ 0x93 ∷ 0x01 ∷ []))
+        ∷ (8, rtp_body 3000 false (0x62 ∷ 0x01 ∷ 0x93 ∷ 0x02 ∷ []))
+        ∷ (9, rtp_body 3000 true (0x62 ∷ 0x01 ∷ 0x53 ∷ 0x03 ∷ [])) ∷ [])
+        (Ok Received.InOrder ∷ Ok Received.InOrder ∷ Ok Received.InOrder ∷ [])).ended
+        ≡ (0x00 ∷ 0x00 ∷ 0x00 ∷ 0x01 ∷ 0x26 ∷ 0x01 ∷ 0x02 ∷ 0x03 ∷ [], false) ∷ [] }
+    ensures h266 { map {B = List ℕ × Bool} (λ u. (u.bytes, u.is_whole))
+        (after_all_rtp 4 12 (unit_depacketization
+        (fresh_depacketizer_state (codec_format c.H266 false)) (Some 7) None [])
+        ((7, rtp_body 3000 false (0x00 ∷ 0xe9 ∷ 0x87 ∷ 0x01 ∷ []))
+        ∷ (8, rtp_body 3000 false (0x00 ∷ 0xe9 ∷ 0x87 ∷ 0x02 ∷ []))
+        ∷ (9, rtp_body 3000 true (0x00 ∷ 0xe9 ∷ 0x47 ∷ 0x03 ∷ [])) ∷ [])
+        (Ok Received.InOrder ∷ Ok Received.InOrder ∷ Ok Received.InOrder ∷ [])).ended
+        ≡ (0x00 ∷ 0x00 ∷ 0x00 ∷ 0x01 ∷ 0x00 ∷ 0x39 ∷ 0x02 ∷ 0x03 ∷ [], false) ∷ [] }
+    ensures numbered_h265 { gives_up_run (Some (0x01 ∷ [])) ((codec_format c.H265 true).read
+        (0x62 ∷ 0x01 ∷ 0x93 ∷ 0x00 ∷ 0x07 ∷ 0x02 ∷ [])) ≡ true }
+    ensures numbered_h266 { gives_up_run (Some (0x01 ∷ [])) ((codec_format c.H266 true).read
+        (0x00 ∷ 0xe9 ∷ 0x87 ∷ 0x00 ∷ 0x07 ∷ 0x02 ∷ [])) ≡ true }
+    ensures whole_fragment { gives_up_run (Some (0x01 ∷ [])) (h264.read (0x7c ∷ 0xc5 ∷ 0x02 ∷ []))
+        ≡ true }
+    ensures no_data { gives_up_run (Some []) (h264.read (0x7c ∷ 0x85 ∷ 0x02 ∷ [])) ≡ true }
+    ensures none_open { gives_up_run None (h264.read (0x7c ∷ 0x85 ∷ 0x02 ∷ [])) ≡ false }
+    ensures goes_on { gives_up_run (Some (0x01 ∷ [])) (h264.read (0x7c ∷ 0x05 ∷ 0x02 ∷ []))
+        ≡ false }
+    ensures another_unit { gives_up_run (Some (0x01 ∷ [])) (h264.read (0x41 ∷ [])) ≡ false }
+    ensures one_behind_the_other { map {B = Bool} (λ u. u.is_whole)
+        (after_all_rtp 4 12 (unit_depacketization (fresh_depacketizer_state h264) (Some 7) None [])
+        ((7, rtp_body 3000 false (0x7c ∷ 0x85 ∷ 0x01 ∷ []))
+        ∷ (8, rtp_body 3000 false (0x7c ∷ 0x45 ∷ 0x02 ∷ []))
+        ∷ (9, rtp_body 3000 false (0x7c ∷ 0x85 ∷ 0x03 ∷ []))
+        ∷ (10, rtp_body 3000 true (0x7c ∷ 0x45 ∷ 0x04 ∷ [])) ∷ [])
+        (Ok Received.InOrder ∷ Ok Received.InOrder ∷ Ok Received.InOrder ∷ Ok Received.InOrder
+        ∷ [])).ended ≡ true ∷ [] }
+{}
+
 /// Numbers that bear nothing. In order the access unit around one is whole; where another is missing
 /// before it neither the open one is, nor one that begins behind it, but the next one.
 pub fn numbers_skipped_in_access_units()
@@ -221,6 +278,24 @@ pub fn numbers_skipped_in_access_units()
         ((65534, rtp_body 3000 false (0x65 ∷ [])) ∷ []) (Ok Received.InOrder ∷ [])) 65534
         ≡ after_all_rtp 4 12 (fresh_units (fresh_depacketizer_state h264))
         ((65534, rtp_body 3000 false (0x65 ∷ [])) ∷ []) (Ok Received.InOrder ∷ []) }
+{}
+
+/// A number is passed over that is expected: the next one follows nothing, and the access unit around
+/// it isn't whole. One that is late changes nothing.
+pub fn numbers_passed_over_in_access_units()
+    ensures within { map {B = ℕ × Bool} (λ u. (u.timestamp, u.is_whole))
+        (after_all_rtp 4 12 (after_pass_over
+        (after_all_rtp 4 12 (fresh_units (fresh_depacketizer_state h264))
+        ((65534, rtp_body 3000 true (0x65 ∷ [])) ∷ (65535, rtp_body 6000 false (0x61 ∷ [])) ∷ [])
+        (Ok Received.InOrder ∷ Ok Received.InOrder ∷ [])) 0)
+        ((1, rtp_body 6000 true (0x61 ∷ [])) ∷ (2, rtp_body 9000 true (0x61 ∷ [])) ∷ [])
+        (Ok Received.InOrder ∷ Ok Received.InOrder ∷ [])).ended
+        ≡ (3000, false) ∷ (6000, false) ∷ (9000, true) ∷ [] }
+    ensures late { after_pass_over (record (fresh_units (fresh_depacketizer_state h264)) {
+      expected = Some 7;
+    }) 6 ≡ record (fresh_units (fresh_depacketizer_state h264)) {
+      expected = Some 7;
+    } }
 {}
 
 /// The text of an open access unit that is as long as the limit stays. One that is longer is given
@@ -388,7 +463,8 @@ pub fn an_end()
 {}
 
 /// What is left of packets of any sender, which sends another unit between the fragments of one: where
-/// all came both units, and it is whole; where the middle fragment is missing the other unit alone.
+/// all came both units, and it is whole; where the middle fragment is missing the other unit alone. Of
+/// two starts in a row the second unit, and it isn't whole.
 pub fn access_units_of_any_sender()
     ensures all { map {B = List ℕ × Bool} (λ u. (u.bytes, u.is_whole))
         (any_units_left 4 h264 false true None ((record {
@@ -414,6 +490,13 @@ pub fn access_units_of_any_sender()
           packets = (0x41 ∷ []) ∷ (0x7c ∷ 0x85 ∷ 0x01 ∷ []) ∷ [];
         }) ∷ []) (true ∷ true ∷ []))
         ≡ false ∷ [] }
+    ensures given_up { map {B = List ℕ × Bool} (λ u. (u.bytes, u.is_whole))
+        (any_units_left 4 h264 false true None ((record {
+          timestamp = 3000;
+          packets = (0x7c ∷ 0x85 ∷ 0x01 ∷ []) ∷ (0x7c ∷ 0x85 ∷ 0x02 ∷ [])
+              ∷ (0x7c ∷ 0x45 ∷ 0x03 ∷ []) ∷ [];
+        }) ∷ []) (true ∷ true ∷ true ∷ []))
+        ≡ (0x00 ∷ 0x00 ∷ 0x00 ∷ 0x01 ∷ 0x65 ∷ 0x02 ∷ 0x03 ∷ [], false) ∷ [] }
 {}
 
 /// What a network brings of the packets of two calls: the last fragment before the middle one, and

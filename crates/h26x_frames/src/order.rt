@@ -5,8 +5,9 @@ ghost use Rattle.std.specs.Option.{option_map};
 ghost use Rattle.h26x_receiver.specs.Sequence.{distance_ahead};
 ghost use Rattle.h26x_frames.specs.Rtp.{RtpBody};
 ghost use Rattle.h26x_frames.specs.NumberOrder.{IsPlaceAmong, IsPlaceOf};
-ghost use Rattle.h26x_frames.specs.ReorderBuffer.{fresh_buffer, is_number_held, push_answer, after_push, next_packet, without_first, AreHeldInOrder};
+ghost use Rattle.h26x_frames.specs.ReorderBuffer.{fresh_buffer, is_number_held, goes_straight, push_answer, after_push, next_packet, without_first, AreHeldInOrder};
 
+use crate::answers::is_next;
 use crate::numbered::Numbered;
 use crate::parted::Parted;
 use crate::pushed::Pushed;
@@ -196,6 +197,24 @@ impl<T: Numbered> NumberOrder<T> {
         let first = self.held.pop_first()?;
         self.due = Some(first.sequence().wrapping_add(1));
         Some(first)
+    }
+
+    /// Whether none is held and this number is due, so that its packet needn't be held.
+    #[inline]
+    pub(crate) fn goes_straight(&self, number: u16) -> bool
+        ensures { result ≡ goes_straight self.now number }
+    {
+        self.is_empty() && is_next(self.due, number)
+    }
+
+    /// The packet with this number, which needn't be held, has gone.
+    #[inline]
+    pub(crate) fn pass(&mut self, number: u16)
+        requires { goes_straight self.old number ≡ true }
+        ensures { (packet : RtpBody) → self.new
+            ≡ without_first (after_push self.old (number, packet)) }
+    {
+        self.due = Some(number.wrapping_add(1));
     }
 
     /// Whether the first packet may go.

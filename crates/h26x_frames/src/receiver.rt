@@ -4,7 +4,7 @@ ghost use Rattle.std.specs.Prelude.{◌≡◌, ◌+◌, ◌≤◌, ℕ, List, tr
 ghost use Rattle.h26x_model.specs.Receive.RunLimit.{run_len};
 ghost use Rattle.h26x_receiver.specs.Sequenced.{is_taken, skip_answer, is_run_kept};
 ghost use Rattle.h26x_frames.specs.declared.access_unit.AccessUnit.{AccessUnit};
-ghost use Rattle.h26x_frames.specs.AccessUnit.{none_open, is_unit_at, AccessUnitValue, IsTakenAnswer, IsUnitAnswer, after_taken_rtp, after_rtp, after_unit_skip, after_end, unit_len, is_text_given_up, units_at};
+ghost use Rattle.h26x_frames.specs.AccessUnit.{none_open, is_unit_at, AccessUnitValue, IsTakenAnswer, IsUnitAnswer, after_taken_rtp, after_rtp, after_unit_skip, after_pass_over, after_end, unit_len, is_text_given_up, units_at};
 ghost use Rattle.h26x_frames.specs.Receiver.{frames_at};
 
 use crate::access_unit::{AccessUnit, OpenAccessUnit, OpenUnit};
@@ -240,6 +240,26 @@ impl<D: RunDepacketizer> FrameReceiver<D> {
         let is_next = is_next(self.packets.expected, sequence);
         let received = self.packets.skip_in_text(sequence);
         if received.is_taken() && !is_next {
+            self.unit.break_off();
+        }
+        received
+    }
+
+    /// Passes over a number whose packet was refused, so that it is expected no more: the open run is
+    /// given up, and neither the open access unit nor one that the next packet begins is known to be
+    /// whole. The answer says how many are missing before it; where it is late nothing changes. It
+    /// takes no memory.
+    pub fn pass_over(&mut self, sequence: u16) -> Received
+        ensures answer { result ≡ skip_answer self.old.packets.expected sequence }
+        ensures after { (ended : List AccessUnit) → frames_at D.state self.new ended
+            ≡ after_pass_over (frames_at D.state self.old ended) sequence }
+        ensures rest { self.new.packets.depacketizer ≡ self.old.packets.depacketizer }
+        ensures limit { self.new.packets.run_limit ≡ self.old.packets.run_limit }
+        ensures unit_limit { self.new.unit_limit ≡ self.old.unit_limit }
+        ensures text { self.new.is_text_given_up ≡ self.old.is_text_given_up }
+    {
+        let received = self.packets.skip_in_text(sequence);
+        if received.is_taken() {
             self.unit.break_off();
         }
         received

@@ -1,10 +1,10 @@
 -- What an answer for the next access unit says, and what stands where nothing is due.
-use Rattle.std.proofs.Common.{◌≡◌, ◌∙◌, ◌⊎◌, refl, ap, ℕ, ◌<◌, ◌≤◌, Bool, true, false, if◌then◌else◌, List, ◌++◌, drop, length, Option, Some, None, ⊎_elim, arith}
-use Rattle.std.specs.Prelude.{◌&&◌, nat_le}
+use Rattle.std.proofs.Common.{◌≡◌, ◌∙◌, ◌⊎◌, refl, ap, sym, subst, ℕ, ◌<◌, ◌≤◌, Bool, true, false, if◌then◌else◌, List, ◌++◌, drop, length, Option, Some, None, ⊎_elim, arith}
+use Rattle.std.specs.Prelude.{◌&&◌, nat_le, MatchOption}
 use Rattle.std.proofs.lemmas.Bool.Decides.{nat_tests}
 use Rattle.h26x_access_units.specs.JitterBuffer.{due_packet}
 use Rattle.h26x_access_units.specs.ReceivedUnit.{ReceivedUnitValue}
-use Rattle.h26x_access_units.specs.Reception.{Reception, has_no_unit, IsDrained, none, more, ended_if_anew}
+use Rattle.h26x_access_units.specs.Reception.{Reception, has_no_unit, IsDrained, none, more, ended_if_anew, IsNext}
 use Rattle.h26x_handles.specs.UnitsState.{UnitsState, units_state, unit_told, unit_without_room, buffer_with_unit, next_answer, IsNextGiven}
 use Rattle.h26x_handles.specs.declared.access_units.NextAnswer.{NextAnswer}
 use Rattle.h26x_handles.specs.declared.access_units.NextAnswer.TheVariants as answers
@@ -87,3 +87,10 @@ not_changed now it new stands taken begun idle =
     let idle_too : due_packet now (ended_if_anew it.reception).waiting ≡ None = ap (λ (r : Reception). due_packet now r.waiting) same ∙ idle in
     let stays : new.reception ≡ it.reception = ⊎_elim (λ e. e) (λ drained. none_taken now (ended_if_anew it.reception) new.reception drained idle_too ∙ same) taken in
     stands ∙ ap (λ (r : Reception). units_state it.codec r it.left) stays
+
+-- where no access unit waits for room, the next one is the receiver's
+pub next_of : (now : ℕ) (it : UnitsState) (new : Reception) (unit : Option ReceivedUnitValue) → it.left ≡ None → IsNextGiven now it new unit → IsNext now it.reception new unit
+next_of now it new unit left next = subst (λ (l : Option ReceivedUnitValue). MatchOption l (IsNext now it.reception new unit) (λ (k : ReceivedUnitValue). (unit ≡ Some k) × (new ≡ it.reception))) left next
+
+pub given_of : (now : ℕ) (it : UnitsState) (new : Reception) (unit : Option ReceivedUnitValue) → it.left ≡ None → IsNext now it.reception new unit → IsNextGiven now it new unit
+given_of now it new unit left next = subst (λ (l : Option ReceivedUnitValue). MatchOption l (IsNext now it.reception new unit) (λ (k : ReceivedUnitValue). (unit ≡ Some k) × (new ≡ it.reception))) (sym left) next

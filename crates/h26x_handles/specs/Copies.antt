@@ -11,9 +11,9 @@ with_front bytes room = if nat_le (length bytes) (length room)
 abbrev pub without_room : {A : Type 0} → List A → List A → List A
 without_room bytes room = if nat_le (length bytes) (length room) then [] else bytes
 
--- Bytes are given out: how many they are is told, and they stand at the front of a caller's buffer, or
+-- Bytes are handed over: how many they are is told; they stand at the front of a caller's buffer, or
 -- are kept where it has no room for them.
-pub record AreGivenOut (bytes to new_to : List ℕ) (written : ℕ) (left : List ℕ) : Type 0 where
+pub record AreHandedOver (bytes to new_to : List ℕ) (written : ℕ) (left : List ℕ) : Type 0 where
   pub told : written ≡ length bytes
   pub put : new_to ≡ with_front bytes to
   pub kept : left ≡ without_room bytes to

@@ -3,13 +3,13 @@
 use Rattle.std.specs.Prelude.{ℕ, Bool, true, false, if◌then◌else◌, List, [], ◌∷◌, Option, Some, None}
 use Rattle.h26x_model.specs.Send.Group.{Entry}
 use Rattle.h26x_model.specs.Send.Calls.{call_entries}
-use Rattle.h26x_model.specs.Send.PacketizerState.{PacketizerState}
+use Rattle.h26x_model.specs.Send.PacketizerState.{PacketizerState, state_packets, after_entries}
 use Rattle.h26x_model.specs.Receive.DepacketizerState.{DepacketizerState, Depacketization, depacketization, after_packets}
 use Rattle.h26x_payload.specs.PacketizerView.{packetizer_state}
 use Rattle.h264_payload.specs.H264.{h264}
 use Rattle.h265_payload.specs.Setting as h265_setting
 use Rattle.h266_payload.specs.Setting as h266_setting
-use Rattle.h26x_codec.specs.Codec.{next_call}
+use Rattle.h26x_codec.specs.Codec.{codec_format, next_call}
 use Rattle.h26x_codec.specs.declared.codec.Codec.{Codec}
 use Rattle.h26x_codec.specs.declared.codec.Codec.TheVariants as c
 use Rattle.h26x_handles.specs.declared.packetizer.AnyPacketizer.{AnyPacketizer}
@@ -21,7 +21,7 @@ use Rattle.h26x_receiver.specs.AnyDepacketizer.{any_depacketizer_state, any_depa
 use Rattle.h26x_receiver.specs.declared.any.AnyDepacketizer.{AnyDepacketizer}
 use Rattle.h26x_handles.specs.Endpoint.{SendingEndpoint, SequencedEndpoint}
 use Rattle.h26x_handles.specs.Codes.{extra_with_number}
-use Rattle.h26x_handles.specs.Headers.{headers_wanted}
+use Rattle.h26x_handles.specs.Headers.{headers_wanted, under_headers}
 use Rattle.h26x_handles.specs.Sdp.{sdp_codec}
 use Rattle.h26x_handles.specs.declared.endpoint.Endpoint.{Endpoint}
 use Rattle.h26x_handles.specs.declared.endpoint.Endpoint.TheVariants as e
@@ -54,6 +54,20 @@ any_packetizer_with_max_packet_size n (s.H266 it) = s.H266 (record it { max_pack
 -- the units of a payload, as a packetizer is given them
 abbrev pub payload_entries : PacketizerState → ℕ → List ℕ → List Entry
 payload_entries it mtu payload = call_entries it.format (next_call it mtu payload)
+
+-- the packets of a payload, under headers that are asked for
+abbrev pub headed_packets : Option Bool → PacketizerState → ℕ → List ℕ → List (List ℕ)
+headed_packets headers it mtu payload =
+    under_headers headers (state_packets it (payload_entries it mtu payload))
+
+-- a packetizer that has decoding order numbers, from 0, or none
+abbrev pub state_with_donl : Codec → Bool → PacketizerState → PacketizerState
+state_with_donl codec has_donl it =
+    record it { format = codec_format codec has_donl; next_don = 0 }
+
+-- a packetizer behind a payload
+abbrev pub after_payload : PacketizerState → ℕ → List ℕ → PacketizerState
+after_payload it mtu payload = after_entries it (payload_entries it mtu payload)
 
 -- a depacketizer that is told with a packet to write units behind lengths or behind start codes
 abbrev pub told_depacketizer_state : Bool → AnyDepacketizer → DepacketizerState

@@ -7,7 +7,7 @@ use Rattle.h26x_access_units.specs.declared.pushed.Pushed.TheVariants as pushes
 use Rattle.h26x_access_units.specs.Arrival.{deadline_of}
 use Rattle.h26x_access_units.specs.Missing.{missing_numbers}
 use Rattle.h26x_access_units.specs.ReceivedUnit.{ReceivedUnitValue}
-use Rattle.h26x_access_units.specs.Reception.{Reception, fresh_reception, reception_answer, after_reception, restarted, ended_if_anew, IsDrained, IsNext}
+use Rattle.h26x_access_units.specs.Reception.{Reception, fresh_reception, reception_answer, restarted, ended_if_anew, IsPushed, IsDrained, IsNext}
 use Rattle.h26x_codec.specs.Codec.{codec_format}
 use Rattle.h26x_codec.specs.declared.codec.Codec.{Codec}
 use Rattle.h26x_frames.specs.Rtp.{RtpBody}
@@ -56,10 +56,10 @@ units_with_reception reception it = record it { reception = reception }
 abbrev pub units_push_answer : UnitsState → ℕ × RtpBody → Pushed
 units_push_answer it p = reception_answer it.reception p
 
--- after a packet came, at this tick
-abbrev pub units_after_push : ℕ → ℕ × RtpBody → UnitsState → UnitsState
-units_after_push now p it = units_with_reception
-    (after_reception now it.reception p (units_push_answer it p)) it
+-- A packet came, at this tick: its receiver waits with it, or took it.
+pub record IsUnitsPushed (now : ℕ) (p : ℕ × RtpBody) (it new : UnitsState) : Type 0 where
+  pub pushed : IsPushed now it.reception p (units_push_answer it p) new.reception
+  pub stands : new ≡ record it { reception = new.reception }
 
 -- the numbers of what became of a packet: which of the six it is, and how far it is behind
 abbrev pub pushed_numbers : Pushed → ℕ × ℕ

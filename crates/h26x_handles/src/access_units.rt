@@ -4,7 +4,7 @@
 ghost use Rattle.std.specs.Prelude.{◌≡◌, ◌<◌, ◌≤◌, ◌^◌, [], false, None, Err, IfOk, OnErr, length};
 ghost use Rattle.h26x_access_units.specs.ReceivedUnit.{received_unit_value};
 ghost use Rattle.h26x_frames.specs.Rtp.{rtp_body};
-ghost use Rattle.h26x_handles.specs.UnitsState.{units_codec_or_code, fresh_access_units, pushed_numbers, unit_told, next_answer, buffer_with_unit, unit_without_room, units_push_answer, units_after_push, IsUnitGiven, IsOutOfMemory, next_numbers, units_deadline, units_missing, units_finished, units_restarted};
+ghost use Rattle.h26x_handles.specs.UnitsState.{units_codec_or_code, fresh_access_units, pushed_numbers, unit_told, next_answer, buffer_with_unit, unit_without_room, units_push_answer, IsUnitsPushed, IsUnitGiven, IsOutOfMemory, next_numbers, units_deadline, units_missing, units_finished, units_restarted};
 ghost use Rattle.h26x_handles.specs.Copies.{with_first};
 
 use crate::code::{NO_ROOM, NOTHING_YET, OK, OUT_OF_RANGE, codec_wanted, number_of};
@@ -167,7 +167,7 @@ impl AccessUnitEndpoint {
         ensures answer { let u = ⟦<AccessUnitEndpoint as GivesUnits>⟧.units in
             IfOk result (λ answer. answer ≡ units_push_answer (u self.old) packet.now) }
         ensures after { let u = ⟦<AccessUnitEndpoint as GivesUnits>⟧.units in
-            IfOk result (λ answer. u self.new ≡ units_after_push now packet.now (u self.old)) }
+            IfOk result (λ answer. IsUnitsPushed now packet.now (u self.old) (u self.new)) }
         ensures memory { OnErr result (result ≡ Err PacketError.OutOfMemory) }
         ensures kept { let u = ⟦<AccessUnitEndpoint as GivesUnits>⟧.units in
             OnErr result (u self.new ≡ u self.old) }
@@ -180,7 +180,7 @@ impl AccessUnitEndpoint {
         ensures answer { let u = ⟦<AccessUnitEndpoint as GivesUnits>⟧.units in IfOk result (λ answer.
             answer ≡ units_push_answer (u self.old) (sequence, rtp_body 0 false [])) }
         ensures after { let u = ⟦<AccessUnitEndpoint as GivesUnits>⟧.units in IfOk result (λ answer.
-            u self.new ≡ units_after_push now (sequence, rtp_body 0 false []) (u self.old)) }
+            IsUnitsPushed now (sequence, rtp_body 0 false []) (u self.old) (u self.new)) }
         ensures memory { OnErr result (result ≡ Err PacketError.OutOfMemory) }
         ensures kept { let u = ⟦<AccessUnitEndpoint as GivesUnits>⟧.units in
             OnErr result (u self.new ≡ u self.old) }

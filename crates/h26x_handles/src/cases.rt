@@ -1,20 +1,24 @@
 //! What is answered at each code of packets that were to go into memory and of access units, and worked
 //! cases of it. Each is the contract of a function without a result.
 
-ghost use Rattle.std.specs.Prelude.{◌≡◌, ◌⊎◌, ◌<◌, ◌≤◌, ◌+◌, ◌^◌, ℕ, Bool, true, false, List, [], ◌∷◌, ◌++◌, drop, length, Some, None, Ok, Err};
+ghost use Rattle.std.specs.Prelude.{◌≡◌, ◌⊎◌, ◌<◌, ◌≤◌, ◌+◌, ◌^◌, ℕ, Bool, true, false, List, [], ◌∷◌, ◌++◌, drop, length, Option, Some, None, Ok, Err};
 ghost use Rattle.h26x_payload.specs.Placement.{ArePlaced, HaveNoRoom};
 ghost use Rattle.h26x_codec.specs.declared.codec.Codec.{Codec};
 ghost use Rattle.h26x_codec.specs.declared.codec.Codec.TheVariants as codecs;
 ghost use Rattle.h26x_access_units.specs.declared.config.AccessUnitConfig.{AccessUnitConfig};
 ghost use Rattle.h26x_access_units.specs.JitterBuffer.{due_packet};
 ghost use Rattle.h26x_access_units.specs.ReceivedUnit.{ReceivedUnitValue};
-ghost use Rattle.h26x_access_units.specs.Reception.{Reception, IsNext, ended_if_anew};
+ghost use Rattle.h26x_access_units.specs.Reception.{Reception, IsNext, after_reception, ended_if_anew};
+ghost use Rattle.h26x_access_units.specs.declared.pushed.Pushed.TheVariants as pushes;
+ghost use Rattle.h26x_frames.specs.Rtp.{RtpBody};
 ghost use Rattle.h26x_handles.specs.Codes.{ok, no_room, out_of_memory, out_of_range, unknown_codec, not_of_this_codec};
 ghost use Rattle.h26x_handles.specs.Copies.{with_first};
 ghost use Rattle.h26x_handles.specs.PlacementAnswer.{AreCounted, IsPlacementAnswer};
-ghost use Rattle.h26x_handles.specs.UnitsState.{UnitsState, units_state, units_codec_or_code, fresh_access_units, unit_told, IsNextGiven, IsUnitGiven, IsOutOfMemory};
+ghost use Rattle.h26x_handles.specs.UnitsState.{UnitsState, units_state, units_codec_or_code, fresh_access_units, units_with_reception, units_push_answer, unit_told, IsUnitsPushed, IsNextGiven, IsUnitGiven, IsOutOfMemory};
 ghost use Rattle.h26x_handles.specs.declared.access_units.NextAnswer.TheVariants as answers;
 ghost use Rattle.h26x_handles.specs.declared.access_units.UnitTold.{UnitTold};
+
+use h26x_access_units::laws as units_laws;
 
 /// What each code says of packets: they stand in memory, or have no room there, and are counted
 /// either way; or memory lacked, and both numbers are 0. There is no other code.
@@ -118,6 +122,17 @@ pub fn units_without_memory()
     ensures anew { (now : ℕ) (codec : Codec) (r : Reception) →
         IsOutOfMemory now (units_state codec r None) (units_state codec (ended_if_anew r) None) }
 {}
+
+/// A packet that is held: whether it waits or was taken at once, the same is given out next.
+pub fn next_behind_a_packet()
+    ensures { (now later : ℕ) (it pushed : UnitsState) (p : ℕ × RtpBody) (new : Reception)
+        (unit : Option ReceivedUnitValue) → p.0 < 2 ^ 16 → units_push_answer it p ≡ pushes.Held →
+        IsUnitsPushed now p it pushed → it.left ≡ None → IsNextGiven later pushed new unit →
+        IsNextGiven later (units_with_reception (after_reception now it.reception p pushes.Held) it)
+        new unit }
+{
+    units_laws::packets_taken_at_once_are_as_those_that_wait();
+}
 
 /// Two numbers, where there is room for three, for two and for one.
 pub fn first_numbers()

@@ -4,7 +4,7 @@ ghost use Rattle.std.specs.Prelude.{◌≡◌, [], ◌∷◌, None, Err, IfOk, O
 ghost use Rattle.h26x_model.specs.Receive.DepacketizerState.{DepacketizerState, after_packets, IsPacketOutcome, depacketization};
 ghost use Rattle.h26x_payload.specs.UnitSink.{grown_to};
 ghost use Rattle.h26x_receiver.specs.AnyDepacketizer.{any_depacketizer_with_run, fresh_any_depacketizer, any_depacketizer_showing};
-ghost use Rattle.h26x_handles.specs.Copies.{AreGivenOut};
+ghost use Rattle.h26x_handles.specs.Copies.{AreHandedOver};
 ghost use Rattle.h26x_handles.specs.States.{told_depacketizer_state, after_told_packet};
 
 use crate::copy::put_or_keep;
@@ -83,7 +83,7 @@ impl ReceivingEndpoint {
         ensures rest { OnOk result (any_depacketizer_with_run None self.new.depacketizer
             ≡ any_depacketizer_with_run None (any_depacketizer_showing packet.now
             self.old.depacketizer)) }
-        ensures given { OnOk result (AreGivenOut
+        ensures given { OnOk result (AreHandedOver
             (after_told_packet is_avc self.old.depacketizer extra.old packet.now).out
             to.old to.new written.new self.new.written) }
 

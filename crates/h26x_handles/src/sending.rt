@@ -2,11 +2,10 @@
 
 ghost use Rattle.std.specs.Prelude.{◌≡◌, ◌≤◌, [], Err, true, false, IfOk, OnOk, OnErr, IsOk, length, drop};
 ghost use Rattle.std.specs.List.{concat};
-ghost use Rattle.h26x_model.specs.Send.PacketizerState.{state_packets, after_entries, has_no_effect, one_unit_items, one_unit_packets, after_one_unit};
+ghost use Rattle.h26x_model.specs.Send.PacketizerState.{has_no_effect, one_unit_items, one_unit_packets, after_one_unit};
 ghost use Rattle.h26x_payload.specs.Placement.{IsPlacement, if_placed, is_placed};
 ghost use Rattle.h26x_codec.specs.Codec.{codec_format, fresh_packetizer_state, next_call};
-ghost use Rattle.h26x_handles.specs.States.{any_packetizer_state, any_packetizer_codec, any_packetizer_with_donl, any_packetizer_with_max_packet_size, payload_entries, headers_asked};
-ghost use Rattle.h26x_handles.specs.Headers.{under_headers};
+ghost use Rattle.h26x_handles.specs.States.{any_packetizer_state, any_packetizer_codec, any_packetizer_with_donl, any_packetizer_with_max_packet_size, headed_packets, after_payload, headers_asked};
 ghost use Rattle.h26x_handles.specs.Copies.{nth_packet, AreCopied};
 
 use crate::code::may_have_donl;
@@ -120,12 +119,10 @@ impl SendingEndpoint {
 
     /// Makes the packets of a payload, which take the place of the last call's.
     pub fn packetize(&mut self, mtu: usize, payload: &[u8]) -> Result<(), PacketError>
-        ensures packets { OnOk result (self.new.packets ≡ under_headers (headers_asked self.old)
-            (state_packets (any_packetizer_state self.old.packetizer)
-            (payload_entries (any_packetizer_state self.old.packetizer) mtu payload.now))) }
+        ensures packets { OnOk result (self.new.packets ≡ headed_packets (headers_asked self.old)
+            (any_packetizer_state self.old.packetizer) mtu payload.now) }
         ensures after { OnOk result (any_packetizer_state self.new.packetizer
-            ≡ after_entries (any_packetizer_state self.old.packetizer)
-            (payload_entries (any_packetizer_state self.old.packetizer) mtu payload.now)) }
+            ≡ after_payload (any_packetizer_state self.old.packetizer) mtu payload.now) }
         ensures codec { any_packetizer_codec self.new.packetizer
             ≡ any_packetizer_codec self.old.packetizer }
         ensures lowest { self.new.lowest_header ≡ self.old.lowest_header }
@@ -176,13 +173,11 @@ impl SendingEndpoint {
         to: &mut [u8],
         ends: &mut [usize],
     ) -> Result<Placement, PacketError>
-        ensures packets { IfOk result (λ it. IsPlacement headroom (under_headers
-            (headers_asked self.old) (state_packets (any_packetizer_state self.old.packetizer)
-            (payload_entries (any_packetizer_state self.old.packetizer) mtu payload.now)))
+        ensures packets { IfOk result (λ it. IsPlacement headroom (headed_packets
+            (headers_asked self.old) (any_packetizer_state self.old.packetizer) mtu payload.now)
             to.old to.new ends.old ends.new it) }
         ensures after { IfOk result (λ it. any_packetizer_state self.new.packetizer ≡ if_placed it
-            (after_entries (any_packetizer_state self.old.packetizer)
-            (payload_entries (any_packetizer_state self.old.packetizer) mtu payload.now))
+            (after_payload (any_packetizer_state self.old.packetizer) mtu payload.now)
             (any_packetizer_state self.old.packetizer)) }
         ensures codec { any_packetizer_codec self.new.packetizer
             ≡ any_packetizer_codec self.old.packetizer }

@@ -4,7 +4,7 @@
 ghost use Rattle.std.specs.Prelude.{◌≡◌, ◌≤◌, [], true, false, None, Err, IfOk, OnErr};
 ghost use Rattle.h26x_receiver.specs.AnyDepacketizer.{any_depacketizer_state, any_depacketizer_with_avc, any_depacketizer_with_donl, any_depacketizer_with_run, any_depacketizer_showing};
 ghost use Rattle.h26x_receiver.specs.Sequenced.{IsSequencedAnswer, is_taken, skip_answer};
-ghost use Rattle.h26x_handles.specs.Copies.{AreGivenOut};
+ghost use Rattle.h26x_handles.specs.Copies.{AreHandedOver};
 ghost use Rattle.h26x_handles.specs.States.{receiver_at_work, after_receiver_packet, receiver_run_len, receiver_after_skip, fresh_receiver};
 
 use crate::copy::put_or_keep;
@@ -93,7 +93,7 @@ impl SequencedEndpoint {
         ensures rest { is_taken result ≡ true → any_depacketizer_with_run None self.new.depacketizer
             ≡ any_depacketizer_with_run None (any_depacketizer_showing packet.now
             self.old.depacketizer) }
-        ensures given { is_taken result ≡ true → AreGivenOut
+        ensures given { is_taken result ≡ true → AreHandedOver
             (after_receiver_packet self.old extra.old sequence packet.now).at_work.out
             to.old to.new written.new self.new.written }
         ensures limit { self.new.run_limit ≡ self.old.run_limit }

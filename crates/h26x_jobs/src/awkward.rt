@@ -10,6 +10,7 @@ use crate::record::take_list;
 use crate::send::{send_buffers, send_lists};
 use crate::setting::{SETTINGS, Setting};
 use crate::stream::Picture;
+use h26x_codec::Codec;
 use h26x_core::{CodecExtra, PacketError};
 use h26x_frames::{Pushed, ReorderBuffer, RtpPacket};
 use h26x_receiver::{AnyDepacketizer, SequencedDepacketizer};
@@ -51,16 +52,20 @@ fn payloads(alloc: Global, round: u32) -> Result<Vec<Picture>, PacketError> {
     Ok(payloads)
 }
 
-/// A fragment of one byte (5.8 of RFC 6184, 4.4.3 of RFC 7798, 4.3.3 of RFC 9328), which begins a
-/// unit, goes on or ends it.
-fn fragment(alloc: Global, setting: Setting, marks: u8, byte: u8) -> Result<Vec<u8>, PacketError> {
-    use h26x_codec::Codec;
-    let mut packet = Vec::new(alloc);
-    match setting.codec {
-        Codec::H264 => packet.extend_from_slice(&[0x7c, marks | 1])?,
-        Codec::H265 => packet.extend_from_slice(&[0x62, 0x01, marks | 1])?,
-        Codec::H266 => packet.extend_from_slice(&[0x00, 0xe9, marks | 1])?,
+/// What a fragment begins with, before its marks (5.8 of RFC 6184, 4.4.3 of RFC 7798, 4.3.3 of RFC
+/// 9328).
+fn fragment_header(codec: Codec) -> &'static [u8] {
+    match codec {
+        Codec::H264 => &[0x7c],
+        Codec::H265 => &[0x62, 0x01],
+        Codec::H266 => &[0x00, 0xe9],
     }
+}
+
+/// A fragment of one byte, which begins a unit, goes on or ends it.
+fn fragment(alloc: Global, setting: Setting, marks: u8, byte: u8) -> Result<Vec<u8>, PacketError> {
+    let mut packet = Vec::from_slice(alloc, fragment_header(setting.codec))?;
+    packet.push(marks | 1)?;
     if setting.has_donl && marks == 0x80 {
         packet.extend_from_slice(&[0, 1])?;
     }

@@ -3,7 +3,7 @@
 ghost use Rattle.std.specs.Prelude.{◌<◌};
 
 /// Numbers of a linear congruence, by the constants of MMIX (Knuth).
-#[derive(Debug, Clone, Copy)]
+#[derive(Clone, Copy)]
 pub struct Draws {
     state: u64,
 }

@@ -27,7 +27,7 @@ use std::alloc::Global;
 use std::env;
 
 /// What a run is to do, of each job.
-#[derive(Debug, Clone, Copy)]
+#[derive(Clone, Copy)]
 pub struct Work {
     /// By which the inputs are made.
     pub seed: u64,

@@ -13,7 +13,7 @@ pub const LIMIT: usize = 1200;
 pub const FIRST_UNIT: usize = 8;
 
 /// A packet, and whether it is the last of its picture.
-#[derive(Debug, Drop)]
+#[derive(Drop)]
 pub struct Packet {
     /// Its payload.
     pub payload: Vec<u8>,

@@ -25,7 +25,7 @@ pub const UNIT_LIMIT: usize = 4_000_000;
 const TICKS: u32 = 3_000;
 
 /// What packets of a round bear: the number of the first, and its timestamp.
-#[derive(Debug, Clone, Copy)]
+#[derive(Clone, Copy)]
 pub struct First {
     /// The number.
     pub sequence: u16,

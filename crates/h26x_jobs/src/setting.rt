@@ -3,7 +3,7 @@
 use h26x_codec::Codec;
 
 /// A codec, and whether its units bear decoding order numbers.
-#[derive(Debug, Clone, Copy)]
+#[derive(Clone, Copy)]
 pub struct Setting {
     /// The codec.
     pub codec: Codec,
@@ -38,7 +38,7 @@ pub const SETTINGS: [Setting; 5] = [
 impl Setting {
     /// What a session description says, so that units bear numbers.
     pub fn max_don_diff(self) -> Option<u32> {
-        self.has_donl.then_some(1)
+        if self.has_donl { Some(1) } else { None }
     }
 
     /// The header of a slice of a keyframe.

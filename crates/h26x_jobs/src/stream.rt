@@ -11,7 +11,7 @@ use std::alloc::Global;
 pub const STAMP: usize = 4;
 
 /// A picture in Annex B form.
-#[derive(Debug, Drop)]
+#[derive(Drop)]
 pub struct Picture {
     /// Its units, each behind a start code.
     pub bytes: Vec<u8>,

@@ -11,7 +11,7 @@ use std::process::Abort;
 
 /// How bytes are sent.
 #[derive(Clone, Copy)]
-pub(crate) enum How {
+enum How {
     /// As a payload, in which units are searched.
     Payload,
     /// As one unit as it is.
@@ -19,15 +19,15 @@ pub(crate) enum How {
 }
 
 /// How bytes are sent, a limit, and the bytes.
-pub(crate) type Step = (How, usize, &'static [u8]);
+type Step = (How, usize, &'static [u8]);
 
 /// The codec of a packetizer and what it is configured for, steps, and the packets of all of them.
 #[derive(Clone, Copy)]
-pub(crate) struct Run {
-    pub(crate) codec: Codec,
-    pub(crate) max_don_diff: Option<u32>,
-    pub(crate) steps: &'static [Step],
-    pub(crate) packets: &'static [&'static [u8]],
+struct Run {
+    codec: Codec,
+    max_don_diff: Option<u32>,
+    steps: &'static [Step],
+    packets: &'static [&'static [u8]],
 }
 
 /// The packetizer of a run.
@@ -101,7 +101,7 @@ fn append_all(rt: &impl Abort, alloc: Global, tries: Tries, run: &Run) -> Result
 }
 
 /// A PPS and a unit in fragments, an SPS as it is and one that waits, and the sets before a unit.
-pub(crate) const H264: Run = Run {
+const H264: Run = Run {
     codec: Codec::H264,
     max_don_diff: None,
     steps: &[
@@ -127,7 +127,7 @@ pub(crate) const H264: Run = Run {
 };
 
 /// Sets that wait, a unit as it is, and the sets before a unit.
-pub(crate) const H265: Run = Run {
+const H265: Run = Run {
     codec: Codec::H265,
     max_don_diff: None,
     steps: &[
@@ -153,7 +153,7 @@ pub(crate) const H265: Run = Run {
 };
 
 /// Units with numbers.
-pub(crate) const H265_NUMBERED: Run = Run {
+const H265_NUMBERED: Run = Run {
     codec: Codec::H265,
     max_don_diff: Some(1),
     steps: &[
@@ -170,7 +170,7 @@ pub(crate) const H265_NUMBERED: Run = Run {
 };
 
 /// Sets that wait, a unit as it is, and the sets before a unit.
-pub(crate) const H266: Run = Run {
+const H266: Run = Run {
     codec: Codec::H266,
     max_don_diff: None,
     steps: &[
@@ -192,7 +192,7 @@ pub(crate) const H266: Run = Run {
 };
 
 /// Units with numbers.
-pub(crate) const H266_NUMBERED: Run = Run {
+const H266_NUMBERED: Run = Run {
     codec: Codec::H266,
     max_don_diff: Some(1),
     steps: &[
@@ -368,15 +368,11 @@ fn append_nothing(
 }
 
 /// Units without a header, and one for whose fragments there is no room.
-pub(crate) const UNSENT_OF_H264: [(usize, &[u8]); 3] = [
-    (1500, &[]),
-    (0, &[0x65]),
-    (2, &[0x65, 1, 2]),
-];
+const UNSENT_OF_H264: [(usize, &[u8]); 3] = [(1500, &[]), (0, &[0x65]), (2, &[0x65, 1, 2])];
 
 /// Units without a whole header, and one for whose fragments there is no room, with numbers or
 /// without.
-pub(crate) const UNSENT_OF_OTHERS: [(usize, &[u8]); 4] = [
+const UNSENT_OF_OTHERS: [(usize, &[u8]); 4] = [
     (1500, &[]),
     (1500, &[2]),
     (3, &[2, 1, 0xaa]),

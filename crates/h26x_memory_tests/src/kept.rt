@@ -2,11 +2,7 @@
 //! freed.
 
 use crate::ends::{Receiver, fragment, longer_fragment};
-use h26x_codec::Codec;
 use h26x_core::{CodecExtra, Depacketizer, PacketError};
-use h26x_handles::receiving::ReceivingEndpoint;
-use h26x_handles::sending::SendingEndpoint;
-use h26x_handles::sequenced::SequencedEndpoint;
 use h26x_receiver::{RunDepacketizer, SequencedDepacketizer};
 use h264_payload::H264Depacketizer;
 use h265_payload::H265Depacketizer;
@@ -138,62 +134,6 @@ fn fragments_of_h266_into_kept_buffers(rt: HostRuntime) {
     let start = fragment(&[0, 0xe9, 0x87], 9);
     let middle = longer_fragment(&[0, 0xe9, 0x07], 8);
     take_the_same(&rt, it, &[&start, &middle, &[0, 0xe9, 0x47, 2]]);
-}
-
-/// A unit that is a packet for itself.
-const UNIT: [u8; 60] = [0x61; 60];
-
-#[test]
-fn units_of_an_endpoint_into_kept_buffers(rt: HostRuntime) {
-    let mut it = ReceivingEndpoint::new(rt.alloc(), Codec::H264, false);
-    let mut told = CodecExtra::None;
-    for _ in 0..2 {
-        let answer = it.depacketize(false, &UNIT, &mut [], &mut 0, &mut told);
-        if answer.is_err() {
-            return;
-        }
-    }
-    let answer = it.depacketize(false, &UNIT, &mut [], &mut 0, &mut told);
-    assert!(rt; answer.is_ok());
-}
-
-#[test]
-fn units_with_room_that_take_no_memory(rt: HostRuntime) {
-    let mut it = ReceivingEndpoint::new(rt.alloc(), Codec::H264, false);
-    let (mut to, mut written) = ([0; 64], 0);
-    let answer = it.depacketize(false, &UNIT, &mut to, &mut written, &mut CodecExtra::None);
-    assert!(rt; answer.is_ok() && written == 64 && to[4] == 0x61);
-}
-
-/// The start of a unit, with room for all that it could complete: memory for its run is all that can
-/// lack, and the packet isn't taken once more, as one for which there is no room.
-#[test]
-fn a_start_with_room_at_once(rt: HostRuntime) -> Result<(), PacketError> {
-    let mut it = ReceivingEndpoint::new(rt.alloc(), Codec::H264, false);
-    let start = fragment(&[0x7c, 0x85, 1], 9);
-    let mut to = [0; 64];
-    it.depacketize(false, &start, &mut to, &mut 0, &mut CodecExtra::None)
-}
-
-/// The same of a packet with its sequence number.
-#[test]
-fn a_numbered_start_with_room_at_once(rt: HostRuntime) -> Result<(), PacketError> {
-    let mut it = SequencedEndpoint::new(rt.alloc(), Codec::H264, false, false, 1000);
-    let start = fragment(&[0x7c, 0x85, 1], 9);
-    let mut to = [0; 64];
-    it.receive(7, &start, &mut to, &mut 0, &mut CodecExtra::None)?;
-    Ok(())
-}
-
-#[test]
-fn packets_of_an_endpoint_into_kept_buffers(rt: HostRuntime) {
-    let mut it = SendingEndpoint::new(rt.alloc(), Codec::H264, false);
-    for _ in 0..2 {
-        if it.packetize(20, &UNIT).is_err() {
-            return;
-        }
-    }
-    assert!(rt; it.packetize(20, &UNIT).is_ok());
 }
 
 /// Whether each of these packets is taken, numbered on from this number.

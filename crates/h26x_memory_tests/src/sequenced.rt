@@ -1,11 +1,12 @@
 //! Packets with their sequence numbers: one that is refused for memory leaves all, and can be given
 //! again.
 
+mod rows;
+
 use crate::ends::{fragment, longer_fragment};
 use crate::tries::{Tries, buffer_of, room_for};
 use h26x_codec::Codec;
 use h26x_core::{CodecExtra, H264CodecExtra, H265CodecExtra, H266CodecExtra, PacketError};
-use h26x_handles::sequenced::SequencedEndpoint;
 use h26x_receiver::{AnyDepacketizer, Received, SequencedDepacketizer, receive_all};
 use std::alloc::Global;
 use std::process::Abort;
@@ -225,95 +226,4 @@ fn receiving_that_takes_no_memory(rt: HostRuntime) {
         Err(PacketError::ErrShortPacket),
     ];
     assert!(rt; answers == want && it.it.expected.is_none());
-}
-
-/// Gives a packet to an endpoint, again where it is refused for memory: a refusal leaves what the one
-/// before completed.
-fn give(
-    rt: &impl Abort,
-    it: &mut SequencedEndpoint,
-    tries: Tries,
-    sequence: u16,
-    packet: &[u8],
-    want: Received,
-) -> Result<(), PacketError> {
-    let mut told = CodecExtra::None;
-    let before = (it.written().len(), it.run_len());
-    let received = match it.receive(sequence, packet, &mut [], &mut 0, &mut told) {
-        Err(PacketError::OutOfMemory) if tries == Tries::Twice => {
-            assert!(rt; (it.written().len(), it.run_len()) == before && told == CodecExtra::None);
-            it.receive(sequence, packet, &mut [], &mut 0, &mut told)?
-        }
-        answer => answer?,
-    };
-    assert!(rt; received == want);
-    Ok(())
-}
-
-/// Gives the last fragment of a unit, which completes it.
-fn give_end(
-    rt: &impl Abort,
-    it: &mut SequencedEndpoint,
-    tries: Tries,
-    unit: &Unit,
-) -> Result<(), PacketError> {
-    let end = fragment(&unit.end, 0xcc);
-    give(rt, it, tries, 1, &end, Received::InOrder)?;
-    assert!(rt; it.written().starts_with(unit.front) && it.written().len() == unit.len);
-    Ok(())
-}
-
-/// Gives an endpoint the fragments of a unit, the last of them to it and to a copy.
-fn give_run(rt: &impl Abort, alloc: Global, tries: Tries, unit: &Unit) -> Result<(), PacketError> {
-    let start = fragment(&unit.start, 0xaa);
-    let middle = longer_fragment(&unit.middle, 0xbb);
-    let mut it = SequencedEndpoint::new(alloc, unit.codec, false, false, 1000);
-    give(rt, &mut it, tries, 65535, &start, Received::InOrder)?;
-    give(rt, &mut it, tries, 0, &middle, Received::InOrder)?;
-    let mut copy = match it.clone(alloc) {
-        Err(PacketError::OutOfMemory) if tries == Tries::Twice => it.clone(alloc)?,
-        answer => answer?,
-    };
-    give_end(rt, &mut it, tries, unit)?;
-    give_end(rt, &mut copy, tries, unit)
-}
-
-#[test]
-fn packets_of_an_endpoint_again(rt: HostRuntime) -> Result<(), PacketError> {
-    for unit in &UNITS {
-        give_run(&rt, rt.alloc(), Tries::Twice, unit)?;
-    }
-    Ok(())
-}
-
-#[test]
-fn packets_of_an_endpoint_at_once(rt: HostRuntime) -> Result<(), PacketError> {
-    give_run(&rt, rt.alloc(), Tries::Once, &UNITS[2])
-}
-
-/// Fragments without a start, one that is late and one that is refused, a unit that has room,
-/// settings and a restart.
-#[test]
-fn an_endpoint_that_takes_no_memory(rt: HostRuntime) {
-    let mut it = SequencedEndpoint::new(rt.alloc(), Codec::H266, false, false, 1000);
-    let middle = [0, 0xe9, 7, 1];
-    let unit = [0, 0x39, 0xff, 0xff, 0xcc, 0xdd];
-    let (mut to, mut written, mut told) = ([0; 8], 0, CodecExtra::None);
-    it.with_avc(true);
-    it.with_donl(true);
-    let answers = [
-        it.receive(9, &middle, &mut to, &mut written, &mut told),
-        it.receive(9, &middle, &mut to, &mut written, &mut told),
-        it.receive(20, &[], &mut to, &mut written, &mut told),
-        it.receive(10, &unit, &mut to, &mut written, &mut told),
-    ];
-    it.restart();
-    let want = [
-        Ok(Received::InOrder),
-        Ok(Received::Late(1)),
-        Err(PacketError::ErrShortPacket),
-        Ok(Received::InOrder),
-    ];
-    assert!(rt; answers == want && it.run_len() == 0 && it.written().is_empty());
-    assert!(rt; written == 8 && to == [0, 0, 0, 4, 0, 0x39, 0xcc, 0xdd]);
 }

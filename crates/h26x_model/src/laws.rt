@@ -6,7 +6,7 @@ ghost use Rattle.std.specs.Prelude.{◌≡◌, true, ◌%◌, ℕ, Bool, Option,
 ghost use Rattle.std.specs.List.{AllByRecursion, Contains, flat_map};
 ghost use Rattle.h26x_model.specs.Payload.Reading.{Reading, IsRead};
 ghost use Rattle.h26x_model.specs.Payload.Format.{Format, donl_len, fragment_header_len};
-ghost use Rattle.h26x_model.specs.Send.Calls.{Call, AreCalls, all_entries, packet_limit};
+ghost use Rattle.h26x_model.specs.Send.Calls.{Call, AreCalls, packet_limit};
 ghost use Rattle.h26x_model.specs.Send.Group.{Entry, Group, split, AreGroups, latest_sets};
 ghost use Rattle.h26x_model.specs.Send.Plan.{plan, PlansCallByCall, WaitsCallByCall, Item, fits_one_packet, is_dropped, item_units, KeepsLast};
 ghost use Rattle.h26x_model.specs.Send.WaitingSets.{WaitingSets, AreWaitingSets, entries_with_limit, plan_with_waiting, no_waiting_sets, waiting_after, sets_waiting};
@@ -18,16 +18,17 @@ ghost use Rattle.h26x_model.specs.Send.Rival.{TakesFewestFragments};
 ghost use Rattle.h26x_model.specs.Receive.Run.{AreReceived, PlaceBrings};
 ghost use Rattle.h26x_model.specs.Receive.Received.{open_run, IsOpenRun, run_after, units_after, received, reading_units};
 ghost use Rattle.h26x_core.specs.Kind.{Skipped};
-ghost use Rattle.h26x_model.specs.Payload.Facts.{MarksFragments, DonlHasTwoBytes, IsPayloadFormat, FitsLimits, HeadersTakeRoom, ReadsWhatItWrites, CanSend, IsPlanned, KnowsKeyUnits, AreCarried, KeyUnitsAreOther, SetsLeaveRoom};
+ghost use Rattle.h26x_model.specs.Payload.Facts.{MarksFragments, DonlHasTwoBytes, IsPayloadFormat, FitsLimits, HeadersTakeRoom, ReadsWhatItWrites, CanSend, IsPlanned, KnowsKeyUnits, KeyUnitsAreOther, SetsLeaveRoom};
 ghost use Rattle.h26x_model.specs.Carry.Loss.{LossStaysWithin};
 ghost use Rattle.h26x_model.specs.Send.Again.{NothingDropped, IsSteady};
 ghost use Rattle.h26x_model.specs.Carry.Detection.{AreDetected};
-ghost use Rattle.h26x_model.specs.Send.PacketizerState.{PacketizerState, IsPacketizerState, IsSamePacketizerState, state_plan, state_units, state_packets, after_entries, has_no_effect, packetizer_meaning, one_unit_items, one_unit_packets, after_one_unit};
+ghost use Rattle.h26x_model.specs.Send.PacketizerState.{PacketizerState, IsPacketizerState, IsSamePacketizerState, state_plan, state_units, calls_plan, HaveSameEffect, has_no_effect, packetizer_meaning, one_unit_units, one_unit_packets, after_one_unit};
 ghost use Rattle.h26x_model.specs.Receive.DepacketizerState.{DepacketizerState, Depacketization, readings_units, run_after_readings, depacketizer_meaning};
 ghost use Rattle.h26x_model.specs.Receive.RunLimit.{run_len};
 ghost use Rattle.h26x_model.specs.Carry.Gaps.{WritesWholeUnits};
 ghost use Rattle.h26x_model.specs.Carry.AnySender.{WritesWhatCame};
-ghost use Rattle.h26x_model.specs.Carry.Laws.{PacketizerGoesOn, DepacketizerGoesOn, CarriesWhole, LosesLittle, SendsAgain};
+ghost use Rattle.h26x_model.specs.Carry.Laws.{PacketizerGoesOn, DepacketizerGoesOn, CarriesWhole, LosesLittle, SendsAgain, AreCallsCarried, IfCarried, IsMaskOf};
+ghost use Rattle.h26x_model.specs.Where.{Where};
 
 /// A list of units is groups and a rest in one way, and `split` finds it.
 pub fn one_grouping()
@@ -89,7 +90,7 @@ pub fn a_unit_sent_as_it_is()
     ensures received { (s : PacketizerState) (mtu : ℕ) (unit : List ℕ) (earlier : List Reading) →
         ReadsWhatItWrites s.format → IsTrue (s.format.carries unit) →
         units_after earlier (map s.format.read (one_unit_packets s mtu unit))
-        ≡ flat_map item_units (one_unit_items s mtu unit) }
+        ≡ one_unit_units s mtu unit }
 {}
 
 /// The fragments of a unit, place by place, and the marks that they bear.
@@ -147,9 +148,8 @@ pub fn received_by_places()
 pub fn what_is_carried_can_be_sent()
     ensures planned { (s : PacketizerState) (calls : List Call) → IsPacketizerState s →
         SetsLeaveRoom s.format →
-        KeyUnitsAreOther s.format → AreCalls calls →
-        AreCarried s.format (state_units s (all_entries s.format calls)) →
-        AllByRecursion (IsPlanned s.format) (state_plan s (all_entries s.format calls)) }
+        KeyUnitsAreOther s.format → AreCalls calls → AreCallsCarried s calls →
+        AllByRecursion (IsPlanned s.format) (calls_plan s calls) }
     ensures can_send { (f : Format) → ReadsWhatItWrites f → (items : List Item) →
         AllByRecursion (IsPlanned f) items → AllByRecursion (CanSend f) items }
 {}
@@ -189,13 +189,11 @@ pub fn key_units_are_detected()
 /// each key unit is detected, and no other packet but aggregates that bear numbers.
 pub fn what_calls_send_is_in_order_and_detected()
     ensures dons { (s : PacketizerState) (calls : List Call) → IsPayloadFormat s.format →
-        IsPacketizerState s → AreCalls calls →
-        AreCarried s.format (state_units s (all_entries s.format calls)) →
-        DonsInOrder s.format s.next_don (state_plan s (all_entries s.format calls)) }
+        IsPacketizerState s → AreCalls calls → AreCallsCarried s calls →
+        DonsInOrder s.format s.next_don (calls_plan s calls) }
     ensures detected { (s : PacketizerState) (calls : List Call) → IsPayloadFormat s.format →
-        IsPacketizerState s → AreCalls calls →
-        AreCarried s.format (state_units s (all_entries s.format calls)) →
-        AreDetected s.format s.next_don (state_plan s (all_entries s.format calls)) }
+        IsPacketizerState s → AreCalls calls → AreCallsCarried s calls →
+        AreDetected s.format s.next_don (calls_plan s calls) }
 {}
 
 /// Numbers are two bytes: packets numbered on from n are those numbered on from its remainder;
@@ -228,12 +226,7 @@ pub fn packetizers_go_on()
 pub fn calls_without_effect()
     ensures { (s : PacketizerState) → IsPayloadFormat s.format → IsPacketizerState s →
         (before later : List Call) (call : Call) → has_no_effect s.format call ≡ true →
-        (state_plan s (all_entries s.format (before ++ call ∷ later))
-        ≡ state_plan s (all_entries s.format
-        (before ++ later)))
-        × (after_entries s (all_entries s.format (before ++ call ∷ later))
-        ≡ after_entries s (all_entries s.format
-        (before ++ later))) }
+        HaveSameEffect s (before ++ call ∷ later) (before ++ later) }
 {}
 
 /// A depacketizer goes on from packets to packets.
@@ -245,20 +238,15 @@ pub fn depacketizers_go_on()
 /// whatever the next decoding order number was and whatever run was open.
 pub fn what_calls_send_is_carried()
     ensures { (s : PacketizerState) (w : Depacketization) (calls : List Call) →
-        IsPayloadFormat s.format → IsPacketizerState s →
-        AreCalls calls → w.state.format ≡ s.format →
-        AreCarried s.format (state_units s (all_entries s.format calls)) → CarriesWhole s w calls }
+        IfCarried s w calls (CarriesWhole s w calls) }
 {}
 
 /// What some of the packets that calls send bring, in order: item by item what is left of it,
 /// whatever run was open.
 pub fn what_is_left_is_brought()
     ensures { (s : PacketizerState) (w : Depacketization) (calls : List Call) →
-        IsPayloadFormat s.format → IsPacketizerState s →
-        AreCalls calls → w.state.format ≡ s.format →
-        AreCarried s.format (state_units s (all_entries s.format calls)) → (mask : List Bool) →
-        length mask ≡ length (state_packets s (all_entries s.format calls)) →
-        LosesLittle s w calls mask }
+        IfCarried s w calls ((mask : List Bool) → IsMaskOf mask s calls →
+        LosesLittle s w calls mask) }
 {}
 
 /// Where the open run is given up at each packet that is missing, and where it is longer than a
@@ -266,11 +254,8 @@ pub fn what_is_left_is_brought()
 /// that the run may hold, and nothing else; whatever run was open.
 pub fn nothing_is_damaged()
     ensures { (most : ℕ) (s : PacketizerState) (w : Depacketization) (calls : List Call) →
-        IsPayloadFormat s.format → IsPacketizerState s →
-        AreCalls calls → w.state.format ≡ s.format →
-        AreCarried s.format (state_units s (all_entries s.format calls)) → (mask : List Bool) →
-        length mask ≡ length (state_packets s (all_entries s.format calls)) →
-        WritesWholeUnits most s w calls mask }
+        IfCarried s w calls ((mask : List Bool) → IsMaskOf mask s calls →
+        WritesWholeUnits most s w calls mask) }
 {}
 
 /// Whoever sent packets, and whatever they are: where some are missing, and the open run is given up at

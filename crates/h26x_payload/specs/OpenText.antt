@@ -5,6 +5,8 @@ use Rattle.h26x_model.specs.Receive.DepacketizerState.{DepacketizerState, Depack
 use Rattle.h26x_payload.specs.declared.receive.parts.Parts.{Parts}
 use Rattle.h26x_payload.specs.declared.receive.parts.Parts.TheVariants as p
 use Rattle.h26x_model.specs.Receive.RunLimit.{state_with_run}
+use Rattle.h26x_model.specs.Payload.Format.{Format}
+use Rattle.h26x_payload.specs.DepacketizerView.{DepacketizerView, depacketizer_state}
 
 -- What was written, and the open run. Where the run's data stand in the memory of the text they are
 -- inside: the header that its unit will have has so many bytes.
@@ -45,3 +47,13 @@ abbrev pub met_depacketization : Bool → DepacketizerState → OpenTextView →
     Depacketization
 met_depacketization is_next r text extra = depacketization
     (state_with_run r (run_if is_next text.run)) text.text extra
+
+-- these two of a depacketizer of a format
+abbrev pub view_in_text : {C : Type 0} → Format → DepacketizerView C → OpenTextView → CodecExtra →
+    Depacketization
+view_in_text f it text extra = text_depacketization (depacketizer_state f it) text extra
+
+abbrev pub view_met_in_text : {C : Type 0} → Bool → Format → DepacketizerView C → OpenTextView →
+    CodecExtra → Depacketization
+view_met_in_text is_next f it text extra =
+    met_depacketization is_next (depacketizer_state f it) text extra

@@ -4,7 +4,7 @@ use Rattle.h26x_model.specs.Payload.Format.{Format}
 use Rattle.h26x_model.specs.Send.Group.{Entry}
 use Rattle.h26x_model.specs.Send.Calls.{Call, default_max_packet_size, call_entries}
 use Rattle.h26x_model.specs.Send.WaitingSets.{WaitingSets, no_waiting_sets}
-use Rattle.h26x_model.specs.Send.PacketizerState.{PacketizerState, IsPacketizerState, after_entries, after_one_unit}
+use Rattle.h26x_model.specs.Send.PacketizerState.{PacketizerState, IsPacketizerState, IsSentAsPlanned, state_packets, after_entries, after_one_unit}
 use Rattle.h26x_payload.specs.declared.send.update.Update.{Update}
 use Rattle.h26x_payload.specs.Sending.{waiting_sets, waiting_with_update}
 
@@ -66,6 +66,19 @@ view_after f h entries = record {
   next_don = (after_entries (packetizer_state f h) entries).next_don;
   max_packet_size = h.max_packet_size;
 }
+
+-- the packets of a call of it
+abbrev pub view_packets : {C : Type 0} → Format → PacketizerView C → ℕ → List ℕ → List (List ℕ)
+view_packets f h mtu payload = state_packets (packetizer_state f h) (view_entries f h mtu payload)
+
+-- what is held after a call of it
+abbrev pub view_after_call : {C : Type 0} → Format → PacketizerView C → ℕ → List ℕ → PacketizerView C
+view_after_call f h mtu payload = view_after f h (view_entries f h mtu payload)
+
+-- a call of it does what is planned of whole lists
+abbrev pub IsViewSentAsPlanned : {C : Type 0} → Format → PacketizerView C → ℕ → List ℕ → Type 0
+IsViewSentAsPlanned f h mtu payload = IsSentAsPlanned (packetizer_state f h) (view_call h mtu payload)
+    (view_packets f h mtu payload) (packetizer_state f (view_after_call f h mtu payload))
 
 -- what is held after one unit as it is: the sets that wait stay
 abbrev pub view_after_unit : {C : Type 0} → Format → PacketizerView C → ℕ → List ℕ → PacketizerView C

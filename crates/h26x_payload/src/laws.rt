@@ -7,11 +7,9 @@ ghost use Rattle.h26x_core.specs.Mark.{IsMark};
 ghost use Rattle.h26x_core.specs.ByteStream.{is_not_empty, annex_b};
 ghost use Rattle.h26x_cut.specs.Cutting.{IsUnit, AreSeparable};
 ghost use Rattle.h26x_model.specs.Payload.Format.{Format};
-ghost use Rattle.h26x_model.specs.Send.Calls.{Call, all_entries, all_packets};
-ghost use Rattle.h26x_model.specs.Send.Plan.{units_sent};
-ghost use Rattle.h26x_model.specs.Send.Again.{NothingDropped};
-ghost use Rattle.h26x_model.specs.Carry.Laws.{calls_like};
-ghost use Rattle.h26x_payload.specs.Units.{CutsBy};
+ghost use Rattle.h26x_model.specs.Send.Calls.{Call};
+ghost use Rattle.h26x_model.specs.Where.{Where};
+ghost use Rattle.h26x_payload.specs.Units.{CutsBy, IsSentAgain};
 
 use h26x_cut::ZeroRule;
 
@@ -36,8 +34,5 @@ pub fn text_is_cut_into_its_units()
 pub fn sent_again()
     ensures { (f : Format) (rule : ZeroRule) → CutsBy f rule →
         (call : Call) (payloads units : List (List ℕ)) →
-        NothingDropped f (all_entries f (calls_like call payloads)) →
-        units ≡ units_sent f (all_entries f (calls_like call payloads)) → AreSeparable rule units →
-        all_packets f 0 (record call { payload = annex_b units } ∷ [])
-        ≡ all_packets f 0 (calls_like call payloads) }
+        IsSentAgain f rule call payloads units }
 {}

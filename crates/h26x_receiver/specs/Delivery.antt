@@ -9,11 +9,10 @@ use Rattle.h26x_core.specs.declared.error.PacketError.TheVariants.{AvcUnitTooLon
 use Rattle.h26x_model.specs.Send.Calls.{Call, AreCalls, all_entries}
 use Rattle.h26x_model.specs.Payload.Facts.{AreCarried, IsPayloadFormat}
 use Rattle.h26x_model.specs.Send.PacketizerState.{PacketizerState, IsPacketizerState, state_units, state_packets}
-use Rattle.h26x_model.specs.Receive.DepacketizerState.{Depacketization, readings_units}
+use Rattle.h26x_model.specs.Receive.DepacketizerState.{Depacketization, readings_units, AreWritten}
 use Rattle.h26x_model.specs.Carry.Loss.{keep}
 use Rattle.h26x_model.specs.Carry.Gaps.{whole_units}
 use Rattle.h26x_model.specs.Carry.AnySender.{units_came}
-use Rattle.h26x_codec.specs.Runs.{AreWritten}
 use Rattle.h26x_receiver.specs.declared.received.Received.{Received}
 use Rattle.h26x_receiver.specs.Sequenced.{is_taken, with_expected, after_answers, HaveSequencedAnswers}
 

@@ -343,4 +343,12 @@ impl RunDepacketizer for AnyDepacketizer {
             AnyDepacketizer::H266(it) => it.depacketize_in_text(rule, packet, text, codec_extra),
         }
     }
+
+    fn starts_run(&self, packet: &[u8]) -> bool {
+        match self {
+            AnyDepacketizer::H264(it) => it.starts_run(packet),
+            AnyDepacketizer::H265(it) => it.starts_run(packet),
+            AnyDepacketizer::H266(it) => it.starts_run(packet),
+        }
+    }
 }

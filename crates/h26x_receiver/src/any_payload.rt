@@ -15,7 +15,7 @@ use h26x_codec::{Codec, formats};
 use h26x_core::{CodecExtra, Depacketizer, PacketError};
 use h26x_payload::{
     DonlFormat, OpenRun, OpenText, PacketReader, PayloadFormat, RunRule, UnitSink, out_size_hint,
-    take_in_text, take_packet,
+    starts_run, take_in_text, take_packet,
 };
 use h264_payload::H264;
 use h265_payload::H265;
@@ -322,6 +322,15 @@ impl RunDepacketizer for AnyPayloadDepacketizer {
                 let codec = H266::new().with_donl(dons);
                 self.take_as_in_text(codec, rule, packet, text, codec_extra)
             }
+        }
+    }
+
+    fn starts_run(&self, packet: &[u8]) -> bool {
+        let dons = self.has_donl;
+        match self.codec {
+            Codec::H264 => starts_run(H264::new(), packet),
+            Codec::H265 => starts_run(H265::new().with_donl(dons), packet),
+            Codec::H266 => starts_run(H266::new().with_donl(dons), packet),
         }
     }
 }

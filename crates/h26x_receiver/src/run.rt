@@ -2,6 +2,7 @@
 
 ghost use Rattle.std.specs.Prelude.{◌≡◌, false, [], ◌∷◌, ℕ, List, Option, None, OnOk, OnErr, refl};
 ghost use Rattle.h26x_model.specs.Payload.Facts.{IsPayloadFormat};
+ghost use Rattle.h26x_model.specs.Payload.Reading.{is_start};
 ghost use Rattle.h26x_model.specs.Receive.DepacketizerState.{DepacketizerState, depacketization, after_packets, IsPacketOutcome};
 ghost use Rattle.h26x_model.specs.Receive.RunLimit.{run_len, state_with_run};
 ghost use Rattle.h26x_payload.specs.DepacketizerView.{depacketizer_state};
@@ -90,6 +91,10 @@ pub trait RunDepacketizer: Depacketizer {
         ensures kept_text { OnErr result (IsSameText text.new text.old) }
         ensures kept_extra { OnErr result (codec_extra.new ≡ codec_extra.old) };
 
+    /// Whether a packet is a fragment that starts, which gives up a run that is open.
+    fn starts_run(&self, packet: &[u8]) -> bool
+        ensures { result ≡ is_start ((state self.now).format.read packet.now) };
+
     // With another run all else is the same, and with its own run it is itself.
     ghost other_run: { (run : Option (List ℕ)) (it : Self) →
         state (with_run run it) ≡ state_with_run (state it) run };
@@ -170,6 +175,10 @@ impl<C: PacketReader> RunDepacketizer for PayloadDepacketizer<C> {
     ) -> Result<(), PacketError> {
         self.depacketize_in_text(rule, packet, text, codec_extra)
     }
+
+    fn starts_run(&self, packet: &[u8]) -> bool {
+        self.starts_run(packet)
+    }
 }
 
 impl RunDepacketizer for H265Depacketizer {
@@ -222,5 +231,9 @@ impl RunDepacketizer for H265Depacketizer {
         codec_extra: &mut CodecExtra,
     ) -> Result<(), PacketError> {
         self.depacketize_in_text(rule, packet, text, codec_extra)
+    }
+
+    fn starts_run(&self, packet: &[u8]) -> bool {
+        self.starts_run(packet)
     }
 }

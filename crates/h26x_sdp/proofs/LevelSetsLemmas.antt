@@ -14,7 +14,7 @@ use Rattle.h26x_sdp.specs.declared.error.UnitsError.{UnitsError}
 use Rattle.h26x_sdp.specs.declared.error.LevelSetsError.{LevelSetsError}
 use Rattle.h26x_sdp.specs.Units.{is_mark_of, pieces_at, units_text, sprop_units}
 use Rattle.h26x_sdp.specs.UnitTypes.{of_types, unless_fault, fault_from, h264_sets}
-use Rattle.h26x_sdp.specs.LevelSets.{LevelSets, level_of, level_in, level_before, levels_from, level_sets_in, level_texts, level_sets_text, IsLevel, AreLevelSets}
+use Rattle.h26x_sdp.specs.LevelSets.{LevelSets, level_of_parts, level_in, level_before, levels_from, level_sets_in, level_texts, level_sets_text, IsLevel, AreLevelSets}
 use Rattle.h26x_sdp.proofs.PartLemmas.{by_test}
 use Rattle.h26x_sdp.proofs.UnitsLemmas.{no_mark, colon, plain_encoding, joined_pieces, bytes_pieces, units_written, units_read}
 use Rattle.h26x_sdp.proofs.KeptH264Lemmas.{encoded_all}
@@ -82,9 +82,9 @@ plain_texts (level ∷ rest) h = (encoded_all (no_mark 58) level.profile_level_i
 levels_back : (place : ℕ) (levels : List LevelSets) → AllByRecursion IsReadLevel levels → levels_from place (level_texts levels) ≡ Ok levels
 levels_back place [] h = refl
 levels_back place (level ∷ rest) h =
-    ap (λ r. level_before (level_of place r (of_types h264_sets (sprop_units (units_text level.sets)))) (levels_from (place + 1) (level_texts rest)))
+    ap (λ r. level_before (level_of_parts place r (of_types h264_sets (sprop_units (units_text level.sets)))) (levels_from (place + 1) (level_texts rest)))
     (decode_sized-encode_lower level.profile_level_id 3 h.0.long h.0.bytes)
-    ∙ ap (λ r. level_before (level_of place (Ok level.profile_level_id) r) (levels_from (place + 1) (level_texts rest))) h.0.sets
+    ∙ ap (λ r. level_before (level_of_parts place (Ok level.profile_level_id) r) (levels_from (place + 1) (level_texts rest))) h.0.sets
     ∙ ap (level_before (Ok level)) (levels_back (place + 1) rest h.1)
 
 read_back : (levels : List LevelSets) → 0 < length levels → AllByRecursion IsReadLevel levels → level_sets_in (level_sets_text levels) ≡ Ok levels
@@ -108,7 +108,7 @@ pub levels_written : (levels : List LevelSets) → AreLevelSets levels → level
 levels_written levels are = read_back levels are.some (levels_are levels are.whole)
 
 -- what is read of a text
-level_parts : (place : ℕ) (id : Result (List ℕ) FromHexError) (sets : Result (List (List ℕ)) UnitsError) (level : LevelSets) → level_of place id sets ≡ Ok level
+level_parts : (place : ℕ) (id : Result (List ℕ) FromHexError) (sets : Result (List (List ℕ)) UnitsError) (level : LevelSets) → level_of_parts place id sets ≡ Ok level
     → (id ≡ Ok level.profile_level_id) × (sets ≡ Ok level.sets)
 level_parts place (Err error) sets level h = cc h
 level_parts place (Ok id) (Err error) level h = cc h
@@ -157,7 +157,7 @@ levels_some place id (sets ∷ texts) levels h =
     omega (arith, long)
 
 -- a text has a piece
-some_piece : (mark : ℕ) (text : List ℕ) → (first : List ℕ) × (rest : List (List ℕ)) × (pieces_at mark text ≡ first ∷ rest)
+pub some_piece : (mark : ℕ) (text : List ℕ) → (first : List ℕ) × (rest : List (List ℕ)) × (pieces_at mark text ≡ first ∷ rest)
 some_piece mark [] = ([], [], refl)
 some_piece mark (byte ∷ text) = by_test (is_mark_of mark byte)
     (λ found. ([], pieces_at mark text, slice_split-cons_yes (is_mark_of mark) byte text found))

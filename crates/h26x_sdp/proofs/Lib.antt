@@ -10,6 +10,7 @@ pub mod FixedLemmas
 pub mod UnitsLemmas
 pub mod ConstraintsLemmas
 pub mod LevelSetsLemmas
+pub mod CapabilityPointsLemmas
 pub mod RtpMapLemmas
 pub mod AnswerLemmas
 pub mod AnswersLemmas

@@ -2,7 +2,8 @@
 use Rattle.std.specs.Prelude.{◌≡◌, List, Some}
 use Rattle.std.specs.List.{Contains}
 use Rattle.h26x_sdp.specs.Reading.{FormatParameters}
-use Rattle.h26x_sdp.specs.Answers.{Format, Terms, Rules, common_terms, answered}
+use Rattle.h26x_sdp.specs.Answers.{Format, Terms, Rules, common_terms, answered, answer_by}
+use Rattle.h26x_sdp.specs.Parameters.{AreParameters}
 
 -- an offered format and one of ours that have a configuration in common
 pub record HaveCommon (rules : Rules) (offer : List Format) (ours : List FormatParameters)
@@ -19,3 +20,11 @@ pub record ComesFrom (rules : Rules) (offer : List Format) (ours : List FormatPa
   pub terms : Terms
   pub have : HaveCommon rules offer ours format own terms
   pub is : answer ≡ record format { parameters = answered rules format.parameters own terms }
+
+-- what holds of each answer by rules to parameters of their table, of ours
+abbrev pub OfEachAnswer : Rules →
+    (FormatParameters → FormatParameters → FormatParameters → Type 0) → Type 0
+OfEachAnswer rules Holds =
+    (offered own answer : FormatParameters) → AreParameters rules.rows offered →
+    AreParameters rules.rows own → answer_by rules offered own ≡ Some answer →
+    Holds offered own answer

@@ -16,16 +16,16 @@ pub record LevelSets : Type 0 where
   pub sets : List (List ℕ)
 
 -- the two parts of a level at a place; the first fault is the answer
-abbrev pub level_of : ℕ → Result (List ℕ) FromHexError → Result (List (List ℕ)) UnitsError →
+abbrev pub level_of_parts : ℕ → Result (List ℕ) FromHexError → Result (List (List ℕ)) UnitsError →
     Result LevelSets LevelSetsError
-level_of place (Err error) sets = Err (NotHexadecimal place)
-level_of place (Ok id) (Err error) = Err (Sets place error)
-level_of place (Ok id) (Ok sets) = Ok (record { profile_level_id = id; sets = sets })
+level_of_parts place (Err error) sets = Err (NotHexadecimal place)
+level_of_parts place (Ok id) (Err error) = Err (Sets place error)
+level_of_parts place (Ok id) (Ok sets) = Ok (record { profile_level_id = id; sets = sets })
 
 -- six digits, and units that are sets
 abbrev pub level_in : ℕ → List ℕ → List ℕ → Result LevelSets LevelSetsError
 level_in place id sets =
-    level_of place (decode_sized id 3) (of_types h264_sets (sprop_units sets))
+    level_of_parts place (decode_sized id 3) (of_types h264_sets (sprop_units sets))
 
 -- a level before others; the first fault is the answer
 abbrev pub level_before : Result LevelSets LevelSetsError → Result (List LevelSets) LevelSetsError →

@@ -15,6 +15,8 @@ pub mod Units
 pub mod UnitsViews
 pub mod LevelSets
 pub mod LevelSetsViews
+pub mod CapabilityPoints
+pub mod CapabilityPointsViews
 pub mod Constraints
 pub mod ConstraintsViews
 pub mod FromStream

@@ -205,3 +205,63 @@ impl<T: Drop> From<AllocFailed<T>> for LevelSetsError {
         LevelSetsError::OutOfMemory
     }
 }
+
+/// Why a text is no capability points. A refused call changes nothing.
+#[derive(Debug, Clone, Copy, PartialEq, Eq, Error)]
+pub enum CapabilityPointsError {
+    /// The text doesn't begin with `{` and end with `}`.
+    #[error("no braces")]
+    NoBraces,
+
+    /// The point at this place, counted from 0, starts with neither `w` nor `t` before a `:`.
+    #[error("point {place} is for no tool")]
+    NoTool {
+        place: usize,
+    },
+
+    /// The number behind the tool of the point at this place has this fault.
+    #[error("the number of point {place} is refused")]
+    Segmentation {
+        place: usize,
+        fault: Fault,
+    },
+
+    /// The limits of the point at this place have this fault.
+    #[error("the limits of point {place} are refused")]
+    Limits {
+        place: usize,
+        fault: ParametersError,
+    },
+
+    /// The point at this place has no limit.
+    #[error("point {place} has no limit")]
+    NoLimit {
+        place: usize,
+    },
+
+    /// The allocator had no memory.
+    #[error("out of memory")]
+    OutOfMemory,
+}
+
+impl From<AllocError> for CapabilityPointsError {
+    ghost use Rattle.std.specs.Prelude.{◌≡◌};
+    ghost use Rattle.h26x_sdp.specs.declared.error.CapabilityPointsError.TheVariants.{OutOfMemory};
+
+    ghost from_gives = { λ _ e. e ≡ OutOfMemory };
+
+    fn from(_e: AllocError) -> CapabilityPointsError {
+        CapabilityPointsError::OutOfMemory
+    }
+}
+
+impl<T: Drop> From<AllocFailed<T>> for CapabilityPointsError {
+    ghost use Rattle.std.specs.Prelude.{◌≡◌};
+    ghost use Rattle.h26x_sdp.specs.declared.error.CapabilityPointsError.TheVariants.{OutOfMemory};
+
+    ghost from_gives = { λ _ e. e ≡ OutOfMemory };
+
+    fn from(_e: AllocFailed<T>) -> CapabilityPointsError {
+        CapabilityPointsError::OutOfMemory
+    }
+}

@@ -2,10 +2,14 @@
 
 ghost use Rattle.std.specs.Prelude.{◌≡◌};
 
+use crate::capability_points::{CapabilityPoint, read_capability_points};
 use crate::codec::{CodecParameter, CodecParameters};
+use crate::error::CapabilityPointsError;
 use crate::kind::{BITS_8, BITS_15, BITS_32, BITS_64, FLAG, Kind, SUB_LAYER};
 use crate::table::ParameterRow;
 use crate::unit_types::{H265_PPS, H265_SEI, H265_SPS, H265_VPS};
+use hex::FromHex;
+use std::alloc::Global;
 
 /// A format parameter of H.265, in the order in which they are written (RFC 7798, section 7.1).
 #[derive(Debug, Clone, Copy, PartialEq, Eq)]
@@ -86,7 +90,8 @@ pub enum H265Parameter {
     /// `sprop-spatial-segmentation-idc`: min_spatial_segmentation_idc, up to 4095, by hexadecimal
     /// digits. Where it's absent, it isn't said.
     SpropSpatialSegmentationIdc,
-    /// `dec-parallel-cap`: capabilities for parallel decoding, in braces, with `,` between them.
+    /// `dec-parallel-cap`: capabilities for parallel decoding, in braces, with `,` between them, which
+    /// `capability_points` looks into.
     DecParallelCap,
     /// `include-dph`: the hash types of decoded pictures that are wanted or there, with `,`
     /// between them, each up to 255. Where it's absent, none.
@@ -267,9 +272,13 @@ impl CodecParameter for H265Parameter {
 }
 
 impl CodecParameters<H265Parameter> {
-    ghost use Rattle.h26x_sdp.specs.Reading.{number_or_default, number_of_32_bits};
+    ghost use Rattle.std.specs.Option.{option_map};
+    ghost use Rattle.h26x_sdp.specs.Reading.{value_at, number_or_default, number_of_32_bits};
+    ghost use Rattle.h26x_sdp.specs.Constraints.{constraint_flags};
+    ghost use Rattle.h26x_sdp.specs.CapabilityPoints.{capability_points_in, inferred};
+    ghost use Rattle.h26x_sdp.specs.CapabilityPointsViews.{SaysPointsIfGiven};
     ghost use Rattle.h26x_sdp.specs.H265Rows as spec;
-    ghost use Rattle.h26x_sdp.specs.declared.h265.H265Parameter.TheVariants.{SpropMaxDonDiff};
+    ghost use Rattle.h26x_sdp.specs.declared.h265.H265Parameter.TheVariants.{DecParallelCap, SpropMaxDonDiff};
 
     /// What packetizers and receivers are configured for: `sprop-max-don-diff`, or 0 where it's
     /// absent. Where it is over 0, units bear decoding order numbers (RFC 7798, section 7.1).
@@ -278,6 +287,55 @@ impl CodecParameters<H265Parameter> {
             (number_or_default spec.rows self.now (spec.row_place SpropMaxDonDiff)) }
     {
         u32::try_from(self.number_or_default(H265Parameter::SpropMaxDonDiff)?).ok()
+    }
+
+    /// The 48 flags of constraints, six bytes, the first flag the highest bit; where they are absent,
+    /// those of progressive pictures that aren't packed, each a frame.
+    pub fn interop_constraints(&self) -> Option<[u8; 6]>
+        ensures { result ≡ constraint_flags self.now }
+    {
+        let text = self.value_or_default(H265Parameter::InteropConstraints)?;
+        <[u8; 6] as FromHex>::from_hex(text).ok()
+    }
+
+    /// What a receiver can do where pictures are coded for parallel decoding, `dec-parallel-cap`;
+    /// `None` where it's absent.
+    pub fn capability_points(
+        &self,
+        alloc: Global,
+    ) -> Result<Option<Vec<CapabilityPoint>>, CapabilityPointsError>
+        ensures { SaysPointsIfGiven result (option_map capability_points_in
+            (value_at self.now.values (spec.row_place DecParallelCap))) }
+    {
+        let Some(text) = self.value(H265Parameter::DecParallelCap) else {
+            return Ok(None);
+        };
+        match read_capability_points(alloc, text) {
+            Ok(points) => Ok(Some(points)),
+            Err(error) => Err(error),
+        }
+    }
+
+    /// A capability point with the limits that it leaves out: `tier-flag`, `max-recv-level-id`,
+    /// `max-lsr`, `max-lps` and `max-br` of these parameters (RFC 7798, section 7.1).
+    pub fn inferred(&self, point: CapabilityPoint) -> CapabilityPoint
+        ensures { result ≡ inferred self.now point }
+    {
+        let highest = match self.number(H265Parameter::MaxRecvLevelId) {
+            Some(level) => Some(level),
+            None => self.number_or_default(H265Parameter::LevelId),
+        };
+        CapabilityPoint {
+            tool: point.tool,
+            spatial_segmentation: point.spatial_segmentation,
+            tier_flag: point
+                .tier_flag
+                .or(self.number_or_default(H265Parameter::TierFlag)),
+            level_id: point.level_id.or(highest),
+            max_lsr: point.max_lsr.or(self.number(H265Parameter::MaxLsr)),
+            max_lps: point.max_lps.or(self.number(H265Parameter::MaxLps)),
+            max_br: point.max_br.or(self.number(H265Parameter::MaxBr)),
+        }
     }
 }
 

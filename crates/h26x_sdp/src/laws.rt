@@ -11,12 +11,13 @@ ghost use Rattle.base64.specs.GeneralPurpose.{IsBytes};
 ghost use Rattle.h26x_sdp.specs.Units.{AreSpropUnits, sprop_units, units_text};
 ghost use Rattle.h26x_sdp.specs.LevelSets.{LevelSets, AreLevelSets, level_sets_in, level_sets_text};
 ghost use Rattle.h26x_sdp.specs.Constraints.{as_constraints, constraints_in, constraints_text};
+ghost use Rattle.h26x_sdp.specs.CapabilityPoints.{AreCapabilityPoints, capability_points_in, capability_points_text};
+ghost use Rattle.h26x_sdp.specs.declared.capability_points.CapabilityPoint.{CapabilityPoint};
 ghost use Rattle.h26x_sdp.specs.RtpMaps.{rtp_map_of, rtp_map_text};
 ghost use Rattle.h26x_sdp.specs.declared.rtp_map.RtpMap.{RtpMap};
 ghost use Rattle.std.specs.Prelude.{is_some};
 ghost use Rattle.h26x_sdp.specs.Answers.{Format, Terms, Rules, offer_answer};
-ghost use Rattle.h26x_sdp.specs.AnswerLaws.{HaveCommon, ComesFrom};
-ghost use Rattle.h26x_sdp.specs.Answers.{answer_by};
+ghost use Rattle.h26x_sdp.specs.AnswerLaws.{HaveCommon, ComesFrom, OfEachAnswer};
 ghost use Rattle.h26x_sdp.specs.AnswersH264 as h264_answers;
 ghost use Rattle.h26x_sdp.specs.AllowedH264.{IsH264Answer, MaySend, is_sets_row};
 ghost use Rattle.h26x_sdp.specs.AnsweredAgain.{IsAnsweredAgain};
@@ -96,6 +97,16 @@ pub fn constraints_and_their_text()
         constraints_text bytes ≡ text }
 {}
 
+/// What is written of capability points is read as the same, and what is read is read again of what
+/// is written of it.
+pub fn capability_points_and_their_text()
+    ensures read { (points : List CapabilityPoint) → AreCapabilityPoints points →
+        capability_points_in (capability_points_text points) ≡ Ok points }
+    ensures again { (text : List ℕ) (points : List CapabilityPoint) →
+        capability_points_in text ≡ Ok points →
+        capability_points_in (capability_points_text points) ≡ Ok points }
+{}
+
 /// What is written of a payload type and its encoding is read as the same.
 pub fn what_is_written_of_an_rtp_map_is_read()
     ensures { (map : RtpMap) → map.payload_type < 128 → rtp_map_of (rtp_map_text map) ≡ Ok map }
@@ -116,9 +127,8 @@ pub fn whom_both_understand_is_found()
 /// An answer of H.264 is one that RFC 6184, section 8.2.2, allows of the offered format, and of an
 /// allowed answer what each end sends is what the other said that it receives.
 pub fn h264_answers_are_allowed()
-    ensures allowed { (offered own answer : FormatParameters) → AreParameters h264.rows offered →
-        AreParameters h264.rows own → answer_by h264_answers.rules offered own ≡ Some answer →
-        IsH264Answer offered answer }
+    ensures allowed { OfEachAnswer h264_answers.rules
+        (λ offered own answer. IsH264Answer offered answer) }
     ensures forth { (offered answer : FormatParameters) (it : IsH264Answer offered answer) →
         MaySend offered answer it.theirs it.ours }
     ensures back { (offered answer : FormatParameters) (it : IsH264Answer offered answer) →
@@ -127,34 +137,29 @@ pub fn h264_answers_are_allowed()
 
 /// An answer of H.264 is parameters of H.264, and once it's written it is read as the same.
 pub fn h264_answers_are_read()
-    ensures parameters { (offered own answer : FormatParameters) →
-        AreParameters h264.rows offered → AreParameters h264.rows own →
-        answer_by h264_answers.rules offered own ≡ Some answer → AreParameters h264.rows answer }
-    ensures read { (offered own answer : FormatParameters) → AreParameters h264.rows offered →
-        AreParameters h264.rows own → answer_by h264_answers.rules offered own ≡ Some answer →
-        read_of h264.rows (written (all_of h264.rows answer)) ≡ Ok answer }
+    ensures parameters { OfEachAnswer h264_answers.rules
+        (λ offered own answer. AreParameters h264.rows answer) }
+    ensures read { OfEachAnswer h264_answers.rules
+        (λ offered own answer. read_of h264.rows (written (all_of h264.rows answer)) ≡ Ok answer) }
 {}
 
 /// An answer of H.264 is answered with itself, but for parameter sets, which depend on what the other
 /// end says of them; in interleaved mode where we could put in order what we send.
 pub fn h264_answers_are_answered_with_themselves()
-    ensures { (offered own answer : FormatParameters) → AreParameters h264.rows offered →
-        AreParameters h264.rows own → (h264_answers.is_interleaved answer ≡ true →
+    ensures { OfEachAnswer h264_answers.rules (λ offered own answer.
+        (h264_answers.is_interleaved answer ≡ true →
         h264_answers.can_deinterleave own own ≡ true) →
-        answer_by h264_answers.rules offered own ≡ Some answer →
-        IsAnsweredAgain h264_answers.rules is_sets_row own answer }
+        IsAnsweredAgain h264_answers.rules is_sets_row own answer) }
 {}
 
 /// An answer of H.265 is one that RFC 7798, section 7.2.2, allows of the offered format, and one of
 /// H.266 one that RFC 9328, section 7.3.2, allows; and of an allowed answer what each end sends is what
 /// the other said that it receives.
 pub fn answers_by_level_are_allowed()
-    ensures h265 { (offered own answer : FormatParameters) → AreParameters h265.rows offered →
-        AreParameters h265.rows own → answer_by h265_answers.rules offered own ≡ Some answer →
-        IsAnswerByLevel h265_answers.rules h265_answers.by offered answer }
-    ensures h266 { (offered own answer : FormatParameters) → AreParameters h266.rows offered →
-        AreParameters h266.rows own → answer_by h266_answers.rules offered own ≡ Some answer →
-        IsAnswerByLevel h266_answers.rules h266_answers.by offered answer }
+    ensures h265 { OfEachAnswer h265_answers.rules
+        (λ offered own answer. IsAnswerByLevel h265_answers.rules h265_answers.by offered answer) }
+    ensures h266 { OfEachAnswer h266_answers.rules
+        (λ offered own answer. IsAnswerByLevel h266_answers.rules h266_answers.by offered answer) }
     ensures forth { (rules : Rules) (by : LevelRows) (offered answer : FormatParameters)
         (it : IsAnswerByLevel rules by offered answer) →
         MaySendByLevel rules by offered answer it.ours.level it.ours }
@@ -166,22 +171,18 @@ pub fn answers_by_level_are_allowed()
 /// An answer of H.265 or of H.266 is parameters of that codec, and once it's written it is read as the
 /// same.
 pub fn answers_by_level_are_read()
-    ensures h265 { (offered own answer : FormatParameters) → AreParameters h265.rows offered →
-        AreParameters h265.rows own → answer_by h265_answers.rules offered own ≡ Some answer →
-        read_of h265.rows (written (all_of h265.rows answer)) ≡ Ok answer }
-    ensures h266 { (offered own answer : FormatParameters) → AreParameters h266.rows offered →
-        AreParameters h266.rows own → answer_by h266_answers.rules offered own ≡ Some answer →
-        read_of h266.rows (written (all_of h266.rows answer)) ≡ Ok answer }
+    ensures h265 { OfEachAnswer h265_answers.rules
+        (λ offered own answer. read_of h265.rows (written (all_of h265.rows answer)) ≡ Ok answer) }
+    ensures h266 { OfEachAnswer h266_answers.rules
+        (λ offered own answer. read_of h266.rows (written (all_of h266.rows answer)) ≡ Ok answer) }
 {}
 
 /// An answer of H.265 or of H.266 is answered with itself, where we could put in order what we send.
 pub fn answers_by_level_are_answered_with_themselves()
-    ensures h265 { (offered own answer : FormatParameters) → AreParameters h265.rows offered →
-        AreParameters h265.rows own → can_hold h265.rows h265_answers.by own own ≡ true →
-        answer_by h265_answers.rules offered own ≡ Some answer →
-        IsAnsweredAgain h265_answers.rules (λ _. false) own answer }
-    ensures h266 { (offered own answer : FormatParameters) → AreParameters h266.rows offered →
-        AreParameters h266.rows own → can_hold h266.rows h266_answers.by own own ≡ true →
-        answer_by h266_answers.rules offered own ≡ Some answer →
-        IsAnsweredAgain h266_answers.rules (λ _. false) own answer }
+    ensures h265 { OfEachAnswer h265_answers.rules (λ offered own answer.
+        can_hold h265.rows h265_answers.by own own ≡ true →
+        IsAnsweredAgain h265_answers.rules (λ _. false) own answer) }
+    ensures h266 { OfEachAnswer h266_answers.rules (λ offered own answer.
+        can_hold h266.rows h266_answers.by own own ≡ true →
+        IsAnsweredAgain h266_answers.rules (λ _. false) own answer) }
 {}

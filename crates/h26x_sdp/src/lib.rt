@@ -6,6 +6,7 @@
 #![tactic(auto)]
 
 mod answer;
+mod capability_points;
 mod codec;
 mod constraints;
 mod error;
@@ -26,10 +27,14 @@ mod unit_types;
 mod units;
 
 pub use answer::{CodecRules, Format, Role, Terms, answer_to};
+pub use capability_points::{
+    CapabilityPoint, ParallelTool, read_capability_points, write_capability_points,
+};
 pub use codec::{CodecParameter, CodecParameters};
 pub use constraints::InteropConstraints;
 pub use error::{
-    ConstraintsError, Fault, LevelSetsError, ParametersError, StreamError, UnitsError,
+    CapabilityPointsError, ConstraintsError, Fault, LevelSetsError, ParametersError, StreamError,
+    UnitsError,
 };
 pub use from_stream::{
     h264_of_payload, h264_of_units, h265_of_payload, h265_of_units, h266_of_payload, h266_of_units,

@@ -5,6 +5,8 @@
 #[cfg(test)]
 mod answers;
 #[cfg(test)]
+mod capability_points;
+#[cfg(test)]
 mod parameters;
 #[cfg(test)]
 mod streams;

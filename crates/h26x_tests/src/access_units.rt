@@ -3,8 +3,10 @@
 ghost use Rattle.std.specs.Prelude.{◌≡◌};
 
 use h26x_access_units::{AccessUnitConfig, AccessUnitReceiver, Pushed, ReceivedUnit, Receives};
+use h26x_codec::Codec;
 use h26x_core::PacketError;
 use h26x_frames::RtpPacket;
+use h26x_receiver::{AnyDepacketizer, AnyPayloadDepacketizer, RunDepacketizer};
 use h264_payload::H264Depacketizer;
 use std::alloc::Global;
 
@@ -230,6 +232,112 @@ fn markers_and_numbers_that_bear_nothing(rt: HostRuntime) -> Result<(), PacketEr
         ],
     )?;
     assert!(rt; at.is_none(), "{at:?}");
+    Ok(())
+}
+
+/// Whether the access unit that these packets make, the last with a marker, is told to be whole behind
+/// one that was, and how many bytes it has.
+fn told<D: RunDepacketizer>(
+    alloc: Global,
+    depacketizer: D,
+    key: &[u8],
+    payloads: &[&[u8]],
+) -> Result<Option<(bool, bool, usize)>, PacketError> {
+    let settings = AccessUnitConfig {
+        held_limit: 1000,
+        ..config(0)
+    };
+    let mut receiver = AccessUnitReceiver::new(alloc, depacketizer, settings);
+    let packet = RtpPacket {
+        sequence: 65534,
+        timestamp: 0,
+        marker: true,
+        payload: key,
+    };
+    let _ = receiver.push(0, &packet)?;
+    let mut sequence: u16 = 65535;
+    for (place, payload) in payloads.iter().enumerate() {
+        let packet = RtpPacket {
+            sequence,
+            timestamp: 3000,
+            marker: place + 1 == payloads.len(),
+            payload,
+        };
+        let _ = receiver.push(0, &packet)?;
+        sequence = sequence.wrapping_add(1);
+    }
+    receiver.finish();
+    let _ = receiver.next(0)?;
+    let unit = receiver.next(0)?;
+    Ok(unit.map(|it| (it.is_whole, it.is_clean, it.bytes.len())))
+}
+
+#[test]
+fn starts_in_a_row(rt: HostRuntime) -> Result<(), PacketError> {
+    let alloc = rt.alloc();
+    // A unit alone, and of another one the start, a middle part, the end, and both at once, by the
+    // codec and whether packets bear numbers (RFC 6184, 5.8; RFC 7798, 4.4.3; RFC 9328, 4.3.3).
+    let h264: [&[u8]; 5] = [KEY, START, MIDDLE, END, &[0x7c, 0xc5, 9]];
+    let h265: [&[u8]; 5] = [
+        &[0x26, 1, 1],
+        &[0x62, 1, 0x93, 1],
+        &[0x62, 1, 0x13, 2],
+        &[0x62, 1, 0x53, 3],
+        &[0x62, 1, 0xd3, 9],
+    ];
+    let h265_numbered: [&[u8]; 5] = [
+        &[0x26, 1, 0, 7, 1],
+        &[0x62, 1, 0x93, 0, 8, 1],
+        &[0x62, 1, 0x13, 2],
+        &[0x62, 1, 0x53, 3],
+        &[0x62, 1, 0xd3, 0, 9, 9],
+    ];
+    let h266: [&[u8]; 5] = [
+        &[0, 0x39, 1],
+        &[0, 0xe9, 0x87, 1],
+        &[0, 0xe9, 0x07, 2],
+        &[0, 0xe9, 0x47, 3],
+        &[0, 0xe9, 0xc7, 9],
+    ];
+    let h266_numbered: [&[u8]; 5] = [
+        &[0, 0x39, 0, 7, 1],
+        &[0, 0xe9, 0x87, 0, 8, 1],
+        &[0, 0xe9, 0x07, 2],
+        &[0, 0xe9, 0x47, 3],
+        &[0, 0xe9, 0xc7, 0, 9, 9],
+    ];
+    for (codec, has_donl, head, [key, start, middle, end, both]) in [
+        (Codec::H264, false, 1, h264),
+        (Codec::H265, false, 2, h265),
+        (Codec::H265, true, 2, h265_numbered),
+        (Codec::H266, false, 2, h266),
+        (Codec::H266, true, 2, h266_numbered),
+    ] {
+        let one = 4 + head;
+        let wanted: [(&[&[u8]], bool, usize); 6] = [
+            (&[start, middle, end], true, one + 3),
+            (&[start, key, middle, end], true, 2 * one + 4),
+            (&[start, end, start, end], true, 2 * (one + 2)),
+            (&[start, start, end], false, one + 2),
+            (&[start, middle, start, middle, end], false, one + 3),
+            (&[start, both], false, one + 1),
+        ];
+        for (payloads, is_whole, len) in wanted {
+            let want = Some((is_whole, is_whole, len));
+            let mut any = AnyDepacketizer::new(alloc, codec);
+            any.with_donl(has_donl);
+            assert!(rt;
+                told(alloc, any, key, payloads)? == want,
+                "{codec:?} {want:?}"
+            );
+            let mut plain = AnyPayloadDepacketizer::new(alloc, codec);
+            plain.with_donl(has_donl);
+            assert!(rt;
+                told(alloc, plain, key, payloads)? == want,
+                "{codec:?} {want:?}"
+            );
+        }
+    }
     Ok(())
 }
 

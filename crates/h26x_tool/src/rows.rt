@@ -21,8 +21,6 @@ mod h264;
 mod h265;
 mod h266;
 pub(crate) mod lines;
-mod placed;
-mod sequenced;
 mod take;
 
 /// Bytes by two digits each; spaces may stand between them.

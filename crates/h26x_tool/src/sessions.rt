@@ -13,6 +13,7 @@ mod faults;
 mod h264;
 mod h265;
 mod h266;
+mod memory;
 mod words;
 
 /// What a fresh session answers.

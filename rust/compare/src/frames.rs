@@ -64,6 +64,7 @@ pub fn frames(seed: u64, case: u64, ours: &mut Log, theirs: &mut Log) {
     let mut model_buffer = ModelBuffer::new(window);
     #[cfg(feature = "library")]
     let mut model = Model {
+        codec,
         packets: c::receiver(number(codec), m.has_donl, avc, usize::MAX),
         expected: None,
         open: None,
@@ -273,9 +274,20 @@ impl ModelBuffer {
     }
 }
 
+/// Whether a packet that is taken is a fragment with S set.
+#[cfg(feature = "library")]
+fn starts(codec: Codec, packet: &[u8]) -> bool {
+    match codec {
+        Codec::H264 => packet[0] & 31 == 28 && packet[1] & 0x80 != 0,
+        Codec::H265 => packet[0] >> 1 & 63 == 49 && packet[2] & 0x80 != 0,
+        Codec::H266 => packet[1] >> 3 == 29 && packet[2] & 0x80 != 0,
+    }
+}
+
 /// A plain model of a receiver of access units, over one of packets.
 #[cfg(feature = "library")]
 struct Model {
+    codec: Codec,
     packets: c::End,
     expected: Option<u16>,
     open: Option<Unit>,
@@ -317,6 +329,7 @@ impl Model {
             },
         };
         let before = unit.bytes.len();
+        let had_run = is_same && self.packets.run_len() > 0;
         packets.receive(sequence, payload, &mut unit.bytes, &mut unit.extra)?;
         if !is_same {
             self.end(follows);
@@ -325,7 +338,8 @@ impl Model {
         self.expected = Some(sequence.wrapping_add(1));
         let has_run = self.packets.run_len() > 0;
         let is_dropped = unit.bytes.len() == before && !has_run;
-        unit.is_whole &= follows && !is_dropped;
+        let is_given_up = had_run && starts(self.codec, payload);
+        unit.is_whole &= follows && !is_dropped && !is_given_up;
         self.closed = marker.then_some(timestamp);
         if marker {
             self.open = None;

@@ -120,8 +120,8 @@ impl AccessUnitReceiver {
         self.codec
     }
 
-    /// Takes a packet that came at this tick, and copies it if it is to wait. One without a payload came and
-    /// bears nothing, as for [`skip`](Self::skip). The error is `OutOfMemory` alone; all stays as it was then,
+    /// Takes a packet that came at this tick, and copies it if it is to wait: the one that is due is taken at
+    /// once where none waits and no access unit that ended is left. One without a payload came and bears nothing, as for [`skip`](Self::skip). The error is `OutOfMemory` alone; all stays as it was then,
     /// and the packet can be given again.
     pub fn push(&mut self, now: u32, packet: &RtpPacket<'_>) -> Result<Pushed, PacketError> {
         self.inner.try_push(now, packet)

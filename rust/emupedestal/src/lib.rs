@@ -125,8 +125,9 @@ mod profile;
 // What a caller above doesn't reach stays, as it was proved, and so do forms that Rust has shorter.
 #[allow(dead_code, missing_docs, unused_imports)]
 #[allow(clippy::explicit_auto_deref, clippy::explicit_counter_loop)]
-#[allow(clippy::manual_find, clippy::manual_map, clippy::manual_unwrap_or_default)]
-#[allow(clippy::mem_replace_option_with_some, clippy::needless_lifetimes)]
+#[allow(clippy::manual_find, clippy::manual_map, clippy::manual_range_contains)]
+#[allow(clippy::manual_unwrap_or_default, clippy::mem_replace_option_with_some)]
+#[allow(clippy::needless_lifetimes)]
 #[allow(clippy::needless_range_loop, clippy::nonminimal_bool)]
 #[allow(clippy::ptr_arg, clippy::question_mark)]
 mod proved;

@@ -48,9 +48,12 @@ mod typed;
 
 pub use crate::proved::h26x_sdp::fits_single_units;
 pub use crate::proved::h26x_sdp::{
+    CapabilityPoint, CapabilityPointsError, H264Parameter, H265Parameter, H266Parameter, LevelSets,
+    ParallelTool,
+};
+pub use crate::proved::h26x_sdp::{
     ConstraintsError, Fault, LevelSetsError, ParametersError, RtpMapError, StreamError, UnitsError,
 };
-pub use crate::proved::h26x_sdp::{H264Parameter, H265Parameter, H266Parameter, LevelSets};
 pub use answer::{Format, OutOfMemory};
 pub use fault::SetError;
 pub use h264::H264Parameters;
@@ -59,4 +62,7 @@ pub use h266::H266Parameters;
 pub use modes::{PacketizationMode, TxMode};
 pub use parameters::{CodecParameters, Parameter, read_units, write_units};
 pub use rtp_map::RtpMap;
-pub use typed::{InteropConstraints, read_level_sets, write_level_sets};
+pub use typed::{
+    InteropConstraints, read_capability_points, read_level_sets, write_capability_points,
+    write_level_sets,
+};

@@ -1,7 +1,7 @@
 //! Drawn texts of SDP: what is read is written and read as the same, and what is refused has its place.
 //!
 //! `DRAWN_TEXTS=1000000000 cargo test --release --features sdp --test drawn_texts` draws so many, and
-//! `DRAWN_SECONDS=600` ends after so many seconds; `DRAWN_THREADS` says how many threads do so.
+//! `DRAWN_SECONDS=600` ends after so many seconds; `DRAWN_THREADS` says how many threads do so, from `DRAWN_SEED` on.
 #![cfg(feature = "sdp")]
 
 use emupedestal::sdp::*;
@@ -72,6 +72,74 @@ const ANY: [&str; 16] = [
     ";", "=", "{", "}", ",", " ", "\t", "\r", "\n", "a", "A", "0", "/", "+", "\0", "\u{20ac}",
 ];
 
+/// Parameters whose values have a grammar of their own.
+const OWN_GRAMMAR: [&str; 2] = ["dec-parallel-cap", "interop-constraints"];
+/// Parts of `dec-parallel-cap`: what stands before a point's limits, the limits, and what may stand between.
+const HEADS: [&str; 16] = [
+    "w:8", "t:8", "w:1", "t:4095", "W:77", "T:0012", "w : 9", "t:100", "w:3", "t:0", "w:4096", "t",
+    "x:8", "", "w:8:9", "w8",
+];
+const LIMITS: [&str; 11] = [
+    "tier-flag",
+    "level-id",
+    "max-lsr",
+    "max-lps",
+    "max-br",
+    "level-id",
+    "max-lps",
+    "Level-ID",
+    "max-cpb",
+    " max-br ",
+    "",
+];
+const BETWEEN_LIMITS: [&str; 7] = [";", ";", ";", "; ", ";;", "", ":"];
+const BETWEEN_POINTS: [&str; 6] = [",", ",", ",", " , ", ",,", "},{"];
+
+/// Draws the value of `dec-parallel-cap`.
+fn draw_points(drawn: &mut Drawn, text: &mut String) {
+    text.push('{');
+    for point in 0..drawn.below(4) {
+        if point > 0 {
+            text.push_str(drawn.one(&BETWEEN_POINTS));
+        }
+        text.push_str(drawn.one(&HEADS));
+        for _ in 0..drawn.below(4) {
+            text.push_str(drawn.one(&BETWEEN_LIMITS));
+            text.push_str(drawn.one(&LIMITS));
+            text.push_str(drawn.one(&EQUALS));
+            match drawn.below(3) {
+                0 => text.push_str(drawn.one(&VALUES)),
+                1 => write!(text, "{}", drawn.below(2)).expect("memory"),
+                _ => write!(text, "{}", drawn.below(256)).expect("memory"),
+            }
+        }
+    }
+    text.push('}');
+}
+
+/// Draws the value of `interop-constraints`: base64 of bytes, of which the first ones matter, or twelve digits.
+fn draw_constraints(drawn: &mut Drawn, text: &mut String) {
+    if drawn.below(4) == 0 {
+        write!(
+            text,
+            "{:06x}{:06x}",
+            drawn.below(1 << 24),
+            drawn.below(1 << 24)
+        )
+        .expect("memory");
+        return;
+    }
+    const DIGITS: &[u8] = b"ABCDEFGHIJKLMNOPQRSTUVWXYZabcdefghijklmnopqrstuvwxyz0123456789+/";
+    let bytes = [1, 1, 11, 11, 12, 13, 2, 16][drawn.below(8)];
+    let bits = bytes * 8;
+    for digit in 0..(bits + 5) / 6 {
+        let filled = (bits - digit * 6).min(6); // the last digit ends with bits of 0
+        let value = drawn.below(1 << filled) << (6 - filled);
+        text.push(char::from(DIGITS[value]));
+    }
+    (0..(3 - bytes % 3) % 3).for_each(|_| text.push('='));
+}
+
 /// Draws a text into this one: parameters with their values, some of them of the other kind, and now and then any
 /// character.
 fn draw<P: Parameter>(drawn: &mut Drawn, text: &mut String) {
@@ -79,6 +147,7 @@ fn draw<P: Parameter>(drawn: &mut Drawn, text: &mut String) {
     for _ in 0..drawn.below(6) {
         match drawn.below(8) {
             0 => text.push_str(drawn.one(&NAMES)),
+            2 => text.push_str(drawn.one(&OWN_GRAMMAR)),
             1 => text.extend(
                 P::all()[drawn.below(P::all().len())]
                     .name()
@@ -90,6 +159,8 @@ fn draw<P: Parameter>(drawn: &mut Drawn, text: &mut String) {
         text.push_str(drawn.one(&EQUALS));
         match drawn.below(4) {
             0 => write!(text, "{}", drawn.below(1 << 20)).expect("memory"),
+            _ if text.ends_with("dec-parallel-cap=") => draw_points(drawn, text),
+            _ if text.ends_with("interop-constraints=") => draw_constraints(drawn, text),
             _ => text.push_str(drawn.one(&VALUES)),
         }
         if drawn.below(24) == 0 {
@@ -99,8 +170,46 @@ fn draw<P: Parameter>(drawn: &mut Drawn, text: &mut String) {
     }
 }
 
-/// Reads a text; whether it is taken.
-fn check<P: Parameter>(text: &str) -> bool {
+/// Reads a value with a grammar of its own; whether it is taken.
+fn check_value(name: &str, value: &str) -> bool {
+    match name {
+        "dec-parallel-cap" => match read_capability_points(value) {
+            Ok(points) => {
+                let written = write_capability_points(&points).expect("memory");
+                assert_eq!(read_capability_points(&written), Ok(points), "{value:?}");
+                true
+            }
+            Err(CapabilityPointsError::NoBraces) => {
+                assert!(!value.starts_with('{') || !value.ends_with('}'));
+                false
+            }
+            Err(
+                CapabilityPointsError::NoTool { place }
+                | CapabilityPointsError::Segmentation { place, .. }
+                | CapabilityPointsError::Limits { place, .. }
+                | CapabilityPointsError::NoLimit { place },
+            ) => {
+                assert!(place <= value.matches(',').count(), "{value:?}");
+                false
+            }
+            Err(error) => panic!("{error} of {value:?}"),
+        },
+        "interop-constraints" => match value.parse::<InteropConstraints>() {
+            Ok(it) => {
+                assert_eq!(it.to_string(), value);
+                true
+            }
+            Err(error) => {
+                assert_ne!(error, ConstraintsError::OutOfMemory);
+                false
+            }
+        },
+        _ => false,
+    }
+}
+
+/// Reads a text; whether it is taken, and how many of its values that have a grammar of their own.
+fn check<P: Parameter>(text: &str) -> (bool, u64) {
     match text.parse::<CodecParameters<P>>() {
         Ok(format) => {
             let written = format.to_string();
@@ -109,7 +218,9 @@ fn check<P: Parameter>(text: &str) -> bool {
                 written.len() <= text.len() + format.iter().count(),
                 "{text:?}"
             );
+            let mut values = 0;
             for (name, value) in format.iter() {
+                values += u64::from(check_value(name, value));
                 let Some(parameter) = P::of_name(name) else {
                     break; // the others stand behind
                 };
@@ -117,25 +228,38 @@ fn check<P: Parameter>(text: &str) -> bool {
                 let is_written = || write_units(&units).as_deref() == Ok(value);
                 assert!(units.is_empty() || is_written(), "{text:?}");
             }
-            true
+            (true, values)
         }
         Err(ParametersError::Refused { place, .. }) => {
             assert!(place <= text.matches(';').count(), "{text:?}");
-            false
+            (false, 0)
         }
         Err(error) => {
             assert_eq!(error, ParametersError::OpenBrace, "{text:?}");
             assert!(text.contains('{'), "{text:?}");
-            false
+            (false, 0)
         }
     }
 }
 
-/// Draws texts of one codec after the other; answers how many, how many were taken, and their bytes.
-fn run(seed: u64, most: u64, is_over: &AtomicBool) -> [u64; 3] {
-    let (mut drawn, mut text, mut counts) = (Drawn::new(seed), String::new(), [0; 3]);
+/// Draws a value with a grammar of its own, in no text; whether it is taken.
+fn draw_value(drawn: &mut Drawn, value: &mut String) -> bool {
+    value.clear();
+    let name = drawn.one(&OWN_GRAMMAR);
+    match name {
+        "dec-parallel-cap" => draw_points(drawn, value),
+        _ => draw_constraints(drawn, value),
+    }
+    check_value(name, value)
+}
+
+/// Draws texts of one codec after the other; answers how many, how many were taken, their bytes, and how many values
+/// with a grammar of their own were taken.
+fn run(seed: u64, most: u64, is_over: &AtomicBool) -> [u64; 4] {
+    let (mut drawn, mut text, mut counts) = (Drawn::new(seed), String::new(), [0; 4]);
+    let mut value = String::new();
     while counts[0] < most && !(counts[0] % 1024 == 0 && is_over.load(Ordering::Relaxed)) {
-        let is_taken = match counts[0] % 3 {
+        let (is_taken, mut values) = match counts[0] % 3 {
             0 => {
                 draw::<H264Parameter>(&mut drawn, &mut text);
                 check::<H264Parameter>(&text)
@@ -149,12 +273,16 @@ fn run(seed: u64, most: u64, is_over: &AtomicBool) -> [u64; 3] {
                 check::<H266Parameter>(&text)
             }
         };
+        if counts[0] % 4 == 0 {
+            values += u64::from(draw_value(&mut drawn, &mut value));
+        }
         let _ = text.parse::<RtpMap>();
         let _ = read_units(&text);
         counts = [
             counts[0] + 1,
             counts[1] + u64::from(is_taken),
             counts[2] + text.len() as u64,
+            counts[3] + values,
         ];
     }
     counts
@@ -170,6 +298,7 @@ fn number(name: &str, otherwise: u64) -> u64 {
 #[test]
 fn drawn_texts() {
     let threads = number("DRAWN_THREADS", 1);
+    let first = number("DRAWN_SEED", 0);
     let most = number("DRAWN_TEXTS", 30_000).div_ceil(threads);
     let seconds = number("DRAWN_SECONDS", 3600);
     let (begin, is_over) = (Instant::now(), AtomicBool::new(false));
@@ -178,7 +307,7 @@ fn drawn_texts() {
             .map(|seed| {
                 scope.spawn({
                     let is_over = &is_over;
-                    move || run(seed, most, is_over)
+                    move || run(first + seed, most, is_over)
                 })
             })
             .collect();
@@ -190,15 +319,15 @@ fn drawn_texts() {
             thread::sleep(Duration::from_millis(5));
         }
         let counts = runs.into_iter().map(|it| it.join().expect("no finding"));
-        counts.fold([0; 3], |sum, of| [0, 1, 2].map(|i| sum[i] + of[i]))
+        counts.fold([0; 4], |sum, of| [0, 1, 2, 3].map(|i| sum[i] + of[i]))
     });
-    let [texts, taken, bytes] = counts;
+    let [texts, taken, bytes, values] = counts;
     println!(
-        "{texts} texts of {bytes} bytes, {taken} taken, {:.1} s",
+        "{texts} texts of {bytes} bytes, {taken} taken, {values} values of their own grammar, {:.1} s",
         begin.elapsed().as_secs_f64()
     );
     assert!(
-        taken * 10 > texts && taken < texts,
+        taken * 10 > texts && taken < texts && values > 0,
         "some are taken, and some are not"
     );
 }
@@ -207,7 +336,10 @@ fn drawn_texts() {
 #[test]
 #[ignore = "it looks at the time"]
 fn time_is_linear() {
-    let forms: [(&str, &dyn Fn(usize) -> String); 6] = [
+    let forms: [(&str, &dyn Fn(usize) -> String); 7] = [
+        ("points", &|n| {
+            "dec-parallel-cap={".to_string() + &"w:8;max-br=1,".repeat(n / 13) + "t:1;level-id=1}"
+        }),
         ("one value", &|n| "x=".to_string() + &"a".repeat(n)),
         ("others", &|n| "a=1;".repeat(n / 4)),
         ("blank parts", &|n| ";".repeat(n)),
@@ -224,6 +356,11 @@ fn time_is_linear() {
             let begin = Instant::now();
             let format: H264Parameters = text.parse().expect("it is taken");
             let read = begin.elapsed();
+            let points = format
+                .iter()
+                .next()
+                .map(|(_, it)| read_capability_points(it));
+            assert!(name != "points" || points.is_some_and(|it| it.is_ok()));
             let units = format.sprop_parameter_sets().map(|units| units.len());
             let written = format.to_string().len();
             let all = begin.elapsed();

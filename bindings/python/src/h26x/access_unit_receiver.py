@@ -30,7 +30,7 @@ class RtpPacket(NamedTuple):
 class Pushed(IntEnum):
     """What became of a packet that was given to an AccessUnitReceiver."""
 
-    #: It waits for those before it, or to be taken.
+    #: It waits for those before it, or to be taken, or was taken.
     HELD = 0
     #: Dropped: it came after its place was passed.
     LATE = 1
@@ -99,7 +99,7 @@ class Counts:
 
     #: Packets that were taken, and not refused.
     taken: int = 0
-    #: Numbers that are missing before packets that were taken or numbers that were skipped.
+    #: Numbers that are missing before packets taken, or numbers skipped or refused, and these.
     lost: int = 0
     #: Packets that came after their place was passed.
     late: int = 0

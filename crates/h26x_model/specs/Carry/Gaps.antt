@@ -5,10 +5,10 @@ use Rattle.std.specs.List.{flat_map, list_all}
 use Rattle.h26x_core.specs.ByteStream.{byte_stream}
 use Rattle.h26x_model.specs.Payload.Format.{Format, donl_len}
 use Rattle.h26x_model.specs.Payload.Extra.{extra_after}
-use Rattle.h26x_model.specs.Send.Calls.{Call, all_entries}
+use Rattle.h26x_model.specs.Send.Calls.{Call}
 use Rattle.h26x_model.specs.Send.Plan.{Item, Alone, Together, fits_one_packet, item_units}
 use Rattle.h26x_model.specs.Send.Packets.{fragment_room, fragment_count, item_packets}
-use Rattle.h26x_model.specs.Send.PacketizerState.{PacketizerState, state_plan, state_packets}
+use Rattle.h26x_model.specs.Send.PacketizerState.{PacketizerState, calls_plan, calls_packets}
 use Rattle.h26x_model.specs.Receive.DepacketizerState.{Depacketization, after_packets}
 use Rattle.h26x_model.specs.Receive.RunLimit.{without_open_run, with_run_within}
 
@@ -40,14 +40,12 @@ whole_items f most n (item ∷ items) mask =
 -- the units of these items of what calls send, where a mask says which of their packets came
 abbrev pub whole_units : ℕ → PacketizerState → List Call → List Bool → List (List ℕ)
 whole_units most s calls mask = flat_map item_units
-    (whole_items s.format most s.next_don (state_plan s (all_entries s.format calls)) mask)
+    (whole_items s.format most s.next_don (calls_plan s calls) mask)
 
 -- These units are written and told, and nothing else: none of which a part is missing.
 pub record WritesWholeUnits (most : ℕ) (s : PacketizerState) (w : Depacketization)
     (calls : List Call) (mask : List Bool) : Type 0 where
-  pub written : (after_kept_packets most w mask
-      (state_packets s (all_entries s.format calls))).out
+  pub written : (after_kept_packets most w mask (calls_packets s calls)).out
       ≡ w.out ++ byte_stream w.state.is_avc (whole_units most s calls mask)
-  pub told : (after_kept_packets most w mask
-      (state_packets s (all_entries s.format calls))).extra
+  pub told : (after_kept_packets most w mask (calls_packets s calls)).extra
       ≡ extra_after w.state.format w.extra (whole_units most s calls mask)

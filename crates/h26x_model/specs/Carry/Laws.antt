@@ -1,22 +1,22 @@
 -- The laws of the two ends, each as one record: what whole runs need of them.
-use Rattle.std.specs.Prelude.{◌≡◌, ℕ, ◌≤◌, true, Bool, List, [], ◌∷◌, ◌++◌, map, None, ◌⊎◌}
+use Rattle.std.specs.Prelude.{◌≡◌, ℕ, ◌≤◌, true, Bool, List, [], ◌∷◌, ◌++◌, length, map, None, ◌⊎◌}
 use Rattle.std.specs.List.{flat_map, AllByRecursion}
 use Rattle.h26x_core.specs.declared.error.PacketError.{PacketError}
 use Rattle.h26x_core.specs.declared.error.PacketError.TheVariants.{AvcUnitTooLong, OutOfMemory}
 use Rattle.h26x_core.specs.declared.extra.CodecExtra.TheVariants as extras
 use Rattle.h26x_model.specs.Payload.Reading.{IsRead}
 use Rattle.h26x_model.specs.Send.Group.{Entry}
-use Rattle.h26x_model.specs.Send.Calls.{Call, call_entries, all_entries, all_packets}
+use Rattle.h26x_model.specs.Send.Calls.{Call, AreCalls, call_entries, all_entries, all_packets, sent_by}
 use Rattle.h26x_model.specs.Payload.Don.{DonsInOrder}
 use Rattle.h26x_model.specs.Receive.Received.{received}
 use Rattle.h26x_model.specs.Carry.Detection.{AreDetected}
 use Rattle.h26x_model.specs.Payload.Extra.{extra_after, first_extra}
+use Rattle.h26x_model.specs.Payload.Facts.{AreCarried, IsPayloadFormat}
 use Rattle.h26x_model.specs.Payload.Format.{Format}
 use Rattle.h26x_core.specs.ByteStream.{annex_b}
-use Rattle.h26x_model.specs.Send.Plan.{units_sent}
 use Rattle.h26x_model.specs.Send.Again.{NothingDropped}
 use Rattle.h26x_model.specs.Carry.Loss.{keep, AreMasks, AreAllUnitsLeft, packets_left}
-use Rattle.h26x_model.specs.Send.PacketizerState.{PacketizerState, IsPacketizerState, state_plan, state_units, state_packets, after_entries, has_no_effect, IsSentAsPlanned, AreWithinLimits}
+use Rattle.h26x_model.specs.Send.PacketizerState.{PacketizerState, IsPacketizerState, state_plan, state_units, state_packets, call_packets, calls_plan, calls_units, calls_packets, after_entries, has_no_effect, IsSentAsPlanned, AreWithinLimits}
 use Rattle.h26x_model.specs.Receive.DepacketizerState.{Depacketization, units_brought, after_packets, IsRefusalCause, HaveAvcLengths}
 
 -- A packetizer goes on from entries to entries, a call without effect changes nothing, and what a
@@ -32,10 +32,10 @@ pub record PacketizerGoesOn (s : PacketizerState) : Type 0 where
   pub no_effect : (call : Call) → has_no_effect s.format call ≡ true →
       (state_plan s (call_entries s.format call) ≡ [])
       × (after_entries s (call_entries s.format call) ≡ s)
-  pub planned : (call : Call) → IsSentAsPlanned s call (state_packets s (call_entries s.format call))
+  pub planned : (call : Call) → IsSentAsPlanned s call (call_packets s call)
       (after_entries s (call_entries s.format call))
   pub within : (calls : List Call) → AreWithinLimits s calls
-      (state_packets s (all_entries s.format calls))
+      (calls_packets s calls)
 
 -- A depacketizer goes on from packets to packets; where no run was open they bring what is received
 -- of them.
@@ -51,23 +51,19 @@ pub record DepacketizerGoesOn (w : Depacketization) : Type 0 where
 -- for a unit too long for a length of four bytes; and where there is none such, for want of memory
 -- alone.
 pub record CarriesWhole (s : PacketizerState) (w : Depacketization) (calls : List Call) : Type 0 where
-  pub received : units_brought w.state (state_packets s (all_entries s.format calls)) ≡ state_units s
-      (all_entries s.format calls)
-  pub dons : DonsInOrder s.format s.next_don (state_plan s (all_entries s.format calls))
-  pub detected : AreDetected s.format s.next_don (state_plan s (all_entries s.format calls))
-  pub told : extra_after s.format extras.None (state_units s (all_entries s.format calls))
-      ≡ first_extra s.format (state_units s (all_entries s.format calls))
-  pub read : AllByRecursion (λ packet. IsRead (s.format.read packet))
-      (state_packets s (all_entries s.format calls))
-  pub refused : (w.state.is_avc ≡ true → HaveAvcLengths (state_units s (all_entries s.format calls))) →
-      (taken left : List (List ℕ)) (error : PacketError) → state_packets s (all_entries s.format calls)
-      ≡ taken ++ left →
+  pub received : units_brought w.state (calls_packets s calls) ≡ calls_units s calls
+  pub dons : DonsInOrder s.format s.next_don (calls_plan s calls)
+  pub detected : AreDetected s.format s.next_don (calls_plan s calls)
+  pub told : extra_after s.format extras.None (calls_units s calls)
+      ≡ first_extra s.format (calls_units s calls)
+  pub read : AllByRecursion (λ packet. IsRead (s.format.read packet)) (calls_packets s calls)
+  pub refused : (w.state.is_avc ≡ true → HaveAvcLengths (calls_units s calls)) →
+      (taken left : List (List ℕ)) (error : PacketError) → calls_packets s calls ≡ taken ++ left →
       IsRefusalCause (after_packets w taken) left error → error ≡ OutOfMemory
   pub causes : (taken left : List (List ℕ)) (error : PacketError) →
-      state_packets s (all_entries s.format calls) ≡ taken ++ left →
+      calls_packets s calls ≡ taken ++ left →
       IsRefusalCause (after_packets w taken) left error →
-      (error ≡ OutOfMemory) ⊎ ((w.state.is_avc ≡ true)
-      × (error ≡ AvcUnitTooLong))
+      (error ≡ OutOfMemory) ⊎ ((w.state.is_avc ≡ true) × (error ≡ AvcUnitTooLong))
 
 -- What some of the packets of a plan bring, in order: item by item what is left of it. The mask
 -- keeps those packets; it is one mask for each item, joined.
@@ -75,15 +71,26 @@ pub record LosesLittle (s : PacketizerState) (w : Depacketization) (calls : List
     (mask : List Bool) : Type 0 where
   pub masks : List (List Bool)
   pub written : List (List (List ℕ))
-  pub of_items : AreMasks s.format s.next_don (state_plan s (all_entries s.format calls)) masks
-  pub same : packets_left s.format s.next_don (state_plan s (all_entries s.format calls)) masks
-      ≡ keep mask (state_packets s (all_entries s.format calls))
+  pub of_items : AreMasks s.format s.next_don (calls_plan s calls) masks
+  pub same : packets_left s.format s.next_don (calls_plan s calls) masks
+      ≡ keep mask (calls_packets s calls)
   pub joined : flat_map (λ mask. mask) masks ≡ mask
-  pub left : AreAllUnitsLeft s.format s.next_don (state_plan s (all_entries s.format calls)) masks
-      written
-  pub brings : units_brought w.state (keep mask (state_packets s (all_entries s.format calls)))
-      ≡ flat_map
-      (λ units. units) written
+  pub left : AreAllUnitsLeft s.format s.next_don (calls_plan s calls) masks written
+  pub brings : units_brought w.state (keep mask (calls_packets s calls))
+      ≡ flat_map (λ units. units) written
+
+-- packets can carry each unit that calls send
+abbrev pub AreCallsCarried : PacketizerState → List Call → Type 0
+AreCallsCarried s calls = AreCarried s.format (calls_units s calls)
+
+-- what holds where packets carry what calls send, from a packetizer to a depacketizer of its format
+abbrev pub IfCarried : PacketizerState → Depacketization → List Call → Type 0 → Type 0
+IfCarried s w calls holds = IsPayloadFormat s.format → IsPacketizerState s → AreCalls calls →
+    w.state.format ≡ s.format → AreCallsCarried s calls → holds
+
+-- a mask says of each packet of calls whether it came
+abbrev pub IsMaskOf : List Bool → PacketizerState → List Call → Type 0
+IsMaskOf mask s calls = length mask ≡ length (calls_packets s calls)
 
 -- calls like one, of these payloads
 abbrev pub calls_like : Call → List (List ℕ) → List Call
@@ -94,10 +101,6 @@ calls_like call payloads = map (λ payload. record call { payload = payload }) p
 abbrev pub SendsAgain : Format → Type 0
 SendsAgain f = (call : Call) (payloads : List (List ℕ)) → f.least_mtu ≤ call.mtu →
     NothingDropped f (all_entries f (calls_like call payloads)) →
-    f.units (annex_b (units_sent f (all_entries f (calls_like call payloads)))) ≡ units_sent f
-    (all_entries f (calls_like call payloads)) →
-    all_packets f 0 (record call {
-      payload = annex_b
-          (units_sent f (all_entries f (calls_like call payloads)));
-    } ∷ []) ≡ all_packets f 0
-    (calls_like call payloads)
+    f.units (annex_b (sent_by f (calls_like call payloads))) ≡ sent_by f (calls_like call payloads) →
+    all_packets f 0 (record call { payload = annex_b (sent_by f (calls_like call payloads)) } ∷ [])
+    ≡ all_packets f 0 (calls_like call payloads)

@@ -107,3 +107,9 @@ pub record AreAllTaken (w : Depacketization) (packets : List (List ℕ))
     (outcomes : List (Result (Unit {0}) PacketError)) (new : Option Depacketization) : Type 0 where
   pub each : HaveOutcomes w [] packets outcomes
   pub taken : new ≡ Some (after_packets w (accepted_packets packets outcomes))
+
+-- what was written grew to this by the text of these units and by nothing else, and the extra is the
+-- one after them
+abbrev pub AreWritten : Depacketization → List (List ℕ) → List ℕ → CodecExtra → Type 0
+AreWritten w units out told = (out ≡ w.out ++ byte_stream w.state.is_avc units)
+    × (told ≡ extra_after w.state.format w.extra units)

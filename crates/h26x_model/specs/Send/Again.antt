@@ -22,6 +22,12 @@ pub record NothingDropped (f : Format) (entries : List Entry) : Type 0 where
   pub units : AllByRecursion (KeepsUnit f) entries
   pub sets : AllByRecursion (KeepsSets f) (split f entries).groups
 
+-- what units sent, with nothing dropped for its size, is sent again at the same limit
+abbrev pub IsSentAlike : Format → ℕ → List (List ℕ) → List (List ℕ) → Type 0
+IsSentAlike f limit units sent = NothingDropped f (entries_with_limit limit units) →
+    sent ≡ units_sent f (entries_with_limit limit units) →
+    units_sent f (entries_with_limit limit sent) ≡ sent
+
 -- The plan of what was sent is the plan that it was sent by, at one limit with nothing dropped; so
 -- what is sent is too.
 pub record IsSteady (f : Format) (limit : ℕ) (units : List (List ℕ)) : Type 0 where

@@ -3,7 +3,7 @@ use Rattle.std.specs.Prelude.{ℕ, ◌≤◌, min, nat_lt, if◌then◌else◌, 
 use Rattle.std.specs.List.{flat_map, AllByRecursion}
 use Rattle.h26x_model.specs.Payload.Format.{Format}
 use Rattle.h26x_model.specs.Send.Group.{Entry}
-use Rattle.h26x_model.specs.Send.Plan.{plan}
+use Rattle.h26x_model.specs.Send.Plan.{plan, units_sent}
 use Rattle.h26x_model.specs.Send.Packets.{plan_packets}
 
 -- a call of a packetizer, and the packetizer's largest packet size as it is made
@@ -50,6 +50,10 @@ all_entries f calls = flat_map (call_entries f) calls
 -- the packets of calls, with decoding order numbers from n on
 abbrev pub all_packets : Format → ℕ → List Call → List (List ℕ)
 all_packets f n calls = plan_packets f n (plan f (all_entries f calls))
+
+-- the units that calls send
+abbrev pub sent_by : Format → List Call → List (List ℕ)
+sent_by f calls = units_sent f (all_entries f calls)
 
 -- the packets of one payload
 abbrev pub payload_packets : Format → ℕ → List ℕ → List (List ℕ)

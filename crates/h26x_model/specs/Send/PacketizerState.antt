@@ -5,7 +5,7 @@ use Rattle.h26x_core.specs.Word.{word}
 use Rattle.h26x_core.specs.Kind.{Kind, Skipped}
 use Rattle.h26x_model.specs.Payload.Format.{Format}
 use Rattle.h26x_model.specs.Send.Group.{Entry, split, latest_sets}
-use Rattle.h26x_model.specs.Send.Calls.{Call, packet_limit, call_limit, call_entries}
+use Rattle.h26x_model.specs.Send.Calls.{Call, packet_limit, call_limit, call_entries, all_entries}
 use Rattle.h26x_model.specs.Send.Plan.{Item, item_units, unit_items, plan, units_sent}
 use Rattle.h26x_model.specs.Send.WaitingSets.{WaitingSets, AreWaitingSets, sets_waiting, entries_with_limit, plan_with_waiting, waiting_after}
 use Rattle.h26x_model.specs.Send.Packets.{plan_packets}
@@ -38,6 +38,22 @@ state_units s entries = flat_map item_units (state_plan s entries)
 abbrev pub state_packets : PacketizerState → List Entry → List (List ℕ)
 state_packets s entries = plan_packets s.format s.next_don (state_plan s entries)
 
+-- the packets of one call
+abbrev pub call_packets : PacketizerState → Call → List (List ℕ)
+call_packets s call = state_packets s (call_entries s.format call)
+
+-- the plan of calls, one after the other
+abbrev pub calls_plan : PacketizerState → List Call → List Item
+calls_plan s calls = state_plan s (all_entries s.format calls)
+
+-- the units that they send
+abbrev pub calls_units : PacketizerState → List Call → List (List ℕ)
+calls_units s calls = state_units s (all_entries s.format calls)
+
+-- their packets
+abbrev pub calls_packets : PacketizerState → List Call → List (List ℕ)
+calls_packets s calls = state_packets s (all_entries s.format calls)
+
 -- the next decoding order number after so many units: it goes round, and stands still where packets
 -- bear none
 abbrev pub don_after : Bool → ℕ → ℕ → ℕ
@@ -51,6 +67,15 @@ after_entries s entries = record {
   next_don = don_after s.format.has_donl s.next_don (length (state_units s entries));
   max_packet_size = s.max_packet_size;
 }
+
+-- the packetizer after calls
+abbrev pub after_calls : PacketizerState → List Call → PacketizerState
+after_calls s calls = after_entries s (all_entries s.format calls)
+
+-- calls have the same plan, and leave the packetizer the same
+abbrev pub HaveSameEffect : PacketizerState → List Call → List Call → Type 0
+HaveSameEffect s calls others = (calls_plan s calls ≡ calls_plan s others)
+    × (after_calls s calls ≡ after_calls s others)
 
 -- whether units of this kind are not sent, and none waits for them
 abbrev pub is_skipped : Kind → Bool
@@ -108,7 +133,11 @@ one_unit_items s mtu unit =
     if nat_lt mtu s.format.least_mtu || nat_lt (length unit) s.format.header_len then []
     else unit_items s.format (packet_limit s.format s.max_packet_size mtu) unit
 
--- the packets of that, with decoding order numbers from the packetizer's next one on
+-- the unit, if it is sent
+abbrev pub one_unit_units : PacketizerState → ℕ → List ℕ → List (List ℕ)
+one_unit_units s mtu unit = flat_map item_units (one_unit_items s mtu unit)
+
+-- its packets, with decoding order numbers from the packetizer's next one on
 abbrev pub one_unit_packets : PacketizerState → ℕ → List ℕ → List (List ℕ)
 one_unit_packets s mtu unit = plan_packets s.format s.next_don (one_unit_items s mtu unit)
 
@@ -116,7 +145,7 @@ one_unit_packets s mtu unit = plan_packets s.format s.next_don (one_unit_items s
 abbrev pub after_one_unit : PacketizerState → ℕ → List ℕ → PacketizerState
 after_one_unit s mtu unit = record s {
   next_don = don_after s.format.has_donl s.next_don
-      (length (flat_map item_units (one_unit_items s mtu unit)));
+      (length (one_unit_units s mtu unit));
 }
 
 -- what later answers depend on: the sets that wait, the next decoding order number where packets

@@ -3,18 +3,20 @@
 ghost use Rattle.std.specs.Prelude.{◌≡◌, ◌<◌, length, true, false, [], ◌∷◌, Some, None, Err, IfOk, OnOk, OnErr, IsOk};
 ghost use Rattle.h26x_core.specs.Front.{IsFrontOf};
 ghost use Rattle.h26x_core.specs.Hint.{size_hint};
+ghost use Rattle.h26x_model.specs.Payload.Reading.{is_start};
 ghost use Rattle.h26x_model.specs.Receive.Outcome.{is_startless};
 ghost use Rattle.h26x_model.specs.Receive.DepacketizerState.{after_packets, IsPacketOutcome};
 ghost use Rattle.h26x_model.specs.Receive.RunLimit.{run_len};
+ghost use Rattle.h26x_model.specs.Where.{Where};
 ghost use Rattle.h26x_payload.specs.DepacketizerView.{depacketizer_state, view_depacketization};
-ghost use Rattle.h26x_payload.specs.OpenText.{IsSameText, text_depacketization, met_depacketization};
+ghost use Rattle.h26x_payload.specs.OpenText.{IsSameText, view_in_text, view_met_in_text};
 ghost use Rattle.h26x_payload.specs.UnitSink.{bytes_brought, grown_to, IsRoomTold};
 
 use crate::format::DonlFormat;
 use crate::receive::extra::out_size_hint;
 use crate::receive::in_text::{RunRule, take_in_text};
 use crate::receive::open_text::OpenText;
-use crate::receive::reader::PacketReader;
+use crate::receive::reader::{PacketReader, starts_run};
 use crate::receive::run::OpenRun;
 use crate::receive::sink::UnitSink;
 use crate::receive::take::take_packet;
@@ -153,14 +155,12 @@ impl<C: PacketReader> PayloadDepacketizer<C> {
         text: &mut OpenText,
         codec_extra: &mut CodecExtra,
     ) -> Result<(), PacketError>
-        ensures outcome { IsPacketOutcome (met_depacketization rule.is_next
-            (depacketizer_state (C.format self.now.codec) self.now) text.old codec_extra.old)
-            packet.now result }
-        ensures taken { OnOk result (text_depacketization
-            (depacketizer_state (C.format self.now.codec) self.now) text.new codec_extra.new
-            ≡ after_packets (met_depacketization rule.is_next
-            (depacketizer_state (C.format self.now.codec) self.now) text.old codec_extra.old)
-            (packet.now ∷ [])) }
+        ensures outcome { IsPacketOutcome (view_met_in_text rule.is_next
+            (C.format self.now.codec) self.now text.old codec_extra.old) packet.now result }
+        ensures taken { OnOk result
+            (view_in_text (C.format self.now.codec) self.now text.new codec_extra.new
+            ≡ after_packets (view_met_in_text rule.is_next (C.format self.now.codec) self.now
+            text.old codec_extra.old) (packet.now ∷ [])) }
         ensures aside { rule.may_be_inside ≡ false → OnOk result (text.new.inside ≡ None) }
         ensures kept { OnErr result (IsSameText text.new text.old) }
         ensures kept_extra { OnErr result (codec_extra.new ≡ codec_extra.old) }
@@ -175,6 +175,13 @@ impl<C: PacketReader> PayloadDepacketizer<C> {
             text,
             codec_extra,
         )
+    }
+
+    /// Whether a packet is a fragment that starts, which gives up a run that is open.
+    pub fn starts_run(&self, packet: &[u8]) -> bool
+        ensures { result ≡ is_start ((C.format self.now.codec).read packet.now) }
+    {
+        starts_run(self.codec, packet)
     }
 }
 

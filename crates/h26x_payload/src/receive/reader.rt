@@ -2,7 +2,7 @@
 
 ghost use Rattle.std.specs.Prelude.{◌≡◌, ℕ, Bool, List, IfOk, IfErr};
 ghost use Rattle.h26x_model.specs.Payload.Facts.{IsPayloadFormat};
-ghost use Rattle.h26x_model.specs.Payload.Reading.{Refused};
+ghost use Rattle.h26x_model.specs.Payload.Reading.{Refused, is_start};
 ghost use Rattle.h26x_payload.specs.DepacketizerView.{IsReadAs};
 
 use crate::receive::aggregate::Aggregate;
@@ -33,4 +33,14 @@ pub trait PacketReader: Aggregate {
     /// A law: whatever the setting, the format meets the facts on which the laws of every format stand.
     fn format_meets_the_facts()
         ensures { (codec : Self) → IsPayloadFormat (Self.format codec) };
+}
+
+/// Whether a packet is a fragment that starts, which gives up a run that is open.
+pub fn starts_run<C: PacketReader>(codec: C, packet: &[u8]) -> bool
+    ensures { result ≡ is_start ((C.format codec).read packet.now) }
+{
+    match codec.read(packet) {
+        Ok(Parts::Fragment(fragment)) => fragment.start,
+        Ok(_) | Err(_) => false,
+    }
 }

@@ -1,15 +1,16 @@
 //! The packets of payloads, for every codec.
 
-ghost use Rattle.std.specs.Prelude.{◌≡◌, ◌≤◌, ◌++◌, ◌∷◌, ℕ, [], true, false, OnOk, OnErr, IfOk, IsOk, None, map, length, drop, Err};
+ghost use Rattle.std.specs.Prelude.{◌≡◌, ◌≤◌, ◌++◌, ◌∷◌, ℕ, [], true, false, OnOk, OnErr, IfOk, IsOk, None, length, drop, Err};
 ghost use Rattle.std.specs.Option.{option_map};
 ghost use Rattle.h26x_model.specs.Send.Limit.{AreWithinLimit};
 ghost use Rattle.h26x_model.specs.Send.Calls.{packet_limit, call_limit};
 ghost use Rattle.h26x_model.specs.Send.WaitingSets.{waiting_after_unit, due_items, plan_with_waiting, waiting_after, entries_with_limit, no_waiting_sets};
 ghost use Rattle.h26x_model.specs.Send.PacketizerState.{state_packets, is_skipped, are_skipped, has_no_effect, IsSentAsPlanned, one_unit_items, one_unit_packets};
+ghost use Rattle.h26x_model.specs.Where.{Where};
 ghost use Rattle.h26x_payload.specs.Sending.{contents, ArePushed, set_list, latest_set, waiting_with_brought, due_to_items, is_nothing};
 ghost use Rattle.h26x_payload.specs.Buffer.{with_packets};
 ghost use Rattle.h26x_payload.specs.Placement.{IsPlacement, IsSizeOf, if_placed};
-ghost use Rattle.h26x_payload.specs.PacketizerView.{IsPacketizer, packetizer_state, fresh_packetizer, view_call, view_entries, view_after, view_after_unit, view_with_update};
+ghost use Rattle.h26x_payload.specs.PacketizerView.{IsPacketizer, IsViewSentAsPlanned, packetizer_state, fresh_packetizer, view_call, view_entries, view_packets, view_after, view_after_call, view_after_unit, view_with_update};
 
 use crate::format::{DonlFormat, PayloadFormat, UnitKind};
 use crate::send::buffer::{Appending, PacketBuffer};
@@ -247,18 +248,11 @@ impl<C: PayloadFormat> PayloadPacketizer<C> {
     /// A law of each call: it does what is planned of whole lists, and one without effect has no
     /// packets and changes nothing.
     fn goes_as_planned(&self, mtu: usize, b: &[u8])
-        ensures planned { IsSentAsPlanned (packetizer_state (C.format self.now.codec) self.now)
-            (view_call self.now mtu b.now)
-            (state_packets (packetizer_state (C.format self.now.codec) self.now)
-            (view_entries (C.format self.now.codec) self.now mtu b.now))
-            (packetizer_state (C.format self.now.codec) (view_after (C.format self.now.codec) self.now
-            (view_entries (C.format self.now.codec) self.now mtu b.now))) }
+        ensures planned { IsViewSentAsPlanned (C.format self.now.codec) self.now mtu b.now }
         ensures without_effect { has_no_effect (C.format self.now.codec)
             (view_call self.now mtu b.now) ≡ true →
-            (state_packets (packetizer_state (C.format self.now.codec) self.now)
-            (view_entries (C.format self.now.codec) self.now mtu b.now) ≡ [])
-            × (view_after (C.format self.now.codec) self.now
-            (view_entries (C.format self.now.codec) self.now mtu b.now) ≡ self.now) }
+            (view_packets (C.format self.now.codec) self.now mtu b.now ≡ [])
+            × (view_after_call (C.format self.now.codec) self.now mtu b.now ≡ self.now) }
     {
         laws::packetizers_go_on();
         let _ = &self.codec;

@@ -11,10 +11,10 @@ use std::alloc::Global;
 use std::process::Abort;
 use std::test::Fail;
 
-pub(crate) mod receiving;
+pub(super) mod receiving;
 pub(crate) mod sending;
-pub(crate) mod settings;
-pub(crate) mod text;
+mod settings;
+mod text;
 
 /// What does the calls of lines.
 pub(crate) trait Answers {

@@ -22,7 +22,7 @@ pub(crate) use receive::in_text::take_in_text;
 pub use receive::memory::MemorySink;
 pub use receive::open_text::OpenText;
 pub use receive::parts::Parts;
-pub use receive::reader::PacketReader;
+pub use receive::reader::{PacketReader, starts_run};
 pub use receive::reassembly::Fragment;
 pub use receive::run::OpenRun;
 pub(crate) use receive::sink::UnitSink;

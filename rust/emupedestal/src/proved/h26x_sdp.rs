@@ -6,6 +6,7 @@
 //!
 //! The definitions that contracts cite stand in `specs/`.
 mod answer;
+mod capability_points;
 mod codec;
 mod constraints;
 mod error;
@@ -26,10 +27,13 @@ mod units;
 
 pub(crate) use answer::answer_to;
 pub use answer::{CodecRules, Format, Role, Terms};
+pub(crate) use capability_points::write_capability_points;
+pub use capability_points::{CapabilityPoint, ParallelTool, read_capability_points};
 pub use codec::{CodecParameter, CodecParameters};
 pub use constraints::InteropConstraints;
 pub use error::{
-    ConstraintsError, Fault, LevelSetsError, ParametersError, StreamError, UnitsError,
+    CapabilityPointsError, ConstraintsError, Fault, LevelSetsError, ParametersError, StreamError,
+    UnitsError,
 };
 pub use from_stream::{
     h264_of_payload, h264_of_units, h265_of_payload, h265_of_units, h266_of_payload, h266_of_units,

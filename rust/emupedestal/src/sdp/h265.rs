@@ -1,8 +1,9 @@
 //! The parameters of H.265.
 
 use super::getters::getters;
-use super::{CodecParameters, H265Parameter, TxMode};
+use super::{CapabilityPoint, CapabilityPointsError, CodecParameters, H265Parameter, TxMode};
 use crate::H265ProfileTierLevel;
+use alloc::vec::Vec;
 
 /// The format parameters of H.265 (RFC 7798, section 7.1).
 ///
@@ -31,9 +32,33 @@ impl CodecParameters<H265Parameter> {
 
     /// The 48 bits of `interop-constraints`, the first the highest; where it is absent B00000000000.
     pub fn interop_constraints(&self) -> u64 {
-        let digits = self.value_or_default(H265Parameter::InteropConstraints);
-        let number = digits.and_then(|it| u64::from_str_radix(it, 16).ok());
-        number.unwrap_or_default()
+        let [a, b, c, d, e, f] = self.of.interop_constraints().unwrap_or_default();
+        u64::from_be_bytes([0, 0, a, b, c, d, e, f])
+    }
+
+    /// What the receiver can do where pictures are coded for parallel decoding, `dec-parallel-cap`; none where it is
+    /// absent.
+    ///
+    /// # Errors
+    ///
+    /// The first point that is none is told by its place.
+    pub fn capability_points(&self) -> Result<Vec<CapabilityPoint>, CapabilityPointsError> {
+        Ok(self.of.capability_points()?.unwrap_or_default())
+    }
+
+    /// A capability point with the limits that it leaves out: `tier-flag`, `max-recv-level-id`, `max-lsr`, `max-lps`
+    /// and `max-br` of these parameters.
+    ///
+    /// ```
+    /// use emupedestal::sdp::H265Parameters;
+    ///
+    /// let format: H265Parameters = "level-id=93;dec-parallel-cap={t:8;level-id=120}".parse()?;
+    /// let point = format.inferred(format.capability_points()?[0]);
+    /// assert_eq!((point.spatial_segmentation, point.level_id, point.tier_flag), (8, Some(120), Some(0)));
+    /// # Ok::<(), Box<dyn std::error::Error>>(())
+    /// ```
+    pub fn inferred(&self, point: CapabilityPoint) -> CapabilityPoint {
+        self.of.inferred(point)
     }
 
     /// The 32 flags of `profile-compatibility-indicator`, the first the highest; `None` where it is absent.

@@ -1,6 +1,6 @@
 //! Values with a grammar of their own.
 
-use super::{ConstraintsError, LevelSets, LevelSetsError};
+use super::{CapabilityPoint, CapabilityPointsError, ConstraintsError, LevelSets, LevelSetsError};
 use crate::proved::h26x_sdp as proved;
 use alloc::string::String;
 use alloc::vec::Vec;
@@ -97,5 +97,36 @@ pub fn read_level_sets(text: &str) -> Result<Vec<LevelSets>, LevelSetsError> {
 /// Where memory lacks.
 pub fn write_level_sets(levels: &[LevelSets]) -> Result<String, LevelSetsError> {
     let text = proved::write_level_sets(levels)?;
+    Ok(String::from_utf8(text).unwrap_or_default())
+}
+
+/// Reads capability points: in braces, with `,` between them, each `w:` or `t:`, a number from 1 to 4095, and limits,
+/// `;` before each. A parameter that is none of the five limits is left out (RFC 7798, sections 7.1 and 7.2).
+///
+/// ```
+/// use emupedestal::sdp::{ParallelTool, read_capability_points};
+///
+/// let points = read_capability_points("{w:8;max-lsr=62668800;max-lps=2088960}")?;
+/// assert_eq!((points[0].tool, points[0].max_lps), (ParallelTool::Wavefronts, Some(2088960)));
+/// # Ok::<(), emupedestal::sdp::CapabilityPointsError>(())
+/// ```
+///
+/// # Errors
+///
+/// The first that is none is told by its place.
+pub fn read_capability_points(text: &str) -> Result<Vec<CapabilityPoint>, CapabilityPointsError> {
+    proved::read_capability_points(text.as_bytes())
+}
+
+/// Writes capability points, the limits in the RFC's order. They are read as the same where there is one, each has a
+/// limit, and its numbers are in their ranges.
+///
+/// # Errors
+///
+/// Where memory lacks.
+pub fn write_capability_points(
+    points: &[CapabilityPoint],
+) -> Result<String, CapabilityPointsError> {
+    let text = proved::write_capability_points(points)?;
     Ok(String::from_utf8(text).unwrap_or_default())
 }

@@ -115,6 +115,61 @@ fn general_constraints_of_h266() {
 
 /// Sets of levels are read with their place, and written in lower case.
 #[test]
+fn capability_points() {
+    let line = "level-id=93;max-br=7;dec-parallel-cap={w:8; max-lps=2088960;max-lsr=62668800,t:08;level-id=120}";
+    let format: H265Parameters = line.parse().unwrap();
+    let points = format.capability_points().unwrap();
+    assert_eq!(
+        (points[0].tool, points[1].tool),
+        (ParallelTool::Wavefronts, ParallelTool::NoWavefronts)
+    );
+    assert_eq!(
+        (points[0].max_lsr, points[0].max_lps),
+        (Some(62668800), Some(2088960))
+    );
+    let inferred = format.inferred(points[0]);
+    assert_eq!(
+        (inferred.level_id, inferred.tier_flag, inferred.max_br),
+        (Some(93), Some(0), Some(7))
+    );
+    let text = "{w:8;max-lsr=62668800;max-lps=2088960,t:8;level-id=120}";
+    assert_eq!(write_capability_points(&points).as_deref(), Ok(text));
+    assert_eq!(read_capability_points(text), Ok(points));
+    assert_eq!(H265Parameters::default().capability_points(), Ok(vec![]));
+    let limits = |place, fault| CapabilityPointsError::Limits { place, fault };
+    for (text, wanted) in [
+        ("", CapabilityPointsError::NoBraces),
+        ("{}", CapabilityPointsError::NoTool { place: 0 }),
+        (
+            "{w:8;max-br=1,t:0;max-br=1}",
+            CapabilityPointsError::Segmentation {
+                place: 1,
+                fault: Fault::OutOfRange,
+            },
+        ),
+        (
+            "{w:8;max-br=1;MAX-BR=1}",
+            limits(
+                0,
+                ParametersError::Refused {
+                    place: 1,
+                    fault: Fault::Twice,
+                },
+            ),
+        ),
+        ("{t:8;x=1}", CapabilityPointsError::NoLimit { place: 0 }),
+    ] {
+        assert_eq!(read_capability_points(text), Err(wanted), "{text}");
+    }
+    let format: H265Parameters = "interop-constraints=9000000000aB".parse().unwrap();
+    assert_eq!(format.interop_constraints(), 0x9000_0000_00ab);
+    assert_eq!(
+        H265Parameters::default().interop_constraints(),
+        0xb000_0000_0000
+    );
+}
+
+#[test]
 fn sets_of_levels() {
     let line = "sprop-level-parameter-sets=42E00B:Z0LgCw==,aMs=:4de00b:aMs=";
     let format: H264Parameters = line.parse().unwrap();

@@ -19,7 +19,7 @@ returns-clause-second c = c.again_with.ensures.second (starting_packetizer c.arg
 pub returns-clause-refused : goal.returns-clause-refused
 returns-clause-refused c =
     let s = starting_packetizer c.args.codec c.args.donl c.args.max_packet_size in
-    c.again_with.ensures.refused s (fresh_depacketizer_state (codec_format c.args.codec c.args.donl)) s c.packetizer_with-p.ensures c.depacketizer_with-d.ensures c.packetizer_with-q.ensures (refl, refl) refl
+    c.again_with.ensures.refused s (fresh_depacketizer_state (codec_format c.args.codec c.args.donl)) c.packetizer_with-p.ensures c.depacketizer_with-d.ensures s c.packetizer_with-q.ensures (refl, refl) refl
 
 pub returns-clause-same : goal.returns-clause-same
 returns-clause-same c = λ may.

@@ -17,7 +17,7 @@ use Rattle.h26x_codec.proofs.AgainLemmas.{like_small, written_is, first_refused}
 use Rattle.h26x_codec.proofs.repeated.again_with.Goals as goal
 
 pub returns-in_err-deliver-clause-refused : goal.returns-in_err-deliver-clause-refused
-returns-in_err-deliver-clause-refused g c = λ s r t p_is d_is q_is fresh avc.
+returns-in_err-deliver-clause-refused g c = λ s r p_is d_is t q_is fresh avc.
     let start = c.new-written.result.items in
     let w = depacketization r start extras.None in
     let made = map (λ (p : Vec ℕ Global). p.items) c.deref.result.now in

@@ -154,7 +154,7 @@ fn detect(codec: Codec, packet: &[u8]) -> bool {
 }
 
 /// What is told of units of a codec.
-pub(crate) fn word_of(codec: Codec, extra: CodecExtra) -> &'static str {
+fn word_of(codec: Codec, extra: CodecExtra) -> &'static str {
     if extra == CodecExtra::None {
         "nothing"
     } else if extra == told(codec, true) {

@@ -40,12 +40,3 @@ fn has(words: &[&str], wanted: &str) -> bool {
     }
     false
 }
-
-/// A codec's name in lines.
-pub(crate) fn name_of(codec: Codec) -> &'static str {
-    match codec {
-        Codec::H264 => "h264",
-        Codec::H265 => "h265",
-        Codec::H266 => "h266",
-    }
-}

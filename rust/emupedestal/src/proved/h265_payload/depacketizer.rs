@@ -5,7 +5,7 @@
 use crate::proved::h26x_core::{CodecExtra, Depacketizer, PacketError};
 use crate::proved::h26x_payload::{
     DonlFormat, OpenRun, OpenText, PacketReader, PayloadFormat, RunRule, UnitSink, check_lengths,
-    out_size_hint, take_in_text, take_packet,
+    out_size_hint, starts_run, take_in_text, take_packet,
 };
 use crate::proved::h265_packets::H265Payload;
 use crate::proved::h265_payload::packetizer::H265;
@@ -120,6 +120,11 @@ impl H265Depacketizer {
         let (payload, spare) = (&mut self.payload, &mut self.spare);
         show(codec.has_donl, packet, parts, payload, spare);
         Ok(())
+    }
+
+    /// Whether a packet is a fragment that starts, which gives up a run that is open.
+    pub fn starts_run(&self, packet: &[u8]) -> bool {
+        starts_run(self.codec, packet)
     }
 
     /// The same depacketizer again, with its settings, its open run and what it shows. `OutOfMemory`

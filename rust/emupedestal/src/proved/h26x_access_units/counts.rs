@@ -4,7 +4,6 @@
 
 use crate::proved::h26x_access_units::numbers::missing_told;
 use crate::proved::h26x_access_units::pushed::{NotPushedReason, Pushed};
-use crate::proved::h26x_core::PacketError;
 use crate::proved::h26x_frames::RtpPacket;
 use crate::proved::h26x_receiver::Received;
 
@@ -13,7 +12,8 @@ use crate::proved::h26x_receiver::Received;
 pub struct Counts {
     /// Packets that were taken, and not refused.
     pub taken: u64,
-    /// Numbers that are missing before packets that were taken, and before numbers that were skipped.
+    /// Numbers that are missing before packets that were taken, and before numbers that were skipped or
+    /// refused, these with them.
     pub lost: u64,
     /// Packets that came after their place was passed.
     pub late: u64,
@@ -89,18 +89,23 @@ impl Counts {
         self.lost = self.lost.saturating_add(dropped as u64);
     }
 
-    /// Counts what became of a packet that was due; where it was taken, whether a text was given up.
-    fn answer(&mut self, received: &Result<Received, PacketError>, text: bool) {
+    /// Counts a packet that was refused: so many numbers are missing up to it, its own with them.
+    pub(crate) fn refuse(&mut self, missing: u32) {
+        self.refused = self.refused.saturating_add(1);
+        self.lost = self.lost.saturating_add(u64::from(missing));
+    }
+
+    /// Counts what became of a packet with a payload; where it was taken, whether a text was given up.
+    fn answer(&mut self, received: Received, text: bool) {
         match received {
-            Ok(Received::Late(_)) => self.late = self.late.saturating_add(1),
-            Ok(received) => {
-                let missing = u64::from(missing_told(*received));
+            Received::Late(_) => self.late = self.late.saturating_add(1),
+            _ => {
+                let missing = u64::from(missing_told(received));
                 self.taken = self.taken.saturating_add(1);
                 self.lost = self.lost.saturating_add(missing);
-                self.units_given_up = self.units_given_up.saturating_add(given_up(*received));
+                self.units_given_up = self.units_given_up.saturating_add(given_up(received));
                 self.texts_given_up = self.texts_given_up.saturating_add(u64::from(text));
             }
-            Err(_) => self.refused = self.refused.saturating_add(1),
         }
     }
 
@@ -116,16 +121,13 @@ impl Counts {
         }
     }
 
-    /// Counts what became of a packet that was due; where it was taken, whether a text was given up.
-    pub(crate) fn note(
-        &mut self,
-        packet: &RtpPacket<'_>,
-        received: &Result<Received, PacketError>,
-        text: bool,
-    ) {
-        match received {
-            Ok(received) if packet.payload.is_empty() => self.skip(*received),
-            _ => self.answer(received, text),
+    /// Counts what became of a packet that was due, and not refused; where it was taken, whether a text
+    /// was given up.
+    pub(crate) fn note(&mut self, packet: &RtpPacket<'_>, received: Received, text: bool) {
+        if packet.payload.is_empty() {
+            self.skip(received);
+        } else {
+            self.answer(received, text);
         }
     }
 

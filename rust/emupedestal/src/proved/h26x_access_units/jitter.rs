@@ -168,6 +168,24 @@ impl JitterBuffer {
         }
     }
 
+    /// Whether a packet with this number needn't wait: none does, and it is the one that is due.
+    #[inline]
+    pub fn goes_straight(&self, number: u16) -> bool {
+        self.buffer.goes_straight(number)
+    }
+
+    /// The packet with this number, which needn't wait, was taken: it is as if it had waited and gone.
+    #[inline]
+    pub(crate) fn pass(&mut self, number: u16) {
+        self.buffer.pass(number);
+        self.from = number.wrapping_add(1);
+    }
+
+    /// Takes back a packet that doesn't wait, for its memory, as [`ReorderBuffer::give_back`] does.
+    pub fn give_back(&mut self, packet: HeldPacket) {
+        self.buffer.give_back(packet);
+    }
+
     /// Whether the first packet isn't to wait for those before it.
     fn is_pressed(&self, now: u32) -> bool {
         self.is_over || self.bytes > self.config.held_limit || self.has_waited(now)
@@ -209,7 +227,7 @@ impl JitterBuffer {
     /// Drops the first packet, due or not, and keeps its memory, as [`ReorderBuffer::give_back`] does.
     pub fn drop_first(&mut self) {
         if let Some(packet) = self.pop_first() {
-            self.buffer.give_back(packet);
+            self.give_back(packet);
         }
     }
 

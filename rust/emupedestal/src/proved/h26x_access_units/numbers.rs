@@ -2,7 +2,6 @@
 
 //! The sequence numbers of the packets of access units.
 
-use crate::proved::h26x_core::PacketError;
 use crate::proved::h26x_frames::RtpPacket;
 use crate::proved::h26x_receiver::Received;
 
@@ -47,6 +46,15 @@ pub(crate) struct NumbersSoFar {
     pub ended_by_marker: Option<UnitNumbers>,
 }
 
+/// How many numbers are missing up to a packet that was refused, its own with them, by what is told of
+/// those before it.
+pub(crate) fn missing_with(received: Received) -> u32 {
+    match received {
+        Received::Late(_) => 0,
+        answer => u32::from(missing_told(answer)) + 1,
+    }
+}
+
 /// How many numbers an answer tells to be missing.
 pub(crate) fn missing_told(received: Received) -> u16 {
     match received {
@@ -86,9 +94,9 @@ impl NumbersSoFar {
         }
     }
 
-    /// A number was skipped, and so many are missing before it.
-    pub(crate) fn skip(&mut self, missing: u16) {
-        self.skipped_gap = self.skipped_gap.saturating_add(u32::from(missing));
+    /// A number was skipped or refused, and so many are missing up to it.
+    pub(crate) fn skip(&mut self, missing: u32) {
+        self.skipped_gap = self.skipped_gap.saturating_add(missing);
     }
 
     /// A packet was taken, and so many are missing before it.
@@ -118,16 +126,12 @@ impl NumbersSoFar {
         };
     }
 
-    /// Notes what became of a packet that was due.
-    pub(crate) fn note(
-        &mut self,
-        packet: &RtpPacket<'_>,
-        received: &Result<Received, PacketError>,
-    ) {
-        match received {
-            Ok(received) if packet.payload.is_empty() => self.skip(missing_told(*received)),
-            Ok(received) if received.is_taken() => self.take(packet, missing_told(*received)),
-            _ => {}
+    /// Notes what became of a packet that was due, and not refused.
+    pub(crate) fn note(&mut self, packet: &RtpPacket<'_>, received: Received) {
+        if packet.payload.is_empty() {
+            self.skip(u32::from(missing_told(received)));
+        } else if received.is_taken() {
+            self.take(packet, missing_told(received));
         }
     }
 

@@ -5,7 +5,7 @@
 use crate::proved::h26x_access_units::config::AccessUnitConfig;
 use crate::proved::h26x_access_units::counts::Counts;
 use crate::proved::h26x_access_units::jitter::JitterBuffer;
-use crate::proved::h26x_access_units::numbers::NumbersSoFar;
+use crate::proved::h26x_access_units::numbers::{NumbersSoFar, missing_with};
 use crate::proved::h26x_access_units::pushed::{NotPushed, NotPushedReason, Pushed};
 use crate::proved::h26x_access_units::unit::{ReceivedUnit, is_keyframe};
 use crate::proved::h26x_core::PacketError;
@@ -45,6 +45,33 @@ fn take_packet<D: RunDepacketizer>(
     }
 }
 
+/// Gives it a packet that is due, passes over one that it refuses, and notes what became of it. Without
+/// memory all stays as it was.
+fn take_noted<D: RunDepacketizer>(
+    frames: &mut FrameReceiver<D>,
+    ended: &mut Vec<AccessUnit>,
+    numbers: &mut NumbersSoFar,
+    counts: &mut Counts,
+    packet: &RtpPacket<'_>,
+) -> Result<Received, PacketError> {
+    match take_packet(frames, packet, ended) {
+        Ok(received) => {
+            frames.forget_marker();
+            numbers.note(packet, received);
+            counts.note(packet, received, frames.is_text_given_up);
+            Ok(received)
+        }
+        Err(PacketError::OutOfMemory) => Err(PacketError::OutOfMemory),
+        Err(error) => {
+            let missing = missing_with(frames.pass_over(packet.sequence));
+            frames.forget_marker();
+            numbers.skip(missing);
+            counts.refuse(missing);
+            Err(error)
+        }
+    }
+}
+
 /// What a receiver is to contracts.
 pub trait Receives {
     /// What it has counted.
@@ -74,15 +101,56 @@ impl<D: RunDepacketizer> AccessUnitReceiver<D> {
         }
     }
 
-    /// Takes a packet that came at this tick, and copies it if it is to wait. One without a payload
-    /// came and bears nothing. Without memory all stays as it was, and it can be given again.
+    /// Takes a packet that came at this tick, and copies it if it is to wait: the one that is due is
+    /// taken at once, where none waits and no access unit has ended that `next` hasn't given out. One
+    /// without a payload came and bears nothing. Without memory all stays as it was, and it can be
+    /// given again.
     pub fn try_push(&mut self, now: u32, packet: &RtpPacket<'_>) -> Result<Pushed, PacketError> {
+        if self.takes_at_once(packet.sequence) {
+            self.take_at_once(packet)?;
+            return Ok(Pushed::Held);
+        }
         if self.waiting.is_far(packet.sequence) {
             return self.push_far(now, packet);
         }
         let pushed = self.waiting.try_push(now, packet)?;
         self.counts.try_push(pushed);
         Ok(pushed)
+    }
+
+    /// Whether a packet with this number is taken at once.
+    fn takes_at_once(&self, number: u16) -> bool {
+        self.waiting.goes_straight(number) && !self.has_ended() && !self.is_anew
+    }
+
+    /// Takes a packet at once, which waits no more than one that is due.
+    fn take_at_once(&mut self, packet: &RtpPacket<'_>) -> Result<(), PacketError> {
+        let received = take_noted(
+            &mut self.frames,
+            &mut self.ended,
+            &mut self.numbers,
+            &mut self.counts,
+            packet,
+        );
+        if is_want_of_memory(&received) {
+            return Err(PacketError::OutOfMemory);
+        }
+        self.waiting.pass(packet.sequence);
+        Ok(())
+    }
+
+    /// So of one that has memory of its own, which is kept for another one.
+    fn take_held_at_once(&mut self, packet: HeldPacket) -> Result<Pushed, NotPushed> {
+        match self.take_at_once(&packet.packet()) {
+            Ok(()) => {
+                self.waiting.give_back(packet);
+                Ok(Pushed::Held)
+            }
+            Err(_) => Err(NotPushed {
+                packet,
+                reason: NotPushedReason::OutOfMemory,
+            }),
+        }
     }
 
     /// Takes a packet that is too far from the one that is due.
@@ -121,6 +189,9 @@ impl<D: RunDepacketizer> AccessUnitReceiver<D> {
     /// Takes a packet that has memory of its own, and copies nothing of it, but of a stray. One that
     /// doesn't wait comes back as it was given, with the reason.
     pub fn push_held(&mut self, now: u32, packet: HeldPacket) -> Result<Pushed, NotPushed> {
+        if self.takes_at_once(packet.sequence) {
+            return self.take_held_at_once(packet);
+        }
         if self.waiting.is_far(packet.sequence) {
             return match self.push_far(now, &packet.packet()) {
                 Ok(pushed) => Ok(pushed),
@@ -157,14 +228,16 @@ impl<D: RunDepacketizer> AccessUnitReceiver<D> {
             Some(held) => held.packet(),
             None => return Ok(false),
         };
-        let received = take_packet(&mut self.frames, &packet, &mut self.ended);
+        let received = take_noted(
+            &mut self.frames,
+            &mut self.ended,
+            &mut self.numbers,
+            &mut self.counts,
+            &packet,
+        );
         if is_want_of_memory(&received) {
             return Err(PacketError::OutOfMemory);
         }
-        self.frames.forget_marker();
-        self.numbers.note(&packet, &received);
-        self.counts
-            .note(&packet, &received, self.frames.is_text_given_up);
         self.waiting.drop_first();
         Ok(true)
     }

@@ -74,6 +74,7 @@ impl OpenUnit {
     ) -> Result<Received, PacketError> {
         let follows = is_following(is_gap, closed, packets.expected, packet);
         let len = self.text.len();
+        let had_run = self.text.met_run_len(true).is_some();
         let received = packets.receive_in_text(
             packet.sequence,
             packet.payload,
@@ -81,12 +82,26 @@ impl OpenUnit {
             &mut self.text,
             &mut self.extra,
         );
-        let is_dropped = self.is_dropped(len);
-        let is_sound = is_sound(follows, is_dropped, &received);
         if was_taken(&received) {
+            let is_broken = self.is_broken(&packets.depacketizer, packet.payload, had_run, len);
+            let is_sound = is_sound(follows, is_broken, &received);
             self.is_whole = self.is_whole && is_sound;
         }
         received
+    }
+
+    /// Whether a unit lacks its end or its start by a packet that was taken, before which a run was
+    /// open or not and the text had so many bytes. A run that is longer than the packet isn't its own.
+    #[inline]
+    fn is_broken<D: RunDepacketizer>(
+        &self,
+        depacketizer: &D,
+        payload: &[u8],
+        had_run: bool,
+        len: usize,
+    ) -> bool {
+        let may_be_given_up = had_run && self.text.run_len() <= payload.len();
+        may_be_given_up && depacketizer.starts_run(payload) || self.is_dropped(len)
     }
 
     /// Whether no byte stands of a packet before which the text had so many: neither there nor in a

@@ -44,16 +44,16 @@ pub(crate) fn was_taken(received: &Result<Received, PacketError>) -> bool {
     }
 }
 
-/// Whether a packet that was taken follows the one before it, stands in the text or a run, and left no
-/// run that was too long.
+/// Whether a packet that was taken follows the one before it, no unit lacks its end or its start by
+/// it, and it left no run that was too long.
 #[inline]
 pub(crate) fn is_sound(
     follows: bool,
-    is_dropped: bool,
+    is_broken: bool,
     received: &Result<Received, PacketError>,
 ) -> bool {
     match received {
         Ok(Received::TooLong(_)) => false,
-        _ => !is_dropped && follows,
+        _ => !is_broken && follows,
     }
 }

@@ -166,6 +166,20 @@ impl ReorderBuffer {
         self.held.is_ready()
     }
 
+    /// Whether a packet with this number needn't be held: none is, and it is the one that is due. A
+    /// caller who used it tells so by `pass`.
+    #[inline]
+    pub fn goes_straight(&self, number: u16) -> bool {
+        self.held.goes_straight(number)
+    }
+
+    /// The packet with this number, which needn't be held, was used: it is as if it had been pushed and
+    /// popped. It takes no memory.
+    #[inline]
+    pub(crate) fn pass(&mut self, number: u16) {
+        self.held.pass(number);
+    }
+
     /// Takes a packet, and copies it. Without memory the buffer stays as it was, and the packet can be
     /// given again.
     pub(crate) fn try_push(&mut self, packet: &RtpPacket<'_>) -> Result<Pushed, AllocError> {

@@ -2,6 +2,7 @@
 
 //! Packets in the order of their sequence numbers, until they may go.
 
+use crate::proved::h26x_frames::answers::is_next;
 use crate::proved::h26x_frames::numbered::Numbered;
 use crate::proved::h26x_frames::parted::Parted;
 use crate::proved::h26x_frames::pushed::Pushed;
@@ -133,6 +134,18 @@ impl<T: Numbered> NumberOrder<T> {
         let first = self.held.pop_first()?;
         self.due = Some(first.sequence().wrapping_add(1));
         Some(first)
+    }
+
+    /// Whether none is held and this number is due, so that its packet needn't be held.
+    #[inline]
+    pub(crate) fn goes_straight(&self, number: u16) -> bool {
+        self.is_empty() && is_next(self.due, number)
+    }
+
+    /// The packet with this number, which needn't be held, has gone.
+    #[inline]
+    pub(crate) fn pass(&mut self, number: u16) {
+        self.due = Some(number.wrapping_add(1));
     }
 
     /// Whether the first packet may go.

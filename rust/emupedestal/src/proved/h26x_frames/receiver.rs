@@ -139,6 +139,18 @@ impl<D: RunDepacketizer> FrameReceiver<D> {
         received
     }
 
+    /// Passes over a number whose packet was refused, so that it is expected no more: the open run is
+    /// given up, and neither the open access unit nor one that the next packet begins is known to be
+    /// whole. The answer says how many are missing before it; where it is late nothing changes. It
+    /// takes no memory.
+    pub fn pass_over(&mut self, sequence: u16) -> Received {
+        let received = self.packets.skip_in_text(sequence);
+        if received.is_taken() {
+            self.unit.break_off();
+        }
+        received
+    }
+
     /// Forgets that a marker ended the last access unit, so that one of its timestamp that goes on
     /// right behind it may be known to be whole too: for a caller who asks that of each part, as where
     /// a sender sets the marker on each slice. It takes no memory.

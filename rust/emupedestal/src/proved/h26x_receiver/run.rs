@@ -41,6 +41,9 @@ pub trait RunDepacketizer: Depacketizer {
         text: &mut OpenText,
         codec_extra: &mut CodecExtra,
     ) -> Result<(), PacketError>;
+
+    /// Whether a packet is a fragment that starts, which gives up a run that is open.
+    fn starts_run(&self, packet: &[u8]) -> bool;
 }
 
 /// Takes out the open run, for a packet that is to be taken without it. Where none is open a
@@ -87,6 +90,10 @@ impl<C: PacketReader> RunDepacketizer for PayloadDepacketizer<C> {
     ) -> Result<(), PacketError> {
         self.depacketize_in_text(rule, packet, text, codec_extra)
     }
+
+    fn starts_run(&self, packet: &[u8]) -> bool {
+        self.starts_run(packet)
+    }
 }
 
 impl RunDepacketizer for H265Depacketizer {
@@ -121,5 +128,9 @@ impl RunDepacketizer for H265Depacketizer {
         codec_extra: &mut CodecExtra,
     ) -> Result<(), PacketError> {
         self.depacketize_in_text(rule, packet, text, codec_extra)
+    }
+
+    fn starts_run(&self, packet: &[u8]) -> bool {
+        self.starts_run(packet)
     }
 }

@@ -199,3 +199,54 @@ impl From<AllocError> for LevelSetsError {
         LevelSetsError::OutOfMemory
     }
 }
+
+/// Why a text is no capability points. A refused call changes nothing.
+#[derive(Debug, Clone, Copy, PartialEq, Eq, Hash)]
+#[non_exhaustive]
+pub enum CapabilityPointsError {
+    /// The text doesn't begin with `{` and end with `}`.
+    NoBraces,
+
+    /// The point at this place, counted from 0, starts with neither `w` nor `t` before a `:`.
+    NoTool { place: usize },
+
+    /// The number behind the tool of the point at this place has this fault.
+    Segmentation { place: usize, fault: Fault },
+
+    /// The limits of the point at this place have this fault.
+    Limits {
+        place: usize,
+        fault: ParametersError,
+    },
+
+    /// The point at this place has no limit.
+    NoLimit { place: usize },
+
+    /// The allocator had no memory.
+    OutOfMemory,
+}
+
+impl core::fmt::Display for CapabilityPointsError {
+    fn fmt(&self, f: &mut core::fmt::Formatter<'_>) -> core::fmt::Result {
+        match self {
+            CapabilityPointsError::NoBraces => write!(f, "no braces"),
+            CapabilityPointsError::NoTool { place } => write!(f, "point {place} is for no tool"),
+            CapabilityPointsError::Segmentation { place, fault } => {
+                write!(f, "the number of point {place} is refused: {fault}")
+            }
+            CapabilityPointsError::Limits { place, fault } => {
+                write!(f, "the limits of point {place} are refused: {fault}")
+            }
+            CapabilityPointsError::NoLimit { place } => write!(f, "point {place} has no limit"),
+            CapabilityPointsError::OutOfMemory => write!(f, "out of memory"),
+        }
+    }
+}
+
+impl core::error::Error for CapabilityPointsError {}
+
+impl From<AllocError> for CapabilityPointsError {
+    fn from(_e: AllocError) -> CapabilityPointsError {
+        CapabilityPointsError::OutOfMemory
+    }
+}

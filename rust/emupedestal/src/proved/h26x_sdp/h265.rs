@@ -2,10 +2,14 @@
 
 //! The format parameters of H.265 (RFC 7798, section 7.1).
 
+use crate::proved::h26x_sdp::capability_points::{CapabilityPoint, read_capability_points};
 use crate::proved::h26x_sdp::codec::{CodecParameter, CodecParameters};
+use crate::proved::h26x_sdp::error::CapabilityPointsError;
 use crate::proved::h26x_sdp::kind::{BITS_8, BITS_15, BITS_32, BITS_64, FLAG, Kind, SUB_LAYER};
 use crate::proved::h26x_sdp::table::ParameterRow;
 use crate::proved::h26x_sdp::unit_types::{H265_PPS, H265_SEI, H265_SPS, H265_VPS};
+use crate::support::hex::FromHex;
+use alloc::vec::Vec;
 
 /// A format parameter of H.265, in the order in which they are written (RFC 7798, section 7.1).
 #[non_exhaustive]
@@ -87,7 +91,8 @@ pub enum H265Parameter {
     /// `sprop-spatial-segmentation-idc`: min_spatial_segmentation_idc, up to 4095, by hexadecimal
     /// digits. Where it's absent, it isn't said.
     SpropSpatialSegmentationIdc,
-    /// `dec-parallel-cap`: capabilities for parallel decoding, in braces, with `,` between them.
+    /// `dec-parallel-cap`: capabilities for parallel decoding, in braces, with `,` between them, which
+    /// `capability_points` looks into.
     DecParallelCap,
     /// `include-dph`: the hash types of decoded pictures that are wanted or there, with `,`
     /// between them, each up to 255. Where it's absent, none.
@@ -302,6 +307,45 @@ impl CodecParameters<H265Parameter> {
     /// absent. Where it is over 0, units bear decoding order numbers (RFC 7798, section 7.1).
     pub fn max_don_diff(&self) -> Option<u32> {
         u32::try_from(self.number_or_default(H265Parameter::SpropMaxDonDiff)?).ok()
+    }
+
+    /// The 48 flags of constraints, six bytes, the first flag the highest bit; where they are absent,
+    /// those of progressive pictures that aren't packed, each a frame.
+    pub fn interop_constraints(&self) -> Option<[u8; 6]> {
+        let text = self.value_or_default(H265Parameter::InteropConstraints)?;
+        <[u8; 6] as FromHex>::from_hex(text).ok()
+    }
+
+    /// What a receiver can do where pictures are coded for parallel decoding, `dec-parallel-cap`;
+    /// `None` where it's absent.
+    pub fn capability_points(&self) -> Result<Option<Vec<CapabilityPoint>>, CapabilityPointsError> {
+        let Some(text) = self.value(H265Parameter::DecParallelCap) else {
+            return Ok(None);
+        };
+        match read_capability_points(text) {
+            Ok(points) => Ok(Some(points)),
+            Err(error) => Err(error),
+        }
+    }
+
+    /// A capability point with the limits that it leaves out: `tier-flag`, `max-recv-level-id`,
+    /// `max-lsr`, `max-lps` and `max-br` of these parameters (RFC 7798, section 7.1).
+    pub fn inferred(&self, point: CapabilityPoint) -> CapabilityPoint {
+        let highest = match self.number(H265Parameter::MaxRecvLevelId) {
+            Some(level) => Some(level),
+            None => self.number_or_default(H265Parameter::LevelId),
+        };
+        CapabilityPoint {
+            tool: point.tool,
+            spatial_segmentation: point.spatial_segmentation,
+            tier_flag: point
+                .tier_flag
+                .or(self.number_or_default(H265Parameter::TierFlag)),
+            level_id: point.level_id.or(highest),
+            max_lsr: point.max_lsr.or(self.number(H265Parameter::MaxLsr)),
+            max_lps: point.max_lps.or(self.number(H265Parameter::MaxLps)),
+            max_br: point.max_br.or(self.number(H265Parameter::MaxBr)),
+        }
     }
 }
 

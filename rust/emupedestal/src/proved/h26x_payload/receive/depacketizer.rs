@@ -7,7 +7,7 @@ use crate::proved::h26x_payload::format::DonlFormat;
 use crate::proved::h26x_payload::receive::extra::out_size_hint;
 use crate::proved::h26x_payload::receive::in_text::{RunRule, take_in_text};
 use crate::proved::h26x_payload::receive::open_text::OpenText;
-use crate::proved::h26x_payload::receive::reader::PacketReader;
+use crate::proved::h26x_payload::receive::reader::{PacketReader, starts_run};
 use crate::proved::h26x_payload::receive::run::OpenRun;
 use crate::proved::h26x_payload::receive::sink::UnitSink;
 use crate::proved::h26x_payload::receive::take::take_packet;
@@ -106,6 +106,11 @@ impl<C: PacketReader> PayloadDepacketizer<C> {
             text,
             codec_extra,
         )
+    }
+
+    /// Whether a packet is a fragment that starts, which gives up a run that is open.
+    pub fn starts_run(&self, packet: &[u8]) -> bool {
+        starts_run(self.codec, packet)
     }
 }
 

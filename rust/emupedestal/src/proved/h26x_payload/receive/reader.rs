@@ -18,3 +18,11 @@ pub trait PacketReader: Aggregate {
     /// Whether a packet is the last of an access unit, with the marker bit of its RTP packet given.
     fn is_last(self, marker: bool, packet: &[u8]) -> bool;
 }
+
+/// Whether a packet is a fragment that starts, which gives up a run that is open.
+pub fn starts_run<C: PacketReader>(codec: C, packet: &[u8]) -> bool {
+    match codec.read(packet) {
+        Ok(Parts::Fragment(fragment)) => fragment.start,
+        Ok(_) | Err(_) => false,
+    }
+}
