@@ -356,6 +356,30 @@ static void check_ends_of_streams(struct tally *t, const struct packets *p)
     h26x_access_units_free(it.u);
 }
 
+/* Refused packets over more than half of the numbers' circle: none that comes behind them is late. */
+static void check_long_refusals(struct tally *t, const struct packets *p)
+{
+    const uint8_t refused[] = {p->codec == H26X_H264 ? 0x7f : 0xff};
+    uint32_t held = 0;
+    struct receiving it = receiver_of(t, settings(p->codec));
+    holds(&it, 0, 65000, 0, true, p->key);
+    gives(&it, 100, p->key_unit, .first = 65000, .last = 65000, .extra = KEY);
+    for (uint32_t i = 1; i <= 40000; i++) {
+        uint32_t pushed = 99;
+        const uint16_t number = (uint16_t)(65000 + i);
+        const uint32_t code = h26x_access_units_push(&it.u, 100, number, 0, true, refused, 1, &pushed, NULL);
+        held += code == H26X_OK && pushed == H26X_HELD;
+    }
+    expect(t, held == 40000);
+    gives_none(&it, 100);
+    misses(&it, 0, 0);
+    holds(&it, 100, (uint16_t)(65000 + 40001), 3000, true, p->slice);
+    gives(&it, 100, p->slice_unit, .timestamp = 3000, .missing = 40000, .first = 39465, .last = 39465,
+          .extra = SLICE);
+    counts(&it, .taken = 2, .lost = 40000, .refused = 40000, .units = 2);
+    h26x_access_units_free(it.u);
+}
+
 /* An access unit that has no room is kept, told, and given out by a later call; a restart leaves it. */
 static void check_room(struct tally *t, const struct packets *p)
 {
@@ -577,6 +601,7 @@ void check_access_units(struct tally *t)
         check_strays(t, &all_packets[i]);
         check_limits(t, &all_packets[i]);
         check_ends_of_streams(t, &all_packets[i]);
+        check_long_refusals(t, &all_packets[i]);
         check_room(t, &all_packets[i]);
         check_left_out(t, &all_packets[i]);
         check_settings(t, &all_packets[i]);
