@@ -1,31 +1,104 @@
 //! The data of the fragments since the latest start (RFC 6184, 5.8; RFC 7798, 4.4.3; RFC 9328,
 //! 4.3.3).
 
-ghost use Rattle.std.specs.Prelude.{◌≡◌, ◌⊎◌, ◌++◌, length, OnOk, OnErr, IfOk, IsOk, Some, None, Ok, Err, is_some, true};
+ghost use Rattle.std.specs.Prelude.{◌≡◌, ◌⊎◌, ◌++◌, ◌+◌, ◌≤◌, length, take, drop, vec_capacity, OnOk, OnErr, IfOk, IsOk, Some, None, Ok, Err, is_some, true};
 ghost use Rattle.std.specs.Option.{option_map};
 ghost use Rattle.h26x_model.specs.Receive.RunLimit.{run_len};
-ghost use Rattle.h26x_payload.specs.Run.{run_bytes};
+ghost use Rattle.h26x_payload.specs.Run.{run_bytes, run_memory};
 
 use h26x_core::PacketError;
 use std::alloc::Global;
 use std::marker::Model;
 
-/// The data of an open run, in a buffer that a closed one keeps.
+/// How many bytes of memory a run may have whatever it holds, sixteen of the largest packets: so many a
+/// closed one keeps at most.
+const KEPT: usize = 1_048_576;
+
+/// How many bytes of memory a run of so many bytes may have.
+#[inline]
+fn most_memory(len: usize) -> usize
+    ensures { result ≤ run_memory len }
+{
+    KEPT.max(len.saturating_mul(2))
+}
+
+/// Memory of so many bytes, with two lists of data one behind the other at its front. It asks once.
+fn memory_of(alloc: Global, size: usize, front: &[u8], body: &[u8]) -> Result<Vec<u8>, PacketError>
+    requires { length front.now + length body.now ≤ size }
+    ensures outcome { OnErr result (result ≡ Err PacketError.OutOfMemory) }
+    ensures bytes { IfOk result (λ memory.
+        take (length front.now + length body.now) memory.items ≡ front.now ++ body.now) }
+    ensures size { IfOk result (λ memory. length memory.items ≡ size) }
+    ensures memory { IfOk result (λ memory. vec_capacity memory ≤ size) }
+{
+    let mut memory = Vec::with_capacity(alloc, size)?;
+    memory.extend_from_slice(front).unwrap();
+    memory.extend_from_slice(body).unwrap();
+    memory.resize(size, 0).unwrap();
+    if memory.capacity() > size {
+        return Err(PacketError::OutOfMemory);
+    }
+    Ok(memory)
+}
+
+/// Writes these data over those from here on.
+#[inline]
+fn put_at(bytes: &mut [u8], at: usize, body: &[u8])
+    requires { at + length body.now ≤ length bytes.old }
+    ensures { bytes.new ≡ take at bytes.old ++ (body.now
+        ++ drop (at + length body.now) bytes.old) }
+{
+    bytes[at..at + body.len()].copy_from_slice(body);
+}
+
+/// Has these data in a buffer from here on. Where it is too small or too large another one takes its
+/// place, twice as large as one that was too small. The answer is where they end.
+#[inline]
+fn put(bytes: &mut Vec<u8>, at: usize, body: &[u8]) -> Result<usize, PacketError>
+    requires { at ≤ length bytes.old.items }
+    ensures outcome { OnErr result (result ≡ Err PacketError.OutOfMemory) }
+    ensures end { IfOk result (λ end. end ≡ at + length body.now) }
+    ensures within { OnOk result (at + length body.now ≤ length bytes.new.items) }
+    ensures bytes { OnOk result (take (at + length body.now) bytes.new.items
+        ≡ take at bytes.old.items ++ body.now) }
+    ensures memory { OnOk result (vec_capacity bytes.new ≤ run_memory (at + length body.now)) }
+    ensures kept { OnErr result (bytes.new ≡ bytes.old) }
+{
+    let room = bytes.len();
+    let end = at + body.len();
+    if end > room || bytes.capacity() > most_memory(end) {
+        let size = if end > room {
+            end.max(room.saturating_mul(2))
+        } else {
+            end
+        };
+        let alloc = *bytes.allocator();
+        *bytes = memory_of(alloc, size, &bytes[..at], body)?;
+    } else {
+        put_at(bytes, at, body);
+    }
+    Ok(end)
+}
+
+/// The data of an open run, in a buffer that a closed one keeps, of `KEPT` bytes at most.
 #[derive(Debug, Drop)]
 pub struct OpenRun {
+    /// As many bytes as the buffer has memory, the data at its front.
     bytes: Vec<u8>,
+    len: usize,
     is_open: bool,
 }
 
 impl Model for OpenRun {
-    ghost use Rattle.std.specs.Prelude.{◌≡◌, false, [], Option, List, ℕ};
-    ghost use Rattle.h26x_payload.specs.Run.{run_if_open};
+    ghost use Rattle.std.specs.Prelude.{◌≡◌, ◌≤◌, false, length, take, vec_capacity, Option, List, ℕ};
+    ghost use Rattle.h26x_payload.specs.Run.{run_if_open, run_memory};
 
     ghost Value = { Option (List ℕ) };
 
-    ghost view = { λ a. run_if_open a.is_open a.bytes.items };
+    ghost view = { λ a. run_if_open a.is_open (take a.len a.bytes.items) };
 
-    ghost invariant = { λ a. a.is_open ≡ false → a.bytes.items ≡ [] };
+    ghost invariant = { λ a. (a.len ≤ length a.bytes.items) × (a.is_open ≡ false → a.len ≡ 0)
+        × (vec_capacity a.bytes ≤ run_memory a.len) };
 }
 
 impl OpenRun {
@@ -35,6 +108,7 @@ impl OpenRun {
     {
         OpenRun {
             bytes: Vec::new(alloc),
+            len: 0,
             is_open: false,
         }
     }
@@ -45,10 +119,7 @@ impl OpenRun {
         ensures run { OnOk result (self.new ≡ Some body.now) }
         ensures kept { OnErr result (self.new ≡ self.old) }
     {
-        self.bytes
-            .reserve(body.len().saturating_sub(self.bytes.len()))?;
-        self.bytes.clear();
-        self.bytes.extend_from_slice(body).unwrap();
+        self.len = put(&mut self.bytes, 0, body)?;
         self.is_open = true;
         Ok(())
     }
@@ -64,14 +135,21 @@ impl OpenRun {
     pub fn bytes(&self) -> &[u8]
         ensures { result.now ≡ run_bytes self.now }
     {
-        self.bytes.as_slice()
+        &self.bytes[..self.len]
     }
 
     /// How many bytes the run holds; none where none is open.
     pub fn len(&self) -> usize
         ensures { result ≡ run_len self.now }
     {
-        self.bytes.len()
+        self.len
+    }
+
+    /// How many bytes of memory its buffer has, data or not: twice its data at most, or 2^20.
+    pub fn kept_memory(&self) -> usize
+        ensures { result ≤ run_memory (run_len self.now) }
+    {
+        self.bytes.capacity()
     }
 
     /// The same, if a run is open.
@@ -79,11 +157,7 @@ impl OpenRun {
     pub fn open_len(&self) -> Option<usize>
         ensures { result ≡ option_map length self.now }
     {
-        if self.is_open {
-            Some(self.bytes.len())
-        } else {
-            None
-        }
+        if self.is_open { Some(self.len) } else { None }
     }
 
     /// Adds these data to the open run.
@@ -93,16 +167,20 @@ impl OpenRun {
         ensures run { OnOk result (self.new ≡ Some (run_bytes self.old ++ body.now)) }
         ensures kept { OnErr result (self.new ≡ self.old) }
     {
-        self.bytes.extend_from_slice(body)?;
+        self.len = put(&mut self.bytes, self.len, body)?;
         Ok(())
     }
 
-    /// Closes the run.
+    /// Closes the run. Memory over `KEPT` bytes goes back.
     pub fn close(&mut self)
         ensures { self.new ≡ None }
     {
-        self.bytes.clear();
-        self.is_open = false;
+        if self.bytes.capacity() > KEPT {
+            self.give_up();
+        } else {
+            self.len = 0;
+            self.is_open = false;
+        }
     }
 
     /// Closes the run and gives back its buffer.
@@ -122,10 +200,9 @@ impl OpenRun {
         if !self.is_open {
             return Ok(OpenRun::none(*self.bytes.allocator()));
         }
-        Ok(OpenRun {
-            bytes: self.bytes.clone()?,
-            is_open: self.is_open,
-        })
+        let mut run = OpenRun::none(*self.bytes.allocator());
+        run.begin(self.bytes())?;
+        Ok(run)
     }
 }
 
@@ -142,7 +219,7 @@ impl PartialEq for OpenRun {
     ghost laws = { partial_equiv_from_equiv (Prim.search (comparing, rules)) };
 
     fn eq(&self, other: &Self) -> bool {
-        self.is_open == other.is_open && self.bytes == other.bytes
+        self.is_open == other.is_open && self.bytes() == other.bytes()
     }
 }
 
