@@ -1,6 +1,6 @@
 //! NAL units from packets, for every codec.
 
-ghost use Rattle.std.specs.Prelude.{◌≡◌, ◌<◌, length, true, false, [], ◌∷◌, Some, None, Err, IfOk, OnOk, OnErr, IsOk};
+ghost use Rattle.std.specs.Prelude.{◌≡◌, ◌<◌, ◌≤◌, length, true, false, [], ◌∷◌, Some, None, Err, IfOk, OnOk, OnErr, IsOk};
 ghost use Rattle.h26x_core.specs.Front.{IsFrontOf};
 ghost use Rattle.h26x_core.specs.Hint.{size_hint};
 ghost use Rattle.h26x_model.specs.Payload.Reading.{is_start};
@@ -9,6 +9,7 @@ ghost use Rattle.h26x_model.specs.Receive.DepacketizerState.{after_packets, IsPa
 ghost use Rattle.h26x_model.specs.Receive.RunLimit.{run_len};
 ghost use Rattle.h26x_model.specs.Where.{Where};
 ghost use Rattle.h26x_payload.specs.DepacketizerView.{depacketizer_state, view_depacketization};
+ghost use Rattle.h26x_payload.specs.Run.{run_memory};
 ghost use Rattle.h26x_payload.specs.OpenText.{IsSameText, view_in_text, view_met_in_text};
 ghost use Rattle.h26x_payload.specs.UnitSink.{bytes_brought, grown_to, IsRoomTold};
 
@@ -67,6 +68,14 @@ impl<C: PacketReader> PayloadDepacketizer<C> {
         self.run.len()
     }
 
+    /// How many bytes of memory it keeps for runs: twice the open run at most, or 2^20 bytes. It keeps
+    /// no other memory.
+    pub fn run_memory(&self) -> usize
+        ensures { result ≤ run_memory (run_len self.now.run) }
+    {
+        self.run.memory()
+    }
+
     /// Exchanges the open run, or none, for another one. It takes no memory.
     pub fn swap_run(&mut self, run: &mut OpenRun)
         ensures taken { self.new ≡ record self.old { run = run.old } }
@@ -77,9 +86,9 @@ impl<C: PacketReader> PayloadDepacketizer<C> {
 
     /// Gives up the open run, if there is one, and gives its buffer back. It takes no memory.
     ///
-    /// A run grows by every fragment until one ends it, and its buffer is kept for later runs: a
-    /// caller that will not hold so much asks `run_len` and calls this. Fragments that follow
-    /// without a start are accepted and complete nothing.
+    /// A run grows by every fragment until one ends it: a caller that will not hold so much asks
+    /// `run_len` and calls this. Fragments that follow without a start are accepted and complete
+    /// nothing. A run that ends leaves its buffer for later ones, if that has 2^20 bytes at most.
     pub fn give_up_run(&mut self)
         ensures { self.new ≡ record self.old { run = None } }
     {

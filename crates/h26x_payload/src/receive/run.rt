@@ -146,7 +146,7 @@ impl OpenRun {
     }
 
     /// How many bytes of memory its buffer has, data or not: twice its data at most, or 2^20.
-    pub fn kept_memory(&self) -> usize
+    pub fn memory(&self) -> usize
         ensures { result ≤ run_memory (run_len self.now) }
     {
         self.bytes.capacity()
