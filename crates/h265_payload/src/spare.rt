@@ -18,6 +18,9 @@ const MOST_BYTES: usize = 1500;
 /// For how many units a list that is kept may have room.
 const MOST_ROOM: usize = 256;
 
+/// How many bytes of memory are kept for the next packet's data: sixteen of the largest packets.
+const MOST_DATA: usize = 1_048_576;
+
 /// Memory of packets that were shown before. What the next packet is shown by is put there first,
 /// and changes places with what is shown when nothing can fail any more.
 #[derive(Debug, Drop)]
@@ -101,6 +104,16 @@ impl Spare {
     {
         let alloc = self.allocator();
         mem::replace(&mut self.data, Vec::new(alloc))
+    }
+
+    /// Frees the memory of the data where it is more than is kept.
+    #[inline]
+    pub fn limit_data(&mut self)
+        ensures { vec_capacity self.new.data ≤ 1048576 }
+    {
+        if self.data.capacity() > MOST_DATA {
+            self.data = Vec::new(self.allocator());
+        }
     }
 
     /// Keeps the memory of a few of the further units, for the next aggregate.

@@ -39,7 +39,7 @@ returns-clause-aggregate g c = λ is.
     let fields = c.self.inside in
     let reading = read fields.codec.has_donl c.args.packet.now in
     let brought = reading_units fields.run reading in
-    let same : c.show.new.payload ≡ shown fields.codec.has_donl c.args.packet.now = c.show.ensures in
+    let same : c.show.new.payload ≡ shown fields.codec.has_donl c.args.packet.now = c.show.ensures.shown in
     let units : units_of_aggregate c.show.new.payload ≡ brought =
     ap units_of_aggregate same ∙ sym (brings_shown fields.codec.has_donl c.args.packet.now c.in_ok-parts.parts fields.run reading c.in_ok-parts.ensures.accepted.reading c.in_ok-parts.ensures.shows (rw same at is)) in
     let written : (g.W.UnitSink.sink c.take_packet.new.out).bytes ≡ (g.W.UnitSink.sink c.args.out.now).bytes ++ byte_stream fields.is_avc brought = search rules in
