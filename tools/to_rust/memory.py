@@ -25,7 +25,7 @@ RESERVED = {"push_front_reserved": "push_front", "push_back_reserved": "push_bac
 # std has a name of its own for what isn't stable yet.
 NAMES = {"try_with_capacity": "try_with_room"}
 # The traits of `support.rs`, with the fallible calls that std lacks: those of lists, of queues, of slices and of texts.
-LISTS = {"try_push", "try_append", "try_clone", "try_from_slice", "try_with_room"}
+LISTS = {"try_push", "try_append", "try_from_slice", "try_with_room"}
 QUEUES = {"try_push_back", "try_insert", "try_append"}
 SLICES = {"try_to_vec"}
 TEXTS = {"try_push_str"}

@@ -80,11 +80,6 @@ pub trait TryVec<T>: Sized {
     fn try_from_slice(items: &[T]) -> Result<Self, AllocError>
     where
         T: Copy;
-
-    /// A copy of a list.
-    fn try_clone(&self) -> Result<Self, AllocError>
-    where
-        T: Copy;
 }
 
 impl<T> TryVec<T> for Vec<T> {
@@ -117,14 +112,6 @@ impl<T> TryVec<T> for Vec<T> {
         let mut made = Self::try_with_room(items.len())?;
         made.extend_from_slice(items);
         Ok(made)
-    }
-
-    #[inline]
-    fn try_clone(&self) -> Result<Self, AllocError>
-    where
-        T: Copy,
-    {
-        Self::try_from_slice(self)
     }
 }
 

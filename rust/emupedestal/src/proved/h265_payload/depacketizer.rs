@@ -57,6 +57,12 @@ impl H265Depacketizer {
         self.run.len()
     }
 
+    /// How many bytes of memory it keeps for runs: twice the open run at most, or 2^20 bytes. What
+    /// `payload` shows, and will show, is not counted.
+    pub fn run_memory(&self) -> usize {
+        self.run.memory()
+    }
+
     /// Exchanges the open run, or none, for another one. It takes no memory.
     pub fn swap_run(&mut self, run: &mut OpenRun) {
         mem::swap(&mut self.run, run);
@@ -65,9 +71,9 @@ impl H265Depacketizer {
     /// Gives up the open run, if there is one, and gives its buffer back, and the memory that is kept
     /// for what `payload` will show. It takes no memory.
     ///
-    /// A run grows by every fragment until one ends it, and its buffer is kept for later runs: a
-    /// caller that will not hold so much asks `run_len` and calls this. Fragments that follow
-    /// without a start are accepted and complete nothing.
+    /// A run grows by every fragment until one ends it: a caller that will not hold so much asks
+    /// `run_len` and calls this. Fragments that follow without a start are accepted and complete
+    /// nothing. A run that ends leaves its buffer for later ones, if that has 2^20 bytes at most.
     pub fn give_up_run(&mut self) {
         self.run.give_up();
         self.spare.free();

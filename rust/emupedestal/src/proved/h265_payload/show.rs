@@ -87,7 +87,7 @@ fn prepare_others(has_donl: bool, bytes: &[u8], spare: &mut Spare) -> Result<(),
 }
 
 /// Shows a packet for which all is ready. What was shown before is changed in place where it is of
-/// the same kind, and its memory is spare then.
+/// the same kind, and its memory is spare then; that of its data only if it isn't too much.
 pub(crate) fn show(
     has_donl: bool,
     packet: &[u8],
@@ -104,6 +104,7 @@ pub(crate) fn show(
             show_words(has_donl, packet, payload, spare);
         }
     }
+    spare.limit_data();
 }
 
 /// Shows this; the memory of what was shown before is spare then.

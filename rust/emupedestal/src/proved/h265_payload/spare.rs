@@ -18,6 +18,9 @@ const MOST_BYTES: usize = 1500;
 /// For how many units a list that is kept may have room.
 const MOST_ROOM: usize = 256;
 
+/// How many bytes of memory are kept for the next packet's data: sixteen of the largest packets.
+const MOST_DATA: usize = 1_048_576;
+
 /// Memory of packets that were shown before. What the next packet is shown by is put there first,
 /// and changes places with what is shown when nothing can fail any more.
 pub struct Spare {
@@ -84,6 +87,14 @@ impl Spare {
     /// Takes the data out.
     pub fn take_data(&mut self) -> Vec<u8> {
         mem::take(&mut self.data)
+    }
+
+    /// Frees the memory of the data where it is more than is kept.
+    #[inline]
+    pub fn limit_data(&mut self) {
+        if self.data.capacity() > MOST_DATA {
+            self.data = Vec::new();
+        }
     }
 
     /// Keeps the memory of a few of the further units, for the next aggregate.

@@ -7,10 +7,59 @@ use crate::proved::h26x_core::PacketError;
 use crate::support::{AppendBytes, TryVec};
 use alloc::vec::Vec;
 
-/// The data of an open run, in a buffer that a closed one keeps.
+/// How many bytes of memory a run may have whatever it holds, sixteen of the largest packets: so many a
+/// closed one keeps at most.
+const KEPT: usize = 1_048_576;
+
+/// How many bytes of memory a run of so many bytes may have.
+#[inline]
+fn most_memory(len: usize) -> usize {
+    KEPT.max(len.saturating_mul(2))
+}
+
+/// Memory of so many bytes, with two lists of data one behind the other at its front. It asks once.
+fn memory_of(size: usize, front: &[u8], body: &[u8]) -> Result<Vec<u8>, PacketError> {
+    let mut memory = Vec::try_with_room(size)?;
+    memory.append_bytes(front);
+    memory.append_bytes(body);
+    memory.resize(size, 0);
+    if memory.capacity() > size {
+        return Err(PacketError::OutOfMemory);
+    }
+    Ok(memory)
+}
+
+/// Writes these data over those from here on.
+#[inline]
+fn put_at(bytes: &mut [u8], at: usize, body: &[u8]) {
+    bytes[at..at + body.len()].copy_from_slice(body);
+}
+
+/// Has these data in a buffer from here on. Where it is too small or too large another one takes its
+/// place, twice as large as one that was too small. The answer is where they end.
+#[inline]
+fn put(bytes: &mut Vec<u8>, at: usize, body: &[u8]) -> Result<usize, PacketError> {
+    let room = bytes.len();
+    let end = at + body.len();
+    if end > room || bytes.capacity() > most_memory(end) {
+        let size = if end > room {
+            end.max(room.saturating_mul(2))
+        } else {
+            end
+        };
+        *bytes = memory_of(size, &bytes[..at], body)?;
+    } else {
+        put_at(bytes, at, body);
+    }
+    Ok(end)
+}
+
+/// The data of an open run, in a buffer that a closed one keeps, of `KEPT` bytes at most.
 #[derive(Clone)]
 pub struct OpenRun {
+    /// As many bytes as the buffer has memory, the data at its front.
     bytes: Vec<u8>,
+    len: usize,
     is_open: bool,
 }
 
@@ -20,6 +69,7 @@ impl core::fmt::Debug for OpenRun {
         use crate::support::Count;
         f.debug_struct("OpenRun")
             .field("bytes", &Count(self.bytes.len()))
+            .field("len", &self.len)
             .field("is_open", &self.is_open)
             .finish()
     }
@@ -30,16 +80,14 @@ impl OpenRun {
     pub fn none() -> Self {
         OpenRun {
             bytes: Vec::new(),
+            len: 0,
             is_open: false,
         }
     }
 
     /// Begins a run anew with these data.
     pub fn begin(&mut self, body: &[u8]) -> Result<(), PacketError> {
-        self.bytes
-            .try_reserve(body.len().saturating_sub(self.bytes.len()))?;
-        self.bytes.clear();
-        self.bytes.append_bytes(body);
+        self.len = put(&mut self.bytes, 0, body)?;
         self.is_open = true;
         Ok(())
     }
@@ -51,34 +99,39 @@ impl OpenRun {
 
     /// The data of the run; none where none is open.
     pub fn bytes(&self) -> &[u8] {
-        self.bytes.as_slice()
+        &self.bytes[..self.len]
     }
 
     /// How many bytes the run holds; none where none is open.
     pub fn len(&self) -> usize {
-        self.bytes.len()
+        self.len
+    }
+
+    /// How many bytes of memory its buffer has, data or not: twice its data at most, or 2^20.
+    pub fn memory(&self) -> usize {
+        self.bytes.capacity()
     }
 
     /// The same, if a run is open.
     #[inline]
     pub fn open_len(&self) -> Option<usize> {
-        if self.is_open {
-            Some(self.bytes.len())
-        } else {
-            None
-        }
+        if self.is_open { Some(self.len) } else { None }
     }
 
     /// Adds these data to the open run.
     pub(crate) fn extend(&mut self, body: &[u8]) -> Result<(), PacketError> {
-        self.bytes.try_extend_from_slice(body)?;
+        self.len = put(&mut self.bytes, self.len, body)?;
         Ok(())
     }
 
-    /// Closes the run.
+    /// Closes the run. Memory over `KEPT` bytes goes back.
     pub fn close(&mut self) {
-        self.bytes.clear();
-        self.is_open = false;
+        if self.bytes.capacity() > KEPT {
+            self.give_up();
+        } else {
+            self.len = 0;
+            self.is_open = false;
+        }
     }
 
     /// Closes the run and gives back its buffer.
@@ -91,16 +144,15 @@ impl OpenRun {
         if !self.is_open {
             return Ok(OpenRun::none());
         }
-        Ok(OpenRun {
-            bytes: self.bytes.try_clone()?,
-            is_open: self.is_open,
-        })
+        let mut run = OpenRun::none();
+        run.begin(self.bytes())?;
+        Ok(run)
     }
 }
 
 impl PartialEq for OpenRun {
     fn eq(&self, other: &Self) -> bool {
-        self.is_open == other.is_open && self.bytes == other.bytes
+        self.is_open == other.is_open && self.bytes() == other.bytes()
     }
 }
 
