@@ -1,6 +1,6 @@
 //! A depacketizer of one of the codecs, chosen when it is made.
 
-ghost use Rattle.std.specs.Prelude.{◌≡◌, [], ◌∷◌, false, Some, None, Err, IfOk, IsOk, OnErr, OnOk, true, refl};
+ghost use Rattle.std.specs.Prelude.{◌≡◌, ◌≤◌, [], ◌∷◌, false, Some, None, Err, IfOk, IsOk, OnErr, OnOk, true, refl};
 ghost use Rattle.std.specs.Option.{option_map};
 ghost use Rattle.h26x_core.specs.Front.{IsFrontOf};
 ghost use Rattle.h26x_core.specs.H264AccessUnit.{may_begin_h264};
@@ -8,8 +8,10 @@ ghost use Rattle.h26x_core.specs.Hint.{size_hint};
 ghost use Rattle.h26x_model.specs.Payload.TwoBytes.{is_two_byte_fragment};
 ghost use Rattle.h26x_model.specs.Receive.Outcome.{is_startless};
 ghost use Rattle.h26x_model.specs.Receive.DepacketizerState.{after_packets, IsPacketOutcome};
+ghost use Rattle.h26x_model.specs.Receive.RunLimit.{run_len};
 ghost use Rattle.h26x_payload.specs.AccessUnit.{may_begin, is_last};
 ghost use Rattle.h26x_payload.specs.DepacketizerView.{DepacketizerView};
+ghost use Rattle.h26x_payload.specs.Run.{run_memory};
 ghost use Rattle.h26x_payload.specs.UnitSink.{bytes_brought, grown_to, IsRoomTold};
 ghost use Rattle.h264_payload.specs.declared.packetizer.H264.{H264};
 ghost use Rattle.h264_payload.specs.H264.{h264};
@@ -72,6 +74,18 @@ impl AnyDepacketizer {
             AnyDepacketizer::H264(_) => Codec::H264,
             AnyDepacketizer::H265(_) => Codec::H265,
             AnyDepacketizer::H266(_) => Codec::H266,
+        }
+    }
+
+    /// How many bytes of memory it keeps for runs: twice the open run at most, or 2^20 bytes. Of H.265
+    /// what `shown` shows, and will show, is not counted.
+    pub fn run_memory(&self) -> usize
+        ensures { result ≤ run_memory (run_len (any_depacketizer_state self.now).run) }
+    {
+        match self {
+            AnyDepacketizer::H264(it) => it.run_memory(),
+            AnyDepacketizer::H265(it) => it.run_memory(),
+            AnyDepacketizer::H266(it) => it.run_memory(),
         }
     }
 

@@ -1,10 +1,12 @@
 //! A depacketizer of one of the codecs, chosen when it is made, which shows no packet.
 
-ghost use Rattle.std.specs.Prelude.{◌≡◌, ◌↔◌, [], ◌∷◌, false, Some, None, Err, IfOk, IsOk, IsTrue, OnErr, OnOk, true, refl};
+ghost use Rattle.std.specs.Prelude.{◌≡◌, ◌≤◌, ◌↔◌, [], ◌∷◌, false, Some, None, Err, IfOk, IsOk, IsTrue, OnErr, OnOk, true, refl};
 ghost use Rattle.h26x_core.specs.Front.{IsFrontOf};
 ghost use Rattle.h26x_core.specs.Hint.{size_hint};
 ghost use Rattle.h26x_model.specs.Receive.Outcome.{is_startless};
 ghost use Rattle.h26x_model.specs.Receive.DepacketizerState.{after_packets, depacketizer_meaning, IsPacketOutcome};
+ghost use Rattle.h26x_model.specs.Receive.RunLimit.{run_len};
+ghost use Rattle.h26x_payload.specs.Run.{run_memory};
 ghost use Rattle.h26x_payload.specs.OpenText.{IsSameText, text_depacketization, met_depacketization};
 ghost use Rattle.h26x_payload.specs.UnitSink.{bytes_brought, grown_to, IsRoomTold};
 ghost use Rattle.h26x_codec.specs.Codec.{codec_format};
@@ -77,6 +79,14 @@ impl AnyPayloadDepacketizer {
         ensures { result ≡ self.now.codec }
     {
         self.codec
+    }
+
+    /// How many bytes of memory it keeps for runs: twice the open run at most, or 2^20 bytes. It keeps
+    /// no other memory.
+    pub fn run_memory(&self) -> usize
+        ensures { result ≤ run_memory (run_len self.now.run) }
+    {
+        self.run.memory()
     }
 
     /// The same depacketizer again, with its open run. With none it takes no memory.

@@ -51,11 +51,12 @@ fn put_at(bytes: &mut [u8], at: usize, body: &[u8])
     bytes[at..at + body.len()].copy_from_slice(body);
 }
 
-/// Has these data in a buffer from here on. Where it is too small or too large another one takes its
-/// place, twice as large as one that was too small. The answer is where they end.
+/// Has these data in a buffer from here on. Where it is too small another one takes its place, at least
+/// twice as large. The answer is where they end.
 #[inline]
 fn put(bytes: &mut Vec<u8>, at: usize, body: &[u8]) -> Result<usize, PacketError>
-    requires { at ≤ length bytes.old.items }
+    requires within { at ≤ length bytes.old.items }
+    requires memory { vec_capacity bytes.old ≤ run_memory (at + length body.now) }
     ensures outcome { OnErr result (result ≡ Err PacketError.OutOfMemory) }
     ensures end { IfOk result (λ end. end ≡ at + length body.now) }
     ensures within { OnOk result (at + length body.now ≤ length bytes.new.items) }
@@ -66,12 +67,8 @@ fn put(bytes: &mut Vec<u8>, at: usize, body: &[u8]) -> Result<usize, PacketError
 {
     let room = bytes.len();
     let end = at + body.len();
-    if end > room || bytes.capacity() > most_memory(end) {
-        let size = if end > room {
-            end.max(room.saturating_mul(2))
-        } else {
-            end
-        };
+    if end > room {
+        let size = end.max(room.saturating_mul(2));
         let alloc = *bytes.allocator();
         *bytes = memory_of(alloc, size, &bytes[..at], body)?;
     } else {
@@ -113,13 +110,19 @@ impl OpenRun {
         }
     }
 
-    /// Begins a run anew with these data.
+    /// Begins a run anew with these data. A buffer that is too large for them goes back.
     pub fn begin(&mut self, body: &[u8]) -> Result<(), PacketError>
         ensures outcome { (result ≡ Ok tt) ⊎ (result ≡ Err PacketError.OutOfMemory) }
         ensures run { OnOk result (self.new ≡ Some body.now) }
         ensures kept { OnErr result (self.new ≡ self.old) }
     {
-        self.len = put(&mut self.bytes, 0, body)?;
+        if self.bytes.capacity() > most_memory(body.len()) {
+            let alloc = *self.bytes.allocator();
+            self.bytes = memory_of(alloc, body.len(), &[], body)?;
+            self.len = body.len();
+        } else {
+            self.len = put(&mut self.bytes, 0, body)?;
+        }
         self.is_open = true;
         Ok(())
     }
@@ -172,6 +175,7 @@ impl OpenRun {
     }
 
     /// Closes the run. Memory over `KEPT` bytes goes back.
+    #[inline]
     pub fn close(&mut self)
         ensures { self.new ≡ None }
     {

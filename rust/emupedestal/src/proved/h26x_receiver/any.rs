@@ -44,6 +44,16 @@ impl AnyDepacketizer {
         }
     }
 
+    /// How many bytes of memory it keeps for runs: twice the open run at most, or 2^20 bytes. Of H.265
+    /// what `shown` shows, and will show, is not counted.
+    pub fn run_memory(&self) -> usize {
+        match self {
+            AnyDepacketizer::H264(it) => it.run_memory(),
+            AnyDepacketizer::H265(it) => it.run_memory(),
+            AnyDepacketizer::H266(it) => it.run_memory(),
+        }
+    }
+
     /// The same depacketizer again, with its open run.
     pub fn try_clone(&self) -> Result<Self, PacketError> {
         match self {

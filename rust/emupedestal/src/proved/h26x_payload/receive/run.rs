@@ -35,18 +35,14 @@ fn put_at(bytes: &mut [u8], at: usize, body: &[u8]) {
     bytes[at..at + body.len()].copy_from_slice(body);
 }
 
-/// Has these data in a buffer from here on. Where it is too small or too large another one takes its
-/// place, twice as large as one that was too small. The answer is where they end.
+/// Has these data in a buffer from here on. Where it is too small another one takes its place, at least
+/// twice as large. The answer is where they end.
 #[inline]
 fn put(bytes: &mut Vec<u8>, at: usize, body: &[u8]) -> Result<usize, PacketError> {
     let room = bytes.len();
     let end = at + body.len();
-    if end > room || bytes.capacity() > most_memory(end) {
-        let size = if end > room {
-            end.max(room.saturating_mul(2))
-        } else {
-            end
-        };
+    if end > room {
+        let size = end.max(room.saturating_mul(2));
         *bytes = memory_of(size, &bytes[..at], body)?;
     } else {
         put_at(bytes, at, body);
@@ -85,9 +81,14 @@ impl OpenRun {
         }
     }
 
-    /// Begins a run anew with these data.
+    /// Begins a run anew with these data. A buffer that is too large for them goes back.
     pub fn begin(&mut self, body: &[u8]) -> Result<(), PacketError> {
-        self.len = put(&mut self.bytes, 0, body)?;
+        if self.bytes.capacity() > most_memory(body.len()) {
+            self.bytes = memory_of(body.len(), &[], body)?;
+            self.len = body.len();
+        } else {
+            self.len = put(&mut self.bytes, 0, body)?;
+        }
         self.is_open = true;
         Ok(())
     }
@@ -125,6 +126,7 @@ impl OpenRun {
     }
 
     /// Closes the run. Memory over `KEPT` bytes goes back.
+    #[inline]
     pub fn close(&mut self) {
         if self.bytes.capacity() > KEPT {
             self.give_up();
