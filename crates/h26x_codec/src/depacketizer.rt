@@ -85,9 +85,9 @@ impl CodecDepacketizer {
     /// memory that is kept for what `payload` will show; one in a box stays as it is. It takes no
     /// memory.
     ///
-    /// A run grows by every fragment until one ends it, and its buffer is kept for later runs: a
-    /// caller that will not hold so much calls this. Fragments that follow without a start are
-    /// accepted and complete nothing.
+    /// A run grows by every fragment until one ends it: a caller that will not hold so much calls
+    /// this. Fragments that follow without a start are accepted and complete nothing. A run that ends
+    /// leaves its buffer for later ones, if that has 2^20 bytes at most.
     pub fn give_up_run(&mut self)
         ensures { self.new ≡ without_run self.old }
     {

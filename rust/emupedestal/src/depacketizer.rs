@@ -53,8 +53,8 @@ macro_rules! depacketizer {
             ///
             /// A fragment that starts a unit opens it, each later one adds its data, and it stays open
             /// until a fragment ends it or another starts one. There is no limit, so a peer that never
-            /// ends a unit makes the buffer as long as all that it sends; and the buffer is kept for
-            /// later units, as large as the longest so far. So a caller calls this
+            /// ends a unit makes the buffer as long as all that it sends; one of 2^20 bytes at most is
+            /// kept for later units. So a caller calls this
             ///
             /// - where a packet is missing by its sequence number: else the unit is written without
             ///   that one's data;

@@ -94,9 +94,8 @@ pub trait Depacketizer: fmt::Debug {
     /// # What a peer can make it hold
     ///
     /// The data of an open unit (the reassembly buffer): there is no limit, so a peer that starts a
-    /// unit and never ends it makes the buffer as long as all that it sends. It is kept for later
-    /// units, as large as the longest so far. `give_up_run` frees it; a `SequencedDepacketizer` has a
-    /// limit.
+    /// unit and never ends it makes the buffer as long as all that it sends. One of 2^20 bytes at most
+    /// is kept for later units. `give_up_run` frees it; a `SequencedDepacketizer` has a limit.
     fn depacketize(
         &mut self,
         packet: &[u8],
