@@ -173,6 +173,34 @@ fn no_peer_makes_a_receiver_hold_more() {
     }
 }
 
+/// A run's buffer is at most twice as large as its data, and when it has ended of `KEPT` bytes.
+#[test]
+fn a_long_unit_leaves_no_long_buffer() {
+    const KEPT: usize = 1 << 20;
+    const FRAGMENTS: usize = 50;
+    for codec in [Codec::H264, Codec::H265, Codec::H266] {
+        let shown = if codec == Codec::H265 { 4 * PACKET } else { 0 };
+        let mut receiver = SequencedDepacketizer::new(codec, usize::MAX);
+        let mut out = Vec::with_capacity((FRAGMENTS + 1) * PACKET);
+        let mut packet = fragment(codec, true);
+        let before = HELD.get();
+        for i in 1..=FRAGMENTS {
+            let ends = i == FRAGMENTS;
+            packet[if codec == Codec::H264 { 1 } else { 2 }] |= if ends { 0x40 } else { 0 };
+            let answer = receiver.receive(i as u16, &packet, &mut out, &mut CodecExtra::None);
+            assert!(answer.is_ok_and(|it| it.is_taken()), "{answer:?}");
+            let run = if ends { 0 } else { i * PACKET };
+            let held = (HELD.get() - before) as usize;
+            assert!(
+                held <= KEPT.max(2 * run) + shown + SMALL,
+                "{codec:?}: {held} at {i}"
+            );
+            packet = fragment(codec, false);
+        }
+        assert!(out.len() > 3 * KEPT, "{codec:?}");
+    }
+}
+
 /// A receiver of access units shows no packet: once one was given out nothing is kept of its packets.
 #[test]
 fn a_receiver_of_access_units_keeps_nothing_to_show() {
