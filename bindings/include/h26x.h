@@ -292,8 +292,9 @@ H26X_API uint32_t h26x_depacketizer_set_numbers(h26x_depacketizer *d, bool numbe
  *   hides an IDR picture, of which *extra doesn't tell. Take such packets with `avc`, and ask h26x_unit_is_plain.
  * - A peer that never ends a unit makes the open unit as long as all it sends: h26x_receive has a limit; else add up
  *   the lengths of the fragments since one had its S bit, and call h26x_give_up_run. What was written is held too, as
- *   large as the longest so far; and of H.265 the packet shown, a buffer as large, and under half a megabyte for units
- *   of aggregates, which h26x_give_up_run and h26x_receiver_restart free. */
+ *   large as the longest so far, and of H.265 the packet shown. Beside these stay 1 MiB at most for the next unit, and
+ *   of H.265 as much for the next packet and under half a megabyte for units of aggregates: h26x_give_up_run and
+ *   h26x_receiver_restart free them. */
 H26X_API uint32_t h26x_depacketize(h26x_depacketizer *d, bool avc, const uint8_t *packet, size_t packet_len,
                                    uint8_t *to, size_t room, size_t *written, uint8_t *extra,
                                    h26x_refusal *why) H26X_MUST_USE;
