@@ -6,6 +6,7 @@ pub mod MemoryLemmas
 pub mod NumberLemmas
 pub mod ParameterLemmas
 pub mod PlacementLemmas
+pub mod SdpValueLemmas
 pub mod SkipLemmas
 pub mod KeptUnitsLemmas
 pub mod UnitCaseLemmas

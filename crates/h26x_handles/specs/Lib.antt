@@ -5,6 +5,7 @@ pub mod Endpoint
 pub mod States
 pub mod SdpCodes
 pub mod Sdp
+pub mod SdpValues
 pub mod Shown
 pub mod PlacementAnswer
 pub mod UnitsState

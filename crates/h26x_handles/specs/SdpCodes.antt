@@ -12,9 +12,14 @@ use Rattle.h26x_sdp.specs.declared.error.UnitsError.{UnitsError}
 use Rattle.h26x_sdp.specs.declared.error.UnitsError.TheVariants as u
 use Rattle.h26x_sdp.specs.declared.error.StreamError.{StreamError}
 use Rattle.h26x_sdp.specs.declared.error.StreamError.TheVariants as s
+use Rattle.h26x_sdp.specs.declared.error.CapabilityPointsError.{CapabilityPointsError}
+use Rattle.h26x_sdp.specs.declared.error.CapabilityPointsError.TheVariants as b
+use Rattle.h26x_sdp.specs.declared.error.ConstraintsError.{ConstraintsError}
+use Rattle.h26x_sdp.specs.declared.error.ConstraintsError.TheVariants as t
 use Rattle.h26x_sdp.specs.declared.rtp_map.RtpMapError.{RtpMapError}
 use Rattle.h26x_sdp.specs.declared.rtp_map.RtpMapError.TheVariants as m
 use Rattle.h26x_handles.specs.declared.sdp_code.Refused.{Refused}
+use Rattle.h26x_handles.specs.declared.sdp_code.PointRefused.{PointRefused}
 use Rattle.h26x_handles.specs.Codes.{out_of_memory}
 
 -- the RFC has no parameter of a name
@@ -62,6 +67,30 @@ units_refused (u.Empty place) = record { code = 30; place = place }
 units_refused (u.OtherType place) = record { code = 31; place = place }
 units_refused (u.StartCode place) = record { code = 32; place = place }
 units_refused u.OutOfMemory = refused_with out_of_memory
+
+-- a code that is of no capability point
+abbrev pub point_refused_with : ℕ → PointRefused
+point_refused_with code = record { code = code; place = 0; fault = 0 }
+
+-- a code that is of the point at a place, and the code of what is wrong there
+abbrev pub point_refused_at : ℕ → ℕ → ℕ → PointRefused
+point_refused_at code place fault = record { code = code; place = place; fault = fault }
+
+-- why a text is no capability points
+abbrev pub points_refused : CapabilityPointsError → PointRefused
+points_refused b.NoBraces = point_refused_with 41
+points_refused (b.NoTool place) = point_refused_at 42 place 0
+points_refused (b.Segmentation place fault) = point_refused_at 43 place (fault_code fault)
+points_refused (b.Limits place fault) = point_refused_at 44 place (parameters_refused fault).code
+points_refused (b.NoLimit place) = point_refused_at 45 place 0
+points_refused b.OutOfMemory = point_refused_with out_of_memory
+
+-- why a text is no constraints of H.266
+abbrev pub constraints_code : ConstraintsError → ℕ
+constraints_code t.NotBase64 = 46
+constraints_code t.Short = 47
+constraints_code t.Long = 48
+constraints_code t.OutOfMemory = out_of_memory
 
 -- why a stream says no parameters
 abbrev pub stream_code : StreamError → ℕ
