@@ -8,10 +8,15 @@ use Rattle.h26x_sdp.specs.RtpMaps.{rtp_map_text}
 use Rattle.h26x_sdp.specs.declared.rtp_map.RtpMap.{RtpMap}
 use Rattle.h26x_sdp.specs.declared.rtp_map.RtpMapError.{RtpMapError}
 use Rattle.h26x_handles.specs.Codes.{codec_with_number, ok, out_of_memory, unknown_codec, wrong_end, no_room}
-use Rattle.h26x_handles.specs.Copies.{with_front}
-use Rattle.h26x_handles.specs.SdpCodes.{absent, no_payload_type, refused_with, rtp_map_code, codec_number, encoding_codec, codec_encoding}
+use Rattle.h26x_handles.specs.Copies.{with_front, with_first}
+use Rattle.h26x_handles.specs.SdpCodes.{absent, no_payload_type, refused_with, point_refused_with, rtp_map_code, codec_number, encoding_codec, codec_encoding}
 use Rattle.h26x_handles.specs.Sdp.{sdp_codec, sdp_answer, sdp_units, sdp_others}
+use Rattle.h26x_handles.specs.SdpValues.{sdp_points, constraints_bytes, constraint_numbers}
+use Rattle.h26x_handles.specs.declared.sdp_code.PointRefused.{PointRefused}
 use Rattle.h26x_handles.specs.declared.sdp_code.Refused.{Refused}
+use Rattle.h26x_handles.specs.declared.sdp_values.SdpConstraints.{SdpConstraints}
+use Rattle.h26x_handles.specs.declared.sdp_values.ConstraintNumbers.{ConstraintNumbers}
+use Rattle.h26x_handles.specs.declared.sdp_values.PointNumbers.{PointNumbers}
 use Rattle.h26x_handles.specs.declared.sdp.SdpEndpoint.{SdpEndpoint}
 use Rattle.h26x_handles.specs.declared.endpoint.Endpoint.{Endpoint}
 use Rattle.h26x_handles.specs.declared.endpoint.Endpoint.TheVariants as e
@@ -89,6 +94,26 @@ pair_code (Ok it) name value =
     if nat_le (length it.name) (length name) && nat_le (length it.value) (length value) then ok
     else no_room
 pair_code (Err code) name value = code
+
+-- a code, a buffer with the first bytes of constraints at its front, as many as there is room for,
+-- and what they say; where there are none both stay
+abbrev pub constraints_answer : Result SdpConstraints ℕ → List ℕ → ConstraintNumbers →
+    ℕ × (List ℕ × ConstraintNumbers)
+constraints_answer (Ok it) room said =
+    (ok, (with_first (constraints_bytes it) room, constraint_numbers it))
+constraints_answer (Err code) room said = (code, (room, said))
+
+-- the capability points in numbers, or why there are none
+abbrev pub endpoint_sdp_points : Endpoint → Bool → Result (List PointNumbers) PointRefused
+endpoint_sdp_points (e.Sdp it) or_default = sdp_points it or_default
+endpoint_sdp_points it or_default = Err (point_refused_with wrong_end)
+
+-- a code, a buffer with the first of them at its front, as many as there is room for, and how many
+-- they all are; where there are none both stay
+abbrev pub points_answer : Result (List PointNumbers) PointRefused → List PointNumbers → ℕ →
+    ℕ × (List PointNumbers × ℕ)
+points_answer (Ok points) room count = (ok, (with_first points room, length points))
+points_answer (Err it) room count = (it.code, (room, count))
 
 -- a payload type and its codec as they are read; where they aren't, both stay
 abbrev pub rtp_map_answer : Result RtpMap RtpMapError → ℕ → ℕ → ℕ × (ℕ × ℕ)

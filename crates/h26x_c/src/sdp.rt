@@ -6,10 +6,12 @@ ghost use Rattle.h26x_cut.specs.Cutting.{AreUnits};
 ghost use Rattle.h26x_codec.specs.Repeating.{zero_rule};
 ghost use Rattle.h26x_codec.specs.declared.codec.Codec.{Codec};
 ghost use Rattle.h26x_sdp.specs.Pairs.{Pair};
+ghost use Rattle.h26x_handles.specs.declared.sdp_code.PointRefused.{PointRefused};
 ghost use Rattle.h26x_handles.specs.declared.sdp_code.Refused.{Refused};
 ghost use Rattle.h26x_handles.specs.Codes.{codec_with_number, ok, out_of_memory, unknown_codec, wrong_end};
 ghost use Rattle.h26x_handles.specs.Copies.{with_front};
 ghost use Rattle.h26x_handles.specs.Sdp.{sdp_read, sdp_of_units, sdp_text, sdp_value, sdp_number, sdp_max_don_diff};
+ghost use Rattle.h26x_handles.specs.SdpValues.{sdp_constraints};
 ghost use Rattle.h26x_c.specs.Sdp as spec;
 
 use crate::const_handle::ConstHandle;
@@ -17,10 +19,13 @@ use crate::copied::copy_out;
 use crate::handle::Handle;
 use crate::place::{Place, put};
 use h26x_handles::code::{NO_ROOM, OK, OUT_OF_MEMORY, Refusal, UNKNOWN_CODEC, WRONG_END, codec_of};
-use h26x_handles::copy::copy_where_room;
+use h26x_handles::copy::{copy_first, copy_where_room};
 use h26x_handles::endpoint::Endpoint;
 use h26x_handles::sdp::SdpEndpoint;
-use h26x_handles::sdp_code::{ABSENT, Refused, number_of_codec, refused_with};
+use h26x_handles::sdp_code::{
+    ABSENT, PointRefused, Refused, number_of_codec, point_refused_with, refused_with,
+};
+use h26x_handles::sdp_values::{ConstraintNumbers, PointNumbers};
 use std::alloc::Global;
 
 /// Tells the place of a refusal; its code.
@@ -33,6 +38,18 @@ fn tell(refused: Refused, why: &mut Refusal) -> u32
         second: 0,
     };
     refused.code
+}
+
+/// Tells the place of a capability point that is refused, and what is wrong there; its code.
+fn tell_of_point(point: PointRefused, why: &mut Refusal) -> u32
+    ensures code { result ≡ point.code }
+    ensures place { why.new ≡ record { first = point.place; second = point.fault } }
+{
+    *why = Refusal {
+        first: point.place,
+        second: point.fault as usize,
+    };
+    point.code
 }
 
 /// Makes format parameters of what stands behind the payload type in an `a=fmtp` line.
@@ -302,5 +319,64 @@ pub extern "C" fn h26x_sdp_max_don_diff(h: &ConstHandle, value: &mut u32) -> u32
             OK
         }
         Err(code) => code,
+    }
+}
+
+/// What `interop-constraints` says, or where it's absent what the RFC takes for it, and its first
+/// bytes, as many as there is room for.
+#[unsafe(no_mangle)]
+pub extern "C" fn h26x_sdp_constraints(
+    alloc: Global,
+    h: &ConstHandle,
+    to: &mut [u8],
+    said: &mut ConstraintNumbers,
+) -> u32
+    ensures wrong { spec.is_sdp h.now.value ≡ false → result ≡ wrong_end }
+    ensures answer { (result ≡ out_of_memory) ⊎ ((result, (to.new, said.new))
+        ≡ spec.constraints_answer (spec.at_sdp h.now.value sdp_constraints) to.old said.old) }
+    ensures kept { result ≢ ok → (to.new ≡ to.old) × (said.new ≡ said.old) }
+{
+    let Endpoint::Sdp(it) = h.get() else {
+        return WRONG_END;
+    };
+    match it.constraints(alloc) {
+        Ok(constraints) => {
+            copy_first(constraints.as_bytes(), to);
+            *said = constraints.numbers();
+            OK
+        }
+        Err(code) => code,
+    }
+}
+
+/// The first capability points of `dec-parallel-cap`, as many as there is room for, each as it
+/// stands, or with the limits that it leaves out; and how many they all are.
+#[unsafe(no_mangle)]
+pub extern "C" fn h26x_sdp_capability_points(
+    alloc: Global,
+    h: &ConstHandle,
+    or_default: bool,
+    points: &mut [PointNumbers],
+    count: &mut usize,
+    why: &mut Refusal,
+) -> u32
+    ensures wrong { spec.is_sdp h.now.value ≡ false → result ≡ wrong_end }
+    ensures answer { (result ≡ out_of_memory) ⊎ ((result, (points.new, count.new))
+        ≡ spec.points_answer (spec.endpoint_sdp_points h.now.value or_default) points.old
+        count.old) }
+    ensures place { (it : PointRefused) → spec.endpoint_sdp_points h.now.value or_default ≡ Err it →
+        (result ≡ out_of_memory) ⊎ (why.new ≡ record { first = it.place; second = it.fault }) }
+    ensures kept { result ≢ ok → (points.new ≡ points.old) × (count.new ≡ count.old) }
+    ensures kept_why { result ≡ ok → why.new ≡ why.old }
+{
+    let Endpoint::Sdp(it) = h.get() else {
+        return tell_of_point(point_refused_with(WRONG_END), why);
+    };
+    match it.capability_points(alloc, or_default, points) {
+        Ok(all) => {
+            *count = all;
+            OK
+        }
+        Err(refused) => tell_of_point(refused, why),
     }
 }
