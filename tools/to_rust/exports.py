@@ -4,7 +4,7 @@
 |---|---|---|
 | `#[unsafe(no_mangle)] pub extern "C" fn h26x_x(..)` | `pub fn h26x_x(..)` of the same body; in a module `exports` of the crate a function of C's form that calls it | the body stays safe, and all that C gives is taken in one file |
 | `x: &[u8]` of an export | `x: *const u8, x_len: usize`, then `bytes(x, x_len)` | NULL has length 0 |
-| `to: &mut [u8]`, `name_to: &mut [u8]`, `ends: &mut [usize]`, `numbers: &mut [u16]`, `packet: &mut [u8]` | the same, as `room`, `name_room`, `ends_room`, `numbers_room` and `packet_len`, then `room(..)` | as the header names them |
+| `to: &mut [u8]`, `name_to: &mut [u8]`, `ends: &mut [usize]`, `numbers: &mut [u16]`, `points: &mut [PointNumbers]`, `packet: &mut [u8]` | the same, as `room`, `name_room`, `ends_room`, `numbers_room`, `points_room` and `packet_len`, then `room(..)` | as the header names them; a struct of `ENTRIES` is of numbers alone, so that any memory is one |
 | `x: &Config` of an export | `x: *const Config`, then `shared(x)` | it is there |
 | `x: &mut usize`, and the other types of `OUTPUTS`, which nothing reads; of all functions of the crates that C reaches | `x: &mut MaybeUninit<usize>`, `*x = y` is `x.write(y)`; of an export `x: *mut usize`, then `output(x, ..)` | C leaves it uninitialised; NULL isn't wanted |
 | `extra: &mut u8` of an export, which it reads | `extra: *mut u8`, then `in_out(extra, ..)` | NULL is read as 0 |
@@ -27,7 +27,9 @@ REACHED = {"h26x_handles", "h26x_c"}
 UNSAFE = {"h26x_c"}
 NUMBERS = {"u8", "u16", "u32", "u64", "usize"}
 # What a call writes for C. `Place` is where a handle is written.
-OUTPUTS = NUMBERS | {"Refusal", "Shown", "Place", "UnitTold", "Counts"}
+OUTPUTS = NUMBERS | {"Refusal", "Shown", "Place", "UnitTold", "Counts", "ConstraintNumbers"}
+# What C gives rows of to be written: numbers, and structs of nothing else.
+ENTRIES = {"u8", "u16", "usize", "PointNumbers"}
 # What a call only looks at: a handle, and what a caller sets.
 LOOKED_AT = {"ConstHandle", "Config"}
 # What the header says is in and out: C gives a number there, and of no other output.
@@ -192,7 +194,8 @@ class Exports:
         kinds = {"ConstHandle": "const_handle", "Handle": "handle", "Place": "place", "Shown": "shown",
                  "Config": "access_units", "Counts": "access_units"}
         uses += [f"pub use super::{file}::{kind};" for kind, file in kinds.items() if re.search(rf"\b{kind}\b", used)]
-        below = {"Refusal": "code", "UnitTold": "access_units"}
+        below = {"Refusal": "code", "UnitTold": "access_units", "ConstraintNumbers": "sdp_values",
+                 "PointNumbers": "sdp_values"}
         uses += [f"pub use crate::proved::h26x_handles::{file}::{kind};" for kind, file in below.items() if kind in used]
         return "\n".join([HEAD, *uses, "", *calls])
 
@@ -201,7 +204,8 @@ class Exports:
         taken, given, first = [], [], []
         for name, kind in parameters(function):
             name = NAMES.get(name.lstrip("_"), name.lstrip("_"))
-            items = re.fullmatch(r"& (mut )?\[(u8|u16|usize)\]", kind)
+            items = re.fullmatch(r"& (mut )?\[(\w+)\]", kind)
+            items = items if items and items[2] in (ENTRIES if items[1] else {"u8"}) else None
             output = re.fullmatch(r"& mut (?:MaybeUninit < (\w+) >|(\w+))", kind)
             looked_at = re.fullmatch(r"& (\w+)", kind)
             if items and items[1]:

@@ -54,10 +54,10 @@ fn cases(function: &str) -> Vec<(Option<&'static str>, Option<String>)> {
 #[test]
 fn words_of_codes() {
     let cases = cases("*h26x_strerror");
-    assert_eq!(cases.len(), 36);
+    assert_eq!(cases.len(), 44);
     for (name, answer) in cases {
         assert_eq!(
-            text(h26x_strerror(name.map_or(41, number))),
+            text(h26x_strerror(name.map_or(49, number))),
             answer,
             "{name:?}"
         );
@@ -120,6 +120,17 @@ fn structs_of_the_header() {
     assert_eq!((offset_of!(Config, unit_limit), size_of::<Config>()), (16 + 2 * word, 16 + 3 * word));
     assert_eq!((offset_of!(Counts, lost), offset_of!(Counts, units_given_up)), (8, 80));
     assert_eq!((offset_of!(Counts, texts_given_up), size_of::<Counts>()), (88, 96));
+    assert_eq!((offset_of!(ConstraintNumbers, flags), offset_of!(ConstraintNumbers, len)), (0, 8));
+    assert_eq!(offset_of!(ConstraintNumbers, frame_only), 8 + word);
+    assert_eq!(offset_of!(ConstraintNumbers, multilayer), 9 + word);
+    assert_eq!(offset_of!(ConstraintNumbers, general), 10 + word);
+    assert_eq!((offset_of!(PointNumbers, spatial_segmentation), offset_of!(PointNumbers, tier_flag)), (0, 8));
+    assert_eq!((offset_of!(PointNumbers, level_id), offset_of!(PointNumbers, max_lsr)), (16, 24));
+    assert_eq!((offset_of!(PointNumbers, max_lps), offset_of!(PointNumbers, max_br)), (32, 40));
+    assert_eq!((offset_of!(PointNumbers, tool), offset_of!(PointNumbers, has_tier_flag)), (48, 49));
+    assert_eq!((offset_of!(PointNumbers, has_level_id), offset_of!(PointNumbers, has_max_lsr)), (50, 51));
+    assert_eq!((offset_of!(PointNumbers, has_max_lps), offset_of!(PointNumbers, has_max_br)), (52, 53));
+    assert_eq!(size_of::<PointNumbers>(), 56);
 }
 
 /// NULL is a buffer of length 0, whatever length is said, an output that isn't wanted, and nothing to be freed.

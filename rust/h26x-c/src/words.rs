@@ -67,6 +67,14 @@ pub extern "C" fn h26x_strerror(code: u32) -> *const c_char {
         38 => c"the payload type is no number of 7 bits",
         39 => c"the encoding name is none of H264, H265 and H266",
         40 => c"the clock rate is not 90000",
+        41 => c"the capability points are not in braces",
+        42 => c"the capability point is for no tool",
+        43 => c"the number of the capability point is none from 1 to 4095",
+        44 => c"the limits of the capability point are refused",
+        45 => c"the capability point has no limit",
+        46 => c"the constraints are no base64",
+        47 => c"the constraints are too short",
+        48 => c"bytes stand behind the constraints",
         _ => c"unknown code",
     };
     text.as_ptr()

@@ -16,5 +16,6 @@ pub mod receiving;
 pub mod sdp;
 pub mod sdp_code;
 pub mod sdp_parameter;
+pub mod sdp_values;
 pub mod sending;
 pub mod sequenced;

@@ -14,6 +14,8 @@ pub use super::shown::Shown;
 use crate::pointers;
 pub use crate::proved::h26x_handles::access_units::UnitTold;
 pub use crate::proved::h26x_handles::code::Refusal;
+pub use crate::proved::h26x_handles::sdp_values::ConstraintNumbers;
+pub use crate::proved::h26x_handles::sdp_values::PointNumbers;
 use core::mem::MaybeUninit;
 
 #[unsafe(no_mangle)]
@@ -609,6 +611,47 @@ pub unsafe extern "C" fn h26x_sdp_max_don_diff(h: *const ConstHandle, value: *mu
         super::sdp::h26x_sdp_max_don_diff(
             pointers::shared(h),
             pointers::output(value, &mut no_value),
+        )
+    }
+}
+
+#[unsafe(no_mangle)]
+pub unsafe extern "C" fn h26x_sdp_constraints(
+    h: *const ConstHandle,
+    to: *mut u8,
+    room: usize,
+    said: *mut ConstraintNumbers,
+) -> u32 {
+    let mut no_said = MaybeUninit::uninit();
+    // SAFETY: a caller owes what the header says.
+    unsafe {
+        super::sdp::h26x_sdp_constraints(
+            pointers::shared(h),
+            pointers::room(to, room),
+            pointers::output(said, &mut no_said),
+        )
+    }
+}
+
+#[unsafe(no_mangle)]
+pub unsafe extern "C" fn h26x_sdp_capability_points(
+    h: *const ConstHandle,
+    or_default: bool,
+    points: *mut PointNumbers,
+    points_room: usize,
+    count: *mut usize,
+    why: *mut Refusal,
+) -> u32 {
+    let mut no_count = MaybeUninit::uninit();
+    let mut no_why = MaybeUninit::uninit();
+    // SAFETY: a caller owes what the header says.
+    unsafe {
+        super::sdp::h26x_sdp_capability_points(
+            pointers::shared(h),
+            or_default,
+            pointers::room(points, points_room),
+            pointers::output(count, &mut no_count),
+            pointers::output(why, &mut no_why),
         )
     }
 }

@@ -9,10 +9,13 @@ use crate::proved::h26x_c::place::{Place, put};
 use crate::proved::h26x_handles::code::{
     NO_ROOM, OK, OUT_OF_MEMORY, Refusal, UNKNOWN_CODEC, WRONG_END, codec_of,
 };
-use crate::proved::h26x_handles::copy::copy_where_room;
+use crate::proved::h26x_handles::copy::{copy_first, copy_where_room};
 use crate::proved::h26x_handles::endpoint::Endpoint;
 use crate::proved::h26x_handles::sdp::SdpEndpoint;
-use crate::proved::h26x_handles::sdp_code::{ABSENT, Refused, number_of_codec, refused_with};
+use crate::proved::h26x_handles::sdp_code::{
+    ABSENT, PointRefused, Refused, number_of_codec, point_refused_with, refused_with,
+};
+use crate::proved::h26x_handles::sdp_values::{ConstraintNumbers, PointNumbers};
 use core::mem::MaybeUninit;
 
 /// Tells the place of a refusal; its code.
@@ -22,6 +25,15 @@ fn tell(refused: Refused, why: &mut MaybeUninit<Refusal>) -> u32 {
         second: 0,
     });
     refused.code
+}
+
+/// Tells the place of a capability point that is refused, and what is wrong there; its code.
+fn tell_of_point(point: PointRefused, why: &mut MaybeUninit<Refusal>) -> u32 {
+    why.write(Refusal {
+        first: point.place,
+        second: point.fault as usize,
+    });
+    point.code
 }
 
 /// Makes format parameters of what stands behind the payload type in an `a=fmtp` line.
@@ -204,5 +216,46 @@ pub fn h26x_sdp_max_don_diff(h: &ConstHandle, value: &mut MaybeUninit<u32>) -> u
             OK
         }
         Err(code) => code,
+    }
+}
+
+/// What `interop-constraints` says, or where it's absent what the RFC takes for it, and its first
+/// bytes, as many as there is room for.
+pub fn h26x_sdp_constraints(
+    h: &ConstHandle,
+    to: &mut [u8],
+    said: &mut MaybeUninit<ConstraintNumbers>,
+) -> u32 {
+    let Endpoint::Sdp(it) = h.get() else {
+        return WRONG_END;
+    };
+    match it.constraints() {
+        Ok(constraints) => {
+            copy_first(constraints.as_bytes(), to);
+            said.write(constraints.numbers());
+            OK
+        }
+        Err(code) => code,
+    }
+}
+
+/// The first capability points of `dec-parallel-cap`, as many as there is room for, each as it
+/// stands, or with the limits that it leaves out; and how many they all are.
+pub fn h26x_sdp_capability_points(
+    h: &ConstHandle,
+    or_default: bool,
+    points: &mut [PointNumbers],
+    count: &mut MaybeUninit<usize>,
+    why: &mut MaybeUninit<Refusal>,
+) -> u32 {
+    let Endpoint::Sdp(it) = h.get() else {
+        return tell_of_point(point_refused_with(WRONG_END), why);
+    };
+    match it.capability_points(or_default, points) {
+        Ok(all) => {
+            count.write(all);
+            OK
+        }
+        Err(refused) => tell_of_point(refused, why),
     }
 }

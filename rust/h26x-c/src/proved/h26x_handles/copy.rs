@@ -26,12 +26,12 @@ pub fn put_or_keep(bytes: &mut Vec<u8>, to: &mut [u8], kept: &mut Vec<u8>) -> us
     len
 }
 
-/// Copies the first numbers to the front of a buffer, as many as there is room for; how many they all
-/// are.
-pub fn copy_first(numbers: &[u16], to: &mut [u16]) -> usize {
-    let len = cmp::min(numbers.len(), to.len());
-    to[..len].copy_from_slice(&numbers[..len]);
-    numbers.len()
+/// Copies the first entries to the front of a buffer, as many as there is room for; how many they
+/// all are.
+pub fn copy_first<T: Copy>(entries: &[T], to: &mut [T]) -> usize {
+    let len = cmp::min(entries.len(), to.len());
+    to[..len].copy_from_slice(&entries[..len]);
+    entries.len()
 }
 
 /// Where packets end that have no headroom.

@@ -5,7 +5,8 @@
 use crate::proved::h26x_codec::Codec;
 use crate::proved::h26x_handles::code::OUT_OF_MEMORY;
 use crate::proved::h26x_sdp::{
-    Encoding, Fault, ParametersError, RtpMapError, StreamError, UnitsError,
+    CapabilityPointsError, ConstraintsError, Encoding, Fault, ParametersError, RtpMapError,
+    StreamError, UnitsError,
 };
 
 /// A brace of the text isn't closed.
@@ -36,6 +37,24 @@ pub struct Refused {
 /// A code that is of no place.
 pub fn refused_with(code: u32) -> Refused {
     Refused { code, place: 0 }
+}
+
+/// A code, the place of the capability point that it is of, and the code of what is wrong there; 0
+/// where there is none.
+#[derive(Debug, Clone, Copy, PartialEq, Eq)]
+pub struct PointRefused {
+    pub code: u32,
+    pub place: usize,
+    pub fault: u32,
+}
+
+/// A code that is of no point.
+pub fn point_refused_with(code: u32) -> PointRefused {
+    PointRefused {
+        code,
+        place: 0,
+        fault: 0,
+    }
 }
 
 /// The code of a parameter's fault.
@@ -69,6 +88,29 @@ pub fn of_units(error: UnitsError) -> Refused {
         UnitsError::OtherType { place } => Refused { code: 31, place },
         UnitsError::StartCode { place } => Refused { code: 32, place },
         UnitsError::OutOfMemory => refused_with(OUT_OF_MEMORY),
+    }
+}
+
+/// Why a text is no capability points.
+pub fn of_points(error: CapabilityPointsError) -> PointRefused {
+    let (code, place, fault) = match error {
+        CapabilityPointsError::NoBraces => (41, 0, 0),
+        CapabilityPointsError::NoTool { place } => (42, place, 0),
+        CapabilityPointsError::Segmentation { place, fault } => (43, place, code_of_fault(fault)),
+        CapabilityPointsError::Limits { place, fault } => (44, place, of_parameters(fault).code),
+        CapabilityPointsError::NoLimit { place } => (45, place, 0),
+        CapabilityPointsError::OutOfMemory => (OUT_OF_MEMORY, 0, 0),
+    };
+    PointRefused { code, place, fault }
+}
+
+/// Why a text is no constraints of H.266.
+pub fn of_constraints(error: ConstraintsError) -> u32 {
+    match error {
+        ConstraintsError::NotBase64 => 46,
+        ConstraintsError::Short => 47,
+        ConstraintsError::Long => 48,
+        ConstraintsError::OutOfMemory => OUT_OF_MEMORY,
     }
 }
 
