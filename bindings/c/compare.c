@@ -36,7 +36,7 @@
     X(access_units_skip) X(access_units_next) X(access_units_deadline) X(access_units_missing)     \
     X(access_units_finish) X(access_units_restart) X(access_units_count) X(sdp_answer)             \
     X(sdp_codec) X(sdp_write) X(sdp_value) X(sdp_number) X(sdp_units) X(sdp_unit) X(sdp_other)     \
-    X(sdp_max_don_diff)
+    X(sdp_max_don_diff) X(sdp_constraints) X(sdp_capability_points)
 
 struct library {
 #define POINTER(name) __typeof__(h26x_##name) *name;
@@ -97,7 +97,7 @@ struct held {
     void *at[2];
 };
 
-enum { HELD = 8, ENDS = 512, MISSING = 64, NUMBERS = 30 };
+enum { HELD = 8, ENDS = 512, MISSING = 64, POINTS = 3, NUMBERS = 35 };
 
 static struct held held[HELD];
 
@@ -260,6 +260,8 @@ struct outputs {
     h26x_access_unit unit;
     h26x_access_units_counts counts;
     uint64_t value;
+    h26x_constraints said;
+    h26x_capability_point points[POINTS];
 };
 
 #define WANTED(bit, output) ((d->wants >> (bit) & 1) != 0 ? (output) : NULL)
@@ -409,8 +411,13 @@ static uint64_t describes(int s, const struct drawn *d, struct answer *a, struct
         return l->sdp_unit(F, d->bytes, d->len, d->x % 4, to, d->room % 40, len, why);
     case CALL_sdp_other:
         return l->sdp_other(F, d->x % 4, name_to, d->y % 20, len, to, d->room % 40, WANTED(1, &o->size));
-    default:
+    case CALL_sdp_max_don_diff:
         return l->sdp_max_don_diff(F, WANTED(4, &o->number));
+    case CALL_sdp_constraints:
+        return l->sdp_constraints(F, to, d->room % 20, WANTED(6, &o->said));
+    default:
+        return l->sdp_capability_points(F, d->numbers, d->has_ends ? o->points : NULL, d->x % (POINTS + 1), len,
+                                        why);
     }
 }
 
@@ -542,18 +549,30 @@ static enum kind kind_made(enum call call)
     }
 }
 
+/* A capability point as one number. */
+static uint64_t folded(const h26x_capability_point *it)
+{
+    const uint64_t parts[] = {it->spatial_segmentation, it->tier_flag, it->level_id, it->max_lsr, it->max_lps,
+                              it->max_br, it->tool, it->has_tier_flag, it->has_level_id, it->has_max_lsr,
+                              it->has_max_lps, it->has_max_br};
+    uint64_t all = 0;
+    for (size_t i = 0; i < sizeof parts / sizeof parts[0]; i++)
+        all = (all ^ parts[i]) * 1099511628211u;
+    return all;
+}
+
 /* Gives one library a call; the pointer of a handle that it made. */
 static void *give(int s, const struct drawn *d)
 {
     struct answer *a = &answers[s];
     struct outputs o = {11, 12, d->wants >> 8 & 1 ? d->x % 3 : 0, 13, 14, {15, 16}, {17, 18, 19, 20}, 21, 22,
-                        {.len = 23}, {.taken = 24}, 25};
+                        {.len = 23}, {.taken = 24}, 25, {.flags = 26}, {{.max_br = 27}}};
     void *made = NULL;
     *a = (struct answer){.result = 0};
     memset(a->to, 0xee, sizeof a->to);
     memset(a->ends, 0xff, sizeof a->ends);
     if (d->call == CALL_codec_name || d->call == CALL_strerror) {
-        const char *text = d->call == CALL_strerror ? libraries[s].strerror(d->x % 48)
+        const char *text = d->call == CALL_strerror ? libraries[s].strerror(d->x % 56)
                                                     : libraries[s].codec_name(d->codec);
         snprintf(a->text, sizeof a->text, "%s", text != NULL ? text : "none");
     } else if (kind_made(d->call) != NONE)
@@ -577,7 +596,9 @@ static void *give(int s, const struct drawn *d)
         unit->len, unit->timestamp, unit->missing, unit->first, unit->last, unit->extra, unit->is_whole,
         unit->is_clean, unit->continues, counts->taken, counts->lost, counts->late, counts->twice,
         counts->stray, counts->refused, counts->skipped, counts->anew, counts->units, counts->whole,
-        counts->units_given_up, counts->texts_given_up};
+        counts->units_given_up, counts->texts_given_up, o.said.flags, o.said.len,
+        (uint64_t)o.said.frame_only << 2 | (uint64_t)o.said.multilayer << 1 | o.said.general, folded(&o.points[0]),
+        folded(&o.points[1]), folded(&o.points[2])};
     memcpy(a->numbers, numbers, sizeof numbers);
     return made;
 }

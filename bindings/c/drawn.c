@@ -193,7 +193,7 @@ static const char *one_of(const char *const *texts)
     return texts[below(many)];
 }
 
-/* A parameter's name and a value of it. */
+/* A parameter's name and a value of it, if it's always the same. */
 struct parameter {
     const char *name, *value;
 };
@@ -210,15 +210,26 @@ static struct parameter any_parameter(uint32_t codec)
         {"profile-id", "1"}, {"profile-id", "2"}, {"tier-flag", "0"}, {"level-id", "93"}, {"level-id", "180"},
         {"tx-mode", "SRST"}, {"sprop-vps", "QAEMAf//AWAAAAMAkAAAAw=="}, {"interop-constraints", "B00000000000"},
         {"sprop-max-don-diff", "2"}, {"sprop-depack-buf-bytes", "9"}, {"max-recv-level-id", "186"},
-        {"dec-parallel-cap", "{w:8;level-id=93}"}};
+        {"dec-parallel-cap", NULL}};
     static const struct parameter of_266[] = {
         {"profile-id", "1"}, {"profile-id", "17"}, {"tier-flag", "1"}, {"level-id", "51"}, {"level-id", "83"},
-        {"sprop-sps", "AHkACwIzgIA="}, {"sprop-dci", "AGk="}, {"sprop-ols-id", "256"}, {"interop-constraints", "gA=="},
+        {"sprop-sps", "AHkACwIzgIA="}, {"sprop-dci", "AGk="}, {"sprop-ols-id", "256"}, {"interop-constraints", NULL},
         {"sprop-max-don-diff", "0"}, {"max-lsr", "7"}, {"depack-buf-cap", "4294967295"}};
     static const struct parameter others[] = {{"x", "a=b"}, {"y", ""}, {"apt", "96"}, {"", "1"}};
     if (one_in(8))
         return others[below(4)];
     return (codec == H26X_H264 ? of_264 : codec == H26X_H265 ? of_265 : of_266)[below(12)];
+}
+
+/* Capability points, and constraints of H.266, such as there are and others. */
+static const char *drawn_value(uint32_t codec)
+{
+    static const char *const points[] = {
+        "{w:8;level-id=93}", "{t:4;max-lsr=1;max-br=2,w:4095;tier-flag=1}", "{ W : 8 ; max-lps=4294967295;x=1}",
+        "{w:8;level-id=93,t:4;level-id=90,w:1;max-br=3,t:2;max-lsr=18446744073709551615}", "{w:0;level-id=93}",
+        "{t:4;level-id=93,w:9}", "{w:8;level-id=256}", "{w:8;level-id=1;level-id=2}", "{x:8;level-id=93}", "{}", NULL};
+    static const char *const constraints[] = {"gA==", "QA==", "oIAAAAAAAAAAAX4=", "oA==", "gAA=", "gA", NULL};
+    return one_of(codec == H26X_H266 ? constraints : points);
 }
 
 static const char *any_value(void)
@@ -235,7 +246,7 @@ void draw_format(struct bytes *it, uint32_t codec)
         const struct parameter parameter = any_parameter(codec);
         add_text(it, parameter.name);
         add_text(it, one_in(20) ? "" : one_in(6) ? " = " : "=");
-        add_text(it, one_in(8) ? any_value() : parameter.value);
+        add_text(it, one_in(8) ? any_value() : parameter.value != NULL ? parameter.value : drawn_value(codec));
         add_text(it, one_in(6) ? " ;; " : one_in(3) ? "; " : ";");
     }
 }

@@ -77,6 +77,8 @@ static struct {
     uint32_t number;
     uint64_t long_number;
     h26x_refusal why;
+    h26x_constraints said;
+    h26x_capability_point points[ROOM];
 } there;
 
 /* What a call is given, and what it is to answer. */
@@ -93,6 +95,9 @@ static struct {
     uint32_t *number;
     uint64_t *long_number;
     h26x_refusal *why;
+    h26x_constraints *said;
+    h26x_capability_point *points;
+    size_t points_room;
     size_t value, other_value;
     uint32_t answer;
 } given;
@@ -114,7 +119,9 @@ enum {
     UNIT = 4096,
     COUNTS = 8192,
     LONG_NUMBER = 16384,
-    TO_TOO = 32768
+    TO_TOO = 32768,
+    SAID = 65536,
+    POINTS = 131072
 };
 
 static size_t handed_on;
@@ -146,6 +153,8 @@ static void give(unsigned which)
     given.counts = ANY(which & COUNTS, &there.counts);
     given.long_number = ANY(which & LONG_NUMBER, &there.long_number);
     given.to_too.at = ANY(which & TO_TOO, there.to_too);
+    given.said = ANY(which & SAID, &there.said);
+    given.points = ANY(which & POINTS, there.points);
     if ((which & IN) != 0)
         given.in.len = any_len(given.in.at);
     if ((which & EXTENSION) != 0)
@@ -158,6 +167,8 @@ static void give(unsigned which)
         given.ends_room = any_len(given.ends);
     if ((which & NUMBERS) != 0)
         given.numbers_room = any_len(given.numbers);
+    if ((which & POINTS) != 0)
+        given.points_room = any_len(given.points);
     given.value = nondet_size();
     given.other_value = given.value / 2;
     given.answer = (uint32_t)given.value;
@@ -213,6 +224,13 @@ static void writes_numbers(uint16_t *at, size_t len)
     is_buffer(at, len, given.numbers, given.numbers_room);
     if (len != 0)
         at[0] = at[len - 1] = 1;
+}
+
+static void writes_points(h26x_capability_point *at, size_t len)
+{
+    is_buffer(at, len, given.points, given.points_room);
+    if (len != 0)
+        at[0].tool = at[len - 1].tool = 1;
 }
 
 /* An output, or a place for it. */
@@ -921,6 +939,39 @@ static void check_sdp_max_don_diff(void)
     hands_on(h26x_sdp_max_don_diff(&format, given.number));
 }
 
+STUB(sdp_constraints);
+uint32_t proved_sdp_constraints(const h26x_sdp *h, uint8_t *to, size_t room, h26x_constraints *said)
+{
+    expect(h == &format);
+    writes_to(to, room);
+    is_output(said, given.said);
+    return answer();
+}
+
+static void check_sdp_constraints(void)
+{
+    give(TO | SAID);
+    hands_on(h26x_sdp_constraints(&format, given.to.at, given.to.len, given.said));
+}
+
+STUB(sdp_capability_points);
+uint32_t proved_sdp_capability_points(const h26x_sdp *h, bool or_default, h26x_capability_point *points,
+                                      size_t points_room, size_t *count, h26x_refusal *why)
+{
+    expect(h == &format && or_default == (given.value != 0));
+    writes_points(points, points_room);
+    is_output(count, given.first);
+    is_output(why, given.why);
+    return answer();
+}
+
+static void check_sdp_capability_points(void)
+{
+    give(POINTS | FIRST | WHY);
+    hands_on(h26x_sdp_capability_points(&format, given.value != 0, given.points, given.points_room,
+                                        given.first, given.why));
+}
+
 STUB(fits_single_units);
 bool proved_fits_single_units(const uint8_t *payload, size_t payload_len, size_t limit)
 {
@@ -1009,6 +1060,8 @@ int main(void)
     in_each_case(check_sdp_unit);
     in_each_case(check_sdp_other);
     in_each_case(check_sdp_max_don_diff);
+    in_each_case(check_sdp_constraints);
+    in_each_case(check_sdp_capability_points);
     in_each_case(check_fits_single_units);
     in_each_case(check_rtpmap_read);
     in_each_case(check_rtpmap_write);

@@ -234,14 +234,14 @@ static void check_frees(struct tally *t)
 static bool is_code(uint32_t n)
 {
     return n <= H26X_NOTHING_YET || (H26X_SDP_OPEN_BRACE <= n && n <= H26X_SDP_NO_PROFILE)
-           || (H26X_SDP_NO_ANSWER <= n && n <= H26X_SDP_CLOCK_RATE);
+           || (H26X_SDP_NO_ANSWER <= n && n <= H26X_SDP_LONG_CONSTRAINTS);
 }
 
 /* Each code has words of its own, and so do numbers that are none. */
 static void check_words(struct tally *t)
 {
     char version[16];
-    for (uint32_t code = 0; code <= H26X_SDP_CLOCK_RATE + 1; code++) {
+    for (uint32_t code = 0; code <= H26X_SDP_LONG_CONSTRAINTS + 1; code++) {
         for (uint32_t other = 0; other < code; other++)
             expect(t, (strcmp(h26x_strerror(code), h26x_strerror(other)) == 0) == (!is_code(code) && !is_code(other)));
         expect(t, is_code(code) == (strcmp(h26x_strerror(code), h26x_strerror(UINT32_MAX)) != 0));

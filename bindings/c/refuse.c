@@ -637,6 +637,29 @@ static void refuse_formats(const struct format *f)
     h26x_sdp_free(answer);
 }
 
+/* Constraints and capability points, which are read at each call. */
+static void refuse_values(void)
+{
+    h26x_sdp it = {NULL};
+    h26x_constraints said = {.flags = 9};
+    h26x_capability_point points[2] = {{.max_br = 9}};
+    size_t count = 9;
+    h26x_refusal why = {9, 9};
+    expect(h26x_sdp_read(H26X_H266, TEXT("interop-constraints=QA=="), &it, NULL) == H26X_OK);
+    memset(to, 0xee, sizeof to);
+    refuse_each(h26x_sdp_constraints(&it, to, 1, &said), said.flags == 9 && to[0] == 0xee);
+    expect(to[0] == 0x40 && to[1] == 0xee && said.flags == 0 && said.len == 1 && said.multilayer);
+    without_memory(h26x_sdp_capability_points(&it, true, points, 2, &count, &why) == H26X_NOT_OF_THIS_CODEC);
+    h26x_sdp_close(&it);
+
+    expect(h26x_sdp_read(H26X_H265, TEXT("dec-parallel-cap={w:8;max-br=1,t:2;max-lsr=3}"), &it, NULL) == H26X_OK);
+    without_memory(h26x_sdp_constraints(&it, to, 1, &said) == H26X_OK && to[0] == 0xb0);
+    refuse_each(h26x_sdp_capability_points(&it, true, points, 2, &count, &why),
+                count == 9 && points[0].max_br == 9 && points[1].max_lsr == 0 && why.first == 0 && why.second == 0);
+    expect(count == 2 && points[0].max_br == 1 && points[1].max_lsr == 3 && points[1].level_id == 93);
+    h26x_sdp_free(it);
+}
+
 /* Of the first sets of a stream, and payload types. */
 static void refuse_offers(void)
 {
@@ -678,6 +701,7 @@ int main(void)
     refuse_packing();
     for (size_t i = 0; i < sizeof formats / sizeof formats[0]; i++)
         refuse_formats(&formats[i]);
+    refuse_values();
     refuse_offers();
     printf("%zu requests refused, nothing lost\n", refused);
     return 0;

@@ -433,6 +433,157 @@ static void check_max_don_diff(struct tally *t)
     }
 }
 
+/* `interop-constraints` (RFC 7798, 7.1, with Rec. ITU-T H.265, 7.3.3; RFC 9328, 7.2, with H.266, 7.3.3.1). */
+static void constraints_are(struct tally *t, uint32_t codec, const char *text, const char *bytes,
+                            h26x_constraints wanted)
+{
+    h26x_sdp it = format_of(t, codec, text);
+    struct bytes all = bytes_of(bytes);
+    for (size_t room = 0; room <= all.len + 1; room++) {
+        uint8_t to[16];
+        h26x_constraints said = {9, 9, true, true, true};
+        const size_t copied = room < all.len ? room : all.len;
+        memset(to, 0xee, sizeof to);
+        expect_at(t, h26x_sdp_constraints(&it, to, room, &said) == H26X_OK, text, __FILE__, __LINE__);
+        expect_at(t, said.flags == wanted.flags && said.len == all.len, text, __FILE__, __LINE__);
+        expect_at(t, said.frame_only == wanted.frame_only, text, __FILE__, __LINE__);
+        expect_at(t, said.multilayer == wanted.multilayer, text, __FILE__, __LINE__);
+        expect_at(t, said.general == wanted.general, text, __FILE__, __LINE__);
+        expect_at(t, memcmp(to, all.at, copied) == 0 && to[copied] == 0xee, text, __FILE__, __LINE__);
+    }
+    h26x_sdp_free(it);
+}
+
+static void has_no_constraints(struct tally *t, uint32_t codec, const char *text, uint32_t code)
+{
+    h26x_sdp it = format_of(t, codec, text);
+    uint8_t to[4] = {0xee};
+    h26x_constraints said = {9, 9, true, false, true};
+    expect_at(t, h26x_sdp_constraints(&it, to, 4, &said) == code && to[0] == 0xee, text, __FILE__, __LINE__);
+    expect_at(t, said.flags == 9 && said.len == 9 && said.frame_only, text, __FILE__, __LINE__);
+    expect_at(t, !said.multilayer && said.general, text, __FILE__, __LINE__);
+    expect_at(t, h26x_sdp_constraints(&it, NULL, 4, NULL) == code, text, __FILE__, __LINE__);
+    h26x_sdp_free(it);
+}
+
+static void check_constraints(struct tally *t)
+{
+    constraints_are(t, H26X_H265, "", "b00000000000", (h26x_constraints){.flags = 0xb00000000000, .frame_only = true});
+    constraints_are(t, H26X_H265, "interop-constraints=A0000000f001", "a0000000f001",
+                    (h26x_constraints){.flags = 0xa0000000f001});
+    constraints_are(t, H26X_H265, "interop-constraints=123456789abc", "123456789abc",
+                    (h26x_constraints){.flags = 0x123456789abc, .frame_only = true});
+    constraints_are(t, H26X_H266, "", "80", (h26x_constraints){.frame_only = true});
+    constraints_are(t, H26X_H266, "interop-constraints=QA==", "40", (h26x_constraints){.multilayer = true});
+    constraints_are(t, H26X_H266, "interop-constraints=AA==", "00", (h26x_constraints){.general = false});
+    constraints_are(t, H26X_H266, "interop-constraints=oIAAAAAAAAAAAX4=", "a08000000000000000017e",
+                    (h26x_constraints){.frame_only = true, .general = true});
+    has_no_constraints(t, H26X_H264, "interop-constraints=gA==", H26X_NOT_OF_THIS_CODEC);
+    has_no_constraints(t, H26X_H266, "interop-constraints=gA", H26X_SDP_CONSTRAINTS_NOT_BASE64);
+    has_no_constraints(t, H26X_H266, "interop-constraints=", H26X_SDP_SHORT_CONSTRAINTS);
+    has_no_constraints(t, H26X_H266, "interop-constraints=oA==", H26X_SDP_SHORT_CONSTRAINTS);
+    has_no_constraints(t, H26X_H266, "interop-constraints=oIAAAAAAAAAAAX4A", H26X_SDP_LONG_CONSTRAINTS);
+    has_no_constraints(t, H26X_H266, "interop-constraints=gAA=", H26X_SDP_LONG_CONSTRAINTS);
+}
+
+enum { MOST_POINTS = 3 };
+
+static bool is_point(const h26x_capability_point *a, const h26x_capability_point *b)
+{
+    return a->tool == b->tool && a->spatial_segmentation == b->spatial_segmentation && a->tier_flag == b->tier_flag
+           && a->level_id == b->level_id && a->max_lsr == b->max_lsr && a->max_lps == b->max_lps
+           && a->max_br == b->max_br && a->has_tier_flag == b->has_tier_flag && a->has_level_id == b->has_level_id
+           && a->has_max_lsr == b->has_max_lsr && a->has_max_lps == b->has_max_lps && a->has_max_br == b->has_max_br;
+}
+
+/* The points of a line, in room for none to one more than they are. */
+static void points_are(struct tally *t, const char *line, bool or_default, size_t many,
+                       const h26x_capability_point *wanted)
+{
+    h26x_sdp it = format_of(t, H26X_H265, line);
+    for (size_t room = 0; room <= many + 1; room++) {
+        h26x_capability_point points[MOST_POINTS + 1];
+        size_t count = 99;
+        h26x_refusal why = {7, 8};
+        memset(points, 0xee, sizeof points);
+        h26x_capability_point untouched = points[0];
+        expect_at(t, h26x_sdp_capability_points(&it, or_default, points, room, &count, &why) == H26X_OK, line, __FILE__,
+                  __LINE__);
+        expect_at(t, count == many && why.first == 7 && why.second == 8, line, __FILE__, __LINE__);
+        for (size_t i = 0; i <= many; i++)
+            expect_at(t, is_point(&points[i], i < room && i < many ? &wanted[i] : &untouched), line, __FILE__,
+                      __LINE__);
+    }
+    h26x_sdp_free(it);
+}
+
+/* Why a line has none, with the place of the point and the code of what is wrong there. */
+static void has_no_points(struct tally *t, uint32_t codec, const char *line, uint32_t code, size_t place, size_t fault)
+{
+    h26x_sdp it = format_of(t, codec, line);
+    for (int or_default = 0; or_default < 2; or_default++) {
+        h26x_capability_point point = {.max_br = 9};
+        size_t count = 99;
+        h26x_refusal why = {99, 99};
+        expect_at(t, h26x_sdp_capability_points(&it, or_default, &point, 1, &count, &why) == code, line, __FILE__,
+                  __LINE__);
+        expect_at(t, count == 99 && is_point(&point, &(h26x_capability_point){.max_br = 9}), line, __FILE__, __LINE__);
+        expect_at(t, why.first == place && why.second == fault, line, __FILE__, __LINE__);
+        expect_at(t, h26x_sdp_capability_points(&it, or_default, NULL, 9, NULL, NULL) == code, line, __FILE__,
+                  __LINE__);
+    }
+    h26x_sdp_free(it);
+}
+
+/* `dec-parallel-cap` (RFC 7798, 7.1). */
+static void check_capability_points(struct tally *t)
+{
+    const h26x_capability_point of_rfc[] = {
+        {.tool = H26X_WAVEFRONTS, .spatial_segmentation = 8, .level_id = 93, .has_level_id = 1},
+        {.tool = H26X_NO_WAVEFRONTS, .spatial_segmentation = 4, .level_id = 90, .has_level_id = 1}};
+    points_are(t, "dec-parallel-cap={w:8;level-id=93,t:4;level-id=90}; level-id=120", false, 2, of_rfc);
+    const h26x_capability_point whole[] = {
+        {1, 1, 255, UINT64_MAX, UINT32_MAX, 7, H26X_NO_WAVEFRONTS, 1, 1, 1, 1, 1},
+        {.spatial_segmentation = 4095, .tool = H26X_WAVEFRONTS, .max_lps = 0, .has_max_lps = 1},
+        {.spatial_segmentation = 1, .tool = H26X_WAVEFRONTS, .tier_flag = 0, .has_tier_flag = 1}};
+    points_are(t,
+               "dec-parallel-cap={t:1;max-br=7;tier-flag=1;level-id=255;max-lsr=18446744073709551615;"
+               "max-lps=4294967295,W:4095;x=1;MAX-LPS=0,w:1;tier-flag=0}",
+               false, 3, whole);
+    /* What a point leaves out is as it is said outside, if it is said there. */
+    const char *line = "tier-flag=1;level-id=120;max-lsr=9;max-br=8;dec-parallel-cap={w:8;max-lps=5,t:2;max-br=3}";
+    const h26x_capability_point own[] = {
+        {.spatial_segmentation = 8, .tool = 1, .max_lps = 5, .has_max_lps = 1},
+        {.spatial_segmentation = 2, .tool = 0, .max_br = 3, .has_max_br = 1}};
+    const h26x_capability_point inferred[] = {{8, 1, 120, 9, 5, 8, 1, 1, 1, 1, 1, 1},
+                                              {2, 1, 120, 9, 0, 3, 0, 1, 1, 1, 0, 1}};
+    points_are(t, line, false, 2, own);
+    points_are(t, line, true, 2, inferred);
+    const h26x_capability_point highest[] = {{8, 1, 150, 0, 0, 0, 1, 1, 1, 0, 0, 0}};
+    points_are(t, "max-recv-level-id=150;level-id=120;dec-parallel-cap={w:8;tier-flag=1}", true, 1, highest);
+    const h26x_capability_point taken[] = {{8, 0, 93, 1, 0, 0, 1, 1, 1, 1, 0, 0}};
+    points_are(t, "dec-parallel-cap={w:8;max-lsr=1}", true, 1, taken);
+
+    has_no_points(t, H26X_H265, "level-id=93", H26X_SDP_ABSENT, 0, 0);
+    has_no_points(t, H26X_H264, "dec-parallel-cap={w:8;level-id=93}", H26X_NOT_OF_THIS_CODEC, 0, 0);
+    has_no_points(t, H26X_H266, "dec-parallel-cap={w:8;level-id=93}", H26X_NOT_OF_THIS_CODEC, 0, 0);
+    has_no_points(t, H26X_H265, "dec-parallel-cap=w:8;level-id=93", H26X_SDP_NO_BRACES, 0, 0);
+    has_no_points(t, H26X_H265, "dec-parallel-cap={}", H26X_SDP_NO_TOOL, 0, 0);
+    has_no_points(t, H26X_H265, "dec-parallel-cap={w:8;level-id=93,x:8;level-id=93}", H26X_SDP_NO_TOOL, 1, 0);
+    has_no_points(t, H26X_H265, "dec-parallel-cap={w:0;level-id=93}", H26X_SDP_SEGMENTATION, 0, H26X_SDP_OUT_OF_RANGE);
+    has_no_points(t, H26X_H265, "dec-parallel-cap={w:1;max-br=1,t:4096;level-id=93}", H26X_SDP_SEGMENTATION, 1,
+                  H26X_SDP_OUT_OF_RANGE);
+    has_no_points(t, H26X_H265, "dec-parallel-cap={w:+1;level-id=93}", H26X_SDP_SEGMENTATION, 0, H26X_SDP_NOT_A_NUMBER);
+    has_no_points(t, H26X_H265, "dec-parallel-cap={w:8;level-id=256}", H26X_SDP_LIMITS, 0, H26X_SDP_OUT_OF_RANGE);
+    has_no_points(t, H26X_H265, "dec-parallel-cap={w:8;max-br=1,w:8;max-br=1,t:8;level-id=x}", H26X_SDP_LIMITS, 2,
+                  H26X_SDP_NOT_A_NUMBER);
+    has_no_points(t, H26X_H265, "dec-parallel-cap={w:8;max-br=1,t:8;max-br=1;Max-Br=1}", H26X_SDP_LIMITS, 1,
+                  H26X_SDP_TWICE);
+    has_no_points(t, H26X_H265, "dec-parallel-cap={w:8;x={1,2}}", H26X_SDP_LIMITS, 0, H26X_SDP_OPEN_BRACE);
+    has_no_points(t, H26X_H265, "dec-parallel-cap={w:8}", H26X_SDP_NO_LIMIT, 0, 0);
+    has_no_points(t, H26X_H265, "dec-parallel-cap={w:8;level-id=93,t:4;x=1}", H26X_SDP_NO_LIMIT, 1, 0);
+}
+
 /* RFC 6184, 8.2.1; RFC 7798, 7.2.1; RFC 9328, 7.3.1. */
 static void check_rtpmaps(struct tally *t)
 {
@@ -480,6 +631,8 @@ static void check_ends(struct tally *t)
     uint64_t value = 99;
     uint32_t number = 99;
     h26x_refusal why = {99, 99};
+    h26x_constraints said = {.flags = 99};
+    h26x_capability_point point = {.max_br = 99};
     expect(t, h26x_packetizer_new(H26X_H264, false, &p) == H26X_OK);
     other.at = p.at;
     expect(t, h26x_sdp_codec(&other) == 0);
@@ -490,6 +643,9 @@ static void check_ends(struct tally *t)
     expect(t, h26x_sdp_unit(&other, TEXT("sprop-parameter-sets"), 0, to, 8, &len, &why) == H26X_WRONG_END);
     expect(t, h26x_sdp_other(&other, 0, to, 8, &len, value_to, 8, &value_len) == H26X_WRONG_END);
     expect(t, h26x_sdp_max_don_diff(&other, &number) == H26X_WRONG_END && number == 99);
+    expect(t, h26x_sdp_constraints(&other, to, 8, &said) == H26X_WRONG_END && said.flags == 99);
+    expect(t, h26x_sdp_capability_points(&other, true, &point, 1, &len, &why) == H26X_WRONG_END && point.max_br == 99);
+    expect(t, why.first == 0 && why.second == 0);
     expect(t, len == 99 && value_len == 99 && to[0] == 0xee && value_to[0] == 0xee);
     expect(t, h26x_sdp_answer(&other, &it, &made) == H26X_WRONG_END && made.at == NULL);
     expect(t, h26x_sdp_answer(&it, &other, &made) == H26X_WRONG_END && made.at == NULL);
@@ -517,6 +673,10 @@ static void check_nulls(struct tally *t)
         expect(t, h26x_sdp_units(&it, NULL, many, NULL, NULL) == H26X_SDP_UNKNOWN_NAME);
         expect(t, h26x_sdp_unit(&it, NULL, many, 0, NULL, many, NULL, NULL) == H26X_SDP_UNKNOWN_NAME);
         expect(t, h26x_sdp_other(&it, 0, NULL, many, NULL, NULL, many, NULL) == H26X_SDP_ABSENT);
+        made = format_of(t, H26X_H265, "dec-parallel-cap={w:8;max-lsr=1}");
+        expect(t, h26x_sdp_constraints(&made, NULL, many, NULL) == H26X_OK);
+        expect(t, h26x_sdp_capability_points(&made, true, NULL, many, NULL, NULL) == H26X_OK);
+        h26x_sdp_close(&made);
         expect(t, h26x_sdp_of_payload(H26X_H264, NULL, many, &made) == H26X_SDP_NO_SET && made.at == NULL);
         expect(t, h26x_rtpmap_read(NULL, many, NULL, NULL) == H26X_SDP_PAYLOAD_TYPE);
         for (int n = 0; n < 2; n++) {
@@ -540,6 +700,8 @@ void check_sdp(struct tally *t)
     check_streams(t);
     check_single_units(t);
     check_max_don_diff(t);
+    check_constraints(t);
+    check_capability_points(t);
     check_rtpmaps(t);
     check_ends(t);
     check_nulls(t);

@@ -12,9 +12,9 @@
  *
  * What may be NULL: a buffer, which then has length 0 whatever is said to be its length or its room; the pointer to
  * what isn't wanted (count, size, written, extra, received, pushed, behind, unit, counts, at, why, number, len, begin,
- * end, profile, level, name_len, value_len, payload_type, codec, and the value of a number); and the pointer in a handle
- * that is freed, which is then no handle: so set it to {0} and free it in any case. The calls whose names end in _close
- * free a handle and write NULL into it; they are functions of this header over _free, and no exports.
+ * end, profile, level, name_len, value_len, said, payload_type, codec, and the value of a number); and the pointer in a
+ * handle that is freed, which is then no handle: so set it to {0} and free it in any case. The calls whose names end in
+ * _close free a handle and write NULL into it; they are functions of this header over _free, and no exports.
  *
  * What a caller owes, since nothing checks it:
  * - a handle is one that a _new or _clone wrote, and was not freed since;
@@ -99,7 +99,8 @@ enum h26x_code {
     H26X_NO_ROOM = 13,                /* what is to be written doesn't fit in the caller's memory */
     H26X_NOTHING_YET = 14,            /* no access unit has ended */
     /* Of format parameters of SDP. why->first of those from 21 to 25: the place of the parameter, from 0, blank parts
-     * not counted; of those from 29 to 32: the place of the unit. */
+     * not counted; of those from 29 to 32: the place of the unit; of those from 42 to 45: the place of the capability
+     * point. why->second of 43 and 44: what is wrong there, one of the codes from 20 to 25. */
     H26X_SDP_OPEN_BRACE = 20,         /* a `{` isn't closed */
     H26X_SDP_NOT_A_NUMBER = 21,
     H26X_SDP_OUT_OF_RANGE = 22,
@@ -119,7 +120,15 @@ enum h26x_code {
     H26X_SDP_NO_ANSWER = 37,          /* two formats have no configuration in common */
     H26X_SDP_PAYLOAD_TYPE = 38,       /* no number of 7 bits */
     H26X_SDP_ENCODING_NAME = 39,      /* none of H264, H265 and H266 */
-    H26X_SDP_CLOCK_RATE = 40          /* it isn't 90000 */
+    H26X_SDP_CLOCK_RATE = 40,         /* it isn't 90000 */
+    H26X_SDP_NO_BRACES = 41,          /* H.265: capability points don't begin with `{` and end with `}` */
+    H26X_SDP_NO_TOOL = 42,            /* a point begins with neither `w:` nor `t:` */
+    H26X_SDP_SEGMENTATION = 43,       /* the number behind that is none from 1 to 4095 */
+    H26X_SDP_LIMITS = 44,             /* a point's limits aren't read as parameters are */
+    H26X_SDP_NO_LIMIT = 45,           /* a point has none of the five limits */
+    H26X_SDP_CONSTRAINTS_NOT_BASE64 = 46, /* H.266 */
+    H26X_SDP_SHORT_CONSTRAINTS = 47,  /* they end before they say all */
+    H26X_SDP_LONG_CONSTRAINTS = 48    /* bytes stand behind them */
 };
 
 /* A code in words, without a full stop; never NULL. */
@@ -781,6 +790,48 @@ H26X_API uint32_t h26x_sdp_other(const h26x_sdp *h, size_t i, uint8_t *name_to, 
 /* `sprop-max-don-diff` of H.265 and H.266, or 0 where it is absent: packets bear decoding order numbers where it is over
  * 0, which is `numbers` of h26x_packetizer_new and so on. H26X_NOT_OF_THIS_CODEC for H.264; H26X_WRONG_END. */
 H26X_API uint32_t h26x_sdp_max_don_diff(const h26x_sdp *h, uint32_t *value) H26X_MUST_USE;
+
+/* What `interop-constraints` says (RFC 7798, 7.1; RFC 9328, 7.2). */
+typedef struct {
+    uint64_t flags;  /* H.265: the 48 flags behind the compatibility flags, the first the highest bit; H.266: 0 */
+    size_t len;      /* how many bytes they are: of H.265 6, of H.266 1, or from 11 to 43 */
+    bool frame_only; /* each picture is a frame: general_ or ptl_frame_only_constraint_flag */
+    bool multilayer; /* H.266: ptl_multilayer_enabled_flag: there may be several layers */
+    bool general;    /* H.266: gci_present_flag: general constraints are among them */
+} h26x_constraints;
+
+/* What `interop-constraints` of H.265 or H.266 says, or where it is absent what the RFC takes for it, and its bytes, to
+ * the front of `to`, as many as there is room for. One of the codes from 46 to 48, of H.266; H26X_OUT_OF_MEMORY;
+ * H26X_NOT_OF_THIS_CODEC for H.264; H26X_WRONG_END. All but H26X_OK leave *said and `to`. */
+H26X_API uint32_t h26x_sdp_constraints(const h26x_sdp *h, uint8_t *to, size_t room, h26x_constraints *said)
+    H26X_MUST_USE;
+
+/* How pictures are coded for parallel decoding. */
+enum h26x_parallel_tool {
+    H26X_NO_WAVEFRONTS = 0, /* `t`: by tiles or slices */
+    H26X_WAVEFRONTS = 1     /* `w` */
+};
+
+/* What a decoder of H.265 can do where a stream is coded for parallel decoding, beyond what it can do with any (RFC
+ * 7798, 7.1). Behind has_x, 1 or 0, is whether x is there; one that isn't is 0. */
+typedef struct {
+    uint64_t spatial_segmentation; /* the least min_spatial_segmentation_idc of the stream, from 1 to 4095 */
+    uint64_t tier_flag;            /* 0 Main, 1 High */
+    uint64_t level_id;             /* the highest level, as in `level-id` */
+    uint64_t max_lsr;              /* the most luma samples in a second */
+    uint64_t max_lps;              /* the most luma samples of a picture */
+    uint64_t max_br;               /* the most bits a second, in units of CpbBrVclFactor or CpbBrNalFactor */
+    uint8_t tool;                  /* H26X_WAVEFRONTS or H26X_NO_WAVEFRONTS, which the stream uses */
+    uint8_t has_tier_flag, has_level_id, has_max_lsr, has_max_lps, has_max_br;
+} h26x_capability_point;
+
+/* The capability points of `dec-parallel-cap` of H.265, to the front of `points`, as many as there is room for; *count
+ * is how many they all are. With `or_default` a limit that a point leaves out is what is said outside: `tier-flag`,
+ * `max-recv-level-id`, or where that is absent `level-id`, `max-lsr`, `max-lps` and `max-br`. H26X_SDP_ABSENT; one of
+ * the codes from 41 to 45 by the first fault, since h26x_sdp_read refuses none of them; H26X_OUT_OF_MEMORY;
+ * H26X_NOT_OF_THIS_CODEC for H.264 and H.266; H26X_WRONG_END. All but H26X_OK leave *count and `points`. */
+H26X_API uint32_t h26x_sdp_capability_points(const h26x_sdp *h, bool or_default, h26x_capability_point *points,
+                                             size_t points_room, size_t *count, h26x_refusal *why) H26X_MUST_USE;
 
 /* Whether a payload of H.264 can be sent where `packetization-mode` is 0, in packets of `limit` bytes: each of its units
  * fits a packet of its own (RFC 6184, 5.6 and 6.2). There, give an SPS and a PPS to h26x_packetize_unit, since

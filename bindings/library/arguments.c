@@ -50,6 +50,8 @@ PROVED(sdp_units);
 PROVED(sdp_unit);
 PROVED(sdp_other);
 PROVED(sdp_max_don_diff);
+PROVED(sdp_constraints);
+PROVED(sdp_capability_points);
 PROVED(fits_single_units);
 PROVED(rtpmap_read);
 PROVED(rtpmap_write);
@@ -70,11 +72,13 @@ PROVED(rtpmap_write);
 static uint8_t no_bytes[1];
 static size_t no_ends[1];
 static uint16_t no_numbers[1];
+static h26x_capability_point no_points[1];
 
 /* A buffer and its length, as two arguments: NULL has length 0, whatever the caller says. */
 #define BYTES(at, len) WANTED(at, no_bytes), (at) != NULL ? (len) : 0
 #define ENDS(at, len) WANTED(at, no_ends), (at) != NULL ? (len) : 0
 #define NUMBERS(at, len) WANTED(at, no_numbers), (at) != NULL ? (len) : 0
+#define POINTS(at, len) WANTED(at, no_points), (at) != NULL ? (len) : 0
 
 /* ---- Sending ---- */
 
@@ -404,6 +408,21 @@ uint32_t h26x_sdp_max_don_diff(const h26x_sdp *h, uint32_t *value)
 {
     uint32_t unwanted;
     return proved_sdp_max_don_diff(h, WANTED(value, &unwanted));
+}
+
+uint32_t h26x_sdp_constraints(const h26x_sdp *h, uint8_t *to, size_t room, h26x_constraints *said)
+{
+    h26x_constraints unwanted;
+    return proved_sdp_constraints(h, BYTES(to, room), WANTED(said, &unwanted));
+}
+
+uint32_t h26x_sdp_capability_points(const h26x_sdp *h, bool or_default, h26x_capability_point *points,
+                                    size_t points_room, size_t *count, h26x_refusal *why)
+{
+    size_t unwanted_count;
+    h26x_refusal unwanted_why;
+    return proved_sdp_capability_points(h, or_default, POINTS(points, points_room),
+                                        WANTED(count, &unwanted_count), WANTED(why, &unwanted_why));
 }
 
 bool h26x_fits_single_units(const uint8_t *payload, size_t payload_len, size_t limit)

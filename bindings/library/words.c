@@ -88,6 +88,22 @@ const char *h26x_strerror(uint32_t code)
         return "the encoding name is none of H264, H265 and H266";
     case H26X_SDP_CLOCK_RATE:
         return "the clock rate is not 90000";
+    case H26X_SDP_NO_BRACES:
+        return "the capability points are not in braces";
+    case H26X_SDP_NO_TOOL:
+        return "the capability point is for no tool";
+    case H26X_SDP_SEGMENTATION:
+        return "the number of the capability point is none from 1 to 4095";
+    case H26X_SDP_LIMITS:
+        return "the limits of the capability point are refused";
+    case H26X_SDP_NO_LIMIT:
+        return "the capability point has no limit";
+    case H26X_SDP_CONSTRAINTS_NOT_BASE64:
+        return "the constraints are no base64";
+    case H26X_SDP_SHORT_CONSTRAINTS:
+        return "the constraints are too short";
+    case H26X_SDP_LONG_CONSTRAINTS:
+        return "bytes stand behind the constraints";
     default:
         return "unknown code";
     }
