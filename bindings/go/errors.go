@@ -97,6 +97,22 @@ const (
 	ErrSDPEncodingName Code = C.H26X_SDP_ENCODING_NAME
 	// ErrSDPClockRate: it isn't 90000.
 	ErrSDPClockRate Code = C.H26X_SDP_CLOCK_RATE
+	// ErrSDPNoBraces: capability points don't begin with { and end with }.
+	ErrSDPNoBraces Code = C.H26X_SDP_NO_BRACES
+	// ErrSDPNoTool: a capability point begins with neither w: nor t:.
+	ErrSDPNoTool Code = C.H26X_SDP_NO_TOOL
+	// ErrSDPSegmentation: the number behind that is none from 1 to 4095.
+	ErrSDPSegmentation Code = C.H26X_SDP_SEGMENTATION
+	// ErrSDPLimits: the limits of a capability point aren't read as parameters are.
+	ErrSDPLimits Code = C.H26X_SDP_LIMITS
+	// ErrSDPNoLimit: a capability point has none of the five limits.
+	ErrSDPNoLimit Code = C.H26X_SDP_NO_LIMIT
+	// ErrSDPConstraintsNotBase64: H.266: the constraints aren't base64.
+	ErrSDPConstraintsNotBase64 Code = C.H26X_SDP_CONSTRAINTS_NOT_BASE64
+	// ErrSDPShortConstraints: H.266: they end before they say all.
+	ErrSDPShortConstraints Code = C.H26X_SDP_SHORT_CONSTRAINTS
+	// ErrSDPLongConstraints: H.266: bytes stand behind them.
+	ErrSDPLongConstraints Code = C.H26X_SDP_LONG_CONSTRAINTS
 )
 
 // Error is the code in the library's words.
@@ -123,6 +139,10 @@ func (e *Error) Error() string {
 		return e.Code.Error() + " (parameter " + first + ")"
 	case ErrSDPNotBase64, ErrSDPEmptyUnit, ErrSDPOtherType, ErrSDPStartCode:
 		return e.Code.Error() + " (unit " + first + ")"
+	case ErrSDPNoTool, ErrSDPNoLimit:
+		return e.Code.Error() + " (point " + first + ")"
+	case ErrSDPSegmentation, ErrSDPLimits:
+		return e.Code.Error() + " (point " + first + ", " + C.GoString(C.h26x_strerror(C.uint32_t(e.Second))) + ")"
 	default:
 		return e.Code.Error()
 	}

@@ -315,6 +315,117 @@ func (f *FormatParameters) MaxDONDiff() (uint32, error) {
 	return uint32(*most), refusedBy(code)
 }
 
+// Constraints are what interop-constraints says (RFC 7798, 7.1; RFC 9328, 7.2).
+type Constraints struct {
+	// Flags are the 48 of H.265, behind the compatibility flags, the first the highest bit; of H.266 0.
+	Flags uint64
+	// Bytes are six of H.265; of H.266 one, or from 11 to 43.
+	Bytes []byte
+	// FrameOnly: each picture is a frame (general_ or ptl_frame_only_constraint_flag).
+	FrameOnly bool
+	// Multilayer: there may be several layers (ptl_multilayer_enabled_flag; H.266).
+	Multilayer bool
+	// General: general constraints are among them (gci_present_flag; H.266).
+	General bool
+}
+
+// mostConstraints is how many bytes they are at most: 89 bits and 255 additional ones (Rec. ITU-T H.266, 7.3.3.2).
+const mostConstraints = 43
+
+// InteropConstraints are the Constraints of H.265 or H.266, or where they are absent what the RFC takes for them.
+//
+// Its errors are ErrSDPConstraintsNotBase64, ErrSDPShortConstraints and ErrSDPLongConstraints, of H.266;
+// ErrNotOfThisCodec for H.264, ErrOutOfMemory and ErrClosed.
+func (f *FormatParameters) InteropConstraints() (Constraints, error) {
+	f.mu.RLock()
+	defer f.mu.RUnlock()
+	if f.call == nil {
+		return Constraints{}, ErrClosed
+	}
+	room, said := make([]byte, mostConstraints), new(C.h26x_constraints)
+	if err := refusedBy(C.h26x_sdp_constraints(&f.call.handle, at(room), C.size_t(len(room)), said)); err != nil {
+		return Constraints{}, err
+	}
+	return Constraints{
+		Flags:      uint64(said.flags),
+		Bytes:      room[:said.len],
+		FrameOnly:  bool(said.frame_only),
+		Multilayer: bool(said.multilayer),
+		General:    bool(said.general),
+	}, nil
+}
+
+// A CapabilityPoint is what a decoder of H.265 can do where a stream is coded for parallel decoding, beyond what it can
+// do with any (RFC 7798, 7.1).
+type CapabilityPoint struct {
+	// Wavefronts: the stream is coded by them (w); else by tiles or slices (t).
+	Wavefronts bool
+	// SpatialSegmentation is the least min_spatial_segmentation_idc of the stream, from 1 to 4095.
+	SpatialSegmentation uint64
+	// TierFlag is 0 for the Main tier, 1 for High; LevelID the highest level, as in level-id; MaxLSR the most luma
+	// samples in a second, MaxLPS those of a picture, MaxBR the highest bit rate, in units of CpbBrVclFactor or
+	// CpbBrNalFactor bits a second.
+	TierFlag, LevelID, MaxLSR, MaxLPS, MaxBR Limit
+}
+
+// A Limit is a number of a capability point, if it is there.
+type Limit struct {
+	Number  uint64
+	IsThere bool
+}
+
+// CapabilityPoints are those of dec-parallel-cap of H.265, as they came; ErrSDPAbsent where it isn't given.
+//
+// Its errors are those of the first fault, of which First is the place of the point, from 0: ErrSDPNoBraces,
+// ErrSDPNoTool, ErrSDPSegmentation, ErrSDPLimits and ErrSDPNoLimit; Second of ErrSDPSegmentation and ErrSDPLimits is
+// what is wrong there, as a Code from ErrSDPOpenBrace to ErrSDPTwice. And ErrNotOfThisCodec for H.264 and H.266,
+// ErrOutOfMemory and ErrClosed.
+func (f *FormatParameters) CapabilityPoints() ([]CapabilityPoint, error) { return f.points(false) }
+
+// CapabilityPointsOrDefault are the same, where a limit that a point leaves out is what is said outside: tier-flag,
+// max-recv-level-id, or where that is absent level-id, max-lsr, max-lps and max-br.
+func (f *FormatParameters) CapabilityPointsOrDefault() ([]CapabilityPoint, error) {
+	return f.points(true)
+}
+
+func (f *FormatParameters) points(orDefault bool) ([]CapabilityPoint, error) {
+	f.mu.RLock()
+	defer f.mu.RUnlock()
+	if f.call == nil {
+		return nil, ErrClosed
+	}
+	room, count, why := make([]C.h26x_capability_point, 4), new(C.size_t), new(C.h26x_refusal)
+	for {
+		code := C.h26x_sdp_capability_points(&f.call.handle, C.bool(orDefault), &room[0], C.size_t(len(room)), count,
+			why)
+		if err := refused(code, *why); err != nil {
+			return nil, err
+		}
+		if int(*count) <= len(room) {
+			break
+		}
+		room = make([]C.h26x_capability_point, int(*count))
+	}
+	points := make([]CapabilityPoint, int(*count))
+	for i := range points {
+		points[i] = pointOf(&room[i])
+	}
+	return points, nil
+}
+
+func pointOf(it *C.h26x_capability_point) CapabilityPoint {
+	limit := func(number C.uint64_t, isThere C.uint8_t) Limit { return Limit{uint64(number), isThere != 0} }
+	return CapabilityPoint{
+		Wavefronts:          it.tool == C.H26X_WAVEFRONTS,
+		SpatialSegmentation: uint64(it.spatial_segmentation),
+		TierFlag:            limit(it.tier_flag, it.has_tier_flag),
+		LevelID:             limit(it.level_id, it.has_level_id),
+		MaxLSR:              limit(it.max_lsr, it.has_max_lsr),
+		MaxLPS:              limit(it.max_lps, it.has_max_lps),
+		MaxBR:               limit(it.max_br, it.has_max_br),
+	}
+}
+
 // An RTPMap is a payload type, below 128, and its codec, with a clock rate of 90000 (RFC 8866, 6.6).
 type RTPMap struct {
 	PayloadType uint8

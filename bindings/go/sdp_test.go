@@ -1,8 +1,10 @@
 package h26x_test
 
 import (
+	"encoding/base64"
 	"errors"
 	"math"
+	"reflect"
 	"runtime"
 	"strings"
 	"sync"
@@ -110,12 +112,12 @@ func TestFaultsOfFormatParameters(t *testing.T) {
 		}
 	}
 	words := map[string]bool{}
-	for code := h26x.ErrSDPOpenBrace; code <= h26x.ErrSDPClockRate; code++ {
+	for code := h26x.ErrSDPOpenBrace; code <= h26x.ErrSDPLongConstraints; code++ {
 		if code != h26x.ErrSDPNoProfile+1 { // which is none
 			words[code.Error()] = true
 		}
 	}
-	if len(words) != 20 || words[h26x.Code(99).Error()] {
+	if len(words) != 28 || words[h26x.Code(99).Error()] {
 		t.Errorf("%d words", len(words))
 	}
 }
@@ -398,6 +400,114 @@ func TestMaxDONDiff(t *testing.T) {
 	refuses(t, err, h26x.ErrNotOfThisCodec)
 }
 
+// RFC 7798, 7.1, with Rec. ITU-T H.265, 7.3.3; RFC 9328, 7.2, with Rec. ITU-T H.266, 7.3.3.1.
+func TestInteropConstraints(t *testing.T) {
+	const name = "interop-constraints="
+	for _, one := range []struct {
+		codec  h26x.Codec
+		line   string
+		wanted h26x.Constraints
+	}{
+		{h26x.H265, "", h26x.Constraints{Flags: 0xb00000000000, Bytes: some("b00000000000"), FrameOnly: true}},
+		{h26x.H265, name + "A0000000f001", h26x.Constraints{Flags: 0xa0000000f001, Bytes: some("a0000000f001")}},
+		{h26x.H266, "", h26x.Constraints{Bytes: some("80"), FrameOnly: true}},
+		{h26x.H266, name + "QA==", h26x.Constraints{Bytes: some("40"), Multilayer: true}},
+		{h26x.H266, name + "oIAAAAAAAAAAAX4=",
+			h26x.Constraints{Bytes: some("a08000000000000000017e"), FrameOnly: true, General: true}},
+	} {
+		got, err := formatOf(t, one.codec, one.line).InteropConstraints()
+		if err != nil || !reflect.DeepEqual(got, one.wanted) {
+			t.Errorf("%q: got %+v and %v", one.line, got, err)
+		}
+	}
+	// gci_num_additional_bits is 255, and 89 bits are there beside.
+	most := append([]byte{0x20, 0, 0, 0, 0, 0, 0, 0, 0, 0x3f, 0xc0}, make([]byte, 32)...)
+	got, err := formatOf(t, h26x.H266, name+base64.StdEncoding.EncodeToString(most)).InteropConstraints()
+	done(t, err)
+	same(t, got.Bytes, most)
+	for _, one := range []struct {
+		codec h26x.Codec
+		value string
+		code  h26x.Code
+	}{
+		{h26x.H264, "gA==", h26x.ErrNotOfThisCodec},
+		{h26x.H266, "gA", h26x.ErrSDPConstraintsNotBase64},
+		{h26x.H266, "", h26x.ErrSDPShortConstraints},
+		{h26x.H266, "oA==", h26x.ErrSDPShortConstraints},
+		{h26x.H266, "gAA=", h26x.ErrSDPLongConstraints},
+	} {
+		got, err := formatOf(t, one.codec, name+one.value).InteropConstraints()
+		refuses(t, err, one.code, 0, 0)
+		if !reflect.DeepEqual(got, h26x.Constraints{}) {
+			t.Errorf("%q: got %+v", one.value, got)
+		}
+	}
+}
+
+// RFC 7798, 7.1.
+func TestCapabilityPoints(t *testing.T) {
+	is := func(number uint64) h26x.Limit { return h26x.Limit{Number: number, IsThere: true} }
+	for _, one := range []struct {
+		line             string
+		given, orDefault []h26x.CapabilityPoint
+	}{
+		{"dec-parallel-cap={w:8;level-id=93,t:4;level-id=90}; level-id=120",
+			[]h26x.CapabilityPoint{{Wavefronts: true, SpatialSegmentation: 8, LevelID: is(93)},
+				{SpatialSegmentation: 4, LevelID: is(90)}},
+			[]h26x.CapabilityPoint{{Wavefronts: true, SpatialSegmentation: 8, TierFlag: is(0), LevelID: is(93)},
+				{SpatialSegmentation: 4, TierFlag: is(0), LevelID: is(90)}}},
+		{"max-recv-level-id=150;level-id=120;max-br=8;dec-parallel-cap={t:4095;tier-flag=1;max-lps=0}",
+			[]h26x.CapabilityPoint{{SpatialSegmentation: 4095, TierFlag: is(1), MaxLPS: is(0)}},
+			[]h26x.CapabilityPoint{{SpatialSegmentation: 4095, TierFlag: is(1), LevelID: is(150), MaxLPS: is(0),
+				MaxBR: is(8)}}},
+		{"tier-flag=1;max-lsr=9;max-lps=7;dec-parallel-cap={w:1;max-lsr=18446744073709551615}",
+			[]h26x.CapabilityPoint{{Wavefronts: true, SpatialSegmentation: 1, MaxLSR: is(math.MaxUint64)}},
+			[]h26x.CapabilityPoint{{Wavefronts: true, SpatialSegmentation: 1, TierFlag: is(1), LevelID: is(93),
+				MaxLSR: is(math.MaxUint64), MaxLPS: is(7)}}},
+	} {
+		f := formatOf(t, h26x.H265, one.line)
+		if got, err := f.CapabilityPoints(); err != nil || !reflect.DeepEqual(got, one.given) {
+			t.Errorf("%q: got %+v and %v", one.line, got, err)
+		}
+		if got, err := f.CapabilityPointsOrDefault(); err != nil || !reflect.DeepEqual(got, one.orDefault) {
+			t.Errorf("%q: got %+v and %v", one.line, got, err)
+		}
+	}
+	// More than there is room for at first.
+	line := "dec-parallel-cap={w:1;max-br=1" + strings.Repeat(",t:2;max-br=3", 99) + "}"
+	many, err := formatOf(t, h26x.H265, line).CapabilityPoints()
+	done(t, err)
+	last := h26x.CapabilityPoint{SpatialSegmentation: 2, MaxBR: is(3)}
+	if len(many) != 100 || many[0].MaxBR != is(1) || many[99] != last {
+		t.Errorf("got %+v", many)
+	}
+	const name = "dec-parallel-cap="
+	for _, one := range []struct {
+		codec        h26x.Codec
+		line         string
+		code         h26x.Code
+		place, fault uint
+		told         string
+	}{
+		{h26x.H264, name + "{w:8;level-id=93}", h26x.ErrNotOfThisCodec, 0, 0, ""},
+		{h26x.H266, name + "{w:8;level-id=93}", h26x.ErrNotOfThisCodec, 0, 0, ""},
+		{h26x.H265, "", h26x.ErrSDPAbsent, 0, 0, ""},
+		{h26x.H265, name + "w:8;level-id=93", h26x.ErrSDPNoBraces, 0, 0, ""},
+		{h26x.H265, name + "{w:8;max-br=1,x:8;max-br=1}", h26x.ErrSDPNoTool, 1, 0, " (point 1)"},
+		{h26x.H265, name + "{w:0;max-br=1}", h26x.ErrSDPSegmentation, 0, uint(h26x.ErrSDPOutOfRange),
+			" (point 0, the value is out of the parameter's range)"},
+		{h26x.H265, name + "{w:8;max-br=1,t:8;max-br=1;max-br=1}", h26x.ErrSDPLimits, 1, uint(h26x.ErrSDPTwice),
+			" (point 1, the parameter is given twice)"},
+		{h26x.H265, name + "{w:8}", h26x.ErrSDPNoLimit, 0, 0, " (point 0)"},
+	} {
+		points, err := formatOf(t, one.codec, one.line).CapabilityPoints()
+		refuses(t, err, one.code, one.place, one.fault)
+		if points != nil || err.Error() != one.code.Error()+one.told {
+			t.Errorf("%q: got %+v and %v", one.line, points, err)
+		}
+	}
+}
+
 // RFC 6184, 8.2.1; RFC 7798, 7.2.1; RFC 9328, 7.3.1.
 func TestRTPMaps(t *testing.T) {
 	for _, one := range []struct {
@@ -445,7 +555,8 @@ func TestSingleUnits(t *testing.T) {
 }
 
 func TestClosedFormatParameters(t *testing.T) {
-	open, f := formatOf(t, h26x.H265, "sprop-vps=QAE="), formatOf(t, h26x.H265, "level-id=93;sprop-vps=QAE=")
+	open := formatOf(t, h26x.H265, "sprop-vps=QAE=")
+	f := formatOf(t, h26x.H265, "level-id=93;sprop-vps=QAE=;dec-parallel-cap={w:8;level-id=93}")
 	calls := func(f *h26x.FormatParameters) map[string]func() error {
 		return map[string]func() error{
 			"Text":            func() error { _, err := f.Text(); return err },
@@ -456,6 +567,9 @@ func TestClosedFormatParameters(t *testing.T) {
 			"Units":           func() error { _, err := f.Units("sprop-vps"); return err },
 			"Others":          func() error { _, err := f.Others(); return err },
 			"MaxDONDiff":      func() error { _, err := f.MaxDONDiff(); return err },
+			"Constraints":     func() error { _, err := f.InteropConstraints(); return err },
+			"Points":          func() error { _, err := f.CapabilityPoints(); return err },
+			"PointsOrDefault": func() error { _, err := f.CapabilityPointsOrDefault(); return err },
 			"Answer":          func() error { _, err := f.Answer(open); return err },
 			"Answer by it":    func() error { _, err := open.Answer(f); return err },
 		}
