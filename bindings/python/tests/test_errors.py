@@ -47,6 +47,14 @@ CODES = {
     38: h26x.SdpPayloadType,
     39: h26x.SdpEncodingName,
     40: h26x.SdpClockRate,
+    41: h26x.SdpNoBraces,
+    42: h26x.SdpNoTool,
+    43: h26x.SdpSegmentation,
+    44: h26x.SdpLimits,
+    45: h26x.SdpNoLimit,
+    46: h26x.SdpConstraintsNotBase64,
+    47: h26x.SdpShortConstraints,
+    48: h26x.SdpLongConstraints,
 }
 
 
@@ -73,6 +81,10 @@ def test_each_has_words_of_its_own() -> None:
     assert str(errors.error_of(25, 2)) == "the parameter is given twice (parameter 2)"
     assert str(errors.error_of(29, 1)) == "the unit is no base64 (unit 1)"
     assert str(errors.error_of(40)) == "the clock rate is not 90000"
+    assert str(errors.error_of(41)) == "the capability points are not in braces"
+    assert str(errors.error_of(45, 2)) == "the capability point has no limit (point 2)"
+    text = "the limits of the capability point are refused (point 1, the parameter is given twice)"
+    assert str(errors.error_of(44, 1, 25)) == text
 
 
 @pytest.mark.parametrize(
@@ -82,6 +94,8 @@ def test_each_has_words_of_its_own() -> None:
         (h26x.UnitsError, range(29, 33)),
         (h26x.StreamError, range(33, 36)),
         (h26x.RtpMapError, range(38, 41)),
+        (h26x.CapabilityPointsError, range(41, 46)),
+        (h26x.ConstraintsError, range(46, 49)),
     ],
 )
 def test_errors_of_sdp(kind: Type[h26x.Error], codes: Sequence[int]) -> None:

@@ -44,10 +44,11 @@ TYPES: Dict[str, Any] = {
     "const h26x_access_units_config *": _library._CONFIG,
     "h26x_access_unit *": _library._UNIT,
     "h26x_access_units_counts *": _library._COUNTS,
+    "h26x_constraints *": _library._SAID,
 }
 
 #: A pointer to one number, or to as many as there is room for: told apart by the name.
-ROOMS = dict.fromkeys(("to", "ends", "numbers", "name_to", "value_to"), c_void_p)
+ROOMS = dict.fromkeys(("to", "ends", "numbers", "points", "name_to", "value_to"), c_void_p)
 
 #: The structs of the header that are more than a handle.
 STRUCTS: Dict[str, Any] = {
@@ -56,6 +57,8 @@ STRUCTS: Dict[str, Any] = {
     "h26x_access_units_config": _library.UnitsConfig,
     "h26x_access_unit": _library.UnitTold,
     "h26x_access_units_counts": _library.UnitsCounts,
+    "h26x_constraints": _library.ConstraintsSaid,
+    "h26x_capability_point": _library.PointNumbers,
 }
 
 HANDLES = (
@@ -71,7 +74,8 @@ def ctype(declared: str, name: str) -> Any:
     """The type of an argument."""
     if re.sub("^const | \\*$", "", declared) in HANDLES:
         return _library._HANDLE if declared.endswith("*") else _library.Handle
-    if declared in ("uint8_t *", "uint16_t *", "size_t *") and name in ROOMS:
+    several = ("uint8_t *", "uint16_t *", "size_t *", "h26x_capability_point *")
+    if declared in several and name in ROOMS:
         return ROOMS[name]
     return TYPES[declared]
 

@@ -186,6 +186,8 @@ def closed_calls() -> List[Callable[[], Any]]:
         lambda: format.units("sprop-vps"),
         format.others,
         lambda: format.max_don_diff,
+        format.interop_constraints,
+        format.capability_points,
         lambda: format.answer(format),
         lambda: format.answer(open_format),
         lambda: open_format.answer(format),

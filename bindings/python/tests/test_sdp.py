@@ -13,18 +13,27 @@ from typing import Any, Callable, List, Optional, Type
 import pytest
 from digits import many, some
 from h26x import (
+    CapabilityPoint,
     Codec,
+    Constraints,
     Error,
     FormatParameters,
     LevelError,
     NotOfThisCodec,
+    ParallelTool,
     RtpMap,
     RtpMapError,
     SdpClockRate,
+    SdpConstraintsNotBase64,
     SdpEmptyUnit,
     SdpEncodingName,
+    SdpLimits,
+    SdpLongConstraints,
+    SdpNoBraces,
+    SdpNoLimit,
     SdpNoProfile,
     SdpNoSet,
+    SdpNoTool,
     SdpNotANumber,
     SdpNotBase64,
     SdpNotHexadecimal,
@@ -34,6 +43,8 @@ from h26x import (
     SdpOtherType,
     SdpOutOfRange,
     SdpPayloadType,
+    SdpSegmentation,
+    SdpShortConstraints,
     SdpShortSet,
     SdpStartCode,
     SdpTwice,
@@ -523,6 +534,110 @@ def test_max_don_diff(codec: Codec, text: str, wanted: int) -> None:
 def test_max_don_diff_of_h264() -> None:
     with pytest.raises(NotOfThisCodec):
         read(H264, "sprop-max-don-diff=2").max_don_diff
+
+
+@pytest.mark.parametrize(
+    "codec, text, wanted",
+    [
+        (H265, "", Constraints(0xB00000000000, some("b00000000000"), True, False, False)),
+        (H265, "A0000000f001", Constraints(0xA0000000F001, some("a0000000f001"), False, False, False)),
+        (H266, "", Constraints(0, some("80"), True, False, False)),
+        (H266, "QA==", Constraints(0, some("40"), False, True, False)),
+        (H266, "oIAAAAAAAAAAAX4=", Constraints(0, some("a08000000000000000017e"), True, False, True)),
+    ],
+)
+def test_constraints(codec: Codec, text: str, wanted: Constraints) -> None:
+    it = read(codec, f"interop-constraints={text}" if text else "")
+    assert it.interop_constraints() == wanted
+
+
+def test_the_most_constraints() -> None:
+    # gci_num_additional_bits is 255, and 89 bits are there beside.
+    data = some("20 00000000 00000000 3fc0") + bytes(32)
+    it = read(H266, "interop-constraints=" + base64.b64encode(data).decode())
+    assert it.interop_constraints() == Constraints(0, data, False, False, True)
+
+
+@pytest.mark.parametrize(
+    "codec, text, fault",
+    [
+        (H264, "gA==", NotOfThisCodec),
+        (H266, "gA", SdpConstraintsNotBase64),
+        (H266, "", SdpShortConstraints),
+        (H266, "oA==", SdpShortConstraints),
+        (H266, "gAA=", SdpLongConstraints),
+    ],
+)
+def test_what_is_no_constraints(codec: Codec, text: str, fault: Type[Error]) -> None:
+    with pytest.raises(fault) as told:
+        read(codec, "interop-constraints=" + text).interop_constraints()
+    assert type(told.value) is fault
+
+
+W, T = ParallelTool.WAVEFRONTS, ParallelTool.NO_WAVEFRONTS
+
+
+@pytest.mark.parametrize(
+    "text, given, or_default",
+    [
+        ("level-id=93", [], []),
+        (
+            "dec-parallel-cap={w:8;level-id=93,t:4;level-id=90}; level-id=120",
+            [CapabilityPoint(W, 8, level_id=93), CapabilityPoint(T, 4, level_id=90)],
+            [CapabilityPoint(W, 8, 0, 93), CapabilityPoint(T, 4, 0, 90)],
+        ),
+        (
+            "max-recv-level-id=150;level-id=120;max-br=8;dec-parallel-cap={t:4095;tier-flag=1;max-lps=0}",
+            [CapabilityPoint(T, 4095, tier_flag=1, max_lps=0)],
+            [CapabilityPoint(T, 4095, 1, 150, None, 0, 8)],
+        ),
+        (
+            "tier-flag=1;max-lsr=9;max-lps=7;dec-parallel-cap={W:1;max-lsr=18446744073709551615}",
+            [CapabilityPoint(W, 1, max_lsr=2**64 - 1)],
+            [CapabilityPoint(W, 1, 1, 93, 2**64 - 1, 7)],
+        ),
+        # More than there is room for at first.
+        (
+            "dec-parallel-cap={w:1;max-br=1" + ",t:2;max-br=3" * 99 + "}",
+            [CapabilityPoint(W, 1, max_br=1)] + [CapabilityPoint(T, 2, max_br=3)] * 99,
+            [CapabilityPoint(W, 1, 0, 93, max_br=1)] + [CapabilityPoint(T, 2, 0, 93, max_br=3)] * 99,
+        ),
+    ],
+)
+def test_capability_points(
+    text: str, given: List[CapabilityPoint], or_default: List[CapabilityPoint]
+) -> None:
+    it = read(H265, text)
+    assert it.capability_points() == given and it.capability_points(True) == or_default
+
+
+@pytest.mark.parametrize(
+    "text, fault, place, of",
+    [
+        ("w:8", SdpNoBraces, 0, None),
+        ("{}", SdpNoTool, 0, None),
+        ("{w:8;max-br=1,x:8;max-br=1}", SdpNoTool, 1, None),
+        ("{w:0;max-br=1}", SdpSegmentation, 0, SdpOutOfRange),
+        ("{w:8;max-br=1,t:x;max-br=1}", SdpSegmentation, 1, SdpNotANumber),
+        ("{w:8;level-id=256}", SdpLimits, 0, SdpOutOfRange),
+        ("{w:8;max-br=1,t:8;max-br=1;max-br=1}", SdpLimits, 1, SdpTwice),
+        ("{w:8;x={1,2}}", SdpLimits, 0, SdpOpenBrace),
+        ("{w:8}", SdpNoLimit, 0, None),
+    ],
+)
+def test_what_is_no_point(
+    text: str, fault: Type[Any], place: int, of: Optional[Type[Error]]
+) -> None:
+    with pytest.raises(fault) as told:
+        read(H265, "dec-parallel-cap=" + text).capability_points()
+    assert type(told.value) is fault and told.value.place == place
+    assert of is None or told.value.fault is of
+
+
+@pytest.mark.parametrize("codec", [H264, H266])
+def test_points_of_other_codecs(codec: Codec) -> None:
+    with pytest.raises(NotOfThisCodec):
+        read(codec, "dec-parallel-cap={w:8;max-br=1}").capability_points()
 
 
 def test_single_units() -> None:

@@ -101,6 +101,37 @@ class UnitsCounts(Structure):
     ]
 
 
+class ConstraintsSaid(Structure):
+    """What constraints say."""
+
+    _fields_ = [
+        ("flags", c_uint64),
+        ("len", c_size_t),
+        ("frame_only", c_bool),
+        ("multilayer", c_bool),
+        ("general", c_bool),
+    ]
+
+
+class PointNumbers(Structure):
+    """A capability point."""
+
+    _fields_ = [
+        ("spatial_segmentation", c_uint64),
+        ("tier_flag", c_uint64),
+        ("level_id", c_uint64),
+        ("max_lsr", c_uint64),
+        ("max_lps", c_uint64),
+        ("max_br", c_uint64),
+        ("tool", c_uint8),
+        ("has_tier_flag", c_uint8),
+        ("has_level_id", c_uint8),
+        ("has_max_lsr", c_uint8),
+        ("has_max_lps", c_uint8),
+        ("has_max_br", c_uint8),
+    ]
+
+
 _HANDLE = POINTER(Handle)
 _SIZE = POINTER(c_size_t)
 _BYTE = POINTER(c_uint8)
@@ -112,6 +143,7 @@ _SHOWN = POINTER(ShownPacket)
 _CONFIG = POINTER(UnitsConfig)
 _UNIT = POINTER(UnitTold)
 _COUNTS = POINTER(UnitsCounts)
+_SAID = POINTER(ConstraintsSaid)
 # Bytes that a call reads are a `bytes` object, which nobody changes meanwhile. Those that it writes
 # are an address.
 _IN = (c_char_p, c_size_t)
@@ -207,6 +239,8 @@ CALLS: Dict[str, Tuple[Any, List[Any]]] = {
     "sdp_unit": (c_uint32, [_HANDLE, *_IN, c_size_t, *_OUT, _SIZE, _WHY]),
     "sdp_other": (c_uint32, [_HANDLE, c_size_t, *_OUT, _SIZE, *_OUT, _SIZE]),
     "sdp_max_don_diff": (c_uint32, [_HANDLE, _WORD]),
+    "sdp_constraints": (c_uint32, [_HANDLE, *_OUT, _SAID]),
+    "sdp_capability_points": (c_uint32, [_HANDLE, c_bool, *_OUT, _SIZE, _WHY]),
     "fits_single_units": (c_bool, [*_IN, c_size_t]),
     "rtpmap_read": (c_uint32, [*_IN, _BYTE, _WORD]),
     "rtpmap_write": (c_uint32, [c_uint8, c_uint32, *_OUT, _SIZE]),

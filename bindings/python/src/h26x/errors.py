@@ -310,6 +310,86 @@ class SdpClockRate(RtpMapError):
     code = 40
 
 
+class CapabilityPointsError(Error, ValueError):
+    """A parameter's value is no capability points. It is the first fault that is told."""
+
+    @property
+    def place(self) -> int:
+        """The place of the point, from 0. 0 where there are no braces."""
+        return self.first
+
+    def _numbers(self) -> str:
+        return f" (point {self.place})"
+
+
+class SdpNoBraces(CapabilityPointsError):
+    """Capability points don't begin with `{` and end with `}`."""
+
+    code = 41
+
+    def _numbers(self) -> str:
+        return ""
+
+
+class SdpNoTool(CapabilityPointsError):
+    """A capability point begins with neither `w:` nor `t:`."""
+
+    code = 42
+
+
+class _WithFault(CapabilityPointsError):
+    """A part of a capability point is refused."""
+
+    @property
+    def fault(self) -> Type[Error]:
+        """What is wrong with it: a ParametersError."""
+        return _ERRORS[self.second]
+
+    def _numbers(self) -> str:
+        words: bytes = library.h26x_strerror(self.second)
+        return f" (point {self.place}, {words.decode()})"
+
+
+class SdpSegmentation(_WithFault):
+    """The number behind the tool of a capability point is none from 1 to 4095."""
+
+    code = 43
+
+
+class SdpLimits(_WithFault):
+    """The limits of a capability point aren't read as parameters are."""
+
+    code = 44
+
+
+class SdpNoLimit(CapabilityPointsError):
+    """A capability point has none of the five limits."""
+
+    code = 45
+
+
+class ConstraintsError(Error, ValueError):
+    """H.266: a parameter's value is no constraints."""
+
+
+class SdpConstraintsNotBase64(ConstraintsError):
+    """The text is no base64 (RFC 4648, 4)."""
+
+    code = 46
+
+
+class SdpShortConstraints(ConstraintsError):
+    """They end before they say all."""
+
+    code = 47
+
+
+class SdpLongConstraints(ConstraintsError):
+    """Bytes stand behind them."""
+
+    code = 48
+
+
 _ERRORS: Dict[int, Type[Error]] = {
     error.code: error
     for error in (
@@ -347,6 +427,14 @@ _ERRORS: Dict[int, Type[Error]] = {
         SdpPayloadType,
         SdpEncodingName,
         SdpClockRate,
+        SdpNoBraces,
+        SdpNoTool,
+        SdpSegmentation,
+        SdpLimits,
+        SdpNoLimit,
+        SdpConstraintsNotBase64,
+        SdpShortConstraints,
+        SdpLongConstraints,
     )
 }
 

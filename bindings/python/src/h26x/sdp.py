@@ -6,10 +6,11 @@ from __future__ import annotations
 from contextlib import ExitStack
 from ctypes import byref, c_size_t, c_uint8, c_uint32, c_uint64
 from dataclasses import dataclass
+from enum import Enum
 from typing import Any, List, NamedTuple, NoReturn, Optional, Tuple
 
 from ._handle import Owner
-from ._library import Handle, Refusal, library
+from ._library import ConstraintsSaid, Handle, PointNumbers, Refusal, library
 from ._memory import Buffer, Room, as_bytes, number
 from .codec import Codec, codec_of
 from .errors import NoRoom, OutOfMemory, SdpAbsent, SdpNoAnswer, check, error_of
@@ -28,6 +29,58 @@ class LevelError(ValueError):
     def __init__(self, level: int) -> None:
         super().__init__(f"level {level} is none")
         self.level = level  # its place, from 0
+
+
+#: How many bytes constraints of H.266 are at most: of 89 bits and 255 additional ones (Rec. ITU-T H.266,
+#: 7.3.3.2).
+_MOST_CONSTRAINTS = 43
+
+
+class Constraints(NamedTuple):
+    """What `interop-constraints` says (RFC 7798, 7.1; RFC 9328, 7.2)."""
+
+    #: The 48 flags of H.265 behind the compatibility flags, the first the highest bit; of H.266 0.
+    flags: int
+    #: Their bytes: six of H.265; of H.266 one, or from 11 to 43.
+    data: bytes
+    #: Each picture is a frame (general_ or ptl_frame_only_constraint_flag).
+    frame_only: bool
+    #: There may be several layers (ptl_multilayer_enabled_flag; H.266).
+    multilayer: bool
+    #: General constraints are among them (gci_present_flag; H.266).
+    general: bool
+
+
+class ParallelTool(Enum):
+    """How pictures are coded for parallel decoding."""
+
+    #: By tiles or slices.
+    NO_WAVEFRONTS = "t"
+    #: By wavefronts.
+    WAVEFRONTS = "w"
+
+
+_TOOLS = (ParallelTool.NO_WAVEFRONTS, ParallelTool.WAVEFRONTS)
+
+
+class CapabilityPoint(NamedTuple):
+    """What a decoder of H.265 can do where a stream is coded for parallel decoding, beyond what it can do
+    with any (RFC 7798, 7.1). A limit that isn't there is None."""
+
+    #: The tool that the stream uses.
+    tool: ParallelTool
+    #: The least min_spatial_segmentation_idc that it has, from 1 to 4095.
+    spatial_segmentation: int
+    #: 0 Main tier, 1 High tier.
+    tier_flag: Optional[int] = None
+    #: The highest level, as in level-id.
+    level_id: Optional[int] = None
+    #: The most luma samples in a second.
+    max_lsr: Optional[int] = None
+    #: The most luma samples of a picture.
+    max_lps: Optional[int] = None
+    #: The highest bit rate, in units of CpbBrVclFactor or CpbBrNalFactor bits a second.
+    max_br: Optional[int] = None
 
 
 class FormatParameters(Owner):
@@ -200,6 +253,46 @@ class FormatParameters(Owner):
         check(self._with_handle(library.h26x_sdp_max_don_diff, byref(found)))
         return found.value
 
+    def interop_constraints(self) -> Constraints:
+        """The constraints of H.265 or H.266, or where they are absent what the RFC takes for them. Raises a
+        ConstraintsError of H.266, NotOfThisCodec of H.264, or OutOfMemory.
+
+        >>> FormatParameters(Codec.H265).interop_constraints().data.hex()
+        'b00000000000'
+        """
+        said, room, call = ConstraintsSaid(), self._room, library.h26x_sdp_constraints
+        with self._lock:
+            room.grow(_MOST_CONSTRAINTS)
+            check(call(self._live(), room.address, room.size, byref(said)))
+            data = room.copy(0, said.len)
+        return Constraints(said.flags, data, said.frame_only, said.multilayer, said.general)
+
+    def capability_points(self, or_default: bool = False) -> List[CapabilityPoint]:
+        """The capability points of H.265, those of dec-parallel-cap; none where it is absent. With
+        `or_default` a limit that a point leaves out is what is said outside: tier-flag, max-recv-level-id, or
+        where that is absent level-id, max-lsr, max-lps and max-br.
+
+        Raises a CapabilityPointsError, since `read` doesn't look into them; NotOfThisCodec of H.264 and H.266;
+        or OutOfMemory.
+
+        >>> line = "level-id=93;dec-parallel-cap={w:8;max-lsr=62668800}"
+        >>> point = FormatParameters.read(Codec.H265, line).capability_points(or_default=True)[0]
+        >>> point.tool, point.spatial_segmentation, point.level_id, point.max_lps
+        (<ParallelTool.WAVEFRONTS: 'w'>, 8, 93, None)
+        """
+        call, count, why, most = library.h26x_sdp_capability_points, c_size_t(), Refusal(), 4
+        with self._lock:
+            while True:
+                points = (PointNumbers * most)()
+                code = call(self._live(), or_default, points, most, byref(count), byref(why))
+                if code == SdpAbsent.code:
+                    return []
+                if code != 0:
+                    raise error_of(code, why.first, why.second)
+                if count.value <= most:
+                    return [_point_of(point) for point in points[: count.value]]
+                most = count.value
+
     def answer(self, *ours: FormatParameters) -> Optional[FormatParameters]:
         """The answer to these parameters of an offer, by the first of ours that gives one; None where none
         does. It is for both directions, and for unicast (RFC 6184, 8.2.2; RFC 7798, 7.2.2; RFC 9328, 7.3.2).
@@ -273,6 +366,13 @@ def fits_single_units(payload: Buffer, limit: int) -> bool:
     `packetize_unit`, since `packetize` puts both into one packet."""
     data = as_bytes(payload)
     return bool(library.h26x_fits_single_units(data, len(data), number("limit", limit)))
+
+
+def _point_of(told: PointNumbers) -> CapabilityPoint:
+    """A capability point of its numbers."""
+    names = ("tier_flag", "level_id", "max_lsr", "max_lps", "max_br")
+    limits = (getattr(told, name) if getattr(told, f"has_{name}") else None for name in names)
+    return CapabilityPoint(_TOOLS[told.tool], told.spatial_segmentation, *limits)
 
 
 def _level_of(digits: str, sets: str = "") -> LevelParameterSets:
