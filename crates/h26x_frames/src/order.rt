@@ -126,7 +126,7 @@ impl<T: Numbered> NumberOrder<T> {
 
     /// Where a packet with this number stands, or else where it belongs. One ahead of the last, as
     /// most are, is not searched for.
-    #[inline]
+    #[inline(always)]
     fn place_from(&self, due: u16, number: u16) -> Result<usize, usize>
         requires { AreHeldInOrder due 0 self.now.held }
         ensures { MatchResult result (λ _. is_number_held number self.now.held ≡ true)
