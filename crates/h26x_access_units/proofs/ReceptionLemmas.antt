@@ -22,7 +22,7 @@ use Rattle.h26x_access_units.specs.Pushed.{as_pushed}
 use Rattle.h26x_access_units.specs.Numbers.{bears_nothing, numbers_after, after_last}
 use Rattle.h26x_access_units.specs.JitterBuffer.{JitterState, is_far, is_full, jitter_answer, is_pressed, due_packet, with_packet, without_due}
 use Rattle.h26x_access_units.specs.ReceivedUnit.{ReceivedUnitValue}
-use Rattle.h26x_access_units.specs.Reception.{Reception, reception, frames_after, marker_forgotten, after_due, is_behind_stray, reception_answer, after_reception, has_no_unit, is_taken_at_once, ended_if_anew, IsDueTaken, IsPushed, IsDrained, none, more, IsNext}
+use Rattle.h26x_access_units.specs.Reception.{Reception, reception, frames_after, marker_forgotten, after_due, is_behind_stray, reception_answer, after_reception, has_no_unit, is_taken_at_once, is_idle, after_finish, ended_if_anew, ended_if_over, unit_given_of, unit_given, without_given_of, without_given, IsDueTaken, IsPushed, IsDrained, none, more, IsNext}
 
 -- where nothing is held nothing is ready
 none_ready : (window : ℕ) (due : Option ℕ) → first_ready {A = RtpBody} window due [] ≡ None
@@ -177,6 +177,54 @@ as_if_it_waited now later s t new p unit small pushed next =
           }
       | false ↦ λ is stands. subst (λ (r : Reception). IsNext later r new unit) stands next
     ] refl pushed
+
+-- at the end of the stream alone one is ended for that
+not_over : (s : Reception) → s.waiting.is_over ≡ false → ended_if_over s ≡ s
+not_over s is = by (has_no_unit s.frames.ended) s.waiting.is_over is
+  where
+    by : (b c : Bool) → c ≡ false → cond (b && c) (after_finish s) s ≡ s
+    by true false e = refl
+    by false c e = refl
+    by true true e = absurd (let bad = e in cc)
+
+-- where none waits none is due
+none_due : (now : ℕ) (j : JitterState) → j.buffer.held ≡ [] → due_packet now j ≡ None
+none_due now j = by (is_pressed now j) j.buffer.held
+  where
+    by : (pressed : Bool) (held : List (ℕ × RtpBody)) → held ≡ [] → cond pressed (slice_get held 0) (first_ready j.buffer.window j.buffer.due held) ≡ None
+    by true [] empty = refl
+    by false [] empty = none_ready j.buffer.window j.buffer.due
+    by pressed (p ∷ held) empty = absurd (let bad = empty in cc)
+
+none_waits : (held : List (ℕ × RtpBody)) → (length held == 0) ≡ true → held ≡ []
+none_waits [] is = refl
+none_waits (p ∷ held) is = absurd (let some : (length (p ∷ held) == 0) ≡ false = grind (arith, nat_tests) in let bad = rw some at is in cc)
+
+-- what is known where there is nothing to take and nothing to give out
+idle_parts : (s : Reception) → is_idle s ≡ true → (s.frames.ended ≡ []) × (s.is_anew ≡ false) × (s.waiting.buffer.held ≡ []) × (s.waiting.is_over ≡ false)
+idle_parts s is =
+    let at = by (has_no_unit s.frames.ended) s.is_anew (length s.waiting.buffer.held == 0) s.waiting.is_over is in
+    (none_of_units s.frames.ended at.0, at.1, none_waits s.waiting.buffer.held at.2, at.3)
+  where
+    by : (a b c d : Bool) → (a && (not b && (c && not d))) ≡ true → (a ≡ true) × (b ≡ false) × (c ≡ true) × (d ≡ false)
+    by true false true false e = (refl, refl, refl, refl)
+    by true false true true e = absurd (let bad = e in cc)
+    by true false false d e = absurd (let bad = e in cc)
+    by true true c d e = absurd (let bad = e in cc)
+    by false b c d e = absurd (let bad = e in cc)
+
+-- then none is given out, and all stays
+pub idle_next : (now : ℕ) (s : Reception) → is_idle s ≡ true → IsNext now s s None
+idle_next now s is =
+    let at = idle_parts s is in
+    let over : ended_if_over s ≡ s = not_over s at.3 in
+    record {
+      drained = s;
+      taken = subst (λ (r : Reception). IsDrained now r s) (sym (not_anew s at.1)) none;
+      until = λ _. none_due now s.waiting at.2;
+      unit_is = sym (ap unit_given over ∙ ap (unit_given_of s) at.0);
+      stands = sym (ap without_given over ∙ ap (without_given_of s) at.0);
+    }
 
 -- before any was taken
 pub none_more : (now : ℕ) (s : Reception) → IsDrained now s s

@@ -1,5 +1,5 @@
 -- Packets that wait for those before them: by a window, by time and by bytes (RFC 3550, 5.1; ours).
-use Rattle.std.specs.Prelude.{◌≡◌, ℕ, ◌+◌, ◌<◌, ◌≤◌, ◌-◌, ◌^◌, ◌==◌, nat_lt, nat_le, Bool, false, ◌||◌, ◌&&◌, if◌then◌else◌, List, [], ◌∷◌, ◌++◌, length, Option, Some, None, slice_get, slice_index_or}
+use Rattle.std.specs.Prelude.{◌≡◌, ℕ, ◌+◌, ◌<◌, ◌≤◌, ◌-◌, ◌^◌, ◌==◌, nat_lt, nat_le, Bool, false, ◌||◌, ◌&&◌, not, if◌then◌else◌, List, [], ◌∷◌, ◌++◌, length, Option, Some, None, slice_get, slice_index_or}
 use Rattle.h26x_receiver.specs.Sequence.{distance_ahead}
 use Rattle.h26x_frames.specs.Rtp.{RtpBody, rtp_body}
 use Rattle.h26x_frames.specs.ReorderBuffer.{BufferState, fresh_buffer, push_answer, after_push, next_packet, without_first, IsHeldInOrder}
@@ -93,6 +93,10 @@ is_far far buffer number = elim buffer.due [
   | Some due ↦ if far == 0 then false
       else is_outside far due (newest_of due buffer.held) number
 ]
+
+-- whether no packet waits, and the stream hasn't ended
+abbrev pub waits_for_none : JitterState → Bool
+waits_for_none j = (length j.buffer.held == 0) && not j.is_over
 
 -- a packet more waits, which came at this tick
 abbrev pub with_packet : ℕ → JitterState → ℕ × RtpBody → JitterState

@@ -15,7 +15,7 @@ use Rattle.h26x_access_units.specs.declared.numbers.NumbersSoFar.{NumbersSoFar}
 use Rattle.h26x_access_units.specs.declared.pushed.Pushed.{Pushed}
 use Rattle.h26x_access_units.specs.declared.pushed.Pushed.TheVariants as pushes
 use Rattle.h26x_access_units.specs.Counts.{no_counts, counted_push, counted_dropped, counted_due, counted_unit}
-use Rattle.h26x_access_units.specs.JitterBuffer.{JitterState, is_far, jitter_answer, after_jitter, due_packet, without_due, fresh_jitter, with_held_limit}
+use Rattle.h26x_access_units.specs.JitterBuffer.{JitterState, is_far, jitter_answer, after_jitter, due_packet, without_due, fresh_jitter, with_held_limit, waits_for_none}
 use Rattle.h26x_access_units.specs.Numbers.{fresh_numbers, bears_nothing, numbers_after, after_last, first_ended, without_first_ended}
 use Rattle.h26x_access_units.specs.ReceivedUnit.{ReceivedUnitValue, received_unit, clean_with, whole_with}
 
@@ -197,6 +197,11 @@ ended_if_anew s =
 abbrev pub ended_if_over : Reception → Reception
 ended_if_over s =
     if has_no_unit s.frames.ended && s.waiting.is_over then after_finish s else s
+
+-- whether there is nothing to take and nothing to give out: no access unit that ended is left, the
+-- stream hasn't begun anew nor ended, and no packet waits
+abbrev pub is_idle : Reception → Bool
+is_idle s = has_no_unit s.frames.ended && (not s.is_anew && waits_for_none s.waiting)
 
 -- the first access unit that ended
 abbrev pub unit_given_of : Reception → List AccessUnitValue → Option ReceivedUnitValue

@@ -7,7 +7,7 @@ ghost use Rattle.h26x_frames.specs.ReorderBuffer.{numbered_packet, goes_straight
 ghost use Rattle.h26x_access_units.specs.Arrival.{deadline_of, has_waited};
 ghost use Rattle.h26x_access_units.specs.Pushed.{IsNotPushedReason};
 ghost use Rattle.h26x_access_units.specs.Missing.{numbers_from, missing_numbers, AreExactlyMissing};
-ghost use Rattle.h26x_access_units.specs.JitterBuffer.{with_packet, newest_of, is_far, with_held_limit, fresh_jitter, held_bytes, is_past_limit, is_full, is_pressed, jitter_answer, after_jitter, due_packet, without_due};
+ghost use Rattle.h26x_access_units.specs.JitterBuffer.{with_packet, newest_of, is_far, with_held_limit, fresh_jitter, held_bytes, is_past_limit, is_full, is_pressed, jitter_answer, after_jitter, due_packet, without_due, waits_for_none};
 
 use crate::arrival::{Arrival, from_at, let_go};
 use crate::config::AccessUnitConfig;
@@ -151,6 +151,7 @@ impl JitterBuffer {
 
     /// Takes a packet that came at this tick, and copies it if it is to wait. Without memory all stays
     /// as it was, and the packet can be given again.
+    #[inline]
     pub fn push(&mut self, now: u32, packet: &RtpPacket<'_>) -> Result<Pushed, AllocError>
         ensures answer { IfOk result (λ answer. answer ≡ jitter_answer self.old packet.now) }
         ensures after { IfOk result (λ answer.
@@ -268,6 +269,7 @@ impl JitterBuffer {
     }
 
     /// The packet that is due at this tick, if one is. It stays until it is popped.
+    #[inline]
     pub fn first_due(&self, now: u32) -> Option<&HeldPacket>
         ensures { option_map (λ p. numbered_packet p.now) result ≡ due_packet now self.now }
     {
@@ -338,6 +340,14 @@ impl JitterBuffer {
             }
             _ => None,
         }
+    }
+
+    /// Whether no packet waits, and the stream hasn't ended.
+    #[inline]
+    pub(crate) fn waits_for_none(&self) -> bool
+        ensures { result ≡ waits_for_none self.now }
+    {
+        self.is_empty() && !self.is_over
     }
 
     /// Whether the stream has ended.

@@ -1,7 +1,7 @@
 //! The sequence numbers of the packets of access units.
 
-ghost use Rattle.std.specs.Prelude.{◌≡◌, ℕ, Option, Ok};
-ghost use Rattle.h26x_access_units.specs.Numbers.{fresh_numbers, unit_numbers, after_gap, after_packet, missing_told, missing_with, first_ended, without_first_ended, after_last, numbers_after};
+ghost use Rattle.std.specs.Prelude.{◌≡◌, ℕ, Option, Some, Ok};
+ghost use Rattle.h26x_access_units.specs.Numbers.{fresh_numbers, unit_numbers, numbers_ended, after_gap, after_packet, missing_told, missing_with, first_ended, without_first_ended, after_last, numbers_after};
 
 use h26x_frames::RtpPacket;
 use h26x_receiver::Received;
@@ -82,24 +82,30 @@ impl NumbersSoFar {
         }
     }
 
-    /// The numbers of a packet's access unit, once it came, with so many missing before it.
-    fn of_unit(&self, packet: &RtpPacket<'_>, missing: u32) -> UnitNumbers
-        ensures { result ≡ unit_numbers self.now packet.now missing }
+    /// A packet came, before which so many are missing: its access unit is open, and another one ended.
+    #[inline]
+    fn go_on(&mut self, packet: &RtpPacket<'_>, missing: u32)
+        ensures { self.new ≡ record self.old {
+          unit = Some (unit_numbers self.old packet.now missing);
+          ended = numbers_ended self.old.unit packet.now.1.timestamp;
+        } }
     {
-        let (sequence, timestamp) = (packet.sequence, packet.timestamp);
-        match self.unit {
-            Some(unit) if unit.timestamp == timestamp => UnitNumbers {
-                last: sequence,
-                missing: unit.missing.saturating_add(missing),
-                ..unit
-            },
-            _ => UnitNumbers {
-                timestamp,
-                first: sequence,
-                last: sequence,
-                missing,
-                continues: self.marked == Some(timestamp),
-            },
+        match &mut self.unit {
+            Some(unit) if unit.timestamp == packet.timestamp => {
+                unit.last = packet.sequence;
+                unit.missing = unit.missing.saturating_add(missing);
+                self.ended = None;
+            }
+            _ => {
+                self.ended = self.unit;
+                self.unit = Some(UnitNumbers {
+                    timestamp: packet.timestamp,
+                    first: packet.sequence,
+                    last: packet.sequence,
+                    missing,
+                    continues: self.marked == Some(packet.timestamp),
+                });
+            }
         }
     }
 
@@ -115,28 +121,16 @@ impl NumbersSoFar {
         ensures { self.new ≡ after_packet self.old packet.now missing }
     {
         let missing = self.skipped_gap.saturating_add(u32::from(missing));
-        let unit = self.of_unit(packet, missing);
-        let ended = match self.unit {
-            Some(unit) if unit.timestamp != packet.timestamp => Some(unit),
-            _ => None,
-        };
-        *self = if packet.marker {
-            NumbersSoFar {
-                unit: None,
-                marked: Some(packet.timestamp),
-                skipped_gap: 0,
-                ended,
-                ended_by_marker: Some(unit),
-            }
+        self.skipped_gap = 0;
+        self.go_on(packet, missing);
+        if packet.marker {
+            self.marked = Some(packet.timestamp);
+            self.ended_by_marker = self.unit;
+            self.unit = None;
         } else {
-            NumbersSoFar {
-                unit: Some(unit),
-                marked: None,
-                skipped_gap: 0,
-                ended,
-                ended_by_marker: None,
-            }
-        };
+            self.marked = None;
+            self.ended_by_marker = None;
+        }
     }
 
     /// Notes what became of a packet that was due, and not refused.

@@ -14,7 +14,7 @@ ghost use Rattle.h26x_access_units.specs.JitterBuffer.{is_far, due_packet};
 ghost use Rattle.h26x_access_units.specs.Missing.{missing_numbers, AreExactlyMissing};
 ghost use Rattle.h26x_access_units.specs.Numbers.{bears_nothing, numbers_after};
 ghost use Rattle.h26x_access_units.specs.ReceivedUnit.{received_unit_value};
-ghost use Rattle.h26x_access_units.specs.Reception.{fresh_reception, reception_answer, after_reception, has_no_unit, ended_if_anew, ended_if_over, restarted, unit_given, without_given, frames_after, lacks_memory, marker_forgotten, is_taken_at_once, IsAnswerTo, IsDueTaken, IsPushed, IsDrained, IsNext};
+ghost use Rattle.h26x_access_units.specs.Reception.{fresh_reception, reception_answer, after_reception, has_no_unit, ended_if_anew, ended_if_over, restarted, unit_given, without_given, frames_after, lacks_memory, marker_forgotten, is_taken_at_once, is_idle, IsAnswerTo, IsDueTaken, IsPushed, IsDrained, IsNext};
 ghost use Rattle.h26x_access_units.specs.Limits.{StaysWithinLimits};
 
 use crate::config::AccessUnitConfig;
@@ -190,6 +190,21 @@ impl<D: RunDepacketizer> AccessUnitReceiver<D> {
             self.take_at_once(packet)?;
             return Ok(Pushed::Held);
         }
+        self.push_aside(now, packet)
+    }
+
+    /// Takes a packet that isn't taken at once.
+    #[inline(never)]
+    fn push_aside(&mut self, now: u32, packet: &RtpPacket<'_>) -> Result<Pushed, PacketError>
+        ensures answer { let r = ⟦<AccessUnitReceiver<D> as Receives>⟧.reception in
+            IfOk result (λ answer. answer ≡ reception_answer (r self.old) packet.now) }
+        ensures after { let r = ⟦<AccessUnitReceiver<D> as Receives>⟧.reception in
+            IfOk result (λ answer.
+            r self.new ≡ after_reception now (r self.old) packet.now answer) }
+        ensures memory { OnErr result (result ≡ Err PacketError.OutOfMemory) }
+        ensures kept { let r = ⟦<AccessUnitReceiver<D> as Receives>⟧.reception in
+            OnErr result (r self.new ≡ r self.old) }
+    {
         if self.waiting.is_far(packet.sequence) {
             return self.push_far(now, packet);
         }
@@ -496,6 +511,34 @@ impl<D: RunDepacketizer> AccessUnitReceiver<D> {
             ⊎ IsDrained now (ended_if_anew (r self.old)) (r self.new)) }
 
         // What is held stays within its limits.
+        ensures bounded { let r = ⟦<AccessUnitReceiver<D> as Receives>⟧.reception in
+            StaysWithinLimits 0 (r self.old) (r self.new) }
+    {
+        if self.is_idle() {
+            return Ok(None);
+        }
+        self.next_due(now)
+    }
+
+    /// Whether there is nothing to take or to give out.
+    #[inline]
+    fn is_idle(&self) -> bool
+        ensures { let r = ⟦<AccessUnitReceiver<D> as Receives>⟧.reception in
+            result ≡ is_idle (r self.now) }
+    {
+        !self.has_ended() && !self.is_anew && self.waiting.waits_for_none()
+    }
+
+    /// What `next` does.
+    #[inline(never)]
+    fn next_due(&mut self, now: u32) -> Result<Option<ReceivedUnit>, PacketError>
+        ensures next { let r = ⟦<AccessUnitReceiver<D> as Receives>⟧.reception in
+            IfOk result (λ unit.
+            IsNext now (r self.old) (r self.new) (option_map received_unit_value unit)) }
+        ensures memory { OnErr result (result ≡ Err PacketError.OutOfMemory) }
+        ensures kept { let r = ⟦<AccessUnitReceiver<D> as Receives>⟧.reception in
+            OnErr result ((r self.new ≡ r self.old)
+            ⊎ IsDrained now (ended_if_anew (r self.old)) (r self.new)) }
         ensures bounded { let r = ⟦<AccessUnitReceiver<D> as Receives>⟧.reception in
             StaysWithinLimits 0 (r self.old) (r self.new) }
     {

@@ -107,6 +107,7 @@ impl JitterBuffer {
 
     /// Takes a packet that came at this tick, and copies it if it is to wait. Without memory all stays
     /// as it was, and the packet can be given again.
+    #[inline]
     pub(crate) fn try_push(
         &mut self,
         now: u32,
@@ -203,6 +204,7 @@ impl JitterBuffer {
     }
 
     /// The packet that is due at this tick, if one is. It stays until it is popped.
+    #[inline]
     pub fn first_due(&self, now: u32) -> Option<&HeldPacket> {
         if self.is_pressed(now) || self.buffer.is_ready() {
             self.buffer.first()
@@ -257,6 +259,12 @@ impl JitterBuffer {
             }
             _ => None,
         }
+    }
+
+    /// Whether no packet waits, and the stream hasn't ended.
+    #[inline]
+    pub(crate) fn waits_for_none(&self) -> bool {
+        self.is_empty() && !self.is_over
     }
 
     /// Whether the stream has ended.

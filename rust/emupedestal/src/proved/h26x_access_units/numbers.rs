@@ -75,22 +75,25 @@ impl NumbersSoFar {
         }
     }
 
-    /// The numbers of a packet's access unit, once it came, with so many missing before it.
-    fn of_unit(&self, packet: &RtpPacket<'_>, missing: u32) -> UnitNumbers {
-        let (sequence, timestamp) = (packet.sequence, packet.timestamp);
-        match self.unit {
-            Some(unit) if unit.timestamp == timestamp => UnitNumbers {
-                last: sequence,
-                missing: unit.missing.saturating_add(missing),
-                ..unit
-            },
-            _ => UnitNumbers {
-                timestamp,
-                first: sequence,
-                last: sequence,
-                missing,
-                continues: self.marked == Some(timestamp),
-            },
+    /// A packet came, before which so many are missing: its access unit is open, and another one ended.
+    #[inline]
+    fn go_on(&mut self, packet: &RtpPacket<'_>, missing: u32) {
+        match &mut self.unit {
+            Some(unit) if unit.timestamp == packet.timestamp => {
+                unit.last = packet.sequence;
+                unit.missing = unit.missing.saturating_add(missing);
+                self.ended = None;
+            }
+            _ => {
+                self.ended = self.unit;
+                self.unit = Some(UnitNumbers {
+                    timestamp: packet.timestamp,
+                    first: packet.sequence,
+                    last: packet.sequence,
+                    missing,
+                    continues: self.marked == Some(packet.timestamp),
+                });
+            }
         }
     }
 
@@ -102,28 +105,16 @@ impl NumbersSoFar {
     /// A packet was taken, and so many are missing before it.
     pub(crate) fn take(&mut self, packet: &RtpPacket<'_>, missing: u16) {
         let missing = self.skipped_gap.saturating_add(u32::from(missing));
-        let unit = self.of_unit(packet, missing);
-        let ended = match self.unit {
-            Some(unit) if unit.timestamp != packet.timestamp => Some(unit),
-            _ => None,
-        };
-        *self = if packet.marker {
-            NumbersSoFar {
-                unit: None,
-                marked: Some(packet.timestamp),
-                skipped_gap: 0,
-                ended,
-                ended_by_marker: Some(unit),
-            }
+        self.skipped_gap = 0;
+        self.go_on(packet, missing);
+        if packet.marker {
+            self.marked = Some(packet.timestamp);
+            self.ended_by_marker = self.unit;
+            self.unit = None;
         } else {
-            NumbersSoFar {
-                unit: Some(unit),
-                marked: None,
-                skipped_gap: 0,
-                ended,
-                ended_by_marker: None,
-            }
-        };
+            self.marked = None;
+            self.ended_by_marker = None;
+        }
     }
 
     /// Notes what became of a packet that was due, and not refused.

@@ -110,6 +110,12 @@ impl<D: RunDepacketizer> AccessUnitReceiver<D> {
             self.take_at_once(packet)?;
             return Ok(Pushed::Held);
         }
+        self.push_aside(now, packet)
+    }
+
+    /// Takes a packet that isn't taken at once.
+    #[inline(never)]
+    fn push_aside(&mut self, now: u32, packet: &RtpPacket<'_>) -> Result<Pushed, PacketError> {
         if self.waiting.is_far(packet.sequence) {
             return self.push_far(now, packet);
         }
@@ -304,6 +310,21 @@ impl<D: RunDepacketizer> AccessUnitReceiver<D> {
     /// Without memory the error is `OutOfMemory`: what was taken before stays taken, and the packet for
     /// which memory lacks is due still.
     pub fn next(&mut self, now: u32) -> Result<Option<ReceivedUnit>, PacketError> {
+        if self.is_idle() {
+            return Ok(None);
+        }
+        self.next_due(now)
+    }
+
+    /// Whether there is nothing to take or to give out.
+    #[inline]
+    fn is_idle(&self) -> bool {
+        !self.has_ended() && !self.is_anew && self.waiting.waits_for_none()
+    }
+
+    /// What `next` does.
+    #[inline(never)]
+    fn next_due(&mut self, now: u32) -> Result<Option<ReceivedUnit>, PacketError> {
         self.end_if_anew()?;
         self.drain(now)?;
         self.end_if_over()?;

@@ -231,6 +231,7 @@ impl ReorderBuffer {
 
     /// Takes back a packet that was given out, for its memory: a later one is copied there. That of 64
     /// is kept, each of 2048 bytes at most.
+    #[inline]
     pub fn give_back(&mut self, packet: HeldPacket) {
         self.spare.keep(packet.payload);
     }

@@ -85,7 +85,7 @@ impl<T: Numbered> NumberOrder<T> {
 
     /// Where a packet with this number stands, or else where it belongs. One ahead of the last, as
     /// most are, is not searched for.
-    #[inline]
+    #[inline(always)]
     fn place_from(&self, due: u16, number: u16) -> Result<usize, usize> {
         let len = self.len();
         if len == 0 || self.ahead_at(due, len - 1) < number.wrapping_sub(due) {

@@ -93,11 +93,18 @@ impl<T> Parted<T> {
 
     /// Puts a value at a place. One that comes last of all where there is no back, as most do, leaves
     /// what is known of the latest. Without memory all stays as it was, and the value comes back.
+    #[inline]
     pub(crate) fn try_insert(&mut self, place: usize, value: T) -> Result<(), AllocFailed<T>> {
         // Most come last of all, and mostly there is no back.
         if self.back.is_empty() && place == self.front.len() {
             return self.front.try_push_back(value);
         }
+        self.insert_within(place, value)
+    }
+
+    /// So of one that others may stand behind, or before which there is a back.
+    #[inline(never)]
+    fn insert_within(&mut self, place: usize, value: T) -> Result<(), AllocFailed<T>> {
         self.part_for(place);
         self.join_for_room(place);
         let len = self.front.len();

@@ -5,7 +5,7 @@ use Rattle.h26x_frames.specs.AccessUnit.{access_unit_value, open_depacketization
 use Rattle.h26x_access_units.specs.Reception.{Reception, reception, unit_given, without_given, IsDrained}
 use Rattle.h26x_access_units.specs.Limits.{IsWithinLimits}
 use Rattle.h26x_access_units.proofs.LimitLemmas.{left_within, next_within}
-use Rattle.h26x_access_units.proofs.receiver.AccessUnitReceiver.next.Goals as goal
+use Rattle.h26x_access_units.proofs.receiver.AccessUnitReceiver.next_due.Goals as goal
 
 pub returns-clause-next : goal.returns-clause-next
 returns-clause-next g c =

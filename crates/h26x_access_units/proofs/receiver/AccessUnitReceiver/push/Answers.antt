@@ -3,7 +3,7 @@ use Rattle.std.specs.Option.{option_map}
 use Rattle.h26x_frames.specs.ReorderBuffer.{numbered_packet}
 use Rattle.h26x_frames.specs.Receiver.{frames_at}
 use Rattle.h26x_access_units.specs.declared.pushed.Pushed.TheVariants as pushes
-use Rattle.h26x_access_units.specs.Reception.{reception, reception_answer, is_taken_at_once}
+use Rattle.h26x_access_units.specs.Reception.{reception, is_taken_at_once}
 use Rattle.h26x_access_units.proofs.ReceptionLemmas.{held_at_once}
 use Rattle.h26x_access_units.proofs.LimitLemmas.{pushed_within, far_within}
 use Rattle.h26x_access_units.proofs.receiver.AccessUnitReceiver.push.Goals as goal
@@ -19,15 +19,8 @@ returns-then-takes_at_once-clause-bounded g c =
     let is = held_at_once s p small len once in
     pushed_within c.args.now s _ c.args.packet.now pushes.Held is (search rules)
 
-pub returns-then-is_far-clause-bounded : goal.returns-then-is_far-clause-bounded
-returns-then-is_far-clause-bounded g c =
-    let old = c.args.self.now in
-    let s = reception old.waiting (option_map numbered_packet old.stray) old.is_anew (frames_at g.D.RunDepacketizer.state old.frames old.ended.items) old.numbers old.is_clean old.counts old.frames.packets.run_limit old.frames.unit_limit in
-    far_within c.args.now s _ c.args.packet.now c.push_far.result c.push_far.ensures.answer c.push_far.ensures.after c.push_far.ensures.kept
-
 pub returns-clause-bounded : goal.returns-clause-bounded
 returns-clause-bounded g c =
     let old = c.args.self.now in
     let s = reception old.waiting (option_map numbered_packet old.stray) old.is_anew (frames_at g.D.RunDepacketizer.state old.frames old.ended.items) old.numbers old.is_clean old.counts old.frames.packets.run_limit old.frames.unit_limit in
-    let is : c.in_ok-pushed.pushed ≡ reception_answer s c.args.packet.now = search rules in
-    pushed_within c.args.now s _ c.args.packet.now c.in_ok-pushed.pushed is (search rules)
+    far_within c.args.now s _ c.args.packet.now c.push_aside.result c.push_aside.ensures.answer c.push_aside.ensures.after c.push_aside.ensures.kept
