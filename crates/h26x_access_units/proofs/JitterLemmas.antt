@@ -1,12 +1,12 @@
 -- How many bytes wait, where a packet comes and where one goes.
-use Rattle.std.proofs.Common.{◌≡◌, ℕ, ◌+◌, true, false, List, [], ◌∷◌, length, Some, refl, arith}
-use Rattle.std.specs.Prelude.{◌==◌, ◌||◌, nat_lt}
+use Rattle.std.proofs.Common.{◌≡◌, ◌∙◌, ap, subst, ℕ, zero, suc, ◌+◌, ◌-◌, ◌<◌, true, false, cond, List, [], ◌∷◌, length, Option, Some, slice_index_or, refl, arith}
+use Rattle.std.specs.Prelude.{◌==◌, ◌||◌, ◌&&◌, nat_lt, nat_le}
 use Rattle.std.proofs.lemmas.Bool.Decides.{nat_tests}
 use Rattle.h26x_receiver.specs.Sequence.{distance_ahead, is_late}
-use Rattle.h26x_frames.specs.Rtp.{RtpBody}
-use Rattle.h26x_frames.specs.ReorderBuffer.{BufferState, due_at, put_packet, is_number_held, push_answer, after_push}
+use Rattle.h26x_frames.specs.Rtp.{RtpBody, rtp_body}
+use Rattle.h26x_frames.specs.ReorderBuffer.{BufferState, buffer_state, due_at, put_packet, is_number_held, push_answer, after_push, AreHeldInOrder, IsHeldInOrder}
 use Rattle.h26x_frames.specs.declared.pushed.Pushed.TheVariants as pushes
-use Rattle.h26x_access_units.specs.JitterBuffer.{held_bytes}
+use Rattle.h26x_access_units.specs.JitterBuffer.{held_bytes, newest_of, is_outside, is_far}
 
 -- a packet whose number is not held adds its bytes
 pub put_bytes : (due : ℕ) (p : ℕ × RtpBody) (held : List (ℕ × RtpBody)) → is_number_held p.0 held ≡ false →
@@ -45,3 +45,36 @@ push_window b p =
       | true ↦ λ e. rw e refl
       | false ↦ λ e. rw e refl
     ] refl
+
+-- the numbers of packets that wait have 16 bits
+number_small : (due from : ℕ) (held : List (ℕ × RtpBody)) (place : ℕ) → AreHeldInOrder due from held → (slice_index_or held place (0, rtp_body 0 false [])).0 < 65536
+number_small due from [] place order = omega arith
+number_small due from (p ∷ held) zero order = order.0
+number_small due from (p ∷ held) (suc place) order = number_small due (distance_ahead due p.0 + 1) held place order.3
+
+newest_small : (due : ℕ) (held : List (ℕ × RtpBody)) → due < 65536 → AreHeldInOrder due 0 held → newest_of due held < 65536
+newest_small due held small order = elim (length held == 0) as (λ b. cond b due (slice_index_or held (length held - 1) (0, rtp_body 0 false [])).0 < 65536) [
+  | true ↦ small
+  | false ↦ number_small due 0 held (length held - 1) order
+]
+
+-- a number less far ahead of the one that is due is not too far
+near_not_outside : (far due newest number : ℕ) → due < 65536 → newest < 65536 → number < 65536 → distance_ahead due number < far → is_outside far due newest number ≡ false
+near_not_outside far due newest number due_small newest_is number_is near =
+    elim (nat_lt (distance_ahead due newest) (distance_ahead due number)) as (λ b. nat_lt (distance_ahead due newest) (distance_ahead due number) ≡ b → (b && (nat_le far (distance_ahead newest number) && nat_le far (distance_ahead number due))) ≡ false) [
+      | true ↦ λ e.
+          let beyond : distance_ahead due newest < distance_ahead due number = grind (arith, nat_tests) in
+          let less : distance_ahead newest number < far = omega (arith, beyond, near, due_small, newest_is, number_is) in
+          let no : nat_le far (distance_ahead newest number) ≡ false = grind (arith, nat_tests) in
+          rw no refl
+      | false ↦ λ e. refl
+    ] refl
+
+pub near_not_far : (far : ℕ) (b : BufferState RtpBody) (due number : ℕ) → b.due ≡ Some due → IsHeldInOrder b.due b.held → number < 65536 → distance_ahead due number < far → is_far far b number ≡ false
+near_not_far far b due number is order number_is near =
+    let at : IsHeldInOrder (Some due) b.held = subst (λ (d : Option ℕ). IsHeldInOrder d b.held) is order in
+    let no = near_not_outside far due (newest_of due b.held) number at.0 (newest_small due b.held at.0 at.1) number_is near in
+    ap (λ (d : Option ℕ). is_far far (buffer_state b.window d b.held) number) is ∙ elim (far == 0) as (λ z. cond z false (is_outside far due (newest_of due b.held) number) ≡ false) [
+      | true ↦ refl
+      | false ↦ no
+    ]

@@ -105,7 +105,7 @@ impl JitterBuffer {
     {
         let far = self.config.far;
         match self.buffer.due() {
-            Some(due) if far != 0 => {
+            Some(due) if far != 0 && number.wrapping_sub(due) >= far => {
                 let newest = self.newest(due);
                 let is_between = number.wrapping_sub(due) <= newest.wrapping_sub(due);
                 let ahead = number.wrapping_sub(newest);

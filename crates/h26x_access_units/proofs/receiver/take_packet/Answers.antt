@@ -1,6 +1,5 @@
 use Rattle.std.proofs.Common.{rules, ◌≡◌, false}
 use Rattle.std.specs.Prelude.{◌==◌, length}
-use Rattle.h26x_access_units.specs.Numbers.{bears_nothing}
 use Rattle.h26x_access_units.proofs.ReceptionLemmas.{taken_as, some_bytes}
 use Rattle.h26x_access_units.proofs.receiver.take_packet.Goals as goal
 

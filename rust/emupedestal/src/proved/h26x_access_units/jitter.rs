@@ -70,7 +70,7 @@ impl JitterBuffer {
     pub fn is_far(&self, number: u16) -> bool {
         let far = self.config.far;
         match self.buffer.due() {
-            Some(due) if far != 0 => {
+            Some(due) if far != 0 && number.wrapping_sub(due) >= far => {
                 let newest = self.newest(due);
                 let is_between = number.wrapping_sub(due) <= newest.wrapping_sub(due);
                 let ahead = number.wrapping_sub(newest);

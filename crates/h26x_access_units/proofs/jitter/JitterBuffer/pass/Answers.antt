@@ -1,4 +1,4 @@
-use Rattle.std.proofs.Common.{rules, false, ◌≡◌, ◌∙◌, ◌<◌, ℕ, ap, sym, true, List, [], ◌∷◌, ◌++◌}
+use Rattle.std.proofs.Common.{rules, false, ◌≡◌, ◌∙◌, ◌<◌, ap, sym, true, List, [], ◌∷◌, ◌++◌}
 use Rattle.h26x_frames.specs.Rtp.{RtpBody, rtp_body}
 use Rattle.h26x_frames.specs.ReorderBuffer.{BufferState, goes_straight, after_push}
 use Rattle.h26x_frames.proofs.BufferLemmas.{straight_goes}
