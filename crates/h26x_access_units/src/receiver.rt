@@ -530,7 +530,6 @@ impl<D: RunDepacketizer> AccessUnitReceiver<D> {
     }
 
     /// What `next` does.
-    #[inline(never)]
     fn next_due(&mut self, now: u32) -> Result<Option<ReceivedUnit>, PacketError>
         ensures next { let r = ⟦<AccessUnitReceiver<D> as Receives>⟧.reception in
             IfOk result (λ unit.

@@ -323,7 +323,6 @@ impl<D: RunDepacketizer> AccessUnitReceiver<D> {
     }
 
     /// What `next` does.
-    #[inline(never)]
     fn next_due(&mut self, now: u32) -> Result<Option<ReceivedUnit>, PacketError> {
         self.end_if_anew()?;
         self.drain(now)?;
