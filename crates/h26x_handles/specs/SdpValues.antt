@@ -1,6 +1,6 @@
 -- What format parameters say in a grammar of their own, as the calls on them answer: constraints
 -- (RFC 7798, section 7.1; RFC 9328, section 7.2) and capability points (RFC 7798, section 7.1).
-use Rattle.std.specs.Prelude.{◌≡◌, ◌==◌, ℕ, Bool, false, if◌then◌else◌, List, ◌∷◌, map, length, Option, Some, None, Result, Err}
+use Rattle.std.specs.Prelude.{◌≡◌, ◌==◌, ◌⊎◌, ℕ, Bool, false, if◌then◌else◌, List, ◌∷◌, map, length, Option, Some, None, Result, Ok, Err}
 use Rattle.std.specs.Int.{from_be_bytes, w64}
 use Rattle.std.specs.Option.{ok_or, option_map}
 use Rattle.std.specs.Result.{result_map_both}
@@ -21,7 +21,7 @@ use Rattle.h26x_handles.specs.declared.sdp_values.SdpConstraints.{SdpConstraints
 use Rattle.h26x_handles.specs.declared.sdp_values.SdpConstraints.TheVariants as c
 use Rattle.h26x_handles.specs.declared.sdp_values.ConstraintNumbers.{ConstraintNumbers}
 use Rattle.h26x_handles.specs.declared.sdp_values.PointNumbers.{PointNumbers}
-use Rattle.h26x_handles.specs.Codes.{not_of_this_codec}
+use Rattle.h26x_handles.specs.Codes.{not_of_this_codec, out_of_memory}
 use Rattle.h26x_handles.specs.Copies.{with_first}
 use Rattle.h26x_handles.specs.SdpCodes.{absent, point_refused_with, points_refused, constraints_code}
 
@@ -109,3 +109,13 @@ sdp_points it or_default = Err (point_refused_with not_of_this_codec)
 pub record ArePut (points room new : List PointNumbers) (count : ℕ) : Type 0 where
   pub told : count ≡ length points
   pub put : new ≡ with_first points room
+
+-- the points of these parameters stand there so
+abbrev pub ArePointsPut : SdpEndpoint → Bool → List PointNumbers → List PointNumbers → ℕ → Type 0
+ArePointsPut it or_default room new count = (points : List PointNumbers)
+    × (sdp_points it or_default ≡ Ok points) × ArePut points room new count
+
+-- why there are none, which may be want of memory
+abbrev pub IsWithoutPoints : SdpEndpoint → Bool → PointRefused → Type 0
+IsWithoutPoints it or_default refused = (refused ≡ point_refused_with out_of_memory)
+    ⊎ (sdp_points it or_default ≡ Err refused)

@@ -1,7 +1,7 @@
 //! What format parameters say in a grammar of their own, as numbers: constraints, and capability
 //! points of H.265.
 
-ghost use Rattle.std.specs.Prelude.{◌≡◌, ◌⊎◌, List, Ok, Err, MatchResult, OnErr, map};
+ghost use Rattle.std.specs.Prelude.{◌≡◌, ◌⊎◌, Ok, Err, MatchResult, OnErr, map};
 ghost use Rattle.h26x_handles.specs.Copies.{with_first};
 ghost use Rattle.h26x_handles.specs.Codes as codes;
 ghost use Rattle.h26x_handles.specs.SdpCodes as code;
@@ -212,11 +212,8 @@ impl SdpEndpoint {
         to: &mut [PointNumbers],
     ) -> Result<usize, PointRefused>
         ensures points { MatchResult result
-            (λ count. (points : List PointNumbers)
-            × (spec.sdp_points self.now or_default ≡ Ok points)
-            × spec.ArePut points to.old to.new count)
-            (λ refused. (refused ≡ code.point_refused_with codes.out_of_memory)
-            ⊎ (spec.sdp_points self.now or_default ≡ Err refused)) }
+            (spec.ArePointsPut self.now or_default to.old to.new)
+            (spec.IsWithoutPoints self.now or_default) }
         ensures kept { OnErr result (to.new ≡ to.old) }
     {
         match self {
