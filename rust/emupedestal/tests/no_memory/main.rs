@@ -1,0 +1,51 @@
+//! Each request for memory is refused: the call says so, changes nothing, and can be made again. A call that
+//! aborted would end the test. And calls that take no memory.
+//!
+//! `public` asks the crate's own calls. The other modules ask the proved ones, also those that no public call makes,
+//! and so have these as modules of their own. Their bytes and answers are from outside, as the RFCs have them; those of
+//! `drawn` are of plain models.
+
+extern crate alloc;
+
+mod access_units;
+mod buffer;
+mod codec;
+mod drawn;
+mod ends;
+mod h264;
+mod h265;
+mod h266;
+mod kept;
+mod public;
+mod refusing;
+mod reorder;
+mod sequenced;
+mod shown;
+mod words;
+
+#[allow(dead_code, unused_imports)]
+#[allow(clippy::all)]
+#[path = "../../src/proved"]
+mod proved {
+    pub mod h264_payload;
+    pub mod h265_packets;
+    pub mod h265_payload;
+    pub mod h266_payload;
+    pub mod h26x_codec;
+    pub mod h26x_core;
+    pub mod h26x_cut;
+    pub mod h26x_frames;
+    pub mod h26x_payload;
+    #[cfg(feature = "sdp")]
+    pub mod h26x_profile;
+    pub mod h26x_receiver;
+    #[cfg(feature = "sdp")]
+    pub mod h26x_sdp;
+}
+
+// What support is for parameters of SDP has no caller here.
+#[allow(dead_code, unused_imports)]
+#[path = "../../src/support.rs"]
+mod support;
+
+use proved::h26x_core::PacketError;
