@@ -1,27 +1,19 @@
 //! Worked cases of the payload formats, from outside: bytes in hexadecimal, as the RFCs and the
 //! crate that this is a port of have them.
 
-use h26x_codec::{Carried, Codec, CodecDepacketizer, CodecPacketizer, carry};
-use h26x_core::{CodecExtra, H264CodecExtra, H265CodecExtra, H266CodecExtra, PacketError};
-use h264_payload::H264Depacketizer;
-use h265_payload::H265Depacketizer;
-use h266_payload::H266Depacketizer;
+use h26x_codec::Codec;
+use h26x_core::{CodecExtra, H264CodecExtra, H265CodecExtra, H266CodecExtra};
 use std::alloc::{AllocError, Global};
 use std::fmt;
 use std::process::Abort;
 use std::test::Fail;
 
-mod again;
-pub(crate) mod buffers;
-mod carry;
+mod buffers;
 mod codec;
-mod constants;
-mod ends;
 mod h264;
 mod h265;
 mod h266;
 pub(crate) mod lines;
-mod take;
 
 /// Bytes by two digits each; spaces may stand between them.
 pub(crate) fn bytes_of(alloc: Global, text: &str) -> Result<Vec<u8>, AllocError> {
@@ -78,33 +70,6 @@ pub(crate) fn same_packets(rt: &impl Abort, made: &[Vec<u8>], wanted: &[&[u8]]) 
     }
 }
 
-/// A unit of 100,000 bytes without a zero, no two of whose fragments at 1200 are alike.
-fn long_unit(alloc: Global) -> Result<Vec<u8>, AllocError> {
-    let mut unit = Vec::with_capacity(alloc, 100_000)?;
-    unit.push(0x65)?;
-    for place in 1..100_000u32 {
-        unit.push((place % 251 + 1) as u8)?;
-    }
-    Ok(unit)
-}
-
-/// A fresh depacketizer of a codec.
-fn fresh(alloc: Global, codec: Codec, donl: bool) -> CodecDepacketizer {
-    match codec {
-        Codec::H264 => CodecDepacketizer::H264(H264Depacketizer::new(alloc)),
-        Codec::H265 => {
-            let mut depacketizer = H265Depacketizer::new(alloc);
-            depacketizer.with_donl(donl);
-            CodecDepacketizer::H265(depacketizer)
-        }
-        Codec::H266 => {
-            let mut depacketizer = H266Depacketizer::new(alloc);
-            depacketizer.with_donl(donl);
-            CodecDepacketizer::H266(depacketizer)
-        }
-    }
-}
-
 /// What is told of units of a codec.
 fn told(codec: Codec, is_keyframe: bool) -> CodecExtra {
     match codec {
@@ -112,20 +77,4 @@ fn told(codec: Codec, is_keyframe: bool) -> CodecExtra {
         Codec::H265 => CodecExtra::H265(H265CodecExtra { is_keyframe }),
         Codec::H266 => CodecExtra::H266(H266CodecExtra { is_keyframe }),
     }
-}
-
-/// Carries calls through a fresh packetizer and depacketizer of H.264, whose units are written in
-/// AVC form or behind start codes. What is written goes behind `out`.
-fn carry_fresh(
-    alloc: Global,
-    is_avc: bool,
-    calls: &[(usize, Vec<u8>)],
-    out: &mut Vec<u8>,
-    extra: &mut CodecExtra,
-) -> Result<Carried, PacketError> {
-    let mut receiver = H264Depacketizer::new(alloc);
-    receiver.is_avc = is_avc;
-    let mut packetizer = CodecPacketizer::new(alloc, Codec::H264);
-    let mut depacketizer = CodecDepacketizer::H264(receiver);
-    carry(alloc, &mut packetizer, &mut depacketizer, calls, out, extra)
 }

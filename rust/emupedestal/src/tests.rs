@@ -12,6 +12,7 @@ mod numbers;
 mod packetizer;
 mod packets;
 mod profile;
+mod proved;
 mod quiet;
 mod refusals;
 #[cfg(feature = "sdp")]

@@ -1,5 +1,7 @@
 //! Tests of what is written by hand, beside `h26x.h` and `words.c`: the words, the version, the structs, and NULL.
 
+mod handles;
+
 use crate::proved::h26x_c::exports::*;
 use crate::words::{h26x_codec_name, h26x_origin, h26x_strerror, h26x_version};
 use core::ffi::{CStr, c_char};

@@ -3,8 +3,8 @@ ghost use Rattle.std.specs.Prelude.{[]};
 use super::*;
 use crate::rows::lines::sending::{Sender, Way};
 use crate::rows::lines::walk;
-use crate::rows::{calls_of, same, same_bytes, same_packets};
-use h26x_codec::{Carried, CodecDepacketizer, CodecPacketizer, carry};
+use crate::rows::{calls_of, list_of, same, same_bytes, same_packets};
+use h26x_codec::{Carried, CodecDepacketizer, CodecPacketizer, carry, take_all};
 use h26x_core::H265CodecExtra;
 use std::fmt;
 use std::process::Abort;
@@ -123,6 +123,32 @@ fn take_in_a_box(
         depacketizer.depacketize(&[1, 2], out, extra),
         depacketizer.depacketize(&[], out, extra),
     ])
+}
+
+/// What becomes of packets that one in a box is given as a list. What is written and told goes
+/// behind `out` and into `extra`.
+fn take_each_in_a_box(
+    alloc: Global,
+    packets: &[Vec<u8>],
+    out: &mut Vec<u8>,
+    extra: &mut CodecExtra,
+) -> Result<Vec<Result<(), PacketError>>, Fail> {
+    let plain = PlainDepacketizer::new(alloc);
+    let mut depacketizer = CodecDepacketizer::Boxed(Box::new(alloc, plain)?);
+    Ok(take_all(alloc, &mut depacketizer, packets, out, extra)?)
+}
+
+#[test]
+fn packets_for_an_end_in_a_box(rt: HostRuntime) -> Result<(), Fail> {
+    let packets = list_of(rt.alloc(), "aa - bb")?;
+    let mut out = Vec::new(rt.alloc());
+    let mut extra = CodecExtra::None;
+    let outcomes = take_each_in_a_box(rt.alloc(), &packets, &mut out, &mut extra)?;
+    let short = Err(PacketError::ErrShortPacket);
+    assert!(rt; outcomes.as_slice() == [Ok(()), short, Ok(())].as_slice());
+    same_bytes(&rt, &out, &[0xaa, 0xbb], "a box");
+    same(&rt, &extra, &CodecExtra::None, "a box");
+    Ok(())
 }
 
 /// What a depacketizer says of heads and tails, and how much it writes of 2400 bytes.

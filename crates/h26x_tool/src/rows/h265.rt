@@ -7,11 +7,8 @@ use receiving::RECEIVING;
 use sending::{LONG, SENDING};
 use std::test::Fail;
 
-mod packets;
 mod receiving;
 mod sending;
-mod shown;
-mod words;
 
 #[test]
 fn packets_in_a_list(rt: HostRuntime) -> Result<(), Fail> {

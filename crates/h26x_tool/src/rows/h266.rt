@@ -9,7 +9,6 @@ use std::test::Fail;
 
 mod receiving;
 mod sending;
-mod words;
 
 #[test]
 fn packets_in_a_list(rt: HostRuntime) -> Result<(), Fail> {

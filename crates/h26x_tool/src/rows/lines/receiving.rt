@@ -3,10 +3,9 @@
 use super::Answers;
 use super::settings::Settings;
 use super::text::{bytes_of, list_of, number, push_bytes, push_word, refusal, yes_or_no};
-use crate::rows::ends::{STOOD, hand};
 use crate::rows::told;
 use h26x_codec::Codec;
-use h26x_core::{CodecExtra, Depacketizer, PacketError};
+use h26x_core::{CodecExtra, Depacketizer, H264CodecExtra, PacketError};
 use h26x_receiver::{AnyDepacketizer, RunDepacketizer};
 use h264_payload::{detect_h264_keyframe, detect_h264_nalu};
 use h265_payload::detect_h265_keyframe;
@@ -121,6 +120,19 @@ impl Answers for Receiver {
     }
 }
 
+/// Hands packets to a depacketizer.
+fn hand<D: Depacketizer>(
+    depacketizer: &mut D,
+    packets: &[Vec<u8>],
+    out: &mut Vec<u8>,
+    told: &mut CodecExtra,
+) -> Result<(), PacketError> {
+    for packet in packets {
+        depacketizer.depacketize(packet, out, told)?;
+    }
+    Ok(())
+}
+
 /// A depacketizer that words name: its codec, its settings, and packets that it has taken.
 fn made(alloc: Global, words: &[&str]) -> Result<AnyDepacketizer, Fail> {
     let settings = Settings::of_words(words)?;
@@ -165,6 +177,9 @@ fn word_of(codec: Codec, extra: CodecExtra) -> &'static str {
         "another-codec"
     }
 }
+
+/// What was told before a packet that is refused.
+const STOOD: CodecExtra = CodecExtra::H264(H264CodecExtra { is_keyframe: true });
 
 /// Why a packet is refused, where that leaves what was written and told.
 fn refused<D: Depacketizer>(

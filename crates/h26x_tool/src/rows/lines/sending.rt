@@ -3,7 +3,7 @@
 use super::Answers;
 use super::settings::Settings;
 use super::text::{bytes_of, number, packets, yes_or_no};
-use crate::rows::buffers::{Appends, How, lie_well, packets_of};
+use crate::rows::buffers::{How, append, lie_well, packets_of};
 use h26x_codec::{Codec, CodecPacketizer};
 use h26x_core::{PacketError, Packetizer};
 use h26x_payload::PacketBuffer;
@@ -72,7 +72,7 @@ impl Sender {
         let bytes = bytes_of(alloc, bytes)?;
         match self.way {
             Way::List => Ok(list(&mut self.packetizer, how, limit, &bytes)?),
-            Way::Buffer(_) => append(
+            Way::Buffer(_) => append_well(
                 alloc,
                 &mut self.packetizer,
                 &mut self.buffer,
@@ -208,30 +208,30 @@ fn are_within(packets: &[Vec<u8>], limit: usize) -> bool {
 }
 
 /// The packets of bytes in a list.
-fn list<P: Appends>(
-    packetizer: &mut P,
+fn list(
+    packetizer: &mut CodecPacketizer,
     how: How,
     limit: usize,
     bytes: &[u8],
 ) -> Result<Vec<Vec<u8>>, PacketError> {
     match how {
         How::Payload => packetizer.packetize(limit, bytes),
-        How::Unit => packetizer.send_unit(limit, bytes),
+        How::Unit => packetizer.packetize_unit(limit, bytes),
     }
 }
 
 /// The packets of bytes that are appended to a buffer, in which all packets lie as they should, and
 /// those of before stay.
-fn append<P: Appends>(
+fn append_well(
     alloc: Global,
-    packetizer: &mut P,
+    packetizer: &mut CodecPacketizer,
     buffer: &mut PacketBuffer,
     how: How,
     limit: usize,
     bytes: &[u8],
 ) -> Result<Vec<Vec<u8>>, Fail> {
     let before = packets_of(alloc, buffer)?;
-    packetizer.append(how, limit, bytes, buffer)?;
+    append(packetizer, how, limit, bytes, buffer)?;
     let all = packets_of(alloc, buffer)?;
     if !lie_well(alloc, buffer, &all)? {
         return Err("packets don't lie in a buffer as they should")?;
@@ -252,16 +252,16 @@ fn copies(alloc: Global, packets: &[Vec<u8>]) -> Result<Vec<Vec<u8>>, AllocError
 
 /// Whether one appends the packets of a payload, and then those of it as a unit, that the other
 /// sends of the unit, and then of the payload.
-fn are_alike<P: Appends>(
+fn are_alike(
     alloc: Global,
-    one: &mut P,
-    other: &mut P,
+    one: &mut CodecPacketizer,
+    other: &mut CodecPacketizer,
     limit: usize,
     bytes: &[u8],
 ) -> Result<bool, Fail> {
     let mut buffer = PacketBuffer::new(alloc, 12);
-    let mut appended = append(alloc, one, &mut buffer, How::Payload, limit, bytes)?;
-    for packet in append(alloc, one, &mut buffer, How::Unit, limit, bytes)? {
+    let mut appended = append_well(alloc, one, &mut buffer, How::Payload, limit, bytes)?;
+    for packet in append_well(alloc, one, &mut buffer, How::Unit, limit, bytes)? {
         appended.push(packet)?;
     }
     let mut sent = list(other, How::Unit, limit, bytes)?;
