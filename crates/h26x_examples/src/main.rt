@@ -1,5 +1,5 @@
 //! A program that sends an Annex B stream, receives it again and tells what it had; and, as tests,
-//! the code of the documents.
+//! which are proved too, the code of the documents and what the laws say of each codec.
 //!
 //! `h26x_examples CODEC [FILE]` reads the file, or standard input where none is named; the codec is
 //! `h264`, `h265` or `h266`.
@@ -20,7 +20,9 @@ mod h264;
 mod h265;
 #[cfg(test)]
 mod h266;
+#[cfg(test)]
 mod laws_met;
+#[cfg(test)]
 mod model_laws_met;
 #[cfg(test)]
 mod one_buffer;

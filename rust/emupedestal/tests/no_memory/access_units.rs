@@ -51,12 +51,13 @@ impl Receiver {
         assert_eq!(received, Ok(want), "{sequence}");
     }
 
-    /// Ends the stream, each request refused before; a refusal leaves what is open.
+    /// Ends the stream, each request refused before; a refusal leaves what is open, and the number that is expected.
     #[track_caller]
     fn end(&mut self) {
-        let before = self.it.unit.clone();
-        let ended = insist(self, |it| it.it.end(&mut it.out), |it| it.it.unit == before);
-        assert_eq!(ended, Ok(()));
+        self.out.shrink_to_fit();
+        let before = (self.it.unit.clone(), self.it.packets.expected);
+        let kept = |it: &Self| it.it.unit == before.0 && it.it.packets.expected == before.1;
+        some_refused(|| assert_eq!(insist(self, |it| it.it.end(&mut it.out), kept), Ok(())));
         assert!(!self.it.unit.is_open() && self.it.packets.expected.is_none());
     }
 }

@@ -76,21 +76,22 @@ fn copies_of_units() {
     some_refused(|| is_copied(&shown.other_units()[0]));
 }
 
-/// Sets a unit of 40 bytes in the place of another; a refusal leaves that. The second time it has room.
+/// Sets units in the place of others, which a refusal leaves. One that is no longer has room.
 #[test]
 fn units_set() {
     let mut unit = H265AggregationUnit::empty();
-    let set = |unit: &mut H265AggregationUnit, bytes: &[u8; 40]| {
+    let mut set = |bytes: &[u8]| {
         let before = unit.try_clone().expect("a copy");
-        let answer = insist(unit, |it| it.set(Some(7), bytes), |it| *it == before);
+        let answer = insist(&mut unit, |it| it.set(Some(7), bytes), |it| *it == before);
         assert_eq!(answer, Ok(()));
-        assert_eq!((unit.dond(), unit.nal_unit()), (Some(7), &bytes[..]));
+        assert_eq!((unit.dond(), unit.nal_unit()), (Some(7), bytes));
     };
-    some_refused(|| set(&mut unit, &[0x42; 40]));
-    let second = without_memory(|| unit.set(Some(7), &[0x44; 40]));
+    some_refused(|| set(&[0x42; 40]));
+    some_refused(|| set(&[0x43; 90]));
+    let answer = without_memory(|| unit.set(None, &[0x44; 40]));
     assert_eq!(
-        (second, unit.dond(), unit.nal_unit()),
-        (Ok(()), Some(7), &[0x44; 40][..])
+        (answer, unit.dond(), unit.nal_unit()),
+        (Ok(()), None, &[0x44; 40][..])
     );
 }
 
