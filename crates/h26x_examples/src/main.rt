@@ -39,8 +39,6 @@ mod sdp;
 #[cfg(test)]
 mod sequenced;
 #[cfg(test)]
-mod simulation;
-#[cfg(test)]
 mod stand_ins;
 
 use annex_b::{count, print, read_stream};

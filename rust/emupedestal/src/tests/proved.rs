@@ -3,7 +3,9 @@
 
 mod buffers;
 mod codec;
+mod network;
 mod packets;
+mod profiles;
 mod runs;
 mod shown;
 mod take;

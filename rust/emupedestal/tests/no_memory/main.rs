@@ -16,6 +16,7 @@ mod h264;
 mod h265;
 mod h266;
 mod kept;
+mod profiles;
 mod public;
 mod refusing;
 mod reorder;
@@ -36,7 +37,6 @@ mod proved {
     pub mod h26x_cut;
     pub mod h26x_frames;
     pub mod h26x_payload;
-    #[cfg(feature = "sdp")]
     pub mod h26x_profile;
     pub mod h26x_receiver;
     #[cfg(feature = "sdp")]
