@@ -18,6 +18,8 @@ fn main(rt: HostRuntime) -> ExitCode {
 }
 
 #[cfg(test)]
+mod cut;
+#[cfg(test)]
 mod handles;
 #[cfg(test)]
 mod rows;

@@ -14,6 +14,7 @@ mod h264;
 mod h265;
 mod h266;
 mod memory;
+mod texts;
 mod words;
 
 /// What a fresh session answers.

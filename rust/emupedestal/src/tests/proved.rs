@@ -1,6 +1,7 @@
 //! Worked rows of the proved modules' own calls, also of those that no public call makes: bytes and answers from
 //! outside, as the RFCs and the crate that this is a port of have them.
 
+mod access_units;
 mod buffers;
 mod codec;
 mod network;

@@ -1,20 +1,16 @@
 //! A stream as a network brings it, step by step.
 
-ghost use Rattle.std.specs.Prelude.{◌≡◌};
-
-use h26x_access_units::{AccessUnitConfig, AccessUnitReceiver, Pushed, ReceivedUnit, Receives};
-use h26x_codec::Codec;
-use h26x_core::PacketError;
-use h26x_frames::RtpPacket;
-use h26x_receiver::{AnyDepacketizer, AnyPayloadDepacketizer, RunDepacketizer};
-use h264_payload::H264Depacketizer;
-use std::alloc::Global;
+use crate::proved::h26x_access_units::{
+    AccessUnitConfig, AccessUnitReceiver, Pushed, ReceivedUnit, Receives,
+};
+use crate::proved::h26x_codec::Codec;
+use crate::proved::h26x_frames::RtpPacket;
+use crate::proved::h26x_receiver::{AnyDepacketizer, AnyPayloadDepacketizer, RunDepacketizer};
+use crate::proved::h264_payload::H264Depacketizer;
 
 /// The settings of the tests: a window of 4 packets, a wait of 100 ticks, 20 bytes; a number so far
 /// from the one due is a stray.
-fn config(far: u16) -> AccessUnitConfig
-    ensures { result.window ≡ 4 }
-{
+fn config(far: u16) -> AccessUnitConfig {
     AccessUnitConfig {
         window: 4,
         far,
@@ -54,10 +50,11 @@ fn is_wanted(unit: &ReceivedUnit, timestamp: u32, len: usize, told: [bool; 3]) -
         && unit.continues == told[2]
 }
 
-/// Does the steps, and answers the place of the first that went otherwise.
-fn walk(alloc: Global, far: u16, steps: &[Step<'_>]) -> Result<Option<usize>, PacketError> {
-    let depacketizer = H264Depacketizer::new(alloc);
-    let mut receiver = AccessUnitReceiver::new(alloc, depacketizer, config(far));
+/// Does the steps, and compares what comes of each.
+#[track_caller]
+fn walk(far: u16, steps: &[Step<'_>]) {
+    let depacketizer = H264Depacketizer::new();
+    let mut receiver = AccessUnitReceiver::new(depacketizer, config(far));
     for (place, step) in steps.iter().enumerate() {
         let is_as_wanted = match step {
             Step::Push(now, sequence, timestamp, marker, payload, answer) => {
@@ -67,11 +64,11 @@ fn walk(alloc: Global, far: u16, steps: &[Step<'_>]) -> Result<Option<usize>, Pa
                     marker: *marker,
                     payload,
                 };
-                receiver.push(*now, &packet)? == *answer
+                receiver.try_push(*now, &packet) == Ok(*answer)
             }
-            Step::Skip(now, sequence, answer) => receiver.skip(*now, *sequence)? == *answer,
+            Step::Skip(now, sequence, answer) => receiver.skip(*now, *sequence) == Ok(*answer),
             Step::Unit(now, timestamp, len, told, first, last, missing) => {
-                match receiver.next(*now)? {
+                match receiver.next(*now).expect("memory") {
                     Some(unit) => {
                         let is_it = is_wanted(&unit, *timestamp, *len, *told)
                             && unit.first == *first
@@ -83,9 +80,9 @@ fn walk(alloc: Global, far: u16, steps: &[Step<'_>]) -> Result<Option<usize>, Pa
                     None => false,
                 }
             }
-            Step::None(now) => receiver.next(*now)?.is_none(),
+            Step::None(now) => receiver.next(*now).is_ok_and(|unit| unit.is_none()),
             Step::Deadline(at) => receiver.deadline() == *at,
-            Step::Missing(numbers) => receiver.missing()?.as_slice() == *numbers,
+            Step::Missing(numbers) => receiver.missing().as_deref() == Ok(*numbers),
             Step::Finish => {
                 receiver.finish();
                 true
@@ -95,11 +92,8 @@ fn walk(alloc: Global, far: u16, steps: &[Step<'_>]) -> Result<Option<usize>, Pa
                 true
             }
         };
-        if !is_as_wanted {
-            return Ok(Some(place));
-        }
+        assert!(is_as_wanted, "step {place}");
     }
-    Ok(None)
 }
 
 /// A keyframe's slice, another slice, and the fragments of a keyframe's slice of three bytes (RFC
@@ -119,9 +113,8 @@ const LONG: &[u8] = &[0x61, 2, 2, 2, 2, 2, 2, 2, 2, 2, 2, 2, 2, 2, 2];
 const NOTHING: &[u8] = &[];
 
 #[test]
-fn a_stream_that_begins_waits(rt: HostRuntime) -> Result<(), PacketError> {
-    let at = walk(
-        rt.alloc(),
+fn a_stream_that_begins_waits() {
+    walk(
         0,
         &[
             Step::Deadline(None),
@@ -145,15 +138,12 @@ fn a_stream_that_begins_waits(rt: HostRuntime) -> Result<(), PacketError> {
             Step::Unit(210, 9000, 0, [false, false, false], 700, 701, 0),
             Step::Unit(210, 12000, 6, [true, true, false], 702, 702, 0),
         ],
-    )?;
-    assert!(rt; at.is_none(), "{at:?}");
-    Ok(())
+    );
 }
 
 #[test]
-fn packets_missing_late_and_twice(rt: HostRuntime) -> Result<(), PacketError> {
-    let at = walk(
-        rt.alloc(),
+fn packets_missing_late_and_twice() {
+    walk(
         0,
         &[
             Step::Push(0, 10, 0, true, KEY, Pushed::Held),
@@ -183,15 +173,12 @@ fn packets_missing_late_and_twice(rt: HostRuntime) -> Result<(), PacketError> {
             Step::None(204),
             Step::Push(205, 16, 9000, true, SLICE, Pushed::Late(3)),
         ],
-    )?;
-    assert!(rt; at.is_none(), "{at:?}");
-    Ok(())
+    );
 }
 
 #[test]
-fn markers_and_numbers_that_bear_nothing(rt: HostRuntime) -> Result<(), PacketError> {
-    let at = walk(
-        rt.alloc(),
+fn markers_and_numbers_that_bear_nothing() {
+    walk(
         0,
         &[
             Step::Push(0, 10, 0, true, KEY, Pushed::Held),
@@ -230,31 +217,28 @@ fn markers_and_numbers_that_bear_nothing(rt: HostRuntime) -> Result<(), PacketEr
             Step::Unit(102, 21000, 6, [false, true, true], 26, 26, 0),
             Step::None(102),
         ],
-    )?;
-    assert!(rt; at.is_none(), "{at:?}");
-    Ok(())
+    );
 }
 
 /// Whether the access unit that these packets make, the last with a marker, is told to be whole behind
 /// one that was, and how many bytes it has.
 fn told<D: RunDepacketizer>(
-    alloc: Global,
     depacketizer: D,
     key: &[u8],
     payloads: &[&[u8]],
-) -> Result<Option<(bool, bool, usize)>, PacketError> {
+) -> Option<(bool, bool, usize)> {
     let settings = AccessUnitConfig {
         held_limit: 1000,
         ..config(0)
     };
-    let mut receiver = AccessUnitReceiver::new(alloc, depacketizer, settings);
+    let mut receiver = AccessUnitReceiver::new(depacketizer, settings);
     let packet = RtpPacket {
         sequence: 65534,
         timestamp: 0,
         marker: true,
         payload: key,
     };
-    let _ = receiver.push(0, &packet)?;
+    receiver.try_push(0, &packet).expect("memory");
     let mut sequence: u16 = 65535;
     for (place, payload) in payloads.iter().enumerate() {
         let packet = RtpPacket {
@@ -263,18 +247,17 @@ fn told<D: RunDepacketizer>(
             marker: place + 1 == payloads.len(),
             payload,
         };
-        let _ = receiver.push(0, &packet)?;
+        receiver.try_push(0, &packet).expect("memory");
         sequence = sequence.wrapping_add(1);
     }
     receiver.finish();
-    let _ = receiver.next(0)?;
-    let unit = receiver.next(0)?;
-    Ok(unit.map(|it| (it.is_whole, it.is_clean, it.bytes.len())))
+    receiver.next(0).expect("memory");
+    let unit = receiver.next(0).expect("memory");
+    unit.map(|it| (it.is_whole, it.is_clean, it.bytes.len()))
 }
 
 #[test]
-fn starts_in_a_row(rt: HostRuntime) -> Result<(), PacketError> {
-    let alloc = rt.alloc();
+fn starts_in_a_row() {
     // A unit alone, and of another one the start, a middle part, the end, and both at once, by the
     // codec and whether packets bear numbers (RFC 6184, 5.8; RFC 7798, 4.4.3; RFC 9328, 4.3.3).
     let h264: [&[u8]; 5] = [KEY, START, MIDDLE, END, &[0x7c, 0xc5, 9]];
@@ -324,27 +307,19 @@ fn starts_in_a_row(rt: HostRuntime) -> Result<(), PacketError> {
         ];
         for (payloads, is_whole, len) in wanted {
             let want = Some((is_whole, is_whole, len));
-            let mut any = AnyDepacketizer::new(alloc, codec);
+            let mut any = AnyDepacketizer::new(codec);
             any.with_donl(has_donl);
-            assert!(rt;
-                told(alloc, any, key, payloads)? == want,
-                "{codec:?} {want:?}"
-            );
-            let mut plain = AnyPayloadDepacketizer::new(alloc, codec);
+            assert_eq!(told(any, key, payloads), want, "{codec:?}");
+            let mut plain = AnyPayloadDepacketizer::new(codec);
             plain.with_donl(has_donl);
-            assert!(rt;
-                told(alloc, plain, key, payloads)? == want,
-                "{codec:?} {want:?}"
-            );
+            assert_eq!(told(plain, key, payloads), want, "{codec:?}");
         }
     }
-    Ok(())
 }
 
 #[test]
-fn limits_ends_and_restarts(rt: HostRuntime) -> Result<(), PacketError> {
-    let at = walk(
-        rt.alloc(),
+fn limits_ends_and_restarts() {
+    walk(
         0,
         &[
             // 15 bytes wait, then 30, which is past 20: none more, and the first are due.
@@ -373,21 +348,18 @@ fn limits_ends_and_restarts(rt: HostRuntime) -> Result<(), PacketError> {
             Step::Finish,
             Step::Unit(0x55, 3000, 6, [false, false, false], 45541, 45541, 0),
         ],
-    )?;
-    assert!(rt; at.is_none(), "{at:?}");
-    Ok(())
+    );
 }
 
 #[test]
-fn texts_given_up_are_counted(rt: HostRuntime) -> Result<(), PacketError> {
-    let alloc = rt.alloc();
+fn texts_given_up_are_counted() {
     // Two slices make 12 bytes, of which the third is no part: it bears the marker.
     for (unit_limit, given_up, len) in [(12, 0, 18), (11, 1, 6)] {
         let settings = AccessUnitConfig {
             unit_limit,
             ..config(0)
         };
-        let mut receiver = AccessUnitReceiver::new(alloc, H264Depacketizer::new(alloc), settings);
+        let mut receiver = AccessUnitReceiver::new(H264Depacketizer::new(), settings);
         for (sequence, marker) in [(10, false), (11, false), (12, true)] {
             let packet = RtpPacket {
                 sequence,
@@ -395,20 +367,18 @@ fn texts_given_up_are_counted(rt: HostRuntime) -> Result<(), PacketError> {
                 marker,
                 payload: SLICE,
             };
-            let _ = receiver.push(0, &packet)?;
+            receiver.try_push(0, &packet).expect("memory");
         }
         receiver.finish();
-        let unit = receiver.next(0)?;
-        assert!(rt; unit.is_some_and(|it| it.bytes.len() == len));
-        assert!(rt; receiver.counts().texts_given_up == given_up);
+        let unit = receiver.next(0).expect("memory");
+        assert!(unit.is_some_and(|it| it.bytes.len() == len));
+        assert!(receiver.counts().texts_given_up == given_up);
     }
-    Ok(())
 }
 
 #[test]
-fn strays_and_a_stream_that_begins_anew(rt: HostRuntime) -> Result<(), PacketError> {
-    let at = walk(
-        rt.alloc(),
+fn strays_and_a_stream_that_begins_anew() {
+    walk(
         100,
         &[
             Step::Push(0, 10, 0, true, KEY, Pushed::Held),
@@ -436,15 +406,12 @@ fn strays_and_a_stream_that_begins_anew(rt: HostRuntime) -> Result<(), PacketErr
             Step::Unit(200, 15000, 6, [false, false, false], 11, 11, 0),
             Step::None(200),
         ],
-    )?;
-    assert!(rt; at.is_none(), "{at:?}");
-    Ok(())
+    );
 }
 
 #[test]
-fn strays_by_the_newest_that_waits(rt: HostRuntime) -> Result<(), PacketError> {
-    let at = walk(
-        rt.alloc(),
+fn strays_by_the_newest_that_waits() {
+    walk(
         6,
         &[
             // 7 is due, so 13 is 6 ahead of it, and 1 ahead of the newest.
@@ -472,15 +439,12 @@ fn strays_by_the_newest_that_waits(rt: HostRuntime) -> Result<(), PacketError> {
             Step::Unit(0, 21000, 6, [false, false, false], 26, 26, 2),
             Step::None(0),
         ],
-    )?;
-    assert!(rt; at.is_none(), "{at:?}");
-    Ok(())
+    );
 }
 
 #[test]
-fn a_window_sent_backwards(rt: HostRuntime) -> Result<(), PacketError> {
-    let at = walk(
-        rt.alloc(),
+fn a_window_sent_backwards() {
+    walk(
         0,
         &[
             Step::Push(0, 10, 0, true, KEY, Pushed::Held),
@@ -508,7 +472,5 @@ fn a_window_sent_backwards(rt: HostRuntime) -> Result<(), PacketError> {
             Step::Deadline(None),
             Step::None(205),
         ],
-    )?;
-    assert!(rt; at.is_none(), "{at:?}");
-    Ok(())
+    );
 }
