@@ -28,6 +28,16 @@ fn sets() {
     some_refused(|| send(&mut packetizer, 1500, &[5, 4, 5], &[&SETS, &[5, 4, 5]]));
 }
 
+/// A unit behind an SPS and a PPS that wait.
+#[test]
+fn a_unit_behind_sets() {
+    let mut packetizer = H264Packetizer::new();
+    send(&mut packetizer, 1500, &[7, 0, 1], &[]);
+    send(&mut packetizer, 1500, &[8, 2, 3], &[]);
+    let sets: &[u8] = &[0x78, 0, 3, 7, 0, 1, 0, 3, 8, 2, 3];
+    some_refused(|| send(&mut packetizer, 1500, &[5, 4, 5], &[sets, &[5, 4, 5]]));
+}
+
 /// A PPS, and a unit of seven bytes behind it.
 const SET_AND_UNIT: [u8; 15] = [0, 0, 1, 8, 9, 0, 0, 1, 0x65, 1, 2, 3, 4, 5, 6];
 
