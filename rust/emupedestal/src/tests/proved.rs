@@ -8,6 +8,8 @@ mod network;
 mod packets;
 mod profiles;
 mod runs;
+#[cfg(feature = "sdp")]
+mod sdp;
 mod shown;
 mod take;
 mod words;

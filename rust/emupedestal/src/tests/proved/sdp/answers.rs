@@ -1,12 +1,8 @@
 //! Offers as ends make them and those of the RFCs, and what is answered.
 
-use h26x_sdp::{
-    CodecParameters, CodecRules, Format, H264Parameter, H265Parameter, H266Parameter,
-    ParametersError, answer_to,
+use crate::proved::h26x_sdp::{
+    CodecParameters, CodecRules, Format, H264Parameter, H265Parameter, H266Parameter, answer_to,
 };
-use std::alloc::Global;
-use std::process::Abort;
-use std::test::Fail;
 
 /// An offer with its payload types, what we take, and the answer in the order of the table.
 struct Exchange {
@@ -376,50 +372,43 @@ const H266: [Exchange; 6] = [
 ];
 
 /// Each offer has its answer.
-fn all_answered<P: CodecRules>(
-    rt: &impl Abort,
-    alloc: Global,
-    exchanges: &[Exchange],
-) -> Result<(), ParametersError> {
+fn all_answered<P: CodecRules>(exchanges: &[Exchange]) {
     for exchange in exchanges {
-        let mut offer = Vec::new(alloc);
+        let mut offer = Vec::new();
         for (payload_type, line) in exchange.offer {
-            let parameters = CodecParameters::<P>::read(alloc, line.as_bytes())?;
+            let parameters = CodecParameters::<P>::read(line.as_bytes()).unwrap();
             let payload_type = *payload_type;
             offer.push(Format {
                 payload_type,
                 parameters,
-            })?;
+            });
         }
-        let mut ours = Vec::new(alloc);
+        let mut ours = Vec::new();
         for line in exchange.ours {
-            ours.push(CodecParameters::<P>::read(alloc, line.as_bytes())?)?;
+            ours.push(CodecParameters::<P>::read(line.as_bytes()).unwrap());
         }
         match (
-            answer_to(alloc, offer.as_slice(), ours.as_slice())?,
+            answer_to(offer.as_slice(), ours.as_slice()).unwrap(),
             exchange.answer,
         ) {
-            (None, want) => assert!(rt; want.is_none()),
+            (None, want) => assert!(want.is_none()),
             (Some(answer), want) => {
-                let text = answer.parameters.write(alloc)?;
+                let text = answer.parameters.write().unwrap();
                 let (payload_type, line) = want.unwrap_or((0, "none"));
-                assert!(rt; answer.payload_type == payload_type);
-                assert!(rt; text.as_slice() == line.as_bytes());
+                assert_eq!(answer.payload_type, payload_type);
+                assert_eq!(text.as_slice(), line.as_bytes());
             }
         }
     }
-    Ok(())
 }
 
 #[test]
-fn answers_of_h264(rt: HostRuntime) -> Result<(), Fail> {
-    all_answered::<H264Parameter>(&rt, rt.alloc(), &H264)?;
-    Ok(())
+fn answers_of_h264() {
+    all_answered::<H264Parameter>(&H264);
 }
 
 #[test]
-fn answers_by_level(rt: HostRuntime) -> Result<(), Fail> {
-    all_answered::<H265Parameter>(&rt, rt.alloc(), &H265)?;
-    all_answered::<H266Parameter>(&rt, rt.alloc(), &H266)?;
-    Ok(())
+fn answers_by_level() {
+    all_answered::<H265Parameter>(&H265);
+    all_answered::<H266Parameter>(&H266);
 }

@@ -1,11 +1,9 @@
 //! Capability points for parallel decoding (RFC 7798, section 7.1).
 
-use h26x_sdp::{
+use crate::proved::h26x_sdp::{
     CapabilityPoint, CapabilityPointsError, CodecParameters, Fault, H265Parameter, ParallelTool,
     ParametersError, read_capability_points, write_capability_points,
 };
-use std::process::Abort;
-use std::test::Fail;
 
 /// A point of no limit.
 const NO_LIMIT: CapabilityPoint = CapabilityPoint {
@@ -155,46 +153,42 @@ const NO_POINTS: [(&[u8], CapabilityPointsError); 16] = [
 ];
 
 #[test]
-fn points_of_texts(rt: HostRuntime) -> Result<(), Fail> {
-    let alloc = rt.alloc();
+fn points_of_texts() {
     for (text, want, again) in &POINTS {
-        let points = read_capability_points(alloc, text)?;
-        assert!(rt; points.as_slice() == *want);
-        let written = write_capability_points(alloc, points.as_slice())?;
-        assert!(rt; written.as_slice() == *again);
+        let points = read_capability_points(text).unwrap();
+        assert_eq!(points.as_slice(), *want);
+        let written = write_capability_points(points.as_slice()).unwrap();
+        assert_eq!(written.as_slice(), *again);
     }
     for (text, want) in &NO_POINTS {
-        assert!(rt; read_capability_points(alloc, text).err() == Some(*want));
+        assert_eq!(read_capability_points(text).err(), Some(*want));
     }
-    Ok(())
 }
 
 #[test]
-fn points_with_what_is_said_outside(rt: HostRuntime) -> Result<(), Fail> {
-    let alloc = rt.alloc();
+fn points_with_what_is_said_outside() {
     let line = b"tier-flag=1;level-id=93;max-br=7;dec-parallel-cap={t:8;level-id=120,w:8;max-br=9}";
-    let format = CodecParameters::<H265Parameter>::read(alloc, line)?;
-    let points = format.capability_points(alloc)?;
-    assert!(rt; points.is_some());
+    let format = CodecParameters::<H265Parameter>::read(line).unwrap();
+    let points = format.capability_points().unwrap();
+    assert!(points.is_some());
     let level_4 = CapabilityPoint {
         tier_flag: Some(1),
         max_br: Some(7),
         ..LEVEL_4
     };
-    assert!(rt; format.inferred(LEVEL_4) == level_4);
+    assert_eq!(format.inferred(LEVEL_4), level_4);
     // the level of `max-recv-level-id`, or where that is absent of `level-id`
-    assert!(rt; format.inferred(WAVEFRONTS).level_id == Some(93));
+    assert_eq!(format.inferred(WAVEFRONTS).level_id, Some(93));
     let line = b"level-id=93;max-recv-level-id=123;max-lsr=5;dec-parallel-cap={t:8}";
-    let format = CodecParameters::<H265Parameter>::read(alloc, line)?;
-    assert!(rt; format.inferred(WAVEFRONTS).level_id == Some(123));
-    assert!(rt; format.inferred(LEVEL_4).max_lsr == Some(5));
+    let format = CodecParameters::<H265Parameter>::read(line).unwrap();
+    assert_eq!(format.inferred(WAVEFRONTS).level_id, Some(123));
+    assert_eq!(format.inferred(LEVEL_4).max_lsr, Some(5));
     let none = CapabilityPointsError::NoLimit { place: 0 };
-    assert!(rt; format.capability_points(alloc).err() == Some(none));
-    let absent = CodecParameters::<H265Parameter>::read(alloc, b"")?;
-    assert!(rt; absent.capability_points(alloc)?.is_none());
-    assert!(rt; absent.interop_constraints() == Some([0xb0, 0, 0, 0, 0, 0]));
+    assert_eq!(format.capability_points().err(), Some(none));
+    let absent = CodecParameters::<H265Parameter>::read(b"").unwrap();
+    assert!(absent.capability_points().unwrap().is_none());
+    assert_eq!(absent.interop_constraints(), Some([0xb0, 0, 0, 0, 0, 0]));
     let line = b"interop-constraints=9000000000aB";
-    let format = CodecParameters::<H265Parameter>::read(alloc, line)?;
-    assert!(rt; format.interop_constraints() == Some([0x90, 0, 0, 0, 0, 0xab]));
-    Ok(())
+    let format = CodecParameters::<H265Parameter>::read(line).unwrap();
+    assert_eq!(format.interop_constraints(), Some([0x90, 0, 0, 0, 0, 0xab]));
 }

@@ -1,14 +1,11 @@
 //! What streams say of themselves: the sets of two real ones, and of one by hand.
 
-use h26x_sdp::{
+use crate::proved::h26x_sdp::{
     CodecParameter, CodecParameters, ConstraintsError, H264Parameter, H265Parameter, H266Parameter,
     InteropConstraints, LevelSetsError, StreamError, UnitsError, fits_single_units,
     h264_of_payload, h264_of_units, h265_of_payload, h265_of_units, h266_of_payload, h266_of_units,
     read_level_sets, write_level_sets,
 };
-use std::alloc::Global;
-use std::process::Abort;
-use std::test::Fail;
 
 /// The sets of an H.264 stream of x264: Constrained Baseline, level 1, as ffprobe tells.
 const H264_SPS: &[u8] =
@@ -31,8 +28,7 @@ const H266_SPS: &[u8] = b"\x00\x79\x00\x0d\x02\x33\x80";
 
 /// What FFmpeg 5.1 wrote of these streams (`-sdp_file`), and the same in the RFCs' order, with what it
 /// left out in the second.
-const H264_LINE: &str =
-    "packetization-mode=1; sprop-parameter-sets=Z0LACtkJbARAAAADAEAAAAyDxImS,aMuBEsg=; \
+const H264_LINE: &str = "packetization-mode=1; sprop-parameter-sets=Z0LACtkJbARAAAADAEAAAAyDxImS,aMuBEsg=; \
       profile-level-id=42C00A";
 
 const H264_WRITTEN: &str =
@@ -42,8 +38,7 @@ const H265_LINE: &str = "sprop-vps=QAEMAf//AiAAAAMAkAAAAwAAAwA8lZQJ; \
       sprop-sps=QgEBAiAAAAMAkAAAAwAAAwA8oBYgJE2WVlkkyvAWgIAAAAMAgAAADIQ=; \
       sprop-pps=RAHBcrRiQA==";
 
-const H265_WRITTEN: &str =
-    "profile-space=0;profile-id=2;tier-flag=0;level-id=60;interop-constraints=900000000000;\
+const H265_WRITTEN: &str = "profile-space=0;profile-id=2;tier-flag=0;level-id=60;interop-constraints=900000000000;\
       profile-compatibility-indicator=20000000;sprop-vps=QAEMAf//AiAAAAMAkAAAAwAAAwA8lZQJ;\
       sprop-sps=QgEBAiAAAAMAkAAAAwAAAwA8oBYgJE2WVlkkyvAWgIAAAAMAgAAADIQ=;sprop-pps=RAHBcrRiQA==";
 
@@ -107,80 +102,78 @@ const H266_NO_UNITS: [(&str, H266Parameter, UnitsError); 3] = [
 ];
 
 /// The units of each line's parameter are refused.
-fn no_units<P: CodecParameter>(
-    rt: &impl Abort,
-    alloc: Global,
-    lines: &[(&str, P, UnitsError)],
-) -> Result<(), Fail> {
+fn no_units<P: CodecParameter>(lines: &[(&str, P, UnitsError)]) {
     for (line, parameter, want) in lines {
-        let format = CodecParameters::<P>::read(alloc, line.as_bytes())?;
-        assert!(rt; format.units(alloc, *parameter).err() == Some(*want));
+        let format = CodecParameters::<P>::read(line.as_bytes()).unwrap();
+        assert_eq!(format.units(*parameter).err(), Some(*want));
     }
-    Ok(())
 }
 
 #[test]
-fn units_of_another_type(rt: HostRuntime) -> Result<(), Fail> {
-    no_units(&rt, rt.alloc(), &H264_NO_UNITS)?;
-    no_units(&rt, rt.alloc(), &H265_NO_UNITS)?;
-    no_units(&rt, rt.alloc(), &H266_NO_UNITS)?;
-    let format = CodecParameters::<H264Parameter>::read(rt.alloc(), H264_LINE.as_bytes())?;
-    let sets = format.units(rt.alloc(), H264Parameter::SpropParameterSets)?;
-    assert!(rt; sets.map(|units| units.len()) == Some(2));
-    Ok(())
+fn units_of_another_type() {
+    no_units(&H264_NO_UNITS);
+    no_units(&H265_NO_UNITS);
+    no_units(&H266_NO_UNITS);
+    let format = CodecParameters::<H264Parameter>::read(H264_LINE.as_bytes()).unwrap();
+    let sets = format.units(H264Parameter::SpropParameterSets).unwrap();
+    assert_eq!(sets.map(|units| units.len()), Some(2));
 }
 
 #[test]
-fn stream_of_h264(rt: HostRuntime) -> Result<(), Fail> {
-    let alloc = rt.alloc();
+fn stream_of_h264() {
     let slice: &[u8] = b"\x65\x88";
-    let text = h264_of_units(alloc, &[H264_SPS, H264_PPS, slice, H264_PPS])?.write(alloc)?;
-    assert!(rt; text.as_slice() == H264_WRITTEN.as_bytes());
+    let text = h264_of_units(&[H264_SPS, H264_PPS, slice, H264_PPS])
+        .unwrap()
+        .write()
+        .unwrap();
+    assert_eq!(text.as_slice(), H264_WRITTEN.as_bytes());
     let bytes = b"\x00\x00\x00\x01\x67\x00\x00\x03\x01\x00\x00\x01\x65";
-    let text = h264_of_payload(alloc, bytes)?.write(alloc)?;
-    assert!(rt;
-        text.as_slice() == "profile-level-id=000001;sprop-parameter-sets=ZwAAAwE=".as_bytes()
+    let text = h264_of_payload(bytes).unwrap().write().unwrap();
+    assert_eq!(
+        text.as_slice(),
+        "profile-level-id=000001;sprop-parameter-sets=ZwAAAwE=".as_bytes()
     );
     let none = Some(StreamError::NoParameterSet);
-    assert!(rt; h264_of_units(alloc, &[H264_PPS, slice, H264_SPS]).err() == none);
+    assert_eq!(h264_of_units(&[H264_PPS, slice, H264_SPS]).err(), none);
     let short = Some(StreamError::ShortParameterSet);
-    assert!(rt; h264_of_units(alloc, &[&H264_SPS[..3], H264_SPS]).err() == short);
-    Ok(())
+    assert_eq!(h264_of_units(&[&H264_SPS[..3], H264_SPS]).err(), short);
 }
 
 #[test]
-fn stream_of_h265(rt: HostRuntime) -> Result<(), Fail> {
-    let alloc = rt.alloc();
+fn stream_of_h265() {
     let units = [H265_VPS, H265_SPS, H265_PPS, b"\x26\x01\xaf", H265_PPS];
-    let format = h265_of_units(alloc, &units)?;
-    let text = format.write(alloc)?;
-    assert!(rt; text.as_slice() == H265_WRITTEN.as_bytes());
-    let read = CodecParameters::<H265Parameter>::read(alloc, H265_LINE.as_bytes())?;
+    let format = h265_of_units(&units).unwrap();
+    let text = format.write().unwrap();
+    assert_eq!(text.as_slice(), H265_WRITTEN.as_bytes());
+    let read = CodecParameters::<H265Parameter>::read(H265_LINE.as_bytes()).unwrap();
     let sps = H265Parameter::SpropSps;
-    assert!(rt; read.value(sps) == format.value(sps));
+    assert_eq!(read.value(sps), format.value(sps));
     // a VPS alone says the same profile, and a set of a higher layer none
-    let format = h265_of_payload(alloc, H265_VPS)?;
+    let format = h265_of_payload(H265_VPS).unwrap();
     let id = H265Parameter::InteropConstraints;
-    assert!(rt; format.value(id) == Some(b"900000000000") && format.value(sps) == None);
+    assert!(format.value(id) == Some(b"900000000000") && format.value(sps).is_none());
     let none = Some(StreamError::NoParameterSet);
-    assert!(rt; h265_of_units(alloc, &[b"\x42\x09\x01\x02"]).err() == none);
+    assert_eq!(h265_of_units(&[b"\x42\x09\x01\x02"]).err(), none);
     let short = Some(StreamError::ShortParameterSet);
-    assert!(rt; h265_of_units(alloc, &[&H265_SPS[..17], H265_VPS]).err() == short);
-    Ok(())
+    assert_eq!(h265_of_units(&[&H265_SPS[..17], H265_VPS]).err(), short);
 }
 
 #[test]
-fn stream_of_h266(rt: HostRuntime) -> Result<(), Fail> {
-    let alloc = rt.alloc();
-    let text = h266_of_units(alloc, &[H266_SPS, b"\x00\x39", H266_SPS])?.write(alloc)?;
+fn stream_of_h266() {
+    let text = h266_of_units(&[H266_SPS, b"\x00\x39", H266_SPS])
+        .unwrap()
+        .write()
+        .unwrap();
     let want =
         b"profile-id=1;tier-flag=0;interop-constraints=gA==;level-id=51;sprop-sps=AHkADQIzgA==";
-    assert!(rt; text.as_slice() == want.as_slice());
-    let format = h266_of_payload(alloc, H266_SPS)?;
-    assert!(rt; format.number(H266Parameter::LevelId) == Some(51));
+    assert_eq!(text.as_slice(), want.as_slice());
+    let format = h266_of_payload(H266_SPS).unwrap();
+    assert_eq!(format.number(H266Parameter::LevelId), Some(51));
     let no_profile = Some(StreamError::NoProfile);
-    assert!(rt; h266_of_units(alloc, &[b"\x00\x79\x00\x0c\x02\x33\x80"]).err() == no_profile);
-    Ok(())
+    assert_eq!(
+        h266_of_units(&[b"\x00\x79\x00\x0c\x02\x33\x80"]).err(),
+        no_profile
+    );
 }
 
 /// An SPS whose general constraints are 82 bits and five additional ones, with a byte behind them, and
@@ -192,24 +185,22 @@ const SHORT_GENERAL_SPS: &[u8] =
     b"\x00\x79\x00\x0d\x02\x33\xe0\x80\x01\x01\x01\x01\x01\x01\x01\x00\x00\xff";
 
 #[test]
-fn general_constraints_of_h266(rt: HostRuntime) -> Result<(), Fail> {
-    let alloc = rt.alloc();
-    let format = h266_of_units(alloc, &[GENERAL_SPS])?;
-    let constraints = format.interop_constraints(alloc)?;
+fn general_constraints_of_h266() {
+    let format = h266_of_units(&[GENERAL_SPS]).unwrap();
+    let constraints = format.interop_constraints().unwrap();
     let want = b"\xa0\x80\x00\x00\x00\x00\x00\x00\x00\x01\x7e";
-    assert!(rt; constraints.as_bytes() == want.as_slice());
-    assert!(rt; constraints.is_frame_only() && !constraints.is_multilayer());
-    assert!(rt; constraints.has_general());
+    assert_eq!(constraints.as_bytes(), want.as_slice());
+    assert!(constraints.is_frame_only() && !constraints.is_multilayer());
+    assert!(constraints.has_general());
     let text = format.value(H266Parameter::InteropConstraints);
-    assert!(rt; text == Some(b"oIAAAAAAAAAAAX4="));
+    assert_eq!(text, Some(&b"oIAAAAAAAAAAAX4="[..]));
     let short = Some(StreamError::ShortParameterSet);
-    assert!(rt; h266_of_units(alloc, &[&GENERAL_SPS[..19]]).err() == short);
-    let format = h266_of_units(alloc, &[SHORT_GENERAL_SPS])?;
-    let constraints = format.interop_constraints(alloc)?;
+    assert_eq!(h266_of_units(&[&GENERAL_SPS[..19]]).err(), short);
+    let format = h266_of_units(&[SHORT_GENERAL_SPS]).unwrap();
+    let constraints = format.interop_constraints().unwrap();
     let want = b"\xe0\x80\x01\x01\x01\x01\x01\x01\x01\x00\x00";
-    assert!(rt; constraints.as_bytes() == want.as_slice());
-    assert!(rt; constraints.is_frame_only() && constraints.is_multilayer());
-    Ok(())
+    assert_eq!(constraints.as_bytes(), want.as_slice());
+    assert!(constraints.is_frame_only() && constraints.is_multilayer());
 }
 
 /// Texts that are no constraints, and why.
@@ -224,21 +215,22 @@ const NO_CONSTRAINTS: [(&[u8], ConstraintsError); 6] = [
 ];
 
 #[test]
-fn constraints_of_texts(rt: HostRuntime) -> Result<(), Fail> {
-    let alloc = rt.alloc();
+fn constraints_of_texts() {
     for (text, want) in &NO_CONSTRAINTS {
-        assert!(rt; InteropConstraints::read(alloc, text).err() == Some(*want));
+        assert_eq!(InteropConstraints::read(text).err(), Some(*want));
     }
     for text in [b"AA==".as_slice(), b"wA==", b"oIAAAAAAAAAAAX4="] {
-        let it = InteropConstraints::read(alloc, text)?;
-        assert!(rt; it.write(alloc)?.as_slice() == text);
+        let it = InteropConstraints::read(text).unwrap();
+        assert_eq!(it.write().unwrap().as_slice(), text);
     }
-    let absent = CodecParameters::<H266Parameter>::read(alloc, b"level-id=51")?;
-    let it = absent.interop_constraints(alloc)?;
-    assert!(rt; it.is_frame_only() && !it.is_multilayer() && !it.has_general());
-    let bytes = Vec::from_slice(alloc, b"\x40\x00")?;
-    assert!(rt; InteropConstraints::from_bytes(bytes).err() == Some(ConstraintsError::Long));
-    Ok(())
+    let absent = CodecParameters::<H266Parameter>::read(b"level-id=51").unwrap();
+    let it = absent.interop_constraints().unwrap();
+    assert!(it.is_frame_only() && !it.is_multilayer() && !it.has_general());
+    let bytes = vec![0x40, 0x00];
+    assert_eq!(
+        InteropConstraints::from_bytes(bytes).err(),
+        Some(ConstraintsError::Long)
+    );
 }
 
 /// Texts that are no parameter sets of levels, and why.
@@ -282,32 +274,33 @@ const NO_LEVELS: [(&[u8], LevelSetsError); 9] = [
 ];
 
 #[test]
-fn sets_of_levels(rt: HostRuntime) -> Result<(), Fail> {
-    let alloc = rt.alloc();
+fn sets_of_levels() {
     for (text, want) in &NO_LEVELS {
-        assert!(rt; read_level_sets(alloc, text).err() == Some(*want));
+        assert_eq!(read_level_sets(text).err(), Some(*want));
     }
     let line = b"sprop-level-parameter-sets=42E00B:Z0LgCw==,aMs=:4de00b:aMs=";
-    let format = CodecParameters::<H264Parameter>::read(alloc, line)?;
-    assert!(rt; format.level_sets(alloc)?.is_some());
+    let format = CodecParameters::<H264Parameter>::read(line).unwrap();
+    assert!(format.level_sets().unwrap().is_some());
     let value = format
         .value(H264Parameter::SpropLevelParameterSets)
         .unwrap_or(b"");
-    let levels = read_level_sets(alloc, value)?;
-    let text = write_level_sets(alloc, levels.as_slice())?;
-    assert!(rt; text.as_slice() == b"42e00b:Z0LgCw==,aMs=:4de00b:aMs=".as_slice());
-    assert!(rt; levels.len() == 2);
+    let levels = read_level_sets(value).unwrap();
+    let text = write_level_sets(levels.as_slice()).unwrap();
+    assert_eq!(
+        text.as_slice(),
+        b"42e00b:Z0LgCw==,aMs=:4de00b:aMs=".as_slice()
+    );
+    assert_eq!(levels.len(), 2);
     let (first, second) = (&levels[0], &levels[1]);
-    assert!(rt; first.profile_level_id == [0x42, 0xe0, 0x0b] && first.sets.len() == 2);
-    assert!(rt; second.profile_level_id == [0x4d, 0xe0, 0x0b] && second.sets.len() == 1);
-    assert!(rt; second.sets[0].as_slice() == b"\x68\xcb".as_slice());
-    let none = CodecParameters::<H264Parameter>::read(alloc, b"packetization-mode=1")?;
-    assert!(rt; none.level_sets(alloc)?.is_none());
-    Ok(())
+    assert!(first.profile_level_id == [0x42, 0xe0, 0x0b] && first.sets.len() == 2);
+    assert!(second.profile_level_id == [0x4d, 0xe0, 0x0b] && second.sets.len() == 1);
+    assert_eq!(second.sets[0].as_slice(), b"\x68\xcb".as_slice());
+    let none = CodecParameters::<H264Parameter>::read(b"packetization-mode=1").unwrap();
+    assert!(none.level_sets().unwrap().is_none());
 }
 
 #[test]
-fn single_units_alone(rt: HostRuntime) {
+fn single_units_alone() {
     let payload = b"\x00\x00\x01\x67\x42\xc0\x00\x00\x01\x68\xcb";
-    assert!(rt; fits_single_units(payload, 3) && !fits_single_units(payload, 2));
+    assert!(fits_single_units(payload, 3) && !fits_single_units(payload, 2));
 }

@@ -1,13 +1,10 @@
 //! Values of lines, their parameters as they are written, and what is wrong with values.
 
-use h26x_sdp::{
+use crate::proved::h26x_sdp::{
     CodecParameter, CodecParameters, Encoding, Fault, H264Parameter, H264Parameters, H265Parameter,
     H265Parameters, H266Parameter, H266Parameters, Kind, ParametersError, RtpMap, RtpMapError,
     UnitsError, closes, pairs_of, push_pair, read_units, write_units,
 };
-use std::alloc::{AllocError, Global};
-use std::process::Abort;
-use std::test::Fail;
 
 /// Values as ends write them, and the same without white space and blank parts. The comments say whose
 /// form a value has; none was taken down from a run of theirs.
@@ -271,189 +268,178 @@ const ID: Kind = Kind::Hexadecimal { bytes: 3 };
 const SEGMENTATION: Kind = Kind::HexadecimalNumber { most: 4095 };
 
 /// The parameters of a text, written again.
-fn written(alloc: Global, text: &str) -> Result<Vec<u8>, AllocError> {
-    let mut out = Vec::new(alloc);
+fn written(text: &str) -> Vec<u8> {
+    let mut out = Vec::new();
     for pair in pairs_of(text.as_bytes()) {
-        push_pair(&mut out, pair)?;
+        push_pair(&mut out, pair).unwrap();
     }
-    Ok(out)
+    out
 }
 
 /// Each line is written as it should be, and that again as it is.
-fn all_written(rt: &impl Abort, alloc: Global, lines: &[(&str, &str)]) -> Result<(), AllocError> {
+fn all_written(lines: &[(&str, &str)]) {
     for (line, want) in lines {
-        let once = written(alloc, line)?;
-        let twice = written(alloc, want)?;
+        let once = written(line);
+        let twice = written(want);
         let wanted = want.as_bytes();
-        assert!(rt; once.as_slice() == wanted && twice.as_slice() == wanted && closes(wanted));
+        assert!(once.as_slice() == wanted && twice.as_slice() == wanted && closes(wanted));
     }
-    Ok(())
 }
 
 /// Each value has its fault, or none.
-fn all_told(rt: &impl Abort, values: &[(Kind, &str, Option<Fault>)]) {
+fn all_told(values: &[(Kind, &str, Option<Fault>)]) {
     for (kind, value, want) in values {
-        assert!(rt; kind.fault_in(value.as_bytes()) == *want);
+        assert_eq!(kind.fault_in(value.as_bytes()), *want);
     }
 }
 
 #[test]
-fn lines_of_ends(rt: HostRuntime) -> Result<(), Fail> {
-    all_written(&rt, rt.alloc(), &LINES)?;
-    assert!(rt; !closes(b"a={b"));
-    Ok(())
+fn lines_of_ends() {
+    all_written(&LINES);
+    assert!(!closes(b"a={b"));
 }
 
 #[test]
-fn values_of_each_kind(rt: HostRuntime) {
-    all_told(&rt, &VALUES);
+fn values_of_each_kind() {
+    all_told(&VALUES);
 }
 
 /// Each line of a codec is written in order.
-fn all_in_order<P: CodecParameter>(
-    rt: &impl Abort,
-    alloc: Global,
-    lines: &[(&str, &str)],
-) -> Result<(), ParametersError> {
+fn all_in_order<P: CodecParameter>(lines: &[(&str, &str)]) {
     for (line, want) in lines {
-        let text = CodecParameters::<P>::read(alloc, line.as_bytes())?.write(alloc)?;
-        assert!(rt; text.as_slice() == want.as_bytes());
+        let text = CodecParameters::<P>::read(line.as_bytes())
+            .unwrap()
+            .write()
+            .unwrap();
+        assert_eq!(text.as_slice(), want.as_bytes());
     }
-    Ok(())
 }
 
 /// Each line of a codec is refused.
-fn all_refused<P: CodecParameter>(rt: &impl Abort, alloc: Global, lines: &[(&str, usize, Fault)]) {
+fn all_refused<P: CodecParameter>(lines: &[(&str, usize, Fault)]) {
     for (line, place, fault) in lines {
         let (place, fault) = (*place, *fault);
         let want = Some(ParametersError::Refused { place, fault });
-        assert!(rt; CodecParameters::<P>::read(alloc, line.as_bytes()).err() == want);
+        assert_eq!(CodecParameters::<P>::read(line.as_bytes()).err(), want);
     }
 }
 
 /// Each parameter has its number where the line gives none.
-fn all_defaults<P: CodecParameter>(
-    rt: &impl Abort,
-    none: &CodecParameters<P>,
-    numbers: &[(P, Option<u64>)],
-) {
+fn all_defaults<P: CodecParameter>(none: &CodecParameters<P>, numbers: &[(P, Option<u64>)]) {
     for (parameter, want) in numbers {
-        assert!(rt; none.number_or_default(*parameter) == *want);
+        assert_eq!(none.number_or_default(*parameter), *want);
     }
 }
 
 #[test]
-fn lines_of_h264(rt: HostRuntime) -> Result<(), Fail> {
-    all_in_order::<H264Parameter>(&rt, rt.alloc(), &IN_ORDER)?;
-    all_refused::<H264Parameter>(&rt, rt.alloc(), &REFUSED);
+fn lines_of_h264() {
+    all_in_order::<H264Parameter>(&IN_ORDER);
+    all_refused::<H264Parameter>(&REFUSED);
     let line = b"packetization-mode=1;x=2;profile-level-id=640032";
-    let format = H264Parameters::read(rt.alloc(), line)?;
+    let format = H264Parameters::read(line).unwrap();
     let mode = format.number(H264Parameter::PacketizationMode);
     let largest = format.number(H264Parameter::MaxFs);
-    assert!(rt; (mode, largest, format.others().len()) == (Some(1), None, 1));
-    let none = H264Parameters::read(rt.alloc(), b"")?;
-    all_defaults(&rt, &none, &H264_DEFAULTS);
-    assert!(rt; none.value_or_default(H264Parameter::ProfileLevelId) == Some(b"42000a"));
-    assert!(rt; format.number_or_default(H264Parameter::PacketizationMode) == Some(1));
+    assert_eq!((mode, largest, format.others().len()), (Some(1), None, 1));
+    let none = H264Parameters::read(b"").unwrap();
+    all_defaults(&none, &H264_DEFAULTS);
+    assert_eq!(
+        none.value_or_default(H264Parameter::ProfileLevelId),
+        Some(&b"42000a"[..])
+    );
+    assert_eq!(
+        format.number_or_default(H264Parameter::PacketizationMode),
+        Some(1)
+    );
     // six digits, which are no number
     let id = H264Parameter::ProfileLevelId;
-    assert!(rt; format.value(id) == Some(b"640032") && format.number(id) == None);
-    assert!(rt; format.value(H264Parameter::MaxFs) == None);
-    Ok(())
+    assert!(format.value(id) == Some(b"640032") && format.number(id).is_none());
+    assert_eq!(format.value(H264Parameter::MaxFs), None);
 }
 
 #[test]
-fn lines_of_h265(rt: HostRuntime) -> Result<(), Fail> {
-    all_in_order::<H265Parameter>(&rt, rt.alloc(), &H265_IN_ORDER)?;
-    all_refused::<H265Parameter>(&rt, rt.alloc(), &H265_REFUSED);
-    let none = H265Parameters::read(rt.alloc(), b"")?;
-    all_defaults(&rt, &none, &H265_DEFAULTS);
-    assert!(rt; none.value_or_default(H265Parameter::TxMode) == Some(b"SRST"));
-    let format = H265Parameters::read(rt.alloc(), b"include-dph=1,2;level-id=150")?;
+fn lines_of_h265() {
+    all_in_order::<H265Parameter>(&H265_IN_ORDER);
+    all_refused::<H265Parameter>(&H265_REFUSED);
+    let none = H265Parameters::read(b"").unwrap();
+    all_defaults(&none, &H265_DEFAULTS);
+    assert_eq!(
+        none.value_or_default(H265Parameter::TxMode),
+        Some(&b"SRST"[..])
+    );
+    let format = H265Parameters::read(b"include-dph=1,2;level-id=150").unwrap();
     let level = format.number(H265Parameter::LevelId);
     let tier = format.number(H265Parameter::TierFlag);
     let hashes = format.value(H265Parameter::IncludeDph);
-    assert!(rt; (level, tier) == (Some(150), None) && hashes == Some(b"1,2"));
-    Ok(())
+    assert!((level, tier) == (Some(150), None) && hashes == Some(b"1,2"));
 }
 
 #[test]
-fn lines_of_h266(rt: HostRuntime) -> Result<(), Fail> {
-    all_in_order::<H266Parameter>(&rt, rt.alloc(), &H266_IN_ORDER)?;
-    all_refused::<H266Parameter>(&rt, rt.alloc(), &H266_REFUSED);
-    let none = H266Parameters::read(rt.alloc(), b"")?;
-    all_defaults(&rt, &none, &H266_DEFAULTS);
+fn lines_of_h266() {
+    all_in_order::<H266Parameter>(&H266_IN_ORDER);
+    all_refused::<H266Parameter>(&H266_REFUSED);
+    let none = H266Parameters::read(b"").unwrap();
+    all_defaults(&none, &H266_DEFAULTS);
     let constraints = none.value_or_default(H266Parameter::InteropConstraints);
-    assert!(rt; constraints == Some(b"gA=="));
-    let format = H266Parameters::read(rt.alloc(), b"depack-buf-cap=4294967295")?;
+    assert_eq!(constraints, Some(&b"gA=="[..]));
+    let format = H266Parameters::read(b"depack-buf-cap=4294967295").unwrap();
     let room = format.number(H266Parameter::DepackBufCap);
-    assert!(rt; (room, format.number(H266Parameter::MaxLsr)) == (Some(4294967295), None));
-    Ok(())
+    assert_eq!(
+        (room, format.number(H266Parameter::MaxLsr)),
+        (Some(4294967295), None)
+    );
 }
 
 /// Each text is the units, and they the text.
-fn all_units(
-    rt: &impl Abort,
-    alloc: Global,
-    texts: &[(&str, &[u8], usize)],
-) -> Result<(), UnitsError> {
+fn all_units(texts: &[(&str, &[u8], usize)]) {
     for (text, first, many) in texts {
-        let units = read_units(alloc, text.as_bytes())?;
-        let again = write_units(alloc, units.as_slice())?;
+        let units = read_units(text.as_bytes()).unwrap();
+        let again = write_units(units.as_slice()).unwrap();
         let begins = units.first().map(|unit| unit.as_slice()) == Some(*first);
-        assert!(rt; begins && units.len() == *many && again.as_slice() == text.as_bytes());
+        assert!(begins && units.len() == *many && again.as_slice() == text.as_bytes());
     }
-    Ok(())
 }
 
 /// Each text is refused.
-fn no_units(rt: &impl Abort, alloc: Global, texts: &[(&str, UnitsError)]) {
+fn no_units(texts: &[(&str, UnitsError)]) {
     for (text, want) in texts {
-        assert!(rt; read_units(alloc, text.as_bytes()).err() == Some(*want));
+        assert_eq!(read_units(text.as_bytes()).err(), Some(*want));
     }
 }
 
 #[test]
-fn texts_of_units(rt: HostRuntime) -> Result<(), Fail> {
-    all_units(&rt, rt.alloc(), &UNITS)?;
-    no_units(&rt, rt.alloc(), &NO_UNITS);
+fn texts_of_units() {
+    all_units(&UNITS);
+    no_units(&NO_UNITS);
     let line = b"sprop-parameter-sets=Z0IACpZTBYmI,aMljiA==;max-fs=1";
-    let format = H264Parameters::read(rt.alloc(), line)?;
-    let sets = format.units(rt.alloc(), H264Parameter::SpropParameterSets)?;
-    let none = format.units(rt.alloc(), H264Parameter::MaxFs)?;
-    assert!(rt; sets.map(|units| units.len()) == Some(2) && none.is_none());
-    Ok(())
+    let format = H264Parameters::read(line).unwrap();
+    let sets = format.units(H264Parameter::SpropParameterSets).unwrap();
+    let none = format.units(H264Parameter::MaxFs).unwrap();
+    assert!(sets.map(|units| units.len()) == Some(2) && none.is_none());
 }
 
 /// Each line is its payload type, and is written as it should be.
-fn all_rtp_maps(
-    rt: &impl Abort,
-    alloc: Global,
-    lines: &[(&str, &str, u8, Encoding)],
-) -> Result<(), Fail> {
+fn all_rtp_maps(lines: &[(&str, &str, u8, Encoding)]) {
     for (line, want, payload_type, encoding) in lines {
         let (payload_type, encoding) = (*payload_type, *encoding);
         let map = RtpMap {
             payload_type,
             encoding,
         };
-        let text = map.write(alloc)?;
+        let text = map.write().unwrap();
         let read = RtpMap::read(line.as_bytes());
-        assert!(rt; read == Ok(map) && text.as_slice() == want.as_bytes());
+        assert!(read == Ok(map) && text.as_slice() == want.as_bytes());
     }
-    Ok(())
 }
 
 /// Each line is refused.
-fn no_rtp_maps(rt: &impl Abort, lines: &[(&str, RtpMapError)]) {
+fn no_rtp_maps(lines: &[(&str, RtpMapError)]) {
     for (line, want) in lines {
-        assert!(rt; RtpMap::read(line.as_bytes()) == Err(*want));
+        assert_eq!(RtpMap::read(line.as_bytes()), Err(*want));
     }
 }
 
 #[test]
-fn payload_types(rt: HostRuntime) -> Result<(), Fail> {
-    all_rtp_maps(&rt, rt.alloc(), &RTP_MAPS)?;
-    no_rtp_maps(&rt, &NO_RTP_MAPS);
-    Ok(())
+fn payload_types() {
+    all_rtp_maps(&RTP_MAPS);
+    no_rtp_maps(&NO_RTP_MAPS);
 }
