@@ -13,7 +13,6 @@ mod runs;
 mod sdp;
 mod shown;
 mod take;
-mod words;
 
 use super::bytes;
 use crate::proved::h26x_codec::{Codec, CodecDepacketizer};

@@ -9,10 +9,12 @@ use crate::*;
 fn headers_of_h265() {
     for (high, low, fields) in [
         (0x26, 0x01, (false, 19, 0, 1)),
+        (0x64, 0x01, (false, 50, 0, 1)),
         (0xa6, 0x0b, (true, 19, 1, 3)),
         (0x80, 0x00, (true, 0, 0, 0)),
         (0x7e, 0x00, (false, 63, 0, 0)),
         (0x01, 0x00, (false, 0, 32, 0)),
+        (0x00, 0x0a, (false, 0, 1, 2)),
         (0xff, 0xff, (true, 63, 63, 7)),
     ] {
         let header = H265NALUHeader::new(high, low);
@@ -27,6 +29,7 @@ fn headers_of_h265() {
     }
     for (nalu_type, layer_id, tid, word) in [
         (19, 0, 1, 0x2601),
+        (50, 0, 1, 0x6401),
         (48, 32, 2, 0x6102),
         (63, 63, 7, 0x7fff),
         (0x40, 0x40, 0x08, 0), // bits that have no place
@@ -58,7 +61,9 @@ fn types_of_h265() {
 fn fragment_headers_of_h265() {
     for (s, e, fu_type, byte) in [
         (true, false, 19, 0x93),
+        (false, false, 19, 0x13),
         (false, true, 19, 0x53),
+        (true, false, 32, 0xa0),
         (false, false, 63, 0x3f),
         (true, true, 32, 0xe0),
     ] {
@@ -76,7 +81,10 @@ fn control_information() {
         (0x1122_3300, (0x11, 0x22, false, false, 0x33)),
         (0x1122_bf00, (0x11, 0x22, true, false, 0x3f)),
         (0x0000_4100, (0, 0, false, true, 1)),
+        (0x0000_8000, (0, 0, true, false, 0)),
+        (0x0000_4000, (0, 0, false, true, 0)),
         (0x0000_00ff, (0, 0, false, false, 0)),
+        (0xffff_ffff, (0xff, 0xff, true, true, 0x3f)),
     ] {
         let tsci = H265TSCI(word);
         let (tl0, irap) = (tsci.tl0picidx(), tsci.irap_pic_id());
@@ -93,6 +101,7 @@ fn headers_of_h266() {
         (0x3f, 0x00, (false, false, 63, 0, 0)),
         (0x00, 0xf8, (false, false, 0, 31, 0)),
         (0x00, 0x07, (false, false, 0, 0, 7)),
+        (0xff, 0xff, (true, true, 63, 31, 7)),
     ] {
         let header = H266NALUHeader::new(high, low);
         assert_eq!(header, H266NALUHeader(u16::from_be_bytes([high, low])));
@@ -104,6 +113,8 @@ fn headers_of_h266() {
         (7, 5, 1, 0x0539),
         (28, 0, 1, 0x00e1),
         (29, 63, 7, 0x3fef),
+        (31, 0, 0, 0x00f8),
+        (0xff, 0xff, 0xff, 0x3fff),
         (0x20, 0x40, 0x08, 0), // bits that have no place
     ] {
         let header = H266NALUHeader::new_with_type(nalu_type, layer_id, tid);
@@ -130,6 +141,7 @@ fn fragment_headers_of_h266() {
         (false, true, false, 7, 0x47),
         (false, true, true, 0, 0x60),
         (false, false, true, 7, 0x27),
+        (false, false, false, 16, 0x10),
     ] {
         let header = H266FragmentationUnitHeader::new(s, e, p, fu_type);
         assert_eq!(header, H266FragmentationUnitHeader(byte));
@@ -138,6 +150,39 @@ fn fragment_headers_of_h266() {
     }
     let masked = H266FragmentationUnitHeader::new(false, false, false, 0xe1);
     assert_eq!(masked, H266FragmentationUnitHeader(0x01));
+}
+
+#[test]
+fn defaults_and_equality() {
+    assert_eq!(H265NALUHeader::default(), H265NALUHeader(0));
+    assert_eq!(
+        H265FragmentationUnitHeader::default(),
+        H265FragmentationUnitHeader(0)
+    );
+    assert_eq!(H265TSCI::default(), H265TSCI(0));
+    assert_eq!(H266NALUHeader::default(), H266NALUHeader(0));
+    assert_eq!(
+        H266FragmentationUnitHeader::default(),
+        H266FragmentationUnitHeader(0)
+    );
+    assert_ne!(H265NALUHeader(0x6401), H265NALUHeader(0x6402));
+    assert_ne!(
+        H265FragmentationUnitHeader(0x93),
+        H265FragmentationUnitHeader(0x13)
+    );
+    assert_ne!(H265TSCI(0x11223300), H265TSCI(0x11223301));
+    assert_ne!(H266NALUHeader(0x0539), H266NALUHeader(0x4539));
+    assert_ne!(
+        H266FragmentationUnitHeader(0x27),
+        H266FragmentationUnitHeader(0x07)
+    );
+}
+
+#[test]
+fn no_keyframe_is_told_of_before_a_unit_is() {
+    assert!(!H264CodecExtra::default().is_keyframe);
+    assert!(!H265CodecExtra::default().is_keyframe);
+    assert!(!H266CodecExtra::default().is_keyframe);
 }
 
 #[test]
@@ -163,7 +208,13 @@ fn numbers_of_units_and_packets() {
         (FUA_HEADER_SIZE, STAPA_HEADER_SIZE, STAPA_NALU_LENGTH_SIZE),
         (2, 1, 2)
     );
-    assert_eq!(ANNEXB_NALUSTART_CODE, [0, 0, 0, 1]);
+    let start_codes = [
+        ANNEXB_NALUSTART_CODE,
+        proved::h264_payload::ANNEXB_NALUSTART_CODE,
+        proved::h265_payload::ANNEXB_NALUSTART_CODE,
+        proved::h266_payload::ANNEXB_NALUSTART_CODE,
+    ];
+    assert_eq!(start_codes, [[0, 0, 0, 1]; 4]);
 
     let bla = [h265::BLA_W_LP, h265::BLA_W_RADL, h265::BLA_N_LP];
     let others = [h265::IDR_W_RADL, h265::IDR_N_LP, h265::CRA_NUT];
