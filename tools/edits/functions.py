@@ -1,11 +1,13 @@
 """Where functions stand in a source file, and how the prover names them."""
 
+import functools
 import re
 
 HEAD = re.compile(r'(\s*)(?:pub(?:\([^)]*\))? )?(?:const )?(?:unsafe )?(?:extern "C" )?fn (\w+)')
 OUTER = re.compile(r"\s*(?:pub(?:\(.*\))? )?(?:(?:unsafe )?(impl)\b|(?:trait|mod) (\w+))")
 
 
+@functools.cache
 def functions(text):
     """The first and the last line of each function, counted from 1, as `rt fmt` lays them out."""
     lines, found = text.split("\n"), []
