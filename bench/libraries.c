@@ -1,5 +1,6 @@
 /* Makes one case so many times, for counting: libraries CASE CODEC TIMES. It prints the cases where it is given
- * none. Payloads have no start code within a unit, and the limit is 1200 bytes. */
+ * none. Payloads are units of drawn bytes with no start code within, or these bytes again and again; the limit is
+ * 1200 bytes. */
 #include "h26x.h"
 #include <stdio.h>
 #include <stdlib.h>
@@ -13,6 +14,8 @@ static const struct one {
     const char *name;
     size_t units, len;
     enum what what;
+    const char *again;
+    size_t again_len;
 } cases[] = {
     {"into a buffer, 8 kB", 1, 8000, INTO},
     {"into a buffer, 200 kB", 1, 200000, INTO},
@@ -26,6 +29,9 @@ static const struct one {
     {"receive the packets of 8 kB", 1, 8000, RECEIVE},
     {"receive those of 50 units of 100 bytes", 50, 100, RECEIVE},
     {"cut 200 kB", 1, 200000, CUT},
+    {"cut 200 kB of zeros", 1, 200000, CUT, "\0", 1},
+    {"cut 200 kB of `00 01`", 1, 200000, CUT, "\0\1", 2},
+    {"cut 200 kB of start codes", 1, 200000, CUT, "\0\0\1", 3},
 };
 
 static uint8_t payload[ROOM], packets[ROOM], out[ROOM];
@@ -49,6 +55,12 @@ static void add_unit(uint32_t codec, size_t len)
     at[4] = codec == H26X_H264 ? 0x41 : codec == H26X_H265 ? 2 : 0;
     at[5] = codec == H26X_H264 ? at[5] : 1;
     payload_len += 4 + len;
+}
+
+static void add_again(const char *bytes, size_t bytes_len, size_t len)
+{
+    for (size_t i = 0; i < len; i++)
+        payload[payload_len++] = bytes[i % bytes_len];
 }
 
 /* Gives the packets to a depacketizer, or with sequence numbers to a receiver. */
@@ -94,8 +106,10 @@ int main(int argc, char **argv)
     h26x_receiver r;
     expect(h26x_packetizer_new(codec, false, &p) == H26X_OK && h26x_depacketizer_new(codec, false, &d) == H26X_OK
            && h26x_receiver_new(codec, false, false, ROOM, &r) == H26X_OK);
-    for (size_t i = 0; i < c->units; i++)
+    for (size_t i = 0; i < c->units && !c->again; i++)
         add_unit(codec, c->len);
+    if (c->again)
+        add_again(c->again, c->again_len, c->len);
     expect(h26x_packetize_into(&p, LIMIT, payload, payload_len, HEADROOM, packets, ROOM, ends, MOST, &count, &size)
            == H26X_OK);
     for (long i = atol(argv[3]); i > 0; i--)
