@@ -1,6 +1,6 @@
 //! NAL units from H.264 packets (RFC 6184, 5 and 7).
 
-use crate::packetizer::H264;
+use crate::codec::H264;
 use h26x_payload::PayloadDepacketizer;
 
 /// Writes the units of packets (RFC 6184, 5 and 7), each behind a start code, or behind its length

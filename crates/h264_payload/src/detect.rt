@@ -5,7 +5,7 @@ ghost use Rattle.std.specs.List.{list_any};
 ghost use Rattle.h26x_core.specs.H264Unit.{type_of_first};
 ghost use Rattle.h264_payload.specs.H264.{detects, stap_units};
 
-use crate::packetizer::H264;
+use crate::codec::H264;
 use h26x_core::{
     FU_START_BITMASK, FUA_HEADER_SIZE, FUA_NALU_TYPE, IDR_NALU_TYPE, NALU_TYPE_BITMASK,
     STAPA_HEADER_SIZE, STAPA_NALU_TYPE,

@@ -15,6 +15,7 @@
 #![tactic(auto)]
 
 mod cases;
+mod codec;
 mod depacketizer;
 mod detect;
 pub mod laws;
@@ -22,8 +23,9 @@ mod packet;
 mod packetizer;
 mod stap;
 
+pub use codec::H264;
 pub use depacketizer::H264Depacketizer;
 pub use detect::{detect_h264_keyframe, detect_h264_nalu};
 pub use h26x_core::ANNEXB_NALUSTART_CODE;
 pub use h26x_payload::{BufferPackets, PacketBuffer};
-pub use packetizer::{H264, H264Packetizer};
+pub use packetizer::H264Packetizer;

@@ -6,8 +6,8 @@ ghost use Rattle.h26x_model.specs.Payload.Reading.{Refused};
 ghost use Rattle.h26x_payload.specs.DepacketizerView.{IsReadAs};
 ghost use Rattle.h264_payload.specs.H264.{h264, reference_bits, stap_units};
 
+use crate::codec::H264;
 use crate::laws;
-use crate::packetizer::H264;
 use crate::stap::check_stap;
 use h26x_core::{
     FU_START_BITMASK, FUA_HEADER_SIZE, FUA_NALU_TYPE, FUB_NALU_TYPE, NALU_TYPE_BITMASK,

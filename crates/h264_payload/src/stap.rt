@@ -6,7 +6,7 @@ ghost use Rattle.h26x_model.specs.Payload.Reading.{Aggregate, Refused, without_d
 ghost use Rattle.h264_payload.specs.H264.{aggregate_of, stap_units};
 ghost use Rattle.h26x_payload.specs.Run.{AreOfSize};
 
-use crate::packetizer::H264;
+use crate::codec::H264;
 use h26x_core::{PacketError, STAPA_NALU_LENGTH_SIZE, first_piece};
 use h26x_payload::{Aggregate, PREFIX_SIZE};
 

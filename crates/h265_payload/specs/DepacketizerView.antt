@@ -8,7 +8,7 @@ use Rattle.std.specs.Cmp.Lexicographic.{pointwise, options_equiv, lists_equiv}
 use Rattle.h26x_core.specs.declared.extra.CodecExtra.{CodecExtra}
 use Rattle.h26x_model.specs.Receive.DepacketizerState.{DepacketizerState, Depacketization, depacketization, depacketizer_meaning}
 use Rattle.h265_payload.specs.Setting.{setting_format}
-use Rattle.h265_payload.specs.declared.packetizer.H265.{H265}
+use Rattle.h265_payload.specs.declared.codec.H265.{H265}
 use Rattle.h265_packets.specs.Equality.{payload_eq, payload_equiv}
 use Rattle.h265_packets.specs.declared.payload.H265Payload.{H265Payload}
 

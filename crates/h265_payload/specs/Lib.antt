@@ -7,3 +7,4 @@ pub mod Packet
 pub mod Setting
 pub mod DepacketizerView
 pub mod LowestHeader
+pub mod ShownParts

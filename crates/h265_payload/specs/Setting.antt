@@ -2,7 +2,7 @@
 use Rattle.std.specs.Prelude.{Bool}
 use Rattle.h26x_model.specs.Payload.Format.{Format}
 use Rattle.h265_payload.specs.H265.{h265}
-use Rattle.h265_payload.specs.declared.packetizer.H265.{H265}
+use Rattle.h265_payload.specs.declared.codec.H265.{H265}
 
 -- the setting with decoding order numbers or without
 abbrev pub setting : Bool → H265

@@ -5,8 +5,9 @@ ghost use Rattle.std.specs.List.{list_any};
 ghost use Rattle.h26x_model.specs.Receive.Outcome.{is_too_long};
 ghost use Rattle.h26x_payload.specs.Run.{AreOfSize};
 ghost use Rattle.h265_payload.specs.Shown.{others_of, units_in};
+ghost use Rattle.h265_payload.specs.ShownParts.{other_of};
 
-use crate::packetizer::H265;
+use crate::codec::H265;
 use h26x_core::{PacketError, first_piece};
 use h26x_payload::{Aggregate, written_size};
 
@@ -23,8 +24,8 @@ pub struct Other<'a> {
 
 /// The first of units that each stand behind DOND and their length.
 fn first_apart(bytes: &[u8]) -> Option<Other<'_>>
-    ensures first { IfSome result (λ it. others_of true bytes.now ≡
-        (record { dond = it.dond; nal_unit = it.unit.now }) ∷ others_of true it.behind.now) }
+    ensures first { IfSome result (λ it. others_of true bytes.now
+        ≡ other_of it.dond it.unit.now ∷ others_of true it.behind.now) }
     ensures short { IfSome result (λ it. length it.unit.now < 65536) }
     ensures less { IfSome result (λ it. length it.behind.now < length bytes.now) }
     ensures none { result ≡ None → others_of true bytes.now ≡ [] }
@@ -44,8 +45,8 @@ fn first_apart(bytes: &[u8]) -> Option<Other<'_>>
 
 /// The first of units that each stand behind their length alone.
 fn first_behind(bytes: &[u8]) -> Option<Other<'_>>
-    ensures first { IfSome result (λ it. others_of false bytes.now ≡
-        (record { dond = it.dond; nal_unit = it.unit.now }) ∷ others_of false it.behind.now) }
+    ensures first { IfSome result (λ it. others_of false bytes.now
+        ≡ other_of it.dond it.unit.now ∷ others_of false it.behind.now) }
     ensures short { IfSome result (λ it. length it.unit.now < 65536) }
     ensures less { IfSome result (λ it. length it.behind.now < length bytes.now) }
     ensures none { result ≡ None → others_of false bytes.now ≡ [] }
@@ -65,8 +66,8 @@ fn first_behind(bytes: &[u8]) -> Option<Other<'_>>
 
 /// The first unit of these bytes.
 pub fn first_other(has_donl: bool, bytes: &[u8]) -> Option<Other<'_>>
-    ensures first { IfSome result (λ it. others_of has_donl bytes.now ≡
-        (record { dond = it.dond; nal_unit = it.unit.now }) ∷ others_of has_donl it.behind.now) }
+    ensures first { IfSome result (λ it. others_of has_donl bytes.now
+        ≡ other_of it.dond it.unit.now ∷ others_of has_donl it.behind.now) }
     ensures short { IfSome result (λ it. length it.unit.now < 65536) }
     ensures less { IfSome result (λ it. length it.behind.now < length bytes.now) }
     ensures none { result ≡ None → others_of has_donl bytes.now ≡ [] }

@@ -18,7 +18,7 @@ ghost use Rattle.h265_payload.specs.Setting.{setting, setting_format};
 ghost use Rattle.h265_payload.specs.Shown.{shown, is_aggregate, units_of_aggregate};
 ghost use Rattle.h265_payload.specs.DepacketizerView.{h265_state, h265_depacketization};
 
-use crate::packetizer::H265;
+use crate::codec::H265;
 use crate::show::{prepare, show};
 use crate::spare::Spare;
 use h26x_core::{CodecExtra, Depacketizer, PacketError};

@@ -4,7 +4,7 @@ ghost use Rattle.std.specs.Prelude.{◌≡◌};
 ghost use Rattle.h26x_model.specs.Payload.TwoBytes.{two_byte_detects, two_byte_detects_fragment};
 ghost use Rattle.h265_payload.specs.H265.{h265_header};
 
-use crate::packetizer::{H265, header_of};
+use crate::codec::{H265, header_of};
 use h26x_core::{H265FragmentationUnitHeader, H265NALUHeader};
 use h26x_payload::{PayloadFormat, holds_key};
 

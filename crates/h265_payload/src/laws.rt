@@ -14,7 +14,8 @@ ghost use Rattle.h26x_cut.specs.declared.ZeroRule.TheVariants.{All};
 ghost use Rattle.h26x_payload.specs.Units.{CutsBy};
 ghost use Rattle.h265_payload.specs.H265.{h265, read};
 ghost use Rattle.h265_payload.specs.Reading.{IsReading};
-ghost use Rattle.h265_payload.specs.Shown.{shown, shown_paci_of, ShowsReading};
+ghost use Rattle.h265_payload.specs.Shown.{shown, shown_paci_of};
+ghost use Rattle.h265_payload.specs.ShownParts.{IsShownAsRead};
 ghost use Rattle.h265_payload.specs.LowestHeader.{IsHeadedByUnits, IsReadAlike, IsDetectedAlike, CallsAreTakenAlike};
 ghost use Rattle.h265_packets.specs.Paci.{paci_fields, paci_packet};
 ghost use Rattle.h265_packets.specs.declared.payload.H265Payload.TheVariants as p;
@@ -41,8 +42,7 @@ pub fn cuts_by_its_rule()
 /// 7798, 4.4).
 pub fn what_is_shown_is_read()
     ensures { (has_donl : Bool) (high low : ℕ) (rest : List ℕ) →
-        ShowsReading has_donl high low (read has_donl (high ∷ low ∷ rest))
-        (shown has_donl (high ∷ low ∷ rest)) }
+        IsShownAsRead has_donl high low rest }
 {}
 
 /// From limit 4 on, 6 with numbers, only sets are dropped for size, and a longer unit goes in

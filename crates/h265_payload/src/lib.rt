@@ -17,15 +17,18 @@
 
 mod aggregate;
 mod cases;
+mod codec;
 mod depacketizer;
 mod detect;
 pub mod laws;
 mod lowest_header;
 mod packet;
 mod packetizer;
+mod run;
 mod show;
 mod spare;
 
+pub use codec::H265;
 pub use depacketizer::H265Depacketizer;
 pub use detect::detect_h265_keyframe;
 pub use h26x_core::ANNEXB_NALUSTART_CODE;
@@ -35,4 +38,4 @@ pub use h265_packets::{
     H265FragmentationUnitPacket, H265PACIPacket, H265Payload, H265SingleNALUnitPacket,
 };
 pub use lowest_header::set_lowest_header;
-pub use packetizer::{H265, H265Packetizer};
+pub use packetizer::H265Packetizer;

@@ -8,7 +8,7 @@ ghost use Rattle.h265_payload.specs.LowestHeader as spec;
 
 mod cases;
 
-use crate::packetizer::{H265, header_of};
+use crate::codec::{H265, header_of};
 use h26x_core::h265_types::AGGREGATION_PACKET;
 use h26x_payload::Aggregate;
 

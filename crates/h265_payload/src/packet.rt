@@ -12,8 +12,8 @@ ghost use Rattle.h265_payload.specs.Packet.{IsShownBy};
 ghost use Rattle.h265_payload.specs.Shown.{units_in};
 
 use crate::aggregate::check_aggregate;
+use crate::codec::{H265, header_of};
 use crate::laws;
-use crate::packetizer::{H265, header_of};
 use h26x_core::{H265FragmentationUnitHeader, H265NALUHeader, PacketError};
 use h26x_payload::{Fragment, PacketReader, Parts, ends_access_unit, may_begin_access_unit};
 use h265_packets::header::{high_byte, paci_f, paci_size, paci_type};

@@ -1,24 +1,17 @@
 //! RTP payloads of H.265 payloads: units alone, in fragments, and parameter sets in one packet (RFC
 //! 7798, 4.4 and 4.6).
 
-ghost use Rattle.std.specs.Prelude.{◌≡◌, ◌<◌, ◌≤◌, length, slice_index};
-ghost use Rattle.h26x_core.specs.Word.{field};
-ghost use Rattle.h26x_core.specs.H265Unit.{type_of};
+ghost use Rattle.std.specs.Prelude.{◌≡◌, ◌<◌};
 ghost use Rattle.h265_payload.specs.H265.{with_type_and_f};
 
+use crate::codec::{H265, header_of};
 use h26x_core::h265_types::{
     AGGREGATION_PACKET, AUD_NUT, FRAGMENTATION_UNIT, PPS_NUT, SPS_NUT, VPS_NUT,
 };
-use h26x_core::{CodecExtra, H265CodecExtra, H265FragmentationUnitHeader, H265NALUHeader};
+use h26x_core::{CodecExtra, H265CodecExtra, H265FragmentationUnitHeader};
 use h26x_cut::{UnitSlices, ZeroRule};
 use h26x_payload::{DonlFormat, PayloadFormat, PayloadPacketizer, Sets, UnitKind};
 use h265_packets::header::high_byte;
-
-/// H.265 (RFC 7798), and whether packets bear decoding order numbers (4.6).
-#[derive(Debug, Clone, Copy, PartialEq, Eq)]
-pub struct H265 {
-    pub(crate) has_donl: bool,
-}
 
 /// Sends the NAL units of payloads (RFC 7798).
 ///
@@ -40,14 +33,6 @@ pub struct H265 {
 /// }
 /// ```
 pub type H265Packetizer = PayloadPacketizer<H265>;
-
-/// The header of a unit or of a packet.
-pub(crate) fn header_of(unit: &[u8]) -> H265NALUHeader
-    requires { 2 ≤ length unit.now }
-    ensures { field result.0 14 9 ≡ type_of (slice_index unit.now 0) }
-{
-    H265NALUHeader::new(unit[0], unit[1])
-}
 
 /// The first byte of this unit's header with another type: F and the layer's highest bit are kept.
 fn with_type(high: u8, nalu_type: u8) -> u8

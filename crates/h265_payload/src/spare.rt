@@ -2,6 +2,7 @@
 
 ghost use Rattle.std.specs.Prelude.{◌≡◌, ◌+◌, ◌<◌, ◌≤◌, ◌++◌, ◌∷◌, [], nat_le, length, take, vec_capacity, OnOk};
 ghost use Rattle.std.specs.List.{list_all};
+ghost use Rattle.h265_payload.specs.ShownParts.{other_of};
 ghost use Rattle.h265_payload.specs.Spare.{AreFew};
 
 use h265_packets::{H265AggregationUnit, H265Payload};
@@ -135,8 +136,7 @@ impl Spare {
         requires place { count ≤ length self.old.others.items }
         requires short { length unit.now < 65536 }
         ensures others { OnOk result (take (count + 1) self.new.others.items
-            ≡ take count self.old.others.items
-            ++ (record { dond = dond; nal_unit = unit.now }) ∷ []) }
+            ≡ take count self.old.others.items ++ other_of dond unit.now ∷ []) }
         ensures place { OnOk result (count < length self.new.others.items) }
         ensures data { self.new.data.items ≡ self.old.data.items }
     {

@@ -2,7 +2,7 @@
 use Rattle.std.specs.Prelude.{Bool}
 use Rattle.h26x_model.specs.Payload.Format.{Format}
 use Rattle.h266_payload.specs.H266.{h266}
-use Rattle.h266_payload.specs.declared.packetizer.H266.{H266}
+use Rattle.h266_payload.specs.declared.codec.H266.{H266}
 
 -- the setting with decoding order numbers or without
 abbrev pub setting : Bool → H266

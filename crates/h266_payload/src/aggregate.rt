@@ -9,7 +9,7 @@ ghost use Rattle.h266_payload.specs.H266.{has_packet_type, with_unit, two_or_mor
 ghost use Rattle.h26x_payload.specs.Run.{AreOfSize};
 ghost use Rattle.h266_payload.specs.Packet.{aggregate_units, aggregate_outcome};
 
-use crate::packetizer::{H266, header_of};
+use crate::codec::{H266, header_of};
 use h26x_core::{PacketError, first_piece};
 use h26x_payload::{Aggregate, PREFIX_SIZE};
 

@@ -4,8 +4,8 @@ ghost use Rattle.std.specs.Prelude.{◌≡◌, ◌≤◌, length};
 ghost use Rattle.h26x_model.specs.Payload.TwoBytes.{two_byte_detects, two_byte_detects_fragment};
 ghost use Rattle.h266_payload.specs.H266.{h266_header};
 
+use crate::codec::{H266, header_of};
 use crate::packet::PACKET_HEADER_SIZE;
-use crate::packetizer::{H266, header_of};
 use h26x_core::{H266FragmentationUnitHeader, H266NALUHeader};
 use h26x_payload::{PayloadFormat, holds_key};
 

@@ -16,14 +16,16 @@
 
 mod aggregate;
 mod cases;
+mod codec;
 mod depacketizer;
 mod detect;
 pub mod laws;
 mod packet;
 mod packetizer;
 
+pub use codec::H266;
 pub use depacketizer::H266Depacketizer;
 pub use detect::detect_h266_keyframe;
 pub use h26x_core::ANNEXB_NALUSTART_CODE;
 pub use h26x_payload::{BufferPackets, PacketBuffer};
-pub use packetizer::{H266, H266Packetizer};
+pub use packetizer::H266Packetizer;

@@ -10,8 +10,8 @@ ghost use Rattle.h266_payload.specs.H266.{h266_header, h266, has_packet_type};
 ghost use Rattle.h266_payload.specs.Packet.{aggregate_units, rest_behind_donl};
 
 use crate::aggregate::check_aggregate;
+use crate::codec::{H266, header_of, with_type};
 use crate::laws;
-use crate::packetizer::{H266, header_of, with_type};
 use h26x_core::{H266FragmentationUnitHeader, PacketError};
 use h26x_payload::{Fragment, PacketReader, Parts, ends_access_unit, may_begin_access_unit};
 

@@ -1,25 +1,18 @@
 //! RTP payloads of H.266 payloads: units alone, in fragments, and parameter sets in one packet (RFC
 //! 9328, 4.3 and 4.4).
 
-ghost use Rattle.std.specs.Prelude.{◌≡◌, ◌+◌, ◌*◌, ◌<◌, ◌≤◌, max, if◌then◌else◌, length, slice_index};
+ghost use Rattle.std.specs.Prelude.{◌≡◌, ◌+◌, ◌*◌, max, if◌then◌else◌};
 ghost use Rattle.std.specs.List.{list_any};
-ghost use Rattle.h26x_core.specs.Word.{field, is_set};
-ghost use Rattle.h26x_core.specs.H266Unit.{type_of};
 ghost use Rattle.h26x_payload.specs.Sending.{sets_list};
 ghost use Rattle.h266_payload.specs.H266 as spec;
 
+use crate::codec::{H266, header_of, with_type};
 use h26x_core::h266_types::{
     AGGREGATION_PACKET, AUD_NUT, FRAGMENTATION_UNIT, PPS_NUT, SPS_NUT, VPS_NUT,
 };
-use h26x_core::{CodecExtra, H266CodecExtra, H266FragmentationUnitHeader, H266NALUHeader};
+use h26x_core::{CodecExtra, H266CodecExtra, H266FragmentationUnitHeader};
 use h26x_cut::{UnitSlices, ZeroRule};
 use h26x_payload::{DonlFormat, PayloadFormat, PayloadPacketizer, Sets, UnitKind};
-
-/// H.266 (RFC 9328), and whether packets bear decoding order numbers (4.4).
-#[derive(Debug, Clone, Copy, PartialEq, Eq)]
-pub struct H266 {
-    pub(crate) has_donl: bool,
-}
 
 /// Sends the NAL units of payloads (RFC 9328).
 ///
@@ -42,23 +35,6 @@ pub struct H266 {
 /// }
 /// ```
 pub type H266Packetizer = PayloadPacketizer<H266>;
-
-/// The header of a unit or of a packet.
-pub(crate) fn header_of(unit: &[u8]) -> H266NALUHeader
-    requires { 2 ≤ length unit.now }
-    ensures f { is_set result.0 15 ≡ is_set (slice_index unit.now 0) 7 }
-    ensures nalu_type { field result.0 7 3 ≡ type_of (slice_index unit.now 1) }
-{
-    H266NALUHeader::new(unit[0], unit[1])
-}
-
-/// The second byte of a header with another type; the temporal id is kept.
-pub(crate) fn with_type(low: u8, nalu_type: u8) -> u8
-    requires { nalu_type < 32 }
-    ensures { result ≡ spec.with_type low nalu_type }
-{
-    nalu_type * 8 + (low & 7)
-}
 
 /// Whether F is set.
 fn is_forbidden(unit: &[u8]) -> bool

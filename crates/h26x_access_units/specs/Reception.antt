@@ -1,5 +1,5 @@
 -- What a receiver of packets that come in any order does (RFC 3550, 5.1; ours).
-use Rattle.std.specs.Prelude.{◌≡◌, ℕ, ◌-◌, ◌^◌, ◌==◌, Bool, true, false, ◌&&◌, not, if◌then◌else◌, List, [], ◌∷◌, length, Option, Some, None, Result, Ok, Err, MatchBool}
+use Rattle.std.specs.Prelude.{◌≡◌, ℕ, ◌-◌, ◌^◌, ◌==◌, Bool, true, false, ◌&&◌, not, if◌then◌else◌, List, [], ◌∷◌, length, Option, Some, None, Result, Ok, Err, MatchBool, IfOk, ◌⊎◌}
 use Rattle.h26x_core.specs.declared.error.PacketError.{PacketError}
 use Rattle.h26x_core.specs.declared.error.PacketError.TheVariants.{OutOfMemory}
 use Rattle.h26x_model.specs.Receive.DepacketizerState.{DepacketizerState}
@@ -14,10 +14,15 @@ use Rattle.h26x_access_units.specs.declared.counts.Counts.{Counts}
 use Rattle.h26x_access_units.specs.declared.numbers.NumbersSoFar.{NumbersSoFar}
 use Rattle.h26x_access_units.specs.declared.pushed.Pushed.{Pushed}
 use Rattle.h26x_access_units.specs.declared.pushed.Pushed.TheVariants as pushes
-use Rattle.h26x_access_units.specs.Counts.{no_counts, counted_push, counted_dropped, counted_due, counted_unit}
+use Rattle.h26x_access_units.specs.Counts.{no_counts, counted_push, counted_dropped, counted_due, counted_unit, counted_reason}
 use Rattle.h26x_access_units.specs.JitterBuffer.{JitterState, is_far, jitter_answer, after_jitter, due_packet, without_due, fresh_jitter, with_held_limit, waits_for_none}
 use Rattle.h26x_access_units.specs.Numbers.{fresh_numbers, bears_nothing, numbers_after, after_last, first_ended, without_first_ended}
-use Rattle.h26x_access_units.specs.ReceivedUnit.{ReceivedUnitValue, received_unit, clean_with, whole_with}
+use Rattle.h26x_access_units.specs.ReceivedUnit.{ReceivedUnitValue, received_unit, clean_with, whole_with, received_unit_value}
+use Rattle.std.specs.Option.{option_map}
+use Rattle.h26x_access_units.specs.declared.pushed.NotPushedReason.{NotPushedReason}
+use Rattle.h26x_access_units.specs.declared.unit.ReceivedUnit.{ReceivedUnit}
+use Rattle.h26x_access_units.specs.Missing.{missing_numbers, AreExactlyMissing}
+use Rattle.h26x_access_units.specs.Arrival.{deadline_of}
 
 -- what a receiver is to contracts: what waits, and the packet that waits alone; whether the stream has
 -- begun anew, so that the access unit that is open is to end; the receiver of access units, those that
@@ -71,13 +76,21 @@ abbrev pub is_behind_stray : Option (ℕ × RtpBody) → ℕ → Bool
 is_behind_stray None number = false
 is_behind_stray (Some stray) number = number == next_sequence_number stray.0
 
+-- whether a number is too far from the one that is due and from those that wait (RFC 3550, A.1)
+abbrev pub is_too_far : Reception → ℕ → Bool
+is_too_far s number = is_far s.waiting.config.far s.waiting.buffer number
+
 -- what is answered for a packet: one that is too far from the one that is due waits alone, and where
 -- the next such one follows it the stream begins anew
 abbrev pub reception_answer : Reception → ℕ × RtpBody → Pushed
 reception_answer s p =
-    if is_far s.waiting.config.far s.waiting.buffer p.0
+    if is_too_far s p.0
     then (if is_behind_stray s.stray p.0 then pushes.Anew else pushes.Stray)
     else jitter_answer s.waiting p
+
+-- so for one that was pushed, but for a refusal
+abbrev pub IsPushAnswer : {E : Type 0} → Reception → ℕ × RtpBody → Result Pushed E → Type 0
+IsPushAnswer s p result = IfOk result (λ answer. answer ≡ reception_answer s p)
 
 -- what waits once a packet came, by its answer
 abbrev pub pushed_to : ℕ → JitterState → ℕ × RtpBody → JitterState
@@ -108,6 +121,15 @@ after_reception now s p answer = record s {
   waiting = after_jitter now s.waiting p answer;
   counts = counted_push s.counts answer;
 }
+
+-- where a packet that was pushed isn't taken at once, what stands then
+abbrev pub IsPutAside : {E : Type 0} → ℕ → Reception → ℕ × RtpBody → Result Pushed E → Reception →
+    Type 0
+IsPutAside now s p result new = IfOk result (λ answer. new ≡ after_reception now s p answer)
+
+-- once a packet came back with this reason
+abbrev pub refused_reception : Reception → NotPushedReason → Reception
+refused_reception s reason = record s { counts = counted_reason s.counts reason }
 
 -- what is answered for a packet that is given to the receiver of access units: one that bears nothing
 -- is skipped
@@ -153,6 +175,19 @@ pub record IsDueTaken (now : ℕ) (s new : Reception) : Type 0 where
   pub room : answer ≡ Err OutOfMemory → ⊥
   pub stands : new ≡ after_due s packet answer
 
+-- so it is of a packet that is taken as it comes, at whatever tick
+abbrev pub IsTakenAsDue : Reception → ℕ × RtpBody → Reception → Type 0
+IsTakenAsDue s p new = (now : ℕ) → IsDueTaken now (after_reception now s p pushes.Held) new
+
+-- by whether one was taken: one that was due, or none is due and all is as it was
+abbrev pub IsDueTakenOrNone : ℕ → Reception → Bool → Reception → Type 0
+IsDueTakenOrNone now s took new = MatchBool took (IsDueTaken now s new)
+    ((due_packet now s.waiting ≡ None) × (new ≡ s))
+
+-- no packet is due, unless an access unit has ended
+abbrev pub NoneIsDueUnlessEnded : ℕ → Reception → Type 0
+NoneIsDueUnlessEnded now s = s.frames.ended ≡ [] → due_packet now s.waiting ≡ None
+
 -- whether a list has no entry
 abbrev pub has_no_unit : List AccessUnitValue → Bool
 has_no_unit [] = true
@@ -170,11 +205,20 @@ abbrev pub IsPushed : ℕ → Reception → ℕ × RtpBody → Pushed → Recept
 IsPushed now s p answer new = MatchBool (is_taken_at_once s p.0)
     (IsDueTaken now (after_reception now s p answer) new) (new ≡ after_reception now s p answer)
 
+-- so for a packet that was pushed, but for a refusal
+abbrev pub IsPushedIfOk : {E : Type 0} → ℕ → Reception → ℕ × RtpBody → Result Pushed E → Reception →
+    Type 0
+IsPushedIfOk now s p result new = IfOk result (λ answer. IsPushed now s p answer new)
+
 -- packets that were due were taken, one after the other, as long as no access unit had ended
 pub data IsDrained (now : ℕ) (s : Reception) : Reception → Type 0 where
   none : IsDrained now s s
   more : {t u : Reception} → IsDrained now s t → t.frames.ended ≡ [] → IsDueTaken now t u →
       IsDrained now s u
+
+-- at the end of the stream: all that waits is due
+abbrev pub ended_reception : Reception → Reception
+ended_reception s = record s { waiting = record s.waiting { is_over = true } }
 
 -- after the end of the stream: the access unit that was open ended, no stray waits, and any number is
 -- next
@@ -192,6 +236,10 @@ ended_if_anew s =
     if has_no_unit s.frames.ended && s.is_anew
     then record s { is_anew = false; frames = after_end s.frames; numbers = after_last s.numbers }
     else s
+
+-- where memory lacked for the next access unit: nothing was done, or packets that were due were taken
+abbrev pub IsDrainedInPart : ℕ → Reception → Reception → Type 0
+IsDrainedInPart now s new = (new ≡ s) ⊎ IsDrained now (ended_if_anew s) new
 
 -- at the end of the stream, once no access unit that ended is left, the one that is open ends
 abbrev pub ended_if_over : Reception → Reception
@@ -232,6 +280,23 @@ without_given s = without_given_of s s.frames.ended
 pub record IsNext (now : ℕ) (s new : Reception) (unit : Option ReceivedUnitValue) : Type 0 where
   pub drained : Reception
   pub taken : IsDrained now (ended_if_anew s) drained
-  pub until : drained.frames.ended ≡ [] → due_packet now drained.waiting ≡ None
+  pub until : NoneIsDueUnlessEnded now drained
   pub unit_is : unit ≡ unit_given (ended_if_over drained)
   pub stands : new ≡ without_given (ended_if_over drained)
+
+-- so it is of what is given out, but for want of memory
+abbrev pub GivesNext : ℕ → Reception → Result (Option ReceivedUnit) PacketError → Reception → Type 0
+GivesNext now s result new =
+    IfOk result (λ unit. IsNext now s new (option_map received_unit_value unit))
+
+-- the numbers that a NACK asks for: those that are missing before packets that wait (RFC 4585, 6.2.1)
+abbrev pub nack_numbers : Reception → List ℕ
+nack_numbers s = missing_numbers s.waiting.buffer.due s.waiting.buffer.held
+
+-- these are exactly those between the one that is due and the last that waits that don't wait
+abbrev pub AreExactNacks : Reception → List ℕ → Type 0
+AreExactNacks s numbers = AreExactlyMissing s.waiting.buffer.due s.waiting.buffer.held numbers
+
+-- when the packet that waits longest is due at the latest
+abbrev pub next_deadline : Reception → Option ℕ
+next_deadline s = deadline_of s.waiting.config.max_wait s.waiting.arrivals

@@ -1,20 +1,16 @@
 //! A receiver that takes packets as they come and gives out access units.
 
-ghost use Rattle.std.specs.Prelude.{◌≡◌, ℕ, ◌^◌, ◌<◌, ◌≤◌, ◌↔◌, ◌⊎◌, IsTrue, true, false, not, [], None, Ok, Err, IfOk, OnOk, OnErr, IfErr, MatchBool, length, map};
+ghost use Rattle.std.specs.Prelude.{◌≡◌, ◌^◌, ◌<◌, ◌≤◌, true, false, not, [], None, Ok, Err, IfOk, OnOk, OnErr, IfErr, length};
 ghost use Rattle.std.specs.Option.{option_map};
-ghost use Rattle.h26x_receiver.specs.Sequenced.{is_taken};
-ghost use Rattle.h26x_frames.specs.AccessUnit.{is_text_given_up};
+ghost use Rattle.h26x_receiver.specs.Sequenced.{IfTaken};
 ghost use Rattle.h26x_frames.specs.Rtp.{rtp_body};
 ghost use Rattle.h26x_frames.specs.ReorderBuffer.{numbered_packet};
 ghost use Rattle.h26x_access_units.specs.Pushed.{IsNotPushedReason};
-ghost use Rattle.h26x_access_units.specs.Counts.{counted_reason, counted_due};
-ghost use Rattle.h26x_frames.specs.Receiver.{frames_at};
-ghost use Rattle.h26x_access_units.specs.Arrival.{deadline_of};
-ghost use Rattle.h26x_access_units.specs.JitterBuffer.{is_far, due_packet};
-ghost use Rattle.h26x_access_units.specs.Missing.{missing_numbers, AreExactlyMissing};
+ghost use Rattle.h26x_access_units.specs.Counts.{counted_due};
+ghost use Rattle.h26x_frames.specs.Receiver.{frames_at, gives_text_up};
 ghost use Rattle.h26x_access_units.specs.Numbers.{bears_nothing, numbers_after};
 ghost use Rattle.h26x_access_units.specs.ReceivedUnit.{received_unit_value};
-ghost use Rattle.h26x_access_units.specs.Reception.{fresh_reception, reception_answer, after_reception, has_no_unit, ended_if_anew, ended_if_over, restarted, unit_given, without_given, frames_after, lacks_memory, marker_forgotten, is_taken_at_once, is_idle, IsAnswerTo, IsDueTaken, IsPushed, IsDrained, IsNext};
+ghost use Rattle.h26x_access_units.specs.Reception.{fresh_reception, reception_answer, has_no_unit, ended_if_anew, ended_if_over, restarted, unit_given, without_given, frames_after, lacks_memory, marker_forgotten, is_taken_at_once, is_idle, IsAnswerTo, IsDrained, is_too_far, IsPushAnswer, IsPutAside, refused_reception, IsTakenAsDue, IsDueTakenOrNone, NoneIsDueUnlessEnded, IsPushedIfOk, ended_reception, IsDrainedInPart, GivesNext, nack_numbers, AreExactNacks, next_deadline};
 ghost use Rattle.h26x_access_units.specs.Limits.{StaysWithinLimits};
 
 use crate::config::AccessUnitConfig;
@@ -25,7 +21,8 @@ use crate::pushed::{NotPushed, NotPushedReason, Pushed};
 use crate::unit::{ReceivedUnit, is_keyframe};
 use h26x_core::PacketError;
 use h26x_frames::{AccessUnit, FrameReceiver, HeldPacket, RtpPacket};
-use h26x_receiver::{Received, RunDepacketizer, SequencedDepacketizer};
+use h26x_payload::RunDepacketizer;
+use h26x_receiver::{Received, SequencedDepacketizer};
 use std::alloc::Global;
 
 /// Takes RTP packets as they come and gives out access units.
@@ -62,9 +59,8 @@ fn take_packet<D: RunDepacketizer>(
         (frames_at D.state frames.old ended.old.items) packet.now (Ok received)) }
     ensures limit { frames.new.packets.run_limit ≡ frames.old.packets.run_limit }
     ensures unit_limit { frames.new.unit_limit ≡ frames.old.unit_limit }
-    ensures text { bears_nothing packet.now.1.payload ≡ false → is_taken result ≡ true →
-        frames.new.is_text_given_up ≡ is_text_given_up frames.old.packets.run_limit
-        frames.old.unit_limit (frames_at D.state frames.old ended.old.items) packet.now }
+    ensures text { bears_nothing packet.now.1.payload ≡ false → IfTaken result
+        (frames.new.is_text_given_up ≡ gives_text_up D.state frames.old ended.old.items packet.now) }
     ensures kept { OnErr result (frames.new ≡ frames.old) }
     ensures kept_ended { OnErr result (ended.new.items ≡ ended.old.items) }
 {
@@ -92,9 +88,8 @@ fn take_noted<D: RunDepacketizer>(
     ensures numbers { lacks_memory result ≡ false → numbers.new
         ≡ numbers_after frames.old.packets.expected numbers.old packet.now result }
     ensures counts { lacks_memory result ≡ false → counts.new
-        ≡ counted_due frames.old.packets.expected counts.old packet.now result (is_text_given_up
-        frames.old.packets.run_limit frames.old.unit_limit
-        (frames_at D.state frames.old ended.old.items) packet.now) }
+        ≡ counted_due frames.old.packets.expected counts.old packet.now result (gives_text_up
+        D.state frames.old ended.old.items packet.now) }
     ensures limit { frames.new.packets.run_limit ≡ frames.old.packets.run_limit }
     ensures unit_limit { frames.new.unit_limit ≡ frames.old.unit_limit }
     ensures kept { lacks_memory result ≡ true → frames_at D.state frames.new ended.new.items
@@ -152,7 +147,7 @@ impl<D: RunDepacketizer> AccessUnitReceiver<D> {
     pub fn new(alloc: Global, depacketizer: D, config: AccessUnitConfig) -> Self
         requires some { 0 < config.window }
         requires half { config.window ≤ 2 ^ 14 }
-        ensures { let r = ⟦<AccessUnitReceiver<D> as Receives>⟧.reception in
+        ensures { let r = ⟦<Self as Receives>⟧.reception in
             r result ≡ fresh_reception config (D.state depacketizer) }
     {
         let packets = SequencedDepacketizer::new(alloc, depacketizer, config.run_limit);
@@ -174,16 +169,16 @@ impl<D: RunDepacketizer> AccessUnitReceiver<D> {
     /// without a payload came and bears nothing. Without memory all stays as it was, and it can be
     /// given again.
     pub fn push(&mut self, now: u32, packet: &RtpPacket<'_>) -> Result<Pushed, PacketError>
-        ensures answer { let r = ⟦<AccessUnitReceiver<D> as Receives>⟧.reception in
-            IfOk result (λ answer. answer ≡ reception_answer (r self.old) packet.now) }
-        ensures after { let r = ⟦<AccessUnitReceiver<D> as Receives>⟧.reception in
-            IfOk result (λ answer. IsPushed now (r self.old) packet.now answer (r self.new)) }
+        ensures answer { let r = ⟦<Self as Receives>⟧.reception in
+            IsPushAnswer (r self.old) packet.now result }
+        ensures after { let r = ⟦<Self as Receives>⟧.reception in
+            IsPushedIfOk now (r self.old) packet.now result (r self.new) }
         ensures memory { OnErr result (result ≡ Err PacketError.OutOfMemory) }
-        ensures kept { let r = ⟦<AccessUnitReceiver<D> as Receives>⟧.reception in
+        ensures kept { let r = ⟦<Self as Receives>⟧.reception in
             OnErr result (r self.new ≡ r self.old) }
 
         // What is held stays within its limits.
-        ensures bounded { let r = ⟦<AccessUnitReceiver<D> as Receives>⟧.reception in
+        ensures bounded { let r = ⟦<Self as Receives>⟧.reception in
             StaysWithinLimits (length packet.now.1.payload) (r self.old) (r self.new) }
     {
         if self.takes_at_once(packet.sequence) {
@@ -196,13 +191,12 @@ impl<D: RunDepacketizer> AccessUnitReceiver<D> {
     /// Takes a packet that isn't taken at once.
     #[inline(never)]
     fn push_aside(&mut self, now: u32, packet: &RtpPacket<'_>) -> Result<Pushed, PacketError>
-        ensures answer { let r = ⟦<AccessUnitReceiver<D> as Receives>⟧.reception in
-            IfOk result (λ answer. answer ≡ reception_answer (r self.old) packet.now) }
-        ensures after { let r = ⟦<AccessUnitReceiver<D> as Receives>⟧.reception in
-            IfOk result (λ answer.
-            r self.new ≡ after_reception now (r self.old) packet.now answer) }
+        ensures answer { let r = ⟦<Self as Receives>⟧.reception in
+            IsPushAnswer (r self.old) packet.now result }
+        ensures after { let r = ⟦<Self as Receives>⟧.reception in
+            IsPutAside now (r self.old) packet.now result (r self.new) }
         ensures memory { OnErr result (result ≡ Err PacketError.OutOfMemory) }
-        ensures kept { let r = ⟦<AccessUnitReceiver<D> as Receives>⟧.reception in
+        ensures kept { let r = ⟦<Self as Receives>⟧.reception in
             OnErr result (r self.new ≡ r self.old) }
     {
         if self.waiting.is_far(packet.sequence) {
@@ -215,7 +209,7 @@ impl<D: RunDepacketizer> AccessUnitReceiver<D> {
 
     /// Whether a packet with this number is taken at once.
     fn takes_at_once(&self, number: u16) -> bool
-        ensures { let r = ⟦<AccessUnitReceiver<D> as Receives>⟧.reception in
+        ensures { let r = ⟦<Self as Receives>⟧.reception in
             result ≡ is_taken_at_once (r self.now) number }
     {
         self.waiting.goes_straight(number) && !self.has_ended() && !self.is_anew
@@ -223,13 +217,12 @@ impl<D: RunDepacketizer> AccessUnitReceiver<D> {
 
     /// Takes a packet at once, which waits no more than one that is due.
     fn take_at_once(&mut self, packet: &RtpPacket<'_>) -> Result<(), PacketError>
-        requires { let r = ⟦<AccessUnitReceiver<D> as Receives>⟧.reception in
+        requires { let r = ⟦<Self as Receives>⟧.reception in
             is_taken_at_once (r self.old) packet.now.0 ≡ true }
-        ensures taken { let r = ⟦<AccessUnitReceiver<D> as Receives>⟧.reception in
-            OnOk result ((now : ℕ) → IsDueTaken now
-            (after_reception now (r self.old) packet.now Pushed.Held) (r self.new)) }
+        ensures taken { let r = ⟦<Self as Receives>⟧.reception in
+            OnOk result (IsTakenAsDue (r self.old) packet.now (r self.new)) }
         ensures memory { OnErr result (result ≡ Err PacketError.OutOfMemory) }
-        ensures kept { let r = ⟦<AccessUnitReceiver<D> as Receives>⟧.reception in
+        ensures kept { let r = ⟦<Self as Receives>⟧.reception in
             OnErr result (r self.new ≡ r self.old) }
     {
         let received = take_noted(
@@ -248,15 +241,14 @@ impl<D: RunDepacketizer> AccessUnitReceiver<D> {
 
     /// So of one that has memory of its own, which is kept for another one.
     fn take_held_at_once(&mut self, packet: HeldPacket) -> Result<Pushed, NotPushed>
-        requires { let r = ⟦<AccessUnitReceiver<D> as Receives>⟧.reception in
+        requires { let r = ⟦<Self as Receives>⟧.reception in
             is_taken_at_once (r self.old) packet.sequence ≡ true }
         ensures answer { IfOk result (λ answer. answer ≡ Pushed.Held) }
-        ensures taken { let r = ⟦<AccessUnitReceiver<D> as Receives>⟧.reception in
-            OnOk result ((now : ℕ) → IsDueTaken now
-            (after_reception now (r self.old) (numbered_packet packet) Pushed.Held) (r self.new)) }
+        ensures taken { let r = ⟦<Self as Receives>⟧.reception in
+            OnOk result (IsTakenAsDue (r self.old) (numbered_packet packet) (r self.new)) }
         ensures back { IfErr result (λ it. it.packet ≡ packet) }
         ensures reason { IfErr result (λ it. it.reason ≡ NotPushedReason.OutOfMemory) }
-        ensures kept { let r = ⟦<AccessUnitReceiver<D> as Receives>⟧.reception in
+        ensures kept { let r = ⟦<Self as Receives>⟧.reception in
             OnErr result (r self.new ≡ r self.old) }
     {
         match self.take_at_once(&packet.packet()) {
@@ -273,16 +265,14 @@ impl<D: RunDepacketizer> AccessUnitReceiver<D> {
 
     /// Takes a packet that is too far from the one that is due.
     fn push_far(&mut self, now: u32, packet: &RtpPacket<'_>) -> Result<Pushed, PacketError>
-        requires { let r = ⟦<AccessUnitReceiver<D> as Receives>⟧.reception in
-            is_far (r self.old).waiting.config.far (r self.old).waiting.buffer packet.now.0
-            ≡ true }
-        ensures answer { let r = ⟦<AccessUnitReceiver<D> as Receives>⟧.reception in
-            IfOk result (λ answer. answer ≡ reception_answer (r self.old) packet.now) }
-        ensures after { let r = ⟦<AccessUnitReceiver<D> as Receives>⟧.reception in
-            IfOk result (λ answer.
-            r self.new ≡ after_reception now (r self.old) packet.now answer) }
+        requires { let r = ⟦<Self as Receives>⟧.reception in
+            is_too_far (r self.old) packet.now.0 ≡ true }
+        ensures answer { let r = ⟦<Self as Receives>⟧.reception in
+            IsPushAnswer (r self.old) packet.now result }
+        ensures after { let r = ⟦<Self as Receives>⟧.reception in
+            IsPutAside now (r self.old) packet.now result (r self.new) }
         ensures memory { OnErr result (result ≡ Err PacketError.OutOfMemory) }
-        ensures kept { let r = ⟦<AccessUnitReceiver<D> as Receives>⟧.reception in
+        ensures kept { let r = ⟦<Self as Receives>⟧.reception in
             OnErr result (r self.new ≡ r self.old) }
     {
         match &self.stray {
@@ -322,23 +312,19 @@ impl<D: RunDepacketizer> AccessUnitReceiver<D> {
     /// Takes a packet that has memory of its own, and copies nothing of it, but of a stray. One that
     /// doesn't wait comes back as it was given, with the reason.
     pub fn push_held(&mut self, now: u32, packet: HeldPacket) -> Result<Pushed, NotPushed>
-        ensures answer { let r = ⟦<AccessUnitReceiver<D> as Receives>⟧.reception in
-            IfOk result (λ answer.
-            answer ≡ reception_answer (r self.old) (numbered_packet packet)) }
-        ensures after { let r = ⟦<AccessUnitReceiver<D> as Receives>⟧.reception in
-            IfOk result (λ answer.
-            IsPushed now (r self.old) (numbered_packet packet) answer (r self.new)) }
+        ensures answer { let r = ⟦<Self as Receives>⟧.reception in
+            IsPushAnswer (r self.old) (numbered_packet packet) result }
+        ensures after { let r = ⟦<Self as Receives>⟧.reception in
+            IsPushedIfOk now (r self.old) (numbered_packet packet) result (r self.new) }
         ensures back { IfErr result (λ it. it.packet ≡ packet) }
-        ensures reason { let r = ⟦<AccessUnitReceiver<D> as Receives>⟧.reception in
+        ensures reason { let r = ⟦<Self as Receives>⟧.reception in
             IfErr result (λ it. IsNotPushedReason
             (reception_answer (r self.old) (numbered_packet packet)) it.reason) }
-        ensures kept { let r = ⟦<AccessUnitReceiver<D> as Receives>⟧.reception in
-            IfErr result (λ it. r self.new ≡ record (r self.old) {
-              counts = counted_reason (r self.old).counts it.reason;
-            }) }
+        ensures kept { let r = ⟦<Self as Receives>⟧.reception in
+            IfErr result (λ it. r self.new ≡ refused_reception (r self.old) it.reason) }
 
         // What is held stays within its limits.
-        ensures bounded { let r = ⟦<AccessUnitReceiver<D> as Receives>⟧.reception in
+        ensures bounded { let r = ⟦<Self as Receives>⟧.reception in
             StaysWithinLimits (length packet.payload.items) (r self.old) (r self.new) }
     {
         if self.takes_at_once(packet.sequence) {
@@ -365,16 +351,14 @@ impl<D: RunDepacketizer> AccessUnitReceiver<D> {
     /// Passes over a number that came and bears nothing of the stream, as padding alone, FEC or
     /// another payload type: it isn't missing.
     pub fn skip(&mut self, now: u32, sequence: u16) -> Result<Pushed, PacketError>
-        ensures answer { let r = ⟦<AccessUnitReceiver<D> as Receives>⟧.reception in
-            IfOk result (λ answer.
-            answer ≡ reception_answer (r self.old) (sequence, rtp_body 0 false [])) }
-        ensures after { let r = ⟦<AccessUnitReceiver<D> as Receives>⟧.reception in
-            IfOk result (λ answer. IsPushed now (r self.old) (sequence, rtp_body 0 false []) answer
-            (r self.new)) }
+        ensures answer { let r = ⟦<Self as Receives>⟧.reception in
+            IsPushAnswer (r self.old) (sequence, rtp_body 0 false []) result }
+        ensures after { let r = ⟦<Self as Receives>⟧.reception in
+            IsPushedIfOk now (r self.old) (sequence, rtp_body 0 false []) result (r self.new) }
         ensures memory { OnErr result (result ≡ Err PacketError.OutOfMemory) }
-        ensures kept { let r = ⟦<AccessUnitReceiver<D> as Receives>⟧.reception in
+        ensures kept { let r = ⟦<Self as Receives>⟧.reception in
             OnErr result (r self.new ≡ r self.old) }
-        ensures bounded { let r = ⟦<AccessUnitReceiver<D> as Receives>⟧.reception in
+        ensures bounded { let r = ⟦<Self as Receives>⟧.reception in
             StaysWithinLimits 0 (r self.old) (r self.new) }
     {
         let packet = RtpPacket {
@@ -388,11 +372,10 @@ impl<D: RunDepacketizer> AccessUnitReceiver<D> {
 
     /// Takes the packet that is due, if one is, or passes over it where it is refused.
     fn take_due(&mut self, now: u32) -> Result<bool, PacketError>
-        ensures taken { let r = ⟦<AccessUnitReceiver<D> as Receives>⟧.reception in
-            IfOk result (λ took. MatchBool took (IsDueTaken now (r self.old) (r self.new))
-            ((due_packet now (r self.old).waiting ≡ None) × (r self.new ≡ r self.old))) }
+        ensures taken { let r = ⟦<Self as Receives>⟧.reception in
+            IfOk result (λ took. IsDueTakenOrNone now (r self.old) took (r self.new)) }
         ensures memory { OnErr result (result ≡ Err PacketError.OutOfMemory) }
-        ensures kept { let r = ⟦<AccessUnitReceiver<D> as Receives>⟧.reception in
+        ensures kept { let r = ⟦<Self as Receives>⟧.reception in
             OnErr result (r self.new ≡ r self.old) }
     {
         let packet = match self.waiting.first_due(now) {
@@ -415,10 +398,10 @@ impl<D: RunDepacketizer> AccessUnitReceiver<D> {
 
     /// Where the stream has begun anew, and no access unit that ended is left, ends the open one.
     fn end_if_anew(&mut self) -> Result<(), PacketError>
-        ensures ended { let r = ⟦<AccessUnitReceiver<D> as Receives>⟧.reception in
+        ensures ended { let r = ⟦<Self as Receives>⟧.reception in
             OnOk result (r self.new ≡ ended_if_anew (r self.old)) }
         ensures memory { OnErr result (result ≡ Err PacketError.OutOfMemory) }
-        ensures kept { let r = ⟦<AccessUnitReceiver<D> as Receives>⟧.reception in
+        ensures kept { let r = ⟦<Self as Receives>⟧.reception in
             OnErr result (r self.new ≡ r self.old) }
     {
         if self.ended.is_empty() && self.is_anew {
@@ -431,11 +414,10 @@ impl<D: RunDepacketizer> AccessUnitReceiver<D> {
 
     /// Takes packets that are due until an access unit has ended, or none is due.
     fn drain(&mut self, now: u32) -> Result<(), PacketError>
-        ensures drained { let r = ⟦<AccessUnitReceiver<D> as Receives>⟧.reception in
+        ensures drained { let r = ⟦<Self as Receives>⟧.reception in
             IsDrained now (r self.old) (r self.new) }
-        ensures until { let r = ⟦<AccessUnitReceiver<D> as Receives>⟧.reception in
-            OnOk result ((r self.new).frames.ended ≡ [] →
-            due_packet now (r self.new).waiting ≡ None) }
+        ensures until { let r = ⟦<Self as Receives>⟧.reception in
+            OnOk result (NoneIsDueUnlessEnded now (r self.new)) }
         ensures memory { OnErr result (result ≡ Err PacketError.OutOfMemory) }
     {
         while !self.has_ended() && self.take_due(now)? {}
@@ -444,7 +426,7 @@ impl<D: RunDepacketizer> AccessUnitReceiver<D> {
 
     /// Whether an access unit has ended and wasn't given out.
     fn has_ended(&self) -> bool
-        ensures { let r = ⟦<AccessUnitReceiver<D> as Receives>⟧.reception in
+        ensures { let r = ⟦<Self as Receives>⟧.reception in
             result ≡ not (has_no_unit (r self.now).frames.ended) }
     {
         !self.ended.is_empty()
@@ -452,10 +434,10 @@ impl<D: RunDepacketizer> AccessUnitReceiver<D> {
 
     /// At the end of the stream, once no access unit that ended is left, ends the one that is open.
     fn end_if_over(&mut self) -> Result<(), PacketError>
-        ensures ended { let r = ⟦<AccessUnitReceiver<D> as Receives>⟧.reception in
+        ensures ended { let r = ⟦<Self as Receives>⟧.reception in
             OnOk result (r self.new ≡ ended_if_over (r self.old)) }
         ensures memory { OnErr result (result ≡ Err PacketError.OutOfMemory) }
-        ensures kept { let r = ⟦<AccessUnitReceiver<D> as Receives>⟧.reception in
+        ensures kept { let r = ⟦<Self as Receives>⟧.reception in
             OnErr result (r self.new ≡ r self.old) }
     {
         if self.ended.is_empty() && self.waiting.is_over() {
@@ -469,9 +451,9 @@ impl<D: RunDepacketizer> AccessUnitReceiver<D> {
 
     /// Gives out the first access unit that ended.
     fn give(&mut self) -> Option<ReceivedUnit>
-        ensures unit { let r = ⟦<AccessUnitReceiver<D> as Receives>⟧.reception in
+        ensures unit { let r = ⟦<Self as Receives>⟧.reception in
             option_map received_unit_value result ≡ unit_given (r self.old) }
-        ensures after { let r = ⟦<AccessUnitReceiver<D> as Receives>⟧.reception in
+        ensures after { let r = ⟦<Self as Receives>⟧.reception in
             r self.new ≡ without_given (r self.old) }
     {
         if self.ended.is_empty() {
@@ -502,16 +484,14 @@ impl<D: RunDepacketizer> AccessUnitReceiver<D> {
     /// Without memory the error is `OutOfMemory`: what was taken before stays taken, and the packet for
     /// which memory lacks is due still.
     pub fn next(&mut self, now: u32) -> Result<Option<ReceivedUnit>, PacketError>
-        ensures next { let r = ⟦<AccessUnitReceiver<D> as Receives>⟧.reception in
-            IfOk result (λ unit.
-            IsNext now (r self.old) (r self.new) (option_map received_unit_value unit)) }
+        ensures next { let r = ⟦<Self as Receives>⟧.reception in
+            GivesNext now (r self.old) result (r self.new) }
         ensures memory { OnErr result (result ≡ Err PacketError.OutOfMemory) }
-        ensures kept { let r = ⟦<AccessUnitReceiver<D> as Receives>⟧.reception in
-            OnErr result ((r self.new ≡ r self.old)
-            ⊎ IsDrained now (ended_if_anew (r self.old)) (r self.new)) }
+        ensures kept { let r = ⟦<Self as Receives>⟧.reception in
+            OnErr result (IsDrainedInPart now (r self.old) (r self.new)) }
 
         // What is held stays within its limits.
-        ensures bounded { let r = ⟦<AccessUnitReceiver<D> as Receives>⟧.reception in
+        ensures bounded { let r = ⟦<Self as Receives>⟧.reception in
             StaysWithinLimits 0 (r self.old) (r self.new) }
     {
         if self.is_idle() {
@@ -523,22 +503,19 @@ impl<D: RunDepacketizer> AccessUnitReceiver<D> {
     /// Whether there is nothing to take or to give out.
     #[inline]
     fn is_idle(&self) -> bool
-        ensures { let r = ⟦<AccessUnitReceiver<D> as Receives>⟧.reception in
-            result ≡ is_idle (r self.now) }
+        ensures { let r = ⟦<Self as Receives>⟧.reception in result ≡ is_idle (r self.now) }
     {
         !self.has_ended() && !self.is_anew && self.waiting.waits_for_none()
     }
 
     /// What `next` does.
     fn next_due(&mut self, now: u32) -> Result<Option<ReceivedUnit>, PacketError>
-        ensures next { let r = ⟦<AccessUnitReceiver<D> as Receives>⟧.reception in
-            IfOk result (λ unit.
-            IsNext now (r self.old) (r self.new) (option_map received_unit_value unit)) }
+        ensures next { let r = ⟦<Self as Receives>⟧.reception in
+            GivesNext now (r self.old) result (r self.new) }
         ensures memory { OnErr result (result ≡ Err PacketError.OutOfMemory) }
-        ensures kept { let r = ⟦<AccessUnitReceiver<D> as Receives>⟧.reception in
-            OnErr result ((r self.new ≡ r self.old)
-            ⊎ IsDrained now (ended_if_anew (r self.old)) (r self.new)) }
-        ensures bounded { let r = ⟦<AccessUnitReceiver<D> as Receives>⟧.reception in
+        ensures kept { let r = ⟦<Self as Receives>⟧.reception in
+            OnErr result (IsDrainedInPart now (r self.old) (r self.new)) }
+        ensures bounded { let r = ⟦<Self as Receives>⟧.reception in
             StaysWithinLimits 0 (r self.old) (r self.new) }
     {
         self.end_if_anew()?;
@@ -550,10 +527,8 @@ impl<D: RunDepacketizer> AccessUnitReceiver<D> {
     /// At the end of a stream: all that waits is due, and once it was taken the access unit that is
     /// open ends, not known to be whole. `next` gives all of it out, and then any number is the next.
     pub fn finish(&mut self)
-        ensures { let r = ⟦<AccessUnitReceiver<D> as Receives>⟧.reception in
-            r self.new ≡ record (r self.old) {
-              waiting = record (r self.old).waiting { is_over = true };
-            } }
+        ensures { let r = ⟦<Self as Receives>⟧.reception in
+            r self.new ≡ ended_reception (r self.old) }
     {
         self.waiting.finish();
     }
@@ -561,8 +536,7 @@ impl<D: RunDepacketizer> AccessUnitReceiver<D> {
     /// Drops all that waits or is open, and access units that weren't taken, and takes any number as
     /// the next: for another sender (SSRC). What was counted stays. It takes no memory.
     pub fn restart(&mut self)
-        ensures { let r = ⟦<AccessUnitReceiver<D> as Receives>⟧.reception in
-            r self.new ≡ restarted (r self.old) }
+        ensures { let r = ⟦<Self as Receives>⟧.reception in r self.new ≡ restarted (r self.old) }
     {
         self.waiting.restart();
         self.stray = None;
@@ -575,8 +549,7 @@ impl<D: RunDepacketizer> AccessUnitReceiver<D> {
 
     /// Takes back an access unit that was given out, for its memory: a later one is written there.
     pub fn give_back(&mut self, unit: ReceivedUnit)
-        ensures { let r = ⟦<AccessUnitReceiver<D> as Receives>⟧.reception in
-            r self.new ≡ r self.old }
+        ensures { let r = ⟦<Self as Receives>⟧.reception in r self.new ≡ r self.old }
     {
         self.frames.give_back(unit.into_access_unit());
     }
@@ -585,14 +558,12 @@ impl<D: RunDepacketizer> AccessUnitReceiver<D> {
     /// (RFC 4585, 6.2.1). Of a stream that begins the first of them are those of the window before the
     /// first packet that came, which may never have been sent.
     pub fn missing(&self) -> Result<Vec<u16>, PacketError>
-        ensures numbers { let r = ⟦<AccessUnitReceiver<D> as Receives>⟧.reception in
-            IfOk result (λ numbers. numbers.items ≡ missing_numbers
-            (r self.now).waiting.buffer.due (r self.now).waiting.buffer.held) }
+        ensures numbers { let r = ⟦<Self as Receives>⟧.reception in
+            IfOk result (λ numbers. numbers.items ≡ nack_numbers (r self.now)) }
 
         // Exactly those up to the last that waits that don't wait.
-        ensures exact { let r = ⟦<AccessUnitReceiver<D> as Receives>⟧.reception in
-            IfOk result (λ numbers. AreExactlyMissing (r self.now).waiting.buffer.due
-            (r self.now).waiting.buffer.held numbers.items) }
+        ensures exact { let r = ⟦<Self as Receives>⟧.reception in
+            IfOk result (λ numbers. AreExactNacks (r self.now) numbers.items) }
         ensures memory { OnErr result (result ≡ Err PacketError.OutOfMemory) }
     {
         Ok(self.waiting.missing()?)
@@ -600,8 +571,7 @@ impl<D: RunDepacketizer> AccessUnitReceiver<D> {
 
     /// When to call `next` again at the latest, in the caller's ticks, if packets wait.
     pub fn deadline(&self) -> Option<u32>
-        ensures { let r = ⟦<AccessUnitReceiver<D> as Receives>⟧.reception in
-            result ≡ deadline_of (r self.now).waiting.config.max_wait (r self.now).waiting.arrivals }
+        ensures { let r = ⟦<Self as Receives>⟧.reception in result ≡ next_deadline (r self.now) }
     {
         self.waiting.deadline()
     }

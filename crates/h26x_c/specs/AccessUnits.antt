@@ -1,15 +1,18 @@
 -- What a caller of C sets and is told, and what a call for the next access unit answers.
-use Rattle.std.specs.Prelude.{◌≡◌, ◌≢◌, ℕ, List, Option, Some, Result}
+use Rattle.std.specs.Prelude.{◌≡◌, ◌≢◌, ℕ, List, Some, Result}
 use Rattle.h26x_frames.specs.Rtp.{RtpBody}
 use Rattle.h26x_access_units.specs.declared.config.AccessUnitConfig.{AccessUnitConfig}
 use Rattle.h26x_access_units.specs.declared.counts.Counts as counted
 use Rattle.h26x_c.specs.declared.access_units.Config.{Config}
 use Rattle.h26x_c.specs.declared.access_units.Counts.{Counts}
 use Rattle.h26x_codec.specs.declared.codec.Codec.{Codec}
-use Rattle.h26x_handles.specs.Codes.{out_of_memory}
-use Rattle.h26x_handles.specs.UnitsState.{UnitsState, units_codec_or_code, fresh_access_units, next_numbers, IsUnitsPushed, IsUnitGiven}
+use Rattle.h26x_model.specs.Where.{Where}
+use Rattle.h26x_handles.specs.AccessUnits.{endpoint_units}
+use Rattle.h26x_handles.specs.Codes.{ok, out_of_memory}
+use Rattle.h26x_handles.specs.UnitsState.{UnitsState, units_codec_or_code, fresh_access_units, next_numbers, pushed_numbers, units_push_answer, IsUnitsPushed, IsUnitGiven}
 use Rattle.h26x_handles.specs.declared.access_units.NextAnswer.{NextAnswer}
 use Rattle.h26x_handles.specs.declared.access_units.UnitTold.{UnitTold}
+use Rattle.h26x_handles.specs.declared.endpoint.Endpoint.{Endpoint}
 
 -- the settings of a receiver
 abbrev pub units_config : Config → AccessUnitConfig
@@ -54,13 +57,20 @@ abbrev pub IsNextCode : ℕ → UnitsState → UnitsState → List ℕ → List 
 IsNextCode now it new to new_to code told new_told = (answer : NextAnswer)
     × ((code, new_told) ≡ next_numbers answer told) × IsUnitGiven now it new to new_to answer
 
--- the same of what stood and stands behind a handle, if access units do, unless memory lacked
-abbrev pub IsNextOf : ℕ → Option UnitsState → Option UnitsState → List ℕ → List ℕ → ℕ → UnitTold →
+-- the same of the endpoints that stood and stand behind a handle, if they receive access units, unless
+-- memory lacked
+abbrev pub IsNextOf : ℕ → Endpoint → Endpoint → List ℕ → List ℕ → ℕ → UnitTold →
     UnitTold → Type 0
 IsNextOf now old new to new_to code told new_told =
-    (it : UnitsState) → old ≡ Some it → code ≢ out_of_memory → (next : UnitsState)
-    × (new ≡ Some next) × IsNextCode now it next to new_to code told new_told
+    (it : UnitsState) → endpoint_units old ≡ Some it → code ≢ out_of_memory → (next : UnitsState)
+    × (endpoint_units new ≡ Some next) × IsNextCode now it next to new_to code told new_told
 
--- a packet came to what stood behind a handle at this tick, and this stands behind it now
-abbrev pub IsPushedTo : ℕ → ℕ × RtpBody → UnitsState → Option UnitsState → Type 0
-IsPushedTo now p it new = (next : UnitsState) × (new ≡ Some next) × IsUnitsPushed now p it next
+-- once a call is carried out, a packet came to such an endpoint at this tick
+abbrev pub IsPushedTo : ℕ → ℕ × RtpBody → ℕ → Endpoint → Endpoint → Type 0
+IsPushedTo now p code old new = Where (endpoint_units old) (λ it. code ≡ ok →
+    (next : UnitsState) × (endpoint_units new ≡ Some next) × IsUnitsPushed now p it next)
+
+-- and these numbers tell what became of it
+abbrev pub TellsPush : Endpoint → ℕ × RtpBody → ℕ → ℕ × ℕ → Type 0
+TellsPush old p code told = Where (endpoint_units old) (λ it. code ≡ ok →
+    told ≡ pushed_numbers (units_push_answer it p))

@@ -5,3 +5,4 @@ pub mod Sdp
 pub mod Owned
 pub mod Lent
 pub mod AccessUnits
+pub mod Endpoints

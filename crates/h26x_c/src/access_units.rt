@@ -4,11 +4,12 @@ ghost use Rattle.std.specs.Prelude.{◌≡◌, ◌≢◌, ◌⊎◌, ◌<◌, �
 ghost use Rattle.h26x_model.specs.Where.{Where};
 ghost use Rattle.h26x_codec.specs.declared.codec.Codec.{Codec};
 ghost use Rattle.h26x_frames.specs.Rtp.{rtp_body};
-ghost use Rattle.h26x_handles.specs.AccessUnits.{is_access_units, endpoint_units, endpoint_deadline, endpoint_missing};
-ghost use Rattle.h26x_handles.specs.UnitsState.{UnitsState, pushed_numbers, units_push_answer, units_finished, units_restarted, IsOutOfMemory};
+ghost use Rattle.h26x_handles.specs.AccessUnits.{is_access_units, endpoint_units, endpoint_deadline, endpoint_missing, place_units};
+ghost use Rattle.h26x_handles.specs.UnitsState.{UnitsState, units_finished, units_restarted, IsOutOfMemory};
 ghost use Rattle.h26x_handles.specs.Codes.{ok, out_of_memory, wrong_end};
 ghost use Rattle.h26x_handles.specs.Copies.{with_first};
-ghost use Rattle.h26x_c.specs.AccessUnits.{config_codec_or_code, fresh_units_with, units_config, counts_told, IsPushedTo, IsNextOf};
+ghost use Rattle.h26x_c.specs.AccessUnits.{config_codec_or_code, fresh_units_with, units_config, counts_told, TellsPush, IsPushedTo, IsNextOf};
+ghost use Rattle.h26x_c.specs.Endpoints.{Makes};
 
 use crate::const_handle::ConstHandle;
 use crate::handle::Handle;
@@ -95,9 +96,8 @@ pub extern "C" fn h26x_access_units_new(alloc: Global, config: &Config, made: &m
     ensures refused { (code : ℕ) → config_codec_or_code config.now ≡ Err code → result ≡ code }
     ensures answer { (c : Codec) → config_codec_or_code config.now ≡ Ok c →
         (result ≡ ok) ⊎ (result ≡ out_of_memory) }
-    ensures made { let v = ⟦<AccessUnitEndpoint as GivesUnits>⟧.units in (c : Codec) →
-        config_codec_or_code config.now ≡ Ok c → result ≡ ok → (it : Endpoint)
-        × (made.new.value ≡ Some it) × (endpoint_units v it ≡ Some (fresh_units_with c config.now)) }
+    ensures made { Makes (config_codec_or_code config.now) result (place_units made.new.value)
+        (λ c. fresh_units_with c config.now) }
     ensures kept { result ≢ ok → made.new ≡ made.old }
 {
     match units_codec_wanted(config.codec, config.numbers, config.window) {
@@ -137,17 +137,11 @@ pub extern "C" fn h26x_access_units_push(
     ensures wrong { is_access_units u.old.value ≡ false → (result ≡ wrong_end)
         × (u.new.value ≡ u.old.value) }
     ensures answer { is_access_units u.old.value ≡ true → (result ≡ ok) ⊎ (result ≡ out_of_memory) }
-    ensures told { let v = ⟦<AccessUnitEndpoint as GivesUnits>⟧.units in
-        Where (endpoint_units v u.old.value)
-        (λ it. result ≡ ok → (pushed.new, behind.new) ≡ pushed_numbers (units_push_answer it
-        (sequence, rtp_body timestamp marker payload.now))) }
-    ensures after { let v = ⟦<AccessUnitEndpoint as GivesUnits>⟧.units in
-        Where (endpoint_units v u.old.value)
-        (λ it. result ≡ ok →
-        IsPushedTo now (sequence, rtp_body timestamp marker payload.now) it
-        (endpoint_units v u.new.value)) }
-    ensures kept { let v = ⟦<AccessUnitEndpoint as GivesUnits>⟧.units in
-        result ≢ ok → endpoint_units v u.new.value ≡ endpoint_units v u.old.value }
+    ensures told { TellsPush u.old.value (sequence, rtp_body timestamp marker payload.now)
+        result (pushed.new, behind.new) }
+    ensures after { IsPushedTo now (sequence, rtp_body timestamp marker payload.now)
+        result u.old.value u.new.value }
+    ensures kept { result ≢ ok → endpoint_units u.new.value ≡ endpoint_units u.old.value }
     ensures kept_told { result ≢ ok → (pushed.new ≡ pushed.old) × (behind.new ≡ behind.old) }
 {
     let packet = RtpPacket {
@@ -180,16 +174,11 @@ pub extern "C" fn h26x_access_units_skip(
     ensures wrong { is_access_units u.old.value ≡ false → (result ≡ wrong_end)
         × (u.new.value ≡ u.old.value) }
     ensures answer { is_access_units u.old.value ≡ true → (result ≡ ok) ⊎ (result ≡ out_of_memory) }
-    ensures told { let v = ⟦<AccessUnitEndpoint as GivesUnits>⟧.units in
-        Where (endpoint_units v u.old.value)
-        (λ it. result ≡ ok → (pushed.new, behind.new) ≡ pushed_numbers (units_push_answer it
-        (sequence, rtp_body 0 false []))) }
-    ensures after { let v = ⟦<AccessUnitEndpoint as GivesUnits>⟧.units in
-        Where (endpoint_units v u.old.value)
-        (λ it. result ≡ ok →
-        IsPushedTo now (sequence, rtp_body 0 false []) it (endpoint_units v u.new.value)) }
-    ensures kept { let v = ⟦<AccessUnitEndpoint as GivesUnits>⟧.units in
-        result ≢ ok → endpoint_units v u.new.value ≡ endpoint_units v u.old.value }
+    ensures told { TellsPush u.old.value (sequence, rtp_body 0 false [])
+        result (pushed.new, behind.new) }
+    ensures after { IsPushedTo now (sequence, rtp_body 0 false [])
+        result u.old.value u.new.value }
+    ensures kept { result ≢ ok → endpoint_units u.new.value ≡ endpoint_units u.old.value }
     ensures kept_told { result ≢ ok → (pushed.new ≡ pushed.old) × (behind.new ≡ behind.old) }
 {
     match u.get_mut() {
@@ -216,13 +205,10 @@ pub extern "C" fn h26x_access_units_next(
         × (u.new.value ≡ u.old.value) }
     ensures kept { is_access_units u.old.value ≡ false → (to.new ≡ to.old)
         × (unit.new ≡ unit.old) }
-    ensures given { let v = ⟦<AccessUnitEndpoint as GivesUnits>⟧.units in
-        IsNextOf now (endpoint_units v u.old.value) (endpoint_units v u.new.value)
-        to.old to.new result unit.old unit.new }
-    ensures taken { let v = ⟦<AccessUnitEndpoint as GivesUnits>⟧.units in
-        Where (endpoint_units v u.old.value)
-        (λ it. result ≡ out_of_memory → (new : UnitsState) × (endpoint_units v u.new.value ≡ Some
-        new) × IsOutOfMemory now it new) }
+    ensures given { IsNextOf now u.old.value u.new.value to.old to.new result unit.old unit.new }
+    ensures taken { Where (endpoint_units u.old.value)
+        (λ it. result ≡ out_of_memory → (new : UnitsState)
+        × (endpoint_units u.new.value ≡ Some new) × IsOutOfMemory now it new) }
     ensures none { result ≡ out_of_memory → (to.new ≡ to.old) × (unit.new ≡ unit.old) }
 {
     match u.get_mut() {
@@ -237,11 +223,9 @@ pub extern "C" fn h26x_access_units_next(
 /// When to ask for the next access unit at the latest, if packets wait.
 #[unsafe(no_mangle)]
 pub extern "C" fn h26x_access_units_deadline(u: &ConstHandle, at: &mut u32) -> bool
-    ensures tick { let v = ⟦<AccessUnitEndpoint as GivesUnits>⟧.units in Where (endpoint_deadline v
-        u.now.value)
+    ensures tick { Where (endpoint_deadline u.now.value)
         (λ tick. (result ≡ true) × (at.new ≡ tick)) }
-    ensures none { let v = ⟦<AccessUnitEndpoint as GivesUnits>⟧.units in
-        endpoint_deadline v u.now.value ≡ None → (result ≡ false) × (at.new ≡ at.old) }
+    ensures none { endpoint_deadline u.now.value ≡ None → (result ≡ false) × (at.new ≡ at.old) }
 {
     let deadline = match u.get() {
         Endpoint::AccessUnits(it) => it.deadline(),
@@ -265,10 +249,9 @@ pub extern "C" fn h26x_access_units_missing(
 ) -> u32
     ensures wrong { is_access_units u.now.value ≡ false → result ≡ wrong_end }
     ensures answer { is_access_units u.now.value ≡ true → (result ≡ ok) ⊎ (result ≡ out_of_memory) }
-    ensures count { let v = ⟦<AccessUnitEndpoint as GivesUnits>⟧.units in
-        result ≡ ok → count.new ≡ length (endpoint_missing v u.now.value) }
-    ensures copied { let v = ⟦<AccessUnitEndpoint as GivesUnits>⟧.units in
-        result ≡ ok → numbers.new ≡ with_first (endpoint_missing v u.now.value) numbers.old }
+    ensures count { result ≡ ok → count.new ≡ length (endpoint_missing u.now.value) }
+    ensures copied { result ≡ ok →
+        numbers.new ≡ with_first (endpoint_missing u.now.value) numbers.old }
     ensures none { result ≢ ok → (count.new ≡ 0) × (numbers.new ≡ numbers.old) }
 {
     *count = 0;
@@ -289,9 +272,8 @@ pub extern "C" fn h26x_access_units_missing(
 pub extern "C" fn h26x_access_units_finish(u: &mut Handle) -> u32
     ensures wrong { is_access_units u.old.value ≡ false → (result ≡ wrong_end)
         × (u.new.value ≡ u.old.value) }
-    ensures finished { let v = ⟦<AccessUnitEndpoint as GivesUnits>⟧.units in
-        Where (endpoint_units v u.old.value)
-        (λ it. (result ≡ ok) × (endpoint_units v u.new.value ≡ Some (units_finished it))) }
+    ensures finished { Where (endpoint_units u.old.value)
+        (λ it. (result ≡ ok) × (endpoint_units u.new.value ≡ Some (units_finished it))) }
 {
     match u.get_mut() {
         Endpoint::AccessUnits(it) => {
@@ -307,9 +289,8 @@ pub extern "C" fn h26x_access_units_finish(u: &mut Handle) -> u32
 pub extern "C" fn h26x_access_units_restart(u: &mut Handle) -> u32
     ensures wrong { is_access_units u.old.value ≡ false → (result ≡ wrong_end)
         × (u.new.value ≡ u.old.value) }
-    ensures restarted { let v = ⟦<AccessUnitEndpoint as GivesUnits>⟧.units in Where (endpoint_units
-        v u.old.value)
-        (λ it. (result ≡ ok) × (endpoint_units v u.new.value ≡ Some (units_restarted it))) }
+    ensures restarted { Where (endpoint_units u.old.value)
+        (λ it. (result ≡ ok) × (endpoint_units u.new.value ≡ Some (units_restarted it))) }
 {
     match u.get_mut() {
         Endpoint::AccessUnits(it) => {
@@ -324,8 +305,7 @@ pub extern "C" fn h26x_access_units_restart(u: &mut Handle) -> u32
 #[unsafe(no_mangle)]
 pub extern "C" fn h26x_access_units_count(u: &ConstHandle, counts: &mut Counts) -> u32
     ensures wrong { is_access_units u.now.value ≡ false → result ≡ wrong_end }
-    ensures counts { let v = ⟦<AccessUnitEndpoint as GivesUnits>⟧.units in Where (endpoint_units v
-        u.now.value)
+    ensures counts { Where (endpoint_units u.now.value)
         (λ it. (result ≡ ok) × (counts.new ≡ counts_told it.reception.counts)) }
     ensures kept { result ≢ ok → counts.new ≡ counts.old }
 {

@@ -22,7 +22,12 @@ impl Model for Handle {
     ghost also_owns = { λ h. end_owned h.alloc h.ptr h.value };
 }
 
-// An end may go to another thread, and so may its handle.
+/// What may go to another thread.
+trait GoesToAnotherThread: Send {}
+
+// An end may, and so may its handle.
+impl GoesToAnotherThread for Endpoint {}
+
 unsafe impl Send for Handle {}
 
 impl Handle {

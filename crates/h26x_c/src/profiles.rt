@@ -1,13 +1,11 @@
 //! The calls on profiles and levels out of SDP.
 
-ghost use Rattle.std.specs.Prelude.{◌≡◌, true, false, Some, None};
+ghost use Rattle.std.specs.Prelude.{◌≡◌, true, false, None};
 ghost use Rattle.std.specs.Option.{is_some};
 ghost use Rattle.h26x_profile.specs.H264.{ordinal, profile_level};
 ghost use Rattle.h26x_profile.specs.H265 as h265;
 ghost use Rattle.h26x_profile.specs.H266 as h266;
-ghost use Rattle.h26x_profile.specs.ProfileLevel.{ProfileLevel};
-ghost use Rattle.h26x_profile.specs.declared.h264.H264LevelIdc.{H264LevelIdc};
-ghost use Rattle.h26x_profile.specs.declared.h264.H264Profile.{H264Profile};
+ghost use Rattle.h26x_model.specs.Where.{Where};
 ghost use Rattle.h26x_c.specs.Profiles.{profile_number};
 
 use h26x_profile::{H264Profile, H264ProfileLevel, H265ProfileTierLevel, H266ProfileTierLevel};
@@ -21,12 +19,10 @@ pub extern "C" fn h26x_h264_profile_level(
     level: &mut u8,
 ) -> bool
     ensures unknown { profile_level profile_level_id ≡ None → result ≡ false }
-    ensures known { (it : ProfileLevel H264Profile H264LevelIdc) →
-        profile_level profile_level_id ≡ Some it → result ≡ true }
-    ensures profile { (it : ProfileLevel H264Profile H264LevelIdc) →
-        profile_level profile_level_id ≡ Some it → profile.new ≡ profile_number it.profile }
-    ensures level { (it : ProfileLevel H264Profile H264LevelIdc) →
-        profile_level profile_level_id ≡ Some it → level.new ≡ ordinal it.level }
+    ensures known { Where (profile_level profile_level_id) (λ it. result ≡ true) }
+    ensures profile { Where (profile_level profile_level_id)
+        (λ it. profile.new ≡ profile_number it.profile) }
+    ensures level { Where (profile_level profile_level_id) (λ it. level.new ≡ ordinal it.level) }
     ensures kept { result ≡ false → (profile.new ≡ profile.old) × (level.new ≡ level.old) }
 {
     match H264ProfileLevel::try_from(profile_level_id) {

@@ -1,14 +1,14 @@
 //! The calls of a depacketizer.
 
 ghost use Rattle.std.specs.Prelude.{◌≡◌, ◌≢◌, ◌⊎◌, ℕ, true, false, Some, Ok, Err, length};
-ghost use Rattle.h26x_model.specs.Receive.DepacketizerState.{Depacketization};
 ghost use Rattle.h26x_model.specs.Where.{Where};
 ghost use Rattle.h26x_codec.specs.Codec.{codec_format, fresh_depacketizer_state};
 ghost use Rattle.h26x_codec.specs.declared.codec.Codec.{Codec};
 ghost use Rattle.h26x_c.specs.Answers.{IsAnswer};
+ghost use Rattle.h26x_c.specs.Endpoints.{Makes, IfDepacketized, HandsOver, IsSameShowing};
 ghost use Rattle.h26x_handles.specs.Codes.{codec_or_code, may_have_donl, extra_number, ok, out_of_memory, wrong_end, not_of_this_codec};
-ghost use Rattle.h26x_handles.specs.Copies.{with_front, AreHandedOver};
-ghost use Rattle.h26x_handles.specs.States.{is_receiving, endpoint_depacketizer_state, endpoint_depacketization, endpoint_after_told_packet, endpoint_written, endpoint_codec, fresh_receiving_endpoint, endpoint_showing, endpoint_without_output, are_same_endpoints, endpoint_without_run, endpoint_with_donl};
+ghost use Rattle.h26x_handles.specs.Copies.{with_front};
+ghost use Rattle.h26x_handles.specs.States.{is_receiving, endpoint_depacketizer_state, endpoint_depacketization, endpoint_written, endpoint_codec, fresh_receiving_endpoint, endpoint_without_output, are_same_endpoints, endpoint_without_run, endpoint_with_donl};
 
 use crate::const_handle::ConstHandle;
 use crate::handle::Handle;
@@ -21,7 +21,7 @@ use h26x_handles::code::{
 use h26x_handles::copy::copy_where_room;
 use h26x_handles::endpoint::Endpoint;
 use h26x_handles::receiving::ReceivingEndpoint;
-use h26x_receiver::RunDepacketizer;
+use h26x_payload::RunDepacketizer;
 use std::alloc::Global;
 
 /// Makes a depacketizer with no run open.
@@ -35,8 +35,8 @@ pub extern "C" fn h26x_depacketizer_new(
     ensures refused { (code : ℕ) → codec_or_code codec numbers ≡ Err code → result ≡ code }
     ensures answer { (c : Codec) → codec_or_code codec numbers ≡ Ok c →
         (result ≡ ok) ⊎ (result ≡ out_of_memory) }
-    ensures made { (c : Codec) → codec_or_code codec numbers ≡ Ok c → result ≡ ok →
-        made.new.value ≡ Some (fresh_receiving_endpoint c numbers) }
+    ensures made { Makes (codec_or_code codec numbers) result made.new.value
+        (λ c. fresh_receiving_endpoint c numbers) }
     ensures fresh { (c : Codec) → endpoint_depacketizer_state false (fresh_receiving_endpoint c
         numbers)
         ≡ Some (fresh_depacketizer_state (codec_format c numbers)) }
@@ -127,17 +127,14 @@ pub extern "C" fn h26x_depacketize(
         (λ w. IsAnswer w packet.now result why.new.first why.new.second) }
 
     // What stands after a packet that was taken.
-    ensures run { (w : Depacketization) → result ≡ ok →
-        endpoint_after_told_packet is_avc d.old.value extra.old packet.now ≡ Some w →
-        endpoint_depacketizer_state is_avc d.new.value ≡ Some w.state }
-    ensures told { (w : Depacketization) → result ≡ ok →
-        endpoint_after_told_packet is_avc d.old.value extra.old packet.now ≡ Some w →
-        extra.new ≡ extra_number w.extra }
-    ensures given { (w : Depacketization) → result ≡ ok →
-        endpoint_after_told_packet is_avc d.old.value extra.old packet.now ≡ Some w →
-        AreHandedOver w.out to.old to.new written.new (endpoint_written d.new.value) }
-    ensures rest { result ≡ ok → endpoint_without_run (endpoint_without_output d.new.value)
-        ≡ endpoint_without_run (endpoint_without_output (endpoint_showing packet.now d.old.value)) }
+    ensures run { IfDepacketized is_avc d.old.value extra.old packet.now result
+        (λ w. endpoint_depacketizer_state is_avc d.new.value ≡ Some w.state) }
+    ensures told { IfDepacketized is_avc d.old.value extra.old packet.now result
+        (λ w. extra.new ≡ extra_number w.extra) }
+    ensures given { IfDepacketized is_avc d.old.value extra.old packet.now result
+        (λ w. HandsOver d.new.value w.out to.old to.new written.new) }
+    ensures rest { result ≡ ok →
+        IsSameShowing endpoint_without_run packet.now d.old.value d.new.value }
 
     // A refusal leaves everything.
     ensures kept_why { result ≡ ok → why.new ≡ why.old }

@@ -1,12 +1,13 @@
 //! The calls on payload types of SDP, and on what `packetization-mode` 0 lets through.
 
-ghost use Rattle.std.specs.Prelude.{◌≡◌, ◌⊎◌, ℕ, List, Err, nat_le, length};
+ghost use Rattle.std.specs.Prelude.{◌≡◌, ℕ, List, Err, nat_le, length};
 ghost use Rattle.std.specs.List.{list_all};
 ghost use Rattle.h26x_cut.specs.Cutting.{AreUnits};
 ghost use Rattle.h26x_cut.specs.declared.ZeroRule.TheVariants.{All};
 ghost use Rattle.h26x_sdp.specs.RtpMaps.{rtp_map_of};
 ghost use Rattle.h26x_handles.specs.Codes.{out_of_memory};
-ghost use Rattle.h26x_c.specs.Sdp as spec;
+ghost use Rattle.h26x_c.specs.Endpoints.{GivesOrOutOfMemory};
+ghost use Rattle.h26x_c.specs.Sdp.{rtp_map_answer, rtp_map_or_code, copy_answer, rtp_map_text_or_code};
 
 use crate::copied::copy_out;
 use h26x_handles::code::{OK, OUT_OF_MEMORY, UNKNOWN_CODEC, codec_of};
@@ -20,7 +21,7 @@ use std::alloc::Global;
 #[unsafe(no_mangle)]
 pub extern "C" fn h26x_rtpmap_read(text: &[u8], payload_type: &mut u8, codec: &mut u32) -> u32
     ensures { (result, (payload_type.new, codec.new))
-        ≡ spec.rtp_map_answer (rtp_map_of text.now) payload_type.old codec.old }
+        ≡ rtp_map_answer (rtp_map_of text.now) payload_type.old codec.old }
 {
     match RtpMap::read(text) {
         Ok(map) => {
@@ -41,10 +42,10 @@ pub extern "C" fn h26x_rtpmap_write(
     to: &mut [u8],
     len: &mut usize,
 ) -> u32
-    ensures refused { (code : ℕ) → spec.rtp_map_or_code payload_type codec ≡ Err code →
+    ensures refused { (code : ℕ) → rtp_map_or_code payload_type codec ≡ Err code →
         result ≡ code }
-    ensures answer { (result ≡ out_of_memory) ⊎ ((result, (to.new, len.new)) ≡ spec.copy_answer
-        (spec.rtp_map_text_or_code payload_type codec) to.old len.old) }
+    ensures answer { GivesOrOutOfMemory result (to.new, len.new)
+        (copy_answer (rtp_map_text_or_code payload_type codec) to.old len.old) }
     ensures kept { result ≡ out_of_memory → (to.new ≡ to.old) × (len.new ≡ len.old) }
 {
     let Some(codec) = codec_of(codec) else {

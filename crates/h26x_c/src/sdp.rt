@@ -2,17 +2,16 @@
 
 ghost use Rattle.std.specs.Prelude.{◌≡◌, ◌≢◌, ◌⊎◌, ◌&&◌, ℕ, List, false, Some, None, Ok, Err, length};
 ghost use Rattle.h26x_model.specs.Where.{Where};
-ghost use Rattle.h26x_cut.specs.Cutting.{AreUnits};
-ghost use Rattle.h26x_codec.specs.Repeating.{zero_rule};
 ghost use Rattle.h26x_codec.specs.declared.codec.Codec.{Codec};
 ghost use Rattle.h26x_sdp.specs.Pairs.{Pair};
 ghost use Rattle.h26x_handles.specs.declared.sdp_code.PointRefused.{PointRefused};
 ghost use Rattle.h26x_handles.specs.declared.sdp_code.Refused.{Refused};
 ghost use Rattle.h26x_handles.specs.Codes.{codec_with_number, ok, out_of_memory, unknown_codec, wrong_end};
 ghost use Rattle.h26x_handles.specs.Copies.{with_front};
-ghost use Rattle.h26x_handles.specs.Sdp.{sdp_read, sdp_of_units, sdp_text, sdp_value, sdp_number, sdp_max_don_diff};
+ghost use Rattle.h26x_handles.specs.Sdp.{sdp_read, sdp_of_units, OfPayloadUnits, sdp_text, sdp_value, sdp_number, sdp_max_don_diff};
 ghost use Rattle.h26x_handles.specs.SdpValues.{sdp_constraints};
-ghost use Rattle.h26x_c.specs.Sdp as spec;
+ghost use Rattle.h26x_c.specs.Endpoints.{GivesOrOutOfMemory};
+ghost use Rattle.h26x_c.specs.Sdp.{IsMade, without_place, IsRefused, is_sdp, endpoint_answer, endpoint_sdp_codec, copy_answer, at_sdp, number_answer, units_count, endpoint_sdp_units, nth_unit, pair_code, endpoint_other, constraints_answer, points_answer, endpoint_sdp_points};
 
 use crate::const_handle::ConstHandle;
 use crate::copied::copy_out;
@@ -63,9 +62,9 @@ pub extern "C" fn h26x_sdp_read(
 ) -> u32
     ensures unknown { codec_with_number codec ≡ None → result ≡ unknown_codec }
     ensures answer { Where (codec_with_number codec)
-        (λ c. spec.IsMade (spec.without_place (sdp_read c text.now)) result made.new.value) }
+        (λ c. IsMade (without_place (sdp_read c text.now)) result made.new.value) }
     ensures place { (c : Codec) (it : Refused) → codec_with_number codec ≡ Some c →
-        sdp_read c text.now ≡ Err it → spec.IsRefused it result why.new.first }
+        sdp_read c text.now ≡ Err it → IsRefused it result why.new.first }
     ensures kept { result ≢ ok → made.new ≡ made.old }
     ensures kept_why { result ≡ ok → why.new ≡ why.old }
 {
@@ -88,8 +87,8 @@ pub extern "C" fn h26x_sdp_of_payload(
 ) -> u32
     ensures unknown { codec_with_number codec ≡ None → result ≡ unknown_codec }
     ensures answer { Where (codec_with_number codec)
-        (λ c. (list : List (List ℕ)) × AreUnits (zero_rule c) payload.now list × spec.IsMade
-        (sdp_of_units c list) result made.new.value) }
+        (λ c. OfPayloadUnits c payload.now
+        (λ units. IsMade (sdp_of_units c units) result made.new.value)) }
     ensures kept { result ≢ ok → made.new ≡ made.old }
 {
     let Some(codec) = codec_of(codec) else {
@@ -109,9 +108,9 @@ pub extern "C" fn h26x_sdp_answer(
     ours: &ConstHandle,
     made: &mut Place,
 ) -> u32
-    ensures wrong { (spec.is_sdp offered.now.value && spec.is_sdp ours.now.value) ≡ false →
+    ensures wrong { (is_sdp offered.now.value && is_sdp ours.now.value) ≡ false →
         result ≡ wrong_end }
-    ensures answer { spec.IsMade (spec.endpoint_answer offered.now.value ours.now.value) result
+    ensures answer { IsMade (endpoint_answer offered.now.value ours.now.value) result
         made.new.value }
     ensures kept { result ≢ ok → made.new ≡ made.old }
 {
@@ -133,7 +132,7 @@ pub extern "C" fn h26x_sdp_free(h: Handle) {
 /// The number of their codec.
 #[unsafe(no_mangle)]
 pub extern "C" fn h26x_sdp_codec(h: &ConstHandle) -> u32
-    ensures { result ≡ spec.endpoint_sdp_codec h.now.value }
+    ensures { result ≡ endpoint_sdp_codec h.now.value }
 {
     match h.get() {
         Endpoint::Sdp(it) => number_of_codec(it.codec()),
@@ -149,9 +148,9 @@ pub extern "C" fn h26x_sdp_write(
     to: &mut [u8],
     len: &mut usize,
 ) -> u32
-    ensures wrong { spec.is_sdp h.now.value ≡ false → result ≡ wrong_end }
-    ensures answer { (result ≡ out_of_memory) ⊎ ((result, (to.new, len.new))
-        ≡ spec.copy_answer (spec.at_sdp h.now.value (λ it. Ok (sdp_text it))) to.old len.old) }
+    ensures wrong { is_sdp h.now.value ≡ false → result ≡ wrong_end }
+    ensures answer { GivesOrOutOfMemory result (to.new, len.new)
+        (copy_answer (at_sdp h.now.value (λ it. Ok (sdp_text it))) to.old len.old) }
     ensures kept { result ≡ out_of_memory → (to.new ≡ to.old) × (len.new ≡ len.old) }
 {
     let Endpoint::Sdp(it) = h.get() else {
@@ -173,8 +172,8 @@ pub extern "C" fn h26x_sdp_value(
     to: &mut [u8],
     len: &mut usize,
 ) -> u32
-    ensures { (result, (to.new, len.new)) ≡ spec.copy_answer
-        (spec.at_sdp h.now.value (λ it. sdp_value it name.now or_default)) to.old len.old }
+    ensures { (result, (to.new, len.new)) ≡ copy_answer
+        (at_sdp h.now.value (λ it. sdp_value it name.now or_default)) to.old len.old }
 {
     let Endpoint::Sdp(it) = h.get() else {
         return WRONG_END;
@@ -193,8 +192,8 @@ pub extern "C" fn h26x_sdp_number(
     or_default: bool,
     value: &mut u64,
 ) -> u32
-    ensures { (result, value.new) ≡ spec.number_answer
-        (spec.at_sdp h.now.value (λ it. sdp_number it name.now or_default)) value.old }
+    ensures { (result, value.new) ≡ number_answer
+        (at_sdp h.now.value (λ it. sdp_number it name.now or_default)) value.old }
 {
     let Endpoint::Sdp(it) = h.get() else {
         return WRONG_END;
@@ -216,13 +215,13 @@ pub extern "C" fn h26x_sdp_units(
     count: &mut usize,
     why: &mut Refusal,
 ) -> u32
-    ensures wrong { spec.is_sdp h.now.value ≡ false → result ≡ wrong_end }
-    ensures answer { (result, count.new) ≡ spec.number_answer
-        (spec.units_count (spec.endpoint_sdp_units h.now.value name.now)) count.old }
-    ensures place { (it : Refused) → spec.endpoint_sdp_units h.now.value name.now ≡ Err it →
+    ensures wrong { is_sdp h.now.value ≡ false → result ≡ wrong_end }
+    ensures answer { (result, count.new) ≡ number_answer
+        (units_count (endpoint_sdp_units h.now.value name.now)) count.old }
+    ensures place { (it : Refused) → endpoint_sdp_units h.now.value name.now ≡ Err it →
         why.new ≡ record { first = it.place; second = 0 } }
     ensures kept_why { (units : List (List ℕ)) →
-        spec.endpoint_sdp_units h.now.value name.now ≡ Ok units → why.new ≡ why.old }
+        endpoint_sdp_units h.now.value name.now ≡ Ok units → why.new ≡ why.old }
 {
     let Endpoint::Sdp(it) = h.get() else {
         return tell(refused_with(WRONG_END), why);
@@ -246,13 +245,13 @@ pub extern "C" fn h26x_sdp_unit(
     len: &mut usize,
     why: &mut Refusal,
 ) -> u32
-    ensures wrong { spec.is_sdp h.now.value ≡ false → result ≡ wrong_end }
-    ensures answer { (result, (to.new, len.new)) ≡ spec.copy_answer
-        (spec.nth_unit i (spec.endpoint_sdp_units h.now.value name.now)) to.old len.old }
-    ensures place { (it : Refused) → spec.endpoint_sdp_units h.now.value name.now ≡ Err it →
+    ensures wrong { is_sdp h.now.value ≡ false → result ≡ wrong_end }
+    ensures answer { (result, (to.new, len.new)) ≡ copy_answer
+        (nth_unit i (endpoint_sdp_units h.now.value name.now)) to.old len.old }
+    ensures place { (it : Refused) → endpoint_sdp_units h.now.value name.now ≡ Err it →
         why.new ≡ record { first = it.place; second = 0 } }
     ensures kept_why { (units : List (List ℕ)) →
-        spec.endpoint_sdp_units h.now.value name.now ≡ Ok units → why.new ≡ why.old }
+        endpoint_sdp_units h.now.value name.now ≡ Ok units → why.new ≡ why.old }
 {
     let Endpoint::Sdp(it) = h.get() else {
         return tell(refused_with(WRONG_END), why);
@@ -277,15 +276,15 @@ pub extern "C" fn h26x_sdp_other(
     value_to: &mut [u8],
     value_len: &mut usize,
 ) -> u32
-    ensures answer { result ≡ spec.pair_code (spec.endpoint_other i h.now.value)
+    ensures answer { result ≡ pair_code (endpoint_other i h.now.value)
         name_to.old value_to.old }
-    ensures lens { (it : Pair) → spec.endpoint_other i h.now.value ≡ Ok it →
+    ensures lens { (it : Pair) → endpoint_other i h.now.value ≡ Ok it →
         (name_len.new ≡ length it.name) × (value_len.new ≡ length it.value) }
-    ensures copied { (it : Pair) → spec.endpoint_other i h.now.value ≡ Ok it → result ≡ ok →
+    ensures copied { (it : Pair) → endpoint_other i h.now.value ≡ Ok it → result ≡ ok →
         (name_to.new ≡ with_front it.name name_to.old)
         × (value_to.new ≡ with_front it.value value_to.old) }
     ensures kept { result ≢ ok → (name_to.new ≡ name_to.old) × (value_to.new ≡ value_to.old) }
-    ensures kept_lens { (code : ℕ) → spec.endpoint_other i h.now.value ≡ Err code →
+    ensures kept_lens { (code : ℕ) → endpoint_other i h.now.value ≡ Err code →
         (name_len.new ≡ name_len.old) × (value_len.new ≡ value_len.old) }
 {
     let Endpoint::Sdp(it) = h.get() else {
@@ -308,7 +307,7 @@ pub extern "C" fn h26x_sdp_other(
 #[unsafe(no_mangle)]
 pub extern "C" fn h26x_sdp_max_don_diff(h: &ConstHandle, value: &mut u32) -> u32
     ensures { (result, value.new)
-        ≡ spec.number_answer (spec.at_sdp h.now.value sdp_max_don_diff) value.old }
+        ≡ number_answer (at_sdp h.now.value sdp_max_don_diff) value.old }
 {
     let Endpoint::Sdp(it) = h.get() else {
         return WRONG_END;
@@ -331,9 +330,9 @@ pub extern "C" fn h26x_sdp_constraints(
     to: &mut [u8],
     said: &mut ConstraintNumbers,
 ) -> u32
-    ensures wrong { spec.is_sdp h.now.value ≡ false → result ≡ wrong_end }
-    ensures answer { (result ≡ out_of_memory) ⊎ ((result, (to.new, said.new))
-        ≡ spec.constraints_answer (spec.at_sdp h.now.value sdp_constraints) to.old said.old) }
+    ensures wrong { is_sdp h.now.value ≡ false → result ≡ wrong_end }
+    ensures answer { GivesOrOutOfMemory result (to.new, said.new)
+        (constraints_answer (at_sdp h.now.value sdp_constraints) to.old said.old) }
     ensures kept { result ≢ ok → (to.new ≡ to.old) × (said.new ≡ said.old) }
 {
     let Endpoint::Sdp(it) = h.get() else {
@@ -360,11 +359,10 @@ pub extern "C" fn h26x_sdp_capability_points(
     count: &mut usize,
     why: &mut Refusal,
 ) -> u32
-    ensures wrong { spec.is_sdp h.now.value ≡ false → result ≡ wrong_end }
-    ensures answer { (result ≡ out_of_memory) ⊎ ((result, (points.new, count.new))
-        ≡ spec.points_answer (spec.endpoint_sdp_points h.now.value or_default) points.old
-        count.old) }
-    ensures place { (it : PointRefused) → spec.endpoint_sdp_points h.now.value or_default ≡ Err it →
+    ensures wrong { is_sdp h.now.value ≡ false → result ≡ wrong_end }
+    ensures answer { GivesOrOutOfMemory result (points.new, count.new)
+        (points_answer (endpoint_sdp_points h.now.value or_default) points.old count.old) }
+    ensures place { (it : PointRefused) → endpoint_sdp_points h.now.value or_default ≡ Err it →
         (result ≡ out_of_memory) ⊎ (why.new ≡ record { first = it.place; second = it.fault }) }
     ensures kept { result ≢ ok → (points.new ≡ points.old) × (count.new ≡ count.old) }
     ensures kept_why { result ≡ ok → why.new ≡ why.old }

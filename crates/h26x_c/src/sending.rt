@@ -2,14 +2,14 @@
 
 ghost use Rattle.std.specs.Prelude.{◌≡◌, ◌≢◌, ◌≤◌, ◌<◌, ◌⊎◌, ℕ, [], true, false, Some, None, Ok, Err, length, drop};
 ghost use Rattle.std.specs.List.{concat};
-ghost use Rattle.h26x_model.specs.Send.PacketizerState.{state_packets, has_no_effect, one_unit_items, one_unit_packets, after_one_unit};
-ghost use Rattle.h26x_model.specs.Where.{Where};
-ghost use Rattle.h26x_codec.specs.Codec.{codec_format, fresh_packetizer_state, next_call};
+ghost use Rattle.h26x_model.specs.Send.PacketizerState.{one_unit_items, one_unit_packets, after_one_unit};
+ghost use Rattle.h26x_codec.specs.Codec.{codec_format, fresh_packetizer_state};
 ghost use Rattle.h26x_codec.specs.declared.codec.Codec.{Codec};
 ghost use Rattle.h26x_handles.specs.Codes.{codec_or_code, may_have_donl, ok, out_of_memory, wrong_end, not_of_this_codec, out_of_range};
 ghost use Rattle.h26x_handles.specs.Copies.{with_front, nth_packet, AreCopied};
+ghost use Rattle.h26x_c.specs.Endpoints.{Makes, HasPacketizer, WherePacketizer, OnceDone, WhereDonl};
 ghost use Rattle.h26x_handles.specs.PlacementAnswer.{AreCounted, IsPlacementAnswer};
-ghost use Rattle.h26x_handles.specs.States.{endpoint_packetizer_state, endpoint_packets, endpoint_codec, endpoint_headers, endpoint_lowest_header, place_packetizer_state, place_packets, place_lowest_header, endpoint_without_output, payload_entries, headed_packets, after_payload, state_with_donl};
+ghost use Rattle.h26x_handles.specs.States.{endpoint_packetizer_state, endpoint_packets, endpoint_codec, endpoint_headers, endpoint_lowest_header, place_packetizer_state, place_packets, place_lowest_header, endpoint_without_output, packets_of_payload, payload_has_no_effect, headed_packets, after_payload, state_with_donl};
 
 use crate::const_handle::ConstHandle;
 use crate::handle::Handle;
@@ -34,8 +34,8 @@ pub extern "C" fn h26x_packetizer_new(
     ensures refused { (code : ℕ) → codec_or_code codec numbers ≡ Err code → result ≡ code }
     ensures answer { (c : Codec) → codec_or_code codec numbers ≡ Ok c →
         (result ≡ ok) ⊎ (result ≡ out_of_memory) }
-    ensures made { (c : Codec) → codec_or_code codec numbers ≡ Ok c → result ≡ ok →
-        place_packetizer_state made.new.value ≡ Some (fresh_packetizer_state (codec_format c numbers)) }
+    ensures made { Makes (codec_or_code codec numbers) result
+        (place_packetizer_state made.new.value) (λ c. fresh_packetizer_state (codec_format c numbers)) }
     ensures none { result ≡ ok → place_packets made.new.value ≡ [] }
     ensures off { result ≡ ok → place_lowest_header made.new.value ≡ false }
     ensures kept { result ≢ ok → made.new ≡ made.old }
@@ -54,7 +54,7 @@ pub extern "C" fn h26x_packetizer_new(
 #[unsafe(no_mangle)]
 pub extern "C" fn h26x_packetizer_clone(alloc: Global, p: &ConstHandle, made: &mut Place) -> u32
     ensures wrong { endpoint_packetizer_state p.now.value ≡ None → result ≡ wrong_end }
-    ensures answer { Where (endpoint_packetizer_state p.now.value)
+    ensures answer { WherePacketizer p.now.value
         (λ it. (result ≡ ok) ⊎ (result ≡ out_of_memory)) }
     ensures made { result ≡ ok → made.new.value ≡ Some (endpoint_without_output p.now.value) }
     ensures kept { result ≢ ok → made.new ≡ made.old }
@@ -79,12 +79,10 @@ pub extern "C" fn h26x_packetizer_free(p: Handle) {
 #[unsafe(no_mangle)]
 pub extern "C" fn h26x_packetizer_set_numbers(p: &mut Handle, numbers: bool) -> u32
     ensures wrong { endpoint_packetizer_state p.old.value ≡ None → result ≡ wrong_end }
-    ensures none { Where (endpoint_packetizer_state p.old.value)
+    ensures none { WherePacketizer p.old.value
         (λ it. may_have_donl (endpoint_codec p.old.value) ≡ false → result ≡ not_of_this_codec) }
-    ensures set { Where (endpoint_packetizer_state p.old.value)
-        (λ it. may_have_donl (endpoint_codec p.old.value) ≡ true → (result ≡ ok) ×
-        (endpoint_packetizer_state p.new.value ≡ Some (state_with_donl (endpoint_codec p.old.value)
-        numbers it))) }
+    ensures set { WhereDonl p.old.value
+        (λ c it. (result ≡ ok) × HasPacketizer p.new.value (state_with_donl c numbers it)) }
     ensures packets { endpoint_packets p.new.value ≡ endpoint_packets p.old.value }
     ensures lowest { endpoint_lowest_header p.new.value ≡ endpoint_lowest_header p.old.value }
     ensures kept { result ≢ ok → p.new.value ≡ p.old.value }
@@ -105,14 +103,13 @@ pub extern "C" fn h26x_packetizer_set_numbers(p: &mut Handle, numbers: bool) -> 
 #[unsafe(no_mangle)]
 pub extern "C" fn h26x_packetizer_set_max_size(p: &mut Handle, bytes: u16) -> u32
     ensures wrong { endpoint_packetizer_state p.old.value ≡ None → result ≡ wrong_end }
-    ensures none { Where (endpoint_packetizer_state p.old.value)
+    ensures none { WherePacketizer p.old.value
         (λ it. may_have_donl (endpoint_codec p.old.value) ≡ false → result ≡ not_of_this_codec) }
-    ensures small { Where (endpoint_packetizer_state p.old.value)
-        (λ it. may_have_donl (endpoint_codec p.old.value) ≡ true → bytes < 4 → result ≡
-        out_of_range) }
-    ensures set { Where (endpoint_packetizer_state p.old.value)
-        (λ it. may_have_donl (endpoint_codec p.old.value) ≡ true → 4 ≤ bytes → (result ≡ ok) ×
-        (endpoint_packetizer_state p.new.value ≡ Some (record it { max_packet_size = bytes }))) }
+    ensures small { WhereDonl p.old.value
+        (λ c it. bytes < 4 → result ≡ out_of_range) }
+    ensures set { WhereDonl p.old.value
+        (λ c it. 4 ≤ bytes → (result ≡ ok)
+        × HasPacketizer p.new.value (record it { max_packet_size = bytes })) }
     ensures packets { endpoint_packets p.new.value ≡ endpoint_packets p.old.value }
     ensures lowest { endpoint_lowest_header p.new.value ≡ endpoint_lowest_header p.old.value }
     ensures kept { result ≢ ok → p.new.value ≡ p.old.value }
@@ -137,11 +134,10 @@ pub extern "C" fn h26x_packetizer_set_max_size(p: &mut Handle, bytes: u16) -> u3
 #[unsafe(no_mangle)]
 pub extern "C" fn h26x_packetizer_set_lowest_header(p: &mut Handle, lowest: bool) -> u32
     ensures wrong { endpoint_packetizer_state p.old.value ≡ None → result ≡ wrong_end }
-    ensures none { Where (endpoint_packetizer_state p.old.value)
+    ensures none { WherePacketizer p.old.value
         (λ it. may_have_donl (endpoint_codec p.old.value) ≡ false → result ≡ not_of_this_codec) }
-    ensures set { Where (endpoint_packetizer_state p.old.value)
-        (λ it. may_have_donl (endpoint_codec p.old.value) ≡ true → (result ≡ ok) ×
-        (endpoint_lowest_header p.new.value ≡ lowest)) }
+    ensures set { WhereDonl p.old.value
+        (λ c it. (result ≡ ok) × (endpoint_lowest_header p.new.value ≡ lowest)) }
     ensures state { endpoint_packetizer_state p.new.value ≡ endpoint_packetizer_state p.old.value }
     ensures codec { endpoint_codec p.new.value ≡ endpoint_codec p.old.value }
     ensures packets { endpoint_packets p.new.value ≡ endpoint_packets p.old.value }
@@ -168,16 +164,15 @@ pub extern "C" fn h26x_packetize(
     count: &mut usize,
 ) -> u32
     ensures wrong { endpoint_packetizer_state p.old.value ≡ None → result ≡ wrong_end }
-    ensures answer { Where (endpoint_packetizer_state p.old.value)
+    ensures answer { WherePacketizer p.old.value
         (λ it. (result ≡ ok) ⊎ (result ≡ out_of_memory)) }
-    ensures free { Where (endpoint_packetizer_state p.old.value)
-        (λ it. has_no_effect it.format (next_call it mtu payload.now) ≡ true → result ≡ ok) }
-    ensures packets { Where (endpoint_packetizer_state p.old.value)
-        (λ it. result ≡ ok → endpoint_packets p.new.value ≡ headed_packets (endpoint_headers
-        p.old.value) it mtu payload.now) }
-    ensures after { Where (endpoint_packetizer_state p.old.value)
-        (λ it. result ≡ ok → endpoint_packetizer_state p.new.value ≡ Some (after_payload it mtu
-        payload.now)) }
+    ensures free { WherePacketizer p.old.value
+        (λ it. payload_has_no_effect it mtu payload.now ≡ true → result ≡ ok) }
+    ensures packets { OnceDone p.old.value result
+        (λ it. endpoint_packets p.new.value ≡
+        headed_packets (endpoint_headers p.old.value) it mtu payload.now) }
+    ensures after { OnceDone p.old.value result
+        (λ it. HasPacketizer p.new.value (after_payload it mtu payload.now)) }
     ensures codec { endpoint_codec p.new.value ≡ endpoint_codec p.old.value }
     ensures lowest { endpoint_lowest_header p.new.value ≡ endpoint_lowest_header p.old.value }
     ensures kept { result ≢ ok → p.new.value ≡ p.old.value }
@@ -209,20 +204,19 @@ pub extern "C" fn h26x_packetize_unit(
     count: &mut usize,
 ) -> u32
     ensures wrong { endpoint_packetizer_state p.old.value ≡ None → result ≡ wrong_end }
-    ensures answer { Where (endpoint_packetizer_state p.old.value)
+    ensures answer { WherePacketizer p.old.value
         (λ it. (result ≡ ok) ⊎ (result ≡ out_of_memory)) }
-    ensures packets { Where (endpoint_packetizer_state p.old.value)
-        (λ it. result ≡ ok → endpoint_packets p.new.value ≡ one_unit_packets it mtu unit.now) }
-    ensures after { Where (endpoint_packetizer_state p.old.value)
-        (λ it. result ≡ ok → endpoint_packetizer_state p.new.value ≡ Some (after_one_unit it mtu
-        unit.now)) }
+    ensures packets { OnceDone p.old.value result
+        (λ it. endpoint_packets p.new.value ≡ one_unit_packets it mtu unit.now) }
+    ensures after { OnceDone p.old.value result
+        (λ it. HasPacketizer p.new.value (after_one_unit it mtu unit.now)) }
     ensures codec { endpoint_codec p.new.value ≡ endpoint_codec p.old.value }
     ensures lowest { endpoint_lowest_header p.new.value ≡ endpoint_lowest_header p.old.value }
     ensures kept { result ≢ ok → p.new.value ≡ p.old.value }
     ensures count { count.new ≡ length (endpoint_packets p.new.value) }
 
     // Nothing is sent without memory.
-    ensures free { Where (endpoint_packetizer_state p.old.value)
+    ensures free { WherePacketizer p.old.value
         (λ it. one_unit_items it mtu unit.now ≡ [] → result ≡ ok) }
 {
     match p.get_mut() {
@@ -253,13 +247,12 @@ pub extern "C" fn h26x_packets_size(
     size: &mut usize,
 ) -> u32
     ensures wrong { endpoint_packetizer_state p.now.value ≡ None → result ≡ wrong_end }
-    ensures answer { Where (endpoint_packetizer_state p.now.value)
+    ensures answer { WherePacketizer p.now.value
         (λ it. (result ≡ ok) ⊎ (result ≡ out_of_memory)) }
-    ensures free { Where (endpoint_packetizer_state p.now.value)
-        (λ it. has_no_effect it.format (next_call it mtu payload.now) ≡ true → result ≡ ok) }
-    ensures size { Where (endpoint_packetizer_state p.now.value)
-        (λ it. result ≡ ok → AreCounted headroom (state_packets it (payload_entries it mtu
-        payload.now)) count.new size.new) }
+    ensures free { WherePacketizer p.now.value
+        (λ it. payload_has_no_effect it mtu payload.now ≡ true → result ≡ ok) }
+    ensures size { OnceDone p.now.value result
+        (λ it. AreCounted headroom (packets_of_payload it mtu payload.now) count.new size.new) }
     ensures none { result ≢ ok → (count.new ≡ 0) × (size.new ≡ 0) }
 {
     *count = 0;
@@ -292,15 +285,13 @@ pub extern "C" fn h26x_packetize_into(
     size: &mut usize,
 ) -> u32
     ensures wrong { endpoint_packetizer_state p.old.value ≡ None → result ≡ wrong_end }
-    ensures answer { Where (endpoint_packetizer_state p.old.value)
+    ensures answer { WherePacketizer p.old.value
         (λ it. IsPlacementAnswer headroom (headed_packets (endpoint_headers p.old.value) it mtu
         payload.now) to.old to.new ends.old ends.new result count.new size.new) }
-    ensures free { Where (endpoint_packetizer_state p.old.value)
-        (λ it. has_no_effect it.format (next_call it mtu payload.now) ≡ true → result ≢
-        out_of_memory) }
-    ensures after { Where (endpoint_packetizer_state p.old.value)
-        (λ it. result ≡ ok → endpoint_packetizer_state p.new.value ≡ Some (after_payload it mtu
-        payload.now)) }
+    ensures free { WherePacketizer p.old.value
+        (λ it. payload_has_no_effect it mtu payload.now ≡ true → result ≢ out_of_memory) }
+    ensures after { OnceDone p.old.value result
+        (λ it. HasPacketizer p.new.value (after_payload it mtu payload.now)) }
     ensures codec { endpoint_codec p.new.value ≡ endpoint_codec p.old.value }
     ensures lowest { endpoint_lowest_header p.new.value ≡ endpoint_lowest_header p.old.value }
     ensures packets { endpoint_packets p.new.value ≡ endpoint_packets p.old.value }
@@ -335,12 +326,11 @@ pub extern "C" fn h26x_packetize_unit_into(
     size: &mut usize,
 ) -> u32
     ensures wrong { endpoint_packetizer_state p.old.value ≡ None → result ≡ wrong_end }
-    ensures answer { Where (endpoint_packetizer_state p.old.value)
+    ensures answer { WherePacketizer p.old.value
         (λ it. IsPlacementAnswer headroom (one_unit_packets it mtu unit.now) to.old to.new ends.old
         ends.new result count.new size.new) }
-    ensures after { Where (endpoint_packetizer_state p.old.value)
-        (λ it. result ≡ ok → endpoint_packetizer_state p.new.value ≡ Some (after_one_unit it mtu
-        unit.now)) }
+    ensures after { OnceDone p.old.value result
+        (λ it. HasPacketizer p.new.value (after_one_unit it mtu unit.now)) }
     ensures codec { endpoint_codec p.new.value ≡ endpoint_codec p.old.value }
     ensures lowest { endpoint_lowest_header p.new.value ≡ endpoint_lowest_header p.old.value }
     ensures packets { endpoint_packets p.new.value ≡ endpoint_packets p.old.value }
@@ -350,7 +340,7 @@ pub extern "C" fn h26x_packetize_unit_into(
     ensures none { result ≡ wrong_end → (count.new ≡ 0) × (size.new ≡ 0) }
 
     // Nothing is sent without memory.
-    ensures free { Where (endpoint_packetizer_state p.old.value)
+    ensures free { WherePacketizer p.old.value
         (λ it. one_unit_items it mtu unit.now ≡ [] → result ≢ out_of_memory) }
 {
     match p.get_mut() {

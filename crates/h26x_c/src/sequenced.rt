@@ -5,11 +5,10 @@ ghost use Rattle.h26x_model.specs.Where.{Where};
 ghost use Rattle.h26x_codec.specs.Codec.{codec_format};
 ghost use Rattle.h26x_codec.specs.declared.codec.Codec.{Codec};
 ghost use Rattle.h26x_c.specs.Answers.{IsReceiverCode};
-ghost use Rattle.h26x_receiver.specs.Sequenced.{SequencedDepacketization, skip_answer};
+ghost use Rattle.h26x_c.specs.Endpoints.{Makes, IfReceived, HandsOver, IsSameShowing};
+ghost use Rattle.h26x_receiver.specs.Sequenced.{skip_answer};
 ghost use Rattle.h26x_handles.specs.Codes.{codec_or_code, may_have_donl, extra_number, ok, out_of_memory, wrong_end, not_of_this_codec, says_taken, received_numbers};
-ghost use Rattle.h26x_handles.specs.Copies.{AreHandedOver};
-ghost use Rattle.h26x_handles.specs.Endpoint.{SequencedEndpoint};
-ghost use Rattle.h26x_handles.specs.States.{is_sequenced, endpoint_receiver, endpoint_after_packet, receiver_run_len, endpoint_receiver_state, endpoint_expected, endpoint_run_len, endpoint_written, endpoint_codec, fresh_sequenced_endpoint, endpoint_showing, endpoint_without_output, endpoint_restarted, endpoint_after_skip, endpoint_with_donl, endpoint_with_avc};
+ghost use Rattle.h26x_handles.specs.States.{is_sequenced, endpoint_receiver, receiver_run_len, endpoint_receiver_state, endpoint_expected, endpoint_run_len, endpoint_codec, fresh_sequenced_endpoint, endpoint_without_output, endpoint_restarted, endpoint_after_skip, endpoint_with_donl, endpoint_with_avc};
 
 use crate::const_handle::ConstHandle;
 use crate::handle::Handle;
@@ -35,8 +34,8 @@ pub extern "C" fn h26x_receiver_new(
     ensures refused { (code : ℕ) → codec_or_code codec numbers ≡ Err code → result ≡ code }
     ensures answer { (c : Codec) → codec_or_code codec numbers ≡ Ok c →
         (result ≡ ok) ⊎ (result ≡ out_of_memory) }
-    ensures made { (c : Codec) → codec_or_code codec numbers ≡ Ok c → result ≡ ok →
-        made.new.value ≡ Some (fresh_sequenced_endpoint c numbers is_avc run_limit) }
+    ensures made { Makes (codec_or_code codec numbers) result made.new.value
+        (λ c. fresh_sequenced_endpoint c numbers is_avc run_limit) }
     ensures fresh { (c : Codec) → endpoint_receiver_state (fresh_sequenced_endpoint c numbers is_avc
         run_limit)
         ≡ Some (record { format = codec_format c numbers; is_avc = is_avc; run = None }) }
@@ -135,21 +134,16 @@ pub extern "C" fn h26x_receive(
         result why.new.first why.new.second received.new count.new }
 
     // What stands after a packet that was taken.
-    ensures run { (w : SequencedDepacketization) → says_taken result received.new ≡ true →
-        endpoint_after_packet r.old.value extra.old sequence packet.now ≡ Some w →
-        endpoint_receiver_state r.new.value ≡ Some w.at_work.state }
-    ensures next { (w : SequencedDepacketization) → says_taken result received.new ≡ true →
-        endpoint_after_packet r.old.value extra.old sequence packet.now ≡ Some w →
-        endpoint_expected r.new.value ≡ w.expected }
-    ensures told { (w : SequencedDepacketization) → says_taken result received.new ≡ true →
-        endpoint_after_packet r.old.value extra.old sequence packet.now ≡ Some w →
-        extra.new ≡ extra_number w.at_work.extra }
-    ensures given { (w : SequencedDepacketization) → says_taken result received.new ≡ true →
-        endpoint_after_packet r.old.value extra.old sequence packet.now ≡ Some w →
-        AreHandedOver w.at_work.out to.old to.new written.new (endpoint_written r.new.value) }
+    ensures run { IfReceived r.old.value extra.old sequence packet.now result received.new
+        (λ w. endpoint_receiver_state r.new.value ≡ Some w.at_work.state) }
+    ensures next { IfReceived r.old.value extra.old sequence packet.now result received.new
+        (λ w. endpoint_expected r.new.value ≡ w.expected) }
+    ensures told { IfReceived r.old.value extra.old sequence packet.now result received.new
+        (λ w. extra.new ≡ extra_number w.at_work.extra) }
+    ensures given { IfReceived r.old.value extra.old sequence packet.now result received.new
+        (λ w. HandsOver r.new.value w.at_work.out to.old to.new written.new) }
     ensures rest { says_taken result received.new ≡ true →
-        endpoint_restarted (endpoint_without_output r.new.value)
-        ≡ endpoint_restarted (endpoint_without_output (endpoint_showing packet.now r.old.value)) }
+        IsSameShowing endpoint_restarted packet.now r.old.value r.new.value }
     ensures bounded { Where (endpoint_receiver r.old.value)
         (λ it. receiver_run_len it ≤ it.run_limit → endpoint_run_len r.new.value ≤ it.run_limit) }
 

@@ -1,23 +1,29 @@
 -- What packetizers and depacketizers of the codecs are. Of one in a box nothing is known but the
 -- laws of its trait.
-use Rattle.std.specs.Prelude.{ℕ, ◌==◌, Bool, false, true, if◌then◌else◌, List, Option, Some, None}
+use Rattle.std.specs.Prelude.{◌≡◌, ℕ, ◌==◌, Bool, false, true, if◌then◌else◌, List, Option, Some, None}
 use Rattle.std.specs.Option.{option_map, option_map_or}
 use Rattle.h26x_core.specs.declared.extra.CodecExtra.{CodecExtra}
 use Rattle.h26x_model.specs.Payload.Format.{Format}
-use Rattle.h26x_model.specs.Send.Calls.{Call, default_max_packet_size}
+use Rattle.h26x_model.specs.Payload.TwoBytes.{is_two_byte_fragment}
+use Rattle.h26x_model.specs.Send.Calls.{Call, packet_limit, call_entries, default_max_packet_size}
 use Rattle.h26x_model.specs.Send.WaitingSets.{no_waiting_sets}
-use Rattle.h26x_model.specs.Send.PacketizerState.{PacketizerState}
+use Rattle.h26x_model.specs.Send.PacketizerState.{PacketizerState, call_packets, after_entries, has_no_effect}
+use Rattle.h26x_model.specs.Receive.Outcome.{is_startless}
 use Rattle.h26x_model.specs.Receive.DepacketizerState.{DepacketizerState, Depacketization, depacketization}
+use Rattle.h26x_model.specs.Where.{Where, WhereBoth}
+use Rattle.h26x_payload.specs.AccessUnit.{may_begin, is_last}
 use Rattle.h26x_payload.specs.PacketizerView.{packetizer_state}
-use Rattle.h26x_payload.specs.DepacketizerView.{depacketizer_state}
+use Rattle.h26x_payload.specs.DepacketizerView.{DepacketizerView, depacketizer_state}
 use Rattle.h264_payload.specs.H264.{h264}
-use Rattle.h265_payload.specs.H265.{h265}
+use Rattle.h264_payload.specs.declared.codec.H264.{H264}
+use Rattle.h265_payload.specs.H265.{h265, h265_header}
 use Rattle.h265_payload.specs.Setting as h265_setting
 use Rattle.h265_payload.specs.DepacketizerView as h265_end
 use Rattle.h265_packets.specs.Payload.{empty_single}
 use Rattle.h265_packets.specs.declared.payload.H265Payload.{H265Payload}
 use Rattle.h265_packets.specs.declared.payload.H265Payload.TheVariants as shows
-use Rattle.h266_payload.specs.H266.{h266}
+use Rattle.h266_payload.specs.H266.{h266, h266_header}
+use Rattle.h266_payload.specs.declared.codec.H266.{H266}
 use Rattle.h266_payload.specs.Setting as h266_setting
 use Rattle.h26x_codec.specs.declared.codec.Codec.{Codec}
 use Rattle.h26x_codec.specs.declared.codec.Codec.TheVariants as c
@@ -44,6 +50,11 @@ codec_packetizer_state (p.H265 it) = Some (packetizer_state (h265_setting.settin
 codec_packetizer_state (p.H266 it) = Some (packetizer_state (h266_setting.setting_format it.codec) it)
 codec_packetizer_state (p.Boxed it) = None
 
+-- what holds of the state of a packetizer; of one in a box nothing is said
+abbrev pub OfPacketizer : {X : Type 0} {P : X → Type 0} → CodecPacketizer X P →
+    (PacketizerState → Type 0) → Type 0
+OfPacketizer it holds = Where (codec_packetizer_state it) holds
+
 -- the codec of a packetizer
 abbrev pub packetizer_codec : {X : Type 0} {P : X → Type 0} → CodecPacketizer X P → Option Codec
 packetizer_codec (p.H264 it) = Some c.H264
@@ -63,6 +74,22 @@ fresh_packetizer_state f = record {
 -- a call of a packetizer
 abbrev pub next_call : PacketizerState → ℕ → List ℕ → Call
 next_call s mtu payload = record { mtu = mtu; max_packet_size = s.max_packet_size; payload = payload }
+
+-- the packets of it
+abbrev pub next_packets : PacketizerState → ℕ → List ℕ → List (List ℕ)
+next_packets s mtu payload = call_packets s (next_call s mtu payload)
+
+-- the packetizer after it
+abbrev pub after_next_call : PacketizerState → ℕ → List ℕ → PacketizerState
+after_next_call s mtu payload = after_entries s (call_entries s.format (next_call s mtu payload))
+
+-- it has no effect: its mtu is under the least, or its payload has no unit but skipped ones
+abbrev pub HasNoEffect : PacketizerState → ℕ → List ℕ → Type 0
+HasNoEffect s mtu payload = has_no_effect s.format (next_call s mtu payload) ≡ true
+
+-- how long a packet may be at an mtu, in bytes
+abbrev pub limit_at : PacketizerState → ℕ → ℕ
+limit_at s mtu = packet_limit s.format s.max_packet_size mtu
 
 -- a packetizer with decoding order numbers, which begin at 0; H.264 has none
 abbrev pub with_donl : {X : Type 0} {P : X → Type 0} → CodecPacketizer X P → CodecPacketizer X P
@@ -92,6 +119,57 @@ codec_depacketizer_state (d.H265 it) = Some (h265_end.h265_state it)
 codec_depacketizer_state (d.H266 it) = Some (depacketizer_state
     (h266_setting.setting_format it.codec) it)
 codec_depacketizer_state (d.Boxed it) = None
+
+-- what holds of the state of a depacketizer; of one in a box nothing is said
+abbrev pub OfDepacketizer : {X : Type 0} {P : X → Type 0} → CodecDepacketizer X P →
+    (DepacketizerState → Type 0) → Type 0
+OfDepacketizer it holds = Where (codec_depacketizer_state it) holds
+
+-- what holds of the states of a packetizer and a depacketizer
+abbrev pub OfBoth : {X : Type 0} {P : X → Type 0} {Y : Type 0} {Q : Y → Type 0} →
+    CodecPacketizer X P → CodecDepacketizer Y Q → (PacketizerState → DepacketizerState → Type 0) →
+    Type 0
+OfBoth p d holds = WhereBoth (codec_packetizer_state p) (codec_depacketizer_state d) holds
+
+-- what holds of a depacketizer of H.264
+abbrev pub OfH264 : {X : Type 0} {P : X → Type 0} → CodecDepacketizer X P →
+    (DepacketizerView H264 → Type 0) → Type 0
+OfH264 depacketizer holds = (it : DepacketizerView H264) → depacketizer ≡ d.H264 it → holds it
+
+-- of one of H.265
+abbrev pub OfH265 : {X : Type 0} {P : X → Type 0} → CodecDepacketizer X P →
+    (h265_end.H265DepacketizerView → Type 0) → Type 0
+OfH265 depacketizer holds = (it : h265_end.H265DepacketizerView) → depacketizer ≡ d.H265 it →
+    holds it
+
+-- of one of H.266
+abbrev pub OfH266 : {X : Type 0} {P : X → Type 0} → CodecDepacketizer X P →
+    (DepacketizerView H266 → Type 0) → Type 0
+OfH266 depacketizer holds = (it : DepacketizerView H266) → depacketizer ≡ d.H266 it → holds it
+
+-- whether a packet is a fragment without a start to one of H.264 that has no run open (RFC 6184, 5.8)
+abbrev pub is_startless_h264 : DepacketizerView H264 → List ℕ → Bool
+is_startless_h264 it packet = is_startless it.run (h264.read packet)
+
+-- so to one of H.266 (RFC 9328, 4.3.3)
+abbrev pub is_startless_h266 : DepacketizerView H266 → List ℕ → Bool
+is_startless_h266 it packet = is_startless it.run ((h266_setting.setting_format it.codec).read packet)
+
+-- whether a packet of H.265 may be the first of an access unit (RFC 7798, 4.4.3; str0m's rule)
+abbrev pub may_begin_h265 : List ℕ → Bool
+may_begin_h265 packet = may_begin (is_two_byte_fragment h265_header packet) packet
+
+-- whether it is the last of one
+abbrev pub is_last_h265 : Bool → List ℕ → Bool
+is_last_h265 marker packet = is_last (is_two_byte_fragment h265_header packet) marker packet
+
+-- whether a packet of H.266 may be the first of an access unit (RFC 9328, 4.3.3; str0m's rule)
+abbrev pub may_begin_h266 : List ℕ → Bool
+may_begin_h266 packet = may_begin (is_two_byte_fragment h266_header packet) packet
+
+-- whether it is the last of one
+abbrev pub is_last_h266 : Bool → List ℕ → Bool
+is_last_h266 marker packet = is_last (is_two_byte_fragment h266_header packet) marker packet
 
 -- the codec of a depacketizer
 abbrev pub depacketizer_codec : {X : Type 0} {P : X → Type 0} → CodecDepacketizer X P → Option Codec
@@ -125,6 +203,11 @@ abbrev pub codec_depacketization : {X : Type 0} {P : X → Type 0} → CodecDepa
     Option Depacketization
 codec_depacketization it out extra = option_map (λ r. depacketization r out extra)
     (codec_depacketizer_state it)
+
+-- what holds of a depacketizer at work; of one in a box nothing is said
+abbrev pub OfDepacketization : {X : Type 0} {P : X → Type 0} → CodecDepacketizer X P → List ℕ →
+    CodecExtra → (Depacketization → Type 0) → Type 0
+OfDepacketization it out extra holds = Where (codec_depacketization it out extra) holds
 
 -- a depacketizer without numbers that writes start codes and has no run open
 abbrev pub fresh_depacketizer_state : Format → DepacketizerState

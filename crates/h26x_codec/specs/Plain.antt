@@ -1,10 +1,14 @@
 -- Plain units: NAL units of the video itself, in whose Annex B text no reader finds other units.
 use Rattle.std.specs.Prelude.{◌≡◌, ℕ, ◌≤◌, nat_le, IsTrue, Bool, false, not, ◌&&◌, List, ◌∷◌, ◌++◌, length}
+use Rattle.std.specs.List.{AllByRecursion}
+use Rattle.h26x_core.specs.ByteStream.{annex_b}
 use Rattle.h26x_core.specs.Word.{is_set}
 use Rattle.h26x_core.specs.H264Unit as h264
 use Rattle.h26x_core.specs.H265Unit as h265
 use Rattle.h26x_core.specs.H266Unit as h266
 use Rattle.h26x_cut.specs.Cutting.{HoldsStartCode, EndsInZero}
+use Rattle.h26x_model.specs.Payload.Format.{Format}
+use Rattle.h26x_model.specs.Receive.Outcome.{is_too_long}
 use Rattle.h26x_codec.specs.declared.codec.Codec.{Codec}
 use Rattle.h26x_codec.specs.declared.codec.Codec.TheVariants as c
 
@@ -53,3 +57,16 @@ has_plain_header codec unit = false
 pub record IsPlainUnit (codec : Codec) (unit : List ℕ) : Type 0 where
   pub header : IsTrue (has_plain_header codec unit)
   pub text : IsPlainText unit
+
+-- plain units of a codec
+abbrev pub ArePlainUnits : Codec → List (List ℕ) → Type 0
+ArePlainUnits codec units = AllByRecursion (IsPlainUnit codec) units
+
+-- of the Annex B text of plain units a format reads exactly these units
+abbrev pub ReadsPlainUnits : Codec → Format → Type 0
+ReadsPlainUnits codec f = (units : List (List ℕ)) → ArePlainUnits codec units →
+    f.units (annex_b units) ≡ units
+
+-- the length of each unit fits four bytes (ISO/IEC 14496-15)
+abbrev pub EachFitsAvcLength : List (List ℕ) → Type 0
+EachFitsAvcLength units = AllByRecursion (λ unit. is_too_long unit ≡ false) units

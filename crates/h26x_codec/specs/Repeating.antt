@@ -1,5 +1,5 @@
 -- Payloads sent, written, and sent again.
-use Rattle.std.specs.Prelude.{◌≡◌, ◌⊎◌, ℕ, Bool, List, [], ◌∷◌, ◌++◌, Result, IfOk}
+use Rattle.std.specs.Prelude.{◌≡◌, ◌⊎◌, ℕ, Bool, List, [], ◌∷◌, ◌++◌, map, Result, IfOk}
 use Rattle.std.specs.List.{AllByRecursion}
 use Rattle.h26x_core.specs.declared.error.PacketError.{PacketError}
 use Rattle.h26x_core.specs.declared.error.PacketError.TheVariants.{OutOfMemory}
@@ -8,8 +8,10 @@ use Rattle.h26x_model.specs.Payload.Reading.{IsRead, Refused}
 use Rattle.h26x_model.specs.Payload.Format.{Format}
 use Rattle.h26x_model.specs.Send.Calls.{Call, default_max_packet_size, all_entries, all_packets, sent_by}
 use Rattle.h26x_model.specs.Payload.Facts.{AreCarried}
-use Rattle.h26x_model.specs.Send.Again.{NothingDropped}
+use Rattle.h26x_model.specs.Send.Again.{NothingDropped, IsSentAlike}
 use Rattle.h26x_model.specs.Send.PacketizerState.{PacketizerState}
+use Rattle.h26x_model.specs.Receive.DepacketizerState.{DepacketizerState}
+use Rattle.h26x_model.specs.Receive.Received.{received}
 use Rattle.h26x_model.specs.Carry.Laws.{calls_like}
 use Rattle.h26x_cut.specs.declared.ZeroRule.{ZeroRule}
 use Rattle.h26x_cut.specs.declared.ZeroRule.TheVariants.{All, AtMostThree}
@@ -56,6 +58,19 @@ calls_at s limit payloads = calls_like (next_call s limit []) payloads
 -- their packets, of a fresh packetizer
 abbrev pub packets_at : PacketizerState → ℕ → List (List ℕ) → List (List ℕ)
 packets_at s limit payloads = all_packets s.format 0 (calls_at s limit payloads)
+
+-- the packets of payloads, one call each, of a packetizer of a codec before its first call
+abbrev pub repeated_packets : Codec → Bool → ℕ → ℕ → List (List ℕ) → List (List ℕ)
+repeated_packets codec has_donl n limit payloads =
+    packets_at (starting_packetizer codec has_donl n) limit payloads
+
+-- what a depacketizer without an open run writes for packets
+abbrev pub received_text : DepacketizerState → List (List ℕ) → List ℕ
+received_text r packets = byte_stream r.is_avc (received (map r.format.read packets))
+
+-- whatever units were sent at one limit are sent so again
+abbrev pub SendsAgainAlike : Format → Type 0
+SendsAgainAlike f = (limit : ℕ) (units sent : List (List ℕ)) → IsSentAlike f limit units sent
 
 -- where packets can carry what calls send, it is written
 abbrev pub IsTextOf : Format → Bool → List Call → Result Repeated PacketError → Type 0

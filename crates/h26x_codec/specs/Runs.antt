@@ -1,5 +1,5 @@
 -- What a run does: calls of a packetizer, and their packets through a depacketizer.
-use Rattle.std.specs.Prelude.{◌≡◌, ℕ, Bool, true, false, List, [], ◌∷◌, ◌++◌, length, map, Option, Some, Result, Ok, Err, IfErr, Vec, ◌⊎◌, slice_get}
+use Rattle.std.specs.Prelude.{◌≡◌, ℕ, Bool, true, false, List, [], ◌∷◌, ◌++◌, length, map, Option, Some, Result, Ok, Err, IfOk, IfErr, Vec, ◌⊎◌, slice_get}
 use Rattle.std.specs.Global.{Global}
 use Rattle.std.specs.List.{AllByRecursion}
 use Rattle.h26x_core.specs.declared.extra.CodecExtra.{CodecExtra}
@@ -8,20 +8,47 @@ use Rattle.h26x_core.specs.declared.error.PacketError.TheVariants.{OutOfMemory}
 use Rattle.h26x_model.specs.Payload.Reading.{IsRead}
 use Rattle.h26x_model.specs.Payload.Format.{Format}
 use Rattle.h26x_model.specs.Send.Group.{Entry}
-use Rattle.h26x_model.specs.Send.Calls.{Call, call_entries, all_entries, all_packets, sent_by}
+use Rattle.h26x_model.specs.Payload.Don.{DonsInOrder}
+use Rattle.h26x_model.specs.Send.Calls.{Call, AreCalls, call_entries, all_entries, all_packets, sent_by}
+use Rattle.h26x_model.specs.Carry.Detection.{AreDetected}
+use Rattle.h26x_model.specs.Carry.Laws.{AreCallsCarried}
 use Rattle.h26x_model.specs.Carry.Loss.{keep}
 use Rattle.h26x_core.specs.ByteStream.{byte_stream}
-use Rattle.h26x_model.specs.Payload.Extra.{extra_after, first_extra}
+use Rattle.h26x_model.specs.Payload.Extra.{first_extra}
 use Rattle.h26x_model.specs.Payload.Facts.{AreCarried}
 use Rattle.h26x_model.specs.Send.Rival.{TakesFewestFragments}
 use Rattle.h26x_model.specs.Send.WaitingSets.{no_waiting_sets}
-use Rattle.h26x_model.specs.Send.PacketizerState.{PacketizerState, state_units, state_packets, call_packets, after_entries, has_no_effect, AreWithinLimits}
+use Rattle.h26x_model.specs.Send.PacketizerState.{PacketizerState, IsPacketizerState, state_units, state_packets, call_packets, calls_plan, after_entries, has_no_effect, AreWithinLimits}
 use Rattle.h26x_model.specs.Receive.DepacketizerState.{DepacketizerState, depacketization, HaveAvcLengths, Depacketization, after_packets, IsRefusalCause, AreWritten}
-use Rattle.h26x_codec.specs.Codec.{next_call}
+use Rattle.h26x_codec.specs.declared.carried.Carried.{Carried}
+use Rattle.h26x_codec.specs.declared.packetizer.CodecPacketizer.{CodecPacketizer}
+use Rattle.h26x_codec.specs.Codec.{OfPacketizer, next_call}
 
 -- calls of a packetizer: an mtu and a payload each
 abbrev pub next_calls : PacketizerState → List (ℕ × Vec ℕ Global) → List Call
 next_calls s calls = map (λ c. next_call s c.0 c.1.items) calls
+
+-- Where a packetizer was given calls, and none of their packets was refused: what holds of it before
+-- them, of the calls that were made, and of their packets.
+abbrev pub OfCarried : {X : Type 0} {P : X → Type 0} → CodecPacketizer X P →
+    List (ℕ × Vec ℕ Global) → Result Carried PacketError →
+    (PacketizerState → List Call → List (List ℕ) → Type 0) → Type 0
+OfCarried p calls result holds = OfPacketizer p (λ s. IfOk result (λ carried.
+    holds s (keep carried.made (next_calls s calls)) carried.packets))
+
+-- the decoding order numbers of what calls send are in order (RFC 7798, 4.6; RFC 9328, 4.4)
+abbrev pub HaveDonsInOrder : PacketizerState → List Call → Type 0
+HaveDonsInOrder s calls = DonsInOrder s.format s.next_don (calls_plan s calls)
+
+-- of what calls send the packet or the first fragment of each key unit is detected, and no other
+-- packet but aggregates that bear numbers
+abbrev pub HaveKeyUnitsDetected : PacketizerState → List Call → Type 0
+HaveKeyUnitsDetected s calls = AreDetected s.format s.next_don (calls_plan s calls)
+
+-- so it is of whatever calls whose units packets can carry
+abbrev pub DetectsKeyUnits : Format → Type 0
+DetectsKeyUnits f = (s : PacketizerState) (calls : List Call) → s.format ≡ f →
+    IsPacketizerState s → AreCalls calls → AreCallsCarried s calls → HaveKeyUnitsDetected s calls
 
 -- what the calls that were made bring
 abbrev pub made_entries : Format → List Bool → List Call → List Entry

@@ -3,23 +3,17 @@
 ghost use Rattle.std.specs.Prelude.{◌≡◌, [], ◌∷◌, true, Some, OnOk, OnErr, IsOk};
 ghost use Rattle.h26x_core.specs.Front.{IsFrontOf};
 ghost use Rattle.h26x_core.specs.Hint.{size_hint};
-ghost use Rattle.h26x_model.specs.Receive.Outcome.{is_startless};
 ghost use Rattle.h26x_model.specs.Receive.DepacketizerState.{after_packets, IsPacketOutcome, depacketizer_meaning};
-ghost use Rattle.h26x_core.specs.H264AccessUnit as h264_access_unit;
-ghost use Rattle.h264_payload.specs.declared.packetizer.H264.{H264};
+ghost use Rattle.h264_payload.specs.declared.codec.H264.{H264};
 ghost use Rattle.h264_payload.specs.H264.{h264};
-ghost use Rattle.h26x_model.specs.Payload.TwoBytes.{is_two_byte_fragment};
-ghost use Rattle.h26x_model.specs.Where.{Where};
 ghost use Rattle.h265_payload.specs.DepacketizerView as h265_end;
-ghost use Rattle.h265_payload.specs.H265 as h265;
 ghost use Rattle.h265_payload.specs.Shown.{shown};
-ghost use Rattle.h26x_payload.specs.AccessUnit.{may_begin, is_last};
-ghost use Rattle.h26x_payload.specs.DepacketizerView.{DepacketizerView, depacketizer_state};
-ghost use Rattle.h266_payload.specs.declared.packetizer.H266.{H266};
+ghost use Rattle.h26x_payload.specs.DepacketizerView.{depacketizer_state};
+ghost use Rattle.h266_payload.specs.declared.codec.H266.{H266};
 ghost use Rattle.h266_payload.specs.Setting as h266_setting;
-ghost use Rattle.h266_payload.specs.H266 as h266;
-ghost use Rattle.h26x_codec.specs.Codec.{default_format, codec_depacketizer_state, depacketizer_codec, fresh_depacketizer_state, codec_depacketization, shown_payload, payload_at_first, without_run};
+ghost use Rattle.h26x_codec.specs.Codec.{default_format, codec_depacketizer_state, depacketizer_codec, fresh_depacketizer_state, codec_depacketization, shown_payload, payload_at_first, without_run, OfDepacketizer, OfDepacketization, OfH264, OfH265, OfH266, may_begin_h265, may_begin_h266, is_last_h265, is_last_h266, is_startless_h264, is_startless_h266};
 ghost use Rattle.h26x_codec.specs.declared.depacketizer.CodecDepacketizer.TheVariants as d;
+ghost use Rattle.h26x_core.specs.H264AccessUnit.{may_begin_h264};
 
 use crate::codec::Codec;
 use h26x_core::{CodecExtra, Depacketizer, PacketError};
@@ -112,8 +106,7 @@ impl Depacketizer for CodecDepacketizer {
     /// How many bytes the units of packets of this many bytes may take when they are written. Of a
     /// codec: these bytes, four more, and four for each whole 1200 of them; at most `usize::MAX`.
     fn out_size_hint(&self, packets_size: usize) -> Option<usize>
-        ensures { Where (codec_depacketizer_state self.now)
-            (λ r. result ≡ Some (size_hint packets_size)) }
+        ensures { OfDepacketizer self.now (λ r. result ≡ Some (size_hint packets_size)) }
     {
         match self {
             CodecDepacketizer::H264(it) => it.out_size_hint(packets_size),
@@ -134,31 +127,28 @@ impl Depacketizer for CodecDepacketizer {
         out: &mut Vec<u8>,
         codec_extra: &mut CodecExtra,
     ) -> Result<(), PacketError>
-        ensures outcome { Where (codec_depacketization self.old out.old.items codec_extra.old)
+        ensures outcome { OfDepacketization self.old out.old.items codec_extra.old
             (λ w. IsPacketOutcome w packet.now result) }
-        ensures taken { Where (codec_depacketization self.old out.old.items codec_extra.old)
+        ensures taken { OfDepacketization self.old out.old.items codec_extra.old
             (λ w. OnOk result (codec_depacketization self.new out.new.items codec_extra.new ≡ Some
             (after_packets w (packet.now ∷ [])))) }
-        ensures kept { Where (codec_depacketizer_state self.old)
-            (λ r. OnErr result (self.new ≡ self.old)) }
+        ensures kept { OfDepacketizer self.old (λ r. OnErr result (self.new ≡ self.old)) }
         ensures codec { depacketizer_codec self.new ≡ depacketizer_codec self.old }
-        ensures shows { (it : h265_end.H265DepacketizerView) → self.old ≡ d.H265 it →
-            OnOk result (shown_payload self.new ≡ Some (shown it.codec.has_donl packet.now)) }
+        ensures shows { OfH265 self.old (λ it.
+            OnOk result (shown_payload self.new ≡ Some (shown it.codec.has_donl packet.now))) }
 
         // Such a packet of H.264 or H.266 takes no memory.
-        ensures startless_h264 { (it : DepacketizerView H264) → self.old ≡ d.H264 it →
-            is_startless it.run (h264.read packet.now) ≡ true →
-            IsOk result }
-        ensures startless_h266 { (it : DepacketizerView H266) → self.old ≡ d.H266 it →
-            is_startless it.run ((h266_setting.setting_format it.codec).read packet.now) ≡ true →
-            IsOk result }
+        ensures startless_h264 { OfH264 self.old (λ it.
+            is_startless_h264 it packet.now ≡ true → IsOk result) }
+        ensures startless_h266 { OfH266 self.old (λ it.
+            is_startless_h266 it packet.now ≡ true → IsOk result) }
 
         // A depacketizer in a box too.
         ensures accepted { OnOk result (IsFrontOf out.old.items out.new.items) }
         ensures kept_out { OnErr result (out.new.items ≡ out.old.items) }
         ensures kept_extra { OnErr result (codec_extra.new ≡ codec_extra.old) }
-        ensures kept_meaning { OnErr result (⟦<CodecDepacketizer as Depacketizer>⟧.meaning self.new
-            ≡ ⟦<CodecDepacketizer as Depacketizer>⟧.meaning self.old) }
+        ensures kept_meaning { OnErr result (⟦<Self as Depacketizer>⟧.meaning self.new
+            ≡ ⟦<Self as Depacketizer>⟧.meaning self.old) }
     {
         match self {
             CodecDepacketizer::H264(it) => it.depacketize(packet, out, codec_extra),
@@ -170,12 +160,9 @@ impl Depacketizer for CodecDepacketizer {
 
     /// Whether `packet` may be the first of an access unit, as the depacketizer that it holds says.
     fn is_partition_head(&self, packet: &[u8]) -> bool
-        ensures h264 { (it : DepacketizerView H264) → self.now ≡ d.H264 it →
-            result ≡ h264_access_unit.may_begin_h264 packet.now }
-        ensures h265 { (it : h265_end.H265DepacketizerView) → self.now ≡ d.H265 it →
-            result ≡ may_begin (is_two_byte_fragment h265.h265_header packet.now) packet.now }
-        ensures h266 { (it : DepacketizerView H266) → self.now ≡ d.H266 it →
-            result ≡ may_begin (is_two_byte_fragment h266.h266_header packet.now) packet.now }
+        ensures h264 { OfH264 self.now (λ it. result ≡ may_begin_h264 packet.now) }
+        ensures h265 { OfH265 self.now (λ it. result ≡ may_begin_h265 packet.now) }
+        ensures h266 { OfH266 self.now (λ it. result ≡ may_begin_h266 packet.now) }
     {
         match self {
             CodecDepacketizer::H264(it) => it.is_partition_head(packet),
@@ -188,11 +175,9 @@ impl Depacketizer for CodecDepacketizer {
     /// Whether `packet` is the last of an access unit, with the marker bit of its RTP packet given,
     /// as the depacketizer that it holds says.
     fn is_partition_tail(&self, marker: bool, packet: &[u8]) -> bool
-        ensures h264 { (it : DepacketizerView H264) → self.now ≡ d.H264 it → result ≡ marker }
-        ensures h265 { (it : h265_end.H265DepacketizerView) → self.now ≡ d.H265 it →
-            result ≡ is_last (is_two_byte_fragment h265.h265_header packet.now) marker packet.now }
-        ensures h266 { (it : DepacketizerView H266) → self.now ≡ d.H266 it →
-            result ≡ is_last (is_two_byte_fragment h266.h266_header packet.now) marker packet.now }
+        ensures h264 { OfH264 self.now (λ it. result ≡ marker) }
+        ensures h265 { OfH265 self.now (λ it. result ≡ is_last_h265 marker packet.now) }
+        ensures h266 { OfH266 self.now (λ it. result ≡ is_last_h266 marker packet.now) }
     {
         match self {
             CodecDepacketizer::H264(it) => it.is_partition_tail(marker, packet),

@@ -1,21 +1,15 @@
 //! Laws of packetizers and depacketizers of any codec. Each is the contract of a function without a
 //! result.
 
-ghost use Rattle.std.specs.Prelude.{◌≡◌, ℕ, ◌≤◌, Bool, true, false, List, ◌++◌, length};
-ghost use Rattle.std.specs.List.{AllByRecursion};
-ghost use Rattle.h26x_core.specs.ByteStream.{byte_stream};
+ghost use Rattle.std.specs.Prelude.{◌≡◌, ℕ, ◌≤◌, Bool, true, List, ◌++◌, length};
+ghost use Rattle.h26x_core.specs.ByteStream.{byte_stream, annex_b};
 ghost use Rattle.h26x_cut.specs.Cutting.{AreUnits};
 ghost use Rattle.h26x_model.specs.Payload.Facts.{IsPayloadFormat};
-ghost use Rattle.h26x_model.specs.Send.Again.{IsSentAlike};
-ghost use Rattle.h26x_model.specs.Send.Calls.{Call, AreCalls};
-ghost use Rattle.h26x_model.specs.Send.PacketizerState.{PacketizerState, IsPacketizerState, calls_plan};
-ghost use Rattle.h26x_model.specs.Carry.Laws.{AreCallsCarried};
-ghost use Rattle.h26x_model.specs.Carry.Detection.{AreDetected};
-ghost use Rattle.h26x_model.specs.Receive.Outcome.{is_too_long};
-ghost use Rattle.h26x_model.specs.Where.{Where};
-ghost use Rattle.h26x_codec.specs.Codec.{codec_format, codec_packetizer_state, codec_depacketizer_state};
-ghost use Rattle.h26x_codec.specs.Plain.{EndsUnitAt, IsPlainUnit};
-ghost use Rattle.h26x_codec.specs.Repeating.{zero_rule};
+ghost use Rattle.h26x_model.specs.Send.PacketizerState.{IsPacketizerState};
+ghost use Rattle.h26x_codec.specs.Codec.{codec_format, OfPacketizer, OfDepacketizer};
+ghost use Rattle.h26x_codec.specs.Plain.{EndsUnitAt, IsPlainUnit, ArePlainUnits, ReadsPlainUnits, EachFitsAvcLength};
+ghost use Rattle.h26x_codec.specs.Repeating.{zero_rule, SendsAgainAlike};
+ghost use Rattle.h26x_codec.specs.Runs.{DetectsKeyUnits};
 
 use crate::codec::Codec;
 use crate::depacketizer::CodecDepacketizer;
@@ -27,8 +21,8 @@ use h26x_payload::packetizer_states as payload_packetizer_states;
 /// and its largest packet size are of two bytes, and its format meets the facts on which the laws of
 /// every format stand. Nothing is said of a packetizer in a box.
 pub fn packetizer_states(packetizer: &CodecPacketizer)
-    ensures state { Where (codec_packetizer_state packetizer.now) (λ s. IsPacketizerState s) }
-    ensures format { Where (codec_packetizer_state packetizer.now) (λ s. IsPayloadFormat s.format) }
+    ensures state { OfPacketizer packetizer.now (λ s. IsPacketizerState s) }
+    ensures format { OfPacketizer packetizer.now (λ s. IsPayloadFormat s.format) }
 {
     match packetizer {
         CodecPacketizer::H264(it) => {
@@ -50,7 +44,7 @@ pub fn packetizer_states(packetizer: &CodecPacketizer)
 /// The format of a depacketizer of a codec meets the facts on which the laws of every format stand.
 /// Nothing is said of a depacketizer in a box.
 pub fn depacketizer_states(depacketizer: &CodecDepacketizer)
-    ensures { Where (codec_depacketizer_state depacketizer.now) (λ s. IsPayloadFormat s.format) }
+    ensures { OfDepacketizer depacketizer.now (λ s. IsPayloadFormat s.format) }
 {
     match depacketizer {
         CodecDepacketizer::H264(_) => h264_payload::laws::meets_the_facts(),
@@ -62,8 +56,7 @@ pub fn depacketizer_states(depacketizer: &CodecDepacketizer)
 
 /// What was sent at one limit, with nothing dropped for its size, is sent again.
 pub fn what_was_sent_is_sent_again()
-    ensures { (codec : Codec) (has_donl : Bool) (limit : ℕ) (units sent : List (List ℕ)) →
-        IsSentAlike (codec_format codec has_donl) limit units sent }
+    ensures { (codec : Codec) (has_donl : Bool) → SendsAgainAlike (codec_format codec has_donl) }
 {
     h26x_model::laws::what_was_sent_is_sent_again();
 }
@@ -72,9 +65,7 @@ pub fn what_was_sent_is_sent_again()
 /// or the first fragment of each key unit is detected, and no other packet but aggregates that bear
 /// numbers.
 pub fn key_units_are_detected()
-    ensures { (codec : Codec) (has_donl : Bool) (s : PacketizerState) (calls : List Call) →
-        s.format ≡ codec_format codec has_donl → IsPacketizerState s → AreCalls calls →
-        AreCallsCarried s calls → AreDetected s.format s.next_don (calls_plan s calls) }
+    ensures { (codec : Codec) (has_donl : Bool) → DetectsKeyUnits (codec_format codec has_donl) }
 {
     formats_meet_the_facts();
     h26x_model::laws::what_calls_send_is_in_order_and_detected();
@@ -83,14 +74,12 @@ pub fn key_units_are_detected()
 /// The Annex B text of plain units is cut into exactly these units, and to a reader who ends a unit
 /// at `00 00 00` or `00 00 01` none ends before its own end.
 pub fn plain_units_are_told_apart()
-    ensures units { (codec : Codec) (units : List (List ℕ)) →
-        AllByRecursion (IsPlainUnit codec) units →
-        AreUnits (zero_rule codec) (byte_stream false units) units }
-    ensures read { (codec : Codec) (has_donl : Bool) (units : List (List ℕ)) →
-        AllByRecursion (IsPlainUnit codec) units →
-        (codec_format codec has_donl).units (byte_stream false units) ≡ units }
+    ensures units { (codec : Codec) (units : List (List ℕ)) → ArePlainUnits codec units →
+        AreUnits (zero_rule codec) (annex_b units) units }
+    ensures read { (codec : Codec) (has_donl : Bool) →
+        ReadsPlainUnits codec (codec_format codec has_donl) }
     ensures ends { (codec : Codec) (unit : List ℕ) (units : List (List ℕ)) (place : ℕ) →
-        IsPlainUnit codec unit → EndsUnitAt (unit ++ byte_stream false units) place →
+        IsPlainUnit codec unit → EndsUnitAt (unit ++ annex_b units) place →
         length unit ≤ place }
 {
     h26x_cut::laws::text_is_cut_into_its_units();
@@ -100,8 +89,6 @@ pub fn plain_units_are_told_apart()
 /// What is written behind lengths is so of one list of units, whatever stands in them: no text is that
 /// of two lists whose lengths four bytes hold.
 pub fn lengths_tell_units_apart()
-    ensures { (a b : List (List ℕ)) →
-        AllByRecursion (λ unit. is_too_long unit ≡ false) a →
-        AllByRecursion (λ unit. is_too_long unit ≡ false) b →
+    ensures { (a b : List (List ℕ)) → EachFitsAvcLength a → EachFitsAvcLength b →
         byte_stream true a ≡ byte_stream true b → a ≡ b }
 {}

@@ -15,6 +15,8 @@
 //! ```
 #![tactic(auto)]
 
+mod any_depacketizer;
+mod any_payload_depacketizer;
 mod carried;
 mod cases;
 mod codec;
@@ -27,6 +29,8 @@ mod repeated;
 mod runs;
 mod take;
 
+pub use any_depacketizer::AnyDepacketizer;
+pub use any_payload_depacketizer::AnyPayloadDepacketizer;
 pub use carried::{Carried, Marks, Packets};
 pub use codec::Codec;
 pub use depacketizer::CodecDepacketizer;

@@ -1,20 +1,18 @@
 //! A packetizer of any codec, or a caller's own.
 
-ghost use Rattle.std.specs.Prelude.{◌≡◌, ◌≤◌, [], true, false, Some, None, Err, IfOk, OnOk, OnErr, IsOk};
+ghost use Rattle.std.specs.Prelude.{◌≡◌, ◌≤◌, [], true, false, Some, Err, IfOk, OnOk, OnErr, IsOk};
 ghost use Rattle.h26x_model.specs.Send.Limit.{AreWithinLimit};
-ghost use Rattle.h26x_model.specs.Send.Calls.{packet_limit, call_limit, call_entries};
-ghost use Rattle.h26x_model.specs.Send.PacketizerState.{PacketizerState, state_packets, after_entries, has_no_effect, IsSentAsPlanned, one_unit_items, one_unit_packets, after_one_unit};
+ghost use Rattle.h26x_model.specs.Send.PacketizerState.{PacketizerState, IsSentAsPlanned, one_unit_items, one_unit_packets, after_one_unit};
 ghost use Rattle.h26x_model.specs.Send.Rival.{TakesFewestFragments};
 ghost use Rattle.h26x_payload.specs.Sending.{contents};
 ghost use Rattle.h26x_payload.specs.Buffer.{IsAppended, with_packets};
-ghost use Rattle.h26x_codec.specs.Codec.{default_format, codec_packetizer_state, packetizer_codec, fresh_packetizer_state, next_call, with_max_don_diff, with_max_packet_size};
+ghost use Rattle.h26x_codec.specs.Codec.{default_format, codec_packetizer_state, packetizer_codec, fresh_packetizer_state, next_call, with_max_don_diff, with_max_packet_size, OfPacketizer, next_packets, after_next_call, HasNoEffect, limit_at};
 ghost use Rattle.h26x_codec.specs.declared.packetizer.CodecPacketizer.TheVariants as p;
 ghost use Rattle.h264_payload.specs.H264.{h264};
 ghost use Rattle.h265_payload.specs.Setting as h265_setting;
 ghost use Rattle.h266_payload.specs.Setting as h266_setting;
 ghost use Rattle.h26x_payload.specs.PacketizerView.{packetizer_state};
 ghost use Rattle.h26x_model.specs.Send.PacketizerState.{packetizer_meaning};
-ghost use Rattle.h26x_model.specs.Where.{Where};
 
 use crate::codec::Codec;
 use crate::formats::formats_meet_the_facts;
@@ -122,22 +120,19 @@ impl CodecPacketizer {
         b: &[u8],
         into: &mut PacketBuffer,
     ) -> Result<(), PacketError>
-        ensures packets { Where (codec_packetizer_state self.old)
-            (λ s. OnOk result (into.new ≡ with_packets into.old (state_packets s (call_entries
-            s.format (next_call s mtu b.now))))) }
-        ensures after { Where (codec_packetizer_state self.old)
-            (λ s. OnOk result (codec_packetizer_state self.new ≡ Some (after_entries s (call_entries
-            s.format (next_call s mtu b.now))))) }
+        ensures packets { OfPacketizer self.old
+            (λ s. OnOk result (into.new ≡ with_packets into.old (next_packets s mtu b.now))) }
+        ensures after { OfPacketizer self.old
+            (λ s. OnOk result
+            (codec_packetizer_state self.new ≡ Some (after_next_call s mtu b.now))) }
         ensures codec { packetizer_codec self.new ≡ packetizer_codec self.old }
 
-        ensures kept { Where (codec_packetizer_state self.old)
-            (λ s. OnErr result (self.new ≡ self.old)) }
-        ensures memory { Where (codec_packetizer_state self.old)
+        ensures kept { OfPacketizer self.old (λ s. OnErr result (self.new ≡ self.old)) }
+        ensures memory { OfPacketizer self.old
             (λ s. OnErr result (result ≡ Err PacketError.OutOfMemory)) }
 
         // Calls without effect take no memory.
-        ensures free { Where (codec_packetizer_state self.old)
-            (λ s. has_no_effect s.format (next_call s mtu b.now) ≡ true → IsOk result) }
+        ensures free { OfPacketizer self.old (λ s. HasNoEffect s mtu b.now → IsOk result) }
 
         // A packetizer in a box too.
         ensures appended { OnOk result (IsAppended into.old into.new) }
@@ -158,23 +153,22 @@ impl CodecPacketizer {
     /// The packets of one NAL unit as it is, without a start code and whatever its kind; the sets
     /// that wait stay. One in a box is given the unit as a payload.
     pub fn packetize_unit(&mut self, mtu: usize, unit: &[u8]) -> Result<Vec<Vec<u8>>, PacketError>
-        ensures packets { Where (codec_packetizer_state self.old)
+        ensures packets { OfPacketizer self.old
             (λ s. IfOk result (λ made. contents made.items ≡ one_unit_packets s mtu unit.now)) }
-        ensures after { Where (codec_packetizer_state self.old)
+        ensures after { OfPacketizer self.old
             (λ s. OnOk result (codec_packetizer_state self.new ≡ Some (after_one_unit s mtu
             unit.now))) }
-        ensures within { Where (codec_packetizer_state self.old)
-            (λ s. IfOk result (λ made. AreWithinLimit (packet_limit s.format s.max_packet_size mtu)
+        ensures within { OfPacketizer self.old
+            (λ s. IfOk result (λ made. AreWithinLimit (limit_at s mtu)
             (contents made.items))) }
         ensures codec { packetizer_codec self.new ≡ packetizer_codec self.old }
 
-        ensures kept { Where (codec_packetizer_state self.old)
-            (λ s. OnErr result (self.new ≡ self.old)) }
-        ensures memory { Where (codec_packetizer_state self.old)
+        ensures kept { OfPacketizer self.old (λ s. OnErr result (self.new ≡ self.old)) }
+        ensures memory { OfPacketizer self.old
             (λ s. OnErr result (result ≡ Err PacketError.OutOfMemory)) }
 
         // Nothing is sent without memory.
-        ensures free { Where (codec_packetizer_state self.old)
+        ensures free { OfPacketizer self.old
             (λ s. one_unit_items s mtu unit.now ≡ [] → IsOk result) }
     {
         match self {
@@ -194,21 +188,20 @@ impl CodecPacketizer {
         unit: &[u8],
         into: &mut PacketBuffer,
     ) -> Result<(), PacketError>
-        ensures packets { Where (codec_packetizer_state self.old)
+        ensures packets { OfPacketizer self.old
             (λ s. OnOk result (into.new ≡ with_packets into.old (one_unit_packets s mtu
             unit.now))) }
-        ensures after { Where (codec_packetizer_state self.old)
+        ensures after { OfPacketizer self.old
             (λ s. OnOk result (codec_packetizer_state self.new ≡ Some (after_one_unit s mtu
             unit.now))) }
         ensures codec { packetizer_codec self.new ≡ packetizer_codec self.old }
 
-        ensures kept { Where (codec_packetizer_state self.old)
-            (λ s. OnErr result (self.new ≡ self.old)) }
-        ensures memory { Where (codec_packetizer_state self.old)
+        ensures kept { OfPacketizer self.old (λ s. OnErr result (self.new ≡ self.old)) }
+        ensures memory { OfPacketizer self.old
             (λ s. OnErr result (result ≡ Err PacketError.OutOfMemory)) }
 
         // Nothing is sent without memory.
-        ensures free { Where (codec_packetizer_state self.old)
+        ensures free { OfPacketizer self.old
             (λ s. one_unit_items s mtu unit.now ≡ [] → IsOk result) }
 
         // A packetizer in a box too.
@@ -242,37 +235,33 @@ impl Packetizer for CodecPacketizer {
     /// Of a codec: each is within the limit of the call, the lesser of `mtu` and for H.265 and
     /// H.266 the largest packet size. `OutOfMemory` is the only error, and leaves everything.
     fn packetize(&mut self, mtu: usize, b: &[u8]) -> Result<Vec<Vec<u8>>, PacketError>
-        ensures packets { Where (codec_packetizer_state self.old)
-            (λ s. IfOk result (λ made. contents made.items ≡ state_packets s (call_entries s.format
-            (next_call s mtu b.now)))) }
-        ensures after { Where (codec_packetizer_state self.old)
-            (λ s. OnOk result (codec_packetizer_state self.new ≡ Some (after_entries s (call_entries
-            s.format (next_call s mtu b.now))))) }
+        ensures packets { OfPacketizer self.old
+            (λ s. IfOk result (λ made. contents made.items ≡ next_packets s mtu b.now)) }
+        ensures after { OfPacketizer self.old
+            (λ s. OnOk result
+            (codec_packetizer_state self.new ≡ Some (after_next_call s mtu b.now))) }
         ensures planned { (s after : PacketizerState) → codec_packetizer_state self.old ≡ Some s →
             codec_packetizer_state self.new ≡ Some after → IfOk result (λ made.
             IsSentAsPlanned s (next_call s mtu b.now) (contents made.items) after) }
-        ensures fewest { Where (codec_packetizer_state self.old)
-            (λ s. TakesFewestFragments s.format) }
-        ensures within { Where (codec_packetizer_state self.old)
-            (λ s. IfOk result (λ made. AreWithinLimit (call_limit s.format (next_call s mtu b.now))
+        ensures fewest { OfPacketizer self.old (λ s. TakesFewestFragments s.format) }
+        ensures within { OfPacketizer self.old
+            (λ s. IfOk result (λ made. AreWithinLimit (limit_at s mtu)
             (contents made.items))) }
         ensures codec { packetizer_codec self.new ≡ packetizer_codec self.old }
 
-        ensures kept { Where (codec_packetizer_state self.old)
-            (λ s. OnErr result (self.new ≡ self.old)) }
-        ensures memory { Where (codec_packetizer_state self.old)
+        ensures kept { OfPacketizer self.old (λ s. OnErr result (self.new ≡ self.old)) }
+        ensures memory { OfPacketizer self.old
             (λ s. OnErr result (result ≡ Err PacketError.OutOfMemory)) }
 
         // Calls without effect take no memory.
-        ensures free { Where (codec_packetizer_state self.old)
-            (λ s. has_no_effect s.format (next_call s mtu b.now) ≡ true → IsOk result) }
-        ensures without_effect { Where (codec_packetizer_state self.old)
-            (λ s. has_no_effect s.format (next_call s mtu b.now) ≡ true → IfOk result (λ made.
+        ensures free { OfPacketizer self.old (λ s. HasNoEffect s mtu b.now → IsOk result) }
+        ensures without_effect { OfPacketizer self.old
+            (λ s. HasNoEffect s mtu b.now → IfOk result (λ made.
             (made.items ≡ []) × (self.new ≡ self.old))) }
 
         // A packetizer in a box too.
-        ensures refused { OnErr result (⟦<CodecPacketizer as Packetizer>⟧.meaning self.new
-            ≡ ⟦<CodecPacketizer as Packetizer>⟧.meaning self.old) }
+        ensures refused { OnErr result (⟦<Self as Packetizer>⟧.meaning self.new
+            ≡ ⟦<Self as Packetizer>⟧.meaning self.old) }
     {
         formats_meet_the_facts();
         h26x_model::laws::fewest_fragments();
@@ -287,13 +276,13 @@ impl Packetizer for CodecPacketizer {
     /// Whether a packet bears the marker bit, as the packetizer that it holds says. Of a codec: the
     /// last packet of an access unit.
     fn is_marker(&mut self, data: &[u8], previous: Option<&[u8]>, last: bool) -> bool
-        ensures is { Where (codec_packetizer_state self.old) (λ s. result ≡ last) }
-        ensures kept { Where (codec_packetizer_state self.old) (λ s. self.new ≡ self.old) }
+        ensures is { OfPacketizer self.old (λ s. result ≡ last) }
+        ensures kept { OfPacketizer self.old (λ s. self.new ≡ self.old) }
         ensures codec { packetizer_codec self.new ≡ packetizer_codec self.old }
 
         // A packetizer in a box too.
-        ensures kept_meaning { ⟦<CodecPacketizer as Packetizer>⟧.meaning self.new
-            ≡ ⟦<CodecPacketizer as Packetizer>⟧.meaning self.old }
+        ensures kept_meaning { ⟦<Self as Packetizer>⟧.meaning self.new
+            ≡ ⟦<Self as Packetizer>⟧.meaning self.old }
     {
         match self {
             CodecPacketizer::H264(it) => it.is_marker(data, previous, last),
@@ -306,7 +295,7 @@ impl Packetizer for CodecPacketizer {
     /// Whether the marker bit marks the start of a talkspurt, as the packetizer that it holds says.
     /// It does so for no video codec.
     fn marks_talkspurt(&self) -> bool
-        ensures { Where (codec_packetizer_state self.now) (λ s. result ≡ false) }
+        ensures { OfPacketizer self.now (λ s. result ≡ false) }
     {
         match self {
             CodecPacketizer::H264(it) => it.marks_talkspurt(),
@@ -319,7 +308,7 @@ impl Packetizer for CodecPacketizer {
     /// Whether a receiver may ask for a lost packet again, as the packetizer that it holds says. Of
     /// a codec it may.
     fn nackable(&self) -> bool
-        ensures { Where (codec_packetizer_state self.now) (λ s. result ≡ true) }
+        ensures { OfPacketizer self.now (λ s. result ≡ true) }
     {
         match self {
             CodecPacketizer::H264(it) => it.nackable(),

@@ -1,16 +1,13 @@
 //! Payloads sent, written, and sent again.
 
-ghost use Rattle.std.specs.Prelude.{◌≡◌, ◌≤◌, ◌⊎◌, [], ◌∷◌, false, IfOk, IfErr, OnErr, Err, map, Some, None};
-ghost use Rattle.h26x_core.specs.ByteStream.{byte_stream, annex_b};
-ghost use Rattle.h26x_model.specs.Send.Calls.{all_entries, all_packets};
+ghost use Rattle.std.specs.Prelude.{◌≡◌, ◌≤◌, [], ◌∷◌, false, IfOk, IfErr, OnErr, Err, map, Some, None};
+ghost use Rattle.h26x_core.specs.ByteStream.{annex_b};
 ghost use Rattle.h26x_model.specs.Receive.Received.{received};
-ghost use Rattle.h26x_model.specs.Send.PacketizerState.{state_packets};
-ghost use Rattle.h26x_model.specs.Carry.Laws.{calls_like};
-ghost use Rattle.h26x_model.specs.Where.{Where, WhereBoth};
+ghost use Rattle.h26x_model.specs.Send.PacketizerState.{calls_packets};
 ghost use Rattle.h26x_payload.specs.Sending.{contents};
-ghost use Rattle.h26x_codec.specs.Codec.{codec_format, codec_packetizer_state, codec_depacketizer_state, fresh_depacketizer_state, next_call};
+ghost use Rattle.h26x_codec.specs.Codec.{codec_format, codec_packetizer_state, codec_depacketizer_state, fresh_depacketizer_state, OfPacketizer, OfDepacketizer, OfBoth};
 ghost use Rattle.h26x_codec.specs.Runs.{IsFresh};
-ghost use Rattle.h26x_codec.specs.Repeating.{zero_rule, starting_packetizer, repeated_call, repeated_calls, calls_at, packets_at, MayBeRepeated, IsTextOf, IsRefusal};
+ghost use Rattle.h26x_codec.specs.Repeating.{zero_rule, starting_packetizer, repeated_calls, calls_at, packets_at, MayBeRepeated, IsTextOf, IsRefusal, received_text, repeated_packets};
 
 use crate::carried::Packets;
 use crate::codec::Codec;
@@ -75,11 +72,10 @@ fn packetize_all(
     limit: usize,
     payloads: &[Vec<u8>],
 ) -> Result<Vec<Vec<u8>>, PacketError>
-    ensures sent { Where (codec_packetizer_state p.old)
-        (λ s. IfOk result (λ made. contents made.items ≡ state_packets s (all_entries s.format
-        (calls_like (next_call s limit []) (contents payloads.now))))) }
-    ensures memory { Where (codec_packetizer_state p.old)
-        (λ s. OnErr result (result ≡ Err PacketError.OutOfMemory)) }
+    ensures sent { OfPacketizer p.old
+        (λ s. IfOk result (λ made.
+        contents made.items ≡ calls_packets s (calls_at s limit (contents payloads.now)))) }
+    ensures memory { OfPacketizer p.old (λ s. OnErr result (result ≡ Err PacketError.OutOfMemory)) }
 {
     packetizer_states(p);
     laws::packetizers_go_on();
@@ -111,20 +107,19 @@ fn again_with(
     limit: usize,
     payloads: &[Vec<u8>],
 ) -> Result<Repeated, PacketError>
-    ensures first { Where (codec_packetizer_state p.old)
+    ensures first { OfPacketizer p.old
         (λ s. IsFresh s →
         IfOk result (λ it. it.first ≡ packets_at s limit (contents payloads.now))) }
-    ensures written { Where (codec_depacketizer_state d.old)
-        (λ r. r.run ≡ None → IfOk result (λ it. it.written.items ≡ byte_stream r.is_avc (received
-        (map r.format.read it.first)))) }
-    ensures second { Where (codec_packetizer_state q.old)
-        (λ t. IsFresh t → IfOk result (λ it. it.second ≡ all_packets t.format 0 (next_call t limit
-        it.written.items ∷ []))) }
-    ensures carried { WhereBoth (codec_packetizer_state p.old) (codec_depacketizer_state d.old)
+    ensures written { OfDepacketizer d.old
+        (λ r. r.run ≡ None → IfOk result (λ it. it.written.items ≡ received_text r it.first)) }
+    ensures second { OfPacketizer q.old
+        (λ t. IsFresh t →
+        IfOk result (λ it. it.second ≡ packets_at t limit (it.written.items ∷ []))) }
+    ensures carried { OfBoth p.old d.old
         (λ s r. IsFresh s → r.format ≡ s.format →
         IsTextOf s.format r.is_avc (calls_at s limit (contents payloads.now)) result) }
-    ensures refused { WhereBoth (codec_packetizer_state p.old) (codec_depacketizer_state d.old)
-        (λ s r. Where (codec_packetizer_state q.old) (λ t. IsFresh s → r.is_avc ≡ false →
+    ensures refused { OfBoth p.old d.old
+        (λ s r. OfPacketizer q.old (λ t. IsFresh s → r.is_avc ≡ false →
         IfErr result (λ e. IsRefusal r.format (packets_at s limit (contents payloads.now)) e))) }
 {
     packetizer_states(p);
@@ -166,18 +161,17 @@ pub fn again(
     payloads: &[Vec<u8>],
 ) -> Result<Repeated, PacketError>
     requires { 4 ≤ max_packet_size }
-    ensures first { IfOk result (λ it. it.first ≡ all_packets (codec_format codec donl) 0
-        (repeated_calls codec max_packet_size limit (contents payloads.now))) }
+    ensures first { IfOk result (λ it. it.first ≡ repeated_packets codec donl
+        max_packet_size limit (contents payloads.now)) }
     ensures written { IfOk result (λ it. it.written.items
         ≡ annex_b (received (map (codec_format codec donl).read it.first))) }
-    ensures second { IfOk result (λ it. it.second ≡ all_packets (codec_format codec donl) 0
-        (repeated_call codec max_packet_size limit it.written.items ∷ [])) }
+    ensures second { IfOk result (λ it. it.second ≡ repeated_packets codec donl
+        max_packet_size limit (it.written.items ∷ [])) }
     ensures same { MayBeRepeated (codec_format codec donl) (zero_rule codec)
         (repeated_calls codec max_packet_size limit (contents payloads.now)) →
         IfOk result (λ it. it.second ≡ it.first) }
     ensures refused { IfErr result (λ error. IsRefusal (codec_format codec donl)
-        (all_packets (codec_format codec donl) 0
-        (repeated_calls codec max_packet_size limit (contents payloads.now))) error) }
+        (repeated_packets codec donl max_packet_size limit (contents payloads.now)) error) }
 {
     h26x_payload::laws::sent_again();
     let mut p = packetizer_with(alloc, codec, donl, max_packet_size);

@@ -1,19 +1,18 @@
 //! Whole runs: calls of a packetizer, and their packets through a depacketizer.
 
-ghost use Rattle.std.specs.Prelude.{◌≡◌, ◌⊎◌, IfOk, IfErr, length, map, Some, None};
+ghost use Rattle.std.specs.Prelude.{◌≡◌, IfOk, IfErr, length, map, Some, None};
 ghost use Rattle.h26x_model.specs.Carry.Loss.{keep};
 ghost use Rattle.h26x_core.specs.Front.{IsFrontOf};
-ghost use Rattle.h26x_model.specs.Payload.Don.{DonsInOrder};
-ghost use Rattle.h26x_model.specs.Carry.Detection.{AreDetected};
 ghost use Rattle.h26x_model.specs.Receive.Received.{received};
 ghost use Rattle.h26x_model.specs.Send.Rival.{TakesFewestFragments};
 ghost use Rattle.h26x_core.specs.declared.extra.CodecExtra.TheVariants as extras;
-ghost use Rattle.h26x_model.specs.Send.PacketizerState.{PacketizerState, state_plan, state_packets, call_packets, after_entries, AreWithinLimits};
+ghost use Rattle.h26x_model.specs.Send.PacketizerState.{PacketizerState, call_packets, AreWithinLimits, calls_packets, after_calls};
 ghost use Rattle.h26x_model.specs.Receive.DepacketizerState.{DepacketizerState, after_packets, depacketization, AreWritten};
-ghost use Rattle.h26x_model.specs.Where.{Where, WhereBoth};
+ghost use Rattle.h26x_model.specs.Where.{WhereBoth};
 ghost use Rattle.h26x_payload.specs.Sending.{contents};
-ghost use Rattle.h26x_codec.specs.Codec.{codec_packetizer_state, codec_depacketizer_state, codec_depacketization, next_call};
-ghost use Rattle.h26x_codec.specs.Runs.{AreSent, IsSentCall, AreTaken, IsLeftOver, IsBrokenIfErr, IsStoppedIfErr, AreMade, AreMadeCarried, IsMadeText, IsFresh, AreCarriedWhole, next_calls, made_entries};
+ghost use Rattle.h26x_codec.specs.Codec.{codec_packetizer_state, codec_depacketizer_state, codec_depacketization, next_call, OfPacketizer, OfDepacketizer, OfDepacketization, OfBoth};
+ghost use Rattle.h26x_codec.specs.Runs.{AreSent, IsSentCall, AreTaken, IsLeftOver, IsBrokenIfErr, IsStoppedIfErr, AreMade, IsMadeText, IsFresh, AreCarriedWhole, next_calls, OfCarried, HaveDonsInOrder, HaveKeyUnitsDetected};
+ghost use Rattle.h26x_model.specs.Carry.Laws.{AreCallsCarried};
 
 use crate::carried::{Carried, Marks, Packets};
 use crate::depacketizer::CodecDepacketizer;
@@ -30,10 +29,10 @@ pub(crate) fn deliver(
     out: &mut Vec<u8>,
     extra: &mut CodecExtra,
 ) -> Result<(), PacketError>
-    ensures taken { Where (codec_depacketization d.old out.old.items extra.old)
+    ensures taken { OfDepacketization d.old out.old.items extra.old
         (λ w. IfOk result (λ done. codec_depacketization d.new out.new.items extra.new ≡ Some
         (after_packets w (contents packets.now)))) }
-    ensures stopped { Where (codec_depacketization d.old out.old.items extra.old)
+    ensures stopped { OfDepacketization d.old out.old.items extra.old
         (λ w. IfErr result (λ error. IsLeftOver w (contents packets.now) error
         (codec_depacketization d.new out.new.items extra.new))) }
     ensures kept { IsFrontOf out.old.items out.new.items }
@@ -57,10 +56,10 @@ fn carry_call(
     out: &mut Vec<u8>,
     extra: &mut CodecExtra,
 ) -> Result<bool, PacketError>
-    ensures sent { Where (codec_packetizer_state p.old)
+    ensures sent { OfPacketizer p.old
         (λ s. IsSentCall s (next_call s mtu payload.now) result (contents packets.old.items)
         (contents packets.new.items) (codec_packetizer_state p.new)) }
-    ensures taken { Where (codec_depacketization d.old out.old.items extra.old)
+    ensures taken { OfDepacketization d.old out.old.items extra.old
         (λ w. IfOk result (λ made.
         AreTaken w (contents packets.old.items) (contents packets.new.items)
         (codec_depacketization d.new out.new.items extra.new))) }
@@ -94,10 +93,10 @@ fn run_calls(
     extra: &mut CodecExtra,
 ) -> Result<Carried, PacketError>
     ensures each { IfOk result (λ carried. length carried.made ≡ length calls.now) }
-    ensures sent { Where (codec_packetizer_state p.old)
+    ensures sent { OfPacketizer p.old
         (λ s. IfOk result (λ carried. AreSent s (next_calls s calls.now) carried.made
         carried.packets (codec_packetizer_state p.new))) }
-    ensures taken { Where (codec_depacketization d.old out.old.items extra.old)
+    ensures taken { OfDepacketization d.old out.old.items extra.old
         (λ w. IfOk result (λ carried. codec_depacketization d.new out.new.items extra.new
         ≡ Some (after_packets w carried.packets))) }
     ensures stopped { WhereBoth (codec_packetizer_state p.old)
@@ -149,48 +148,41 @@ pub fn carry(
     // made calls' units, numbered on; call by call, each within its call's limit; and what waits
     // afterwards.
     ensures each { IfOk result (λ carried. length carried.made ≡ length calls.now) }
-    ensures made { Where (codec_packetizer_state p.old)
+    ensures made { OfPacketizer p.old
         (λ s. IfOk result (λ carried. AreMade s.format carried.made (next_calls s calls.now))) }
-    ensures packets { Where (codec_packetizer_state p.old)
-        (λ s. IfOk result (λ carried. carried.packets
-        ≡ state_packets s (made_entries s.format carried.made (next_calls s calls.now)))) }
-    ensures within { Where (codec_packetizer_state p.old)
-        (λ s. IfOk result (λ carried.
-        AreWithinLimits s (keep carried.made (next_calls s calls.now)) carried.packets)) }
-    ensures waits { Where (codec_packetizer_state p.old)
-        (λ s. IfOk result (λ carried. codec_packetizer_state p.new
-        ≡ Some (after_entries s (made_entries s.format carried.made (next_calls s calls.now))))) }
+    ensures packets { OfCarried p.old calls.now result
+        (λ s made packets. packets ≡ calls_packets s made) }
+    ensures within { OfCarried p.old calls.now result
+        (λ s made packets. AreWithinLimits s made packets) }
+    ensures waits { OfCarried p.old calls.now result
+        (λ s made packets. codec_packetizer_state p.new ≡ Some (after_calls s made)) }
 
     // A unit that is fragmented takes the fewest fragments that any rival could.
-    ensures fewest { Where (codec_packetizer_state p.old) (λ s. TakesFewestFragments s.format) }
+    ensures fewest { OfPacketizer p.old (λ s. TakesFewestFragments s.format) }
 
     // Where packets can carry each unit sent, whatever run was open: what is sent is written, and
     // nothing else; its numbers are in order; its key units are detected.
-    ensures whole { WhereBoth (codec_packetizer_state p.old) (codec_depacketizer_state d.old)
+    ensures whole { OfBoth p.old d.old
         (λ s r. r.format ≡ s.format → IfOk result (λ carried.
         IsMadeText s (depacketization r out.old.items extra.old) carried.made
         (next_calls s calls.now) out.new.items extra.new)) }
-    ensures dons { Where (codec_packetizer_state p.old)
-        (λ s. IfOk result (λ carried. AreMadeCarried s carried.made (next_calls s calls.now) →
-        DonsInOrder s.format s.next_don
-        (state_plan s (made_entries s.format carried.made (next_calls s calls.now))))) }
-    ensures detected { Where (codec_packetizer_state p.old)
-        (λ s. IfOk result (λ carried. AreMadeCarried s carried.made (next_calls s calls.now) →
-        AreDetected s.format s.next_don
-        (state_plan s (made_entries s.format carried.made (next_calls s calls.now))))) }
+    ensures dons { OfCarried p.old calls.now result
+        (λ s made packets. AreCallsCarried s made → HaveDonsInOrder s made) }
+    ensures detected { OfCarried p.old calls.now result
+        (λ s made packets. AreCallsCarried s made → HaveKeyUnitsDetected s made) }
 
     // Whatever the packets are: all of them were taken; where no run was open what is received of
     // them is written.
-    ensures taken { Where (codec_depacketizer_state d.old)
+    ensures taken { OfDepacketizer d.old
         (λ r. IfOk result (λ carried. codec_depacketization d.new out.new.items extra.new
         ≡ Some (after_packets (depacketization r out.old.items extra.old) carried.packets))) }
-    ensures any { Where (codec_depacketizer_state d.old)
+    ensures any { OfDepacketizer d.old
         (λ r. r.run ≡ None → IfOk result (λ carried.
         AreWritten (depacketization r out.old.items extra.old)
         (received (map r.format.read carried.packets)) out.new.items extra.new)) }
 
     // After a refusal: what a front of the packets wrote, in which call it stopped, and why.
-    ensures stopped { WhereBoth (codec_packetizer_state p.old) (codec_depacketizer_state d.old)
+    ensures stopped { OfBoth p.old d.old
         (λ s r. IsStoppedIfErr s r out.old.items extra.old (next_calls s calls.now) result
         (codec_packetizer_state p.new) (codec_depacketization d.new out.new.items extra.new)) }
     ensures kept { IsFrontOf out.old.items out.new.items }

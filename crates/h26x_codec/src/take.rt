@@ -3,9 +3,8 @@
 ghost use Rattle.std.specs.Prelude.{◌≡◌, IfOk, OnErr, Err, IsErr, All, length, vec_len, None};
 ghost use Rattle.h26x_core.specs.Front.{IsFrontOf};
 ghost use Rattle.h26x_model.specs.Receive.DepacketizerState.{AreAllTaken, accepted_packets, depacketization};
-ghost use Rattle.h26x_model.specs.Where.{Where};
 ghost use Rattle.h26x_payload.specs.Sending.{contents};
-ghost use Rattle.h26x_codec.specs.Codec.{codec_depacketizer_state, codec_depacketization};
+ghost use Rattle.h26x_codec.specs.Codec.{codec_depacketization, OfDepacketizer};
 ghost use Rattle.h26x_codec.specs.Taking.{AreReceivedAs, LossIsWithin};
 
 use crate::depacketizer::CodecDepacketizer;
@@ -35,19 +34,19 @@ pub fn take_all(
 
     // From any open run: the outcome of each by what those accepted before it left; what stands
     // after the accepted ones.
-    ensures taken { Where (codec_depacketizer_state d.old)
+    ensures taken { OfDepacketizer d.old
         (λ r. IfOk result (λ outcomes. AreAllTaken (depacketization r out.old.items extra.old)
         (contents packets.now) outcomes.items (codec_depacketization d.new out.new.items
         extra.new))) }
 
     // Where no run was open, what is received of the accepted ones is written.
-    ensures received { Where (codec_depacketizer_state d.old)
+    ensures received { OfDepacketizer d.old
         (λ r. r.run ≡ None → IfOk result (λ outcomes. AreReceivedAs (depacketization r out.old.items
         extra.old) (accepted_packets (contents packets.now) outcomes.items) out.new.items
         extra.new)) }
 
     // Where the accepted ones are some of what calls send, a lost one hurts no item but its own.
-    ensures loss { Where (codec_depacketizer_state d.old)
+    ensures loss { OfDepacketizer d.old
         (λ r. IfOk result (λ outcomes. LossIsWithin (depacketization r out.old.items extra.old)
         (accepted_packets (contents packets.now) outcomes.items) out.new.items extra.new)) }
 
@@ -58,7 +57,7 @@ pub fn take_all(
         out.new.items ≡ out.old.items) }
     ensures refused_extra { IfOk result (λ outcomes. All (λ o. IsErr o) outcomes.items →
         extra.new ≡ extra.old) }
-    ensures refused { Where (codec_depacketizer_state d.old)
+    ensures refused { OfDepacketizer d.old
         (λ r. IfOk result (λ outcomes. All (λ o. IsErr o) outcomes.items → d.new ≡ d.old)) }
 
     // Without room for the outcomes nothing was taken.

@@ -42,7 +42,7 @@ ghost use Rattle.h26x_frames.specs.Network.{IsNetwork, released_packets};
 ghost use Rattle.h26x_frames.specs.ReorderBuffer.{BufferState, fresh_buffer, next_packet, packet_at, ready_packets, reordered, without_first};
 ghost use Rattle.h26x_frames.specs.Reordering.{IsReordered, in_order};
 ghost use Rattle.h26x_frames.specs.Rtp.{RtpBody};
-ghost use Rattle.h26x_frames.specs.StampedCalls.{StampedCall, AreStreamed, AreApart, AreUnitsWithin, AreUnitsGiven, brought_mask, IsBroughtStream, IsStream, IsSentIfWhole, call_packets, packets_len, sent_bodies, sent_unit, sent_units, unit_left, units_left};
+ghost use Rattle.h26x_frames.specs.StampedCalls.{StampedCall, AreStreamed, AreApart, AreUnitsWithin, AreUnitsGiven, brought_mask, IsBroughtStream, IsStream, IsSentIfWhole, access_unit_packets, packets_len, sent_bodies, sent_unit, sent_units, unit_left, units_left};
 
 use h26x_codec::formats::formats_meet_the_facts;
 
@@ -343,9 +343,9 @@ pub fn whole_access_units()
         (units_left most s avc before closed calls mask) }
     ensures whole { (codec : Codec) (has_donl : Bool) (most : ℕ) (s : PacketizerState) (avc : Bool)
         (c : StampedCall) (mask : List Bool) → s.format ≡ codec_format codec has_donl →
-        AreStreamed s (c ∷ []) → length mask ≡ length (call_packets s c.call) →
+        AreStreamed s (c ∷ []) → length mask ≡ length (access_unit_packets s c.call) →
         list_any (λ came. came) mask ≡ true → list_all (λ came. came) mask ≡ true →
-        packets_len (call_packets s c.call) ≤ most →
+        packets_len (access_unit_packets s c.call) ≤ most →
         unit_left most s avc true c mask ≡ sent_unit s avc c ∷ [] }
 {
     formats_meet_the_facts();

@@ -7,8 +7,8 @@ ghost use Rattle.h26x_payload.specs.DepacketizerView.{depacketizer_state};
 ghost use Rattle.h264_payload.specs.H264.{h264};
 
 use h26x_core::{CodecExtra, Depacketizer, PacketError};
-use h26x_payload::{OpenRun, OpenText, RunRule, UnitSink};
-use h26x_receiver::{RunDepacketizer, SequencedDepacketizer};
+use h26x_payload::{OpenRun, OpenText, RunDepacketizer, RunRule, UnitSink};
+use h26x_receiver::SequencedDepacketizer;
 use h264_payload::H264Depacketizer;
 use std::alloc::Global;
 

@@ -1,9 +1,9 @@
 //! The examples of `h26x_receiver`'s documents: packets with their sequence numbers.
 
 use crate::stand_ins::ask_for_a_keyframe;
-use h26x_codec::Codec;
+use h26x_codec::{AnyDepacketizer, Codec};
 use h26x_core::{CodecExtra, PacketError};
-use h26x_receiver::{AnyDepacketizer, Received, SequencedDepacketizer, receive_all};
+use h26x_receiver::{Received, SequencedDepacketizer, receive_all};
 use h264_payload::H264Depacketizer;
 use h265_payload::H265Depacketizer;
 use std::alloc::Global;

@@ -20,7 +20,7 @@ use Rattle.h26x_frames.specs.Rtp.{RtpBody}
 use Rattle.h26x_frames.specs.Reordering.{in_order}
 use Rattle.h26x_frames.specs.ReorderBuffer.{reordered}
 use Rattle.h26x_frames.specs.AccessUnit.{UnitDepacketization, taken_by, IsTakenAnswer, after_rtp, HaveUnitAnswers}
-use Rattle.h26x_frames.specs.StampedCalls.{StampedCall, call_packets, after_call, unit_bodies, sent_bodies, body_of_place, AreStreamed, NoneBroughtIsRefused}
+use Rattle.h26x_frames.specs.StampedCalls.{StampedCall, access_unit_packets, after_call, unit_bodies, sent_bodies, body_of_place, AreStreamed, NoneBroughtIsRefused}
 use Rattle.h26x_frames.proofs.ReorderLemmas.{puts_below}
 use Rattle.h26x_frames.proofs.PlaceShiftLemmas.{put_in_order_all}
 use Rattle.h26x_frames.proofs.StreamLemmas.{GoesOn, next_call}
@@ -40,8 +40,8 @@ bodies_read s (c ∷ calls) on_law carry ok it =
     let split = next_call s c calls on_law ok it in
     let state : DepacketizerState = record { format = s.format; is_avc = false; run = None } in
     let whole = carry s (depacketization state [] extras.None) (c.call ∷ []) ok it.sender (it.calls_are.0, tt) refl split.carried in
-    all_append (λ (b : RtpBody). IsRead (s.format.read b.payload)) (unit_bodies c.timestamp (call_packets s c.call)) (sent_bodies (after_call s c.call) calls)
-    (unit_read s.format c.timestamp (call_packets s c.call) whole.read) (bodies_read (after_call s c.call) calls on_law carry ok split.streamed)
+    all_append (λ (b : RtpBody). IsRead (s.format.read b.payload)) (unit_bodies c.timestamp (access_unit_packets s c.call)) (sent_bodies (after_call s c.call) calls)
+    (unit_read s.format c.timestamp (access_unit_packets s c.call) whole.read) (bodies_read (after_call s c.call) calls on_law carry ok split.streamed)
 
 -- what is read is refused for want of memory, or in AVC form for a unit that is too long
 all_want : (most limit first : ℕ) (sent : List RtpBody) (s : UnitDepacketization) (places : List ℕ) (answers : List (Result Received PacketError)) →

@@ -19,7 +19,7 @@ use Rattle.h26x_receiver.proofs.PlaceLemmas.{number_at, expected_at, is_place, I
 use Rattle.h26x_receiver.proofs.DeliveryLemmas.{DamagesNothing}
 use Rattle.h26x_frames.specs.Rtp.{RtpBody}
 use Rattle.h26x_frames.specs.AccessUnit.{AccessUnitValue, UnitDepacketization, is_unit_at, is_closed_at, given_out}
-use Rattle.h26x_frames.specs.StampedCalls.{StampedCall, calls_of, call_packets, after_call, unit_bodies, sent_bodies, are_runs_within, unit_left, last_came, closed_after, open_after, units_left, IsOtherStamp, AreApart, AreStreamed}
+use Rattle.h26x_frames.specs.StampedCalls.{StampedCall, calls_of, access_unit_packets, after_call, unit_bodies, sent_bodies, are_runs_within, unit_left, last_came, closed_after, open_after, units_left, IsOtherStamp, AreApart, AreStreamed}
 use Rattle.h26x_frames.proofs.TakeLemmas.{at_gap}
 use Rattle.h26x_frames.proofs.UnitLemmas.{after_all_taken, taken_append, kept_from, expected_after, AreGapsShort, same_place, not_place, behind_next, on_next, IsLeftOpen, left_more, grown, begun, IsLeft, begins}
 use Rattle.h26x_frames.specs.AnyUnits.{are_used}
@@ -92,11 +92,11 @@ and_true false b is = refl
 
 -- the text of what is left of a call
 left_of_call : (most : ℕ) (s : PacketizerState) (w : UnitDepacketization) (avc : Bool) (c : StampedCall) (before : Bool) (mask : List Bool) →
-    w.state.format ≡ s.format → w.state.is_avc ≡ avc → list_any (λ came. came) mask ≡ true → are_used s.format None (call_packets s c.call) ≡ true → WritesWholeUnits most s (begun w) (c.call ∷ []) mask →
-    grown most c.timestamp true before (begun w) mask (call_packets s c.call) ∷ [] ≡ unit_left most s avc before c mask
+    w.state.format ≡ s.format → w.state.is_avc ≡ avc → list_any (λ came. came) mask ≡ true → are_used s.format None (access_unit_packets s c.call) ≡ true → WritesWholeUnits most s (begun w) (c.call ∷ []) mask →
+    grown most c.timestamp true before (begun w) mask (access_unit_packets s c.call) ∷ [] ≡ unit_left most s avc before c mask
 left_of_call most s w avc c before mask same form some used whole =
     let units = whole_units most s (c.call ∷ []) mask in
-    let packets = call_packets s c.call in
+    let packets = access_unit_packets s c.call in
     let runs : Format → Bool = λ f. are_runs_within f most None packets in
     let holds : Format → Bool = λ f. before && (list_all (λ came. came) mask && (runs f && are_used f None packets)) in
     let value : List ℕ → CodecExtra → Bool → AccessUnitValue = λ text told is. record {
@@ -117,12 +117,12 @@ left_of_call most s w avc c before mask same form some used whole =
 over_call : (most first p q : ℕ) (e stamp closed : Option ℕ) (s : PacketizerState) (w : UnitDepacketization) (avc : Bool) (c : StampedCall) (mask : List Bool) →
     DamagesNothing → IsPayloadFormat s.format → IsPacketizerState s → AreCalls (c.call ∷ []) → AreCarried s.format (state_units s (all_entries s.format (c.call ∷ []))) →
     w.state.format ≡ s.format → w.state.is_avc ≡ avc → w.is_gap ≡ false → w.closed ≡ closed → w.expected ≡ expected_at first e → IsLeftOpen stamp w.unit e p → IsOn e p → AreGapsShort e p mask →
-    length mask ≡ length (call_packets s c.call) → q ≡ p + length (call_packets s c.call) → (list_any (λ came. came) mask ≡ true → IsOtherStamp stamp c.timestamp) →
+    length mask ≡ length (access_unit_packets s c.call) → q ≡ p + length (access_unit_packets s c.call) → (list_any (λ came. came) mask ≡ true → IsOtherStamp stamp c.timestamp) →
     IsCallOver first (expected_after e p mask) q (open_after stamp c.timestamp mask) (closed_after closed c.timestamp mask) s.format avc w
     (unit_left most s avc (cond (is_closed_at closed c.timestamp) false (is_place e p)) c mask)
-    (after_all_taken most w (kept_from first p mask (unit_bodies c.timestamp (call_packets s c.call))))
+    (after_all_taken most w (kept_from first p mask (unit_bodies c.timestamp (access_unit_packets s c.call))))
 over_call most first p q e stamp closed s w avc c mask law ok is small carried same form clear shut expected left on gaps long count apart =
-    let packets = call_packets s c.call in
+    let packets = access_unit_packets s c.call in
     let t = c.timestamp in
     let before = cond (is_closed_at closed t) false (is_place e p) in
     let last = last_came false mask in
@@ -222,7 +222,7 @@ pub over_calls : (most first p : ℕ) (e stamp closed : Option ℕ) (s : Packeti
 over_calls most first p e stamp closed s w avc [] [] law on_law ok it same form clear shut expected left on gaps long apart = sym (append-nil (w.ended ++ given_out false w.unit))
 over_calls most first p e stamp closed s w avc [] (m ∷ mask) law on_law ok it same form clear shut expected left on gaps long apart = absurd (omega arith)
 over_calls most first p e stamp closed s w avc (c ∷ calls) mask law on_law ok it same form clear shut expected left on gaps long apart =
-    let packets = call_packets s c.call in
+    let packets = access_unit_packets s c.call in
     let n = length packets in
     let here = unit_bodies c.timestamp packets in
     let next = after_call s c.call in

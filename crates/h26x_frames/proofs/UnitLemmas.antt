@@ -16,7 +16,7 @@ use Rattle.h26x_receiver.specs.Sequenced.{with_run_if}
 use Rattle.h26x_receiver.specs.Delivery.{IsNextPlace}
 use Rattle.h26x_receiver.proofs.PlaceLemmas.{number_at, expected_at, is_place, IsOn, next_number, on_place, next_in_time, next_near}
 use Rattle.h26x_frames.specs.Rtp.{RtpBody, rtp_body}
-use Rattle.h26x_frames.specs.AccessUnit.{AccessUnitValue, whole_if, UnitDepacketization, unit_depacketization, is_unit_at, is_closed_at, is_run_closed, is_dropped, gives_up_run, is_unit_broken, given_out, after_taken_rtp}
+use Rattle.h26x_frames.specs.AccessUnit.{AccessUnitValue, whole_if, UnitDepacketization, unit_depacketization, is_unit_at, is_closed_at, is_run_closed, leaves_no_byte, gives_up_run, is_unit_broken, given_out, after_taken_rtp}
 use Rattle.h26x_frames.specs.StampedCalls.{has_none, unit_bodies, are_runs_within, last_came}
 use Rattle.h26x_frames.specs.AnyUnits.{is_some_unit, is_unused, are_used}
 use Rattle.h26x_frames.proofs.TakeLemmas.{at_gap}
@@ -92,7 +92,7 @@ is_long most w x = nat_lt most (run_len (after_packets w (x ∷ [])).state.run)
 
 -- whether no byte stands of a packet
 abbrev drops : Depacketization → List ℕ → Bool
-drops w x = is_dropped w (after_packets w (x ∷ []))
+drops w x = leaves_no_byte w (after_packets w (x ∷ []))
 
 -- whether a unit lacks its end or its start by it
 abbrev breaks : Depacketization → List ℕ → Bool

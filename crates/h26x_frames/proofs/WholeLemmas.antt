@@ -18,7 +18,7 @@ use Rattle.h26x_model.specs.Carry.Gaps.{whole_units, after_kept_packets}
 use Rattle.h26x_model.specs.Carry.Laws.{DepacketizerGoesOn, CarriesWhole}
 use Rattle.h26x_receiver.proofs.DeliveryLemmas.{DamagesNothing}
 use Rattle.h26x_frames.specs.AccessUnit.{AccessUnitValue, is_closed_at}
-use Rattle.h26x_frames.specs.StampedCalls.{StampedCall, call_packets, after_call, unit_bodies, sent_bodies, are_runs_within, unit_left, last_came, closed_after, units_left, sent_unit, sent_units, packets_len, AreStreamed, IsSentIfWhole, IsLeftWhole}
+use Rattle.h26x_frames.specs.StampedCalls.{StampedCall, access_unit_packets, after_call, unit_bodies, sent_bodies, are_runs_within, unit_left, last_came, closed_after, units_left, sent_unit, sent_units, packets_len, AreStreamed, IsSentIfWhole, IsLeftWhole}
 use Rattle.h26x_frames.proofs.UnitLemmas.{short_run}
 use Rattle.h26x_frames.proofs.StreamLemmas.{GoesOn, next_call, bodies_long, rest_long}
 
@@ -62,11 +62,11 @@ all_kept most w (true ∷ mask) (x ∷ packets) on ok long all short =
 
 -- an access unit that is told to be whole is the one that was sent
 told_whole : (most : ℕ) (s : PacketizerState) (avc before : Bool) (c : StampedCall) (mask : List Bool) → DamagesNothing → TakesOn → Carries → IsPayloadFormat s.format → IsPacketizerState s →
-    AreCalls (c.call ∷ []) → AreCarried s.format (state_units s (all_entries s.format (c.call ∷ []))) → length mask ≡ length (call_packets s c.call) →
-    (before && (list_all (λ came. came) mask && are_runs_within s.format most None (call_packets s c.call))) ≡ true →
+    AreCalls (c.call ∷ []) → AreCarried s.format (state_units s (all_entries s.format (c.call ∷ []))) → length mask ≡ length (access_unit_packets s c.call) →
+    (before && (list_all (λ came. came) mask && are_runs_within s.format most None (access_unit_packets s c.call))) ≡ true →
     (byte_stream avc (whole_units most s (c.call ∷ []) mask) ≡ (sent_unit s avc c).bytes) × (extra_after s.format extras.None (whole_units most s (c.call ∷ []) mask) ≡ (sent_unit s avc c).extra)
 told_whole most s avc before c mask law on carry ok is small carried long told =
-    let packets = call_packets s c.call in
+    let packets = access_unit_packets s c.call in
     let state : DepacketizerState = record { format = s.format; is_avc = avc; run = None } in
     let w = depacketization state [] extras.None in
     let both = right_true before (list_all (λ came. came) mask && are_runs_within s.format most None packets) told in
@@ -94,11 +94,11 @@ all_append P (u ∷ a) b x y = (x.0, all_append P a b x.1 y)
 
 -- what is left of one call
 one_left : (most : ℕ) (s : PacketizerState) (avc before : Bool) (c : StampedCall) (mask : List Bool) (others : List AccessUnitValue) → DamagesNothing → TakesOn → Carries → IsPayloadFormat s.format →
-    IsPacketizerState s → AreCalls (c.call ∷ []) → AreCarried s.format (state_units s (all_entries s.format (c.call ∷ []))) → length mask ≡ length (call_packets s c.call) →
+    IsPacketizerState s → AreCalls (c.call ∷ []) → AreCarried s.format (state_units s (all_entries s.format (c.call ∷ []))) → length mask ≡ length (access_unit_packets s c.call) →
     AllByRecursion (IsSentIfWhole (sent_unit s avc c ∷ others)) (unit_left most s avc before c mask)
 one_left most s avc before c mask others law on carry ok is small carried long =
     let units = whole_units most s (c.call ∷ []) mask in
-    let holds = before && (list_all (λ came. came) mask && are_runs_within s.format most None (call_packets s c.call)) in
+    let holds = before && (list_all (λ came. came) mask && are_runs_within s.format most None (access_unit_packets s c.call)) in
     let value : List ℕ → CodecExtra → Bool → AccessUnitValue = λ text told whole. record {
       timestamp = c.timestamp;
       bytes = text;
@@ -123,7 +123,7 @@ pub all_left : (most : ℕ) (s : PacketizerState) (avc before : Bool) (closed : 
     length mask ≡ length (sent_bodies s calls) → AllByRecursion (IsSentIfWhole (sent_units s avc calls)) (units_left most s avc before closed calls mask)
 all_left most s avc before closed [] mask law goes on carry ok it long = tt
 all_left most s avc before closed (c ∷ calls) mask law goes on carry ok it long =
-    let packets = call_packets s c.call in
+    let packets = access_unit_packets s c.call in
     let n = length packets in
     let next = after_call s c.call in
     let later = sent_bodies next calls in
@@ -157,7 +157,7 @@ short_runs f most run (x ∷ packets) grow headers short =
 pub left_whole : (most : ℕ) (s : PacketizerState) (avc : Bool) (c : StampedCall) (mask : List Bool) → DamagesNothing → TakesOn → Carries → RunsGrow → IsPayloadFormat s.format → IsPacketizerState s →
     AreCalls (c.call ∷ []) → AreCarried s.format (state_units s (all_entries s.format (c.call ∷ []))) → IsLeftWhole most s avc c mask
 left_whole most s avc c mask law on carry grow ok is small carried = λ long some all short.
-    let packets = call_packets s c.call in
+    let packets = access_unit_packets s c.call in
     let units = whole_units most s (c.call ∷ []) mask in
     let sent = sent_unit s avc c in
     let runs = short_runs s.format most None packets grow ok.headers (let h : packets_len packets ≤ most = short in omega (arith, h)) in

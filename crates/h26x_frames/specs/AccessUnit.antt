@@ -1,6 +1,6 @@
 -- Access units of packets with their timestamps and markers (RFC 3550, 5.1; RFC 6184, 5.1; RFC 7798,
 -- 4.1; RFC 9328, 4.1; ours).
-use Rattle.std.specs.Prelude.{◌≡◌, ℕ, ◌==◌, nat_lt, Bool, true, false, ◌&&◌, ◌||◌, if◌then◌else◌, List, [], ◌∷◌, ◌++◌, length, map, Option, Some, None, is_some, Result, Ok, Err, ◌⊎◌}
+use Rattle.std.specs.Prelude.{◌≡◌, ℕ, ◌==◌, nat_lt, Bool, true, false, ◌&&◌, ◌||◌, if◌then◌else◌, List, [], ◌∷◌, ◌++◌, length, map, Option, Some, None, is_some, Result, Ok, Err, ◌⊎◌, ◌<◌, ◌^◌}
 use Rattle.std.specs.Option.{option_map}
 use Rattle.h26x_core.specs.declared.extra.CodecExtra.{CodecExtra}
 use Rattle.h26x_core.specs.declared.extra.CodecExtra.TheVariants as extras
@@ -12,7 +12,7 @@ use Rattle.h26x_model.specs.Receive.RunLimit.{run_len, state_with_run}
 use Rattle.h26x_receiver.specs.declared.received.Received.{Received}
 use Rattle.h26x_receiver.specs.declared.sequenced.SequencedDepacketizer.{SequencedDepacketizer}
 use Rattle.h26x_receiver.specs.declared.received.Received.TheVariants.{TooLong, Late}
-use Rattle.h26x_receiver.specs.Sequence.{is_expected, is_late}
+use Rattle.h26x_receiver.specs.Sequence.{is_expected, is_late, next_sequence_number}
 use Rattle.h26x_receiver.specs.Sequenced.{SequencedDepacketization, sequenced_depacketization, after_sequenced_packet, after_taken_packet, IsSequencedAnswer, expected_after_skip, is_run_kept}
 use Rattle.h26x_frames.specs.Rtp.{RtpBody, rtp_body}
 use Rattle.h26x_frames.specs.declared.access_unit.AccessUnit.{AccessUnit}
@@ -134,11 +134,15 @@ open_depacketization state expected it ended = record {
   ended = ended;
 }
 
+-- access units as contracts see them
+abbrev pub unit_views : List AccessUnit → List AccessUnitValue
+unit_views units = map access_unit_value units
+
 -- a receiver of packets with this open, and those that ended, by what its depacketizer is
-abbrev pub units_at : {D : Type 0} → (D → DepacketizerState) → SequencedDepacketizer D →
+abbrev pub parts_at : {D : Type 0} → (D → DepacketizerState) → SequencedDepacketizer D →
     OpenUnitView → List AccessUnit → UnitDepacketization
-units_at state packets it ended = open_depacketization (state packets.depacketizer) packets.expected
-    it (map access_unit_value ended)
+parts_at state packets it ended = open_depacketization (state packets.depacketizer) packets.expected
+    it (unit_views ended)
 
 -- before any packet came
 abbrev pub fresh_units : DepacketizerState → UnitDepacketization
@@ -171,6 +175,12 @@ abbrev pub IsTakenAnswer : ℕ → UnitDepacketization → ℕ × RtpBody → Re
     Type 0
 IsTakenAnswer most s p answer = IsSequencedAnswer most (taken_by s p.1.timestamp) p.0 p.1.payload
     answer
+
+-- so of a receiver of packets with this open
+abbrev pub IsTakenAnswerAt : {D : Type 0} → (D → DepacketizerState) → SequencedDepacketizer D →
+    OpenUnitView → List AccessUnit → ℕ × RtpBody → Result Received PacketError → Type 0
+IsTakenAnswerAt state packets it ended p answer =
+    IsTakenAnswer packets.run_limit (parts_at state packets it ended) p answer
 
 -- what is answered for a packet
 abbrev pub IsUnitAnswer : ℕ → UnitDepacketization → ℕ × RtpBody → Result Received PacketError →
@@ -205,8 +215,8 @@ is_run_closed run = run_len run == 0
 
 -- whether no byte stands of a packet, by what stood before it and after it: neither in the text nor in
 -- a run, as of a fragment whose start is missing
-abbrev pub is_dropped : Depacketization → Depacketization → Bool
-is_dropped before after = (length before.out == length after.out) && is_run_closed after.state.run
+abbrev pub leaves_no_byte : Depacketization → Depacketization → Bool
+leaves_no_byte before after = (length before.out == length after.out) && is_run_closed after.state.run
 
 -- whether a packet gives up the run that is open: it starts another one, though no end came (RFC
 -- 6184, 5.8; RFC 7798, 4.4.3; RFC 9328, 4.3.3)
@@ -217,7 +227,7 @@ gives_up_run run reading = is_some run && is_start reading
 -- gives up a run, or no byte stands of it
 abbrev pub is_unit_broken : Depacketization → Depacketization → List ℕ → Bool
 is_unit_broken before after packet =
-    gives_up_run before.state.run (before.state.format.read packet) || is_dropped before after
+    gives_up_run before.state.run (before.state.format.read packet) || leaves_no_byte before after
 
 -- whether it is known that nothing of its access unit is missing before a packet that was taken, no
 -- unit lacks its end or its start by it, and it left no run that is too long
@@ -263,7 +273,7 @@ pub record IsNoneOpen (unit : Option AccessUnitValue) (is_gap : Bool) : Type 0 w
 
 -- those that ended, with what is open at the end
 abbrev pub with_open_unit : List AccessUnit → OpenUnitView → List AccessUnitValue
-with_open_unit ended it = map access_unit_value ended ++ given_out false it.unit
+with_open_unit ended it = unit_views ended ++ given_out false it.unit
 
 -- What a packet ends by its timestamp, if that is another one. The access unit is known to be whole
 -- only if the packet follows it, and no run is open.
@@ -321,6 +331,11 @@ after_unit_skip s number =
     if is_run_kept s.expected number
     then record s { expected = expected_after_skip s.expected number }
     else behind_missing s number
+
+-- one that comes in order changes only which number is expected
+abbrev pub UnitSkipsInOrder : UnitDepacketization → Type 0
+UnitSkipsInOrder s = (number : ℕ) → number < 2 ^ 16 → is_expected s.expected number ≡ true →
+    after_unit_skip s number ≡ record s { expected = Some (next_sequence_number number) }
 
 -- what stands after a number whose packet was refused, and which is missing: one that is late changes
 -- nothing

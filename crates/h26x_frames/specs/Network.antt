@@ -1,5 +1,5 @@
 -- A network that loses, repeats and reorders packets, and a receiver behind a buffer (ours).
-use Rattle.std.specs.Prelude.{◌≡◌, ℕ, ◌<◌, List, length, map, None, Result}
+use Rattle.std.specs.Prelude.{◌≡◌, ℕ, ◌<◌, List, length, map, None, Result, true, ◌≤◌, ◌^◌}
 use Rattle.std.specs.List.{AllByRecursion}
 use Rattle.h26x_core.specs.declared.error.PacketError.{PacketError}
 use Rattle.h26x_model.specs.Send.Calls.{Call, AreCalls, all_entries}
@@ -8,9 +8,9 @@ use Rattle.h26x_model.specs.Carry.Gaps.{whole_units}
 use Rattle.h26x_model.specs.Send.PacketizerState.{PacketizerState, IsPacketizerState, state_units, state_packets}
 use Rattle.h26x_model.specs.Receive.DepacketizerState.{Depacketization, AreWritten}
 use Rattle.h26x_receiver.specs.declared.received.Received.{Received}
-use Rattle.h26x_receiver.specs.Sequenced.{with_expected, after_answers, HaveSequencedAnswers}
-use Rattle.h26x_receiver.specs.Delivery.{packet_of_place, mask_of_places, NoneIsRefused}
-use Rattle.h26x_frames.specs.Reordering.{IsReordered}
+use Rattle.h26x_receiver.specs.Sequenced.{with_expected, after_answers, HaveSequencedAnswers, is_taken}
+use Rattle.h26x_receiver.specs.Delivery.{packet_of_place, mask_of_places, NoneIsRefused, AreNearPlaces}
+use Rattle.h26x_frames.specs.Reordering.{IsReordered, in_order}
 use Rattle.h26x_frames.specs.ReorderBuffer.{reordered}
 
 -- The places, in the order in which they come, of the packets that a network brings of those that
@@ -24,6 +24,13 @@ pub record IsNetwork (window : ℕ) (s : PacketizerState) (calls : List Call)
   pub sent : AllByRecursion
       (λ place. place < length (state_packets s (all_entries s.format calls))) places
   pub near : IsReordered window places
+
+-- Where all packets are taken, the places that a network brings are near once they are put in order:
+-- gaps follow from the jumps, which with the window are at most 2^14.
+abbrev pub ComeNear : ℕ → List ℕ → Type 0
+ComeNear window places = (answers : List (Result Received PacketError)) → window ≤ 2 ^ 14 →
+    IsReordered window places → AllByRecursion (λ answer. is_taken answer ≡ true) answers →
+    AreNearPlaces None (in_order places) answers
 
 -- what a buffer gives out of the packets that come
 abbrev pub released_packets : ℕ → PacketizerState → List Call → ℕ → List ℕ → List (ℕ × List ℕ)

@@ -1,5 +1,5 @@
 -- Where a packet belongs among those that a buffer holds (ours).
-use Rattle.std.specs.Prelude.{◌≡◌, ℕ, ◌<◌, ◌≤◌, ◌^◌, false, List, length, Some}
+use Rattle.std.specs.Prelude.{◌≡◌, ℕ, ◌<◌, ◌≤◌, ◌^◌, false, List, length, Some, true, Result, MatchResult}
 use Rattle.std.specs.List.{insert}
 use Rattle.h26x_receiver.specs.Sequence.{is_late}
 use Rattle.h26x_frames.specs.Rtp.{RtpBody}
@@ -11,6 +11,11 @@ pub record IsPlaceAmong (held : List (ℕ × RtpBody)) (due number place : ℕ) 
   pub in_range : place ≤ length held
   pub put : (packet : RtpBody) → insert held place (number, packet)
       ≡ put_packet due (number, packet) held
+
+-- what a search for a number answers: one with it is held; or none is, and where it belongs
+abbrev pub IsSearchResult : List (ℕ × RtpBody) → ℕ → ℕ → Result ℕ ℕ → Type 0
+IsSearchResult held due number result = MatchResult result (λ _. is_number_held number held ≡ true)
+    (λ place. IsPlaceAmong held due number place)
 
 -- A packet with this number is neither late nor held: where it is put this number is due, and it
 -- belongs at this place.

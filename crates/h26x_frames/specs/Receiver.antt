@@ -1,19 +1,37 @@
 -- A receiver of access units, by what it holds.
-use Rattle.std.specs.Prelude.{ℕ, List, Result}
+use Rattle.std.specs.Prelude.{◌≡◌, ℕ, Bool, List, Result}
 use Rattle.h26x_core.specs.declared.error.PacketError.{PacketError}
 use Rattle.h26x_model.specs.Receive.DepacketizerState.{DepacketizerState}
 use Rattle.h26x_receiver.specs.declared.received.Received.{Received}
 use Rattle.h26x_frames.specs.declared.access_unit.AccessUnit.{AccessUnit}
 use Rattle.h26x_frames.specs.declared.receiver.FrameReceiver.{FrameReceiver}
 use Rattle.h26x_frames.specs.Rtp.{RtpBody}
-use Rattle.h26x_frames.specs.AccessUnit.{AccessUnitValue, UnitDepacketization, IsNoneOpen, units_at}
-use Rattle.h26x_frames.specs.StampedCalls.{AreAccessUnitsBrought}
+use Rattle.h26x_frames.specs.AccessUnit.{AccessUnitValue, UnitDepacketization, IsNoneOpen, parts_at, after_rtp, is_text_given_up}
+use Rattle.h26x_frames.specs.StampedCalls.{AreAccessUnitsBrought, NoneBroughtIsRefused}
 use Rattle.h26x_frames.specs.AnyUnits.{AreAnyUnitsBrought}
 
 -- as it stands, with those that ended, by what its depacketizer is
 abbrev pub frames_at : {D : Type 0} → (D → DepacketizerState) → FrameReceiver D → List AccessUnit →
     UnitDepacketization
-frames_at state it ended = units_at state it.packets it.unit ended
+frames_at state it ended = parts_at state it.packets it.unit ended
+
+-- the same after a packet with its answer
+abbrev pub after_receiving : {D : Type 0} → (D → DepacketizerState) → FrameReceiver D →
+    List AccessUnit → ℕ × RtpBody → Result Received PacketError → UnitDepacketization
+after_receiving state it ended p answer =
+    after_rtp it.packets.run_limit it.unit_limit (frames_at state it ended) p answer
+
+-- whether the text that a packet leaves open is given up, since it is longer than the limit
+abbrev pub gives_text_up : {D : Type 0} → (D → DepacketizerState) → FrameReceiver D →
+    List AccessUnit → ℕ × RtpBody → Bool
+gives_text_up state it ended p =
+    is_text_given_up it.packets.run_limit it.unit_limit (frames_at state it ended) p
+
+-- it stands as this step leaves it that passes over a number, whichever access units ended before
+abbrev pub IsNumberPassed : {D : Type 0} → (UnitDepacketization → ℕ → UnitDepacketization) →
+    (D → DepacketizerState) → FrameReceiver D → ℕ → FrameReceiver D → Type 0
+IsNumberPassed step state old number new = (ended : List AccessUnit) →
+    frames_at state new ended ≡ step (frames_at state old ended) number
 
 -- where no access unit is open in it, these are what a network brings of calls
 abbrev pub BringsAccessUnits : {D : Type 0} → (D → DepacketizerState) → FrameReceiver D →
@@ -30,3 +48,9 @@ abbrev pub BringsAnyUnits : {D : Type 0} → (D → DepacketizerState) → Frame
 BringsAnyUnits state it ended window packets answers units =
     IsNoneOpen it.unit.unit it.unit.is_gap → AreAnyUnitsBrought window it.packets.run_limit
     it.unit_limit (frames_at state it ended) packets answers units
+
+-- of what a network brings of calls none is refused for what it is
+abbrev pub RefusesNoneBrought : {D : Type 0} → (D → DepacketizerState) → FrameReceiver D →
+    List AccessUnit → ℕ → List (ℕ × RtpBody) → List (Result Received PacketError) → Type 0
+RefusesNoneBrought state it ended window packets answers =
+    NoneBroughtIsRefused window (frames_at state it ended) packets answers

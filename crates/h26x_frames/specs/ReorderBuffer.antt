@@ -25,6 +25,10 @@ buffer_state window due held = record { window = window; due = due; held = held 
 abbrev pub numbered_packet : HeldPacket → ℕ × RtpBody
 numbered_packet p = (p.sequence, rtp_body p.timestamp p.marker p.payload.items)
 
+-- what holds of a window that a buffer may have, 1 to 2^14
+abbrev pub OfWindow : ℕ → Type 0 → Type 0
+OfWindow window holds = 0 < window → window ≤ 2 ^ 14 → holds
+
 -- before any packet came
 abbrev pub fresh_buffer : {A : Type 0} → ℕ → BufferState A
 fresh_buffer window = buffer_state window None []

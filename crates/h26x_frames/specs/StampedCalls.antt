@@ -35,8 +35,8 @@ abbrev pub calls_of : List StampedCall → List Call
 calls_of calls = map (λ c. c.call) calls
 
 -- the packets of one call
-abbrev pub call_packets : PacketizerState → Call → List (List ℕ)
-call_packets s call = state_packets s (all_entries s.format (call ∷ []))
+abbrev pub access_unit_packets : PacketizerState → Call → List (List ℕ)
+access_unit_packets s call = state_packets s (all_entries s.format (call ∷ []))
 
 -- the packetizer after it
 abbrev pub after_call : PacketizerState → Call → PacketizerState
@@ -56,7 +56,7 @@ unit_bodies timestamp (packet ∷ packets) = rtp_body timestamp (has_none packet
 -- the packets of calls, one access unit after the other
 abbrev pub sent_bodies : PacketizerState → List StampedCall → List RtpBody
 sent_bodies s [] = []
-sent_bodies s (c ∷ calls) = unit_bodies c.timestamp (call_packets s c.call)
+sent_bodies s (c ∷ calls) = unit_bodies c.timestamp (access_unit_packets s c.call)
     ++ sent_bodies (after_call s c.call) calls
 
 -- a packet of those sent, by its place, with its sequence number: they are numbered on from one
@@ -84,7 +84,7 @@ unit_left most s avc before c mask =
       bytes = byte_stream avc (whole_units most s (c.call ∷ []) mask);
       extra = extra_after s.format extras.None (whole_units most s (c.call ∷ []) mask);
       is_whole = before && (list_all (λ came. came) mask
-          && are_runs_within s.format most None (call_packets s c.call));
+          && are_runs_within s.format most None (access_unit_packets s c.call));
     }) ∷ [] else []
 
 -- whether the last packet came, of a mask; where there is none, whether the one before came
@@ -112,11 +112,11 @@ abbrev pub units_left : ℕ → PacketizerState → Bool → Bool → Option ℕ
 units_left most s avc before closed [] mask = []
 units_left most s avc before closed (c ∷ calls) mask =
     unit_left most s avc (if is_closed_at closed c.timestamp then false else before) c
-    (take (length (call_packets s c.call)) mask)
+    (take (length (access_unit_packets s c.call)) mask)
     ++ units_left most (after_call s c.call) avc
-    (last_came before (take (length (call_packets s c.call)) mask))
-    (closed_after closed c.timestamp (take (length (call_packets s c.call)) mask)) calls
-    (drop (length (call_packets s c.call)) mask)
+    (last_came before (take (length (access_unit_packets s c.call)) mask))
+    (closed_after closed c.timestamp (take (length (access_unit_packets s c.call)) mask)) calls
+    (drop (length (access_unit_packets s c.call)) mask)
 
 -- a timestamp other than that of an access unit that is open, if one is
 abbrev pub IsOtherStamp : Option ℕ → ℕ → Type 0
@@ -128,10 +128,10 @@ IsOtherStamp (Some stamp) timestamp = stamp ≡ timestamp → ⊥
 abbrev pub AreApart : Option ℕ → PacketizerState → List StampedCall → List Bool → Type 0
 AreApart stamp s [] mask = Unit {0}
 AreApart stamp s (c ∷ calls) mask =
-    (list_any (λ came. came) (take (length (call_packets s c.call)) mask) ≡ true →
+    (list_any (λ came. came) (take (length (access_unit_packets s c.call)) mask) ≡ true →
     IsOtherStamp stamp c.timestamp)
-    × AreApart (open_after stamp c.timestamp (take (length (call_packets s c.call)) mask))
-    (after_call s c.call) calls (drop (length (call_packets s c.call)) mask)
+    × AreApart (open_after stamp c.timestamp (take (length (access_unit_packets s c.call)) mask))
+    (after_call s c.call) calls (drop (length (access_unit_packets s c.call)) mask)
 
 -- no access unit holds more bytes than this
 abbrev pub AreUnitsWithin : ℕ → List AccessUnitValue → Type 0
@@ -185,9 +185,9 @@ packets_len (packet ∷ packets) = length packet + packets_len packets
 -- Of a call each packet of which came, and the packet before them, where its packets together are no
 -- longer than the limit on a run: the access unit that is left is the one that was sent.
 abbrev pub IsLeftWhole : ℕ → PacketizerState → Bool → StampedCall → List Bool → Type 0
-IsLeftWhole most s avc c mask = length mask ≡ length (call_packets s c.call) →
+IsLeftWhole most s avc c mask = length mask ≡ length (access_unit_packets s c.call) →
     list_any (λ came. came) mask ≡ true → list_all (λ came. came) mask ≡ true →
-    packets_len (call_packets s c.call) ≤ most →
+    packets_len (access_unit_packets s c.call) ≤ most →
     unit_left most s avc true c mask ≡ sent_unit s avc c ∷ []
 
 -- an access unit that is one of these if it is told to be whole

@@ -1,17 +1,18 @@
 //! Access units, and the one that is open.
 
-ghost use Rattle.std.specs.Prelude.{◌≡◌, ◌+◌, ◌≤◌, ◌==◌, nat_lt, ◌&&◌, ◌||◌, ◌++◌, ◌∷◌, [], if◌then◌else◌, true, false, None, Some, MatchBool, map, length, vec_len, vec_capacity, is_some};
+ghost use Rattle.std.specs.Prelude.{◌≡◌, ◌+◌, ◌≤◌, ◌==◌, nat_lt, ◌&&◌, ◌||◌, ◌++◌, ◌∷◌, [], if◌then◌else◌, true, false, None, Some, length, vec_len, vec_capacity, is_some};
 ghost use Rattle.h26x_model.specs.Payload.Reading.{is_start};
 ghost use Rattle.h26x_model.specs.Receive.RunLimit.{run_len};
-ghost use Rattle.h26x_receiver.specs.Sequenced.{is_taken};
-ghost use Rattle.h26x_frames.specs.AccessUnit.{access_unit_value, open_unit_value, open_unit_view, empty_unit, whole_if, one_open, none_open, without_marker, behind_gap, is_following, is_run_closed, unit_len, unit_within, is_unit_at, given_out, IsTakenAnswer, after_taken_rtp, units_at};
+ghost use Rattle.h26x_receiver.specs.Sequenced.{IfTaken, UnlessTaken};
+ghost use Rattle.h26x_frames.specs.AccessUnit.{access_unit_value, open_unit_value, open_unit_view, empty_unit, whole_if, one_open, none_open, without_marker, behind_gap, is_following, is_run_closed, unit_len, unit_within, is_unit_at, given_out, after_taken_rtp, parts_at, IsTakenAnswerAt, unit_views};
+ghost use Rattle.h26x_payload.specs.RunDepacketizer.{RunStaysWithin};
 
 use crate::answers::{is_following, is_sound, was_taken};
 use crate::packet::RtpPacket;
 use h26x_core::{CodecExtra, PacketError};
 use h26x_model::laws;
-use h26x_payload::{OpenRun, OpenText};
-use h26x_receiver::{Received, RunDepacketizer, SequencedDepacketizer};
+use h26x_payload::{OpenRun, OpenText, RunDepacketizer};
+use h26x_receiver::{Received, SequencedDepacketizer};
 use std::alloc::Global;
 use std::marker::Model;
 
@@ -69,19 +70,17 @@ impl OpenUnit {
         may_be_inside: bool,
     ) -> Result<Received, PacketError>
         requires { self.old.timestamp ≡ packet.now.1.timestamp }
-        ensures answer { IsTakenAnswer packets.old.run_limit (units_at D.state packets.old
-            (one_open self.old is_gap closed) []) packet.now result }
-        ensures after { is_taken result ≡ true → units_at D.state packets.new
-            (one_open self.new false None) [] ≡ after_taken_rtp packets.old.run_limit (units_at
-            D.state packets.old (one_open self.old is_gap closed) []) (without_marker packet.now) }
-        ensures rest { is_taken result ≡ true → packets.new.depacketizer
-            ≡ D.having_taken packet.now.1.payload packets.old.depacketizer }
+        ensures answer { IsTakenAnswerAt D.state packets.old
+            (one_open self.old is_gap closed) [] packet.now result }
+        ensures after { IfTaken result (parts_at D.state packets.new
+            (one_open self.new false None) [] ≡ after_taken_rtp packets.old.run_limit (parts_at
+            D.state packets.old (one_open self.old is_gap closed) []) (without_marker packet.now)) }
+        ensures rest { IfTaken result (packets.new.depacketizer
+            ≡ D.having_taken packet.now.1.payload packets.old.depacketizer) }
         ensures limit { packets.new.run_limit ≡ packets.old.run_limit }
-        ensures bounded { run_len self.old.text.run ≤ packets.old.run_limit →
-            run_len self.new.text.run ≤ packets.old.run_limit }
-        ensures aside { may_be_inside ≡ false → is_taken result ≡ true →
-            self.new.text.inside ≡ None }
-        ensures kept { MatchBool (is_taken result) (Unit {0}) ((packets.new ≡ packets.old)
+        ensures bounded { RunStaysWithin packets.old.run_limit self.old.text.run self.new.text.run }
+        ensures aside { may_be_inside ≡ false → IfTaken result (self.new.text.inside ≡ None) }
+        ensures kept { UnlessTaken result ((packets.new ≡ packets.old)
             × (one_open self.new is_gap closed ≡ one_open self.old is_gap closed)) }
     {
         packets.depacketizer.meets_the_facts();
@@ -285,18 +284,15 @@ impl OpenAccessUnit {
         packet: &RtpPacket<'_>,
     ) -> Result<Received, PacketError>
         requires { is_unit_at self.old.unit packet.now.1.timestamp ≡ true }
-        ensures answer { IsTakenAnswer packets.old.run_limit
-            (units_at D.state packets.old self.old []) packet.now result }
-        ensures after { is_taken result ≡ true → units_at D.state packets.new self.new []
-            ≡ after_taken_rtp packets.old.run_limit (units_at D.state packets.old self.old [])
-            (without_marker packet.now) }
-        ensures rest { is_taken result ≡ true → packets.new.depacketizer
-            ≡ D.having_taken packet.now.1.payload packets.old.depacketizer }
+        ensures answer { IsTakenAnswerAt D.state packets.old self.old [] packet.now result }
+        ensures after { IfTaken result (parts_at D.state packets.new self.new []
+            ≡ after_taken_rtp packets.old.run_limit (parts_at D.state packets.old self.old [])
+            (without_marker packet.now)) }
+        ensures rest { IfTaken result (packets.new.depacketizer
+            ≡ D.having_taken packet.now.1.payload packets.old.depacketizer) }
         ensures limit { packets.new.run_limit ≡ packets.old.run_limit }
-        ensures bounded { run_len self.old.run ≤ packets.old.run_limit →
-            run_len self.new.run ≤ packets.old.run_limit }
-        ensures kept { MatchBool (is_taken result) (Unit {0}) ((packets.new ≡ packets.old)
-            × (self.new ≡ self.old)) }
+        ensures bounded { RunStaysWithin packets.old.run_limit self.old.run self.new.run }
+        ensures kept { UnlessTaken result ((packets.new ≡ packets.old) × (self.new ≡ self.old)) }
     {
         match &mut self.unit {
             Some(unit) => {
@@ -321,17 +317,16 @@ impl OpenAccessUnit {
         requires at { is_unit_at self.old.unit packet.now.1.timestamp ≡ true }
         requires marker { packet.now.1.marker ≡ true }
         requires room { vec_len out.old + 1 ≤ vec_capacity out.old }
-        ensures answer { IsTakenAnswer packets.old.run_limit (units_at D.state packets.old self.old
-            out.old.items) packet.now result }
-        ensures after { is_taken result ≡ true → units_at D.state packets.new self.new out.new.items
-            ≡ after_taken_rtp packets.old.run_limit (units_at D.state packets.old self.old
-            out.old.items) packet.now }
-        ensures rest { is_taken result ≡ true → packets.new.depacketizer
-            ≡ D.having_taken packet.now.1.payload packets.old.depacketizer }
+        ensures answer { IsTakenAnswerAt D.state packets.old self.old out.old.items
+            packet.now result }
+        ensures after { IfTaken result (parts_at D.state packets.new self.new out.new.items
+            ≡ after_taken_rtp packets.old.run_limit (parts_at D.state packets.old self.old
+            out.old.items) packet.now) }
+        ensures rest { IfTaken result (packets.new.depacketizer
+            ≡ D.having_taken packet.now.1.payload packets.old.depacketizer) }
         ensures limit { packets.new.run_limit ≡ packets.old.run_limit }
-        ensures bounded { run_len self.old.run ≤ packets.old.run_limit →
-            run_len self.new.run ≤ packets.old.run_limit }
-        ensures kept { MatchBool (is_taken result) (Unit {0}) ((packets.new ≡ packets.old)
+        ensures bounded { RunStaysWithin packets.old.run_limit self.old.run self.new.run }
+        ensures kept { UnlessTaken result ((packets.new ≡ packets.old)
             × (self.new ≡ self.old) × (out.new.items ≡ out.old.items)) }
     {
         match self.unit.take() {
@@ -370,7 +365,7 @@ impl OpenAccessUnit {
         ensures run { self.new.run ≡ unit.text.run }
         ensures gap { self.new.is_gap ≡ false }
         ensures closed { self.new.closed ≡ (if is_over then Some unit.timestamp else None) }
-        ensures out { map access_unit_value out.new.items ≡ map access_unit_value out.old.items
+        ensures out { unit_views out.new.items ≡ unit_views out.old.items
             ++ (if is_over then whole_if (is_run_closed unit.text.run)
             (whole_if is_sound (open_unit_value unit)) ∷ [] else []) }
     {
@@ -390,7 +385,7 @@ impl OpenAccessUnit {
     pub(crate) fn end(&mut self, follows: bool, out: &mut Vec<AccessUnit>)
         requires { vec_len out.old + 1 ≤ vec_capacity out.old }
         ensures none { self.new ≡ none_open }
-        ensures out { map access_unit_value out.new.items ≡ map access_unit_value out.old.items
+        ensures out { unit_views out.new.items ≡ unit_views out.old.items
             ++ given_out (follows && is_run_closed self.old.run) self.old.unit }
         ensures len { vec_len out.new ≤ vec_len out.old + 1 }
         ensures capacity { vec_capacity out.old ≤ vec_capacity out.new }

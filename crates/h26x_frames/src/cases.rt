@@ -15,7 +15,7 @@ ghost use Rattle.h26x_frames.specs.Network.{IsNetwork, released_packets};
 ghost use Rattle.h26x_frames.specs.Rtp.{rtp_body};
 ghost use Rattle.h26x_frames.specs.AccessUnit.{AccessUnitValue, empty_unit, unit_depacketization, fresh_units, gives_up_run, is_text_given_up, after_all_rtp, after_unit_skip, after_pass_over, after_end, HaveUnitAnswers};
 ghost use Rattle.h26x_frames.specs.AnyUnits.{any_units_left};
-ghost use Rattle.h26x_frames.specs.StampedCalls.{stamped_call, call_packets, sent_bodies, unit_left, units_left, sent_unit, sent_units, packets_len, AreApart, AreUnitsWithin, IsGivenOut, IsStream, IsBroughtStream, IsSentIfWhole, AreAccessUnitsLeft};
+ghost use Rattle.h26x_frames.specs.StampedCalls.{stamped_call, access_unit_packets, sent_bodies, unit_left, units_left, sent_unit, sent_units, packets_len, AreApart, AreUnitsWithin, IsGivenOut, IsStream, IsBroughtStream, IsSentIfWhole, AreAccessUnitsLeft};
 
 use crate::pushed::Pushed;
 use h26x_receiver::Received;
@@ -362,7 +362,7 @@ pub fn access_units_sent()
         ∷ stamped_call 6000 (fresh_call 3 (0x61 ∷ 0x05 ∷ [])) ∷ []))
         ≡ (3000, 0x00 ∷ 0x00 ∷ 0x00 ∷ 0x01 ∷ 0x65 ∷ 0x01 ∷ 0x02 ∷ 0x03 ∷ [], true)
         ∷ (6000, 0x00 ∷ 0x00 ∷ 0x00 ∷ 0x01 ∷ 0x61 ∷ 0x05 ∷ [], true) ∷ [] }
-    ensures packets { packets_len (call_packets (fresh_packetizer_state h264)
+    ensures packets { packets_len (access_unit_packets (fresh_packetizer_state h264)
         (fresh_call 3 (0x65 ∷ 0x01 ∷ 0x02 ∷ 0x03 ∷ []))) ≡ 9 }
     ensures left { unit_left 9 (fresh_packetizer_state h264) false true
         (stamped_call 3000 (fresh_call 3 (0x65 ∷ 0x01 ∷ 0x02 ∷ 0x03 ∷ [])))

@@ -1,12 +1,11 @@
 //! RTP packets, any whatever, through a buffer and a receiver.
 
-ghost use Rattle.std.specs.Prelude.{◌≡◌, ◌<◌, ◌≤◌, ◌^◌, IfOk, OnErr, Err, None, map};
-ghost use Rattle.h26x_model.specs.Receive.RunLimit.{run_len};
+ghost use Rattle.std.specs.Prelude.{◌≡◌, ◌<◌, ◌≤◌, ◌^◌, IfOk, OnErr, Err, map};
 ghost use Rattle.h26x_receiver.specs.Sequenced.{having_taken_all};
 ghost use Rattle.h26x_frames.specs.ReorderBuffer.{reordered};
 ghost use Rattle.h26x_frames.specs.AccessUnit.{unit_len, with_open_unit, AreUnitsReceived};
-ghost use Rattle.h26x_frames.specs.Receiver.{frames_at, BringsAccessUnits, BringsAnyUnits};
-ghost use Rattle.h26x_frames.specs.StampedCalls.{NoneBroughtIsRefused};
+ghost use Rattle.h26x_frames.specs.Receiver.{frames_at, BringsAccessUnits, BringsAnyUnits, RefusesNoneBrought};
+ghost use Rattle.h26x_payload.specs.RunDepacketizer.{RunStaysWithin, IsSameBesideRun};
 
 use crate::access_unit::AccessUnit;
 use crate::packet::RtpPacket;
@@ -14,7 +13,8 @@ use crate::receiver::FrameReceiver;
 use crate::reorder::ordered;
 use h26x_core::PacketError;
 use h26x_model::laws;
-use h26x_receiver::{Received, RunDepacketizer};
+use h26x_payload::RunDepacketizer;
+use h26x_receiver::Received;
 use std::alloc::Global;
 
 /// Puts packets in the order of their sequence numbers through a buffer with this window, 1 to 2^14,
@@ -60,18 +60,18 @@ pub fn receive_frames<D: RunDepacketizer>(
 
     // None of those of calls is refused for what it is: memory lacks or, in AVC form, a unit is too
     // long.
-    ensures refusals { IfOk result (λ answers. NoneBroughtIsRefused window
-        (frames_at D.state receiver.old out.old.items) packets.now answers.items) }
+    ensures refusals { IfOk result (λ answers. RefusesNoneBrought D.state receiver.old
+        out.old.items window packets.now answers.items) }
 
     // What else the packets that were taken change, as what a depacketizer of H.265 shows.
-    ensures rest { IfOk result (λ answers. D.with_run None receiver.new.packets.depacketizer
-        ≡ D.with_run None (having_taken_all D.having_taken
+    ensures rest { IfOk result (λ answers. IsSameBesideRun D.with_run
+        receiver.new.packets.depacketizer (having_taken_all D.having_taken
         (map (λ p. p.1.payload) (reordered window packets.now)) answers.items
         receiver.old.packets.depacketizer)) }
 
     // The run that is open is within its limit, and the open access unit within its own.
-    ensures bounded { run_len receiver.old.unit.run ≤ receiver.old.packets.run_limit →
-        run_len receiver.new.unit.run ≤ receiver.old.packets.run_limit }
+    ensures bounded { RunStaysWithin receiver.old.packets.run_limit receiver.old.unit.run
+        receiver.new.unit.run }
     ensures bounded_unit { unit_len receiver.old.unit.unit ≤ receiver.old.unit_limit →
         unit_len receiver.new.unit.unit ≤ receiver.old.unit_limit }
     ensures limit { receiver.new.packets.run_limit ≡ receiver.old.packets.run_limit }

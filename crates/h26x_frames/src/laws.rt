@@ -1,23 +1,17 @@
 //! Laws of the definitions, each the contract of a function without a result.
 
-ghost use Rattle.std.specs.Prelude.{◌≡◌, ◌^◌, ◌<◌, ◌≤◌, ℕ, Bool, true, List, [], ◌∷◌, None, Some, Result};
-ghost use Rattle.std.specs.List.{AllByRecursion};
-ghost use Rattle.h26x_core.specs.declared.error.PacketError.{PacketError};
+ghost use Rattle.std.specs.Prelude.{◌≡◌, ℕ, Bool, List, [], ◌∷◌, None, Some};
 ghost use Rattle.h26x_model.specs.Payload.Facts.{IsPayloadFormat};
 ghost use Rattle.h26x_model.specs.Send.PacketizerState.{PacketizerState};
 ghost use Rattle.h26x_model.specs.Receive.DepacketizerState.{Depacketization};
-ghost use Rattle.h26x_receiver.specs.declared.received.Received.{Received};
-ghost use Rattle.h26x_receiver.specs.Delivery.{AreNearPlaces};
-ghost use Rattle.h26x_receiver.specs.Sequenced.{is_taken};
-ghost use Rattle.h26x_receiver.specs.Sequence.{next_sequence_number, is_expected};
 ghost use Rattle.h26x_frames.specs.Rtp.{RtpBody};
-ghost use Rattle.h26x_frames.specs.AccessUnit.{AccessUnitValue, UnitDepacketization, after_unit_skip};
+ghost use Rattle.h26x_frames.specs.AccessUnit.{AccessUnitValue, UnitDepacketization, UnitSkipsInOrder};
 ghost use Rattle.h26x_frames.specs.AnyUnits.{GivesOutAnyBrought};
 ghost use Rattle.h26x_frames.specs.StampedCalls.{StampedCall, GivesOutThoseLeft, GivesOutThoseBrought, WholeOnesAreSent, AreGivenOut, AreUnitsWithin, AreStreamed, IsLeftWhole};
-ghost use Rattle.h26x_frames.specs.Network.{UnitsComeThrough};
-ghost use Rattle.h26x_frames.specs.Reordering.{in_order, IsReordered, ReordersWithinWindow};
+ghost use Rattle.h26x_frames.specs.Network.{UnitsComeThrough, ComeNear};
+ghost use Rattle.h26x_frames.specs.Reordering.{ReordersWithinWindow};
 ghost use Rattle.h26x_frames.specs.BufferSteps.{BufferStep, AreNumbered, GivesOutThoseHeld};
-ghost use Rattle.h26x_frames.specs.ReorderBuffer.{BufferState, fresh_buffer, next_packet, without_first, IsReadyStep, IsNothingReady, reordered, IsPutInOrder};
+ghost use Rattle.h26x_frames.specs.ReorderBuffer.{BufferState, fresh_buffer, next_packet, without_first, IsReadyStep, IsNothingReady, reordered, IsPutInOrder, OfWindow};
 
 use h26x_model::laws as model_laws;
 use h26x_receiver::laws;
@@ -32,8 +26,8 @@ pub fn packets_are_put_in_order()
 /// list, numbered on from any number, that come reordered within the window, the buffer gives out
 /// what came, each once, in the order of sending.
 pub fn numbered_packets_are_put_in_order()
-    ensures { (window : ℕ) (packets : List (ℕ × RtpBody)) → 0 < window → window ≤ 2 ^ 14 →
-        IsPutInOrder window packets (reordered window packets) }
+    ensures { (window : ℕ) (packets : List (ℕ × RtpBody)) →
+        OfWindow window (IsPutInOrder window packets (reordered window packets)) }
 {}
 
 /// Whatever comes, however late or often, and whoever calls `pop_first` early: what a buffer gives out,
@@ -54,8 +48,8 @@ pub fn packets_go_one_by_one()
 /// Through a network that loses, repeats and reorders packets, and a buffer: the units of the items
 /// of which each packet came are written, in the order of sending, and nothing else.
 pub fn units_come_through_a_network()
-    ensures { (window most : ℕ) (w : Depacketization) → 0 < window → window ≤ 2 ^ 14 →
-        IsPayloadFormat w.state.format → UnitsComeThrough window most w }
+    ensures { (window most : ℕ) (w : Depacketization) →
+        OfWindow window (IsPayloadFormat w.state.format → UnitsComeThrough window most w) }
 {
     laws::those_that_came_are_written();
 }
@@ -63,10 +57,7 @@ pub fn units_come_through_a_network()
 /// Places that a network brings, put in order, are near where all packets are taken: gaps follow from
 /// the jumps, which with the window are at most 2^14.
 pub fn places_that_come_are_near()
-    ensures { (window : ℕ) (places : List ℕ) (answers : List (Result Received PacketError)) →
-        window ≤ 2 ^ 14 → IsReordered window places →
-        AllByRecursion (λ answer. is_taken answer ≡ true) answers →
-        AreNearPlaces None (in_order places) answers }
+    ensures { (window : ℕ) (places : List ℕ) → ComeNear window places }
 {}
 
 /// Of packets of calls with timestamps, numbered on, that come in order, some of them missing: the
@@ -81,9 +72,7 @@ pub fn access_units_are_those_left()
 
 /// A number that came in order and bears nothing of the stream changes only what is expected next.
 pub fn skipping_in_order_changes_only_the_number()
-    ensures { (s : UnitDepacketization) (number : ℕ) → number < 2 ^ 16 →
-        is_expected s.expected number ≡ true →
-        after_unit_skip s number ≡ record s { expected = Some (next_sequence_number number) } }
+    ensures { (s : UnitDepacketization) → UnitSkipsInOrder s }
 {}
 
 /// Access units that are no longer than the limit are given out as they are.
@@ -108,8 +97,8 @@ pub fn whole_access_units_are_those_sent()
 /// receiver gives out, with what is open at the end, are what the packets that came leave of the
 /// calls.
 pub fn access_units_come_through_a_network()
-    ensures { (window most limit : ℕ) (w : UnitDepacketization) → 0 < window →
-        window ≤ 2 ^ 14 → GivesOutThoseBrought window most limit w }
+    ensures { (window most limit : ℕ) (w : UnitDepacketization) →
+        OfWindow window (GivesOutThoseBrought window most limit w) }
 {
     model_laws::nothing_is_damaged();
     model_laws::packetizers_go_on();
@@ -119,8 +108,8 @@ pub fn access_units_come_through_a_network()
 /// marker: what is given out, with what is open at the end, is that part of what all of them would
 /// bring of which each packet was taken, and that a run may hold.
 pub fn any_access_units_come_through_a_network()
-    ensures { (window most limit : ℕ) (w : UnitDepacketization) → 0 < window →
-        window ≤ 2 ^ 14 → GivesOutAnyBrought window most limit w }
+    ensures { (window most limit : ℕ) (w : UnitDepacketization) →
+        OfWindow window (GivesOutAnyBrought window most limit w) }
 {
     model_laws::what_came_is_written();
 }

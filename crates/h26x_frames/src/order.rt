@@ -1,11 +1,11 @@
 //! Packets in the order of their sequence numbers, until they may go.
 
-ghost use Rattle.std.specs.Prelude.{◌≡◌, ◌+◌, ◌^◌, ◌<◌, ◌≤◌, ◌==◌, ◌++◌, if◌then◌else◌, true, false, ℕ, IfOk, IfErr, OnOk, OnErr, MatchResult, None, is_some, length, map, slice_get, slice_index_or};
+ghost use Rattle.std.specs.Prelude.{◌≡◌, ◌+◌, ◌^◌, ◌<◌, ◌≤◌, ◌==◌, if◌then◌else◌, true, false, ℕ, IfOk, IfErr, OnOk, OnErr, None, is_some, length, map, slice_get, slice_index_or};
 ghost use Rattle.std.specs.Option.{option_map};
 ghost use Rattle.h26x_receiver.specs.Sequence.{distance_ahead};
 ghost use Rattle.h26x_frames.specs.Rtp.{RtpBody};
-ghost use Rattle.h26x_frames.specs.NumberOrder.{IsPlaceAmong, IsPlaceOf};
-ghost use Rattle.h26x_frames.specs.ReorderBuffer.{fresh_buffer, is_number_held, goes_straight, push_answer, after_push, next_packet, without_first, AreHeldInOrder};
+ghost use Rattle.h26x_frames.specs.NumberOrder.{IsPlaceOf, IsSearchResult};
+ghost use Rattle.h26x_frames.specs.ReorderBuffer.{fresh_buffer, goes_straight, push_answer, after_push, next_packet, without_first, AreHeldInOrder};
 
 use crate::answers::is_next;
 use crate::numbered::Numbered;
@@ -104,8 +104,7 @@ impl<T: Numbered> NumberOrder<T> {
     /// Where a packet with this number stands, or else where it belongs, by halves.
     fn search(&self, due: u16, number: u16) -> Result<usize, usize>
         requires { AreHeldInOrder due 0 self.now.held }
-        ensures { MatchResult result (λ _. is_number_held number self.now.held ≡ true)
-            (λ place. IsPlaceAmong self.now.held due number place) }
+        ensures { IsSearchResult self.now.held due number result }
     {
         let ahead = number.wrapping_sub(due);
         let (mut low, mut high) = (0, self.len());
@@ -129,8 +128,7 @@ impl<T: Numbered> NumberOrder<T> {
     #[inline(always)]
     fn place_from(&self, due: u16, number: u16) -> Result<usize, usize>
         requires { AreHeldInOrder due 0 self.now.held }
-        ensures { MatchResult result (λ _. is_number_held number self.now.held ≡ true)
-            (λ place. IsPlaceAmong self.now.held due number place) }
+        ensures { IsSearchResult self.now.held due number result }
     {
         let len = self.len();
         if len == 0 || self.ahead_at(due, len - 1) < number.wrapping_sub(due) {

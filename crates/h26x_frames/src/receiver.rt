@@ -1,18 +1,19 @@
 //! A receiver that gives out access units.
 
-ghost use Rattle.std.specs.Prelude.{◌≡◌, ◌+◌, ◌≤◌, ℕ, List, true, false, None, Ok, Err, OnOk, OnErr, map, vec_len, vec_capacity, if◌then◌else◌, MatchBool};
-ghost use Rattle.h26x_model.specs.Receive.RunLimit.{run_len};
-ghost use Rattle.h26x_receiver.specs.Sequenced.{is_taken, skip_answer, is_run_kept};
+ghost use Rattle.std.specs.Prelude.{◌≡◌, ◌+◌, ◌≤◌, ℕ, true, false, None, Ok, Err, OnOk, OnErr, vec_len, vec_capacity};
+ghost use Rattle.h26x_receiver.specs.Sequenced.{skip_answer, is_run_kept, IfTaken, UnlessTaken};
 ghost use Rattle.h26x_frames.specs.declared.access_unit.AccessUnit.{AccessUnit};
-ghost use Rattle.h26x_frames.specs.AccessUnit.{none_open, is_unit_at, AccessUnitValue, IsTakenAnswer, IsUnitAnswer, after_taken_rtp, after_rtp, after_unit_skip, after_pass_over, after_end, unit_len, is_text_given_up, units_at};
-ghost use Rattle.h26x_frames.specs.Receiver.{frames_at};
+ghost use Rattle.h26x_frames.specs.AccessUnit.{none_open, is_unit_at, IsUnitAnswer, after_taken_rtp, after_unit_skip, after_pass_over, after_end, unit_len, is_text_given_up, parts_at, IsTakenAnswerAt};
+ghost use Rattle.h26x_frames.specs.Receiver.{frames_at, after_receiving, gives_text_up, IsNumberPassed};
+ghost use Rattle.h26x_payload.specs.RunDepacketizer.{RunStaysWithin};
 
 use crate::access_unit::{AccessUnit, OpenAccessUnit, OpenUnit};
 use crate::answers::{is_next, is_sound, was_taken};
 use crate::packet::RtpPacket;
 use crate::spare::SpareMemory;
 use h26x_core::PacketError;
-use h26x_receiver::{Received, RunDepacketizer, SequencedDepacketizer};
+use h26x_payload::RunDepacketizer;
+use h26x_receiver::{Received, SequencedDepacketizer};
 use std::alloc::Global;
 
 /// Takes a packet into the access unit that was open.
@@ -24,17 +25,15 @@ fn go_on<D: RunDepacketizer>(
 ) -> Result<Received, PacketError>
     requires same { is_unit_at place.old.unit packet.now.1.timestamp ≡ true }
     requires room { vec_len out.old + 2 ≤ vec_capacity out.old }
-    ensures answer { IsTakenAnswer packets.old.run_limit (units_at D.state packets.old place.old
-        out.old.items) packet.now result }
-    ensures after { is_taken result ≡ true → units_at D.state packets.new place.new out.new.items
-        ≡ after_taken_rtp packets.old.run_limit (units_at D.state packets.old place.old
-        out.old.items) packet.now }
-    ensures rest { is_taken result ≡ true → packets.new.depacketizer
-        ≡ D.having_taken packet.now.1.payload packets.old.depacketizer }
+    ensures answer { IsTakenAnswerAt D.state packets.old place.old out.old.items packet.now result }
+    ensures after { IfTaken result (parts_at D.state packets.new place.new out.new.items
+        ≡ after_taken_rtp packets.old.run_limit (parts_at D.state packets.old place.old
+        out.old.items) packet.now) }
+    ensures rest { IfTaken result (packets.new.depacketizer
+        ≡ D.having_taken packet.now.1.payload packets.old.depacketizer) }
     ensures limit { packets.new.run_limit ≡ packets.old.run_limit }
-    ensures bounded { run_len place.old.run ≤ packets.old.run_limit →
-        run_len place.new.run ≤ packets.old.run_limit }
-    ensures kept { MatchBool (is_taken result) (Unit {0}) ((packets.new ≡ packets.old)
+    ensures bounded { RunStaysWithin packets.old.run_limit place.old.run place.new.run }
+    ensures kept { UnlessTaken result ((packets.new ≡ packets.old)
         × (place.new ≡ place.old) × (out.new.items ≡ out.old.items)) }
 {
     if packet.marker {
@@ -54,17 +53,15 @@ fn begin<D: RunDepacketizer>(
 ) -> Result<Received, PacketError>
     requires other { is_unit_at place.old.unit packet.now.1.timestamp ≡ false }
     requires room { vec_len out.old + 2 ≤ vec_capacity out.old }
-    ensures answer { IsTakenAnswer packets.old.run_limit (units_at D.state packets.old place.old
-        out.old.items) packet.now result }
-    ensures after { is_taken result ≡ true → units_at D.state packets.new place.new out.new.items
-        ≡ after_taken_rtp packets.old.run_limit (units_at D.state packets.old place.old
-        out.old.items) packet.now }
-    ensures rest { is_taken result ≡ true → packets.new.depacketizer
-        ≡ D.having_taken packet.now.1.payload packets.old.depacketizer }
+    ensures answer { IsTakenAnswerAt D.state packets.old place.old out.old.items packet.now result }
+    ensures after { IfTaken result (parts_at D.state packets.new place.new out.new.items
+        ≡ after_taken_rtp packets.old.run_limit (parts_at D.state packets.old place.old
+        out.old.items) packet.now) }
+    ensures rest { IfTaken result (packets.new.depacketizer
+        ≡ D.having_taken packet.now.1.payload packets.old.depacketizer) }
     ensures limit { packets.new.run_limit ≡ packets.old.run_limit }
-    ensures bounded { run_len place.old.run ≤ packets.old.run_limit →
-        run_len place.new.run ≤ packets.old.run_limit }
-    ensures kept { MatchBool (is_taken result) (Unit {0}) ((packets.new ≡ packets.old)
+    ensures bounded { RunStaysWithin packets.old.run_limit place.old.run place.new.run }
+    ensures kept { UnlessTaken result ((packets.new ≡ packets.old)
         × (place.new ≡ place.old) × (out.new.items ≡ out.old.items)) }
 {
     let follows = place.follows(packets.expected, packet);
@@ -97,17 +94,15 @@ fn take<D: RunDepacketizer>(
     out: &mut Vec<AccessUnit>,
 ) -> Result<Received, PacketError>
     requires room { vec_len out.old + 2 ≤ vec_capacity out.old }
-    ensures answer { IsTakenAnswer packets.old.run_limit (units_at D.state packets.old place.old
-        out.old.items) packet.now result }
-    ensures after { is_taken result ≡ true → units_at D.state packets.new place.new out.new.items
-        ≡ after_taken_rtp packets.old.run_limit (units_at D.state packets.old place.old
-        out.old.items) packet.now }
-    ensures rest { is_taken result ≡ true → packets.new.depacketizer
-        ≡ D.having_taken packet.now.1.payload packets.old.depacketizer }
+    ensures answer { IsTakenAnswerAt D.state packets.old place.old out.old.items packet.now result }
+    ensures after { IfTaken result (parts_at D.state packets.new place.new out.new.items
+        ≡ after_taken_rtp packets.old.run_limit (parts_at D.state packets.old place.old
+        out.old.items) packet.now) }
+    ensures rest { IfTaken result (packets.new.depacketizer
+        ≡ D.having_taken packet.now.1.payload packets.old.depacketizer) }
     ensures limit { packets.new.run_limit ≡ packets.old.run_limit }
-    ensures bounded { run_len place.old.run ≤ packets.old.run_limit →
-        run_len place.new.run ≤ packets.old.run_limit }
-    ensures kept { MatchBool (is_taken result) (Unit {0}) ((packets.new ≡ packets.old)
+    ensures bounded { RunStaysWithin packets.old.run_limit place.old.run place.new.run }
+    ensures kept { UnlessTaken result ((packets.new ≡ packets.old)
         × (place.new ≡ place.old) × (out.new.items ≡ out.old.items)) }
 {
     if place.is_at(packet.timestamp) {
@@ -184,24 +179,22 @@ impl<D: RunDepacketizer> FrameReceiver<D> {
         // What is answered, and what stands afterwards.
         ensures answer { IsUnitAnswer self.old.packets.run_limit
             (frames_at D.state self.old out.old.items) packet.now result }
-        ensures after { frames_at D.state self.new out.new.items ≡ after_rtp
-            self.old.packets.run_limit self.old.unit_limit
-            (frames_at D.state self.old out.old.items) packet.now result }
-        ensures rest { is_taken result ≡ true → self.new.packets.depacketizer
-            ≡ D.having_taken packet.now.1.payload self.old.packets.depacketizer }
+        ensures after { frames_at D.state self.new out.new.items
+            ≡ after_receiving D.state self.old out.old.items packet.now result }
+        ensures rest { IfTaken result (self.new.packets.depacketizer
+            ≡ D.having_taken packet.now.1.payload self.old.packets.depacketizer) }
         ensures limit { self.new.packets.run_limit ≡ self.old.packets.run_limit }
         ensures unit_limit { self.new.unit_limit ≡ self.old.unit_limit }
 
         // The open run is within its limit, and the open access unit within its own.
-        ensures bounded { run_len self.old.unit.run ≤ self.old.packets.run_limit →
-            run_len self.new.unit.run ≤ self.old.packets.run_limit }
+        ensures bounded { RunStaysWithin self.old.packets.run_limit self.old.unit.run
+            self.new.unit.run }
         ensures bounded_unit { unit_len self.old.unit.unit ≤ self.old.unit_limit →
             unit_len self.new.unit.unit ≤ self.old.unit_limit }
 
         // Whether it wasn't, so that its text was given up.
-        ensures text { is_taken result ≡ true → self.new.is_text_given_up
-            ≡ is_text_given_up self.old.packets.run_limit self.old.unit_limit
-            (frames_at D.state self.old out.old.items) packet.now }
+        ensures text { IfTaken result (self.new.is_text_given_up
+            ≡ gives_text_up D.state self.old out.old.items packet.now) }
 
         // A late packet and a refusal leave everything.
         ensures late { (n : ℕ) → result ≡ Ok (Received.Late n) → self.new ≡ self.old }
@@ -226,8 +219,7 @@ impl<D: RunDepacketizer> FrameReceiver<D> {
     /// memory.
     pub fn skip(&mut self, sequence: u16) -> Received
         ensures answer { result ≡ skip_answer self.old.packets.expected sequence }
-        ensures after { (ended : List AccessUnit) → frames_at D.state self.new ended
-            ≡ after_unit_skip (frames_at D.state self.old ended) sequence }
+        ensures after { IsNumberPassed after_unit_skip D.state self.old sequence self.new }
         ensures rest { self.new.packets.depacketizer ≡ self.old.packets.depacketizer }
         ensures limit { self.new.packets.run_limit ≡ self.old.packets.run_limit }
         ensures unit_limit { self.new.unit_limit ≡ self.old.unit_limit }
@@ -251,8 +243,7 @@ impl<D: RunDepacketizer> FrameReceiver<D> {
     /// takes no memory.
     pub fn pass_over(&mut self, sequence: u16) -> Received
         ensures answer { result ≡ skip_answer self.old.packets.expected sequence }
-        ensures after { (ended : List AccessUnit) → frames_at D.state self.new ended
-            ≡ after_pass_over (frames_at D.state self.old ended) sequence }
+        ensures after { IsNumberPassed after_pass_over D.state self.old sequence self.new }
         ensures rest { self.new.packets.depacketizer ≡ self.old.packets.depacketizer }
         ensures limit { self.new.packets.run_limit ≡ self.old.packets.run_limit }
         ensures unit_limit { self.new.unit_limit ≡ self.old.unit_limit }

@@ -11,7 +11,7 @@ use Rattle.h26x_sdp.specs.declared.error.StreamError.{StreamError}
 use Rattle.h26x_sdp.specs.declared.error.StreamError.TheVariants as s
 use Rattle.h26x_sdp.specs.Reading.{FormatParameters, read_of}
 use Rattle.h26x_sdp.specs.ParametersViews.{Fails}
-use Rattle.h26x_sdp.specs.UnitsViews.{SaysUnits}
+use Rattle.h26x_sdp.specs.UnitsViews.{SaysUnitsIfGiven}
 use Rattle.h26x_sdp.specs.FromStreamViews.{FailsStream}
 use Rattle.h26x_handles.specs.declared.sdp_code.Refused.{Refused}
 use Rattle.h26x_handles.specs.declared.sdp.SdpEndpoint.{SdpEndpoint}
@@ -19,7 +19,7 @@ use Rattle.h26x_handles.specs.Codes.{out_of_memory}
 use Rattle.h26x_handles.specs.SdpCodes.{refused_with, parameters_refused}
 use Rattle.h26x_handles.specs.Sdp.{sdp_of, sdp_rows, sdp_read}
 
-pub says_units_or : (error : UnitsError) (read : Option (Result (List (List ℕ)) UnitsError)) → SaysUnits (Err error) read →
+pub says_units_or : (error : UnitsError) (read : Option (Result (List (List ℕ)) UnitsError)) → SaysUnitsIfGiven (Err error) read →
     (error ≡ u.OutOfMemory) ⊎ (read ≡ Some (Err error))
 says_units_or u.OutOfMemory read is = inl refl
 says_units_or (u.NotBase64 place) read is = inr is

@@ -8,7 +8,7 @@ use Rattle.h26x_sdp.specs.declared.kind.Kind.{Kind}
 use Rattle.h26x_sdp.specs.declared.error.UnitsError.{UnitsError}
 use Rattle.h26x_sdp.specs.Tables.{ParameterRow, row_of}
 use Rattle.h26x_sdp.specs.Reading.{FormatParameters}
-use Rattle.h26x_sdp.specs.Units.{units_at}
+use Rattle.h26x_sdp.specs.Units.{sprop_units_at}
 use Rattle.h26x_handles.specs.KeptUnits.{kept_view}
 use Rattle.h26x_handles.specs.SdpCodes.{unknown_name, other_kind, refused_with}
 use Rattle.h26x_handles.specs.Sdp.{is_units, units_or_refused, named_units}
@@ -28,11 +28,11 @@ kept_here f n kept i other same within =
 
 -- the units of a name
 pub named_at : (rows : List ParameterRow) (it : FormatParameters) (name : List ℕ) (place : ℕ) (kind : Kind) (units : Option (Result (List (List ℕ)) UnitsError)) →
-    row_of rows name ≡ Some (place, kind) → is_units kind ≡ true → units_at rows it place ≡ units → named_units rows it name ≡ units_or_refused units
+    row_of rows name ≡ Some (place, kind) → is_units kind ≡ true → sprop_units_at rows it place ≡ units → named_units rows it name ≡ units_or_refused units
 named_at rows it name place kind units found is same =
     ap (λ (row : Option (ℕ × Kind)). elim row [
       | None ↦ Err (refused_with unknown_name)
-      | Some r ↦ cond (is_units r.1) (units_or_refused (units_at rows it r.0)) (Err (refused_with other_kind))
+      | Some r ↦ cond (is_units r.1) (units_or_refused (sprop_units_at rows it r.0)) (Err (refused_with other_kind))
     ]) found
-    ∙ ap (λ t. cond t (units_or_refused (units_at rows it place)) (Err (refused_with other_kind))) is
+    ∙ ap (λ t. cond t (units_or_refused (sprop_units_at rows it place)) (Err (refused_with other_kind))) is
     ∙ ap units_or_refused same

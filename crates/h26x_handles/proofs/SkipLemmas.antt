@@ -1,7 +1,7 @@
 -- Numbers that bear nothing of the stream.
 use Rattle.std.proofs.Common.{◌≡◌, Bool, true, false, None, if◌then◌else◌, refl}
-use Rattle.h26x_receiver.specs.AnyDepacketizer.{any_depacketizer_with_run}
-use Rattle.h26x_receiver.specs.declared.any.AnyDepacketizer.{AnyDepacketizer}
+use Rattle.h26x_codec.specs.AnyDepacketizer.{any_depacketizer_with_run}
+use Rattle.h26x_codec.specs.declared.any_depacketizer.AnyDepacketizer.{AnyDepacketizer}
 
 -- one that stays where a run is kept, and has none else
 pub depacketizer_is : (kept : Bool) (new old : AnyDepacketizer) → (kept ≡ true → new ≡ old) →

@@ -2,7 +2,7 @@
 use Rattle.std.specs.Prelude.{ℕ, Bool, false, List, Option}
 use Rattle.h26x_handles.specs.declared.packetizer.AnyPacketizer.{AnyPacketizer}
 use Rattle.h26x_handles.specs.declared.packetizer.AnyPacketizer.TheVariants as s
-use Rattle.h26x_receiver.specs.declared.any.AnyDepacketizer.{AnyDepacketizer}
+use Rattle.h26x_codec.specs.declared.any_depacketizer.AnyDepacketizer.{AnyDepacketizer}
 
 -- whether packets of a packetizer bear decoding order numbers
 abbrev pub has_numbers : AnyPacketizer → Bool

@@ -1,8 +1,11 @@
 -- Format parameters of SDP by their codec and by names, as the calls on them answer.
-use Rattle.std.specs.Prelude.{◌≡◌, ◌⊎◌, ℕ, Bool, true, false, if◌then◌else◌, List, Option, Some, None, is_some, Result, Ok, Err, Vec}
+use Rattle.std.specs.Prelude.{◌≡◌, ◌⊎◌, ℕ, Bool, true, false, if◌then◌else◌, List, Option, Some, None, is_some, Result, Ok, Err, Vec, MatchResult}
 use Rattle.std.specs.Option.{ok_or}
 use Rattle.std.specs.Result.{result_map_both}
+use Rattle.std.specs.Borrow.{Bor}
 use Rattle.std.specs.declared.alloc.Global.{Global}
+use Rattle.h26x_cut.specs.Cutting.{AreUnits}
+use Rattle.h26x_codec.specs.Repeating.{zero_rule}
 use Rattle.h26x_codec.specs.declared.codec.Codec.{Codec}
 use Rattle.h26x_codec.specs.declared.codec.Codec.TheVariants as c
 use Rattle.h26x_sdp.specs.declared.kind.Kind.{Kind}
@@ -16,7 +19,7 @@ use Rattle.h26x_sdp.specs.Tables.{ParameterRow, row_of}
 use Rattle.h26x_sdp.specs.Reading.{FormatParameters, read_of, all_of, value_at, number_at, value_or_default, number_or_default, number_of_32_bits}
 use Rattle.h26x_sdp.specs.Kinds.{unit_types}
 use Rattle.h26x_sdp.specs.Written.{written}
-use Rattle.h26x_sdp.specs.Units.{units_at}
+use Rattle.h26x_sdp.specs.Units.{sprop_units_at}
 use Rattle.h26x_sdp.specs.UnitsViews.{units_view}
 use Rattle.h26x_sdp.specs.Answers.{Rules, answer_by}
 use Rattle.h26x_sdp.specs.AnswersH264 as h264_answers
@@ -31,6 +34,14 @@ use Rattle.h26x_handles.specs.declared.sdp.SdpEndpoint.{SdpEndpoint}
 use Rattle.h26x_handles.specs.declared.sdp.SdpEndpoint.TheVariants as s
 use Rattle.h26x_handles.specs.Codes.{out_of_memory, not_of_this_codec}
 use Rattle.h26x_handles.specs.SdpCodes.{unknown_name, absent, other_kind, no_answer, refused_with, parameters_refused, units_refused, stream_code}
+
+-- a call answers this, or that memory lacks
+abbrev pub IsOrOutOfMemory : {T : Type 0} → Result T ℕ → Result T ℕ → Type 0
+IsOrOutOfMemory result answer = (result ≡ Err out_of_memory) ⊎ (result ≡ answer)
+
+-- what holds of what a call answers, where memory doesn't lack
+abbrev pub OkOrOutOfMemory : {T : Type 0} → Result T ℕ → (T → Type 0) → Type 0
+OkOrOutOfMemory result Holds = MatchResult result Holds (λ code. code ≡ out_of_memory)
 
 -- the parameters that a codec's RFC registers, in their order
 abbrev pub sdp_rows : Codec → List ParameterRow
@@ -68,6 +79,11 @@ stream_parameters c.H266 units = h266_of_units units
 abbrev pub sdp_of_units : Codec → List (List ℕ) → Result SdpEndpoint ℕ
 sdp_of_units codec units =
     result_map_both (sdp_of codec) stream_code (stream_parameters codec units)
+
+-- what holds of the units of a payload
+abbrev pub OfPayloadUnits : Codec → List ℕ → (List (List ℕ) → Type 0) → Type 0
+OfPayloadUnits codec payload Holds =
+    (units : List (List ℕ)) × AreUnits (zero_rule codec) payload units × Holds units
 
 -- the answer to an offered format by one of ours, or that there is none
 abbrev pub answer_or_code : Rules → FormatParameters → FormatParameters → Result FormatParameters ℕ
@@ -111,6 +127,11 @@ named_value rows it name or_default = elim (row_of rows name) [
 abbrev pub sdp_value : SdpEndpoint → List ℕ → Bool → Result (List ℕ) ℕ
 sdp_value it = named_value (sdp_rows (sdp_codec it)) (sdp_parameters it)
 
+-- a call answers it, or why there is none
+abbrev pub SaysNamedValue : Result (Bor (List ℕ)) ℕ → Result (List ℕ) ℕ → Type 0
+SaysNamedValue result said =
+    MatchResult result (λ value. said ≡ Ok value.now) (λ code. said ≡ Err code)
+
 -- the number of the parameter with a name, or of what is taken where it's absent; or why there is none
 abbrev pub named_number : List ParameterRow → FormatParameters → List ℕ → Bool → Result ℕ ℕ
 named_number rows it name or_default = elim (row_of rows name) [
@@ -136,12 +157,18 @@ abbrev pub named_units : List ParameterRow → FormatParameters → List ℕ →
     Result (List (List ℕ)) Refused
 named_units rows it name = elim (row_of rows name) [
   | None ↦ Err (refused_with unknown_name)
-  | Some row ↦ if is_units row.1 then units_or_refused (units_at rows it row.0)
+  | Some row ↦ if is_units row.1 then units_or_refused (sprop_units_at rows it row.0)
       else Err (refused_with other_kind)
 ]
 
 abbrev pub sdp_units : SdpEndpoint → List ℕ → Result (List (List ℕ)) Refused
 sdp_units it = named_units (sdp_rows (sdp_codec it)) (sdp_parameters it)
+
+-- a call answers them, or why there are none
+abbrev pub SaysNamedUnits : Result (Bor (List (Vec ℕ Global))) Refused →
+    Result (List (List ℕ)) Refused → Type 0
+SaysNamedUnits result said =
+    MatchResult result (λ units. said ≡ Ok (units_view units.now)) (λ it. said ≡ Err it)
 
 -- the parameters that the RFC doesn't have, in their order
 abbrev pub sdp_others : SdpEndpoint → List Pair

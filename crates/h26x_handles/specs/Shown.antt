@@ -6,8 +6,8 @@ use Rattle.h265_packets.specs.declared.payload.H265Payload.{H265Payload}
 use Rattle.h265_packets.specs.declared.payload.H265Payload.TheVariants as p
 use Rattle.h26x_handles.specs.declared.endpoint.Endpoint.{Endpoint}
 use Rattle.h26x_handles.specs.declared.endpoint.Endpoint.TheVariants as e
-use Rattle.h26x_receiver.specs.AnyDepacketizer.{any_depacketizer_shown}
-use Rattle.h26x_receiver.specs.declared.any.AnyDepacketizer.{AnyDepacketizer}
+use Rattle.h26x_codec.specs.AnyDepacketizer.{any_depacketizer_shown}
+use Rattle.h26x_codec.specs.declared.any_depacketizer.AnyDepacketizer.{AnyDepacketizer}
 
 -- a part of a packet: its bytes, and the number that was read before them (DONL, or the DOND of a
 -- further unit)

@@ -1,11 +1,13 @@
 -- What an endpoint is in the words of the payload formats: a packetizer with its packets, or a
 -- depacketizer or a receiver of packets with their sequence numbers, with what it wrote.
-use Rattle.std.specs.Prelude.{ℕ, Bool, true, false, if◌then◌else◌, List, [], ◌∷◌, Option, Some, None}
+use Rattle.std.specs.Prelude.{◌≡◌, ℕ, Bool, true, false, if◌then◌else◌, List, [], ◌∷◌, Option, Some, None}
 use Rattle.h26x_model.specs.Send.Group.{Entry}
 use Rattle.h26x_model.specs.Send.Calls.{call_entries}
-use Rattle.h26x_model.specs.Send.PacketizerState.{PacketizerState, state_packets, after_entries}
+use Rattle.h26x_model.specs.Send.PacketizerState.{PacketizerState, state_packets, after_entries, has_no_effect}
 use Rattle.h26x_model.specs.Receive.DepacketizerState.{DepacketizerState, Depacketization, depacketization, after_packets}
 use Rattle.h26x_payload.specs.PacketizerView.{packetizer_state}
+use Rattle.h26x_payload.specs.Placement.{if_placed}
+use Rattle.h26x_payload.specs.declared.send.placement.Placement.{Placement}
 use Rattle.h264_payload.specs.H264.{h264}
 use Rattle.h265_payload.specs.Setting as h265_setting
 use Rattle.h266_payload.specs.Setting as h266_setting
@@ -17,8 +19,8 @@ use Rattle.h26x_handles.specs.declared.packetizer.AnyPacketizer.TheVariants as s
 use Rattle.h26x_core.specs.declared.extra.CodecExtra.{CodecExtra}
 use Rattle.h26x_model.specs.Receive.RunLimit.{run_len}
 use Rattle.h26x_receiver.specs.Sequenced.{SequencedDepacketization, sequenced_depacketization, after_taken_packet, is_run_kept, expected_after_skip}
-use Rattle.h26x_receiver.specs.AnyDepacketizer.{any_depacketizer_state, any_depacketizer_with_avc, any_depacketizer_codec, any_depacketizer_with_donl, any_depacketizer_with_run, fresh_any_depacketizer, any_depacketizer_showing, are_same_depacketizers}
-use Rattle.h26x_receiver.specs.declared.any.AnyDepacketizer.{AnyDepacketizer}
+use Rattle.h26x_codec.specs.AnyDepacketizer.{any_depacketizer_state, any_depacketizer_with_avc, any_depacketizer_codec, any_depacketizer_with_donl, any_depacketizer_with_run, fresh_any_depacketizer, any_depacketizer_showing, are_same_depacketizers}
+use Rattle.h26x_codec.specs.declared.any_depacketizer.AnyDepacketizer.{AnyDepacketizer}
 use Rattle.h26x_handles.specs.Endpoint.{SendingEndpoint, SequencedEndpoint}
 use Rattle.h26x_handles.specs.Codes.{extra_with_number}
 use Rattle.h26x_handles.specs.Headers.{headers_wanted, under_headers}
@@ -55,10 +57,17 @@ any_packetizer_with_max_packet_size n (s.H266 it) = s.H266 (record it { max_pack
 abbrev pub payload_entries : PacketizerState → ℕ → List ℕ → List Entry
 payload_entries it mtu payload = call_entries it.format (next_call it mtu payload)
 
--- the packets of a payload, under headers that are asked for
+-- its packets
+abbrev pub packets_of_payload : PacketizerState → ℕ → List ℕ → List (List ℕ)
+packets_of_payload it mtu payload = state_packets it (payload_entries it mtu payload)
+
+-- the same under headers that are asked for
 abbrev pub headed_packets : Option Bool → PacketizerState → ℕ → List ℕ → List (List ℕ)
-headed_packets headers it mtu payload =
-    under_headers headers (state_packets it (payload_entries it mtu payload))
+headed_packets headers it mtu payload = under_headers headers (packets_of_payload it mtu payload)
+
+-- whether a payload has no effect
+abbrev pub payload_has_no_effect : PacketizerState → ℕ → List ℕ → Bool
+payload_has_no_effect it mtu payload = has_no_effect it.format (next_call it mtu payload)
 
 -- a packetizer that has decoding order numbers, from 0, or none
 abbrev pub state_with_donl : Codec → Bool → PacketizerState → PacketizerState
@@ -69,24 +78,48 @@ state_with_donl codec has_donl it =
 abbrev pub after_payload : PacketizerState → ℕ → List ℕ → PacketizerState
 after_payload it mtu payload = after_entries it (payload_entries it mtu payload)
 
+-- a packetizer is behind packets where they were placed in memory, and else as it was
+abbrev pub IsBehindPlaced : Placement → (PacketizerState → PacketizerState) → AnyPacketizer →
+    AnyPacketizer → Type 0
+IsBehindPlaced made after old new = any_packetizer_state new
+    ≡ if_placed made (after (any_packetizer_state old)) (any_packetizer_state old)
+
 -- a depacketizer that is told with a packet to write units behind lengths or behind start codes
 abbrev pub told_depacketizer_state : Bool → AnyDepacketizer → DepacketizerState
 told_depacketizer_state is_avc it = any_depacketizer_state (any_depacketizer_with_avc is_avc it)
 
+-- the same with what was written and told so far
+abbrev pub told_depacketization : Bool → AnyDepacketizer → List ℕ → CodecExtra → Depacketization
+told_depacketization is_avc it out extra =
+    depacketization (told_depacketizer_state is_avc it) out extra
+
 -- what stands once it has taken a packet, where nothing was written before
 abbrev pub after_told_packet : Bool → AnyDepacketizer → CodecExtra → List ℕ → Depacketization
-after_told_packet is_avc it extra packet = after_packets
-    (depacketization (told_depacketizer_state is_avc it) [] extra) (packet ∷ [])
+after_told_packet is_avc it extra packet =
+    after_packets (told_depacketization is_avc it [] extra) (packet ∷ [])
+
+-- a depacketizer is as before but for its run, and shows a packet
+abbrev pub IsShowing : List ℕ → AnyDepacketizer → AnyDepacketizer → Type 0
+IsShowing packet old new = any_depacketizer_with_run None new
+    ≡ any_depacketizer_with_run None (any_depacketizer_showing packet old)
 
 -- the packetizer at an endpoint
 abbrev pub endpoint_packetizer_state : Endpoint → Option PacketizerState
 endpoint_packetizer_state (e.Sending it) = Some (any_packetizer_state it.packetizer)
 endpoint_packetizer_state it = None
 
+-- what a packetizer is that keeps the packets of its last call
+abbrev pub sending_state : SendingEndpoint → PacketizerState
+sending_state it = any_packetizer_state it.packetizer
+
 -- where aggregates get the header of their units: whether packets bear decoding order numbers
 abbrev pub headers_asked : SendingEndpoint → Option Bool
 headers_asked it = headers_wanted it.lowest_header (any_packetizer_codec it.packetizer)
     (any_packetizer_state it.packetizer).format.has_donl
+
+-- the packets that it makes of a payload
+abbrev pub sending_packets : SendingEndpoint → ℕ → List ℕ → List (List ℕ)
+sending_packets it mtu payload = headed_packets (headers_asked it) (sending_state it) mtu payload
 
 abbrev pub endpoint_headers : Endpoint → Option Bool
 endpoint_headers (e.Sending it) = headers_asked it

@@ -12,10 +12,9 @@ use crate::copy::{copy_first, copy_where_room};
 use h26x_access_units::{
     AccessUnitConfig, AccessUnitReceiver, Counts, Pushed, ReceivedUnit, Receives,
 };
-use h26x_codec::Codec;
+use h26x_codec::{AnyPayloadDepacketizer, Codec};
 use h26x_core::PacketError;
 use h26x_frames::RtpPacket;
-use h26x_receiver::AnyPayloadDepacketizer;
 use std::alloc::Global;
 
 /// What is told of an access unit.
@@ -138,6 +137,8 @@ impl GivesUnits for AccessUnitEndpoint {
 }
 
 impl AccessUnitEndpoint {
+    ghost use Rattle.h26x_handles.specs.AccessUnits.{units_state_of};
+
     /// A receiver that takes any sequence number as the first.
     pub fn new(
         alloc: Global,
@@ -148,8 +149,7 @@ impl AccessUnitEndpoint {
     ) -> Self
         requires some { 0 < config.window }
         requires half { config.window ≤ 2 ^ 14 }
-        ensures { let u = ⟦<AccessUnitEndpoint as GivesUnits>⟧.units in
-            u result ≡ fresh_access_units codec has_donl is_avc config }
+        ensures { units_state_of result ≡ fresh_access_units codec has_donl is_avc config }
     {
         let mut depacketizer = AnyPayloadDepacketizer::new(alloc, codec);
         depacketizer.with_donl(has_donl);
@@ -164,26 +164,24 @@ impl AccessUnitEndpoint {
     /// Takes a packet that came at this tick, and copies it where it waits. Without memory all stays as
     /// it was, and it can be given again.
     pub fn push(&mut self, now: u32, packet: &RtpPacket<'_>) -> Result<Pushed, PacketError>
-        ensures answer { let u = ⟦<AccessUnitEndpoint as GivesUnits>⟧.units in
-            IfOk result (λ answer. answer ≡ units_push_answer (u self.old) packet.now) }
-        ensures after { let u = ⟦<AccessUnitEndpoint as GivesUnits>⟧.units in
-            IfOk result (λ answer. IsUnitsPushed now packet.now (u self.old) (u self.new)) }
+        ensures answer { IfOk result (λ answer.
+            answer ≡ units_push_answer (units_state_of self.old) packet.now) }
+        ensures after { IfOk result (λ answer.
+            IsUnitsPushed now packet.now (units_state_of self.old) (units_state_of self.new)) }
         ensures memory { OnErr result (result ≡ Err PacketError.OutOfMemory) }
-        ensures kept { let u = ⟦<AccessUnitEndpoint as GivesUnits>⟧.units in
-            OnErr result (u self.new ≡ u self.old) }
+        ensures kept { OnErr result (units_state_of self.new ≡ units_state_of self.old) }
     {
         self.receiver.push(now, packet)
     }
 
     /// Passes over a number that came and bears nothing of the stream: it isn't missing.
     pub fn skip(&mut self, now: u32, sequence: u16) -> Result<Pushed, PacketError>
-        ensures answer { let u = ⟦<AccessUnitEndpoint as GivesUnits>⟧.units in IfOk result (λ answer.
-            answer ≡ units_push_answer (u self.old) (sequence, rtp_body 0 false [])) }
-        ensures after { let u = ⟦<AccessUnitEndpoint as GivesUnits>⟧.units in IfOk result (λ answer.
-            IsUnitsPushed now (sequence, rtp_body 0 false []) (u self.old) (u self.new)) }
+        ensures answer { IfOk result (λ answer.
+            answer ≡ units_push_answer (units_state_of self.old) (sequence, rtp_body 0 false [])) }
+        ensures after { IfOk result (λ answer. IsUnitsPushed now (sequence, rtp_body 0 false [])
+            (units_state_of self.old) (units_state_of self.new)) }
         ensures memory { OnErr result (result ≡ Err PacketError.OutOfMemory) }
-        ensures kept { let u = ⟦<AccessUnitEndpoint as GivesUnits>⟧.units in
-            OnErr result (u self.new ≡ u self.old) }
+        ensures kept { OnErr result (units_state_of self.new ≡ units_state_of self.old) }
     {
         self.receiver.skip(now, sequence)
     }
@@ -192,11 +190,12 @@ impl AccessUnitEndpoint {
     /// receiver gives out. It goes to the caller's memory where there is room for it, and else is kept
     /// for the next call. Without memory the packet for which it lacks is due still.
     pub fn next(&mut self, now: u32, to: &mut [u8]) -> Result<NextAnswer, PacketError>
-        ensures given { let u = ⟦<AccessUnitEndpoint as GivesUnits>⟧.units in IfOk result (λ answer.
-            IsUnitGiven now (u self.old) (u self.new) to.old to.new answer) }
+        ensures given { IfOk result (λ answer.
+            IsUnitGiven now (units_state_of self.old) (units_state_of self.new)
+            to.old to.new answer) }
         ensures memory { OnErr result (result ≡ Err PacketError.OutOfMemory) }
-        ensures taken { let u = ⟦<AccessUnitEndpoint as GivesUnits>⟧.units in
-            OnErr result (IsOutOfMemory now (u self.old) (u self.new)) }
+        ensures taken { OnErr result (IsOutOfMemory now (units_state_of self.old)
+            (units_state_of self.new)) }
         ensures kept_to { OnErr result (to.new ≡ to.old) }
     {
         if let Some(unit) = self.left.take() {
@@ -210,13 +209,12 @@ impl AccessUnitEndpoint {
 
     /// Gives out an access unit where there is room for it, and takes its memory back; else keeps it.
     fn give(&mut self, unit: ReceivedUnit, to: &mut [u8]) -> NextAnswer
-        requires { let u = ⟦<AccessUnitEndpoint as GivesUnits>⟧.units in (u self.old).left ≡ None }
+        requires { (units_state_of self.old).left ≡ None }
         ensures answer { result ≡ next_answer (Some (received_unit_value unit)) to.old }
         ensures put { to.new ≡ buffer_with_unit (Some (received_unit_value unit)) to.old }
-        ensures after { let u = ⟦<AccessUnitEndpoint as GivesUnits>⟧.units in
-            u self.new ≡ record (u self.old) {
-              left = unit_without_room (Some (received_unit_value unit)) to.old;
-            } }
+        ensures after { units_state_of self.new ≡ record (units_state_of self.old) {
+          left = unit_without_room (Some (received_unit_value unit)) to.old;
+        } }
     {
         let told = told_of(&unit);
         if copy_where_room(&unit.bytes, to) > to.len() {
@@ -229,8 +227,7 @@ impl AccessUnitEndpoint {
 
     /// When to ask for the next access unit at the latest, in the caller's ticks, if packets wait.
     pub fn deadline(&self) -> Option<u32>
-        ensures { let u = ⟦<AccessUnitEndpoint as GivesUnits>⟧.units in
-            result ≡ units_deadline (u self.now) }
+        ensures { result ≡ units_deadline (units_state_of self.now) }
     {
         self.receiver.deadline()
     }
@@ -238,10 +235,10 @@ impl AccessUnitEndpoint {
     /// Copies the numbers that are missing before packets that wait, in order, as many as there is room
     /// for; how many they all are.
     pub fn missing(&self, to: &mut [u16]) -> Result<usize, PacketError>
-        ensures count { let u = ⟦<AccessUnitEndpoint as GivesUnits>⟧.units in
-            IfOk result (λ count. count ≡ length (units_missing (u self.now))) }
-        ensures copied { let u = ⟦<AccessUnitEndpoint as GivesUnits>⟧.units in
-            IfOk result (λ count. to.new ≡ with_first (units_missing (u self.now)) to.old) }
+        ensures count { IfOk result (λ count.
+            count ≡ length (units_missing (units_state_of self.now))) }
+        ensures copied { IfOk result (λ count.
+            to.new ≡ with_first (units_missing (units_state_of self.now)) to.old) }
         ensures memory { OnErr result (result ≡ Err PacketError.OutOfMemory) }
         ensures kept_to { OnErr result (to.new ≡ to.old) }
     {
@@ -251,8 +248,7 @@ impl AccessUnitEndpoint {
 
     /// At the end of a stream: all that waits is due, and then the open access unit ends.
     pub fn finish(&mut self)
-        ensures { let u = ⟦<AccessUnitEndpoint as GivesUnits>⟧.units in
-            u self.new ≡ units_finished (u self.old) }
+        ensures { units_state_of self.new ≡ units_finished (units_state_of self.old) }
     {
         self.receiver.finish();
     }
@@ -260,8 +256,7 @@ impl AccessUnitEndpoint {
     /// Drops all that waits or is open, and takes any number as the next: for another sender (SSRC).
     /// The access unit that had no room stays.
     pub fn restart(&mut self)
-        ensures { let u = ⟦<AccessUnitEndpoint as GivesUnits>⟧.units in
-            u self.new ≡ units_restarted (u self.old) }
+        ensures { units_state_of self.new ≡ units_restarted (units_state_of self.old) }
     {
         self.receiver.restart();
     }

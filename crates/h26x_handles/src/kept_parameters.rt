@@ -1,12 +1,10 @@
 //! Format parameters with the units that they have, read once.
 
-ghost use Rattle.std.specs.Prelude.{◌≡◌, ◌<◌, ◌⊎◌, Ok, Err, IfOk, MatchResult, map, length, slice_index_or};
+ghost use Rattle.std.specs.Prelude.{◌≡◌, ◌<◌, Ok, MatchResult, map, length, slice_index_or};
 ghost use Rattle.std.specs.List.{range_with_len};
 ghost use Rattle.h26x_sdp.specs.Reading.{read_of};
 ghost use Rattle.h26x_sdp.specs.ParametersViews.{Fails};
-ghost use Rattle.h26x_sdp.specs.Units.{units_at};
-ghost use Rattle.h26x_sdp.specs.UnitsViews.{units_view};
-ghost use Rattle.h26x_handles.specs.Codes as codes;
+ghost use Rattle.h26x_sdp.specs.Units.{sprop_units_at};
 ghost use Rattle.h26x_handles.specs.KeptUnits.{kept_view};
 ghost use Rattle.h26x_handles.specs.Sdp as spec;
 ghost use Rattle.h26x_handles.specs.Sdp.{named_units};
@@ -33,7 +31,7 @@ impl<P: ListedParameter> Model for KeptParameters<P> {
     ghost use Rattle.std.specs.Prelude.{◌≡◌, map, length};
     ghost use Rattle.std.specs.List.{range_with_len};
     ghost use Rattle.h26x_sdp.specs.Reading.{FormatParameters};
-    ghost use Rattle.h26x_sdp.specs.Units.{units_at};
+    ghost use Rattle.h26x_sdp.specs.Units.{sprop_units_at};
     ghost use Rattle.h26x_handles.specs.KeptUnits.{kept_view};
 
     ghost Value = { FormatParameters };
@@ -41,7 +39,7 @@ impl<P: ListedParameter> Model for KeptParameters<P> {
     ghost view = { λ it. it.parameters };
 
     ghost invariant = { λ it. map kept_view it.units.items
-        ≡ map (units_at P.rows it.parameters) (range_with_len 0 (length P.rows)) };
+        ≡ map (sprop_units_at P.rows it.parameters) (range_with_len 0 (length P.rows)) };
 }
 
 /// Whether a parameter is units.
@@ -60,9 +58,8 @@ fn kept_of<P: ListedParameter>(
     it: &CodecParameters<P>,
     parameter: P,
 ) -> Result<Kept, u32>
-    ensures { MatchResult result
-        (λ kept. kept_view kept ≡ units_at P.rows it.now (P.place parameter))
-        (λ code. code ≡ codes.out_of_memory) }
+    ensures { spec.OkOrOutOfMemory result
+        (λ kept. kept_view kept ≡ sprop_units_at P.rows it.now (P.place parameter)) }
 {
     match it.units(alloc, parameter) {
         Ok(Some(units)) => Ok(Some(Ok(units))),
@@ -74,10 +71,9 @@ fn kept_of<P: ListedParameter>(
 
 /// The units of all.
 fn all_units<P: ListedParameter>(alloc: Global, it: &CodecParameters<P>) -> Result<Vec<Kept>, u32>
-    ensures { MatchResult result
+    ensures { spec.OkOrOutOfMemory result
         (λ kept. map kept_view kept.items
-        ≡ map (units_at P.rows it.now) (range_with_len 0 (length P.rows)))
-        (λ code. code ≡ codes.out_of_memory) }
+        ≡ map (sprop_units_at P.rows it.now) (range_with_len 0 (length P.rows))) }
 {
     let all = P::all();
     let mut kept = Vec::new(alloc);
@@ -101,7 +97,7 @@ fn kept_at(kept: &[Kept], place: usize) -> &Kept
 impl<P: ListedParameter> KeptParameters<P> {
     /// Parameters with their units.
     pub fn of(alloc: Global, parameters: CodecParameters<P>) -> Result<Self, u32>
-        ensures { (result ≡ Err codes.out_of_memory) ⊎ (result ≡ Ok parameters) }
+        ensures { spec.IsOrOutOfMemory result (Ok parameters) }
     {
         let units = all_units(alloc, &parameters)?;
         Ok(KeptParameters { parameters, units })
@@ -129,9 +125,7 @@ impl<P: ListedParameter> KeptParameters<P> {
 
     /// The units of the parameter with a name, without regard to case.
     pub fn units(&self, name: &[u8]) -> Result<&[Vec<u8>], Refused>
-        ensures { MatchResult result
-            (λ units. named_units P.rows self.now name.now ≡ Ok (units_view units.now))
-            (λ it. named_units P.rows self.now name.now ≡ Err it) }
+        ensures { spec.SaysNamedUnits result (named_units P.rows self.now name.now) }
     {
         let Some((place, kind)) = row_of(P::rows(), name) else {
             return Err(refused_with(UNKNOWN_NAME));

@@ -1,11 +1,11 @@
 //! A packetizer of any codec.
 
 ghost use Rattle.std.specs.Prelude.{◌≡◌, ◌≤◌, [], true, false, Err, IfOk, OnOk, OnErr, IsOk};
-ghost use Rattle.h26x_model.specs.Send.PacketizerState.{state_packets, after_entries, has_no_effect, one_unit_items, one_unit_packets, after_one_unit};
+ghost use Rattle.h26x_model.specs.Send.PacketizerState.{one_unit_items, one_unit_packets, after_one_unit};
 ghost use Rattle.h26x_payload.specs.Buffer.{with_packets};
-ghost use Rattle.h26x_payload.specs.Placement.{IsPlacement, IsSizeOf, if_placed, is_placed};
-ghost use Rattle.h26x_codec.specs.Codec.{codec_format, fresh_packetizer_state, next_call};
-ghost use Rattle.h26x_handles.specs.States.{any_packetizer_state, any_packetizer_codec, any_packetizer_with_donl, any_packetizer_with_max_packet_size, payload_entries};
+ghost use Rattle.h26x_payload.specs.Placement.{IsPlacement, IsSizeOf, is_placed};
+ghost use Rattle.h26x_codec.specs.Codec.{codec_format, fresh_packetizer_state};
+ghost use Rattle.h26x_handles.specs.States.{any_packetizer_state, any_packetizer_codec, any_packetizer_with_donl, any_packetizer_with_max_packet_size, packets_of_payload, payload_has_no_effect, after_payload, IsBehindPlaced};
 
 use h26x_codec::Codec;
 use h26x_core::PacketError;
@@ -93,17 +93,15 @@ impl AnyPacketizer {
         into: &mut PacketBuffer,
     ) -> Result<(), PacketError>
         ensures packets { OnOk result (into.new ≡ with_packets into.old
-            (state_packets (any_packetizer_state self.old)
-            (payload_entries (any_packetizer_state self.old) mtu payload.now))) }
+            (packets_of_payload (any_packetizer_state self.old) mtu payload.now)) }
         ensures after { OnOk result (any_packetizer_state self.new
-            ≡ after_entries (any_packetizer_state self.old)
-            (payload_entries (any_packetizer_state self.old) mtu payload.now)) }
+            ≡ after_payload (any_packetizer_state self.old) mtu payload.now) }
         ensures codec { any_packetizer_codec self.new ≡ any_packetizer_codec self.old }
         ensures kept { OnErr result (self.new ≡ self.old) }
         ensures kept_packets { OnErr result (into.new ≡ into.old) }
         ensures memory { OnErr result (result ≡ Err PacketError.OutOfMemory) }
-        ensures free { has_no_effect (any_packetizer_state self.old).format
-            (next_call (any_packetizer_state self.old) mtu payload.now) ≡ true → IsOk result }
+        ensures free { payload_has_no_effect (any_packetizer_state self.old) mtu payload.now
+            ≡ true → IsOk result }
     {
         match self {
             AnyPacketizer::H264(it) => it.packetize_into(mtu, payload, into),
@@ -147,11 +145,10 @@ impl AnyPacketizer {
         headroom: usize,
     ) -> Result<PacketsSize, PacketError>
         ensures size { IfOk result (λ it. IsSizeOf headroom
-            (state_packets (any_packetizer_state self.now)
-            (payload_entries (any_packetizer_state self.now) mtu payload.now)) it) }
+            (packets_of_payload (any_packetizer_state self.now) mtu payload.now) it) }
         ensures memory { OnErr result (result ≡ Err PacketError.OutOfMemory) }
-        ensures free { has_no_effect (any_packetizer_state self.now).format
-            (next_call (any_packetizer_state self.now) mtu payload.now) ≡ true → IsOk result }
+        ensures free { payload_has_no_effect (any_packetizer_state self.now) mtu payload.now
+            ≡ true → IsOk result }
     {
         match self {
             AnyPacketizer::H264(it) => it.packets_size(mtu, payload, headroom),
@@ -170,20 +167,17 @@ impl AnyPacketizer {
         ends: &mut [usize],
     ) -> Result<Placement, PacketError>
         ensures packets { IfOk result (λ it. IsPlacement headroom
-            (state_packets (any_packetizer_state self.old)
-            (payload_entries (any_packetizer_state self.old) mtu payload.now))
+            (packets_of_payload (any_packetizer_state self.old) mtu payload.now)
             to.old to.new ends.old ends.new it) }
-        ensures after { IfOk result (λ it. any_packetizer_state self.new ≡ if_placed it
-            (after_entries (any_packetizer_state self.old)
-            (payload_entries (any_packetizer_state self.old) mtu payload.now))
-            (any_packetizer_state self.old)) }
+        ensures after { IfOk result (λ it.
+            IsBehindPlaced it (λ s. after_payload s mtu payload.now) self.old self.new) }
         ensures codec { any_packetizer_codec self.new ≡ any_packetizer_codec self.old }
         ensures kept_unplaced { IfOk result (λ it. is_placed it ≡ false → self.new ≡ self.old) }
         ensures kept { OnErr result (self.new ≡ self.old) }
         ensures kept_memory { OnErr result ((to.new ≡ to.old) × (ends.new ≡ ends.old)) }
         ensures memory { OnErr result (result ≡ Err PacketError.OutOfMemory) }
-        ensures free { has_no_effect (any_packetizer_state self.old).format
-            (next_call (any_packetizer_state self.old) mtu payload.now) ≡ true → IsOk result }
+        ensures free { payload_has_no_effect (any_packetizer_state self.old) mtu payload.now
+            ≡ true → IsOk result }
     {
         match self {
             AnyPacketizer::H264(it) => it.packetize_to_memory(mtu, payload, headroom, to, ends),
@@ -205,9 +199,8 @@ impl AnyPacketizer {
         ensures packets { IfOk result (λ it. IsPlacement headroom
             (one_unit_packets (any_packetizer_state self.old) mtu unit.now)
             to.old to.new ends.old ends.new it) }
-        ensures after { IfOk result (λ it. any_packetizer_state self.new ≡ if_placed it
-            (after_one_unit (any_packetizer_state self.old) mtu unit.now)
-            (any_packetizer_state self.old)) }
+        ensures after { IfOk result (λ it.
+            IsBehindPlaced it (λ s. after_one_unit s mtu unit.now) self.old self.new) }
         ensures codec { any_packetizer_codec self.new ≡ any_packetizer_codec self.old }
         ensures kept_unplaced { IfOk result (λ it. is_placed it ≡ false → self.new ≡ self.old) }
         ensures kept { OnErr result (self.new ≡ self.old) }

@@ -1,17 +1,16 @@
 //! A depacketizer, and what its last accepted packet completed and had no room for.
 
-ghost use Rattle.std.specs.Prelude.{◌≡◌, [], ◌∷◌, None, Err, IfOk, OnOk, OnErr};
-ghost use Rattle.h26x_model.specs.Receive.DepacketizerState.{DepacketizerState, after_packets, IsPacketOutcome, depacketization};
+ghost use Rattle.std.specs.Prelude.{◌≡◌, [], ◌∷◌, Err, IfOk, OnOk, OnErr};
+ghost use Rattle.h26x_model.specs.Receive.DepacketizerState.{DepacketizerState, after_packets, IsPacketOutcome};
 ghost use Rattle.h26x_payload.specs.UnitSink.{grown_to};
-ghost use Rattle.h26x_receiver.specs.AnyDepacketizer.{any_depacketizer_with_run, fresh_any_depacketizer, any_depacketizer_showing};
+ghost use Rattle.h26x_codec.specs.AnyDepacketizer.{fresh_any_depacketizer};
 ghost use Rattle.h26x_handles.specs.Copies.{AreHandedOver};
-ghost use Rattle.h26x_handles.specs.States.{told_depacketizer_state, after_told_packet};
+ghost use Rattle.h26x_handles.specs.States.{told_depacketizer_state, told_depacketization, after_told_packet, IsShowing};
 
 use crate::copy::put_or_keep;
-use h26x_codec::Codec;
+use h26x_codec::{AnyDepacketizer, Codec};
 use h26x_core::{CodecExtra, PacketError};
 use h26x_payload::{MemorySink, UnitSink};
-use h26x_receiver::AnyDepacketizer;
 use std::alloc::Global;
 use std::marker::Model;
 
@@ -71,18 +70,16 @@ impl ReceivingEndpoint {
         written: &mut usize,
         extra: &mut CodecExtra,
     ) -> Result<(), PacketError>
-        ensures outcome { IsPacketOutcome (depacketization
-            (told_depacketizer_state is_avc self.old.depacketizer) [] extra.old)
-            packet.now result }
+        ensures outcome { IsPacketOutcome
+            (told_depacketization is_avc self.old.depacketizer [] extra.old) packet.now result }
 
         // What stands after a packet that was accepted.
         ensures run { OnOk result (told_depacketizer_state is_avc self.new.depacketizer
             ≡ (after_told_packet is_avc self.old.depacketizer extra.old packet.now).state) }
         ensures told { OnOk result (extra.new
             ≡ (after_told_packet is_avc self.old.depacketizer extra.old packet.now).extra) }
-        ensures rest { OnOk result (any_depacketizer_with_run None self.new.depacketizer
-            ≡ any_depacketizer_with_run None (any_depacketizer_showing packet.now
-            self.old.depacketizer)) }
+        ensures rest { OnOk result (IsShowing packet.now
+            self.old.depacketizer self.new.depacketizer) }
         ensures given { OnOk result (AreHandedOver
             (after_told_packet is_avc self.old.depacketizer extra.old packet.now).out
             to.old to.new written.new self.new.written) }
@@ -132,16 +129,15 @@ fn take<W: UnitSink>(
     out: &mut W,
     extra: &mut CodecExtra,
 ) -> Result<(), PacketError>
-    ensures outcome { IsPacketOutcome (depacketization (told_depacketizer_state is_avc it.old)
+    ensures outcome { IsPacketOutcome (told_depacketization is_avc it.old
         (W.sink out.old).bytes extra.old) packet.now result }
-    ensures taken { OnOk result (depacketization (told_depacketizer_state is_avc it.new)
+    ensures taken { OnOk result (told_depacketization is_avc it.new
         (W.sink out.new).bytes extra.new
-        ≡ after_packets (depacketization (told_depacketizer_state is_avc it.old)
+        ≡ after_packets (told_depacketization is_avc it.old
         (W.sink out.old).bytes extra.old) (packet.now ∷ [])) }
     ensures behind { OnOk result (W.sink out.new
         ≡ grown_to (W.sink out.new).bytes (W.sink out.old)) }
-    ensures rest { OnOk result (any_depacketizer_with_run None it.new
-        ≡ any_depacketizer_with_run None (any_depacketizer_showing packet.now it.old)) }
+    ensures rest { OnOk result (IsShowing packet.now it.old it.new) }
     ensures kept { OnErr result (it.new ≡ it.old) }
     ensures kept_sink { OnErr result (W.sink out.new ≡ W.sink out.old) }
     ensures kept_extra { OnErr result (extra.new ≡ extra.old) }

@@ -1,11 +1,8 @@
 //! Format parameters of SDP, with their codec.
 
-ghost use Rattle.std.specs.Prelude.{◌≡◌, ◌⊎◌, List, ℕ, Ok, Err, Some, None, IfOk, MatchResult, map};
-ghost use Rattle.h26x_cut.specs.Cutting.{AreUnits};
-ghost use Rattle.h26x_codec.specs.Repeating.{zero_rule};
+ghost use Rattle.std.specs.Prelude.{◌≡◌, ◌⊎◌, Ok, Err, Some, None, IfOk, map};
 ghost use Rattle.h26x_sdp.specs.Answers.{answer_by, rules_of};
 ghost use Rattle.h26x_sdp.specs.ParametersViews.{other_view};
-ghost use Rattle.h26x_sdp.specs.UnitsViews.{units_view};
 ghost use Rattle.h26x_handles.specs.Codes as codes;
 ghost use Rattle.h26x_handles.specs.SdpCodes.{no_answer};
 ghost use Rattle.h26x_handles.specs.SdpCodes as code;
@@ -49,9 +46,8 @@ fn value_of<'a, P: ListedParameter>(
     name: &[u8],
     or_default: bool,
 ) -> Result<&'a [u8], u32>
-    ensures { MatchResult result
-        (λ value. spec.named_value P.rows it.now name.now or_default ≡ Ok value.now)
-        (λ code. spec.named_value P.rows it.now name.now or_default ≡ Err code) }
+    ensures { spec.SaysNamedValue result
+        (spec.named_value P.rows it.now name.now or_default) }
 {
     let Some((parameter, _)) = parameter_of(name) else {
         return Err(UNKNOWN_NAME);
@@ -92,8 +88,8 @@ fn answer_of<P: ListedParameter>(
     offered: &KeptParameters<P>,
     ours: &KeptParameters<P>,
 ) -> Result<KeptParameters<P>, u32>
-    ensures { (result ≡ Err codes.out_of_memory) ⊎ (result
-        ≡ spec.answer_or_code (rules_of P.rows P.roles P.terms) offered.now ours.now) }
+    ensures { spec.IsOrOutOfMemory result
+        (spec.answer_or_code (rules_of P.rows P.roles P.terms) offered.now ours.now) }
 {
     match offered
         .parameters()
@@ -130,8 +126,8 @@ impl SdpEndpoint {
     /// What a sender says of its stream, out of the bytes that it begins with.
     #[tactic(auto, using(crate::proofs::ErrorLemmas::fails_stream_or))]
     pub fn of_payload(alloc: Global, codec: Codec, payload: &[u8]) -> Result<Self, u32>
-        ensures { (list : List (List ℕ)) × AreUnits (zero_rule codec) payload.now list
-            × ((result ≡ Err codes.out_of_memory) ⊎ (result ≡ spec.sdp_of_units codec list)) }
+        ensures { spec.OfPayloadUnits codec payload.now
+            (λ units. spec.IsOrOutOfMemory result (spec.sdp_of_units codec units)) }
     {
         match codec {
             Codec::H264 => match h264_of_payload(alloc, payload) {
@@ -151,8 +147,7 @@ impl SdpEndpoint {
 
     /// The answer to an offered format by one of ours; there is none of another codec.
     pub fn answer(&self, alloc: Global, ours: &SdpEndpoint) -> Result<Self, u32>
-        ensures { (result ≡ Err codes.out_of_memory)
-            ⊎ (result ≡ spec.sdp_answer self.now ours.now) }
+        ensures { spec.IsOrOutOfMemory result (spec.sdp_answer self.now ours.now) }
     {
         match (self, ours) {
             (SdpEndpoint::H264(offered), SdpEndpoint::H264(ours)) => {
@@ -192,9 +187,7 @@ impl SdpEndpoint {
 
     /// The value of the parameter with a name, without regard to case.
     pub fn value(&self, name: &[u8], or_default: bool) -> Result<&[u8], u32>
-        ensures { MatchResult result
-            (λ value. spec.sdp_value self.now name.now or_default ≡ Ok value.now)
-            (λ code. spec.sdp_value self.now name.now or_default ≡ Err code) }
+        ensures { spec.SaysNamedValue result (spec.sdp_value self.now name.now or_default) }
     {
         match self {
             SdpEndpoint::H264(it) => value_of(it.parameters(), name, or_default),
@@ -216,9 +209,7 @@ impl SdpEndpoint {
 
     /// The units of the parameter with a name, without regard to case.
     pub fn units(&self, name: &[u8]) -> Result<&[Vec<u8>], Refused>
-        ensures { MatchResult result
-            (λ units. spec.sdp_units self.now name.now ≡ Ok (units_view units.now))
-            (λ it. spec.sdp_units self.now name.now ≡ Err it) }
+        ensures { spec.SaysNamedUnits result (spec.sdp_units self.now name.now) }
     {
         match self {
             SdpEndpoint::H264(it) => it.units(name),

@@ -2,10 +2,10 @@
 
 ghost use Rattle.std.specs.Prelude.{◌≡◌, ◌≤◌, [], Err, true, false, IfOk, OnOk, OnErr, IsOk, length, drop};
 ghost use Rattle.std.specs.List.{concat};
-ghost use Rattle.h26x_model.specs.Send.PacketizerState.{has_no_effect, one_unit_items, one_unit_packets, after_one_unit};
-ghost use Rattle.h26x_payload.specs.Placement.{IsPlacement, if_placed, is_placed};
-ghost use Rattle.h26x_codec.specs.Codec.{codec_format, fresh_packetizer_state, next_call};
-ghost use Rattle.h26x_handles.specs.States.{any_packetizer_state, any_packetizer_codec, any_packetizer_with_donl, any_packetizer_with_max_packet_size, headed_packets, after_payload, headers_asked};
+ghost use Rattle.h26x_model.specs.Send.PacketizerState.{one_unit_items, one_unit_packets, after_one_unit};
+ghost use Rattle.h26x_payload.specs.Placement.{IsPlacement, is_placed};
+ghost use Rattle.h26x_codec.specs.Codec.{codec_format, fresh_packetizer_state};
+ghost use Rattle.h26x_handles.specs.States.{any_packetizer_codec, any_packetizer_with_donl, any_packetizer_with_max_packet_size, sending_state, sending_packets, payload_has_no_effect, after_payload, headers_asked, IsBehindPlaced};
 ghost use Rattle.h26x_handles.specs.Copies.{nth_packet, AreCopied};
 
 use crate::code::may_have_donl;
@@ -53,7 +53,7 @@ impl SendingEndpoint {
     /// A packetizer for which nothing waits, and no packets.
     pub fn new(alloc: Global, codec: Codec, has_donl: bool) -> Self
         ensures codec { any_packetizer_codec result.packetizer ≡ codec }
-        ensures fresh { any_packetizer_state result.packetizer
+        ensures fresh { sending_state result
             ≡ fresh_packetizer_state (codec_format codec has_donl) }
         ensures none { result.packets ≡ [] }
         ensures off { result.lowest_header ≡ false }
@@ -119,17 +119,16 @@ impl SendingEndpoint {
 
     /// Makes the packets of a payload, which take the place of the last call's.
     pub fn packetize(&mut self, mtu: usize, payload: &[u8]) -> Result<(), PacketError>
-        ensures packets { OnOk result (self.new.packets ≡ headed_packets (headers_asked self.old)
-            (any_packetizer_state self.old.packetizer) mtu payload.now) }
-        ensures after { OnOk result (any_packetizer_state self.new.packetizer
-            ≡ after_payload (any_packetizer_state self.old.packetizer) mtu payload.now) }
+        ensures packets { OnOk result (self.new.packets
+            ≡ sending_packets self.old mtu payload.now) }
+        ensures after { OnOk result (sending_state self.new
+            ≡ after_payload (sending_state self.old) mtu payload.now) }
         ensures codec { any_packetizer_codec self.new.packetizer
             ≡ any_packetizer_codec self.old.packetizer }
         ensures lowest { self.new.lowest_header ≡ self.old.lowest_header }
         ensures kept { OnErr result (self.new ≡ self.old) }
         ensures memory { OnErr result (result ≡ Err PacketError.OutOfMemory) }
-        ensures free { has_no_effect (any_packetizer_state self.old.packetizer).format
-            (next_call (any_packetizer_state self.old.packetizer) mtu payload.now) ≡ true →
+        ensures free { payload_has_no_effect (sending_state self.old) mtu payload.now ≡ true →
             IsOk result }
     {
         let headers = self.headers();
@@ -144,9 +143,9 @@ impl SendingEndpoint {
     /// Makes the packets of one unit as it is, which take the place of the last call's.
     pub fn packetize_unit(&mut self, mtu: usize, unit: &[u8]) -> Result<(), PacketError>
         ensures packets { OnOk result (self.new.packets
-            ≡ one_unit_packets (any_packetizer_state self.old.packetizer) mtu unit.now) }
-        ensures after { OnOk result (any_packetizer_state self.new.packetizer
-            ≡ after_one_unit (any_packetizer_state self.old.packetizer) mtu unit.now) }
+            ≡ one_unit_packets (sending_state self.old) mtu unit.now) }
+        ensures after { OnOk result (sending_state self.new
+            ≡ after_one_unit (sending_state self.old) mtu unit.now) }
         ensures codec { any_packetizer_codec self.new.packetizer
             ≡ any_packetizer_codec self.old.packetizer }
         ensures lowest { self.new.lowest_header ≡ self.old.lowest_header }
@@ -154,8 +153,7 @@ impl SendingEndpoint {
         ensures memory { OnErr result (result ≡ Err PacketError.OutOfMemory) }
 
         // Nothing is sent without memory.
-        ensures free { one_unit_items (any_packetizer_state self.old.packetizer) mtu unit.now ≡ [] →
-            IsOk result }
+        ensures free { one_unit_items (sending_state self.old) mtu unit.now ≡ [] → IsOk result }
     {
         self.spare.clear();
         self.packetizer
@@ -173,12 +171,10 @@ impl SendingEndpoint {
         to: &mut [u8],
         ends: &mut [usize],
     ) -> Result<Placement, PacketError>
-        ensures packets { IfOk result (λ it. IsPlacement headroom (headed_packets
-            (headers_asked self.old) (any_packetizer_state self.old.packetizer) mtu payload.now)
-            to.old to.new ends.old ends.new it) }
-        ensures after { IfOk result (λ it. any_packetizer_state self.new.packetizer ≡ if_placed it
-            (after_payload (any_packetizer_state self.old.packetizer) mtu payload.now)
-            (any_packetizer_state self.old.packetizer)) }
+        ensures packets { IfOk result (λ it. IsPlacement headroom
+            (sending_packets self.old mtu payload.now) to.old to.new ends.old ends.new it) }
+        ensures after { IfOk result (λ it. IsBehindPlaced it
+            (λ s. after_payload s mtu payload.now) self.old.packetizer self.new.packetizer) }
         ensures codec { any_packetizer_codec self.new.packetizer
             ≡ any_packetizer_codec self.old.packetizer }
         ensures kept_packets { self.new.packets ≡ self.old.packets }
@@ -187,8 +183,7 @@ impl SendingEndpoint {
         ensures kept { OnErr result (self.new ≡ self.old) }
         ensures kept_memory { OnErr result ((to.new ≡ to.old) × (ends.new ≡ ends.old)) }
         ensures memory { OnErr result (result ≡ Err PacketError.OutOfMemory) }
-        ensures free { has_no_effect (any_packetizer_state self.old.packetizer).format
-            (next_call (any_packetizer_state self.old.packetizer) mtu payload.now) ≡ true →
+        ensures free { payload_has_no_effect (sending_state self.old) mtu payload.now ≡ true →
             IsOk result }
     {
         let headers = self.headers();
@@ -210,11 +205,10 @@ impl SendingEndpoint {
         ends: &mut [usize],
     ) -> Result<Placement, PacketError>
         ensures packets { IfOk result (λ it. IsPlacement headroom
-            (one_unit_packets (any_packetizer_state self.old.packetizer) mtu unit.now)
+            (one_unit_packets (sending_state self.old) mtu unit.now)
             to.old to.new ends.old ends.new it) }
-        ensures after { IfOk result (λ it. any_packetizer_state self.new.packetizer ≡ if_placed it
-            (after_one_unit (any_packetizer_state self.old.packetizer) mtu unit.now)
-            (any_packetizer_state self.old.packetizer)) }
+        ensures after { IfOk result (λ it. IsBehindPlaced it
+            (λ s. after_one_unit s mtu unit.now) self.old.packetizer self.new.packetizer) }
         ensures codec { any_packetizer_codec self.new.packetizer
             ≡ any_packetizer_codec self.old.packetizer }
         ensures kept_packets { self.new.packets ≡ self.old.packets }
@@ -225,8 +219,7 @@ impl SendingEndpoint {
         ensures memory { OnErr result (result ≡ Err PacketError.OutOfMemory) }
 
         // Nothing is sent without memory.
-        ensures free { one_unit_items (any_packetizer_state self.old.packetizer) mtu unit.now ≡ [] →
-            IsOk result }
+        ensures free { one_unit_items (sending_state self.old) mtu unit.now ≡ [] → IsOk result }
     {
         self.packetizer
             .packetize_unit_to_memory(mtu, unit, headroom, to, ends)

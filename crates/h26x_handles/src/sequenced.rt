@@ -2,16 +2,16 @@
 //! and had no room for.
 
 ghost use Rattle.std.specs.Prelude.{◌≡◌, ◌≤◌, [], true, false, None, Err, IfOk, OnErr};
-ghost use Rattle.h26x_receiver.specs.AnyDepacketizer.{any_depacketizer_state, any_depacketizer_with_avc, any_depacketizer_with_donl, any_depacketizer_with_run, any_depacketizer_showing};
+ghost use Rattle.h26x_codec.specs.AnyDepacketizer.{any_depacketizer_state, any_depacketizer_with_avc, any_depacketizer_with_donl, any_depacketizer_with_run};
 ghost use Rattle.h26x_receiver.specs.Sequenced.{IsSequencedAnswer, is_taken, skip_answer};
 ghost use Rattle.h26x_handles.specs.Copies.{AreHandedOver};
-ghost use Rattle.h26x_handles.specs.States.{receiver_at_work, after_receiver_packet, receiver_run_len, receiver_after_skip, fresh_receiver};
+ghost use Rattle.h26x_handles.specs.States.{receiver_at_work, after_receiver_packet, receiver_run_len, receiver_after_skip, fresh_receiver, IsShowing};
 
 use crate::copy::put_or_keep;
-use h26x_codec::Codec;
+use h26x_codec::{AnyDepacketizer, Codec};
 use h26x_core::{CodecExtra, PacketError};
-use h26x_payload::MemorySink;
-use h26x_receiver::{AnyDepacketizer, Received, RunDepacketizer, SequencedDepacketizer};
+use h26x_payload::{MemorySink, RunDepacketizer};
+use h26x_receiver::{Received, SequencedDepacketizer};
 use std::alloc::Global;
 use std::marker::Model;
 
@@ -90,9 +90,8 @@ impl SequencedEndpoint {
             ≡ (after_receiver_packet self.old extra.old sequence packet.now).expected }
         ensures told { is_taken result ≡ true → extra.new
             ≡ (after_receiver_packet self.old extra.old sequence packet.now).at_work.extra }
-        ensures rest { is_taken result ≡ true → any_depacketizer_with_run None self.new.depacketizer
-            ≡ any_depacketizer_with_run None (any_depacketizer_showing packet.now
-            self.old.depacketizer) }
+        ensures rest { is_taken result ≡ true →
+            IsShowing packet.now self.old.depacketizer self.new.depacketizer }
         ensures given { is_taken result ≡ true → AreHandedOver
             (after_receiver_packet self.old extra.old sequence packet.now).at_work.out
             to.old to.new written.new self.new.written }

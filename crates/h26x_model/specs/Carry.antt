@@ -4,3 +4,4 @@ pub mod Detection
 pub mod Laws
 pub mod Gaps
 pub mod AnySender
+pub mod Sent

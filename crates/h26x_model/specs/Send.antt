@@ -9,3 +9,4 @@ pub mod Limit
 pub mod Rival
 pub mod Again
 pub mod PacketizerState
+pub mod Laws

@@ -2,43 +2,40 @@
 //! is the contract of a function without a result. The crates of the codecs show the facts of
 //! theirs.
 
-ghost use Rattle.std.specs.Prelude.{◌≡◌, true, ◌%◌, ℕ, Bool, Option, List, [], ◌∷◌, ◌++◌, Some, None, ◌+◌, ◌≤◌, false, length, IsTrue, ◌<◌, map};
-ghost use Rattle.std.specs.List.{AllByRecursion, Contains, flat_map};
-ghost use Rattle.h26x_model.specs.Payload.Reading.{Reading, IsRead};
+ghost use Rattle.std.specs.Prelude.{◌≡◌, ◌%◌, ℕ, Bool, List, [], ◌∷◌, ◌++◌, Some, None, ◌+◌, ◌≤◌, false, length, ◌<◌};
+ghost use Rattle.std.specs.List.{AllByRecursion, flat_map};
+ghost use Rattle.h26x_model.specs.Payload.Reading.{Reading};
 ghost use Rattle.h26x_model.specs.Payload.Format.{Format, donl_len, fragment_header_len};
-ghost use Rattle.h26x_model.specs.Send.Calls.{Call, AreCalls, packet_limit};
-ghost use Rattle.h26x_model.specs.Send.Group.{Entry, Group, split, AreGroups, latest_sets};
-ghost use Rattle.h26x_model.specs.Send.Plan.{plan, PlansCallByCall, WaitsCallByCall, Item, fits_one_packet, is_dropped, item_units, KeepsLast};
+ghost use Rattle.h26x_model.specs.Send.Calls.{Call, AreCalls};
+ghost use Rattle.h26x_model.specs.Send.Group.{Entry, split, AreGroups};
+ghost use Rattle.h26x_model.specs.Send.Plan.{plan, PlansCallByCall, WaitsCallByCall, Item, is_dropped, item_units, KeepsLast};
 ghost use Rattle.h26x_model.specs.Send.WaitingSets.{WaitingSets, AreWaitingSets, entries_with_limit, plan_with_waiting, no_waiting_sets, waiting_after, sets_waiting};
 ghost use Rattle.h26x_model.specs.Send.Packets.{plan_packets};
-ghost use Rattle.h26x_model.specs.Send.Fragments.{AreFragments, ReadsFragments, AreMarked, IsLong, GoesInFragments};
-ghost use Rattle.h26x_model.specs.Send.Limit.{AreWithinLimit, ItemIsWithinLimit};
+ghost use Rattle.h26x_model.specs.Send.Fragments.{IsLong, GoesInFragments};
+ghost use Rattle.h26x_model.specs.Send.Limit.{ItemIsWithinLimit};
 ghost use Rattle.h26x_model.specs.Payload.Don.{DonsInOrder};
 ghost use Rattle.h26x_model.specs.Send.Rival.{TakesFewestFragments};
 ghost use Rattle.h26x_model.specs.Receive.Run.{AreReceived, PlaceBrings};
-ghost use Rattle.h26x_model.specs.Receive.Received.{open_run, IsOpenRun, run_after, units_after, received, reading_units};
+ghost use Rattle.h26x_model.specs.Receive.Received.{open_run, IsOpenRun, units_after, received, reading_units};
 ghost use Rattle.h26x_core.specs.Kind.{Skipped};
-ghost use Rattle.h26x_model.specs.Payload.Facts.{MarksFragments, DonlHasTwoBytes, IsPayloadFormat, FitsLimits, HeadersTakeRoom, ReadsWhatItWrites, CanSend, IsPlanned, KnowsKeyUnits, KeyUnitsAreOther, SetsLeaveRoom};
+ghost use Rattle.h26x_model.specs.Payload.Facts.{MarksFragments, DonlHasTwoBytes, IsPayloadFormat, FitsLimits, HeadersTakeRoom, ReadsWhatItWrites, KnowsKeyUnits, KeyUnitsAreOther, SetsLeaveRoom};
 ghost use Rattle.h26x_model.specs.Carry.Loss.{LossStaysWithin};
-ghost use Rattle.h26x_model.specs.Send.Again.{NothingDropped, IsSteady};
+ghost use Rattle.h26x_model.specs.Send.Again.{IsSteady};
 ghost use Rattle.h26x_model.specs.Carry.Detection.{AreDetected};
-ghost use Rattle.h26x_model.specs.Send.PacketizerState.{PacketizerState, IsPacketizerState, IsSamePacketizerState, state_plan, state_units, calls_plan, HaveSameEffect, has_no_effect, packetizer_meaning, one_unit_units, one_unit_packets, after_one_unit};
+ghost use Rattle.h26x_model.specs.Send.PacketizerState.{PacketizerState, IsPacketizerState, IsSamePacketizerState, state_plan, state_units, calls_plan, packetizer_meaning, after_one_unit};
 ghost use Rattle.h26x_model.specs.Receive.DepacketizerState.{DepacketizerState, Depacketization, readings_units, run_after_readings, depacketizer_meaning};
-ghost use Rattle.h26x_model.specs.Receive.RunLimit.{run_len};
 ghost use Rattle.h26x_model.specs.Carry.Gaps.{WritesWholeUnits};
 ghost use Rattle.h26x_model.specs.Carry.AnySender.{WritesWhatCame};
-ghost use Rattle.h26x_model.specs.Carry.Laws.{PacketizerGoesOn, DepacketizerGoesOn, CarriesWhole, LosesLittle, SendsAgain, AreCallsCarried, IfCarried, IsMaskOf};
+ghost use Rattle.h26x_model.specs.Carry.Laws.{PacketizerGoesOn, DepacketizerGoesOn, CarriesWhole, LosesLittle, SendsAgain, AreCallsCarried, IfCarried};
 ghost use Rattle.h26x_model.specs.Where.{Where};
+ghost use Rattle.h26x_model.specs.Send.Laws.{HasOneGrouping, sets_left, PlansUnitByUnit, WaitsUnitByUnit, OneUnitIsWithin, FragmentsAreByPlace, FragmentsAreRead, FragmentsAreMarked, KeepsAll, CameOrWaited, MayLeaveOutCalls};
+ghost use Rattle.h26x_model.specs.Carry.Sent.{ArePlanned, CanSendAll, ReceivesWhatIsSent, ReadsWhatIsSent, OneUnitIsReceived, IfSendable, IfSomeCame, RunsGrowByPackets};
 
 /// A list of units is groups and a rest in one way, and `split` finds it.
 pub fn one_grouping()
     ensures is { (f : Format) (entries : List Entry) → AreGroups f entries (split f entries).groups
         (split f entries).rest }
-    ensures only { (f : Format) (entries : List Entry) (groups : List Group) (rest : List Entry) →
-        AreGroups f entries groups rest → split f entries ≡ record {
-          groups = groups;
-          rest = rest;
-        } }
+    ensures only { (f : Format) (entries : List Entry) → HasOneGrouping f entries }
 {}
 
 /// A plan may be made call by call, by the sets that wait; so may the sets that wait in the end.
@@ -52,15 +49,11 @@ pub fn plans_unit_by_unit()
     ensures plan { (f : Format) (entries : List Entry) →
         plan f entries ≡ plan_with_waiting f no_waiting_sets entries }
     ensures waits { (f : Format) (entries : List Entry) →
-        latest_sets f (split f entries).rest ≡ sets_waiting (waiting_after f no_waiting_sets entries) }
+        sets_left f entries ≡ sets_waiting (waiting_after f no_waiting_sets entries) }
     ensures plan_with { (f : Format) (limit : ℕ) (w : WaitingSets) (entries : List Entry) →
-        AreWaitingSets f w →
-        plan f (entries_with_limit limit (sets_waiting w) ++ entries) ≡ plan_with_waiting f w entries }
+        PlansUnitByUnit f limit w entries }
     ensures waits_with { (f : Format) (limit : ℕ) (w : WaitingSets) (entries : List Entry) →
-        AreWaitingSets f w →
-        latest_sets f (split f (entries_with_limit limit (sets_waiting w) ++ entries)).rest
-        ≡ sets_waiting
-        (waiting_after f w entries) }
+        WaitsUnitByUnit f limit w entries }
     ensures sets { (f : Format) (w : WaitingSets) (entries : List Entry) → AreWaitingSets f w →
         AreWaitingSets f (waiting_after f w entries) }
 {}
@@ -84,27 +77,18 @@ pub fn packets_are_within_limits()
 /// stays one, and where packets can carry the unit it is received, whatever came before.
 pub fn a_unit_sent_as_it_is()
     ensures within { (s : PacketizerState) (mtu : ℕ) (unit : List ℕ) → FitsLimits s.format →
-        AreWithinLimit (packet_limit s.format s.max_packet_size mtu) (one_unit_packets s mtu unit) }
+        OneUnitIsWithin s mtu unit }
     ensures stays { (s : PacketizerState) (mtu : ℕ) (unit : List ℕ) → IsPacketizerState s →
         IsPacketizerState (after_one_unit s mtu unit) }
     ensures received { (s : PacketizerState) (mtu : ℕ) (unit : List ℕ) (earlier : List Reading) →
-        ReadsWhatItWrites s.format → IsTrue (s.format.carries unit) →
-        units_after earlier (map s.format.read (one_unit_packets s mtu unit))
-        ≡ one_unit_units s mtu unit }
+        OneUnitIsReceived s mtu unit earlier }
 {}
 
 /// The fragments of a unit, place by place, and the marks that they bear.
 pub fn fragments_by_place()
-    ensures are { (f : Format) (n limit : ℕ) (unit : List ℕ) → fits_one_packet f limit unit ≡ false →
-        is_dropped f limit unit ≡ false → f.header_len ≤ length unit → AreFragments f n limit unit }
-    ensures read { (f : Format) → ReadsWhatItWrites f → (n limit : ℕ) (unit : List ℕ) →
-        fits_one_packet f limit unit ≡ false → is_dropped f limit unit ≡ false →
-        IsTrue (f.carries unit) →
-        ReadsFragments f n limit unit }
-    ensures marked { (f : Format) → MarksFragments f → (n limit : ℕ) (unit : List ℕ) →
-        fits_one_packet f limit unit ≡ false → is_dropped f limit unit ≡ false →
-        f.header_len ≤ length unit →
-        AreMarked f n limit unit }
+    ensures are { (f : Format) → FragmentsAreByPlace f }
+    ensures read { (f : Format) → ReadsWhatItWrites f → FragmentsAreRead f }
+    ensures marked { (f : Format) → MarksFragments f → FragmentsAreMarked f }
 {}
 
 /// A unit that is longer, with its number, than its limit goes in fragments where the limit leaves
@@ -122,7 +106,7 @@ pub fn fewest_fragments()
 /// The unit at place i of the units sent has number n + i, and numbers go on from call to call.
 pub fn dons_in_order()
     ensures dons { (f : Format) → ReadsWhatItWrites f → (n : ℕ) (items : List Item) →
-        AllByRecursion (CanSend f) items → DonsInOrder f n items }
+        CanSendAll f items → DonsInOrder f n items }
     ensures call_by_call { (f : Format) (n : ℕ) (a b : List Item) →
         plan_packets f n (a ++ b) ≡ plan_packets f n a
         ++ plan_packets f (n + length (flat_map item_units a)) b }
@@ -149,20 +133,16 @@ pub fn what_is_carried_can_be_sent()
     ensures planned { (s : PacketizerState) (calls : List Call) → IsPacketizerState s →
         SetsLeaveRoom s.format →
         KeyUnitsAreOther s.format → AreCalls calls → AreCallsCarried s calls →
-        AllByRecursion (IsPlanned s.format) (calls_plan s calls) }
+        ArePlanned s.format (calls_plan s calls) }
     ensures can_send { (f : Format) → ReadsWhatItWrites f → (items : List Item) →
-        AllByRecursion (IsPlanned f) items → AllByRecursion (CanSend f) items }
+        ArePlanned f items → CanSendAll f items }
 {}
 
 /// From all packets what is sent is received, whatever came before; and none of them is refused for
 /// what it is.
 pub fn what_is_sent_is_received()
-    ensures items { (f : Format) → ReadsWhatItWrites f →
-        (n : ℕ) (items : List Item) (earlier : List Reading) → AllByRecursion (CanSend f) items →
-        units_after earlier (map f.read (plan_packets f n items)) ≡ flat_map item_units items }
-    ensures read { (f : Format) → ReadsWhatItWrites f → (n : ℕ) (items : List Item) →
-        AllByRecursion (CanSend f) items →
-        AllByRecursion (λ packet. IsRead (f.read packet)) (plan_packets f n items) }
+    ensures items { (f : Format) → ReadsWhatItWrites f → ReceivesWhatIsSent f }
+    ensures read { (f : Format) → ReadsWhatItWrites f → ReadsWhatIsSent f }
 {}
 
 /// A lost packet hurts no item but its own, whatever came before.
@@ -174,26 +154,24 @@ pub fn loss_stays_within()
 /// sent again.
 pub fn what_was_sent_is_sent_again()
     ensures { (f : Format) (limit : ℕ) (units : List (List ℕ)) →
-        NothingDropped f (entries_with_limit limit units) → IsSteady f limit units }
+        KeepsAll f limit units → IsSteady f limit units }
 {}
 
 /// A key unit is detected in its packet or its first fragment, and in no other packet made, but for
 /// aggregates that bear numbers.
 pub fn key_units_are_detected()
     ensures { (f : Format) → KnowsKeyUnits f → ReadsWhatItWrites f → (n : ℕ) (items : List Item) →
-        AllByRecursion (IsPlanned f) items → AreDetected f n items }
+        ArePlanned f items → AreDetected f n items }
 {}
 
 /// Of what calls send, whichever sets wait and whatever the next decoding order number is: numbers
 /// go on by one from unit to unit (RFC 7798, 4.6; RFC 9328, 4.4); the packet or the first fragment of
 /// each key unit is detected, and no other packet but aggregates that bear numbers.
 pub fn what_calls_send_is_in_order_and_detected()
-    ensures dons { (s : PacketizerState) (calls : List Call) → IsPayloadFormat s.format →
-        IsPacketizerState s → AreCalls calls → AreCallsCarried s calls →
-        DonsInOrder s.format s.next_don (calls_plan s calls) }
-    ensures detected { (s : PacketizerState) (calls : List Call) → IsPayloadFormat s.format →
-        IsPacketizerState s → AreCalls calls → AreCallsCarried s calls →
-        AreDetected s.format s.next_don (calls_plan s calls) }
+    ensures dons { (s : PacketizerState) (calls : List Call) →
+        IfSendable s calls (DonsInOrder s.format s.next_don (calls_plan s calls)) }
+    ensures detected { (s : PacketizerState) (calls : List Call) →
+        IfSendable s calls (AreDetected s.format s.next_don (calls_plan s calls)) }
 {}
 
 /// Numbers are two bytes: packets numbered on from n are those numbered on from its remainder;
@@ -225,8 +203,7 @@ pub fn packetizers_go_on()
 /// packets, and what waits and the next decoding order number are the same.
 pub fn calls_without_effect()
     ensures { (s : PacketizerState) → IsPayloadFormat s.format → IsPacketizerState s →
-        (before later : List Call) (call : Call) → has_no_effect s.format call ≡ true →
-        HaveSameEffect s (before ++ call ∷ later) (before ++ later) }
+        MayLeaveOutCalls s }
 {}
 
 /// A depacketizer goes on from packets to packets.
@@ -245,8 +222,7 @@ pub fn what_calls_send_is_carried()
 /// whatever run was open.
 pub fn what_is_left_is_brought()
     ensures { (s : PacketizerState) (w : Depacketization) (calls : List Call) →
-        IfCarried s w calls ((mask : List Bool) → IsMaskOf mask s calls →
-        LosesLittle s w calls mask) }
+        IfSomeCame s w calls (LosesLittle s w calls) }
 {}
 
 /// Where the open run is given up at each packet that is missing, and where it is longer than a
@@ -254,8 +230,7 @@ pub fn what_is_left_is_brought()
 /// that the run may hold, and nothing else; whatever run was open.
 pub fn nothing_is_damaged()
     ensures { (most : ℕ) (s : PacketizerState) (w : Depacketization) (calls : List Call) →
-        IfCarried s w calls ((mask : List Bool) → IsMaskOf mask s calls →
-        WritesWholeUnits most s w calls mask) }
+        IfSomeCame s w calls (WritesWholeUnits most s w calls) }
 {}
 
 /// Whoever sent packets, and whatever they are: where some are missing, and the open run is given up at
@@ -268,8 +243,7 @@ pub fn what_came_is_written()
 
 /// A packet adds no more to a run than its own length.
 pub fn runs_grow_by_their_packets()
-    ensures { (f : Format) → HeadersTakeRoom f → (run : Option (List ℕ)) (packet : List ℕ) →
-        run_len (run_after run (f.read packet)) ≤ run_len run + length packet }
+    ensures { (f : Format) → HeadersTakeRoom f → RunsGrowByPackets f }
 {}
 
 /// Payloads at one mtu, and the text of what was sent of them: they have the same packets.
@@ -297,6 +271,5 @@ pub fn the_next_by_its_place()
 /// Each unit that a packetizer sends is a set that waited or a unit that came.
 pub fn what_is_sent_came()
     ensures { (s : PacketizerState) (entries : List Entry) →
-        AllByRecursion (Contains (sets_waiting s.waiting ++ map (λ e. e.unit) entries))
-        (state_units s entries) }
+        AllByRecursion (CameOrWaited s entries) (state_units s entries) }
 {}

@@ -5,6 +5,7 @@ use Rattle.h26x_model.specs.Payload.Format.{Format}
 use Rattle.h26x_model.specs.Payload.Reading.{Reading, Single, Aggregate, Fragment, Paci, Refused, without_don}
 use Rattle.h26x_model.specs.Receive.DepacketizerState.{DepacketizerState, Depacketization, depacketization}
 use Rattle.h26x_payload.specs.Run.{header_bytes, fragment_reading, AreOfSize}
+use Rattle.h26x_payload.specs.UnitSink.{bytes_brought}
 use Rattle.h26x_payload.specs.declared.receive.parts.Parts.{Parts}
 use Rattle.h26x_payload.specs.declared.receive.parts.Parts.TheVariants as p
 
@@ -22,6 +23,11 @@ parts_reading f units packet p.Whole = Single packet None
 parts_reading f units packet (p.Unit head body) = Single (header_bytes f head ++ body.now) None
 parts_reading f units packet (p.Aggregate bytes size) = Aggregate (map without_don (units bytes.now))
 parts_reading f units packet (p.Fragment fragment) = fragment_reading f fragment
+
+-- the same of a codec's packet
+abbrev pub reading_of : {C : Type 0} → (C → Format) → (C → List ℕ → List (List ℕ)) → C → List ℕ →
+    Parts → Reading
+reading_of format units codec packet parts = parts_reading (format codec) (units codec) packet parts
 
 -- What is known of them: a header is whole, and the units of an aggregate are of this size.
 abbrev pub AreChecked : Format → (List ℕ → List (List ℕ)) → List ℕ → Parts → Type 0
@@ -47,7 +53,20 @@ pub record DepacketizerView (C : Type 0) : Type 0 where
 abbrev pub depacketizer_state : {C : Type 0} → Format → DepacketizerView C → DepacketizerState
 depacketizer_state f it = record { format = f; is_avc = it.is_avc; run = it.run }
 
+-- the same by its setting, where each setting has a format
+abbrev pub depacketizer_of : {C : Type 0} → (C → Format) → DepacketizerView C → DepacketizerState
+depacketizer_of format it = depacketizer_state (format it.codec) it
+
+-- the bytes that a packet brings to it
+abbrev pub brought_to : {C : Type 0} → (C → Format) → DepacketizerView C → List ℕ → List ℕ
+brought_to format it packet = bytes_brought (depacketizer_of format it) packet
+
 -- a depacketizer, what was written so far, and what is told
 abbrev pub view_depacketization : {C : Type 0} → Format → DepacketizerView C → List ℕ → CodecExtra →
     Depacketization
 view_depacketization f it out extra = depacketization (depacketizer_state f it) out extra
+
+-- the same by its setting
+abbrev pub depacketization_of : {C : Type 0} → (C → Format) → DepacketizerView C → List ℕ →
+    CodecExtra → Depacketization
+depacketization_of format it out extra = view_depacketization (format it.codec) it out extra

@@ -1,12 +1,14 @@
 -- The text of an access unit that is open, with the run that is open in it, as contracts see them.
-use Rattle.std.specs.Prelude.{◌≡◌, ℕ, ◌-◌, Bool, true, false, if◌then◌else◌, List, take, drop, Option, Some, None}
+use Rattle.std.specs.Prelude.{◌≡◌, ℕ, ◌-◌, Bool, true, false, if◌then◌else◌, List, ◌++◌, take, drop, Option, Some, None}
 use Rattle.h26x_core.specs.declared.extra.CodecExtra.{CodecExtra}
 use Rattle.h26x_model.specs.Receive.DepacketizerState.{DepacketizerState, Depacketization, depacketization}
 use Rattle.h26x_payload.specs.declared.receive.parts.Parts.{Parts}
 use Rattle.h26x_payload.specs.declared.receive.parts.Parts.TheVariants as p
 use Rattle.h26x_model.specs.Receive.RunLimit.{state_with_run}
 use Rattle.h26x_model.specs.Payload.Format.{Format}
-use Rattle.h26x_payload.specs.DepacketizerView.{DepacketizerView, depacketizer_state}
+use Rattle.h26x_model.specs.Payload.Reading.{Reading}
+use Rattle.h26x_payload.specs.DepacketizerView.{DepacketizerView, depacketizer_of}
+use Rattle.h26x_payload.specs.Run.{reading_text}
 
 -- What was written, and the open run. Where the run's data stand in the memory of the text they are
 -- inside: the header that its unit will have has so many bytes.
@@ -38,6 +40,14 @@ is_fragment parts = false
 abbrev pub run_if : Bool → Option (List ℕ) → Option (List ℕ)
 run_if is_next run = if is_next then run else None
 
+-- a text as a packet meets it
+abbrev pub met_text : Bool → OpenTextView → OpenTextView
+met_text is_next text = record text { run = run_if is_next text.run }
+
+-- its bytes once the units that a reading brings to it were written
+abbrev pub text_with : Bool → OpenTextView → Reading → List ℕ
+text_with is_avc text reading = text.text ++ reading_text is_avc text.run reading
+
 -- a depacketizer at work on a text, with the run that is open there
 abbrev pub text_depacketization : DepacketizerState → OpenTextView → CodecExtra → Depacketization
 text_depacketization r text extra = depacketization (state_with_run r text.run) text.text extra
@@ -48,12 +58,12 @@ abbrev pub met_depacketization : Bool → DepacketizerState → OpenTextView →
 met_depacketization is_next r text extra = depacketization
     (state_with_run r (run_if is_next text.run)) text.text extra
 
--- these two of a depacketizer of a format
-abbrev pub view_in_text : {C : Type 0} → Format → DepacketizerView C → OpenTextView → CodecExtra →
-    Depacketization
-view_in_text f it text extra = text_depacketization (depacketizer_state f it) text extra
-
-abbrev pub view_met_in_text : {C : Type 0} → Bool → Format → DepacketizerView C → OpenTextView →
+-- these two of a depacketizer by its setting
+abbrev pub view_in_text : {C : Type 0} → (C → Format) → DepacketizerView C → OpenTextView →
     CodecExtra → Depacketization
-view_met_in_text is_next f it text extra =
-    met_depacketization is_next (depacketizer_state f it) text extra
+view_in_text format it text extra = text_depacketization (depacketizer_of format it) text extra
+
+abbrev pub view_met_in_text : {C : Type 0} → Bool → (C → Format) → DepacketizerView C →
+    OpenTextView → CodecExtra → Depacketization
+view_met_in_text is_next format it text extra =
+    met_depacketization is_next (depacketizer_of format it) text extra

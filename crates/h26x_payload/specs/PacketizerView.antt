@@ -1,12 +1,14 @@
 -- What a packetizer keeps from call to call.
-use Rattle.std.specs.Prelude.{◌≡◌, ℕ, false, List, Option}
+use Rattle.std.specs.Prelude.{◌≡◌, ℕ, Bool, false, List, Option}
 use Rattle.h26x_model.specs.Payload.Format.{Format}
 use Rattle.h26x_model.specs.Send.Group.{Entry}
-use Rattle.h26x_model.specs.Send.Calls.{Call, default_max_packet_size, call_entries}
-use Rattle.h26x_model.specs.Send.WaitingSets.{WaitingSets, no_waiting_sets}
-use Rattle.h26x_model.specs.Send.PacketizerState.{PacketizerState, IsPacketizerState, IsSentAsPlanned, state_packets, after_entries, after_one_unit}
+use Rattle.h26x_model.specs.Send.Calls.{Call, default_max_packet_size, packet_limit, call_entries}
+use Rattle.h26x_model.specs.Send.Plan.{Item}
+use Rattle.h26x_model.specs.Send.WaitingSets.{WaitingSets, no_waiting_sets, waiting_after, entries_with_limit}
+use Rattle.h26x_model.specs.Send.PacketizerState.{PacketizerState, IsPacketizerState, IsSentAsPlanned, state_plan, state_packets, has_no_effect, after_entries, one_unit_packets, after_one_unit}
+use Rattle.h26x_payload.specs.declared.send.packetizer.Brought.{Brought}
 use Rattle.h26x_payload.specs.declared.send.update.Update.{Update}
-use Rattle.h26x_payload.specs.Sending.{waiting_sets, waiting_with_update}
+use Rattle.h26x_payload.specs.Sending.{waiting_sets, waiting_with_brought, waiting_with_update}
 
 -- its setting, the sets that wait, the next unit's number, and its largest packet size
 pub record PacketizerView (C : Type 0) : Type 0 where
@@ -36,6 +38,10 @@ packetizer_state f h = record {
   max_packet_size = h.max_packet_size;
 }
 
+-- the same by its setting, where each setting has a format
+abbrev pub packetizer_of : {C : Type 0} → (C → Format) → PacketizerView C → PacketizerState
+packetizer_of format h = packetizer_state (format h.codec) h
+
 -- a new packetizer with this setting
 abbrev pub fresh_packetizer : {C : Type 0} → C → PacketizerView C
 fresh_packetizer codec = record {
@@ -49,6 +55,14 @@ fresh_packetizer codec = record {
 pub record IsPacketizer (f : Format) (s : PacketizerState) : Type 0 where
   pub is : IsPacketizerState s
   pub none : f.has_donl ≡ false → s.next_don ≡ 0
+
+-- what is held is a packetizer
+abbrev pub IsPacketizerView : {C : Type 0} → (C → Format) → PacketizerView C → Type 0
+IsPacketizerView format h = IsPacketizer (format h.codec) (packetizer_of format h)
+
+-- the limit of its calls at an mtu
+abbrev pub limit_of : {C : Type 0} → (C → Format) → PacketizerView C → ℕ → ℕ
+limit_of format h mtu = packet_limit (format h.codec) h.max_packet_size mtu
 
 -- a call of it
 abbrev pub view_call : {C : Type 0} → PacketizerView C → ℕ → List ℕ → Call
@@ -67,24 +81,60 @@ view_after f h entries = record {
   max_packet_size = h.max_packet_size;
 }
 
+-- whether a call of it has no effect
+abbrev pub call_has_no_effect : {C : Type 0} → (C → Format) → PacketizerView C → ℕ → List ℕ → Bool
+call_has_no_effect format h mtu payload = has_no_effect (format h.codec) (view_call h mtu payload)
+
 -- the packets of a call of it
-abbrev pub view_packets : {C : Type 0} → Format → PacketizerView C → ℕ → List ℕ → List (List ℕ)
-view_packets f h mtu payload = state_packets (packetizer_state f h) (view_entries f h mtu payload)
+abbrev pub packets_of : {C : Type 0} → (C → Format) → PacketizerView C → ℕ → List ℕ →
+    List (List ℕ)
+packets_of format h mtu payload = state_packets (packetizer_of format h)
+    (view_entries (format h.codec) h mtu payload)
 
 -- what is held after a call of it
-abbrev pub view_after_call : {C : Type 0} → Format → PacketizerView C → ℕ → List ℕ → PacketizerView C
-view_after_call f h mtu payload = view_after f h (view_entries f h mtu payload)
+abbrev pub view_after_call : {C : Type 0} → (C → Format) → PacketizerView C → ℕ → List ℕ →
+    PacketizerView C
+view_after_call format h mtu payload = view_after (format h.codec) h
+    (view_entries (format h.codec) h mtu payload)
 
--- a call of it does what is planned of whole lists
-abbrev pub IsViewSentAsPlanned : {C : Type 0} → Format → PacketizerView C → ℕ → List ℕ → Type 0
-IsViewSentAsPlanned f h mtu payload = IsSentAsPlanned (packetizer_state f h) (view_call h mtu payload)
-    (view_packets f h mtu payload) (packetizer_state f (view_after_call f h mtu payload))
+-- a call of it that makes these packets, and leaves that one, does what is planned of whole lists
+abbrev pub SendsAsPlanned : {C : Type 0} → (C → Format) → PacketizerView C → ℕ → List ℕ →
+    List (List ℕ) → PacketizerView C → Type 0
+SendsAsPlanned format h mtu payload packets new = IsSentAsPlanned (packetizer_of format h)
+    (view_call h mtu payload) packets (packetizer_of format new)
 
--- what is held after one unit as it is: the sets that wait stay
-abbrev pub view_after_unit : {C : Type 0} → Format → PacketizerView C → ℕ → List ℕ → PacketizerView C
-view_after_unit f h mtu unit = record h {
-  next_don = (after_one_unit (packetizer_state f h) mtu unit).next_don;
+-- so does each call of it
+abbrev pub IsViewSentAsPlanned : {C : Type 0} → (C → Format) → PacketizerView C → ℕ → List ℕ →
+    Type 0
+IsViewSentAsPlanned format h mtu payload = SendsAsPlanned format h mtu payload
+    (packets_of format h mtu payload) (view_after_call format h mtu payload)
+
+-- the packets of one unit as it is
+abbrev pub unit_packets : {C : Type 0} → (C → Format) → PacketizerView C → ℕ → List ℕ →
+    List (List ℕ)
+unit_packets format h mtu unit = one_unit_packets (packetizer_of format h) mtu unit
+
+-- what is held after it: the sets that wait stay
+abbrev pub view_after_unit : {C : Type 0} → (C → Format) → PacketizerView C → ℕ → List ℕ →
+    PacketizerView C
+view_after_unit format h mtu unit = record h {
+  next_don = (after_one_unit (packetizer_of format h) mtu unit).next_don;
 }
+
+-- the sets that wait, where a payload has brought so much
+abbrev pub held_sets : {C : Type 0} → PacketizerView C → Brought → WaitingSets
+held_sets h brought = waiting_with_brought h.waiting brought
+
+-- what is sent of a payload at a limit
+abbrev pub payload_plan : {C : Type 0} → (C → Format) → PacketizerView C → ℕ → List ℕ → List Item
+payload_plan format h limit payload = state_plan (packetizer_of format h)
+    (entries_with_limit limit ((format h.codec).units payload))
+
+-- the sets that wait after it
+abbrev pub waiting_after_payload : {C : Type 0} → (C → Format) → PacketizerView C → ℕ → List ℕ →
+    WaitingSets
+waiting_after_payload format h limit payload = waiting_after (format h.codec) h.waiting
+    (entries_with_limit limit ((format h.codec).units payload))
 
 -- what is held once a call is carried out
 abbrev pub view_with_update : {C : Type 0} → PacketizerView C → Update → PacketizerView C

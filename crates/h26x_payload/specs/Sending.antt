@@ -2,6 +2,7 @@
 use Rattle.std.specs.Prelude.{◌≡◌, ℕ, ◌+◌, ◌%◌, Bool, true, false, if◌then◌else◌, List, [], ◌∷◌, ◌++◌, length, Option, Some, None, map, Vec}
 use Rattle.std.specs.List.{flat_map}
 use Rattle.std.specs.Option.{option_map}
+use Rattle.std.specs.Borrow.{Bor}
 use Rattle.h26x_core.specs.Kind.{Kind, Skipped, Vps, Sps, Pps, Other}
 use Rattle.h26x_model.specs.Payload.Format.{Format}
 use Rattle.h26x_core.specs.Pieces.{piece}
@@ -27,6 +28,14 @@ abbrev pub set_list : Option (List ℕ) → List (List ℕ)
 set_list None = []
 set_list (Some set) = set ∷ []
 
+-- the same of a set that stands elsewhere
+abbrev pub lent_set : Option (Bor (List ℕ)) → List (List ℕ)
+lent_set set = set_list (option_map (λ s. s.now) set)
+
+-- and of a set that is kept
+abbrev pub kept_set : {A : Type 0} → Option (Vec ℕ A) → List (List ℕ)
+kept_set set = set_list (option_map (λ v. v.items) set)
+
 -- what waits, where these sets do
 abbrev pub waiting_sets : Option (List ℕ) → Option (List ℕ) → Option (List ℕ) → WaitingSets
 waiting_sets vps sps pps = record { vps = set_list vps; sps = set_list sps; pps = set_list pps }
@@ -39,17 +48,17 @@ latest_set old taken (set ∷ sets) = set ∷ []
 -- the sets that wait, by those from before and what a payload brought
 abbrev pub waiting_with_brought : WaitingSets → Brought → WaitingSets
 waiting_with_brought w b = record {
-  vps = latest_set w.vps b.taken (set_list (option_map (λ s. s.now) b.vps));
-  sps = latest_set w.sps b.taken (set_list (option_map (λ s. s.now) b.sps));
-  pps = latest_set w.pps b.taken (set_list (option_map (λ s. s.now) b.pps));
+  vps = latest_set w.vps b.taken (lent_set b.vps);
+  sps = latest_set w.sps b.taken (lent_set b.sps);
+  pps = latest_set w.pps b.taken (lent_set b.pps);
 }
 
 -- the sets that wait once a call is carried out
 abbrev pub waiting_with_update : WaitingSets → Update → WaitingSets
 waiting_with_update w u = record {
-  vps = latest_set w.vps u.taken (set_list (option_map (λ v. v.items) u.vps));
-  sps = latest_set w.sps u.taken (set_list (option_map (λ v. v.items) u.sps));
-  pps = latest_set w.pps u.taken (set_list (option_map (λ v. v.items) u.pps));
+  vps = latest_set w.vps u.taken (kept_set u.vps);
+  sps = latest_set w.sps u.taken (kept_set u.sps);
+  pps = latest_set w.pps u.taken (kept_set u.pps);
 }
 
 -- the kind of a unit, as the code has it
@@ -62,7 +71,7 @@ unit_kind k.Other = Other
 
 -- sets in the order that they are sent in
 abbrev pub sets_list : Sets → List (List ℕ)
-sets_list sets = set_list (option_map (λ s. s.now) sets.vps) ++ sets.sps.now ∷ sets.pps.now ∷ []
+sets_list sets = lent_set sets.vps ++ sets.sps.now ∷ sets.pps.now ∷ []
 
 -- what stands before the length of each set but the first: a DOND of 0, or nothing
 abbrev pub sets_gap : Bool → List ℕ
@@ -77,6 +86,14 @@ sets_behind_lengths gap (set ∷ sets) = piece set ++ flat_map (λ other. gap ++
 abbrev pub body_bytes : Body → List ℕ
 body_bytes (b.Data bytes) = bytes.now
 body_bytes (b.Sets sets gap) = sets_behind_lengths gap.now (sets_list sets)
+
+-- a packet of these parts, one behind the other
+abbrev pub packet_bytes : List ℕ → List ℕ → Body → List ℕ
+packet_bytes header donl body = header ++ (donl ++ body_bytes body)
+
+-- how many bytes that is
+abbrev pub packet_len : List ℕ → List ℕ → Body → ℕ
+packet_len header donl body = length header + (length donl + length (body_bytes body))
 
 -- whether nothing goes
 abbrev pub is_nothing : Due → Bool

@@ -32,6 +32,10 @@ with_written s bytes = record {
   memory = s.memory;
 }
 
+-- behind what was written before stand these bytes
+abbrev pub IsWritten : {S : Type 0} → (S → Sink) → S → S → List ℕ → Type 0
+IsWritten sink old new bytes = sink new ≡ with_written (sink old) bytes
+
 -- a sink once these are all its bytes
 abbrev pub grown_to : List ℕ → Sink → Sink
 grown_to bytes s = record {
@@ -49,3 +53,13 @@ bytes_brought state packet = byte_stream state.is_avc (units_brought state (pack
 abbrev pub IsRoomTold : {A : Type 0} → Result A PacketError → List ℕ → ℕ → Bool → Bool → Type 0
 IsRoomTold result bytes room before after = (after ≡ before)
     ⊎ ((after ≡ true) × ((result ≡ Err OutOfMemory) × (room < length bytes)))
+
+-- the same of a sink with this room that tells this
+abbrev pub TellsRoom : {S A : Type 0} → (S → ℕ) → (S → Bool) → S → S → Result A PacketError →
+    List ℕ → Type 0
+TellsRoom room lacks old new result bytes =
+    IsRoomTold result bytes (room old) (lacks old) (lacks new)
+
+-- where there is something to write, want of memory is want of room, and the sink tells it
+abbrev pub WantsRoom : {A B : Type 0} → Result A PacketError → List B → Bool → Type 0
+WantsRoom result written lacks = result ≡ Err OutOfMemory → 0 < length written → lacks ≡ true

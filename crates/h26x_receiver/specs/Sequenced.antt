@@ -1,5 +1,5 @@
 -- What becomes of packets with their sequence numbers (ours).
-use Rattle.std.specs.Prelude.{◌≡◌, ℕ, ◌==◌, nat_lt, Bool, true, false, ◌||◌, if◌then◌else◌, List, [], ◌∷◌, Option, Some, None, Result, Ok, Err, IfOk, MatchBool}
+use Rattle.std.specs.Prelude.{◌≡◌, ℕ, ◌==◌, nat_lt, Bool, true, false, ◌||◌, if◌then◌else◌, List, [], ◌∷◌, Option, Some, None, Result, Ok, Err, IfOk, MatchBool, ◌+◌, ◌≤◌, ◌^◌, ◌<◌, length}
 use Rattle.h26x_core.specs.declared.extra.CodecExtra.{CodecExtra}
 use Rattle.h26x_core.specs.declared.error.PacketError.{PacketError}
 use Rattle.h26x_model.specs.Receive.DepacketizerState.{DepacketizerState, Depacketization, depacketization, after_packets, IsPacketOutcome}
@@ -9,6 +9,8 @@ use Rattle.h26x_receiver.specs.declared.received.Received.{Received}
 use Rattle.h26x_receiver.specs.declared.sequenced.SequencedDepacketizer.{SequencedDepacketizer}
 use Rattle.h26x_receiver.specs.declared.received.Received.TheVariants.{InOrder, Gap, TooLong, Late}
 use Rattle.h26x_receiver.specs.Sequence.{next_sequence_number, missing_count, distance_behind, is_late, is_expected}
+use Rattle.h26x_payload.specs.RunDepacketizer.{RunStaysWithin}
+use Rattle.h26x_payload.specs.UnitSink.{Sink}
 
 -- what a depacketizer works on, and the number that is expected next, if one was taken
 pub record SequencedDepacketization : Type 0 where
@@ -50,10 +52,19 @@ receiver_in_text state it text extra = sequenced_in_text (state it.depacketizer)
 abbrev pub with_run_if : Bool → Depacketization → Depacketization
 with_run_if expected w = with_open_run w (if expected then w.state.run else None)
 
+-- so a packet is met by a depacketizer at work on a sink
+abbrev pub met_at_sink : Bool → DepacketizerState → Sink → CodecExtra → Depacketization
+met_at_sink is_next r sink extra = with_run_if is_next (depacketization r sink.bytes extra)
+
 -- what stands after a packet that was taken, before its run is measured
 abbrev pub after_sequenced_packet : SequencedDepacketization → ℕ → List ℕ → Depacketization
 after_sequenced_packet s number packet = after_packets
     (with_run_if (is_expected s.expected number) s.at_work) (packet ∷ [])
+
+-- then the run is no longer than before and the packet
+abbrev pub RunGrowsByPacket : SequencedDepacketization → ℕ → List ℕ → Type 0
+RunGrowsByPacket s number packet = run_len (after_sequenced_packet s number packet).state.run
+    ≤ run_len s.at_work.state.run + length packet
 
 -- what is answered for a packet that was taken, by how many are missing before it, and whether the
 -- run that it left was too long
@@ -72,6 +83,14 @@ is_taken (Ok (Late n)) = false
 is_taken (Ok answer) = true
 is_taken (Err error) = false
 
+-- what holds of a packet that was taken
+abbrev pub IfTaken : Result Received PacketError → Type 0 → Type 0
+IfTaken answer holds = is_taken answer ≡ true → holds
+
+-- what holds of one that was not
+abbrev pub UnlessTaken : Result Received PacketError → Type 0 → Type 0
+UnlessTaken answer holds = MatchBool (is_taken answer) (Unit {0}) holds
+
 -- an answer as a depacketizer's outcome
 abbrev pub as_outcome : Result Received PacketError → Result (Unit {0}) PacketError
 as_outcome (Ok answer) = Ok tt
@@ -87,6 +106,18 @@ IsSequencedAnswer most s number packet answer =
     (IsPacketOutcome (with_run_if (is_expected s.expected number) s.at_work) packet
     (as_outcome answer)
     × IfOk answer (λ it. it ≡ taken_packet_answer most s number packet))
+
+-- so of a receiver as it stands
+abbrev pub IsAnswerOf : {D : Type 0} → (D → DepacketizerState) → SequencedDepacketizer D → List ℕ →
+    CodecExtra → ℕ → List ℕ → Result Received PacketError → Type 0
+IsAnswerOf state it out extra number packet answer =
+    IsSequencedAnswer it.run_limit (receiver_at state it out extra) number packet answer
+
+-- the same where the open run stands in the text
+abbrev pub IsAnswerInText : {D : Type 0} → (D → DepacketizerState) → SequencedDepacketizer D →
+    OpenTextView → CodecExtra → ℕ → List ℕ → Result Received PacketError → Type 0
+IsAnswerInText state it text extra number packet answer =
+    IsSequencedAnswer it.run_limit (receiver_in_text state it text extra) number packet answer
 
 -- what stands after a packet that was taken
 abbrev pub after_taken_packet : ℕ → SequencedDepacketization → ℕ → List ℕ →
@@ -109,6 +140,12 @@ after_answers most s (p ∷ packets) (answer ∷ answers) = after_answers most
     (after_answer most s p.0 p.1 answer) packets answers
 after_answers most s packets answers = s
 
+-- whatever packets come, a run that is within the limit stays so
+abbrev pub KeepsRunWithin : ℕ → SequencedDepacketization → Type 0
+KeepsRunWithin most s = (packets : List (ℕ × List ℕ))
+    (answers : List (Result Received PacketError)) → RunStaysWithin most s.at_work.state.run
+    (after_answers most s packets answers).at_work.state.run
+
 -- what is answered for a number that came and bears nothing of the stream
 abbrev pub skip_answer : Option ℕ → ℕ → Received
 skip_answer expected number =
@@ -129,6 +166,17 @@ is_run_kept expected number = is_late expected number || is_expected expected nu
 abbrev pub after_skip : SequencedDepacketization → ℕ → SequencedDepacketization
 after_skip s number = with_expected (with_run_if (is_run_kept s.expected number) s.at_work)
     (expected_after_skip s.expected number)
+
+-- so a receiver stands after it, whatever was written and told before
+abbrev pub IsSkipped : {D : Type 0} → (D → DepacketizerState) → SequencedDepacketizer D → ℕ →
+    SequencedDepacketizer D → Type 0
+IsSkipped state old number new = (out : List ℕ) (extra : CodecExtra) →
+    receiver_at state new out extra ≡ after_skip (receiver_at state old out extra) number
+
+-- one that comes in order changes only which number is expected
+abbrev pub SkipsInOrder : SequencedDepacketization → Type 0
+SkipsInOrder s = (number : ℕ) → number < 2 ^ 16 → is_expected s.expected number ≡ true →
+    after_skip s number ≡ with_expected s.at_work (Some (next_sequence_number number))
 
 -- a depacketizer, or what else changes with each packet that is taken, once those that were taken are
 abbrev pub having_taken_all : {A : Type 0} → (List ℕ → A → A) → List (List ℕ) →

@@ -1,16 +1,16 @@
 //! Packets with their sequence numbers, any whatever, through a receiver.
 
-ghost use Rattle.std.specs.Prelude.{◌≡◌, ◌≤◌, IfOk, OnErr, Err, length, map, vec_len, None};
+ghost use Rattle.std.specs.Prelude.{◌≡◌, IfOk, OnErr, Err, length, map, vec_len, None};
 ghost use Rattle.h26x_core.specs.Front.{IsFrontOf};
-ghost use Rattle.h26x_model.specs.Receive.RunLimit.{run_len};
 ghost use Rattle.h26x_receiver.specs.Delivery.{sequenced_packets, NoneIsRefused, NoneIsRefusedForWhatItIs, WholeUnitsAreWritten, ThoseThatCameAreWritten, WhatWasTakenIsWritten};
 ghost use Rattle.h26x_receiver.specs.Sequenced.{AreAllReceived, having_taken_all, receiver_at, work_at};
+ghost use Rattle.h26x_payload.specs.RunDepacketizer.{IsSameBesideRun, RunStaysWithin};
 
 use crate::received::Received;
-use crate::run::RunDepacketizer;
 use crate::sequenced::SequencedDepacketizer;
 use h26x_core::{CodecExtra, PacketError};
 use h26x_model::laws;
+use h26x_payload::RunDepacketizer;
 use std::alloc::Global;
 
 /// Gives every packet with its sequence number to a receiver, in the order in which they come, and
@@ -59,14 +59,14 @@ pub fn receive_all<D: RunDepacketizer>(
         (sequenced_packets packets.now) answers.items) }
 
     // What else the packets that were taken change, as what a depacketizer of H.265 shows.
-    ensures rest { IfOk result (λ answers. D.with_run None receiver.new.depacketizer
-        ≡ D.with_run None (having_taken_all D.having_taken
+    ensures rest { IfOk result (λ answers. IsSameBesideRun D.with_run
+        receiver.new.depacketizer (having_taken_all D.having_taken
         (map (λ p. p.1) (sequenced_packets packets.now)) answers.items
         receiver.old.depacketizer)) }
 
     // The run that is open is within the limit.
-    ensures bounded { run_len (D.state receiver.old.depacketizer).run ≤ receiver.old.run_limit →
-        run_len (D.state receiver.new.depacketizer).run ≤ receiver.old.run_limit }
+    ensures bounded { RunStaysWithin receiver.old.run_limit
+        (D.state receiver.old.depacketizer).run (D.state receiver.new.depacketizer).run }
     ensures limit { receiver.new.run_limit ≡ receiver.old.run_limit }
 
     // Bytes that stood in `out` stay.

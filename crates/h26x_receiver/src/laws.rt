@@ -1,14 +1,10 @@
 //! Laws of the definitions, each the contract of a function without a result: for a caller with a
 //! loop of its own over `receive`.
 
-ghost use Rattle.std.specs.Prelude.{◌≡◌, ◌≤◌, ◌<◌, ◌^◌, ℕ, List, true, Some, None, Result};
-ghost use Rattle.h26x_core.specs.declared.error.PacketError.{PacketError};
-ghost use Rattle.h26x_model.specs.Receive.RunLimit.{run_len};
+ghost use Rattle.std.specs.Prelude.{ℕ};
 ghost use Rattle.h26x_model.specs.Receive.DepacketizerState.{Depacketization};
-ghost use Rattle.h26x_receiver.specs.declared.received.Received.{Received};
 ghost use Rattle.h26x_receiver.specs.Delivery.{WritesNothingDamaged, WritesThoseOfCalls, WritesThoseTaken};
-ghost use Rattle.h26x_receiver.specs.Sequence.{next_sequence_number, is_expected};
-ghost use Rattle.h26x_receiver.specs.Sequenced.{SequencedDepacketization, with_expected, after_answers, after_skip};
+ghost use Rattle.h26x_receiver.specs.Sequenced.{SequencedDepacketization, KeepsRunWithin, SkipsInOrder};
 
 use h26x_model::laws;
 
@@ -38,14 +34,10 @@ pub fn what_was_taken_is_written()
 
 /// Whatever packets come, a run that is within the limit stays within it.
 pub fn runs_stay_within_the_limit()
-    ensures { (most : ℕ) (s : SequencedDepacketization) (packets : List (ℕ × List ℕ))
-        (answers : List (Result Received PacketError)) → run_len s.at_work.state.run ≤ most →
-        run_len (after_answers most s packets answers).at_work.state.run ≤ most }
+    ensures { (most : ℕ) (s : SequencedDepacketization) → KeepsRunWithin most s }
 {}
 
 /// A number that came in order and bears nothing of the stream changes only what is expected next.
 pub fn skipping_in_order_changes_only_the_number()
-    ensures { (s : SequencedDepacketization) (number : ℕ) → number < 2 ^ 16 →
-        is_expected s.expected number ≡ true →
-        after_skip s number ≡ with_expected s.at_work (Some (next_sequence_number number)) }
+    ensures { (s : SequencedDepacketization) → SkipsInOrder s }
 {}

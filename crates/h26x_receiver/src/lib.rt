@@ -13,18 +13,12 @@
 //! ```
 #![tactic(auto)]
 
-mod any;
-mod any_payload;
 mod cases;
 mod delivery;
 pub mod laws;
 mod received;
-mod run;
 mod sequenced;
 
-pub use any::AnyDepacketizer;
-pub use any_payload::AnyPayloadDepacketizer;
 pub use delivery::receive_all;
 pub use received::Received;
-pub use run::{RunDepacketizer, take_run};
 pub use sequenced::SequencedDepacketizer;

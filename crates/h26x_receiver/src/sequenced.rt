@@ -1,19 +1,19 @@
 //! A depacketizer that is given packets with their sequence numbers.
 
-ghost use Rattle.std.specs.Prelude.{◌≡◌, ◌+◌, ◌-◌, ◌^◌, ◌<◌, ◌≤◌, nat_lt, [], ◌∷◌, ℕ, List, Option, Some, None, Ok, IfSome, OnOk, OnErr, length, true, false};
+ghost use Rattle.std.specs.Prelude.{◌≡◌, ◌+◌, ◌-◌, ◌^◌, ◌<◌, ◌≤◌, nat_lt, [], ◌∷◌, ℕ, Option, Some, None, Ok, IfSome, OnOk, OnErr, true, false};
 ghost use Rattle.h26x_core.specs.Front.{IsFrontOf};
 ghost use Rattle.h26x_model.specs.Receive.DepacketizerState.{depacketization, after_packets, IsPacketOutcome};
-ghost use Rattle.h26x_model.specs.Receive.RunLimit.{run_len, run_within, state_with_run, without_open_run};
+ghost use Rattle.h26x_model.specs.Receive.RunLimit.{run_len, run_within, state_with_run};
 ghost use Rattle.h26x_payload.specs.OpenText.{IsSameText};
-ghost use Rattle.h26x_payload.specs.UnitSink.{bytes_brought, grown_to, IsRoomTold};
+ghost use Rattle.h26x_payload.specs.UnitSink.{bytes_brought, grown_to, TellsRoom};
 ghost use Rattle.h26x_receiver.specs.Sequence.{missing_count, is_expected};
-ghost use Rattle.h26x_receiver.specs.Sequenced.{with_run_if, after_sequenced_packet, IsSequencedAnswer, after_answer, is_taken, skip_answer, expected_after_skip, is_run_kept, after_skip, receiver_at, receiver_in_text};
+ghost use Rattle.h26x_receiver.specs.Sequenced.{after_answer, is_taken, skip_answer, expected_after_skip, is_run_kept, receiver_at, receiver_in_text, met_at_sink, RunGrowsByPacket, IsAnswerOf, IsAnswerInText, IsSkipped, IfTaken};
+ghost use Rattle.h26x_payload.specs.RunDepacketizer.{IsSameBesideRun, RunStaysWithin, runless, anew_at_sink};
 
 use crate::received::Received;
-use crate::run::{RunDepacketizer, take_run};
 use h26x_core::{CodecExtra, PacketError};
 use h26x_model::laws;
-use h26x_payload::{OpenText, RunRule, UnitSink};
+use h26x_payload::{OpenText, RunDepacketizer, RunRule, UnitSink, take_run};
 use std::alloc::Global;
 
 /// How far ahead of the expected number a number is taken as behind it: half of the circle (RFC
@@ -53,21 +53,20 @@ fn take_anew<D: RunDepacketizer, W: UnitSink>(
     out: &mut W,
     codec_extra: &mut CodecExtra,
 ) -> Result<(), PacketError>
-    ensures outcome { IsPacketOutcome (without_open_run (depacketization
-        (D.state depacketizer.old) (W.sink out.old).bytes codec_extra.old)) packet.now result }
+    ensures outcome { IsPacketOutcome (anew_at_sink
+        (D.state depacketizer.old) (W.sink out.old) codec_extra.old) packet.now result }
     ensures taken { OnOk result (depacketization (D.state depacketizer.new) (W.sink out.new).bytes
-        codec_extra.new ≡ after_packets (without_open_run (depacketization
-        (D.state depacketizer.old) (W.sink out.old).bytes codec_extra.old)) (packet.now ∷ [])) }
+        codec_extra.new ≡ after_packets (anew_at_sink
+        (D.state depacketizer.old) (W.sink out.old) codec_extra.old) (packet.now ∷ [])) }
     ensures behind { OnOk result (W.sink out.new
         ≡ grown_to (W.sink out.new).bytes (W.sink out.old)) }
-    ensures rest { OnOk result (D.with_run None depacketizer.new
-        ≡ D.with_run None (D.having_taken packet.now depacketizer.old)) }
+    ensures rest { OnOk result (IsSameBesideRun D.with_run depacketizer.new
+        (D.having_taken packet.now depacketizer.old)) }
     ensures kept { OnErr result (depacketizer.new ≡ depacketizer.old) }
     ensures kept_sink { OnErr result (W.sink out.new ≡ W.sink out.old) }
     ensures kept_extra { OnErr result (codec_extra.new ≡ codec_extra.old) }
-    ensures told_room { IsRoomTold result (bytes_brought
-        (state_with_run (D.state depacketizer.old) None) packet.now)
-        (W.room out.old) (W.lacks out.old) (W.lacks out.new) }
+    ensures told_room { TellsRoom W.room W.lacks out.old out.new result
+        (bytes_brought (runless (D.state depacketizer.old)) packet.now) }
 {
     let mut run = take_run(alloc, depacketizer);
     match depacketizer.take(packet, out, codec_extra) {
@@ -88,21 +87,21 @@ fn take<D: RunDepacketizer, W: UnitSink>(
     out: &mut W,
     codec_extra: &mut CodecExtra,
 ) -> Result<(), PacketError>
-    ensures outcome { IsPacketOutcome (with_run_if is_next (depacketization
-        (D.state depacketizer.old) (W.sink out.old).bytes codec_extra.old)) packet.now result }
+    ensures outcome { IsPacketOutcome (met_at_sink is_next
+        (D.state depacketizer.old) (W.sink out.old) codec_extra.old) packet.now result }
     ensures taken { OnOk result (depacketization (D.state depacketizer.new) (W.sink out.new).bytes
-        codec_extra.new ≡ after_packets (with_run_if is_next (depacketization
-        (D.state depacketizer.old) (W.sink out.old).bytes codec_extra.old)) (packet.now ∷ [])) }
+        codec_extra.new ≡ after_packets (met_at_sink is_next
+        (D.state depacketizer.old) (W.sink out.old) codec_extra.old) (packet.now ∷ [])) }
     ensures behind { OnOk result (W.sink out.new
         ≡ grown_to (W.sink out.new).bytes (W.sink out.old)) }
-    ensures rest { OnOk result (D.with_run None depacketizer.new
-        ≡ D.with_run None (D.having_taken packet.now depacketizer.old)) }
+    ensures rest { OnOk result (IsSameBesideRun D.with_run depacketizer.new
+        (D.having_taken packet.now depacketizer.old)) }
     ensures kept { OnErr result (depacketizer.new ≡ depacketizer.old) }
     ensures kept_sink { OnErr result (W.sink out.new ≡ W.sink out.old) }
     ensures kept_extra { OnErr result (codec_extra.new ≡ codec_extra.old) }
-    ensures told_room { IsRoomTold result (bytes_brought (with_run_if is_next (depacketization
-        (D.state depacketizer.old) (W.sink out.old).bytes codec_extra.old)).state packet.now)
-        (W.room out.old) (W.lacks out.old) (W.lacks out.new) }
+    ensures told_room { TellsRoom W.room W.lacks out.old out.new result
+        (bytes_brought (met_at_sink is_next (D.state depacketizer.old) (W.sink out.old)
+        codec_extra.old).state packet.now) }
 {
     if is_next {
         depacketizer.take(packet, out, codec_extra)
@@ -116,7 +115,7 @@ fn limit_run<D: RunDepacketizer>(depacketizer: &mut D, most: usize) -> bool
     ensures long { result ≡ nat_lt most (run_len (D.state depacketizer.old).run) }
     ensures limited { D.state depacketizer.new ≡ state_with_run (D.state depacketizer.old)
         (run_within most (D.state depacketizer.old).run) }
-    ensures rest { D.with_run None depacketizer.new ≡ D.with_run None depacketizer.old }
+    ensures rest { IsSameBesideRun D.with_run depacketizer.new depacketizer.old }
 {
     if depacketizer.run_len() > most {
         depacketizer.give_up_run();
@@ -201,10 +200,8 @@ impl<D: RunDepacketizer> SequencedDepacketizer<D> {
     /// ```
     pub fn skip(&mut self, sequence: u16) -> Received
         ensures answer { result ≡ skip_answer self.old.expected sequence }
-        ensures after { (out : List ℕ) (extra : CodecExtra) → receiver_at D.state self.new out extra
-            ≡ after_skip (receiver_at D.state self.old out extra) sequence }
-        ensures rest { D.with_run None self.new.depacketizer
-            ≡ D.with_run None self.old.depacketizer }
+        ensures after { IsSkipped D.state self.old sequence self.new }
+        ensures rest { IsSameBesideRun D.with_run self.new.depacketizer self.old.depacketizer }
         ensures expected { self.new.expected ≡ expected_after_skip self.old.expected sequence }
         ensures limit { self.new.run_limit ≡ self.old.run_limit }
 
@@ -253,22 +250,21 @@ impl<D: RunDepacketizer> SequencedDepacketizer<D> {
         codec_extra: &mut CodecExtra,
     ) -> Result<Received, PacketError>
         // What is answered, and what stands afterwards.
-        ensures answer { IsSequencedAnswer self.old.run_limit (receiver_at D.state self.old
-            (W.sink out.old).bytes codec_extra.old) sequence packet.now result }
+        ensures answer { IsAnswerOf D.state self.old (W.sink out.old).bytes codec_extra.old
+            sequence packet.now result }
         ensures after { receiver_at D.state self.new (W.sink out.new).bytes codec_extra.new
             ≡ after_answer self.old.run_limit (receiver_at D.state self.old (W.sink out.old).bytes
             codec_extra.old) sequence packet.now result }
-        ensures rest { is_taken result ≡ true → D.with_run None self.new.depacketizer
-            ≡ D.with_run None (D.having_taken packet.now self.old.depacketizer) }
+        ensures rest { IfTaken result (IsSameBesideRun D.with_run
+            self.new.depacketizer (D.having_taken packet.now self.old.depacketizer)) }
         ensures limit { self.new.run_limit ≡ self.old.run_limit }
 
         // While a packet is taken the run is no longer than before and the packet, and afterwards it
         // is within the limit.
-        ensures while_taken { run_len (after_sequenced_packet (receiver_at D.state self.old
-            (W.sink out.old).bytes codec_extra.old) sequence packet.now).state.run ≤ run_len
-            (D.state self.old.depacketizer).run + length packet.now }
-        ensures bounded { run_len (D.state self.old.depacketizer).run ≤ self.old.run_limit →
-            run_len (D.state self.new.depacketizer).run ≤ self.old.run_limit }
+        ensures while_taken { RunGrowsByPacket (receiver_at D.state self.old
+            (W.sink out.old).bytes codec_extra.old) sequence packet.now }
+        ensures bounded { RunStaysWithin self.old.run_limit (D.state self.old.depacketizer).run
+            (D.state self.new.depacketizer).run }
 
         // Bytes that stood in `out` stay, and those behind what is written; a late packet and a
         // refusal leave everything.
@@ -280,10 +276,9 @@ impl<D: RunDepacketizer> SequencedDepacketizer<D> {
         ensures kept_extra { OnErr result (codec_extra.new ≡ codec_extra.old) }
 
         // A sink that tells that room lacks tells it only where it does.
-        ensures told_room { IsRoomTold result (bytes_brought (with_run_if
-            (is_expected self.old.expected sequence) (depacketization
-            (D.state self.old.depacketizer) (W.sink out.old).bytes codec_extra.old)).state
-            packet.now) (W.room out.old) (W.lacks out.old) (W.lacks out.new) }
+        ensures told_room { TellsRoom W.room W.lacks out.old out.new result
+            (bytes_brought (met_at_sink (is_expected self.old.expected sequence)
+            (D.state self.old.depacketizer) (W.sink out.old) codec_extra.old).state packet.now) }
     {
         self.depacketizer.meets_the_facts();
         laws::runs_grow_by_their_packets();
@@ -310,20 +305,18 @@ impl<D: RunDepacketizer> SequencedDepacketizer<D> {
         codec_extra: &mut CodecExtra,
     ) -> Result<Received, PacketError>
         // What is answered, and what stands afterwards.
-        ensures answer { IsSequencedAnswer self.old.run_limit (receiver_in_text D.state self.old
-            text.old codec_extra.old) sequence packet.now result }
+        ensures answer { IsAnswerInText D.state self.old text.old codec_extra.old sequence
+            packet.now result }
         ensures after { receiver_in_text D.state self.new text.new codec_extra.new ≡ after_answer
             self.old.run_limit (receiver_in_text D.state self.old text.old codec_extra.old) sequence
             packet.now result }
-        ensures rest { is_taken result ≡ true →
-            self.new.depacketizer ≡ D.having_taken packet.now self.old.depacketizer }
+        ensures rest { IfTaken result
+            (self.new.depacketizer ≡ D.having_taken packet.now self.old.depacketizer) }
         ensures limit { self.new.run_limit ≡ self.old.run_limit }
-        ensures while_taken { run_len (after_sequenced_packet (receiver_in_text D.state self.old
-            text.old codec_extra.old) sequence packet.now).state.run ≤ run_len text.old.run + length
-            packet.now }
-        ensures bounded { run_len text.old.run ≤ self.old.run_limit →
-            run_len text.new.run ≤ self.old.run_limit }
-        ensures aside { may_be_inside ≡ false → is_taken result ≡ true → text.new.inside ≡ None }
+        ensures while_taken { RunGrowsByPacket (receiver_in_text D.state self.old text.old
+            codec_extra.old) sequence packet.now }
+        ensures bounded { RunStaysWithin self.old.run_limit text.old.run text.new.run }
+        ensures aside { may_be_inside ≡ false → IfTaken result (text.new.inside ≡ None) }
 
         // A late packet and a refusal leave everything.
         ensures late { (n : ℕ) → result ≡ Ok (Received.Late n) → self.new ≡ self.old }

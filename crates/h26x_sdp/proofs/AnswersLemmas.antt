@@ -6,7 +6,7 @@ use Rattle.std.specs.Option.{option_map, option_or}
 use Rattle.h26x_sdp.specs.declared.answer.Role.{Role}
 use Rattle.h26x_sdp.specs.declared.answer.Role.TheVariants as role
 use Rattle.h26x_sdp.specs.Reading.{FormatParameters, value_at}
-use Rattle.h26x_sdp.specs.Answers.{Format, Terms, Rules, answered_value, answered_values, answered, common_terms, answer_by, answer_of, format_answer, offer_answer}
+use Rattle.h26x_sdp.specs.Answers.{MediaFormat, Terms, Rules, answered_value, answered_values, answered, common_terms, answer_by, answer_of, format_answer, offer_answer}
 use Rattle.h26x_sdp.specs.AnswerLaws.{HaveCommon, ComesFrom}
 
 -- each row of the answer is made of those of the offer and of ours
@@ -47,12 +47,12 @@ answer_from rules offered (own ∷ ours) answer h = elim (either (answer_by rule
 ]
 
 -- what a payload type's answer is
-format_parts : (format : Format) (found : Option FormatParameters) (answer : Format) → option_map (λ it. record format { parameters = it }) found ≡ Some answer
+format_parts : (format : MediaFormat) (found : Option FormatParameters) (answer : MediaFormat) → option_map (λ it. record format { parameters = it }) found ≡ Some answer
     → (it : FormatParameters) × (found ≡ Some it) × (answer ≡ record format { parameters = it })
 format_parts format None answer h = cc h
 format_parts format (Some it) answer h = (it, refl, cc h)
 
-have_more : (rules : Rules) (first : Format) (offer : List Format) (ours : List FormatParameters) (answer : Format) → ComesFrom rules offer ours answer → ComesFrom rules (first ∷ offer) ours answer
+have_more : (rules : Rules) (first : MediaFormat) (offer : List MediaFormat) (ours : List FormatParameters) (answer : MediaFormat) → ComesFrom rules offer ours answer → ComesFrom rules (first ∷ offer) ours answer
 have_more rules first offer ours answer from = record {
   format = from.format;
   own = from.own;
@@ -65,7 +65,7 @@ have_more rules first offer ours answer from = record {
   is = from.is;
 }
 
-have_first : (rules : Rules) (format : Format) (offer : List Format) (ours : List FormatParameters) (answer : Format) → format_answer rules format ours ≡ Some answer → ComesFrom rules (format ∷ offer) ours answer
+have_first : (rules : Rules) (format : MediaFormat) (offer : List MediaFormat) (ours : List FormatParameters) (answer : MediaFormat) → format_answer rules format ours ≡ Some answer → ComesFrom rules (format ∷ offer) ours answer
 have_first rules format offer ours answer h =
     let (it, by, is) = format_parts format (answer_of rules format.parameters ours) answer h in
     let (own, within, one) = answer_from rules format.parameters ours it by in
@@ -79,7 +79,7 @@ have_first rules format offer ours answer h =
     }
 
 -- an answer comes from a format and one of ours that have a configuration in common
-pub comes_from : (rules : Rules) (offer : List Format) (ours : List FormatParameters) (answer : Format) → offer_answer rules offer ours ≡ Some answer → ComesFrom rules offer ours answer
+pub comes_from : (rules : Rules) (offer : List MediaFormat) (ours : List FormatParameters) (answer : MediaFormat) → offer_answer rules offer ours ≡ Some answer → ComesFrom rules offer ours answer
 comes_from rules [] ours answer h = cc h
 comes_from rules (format ∷ offer) ours answer h = elim (either (format_answer rules format ours) (offer_answer rules offer ours) answer h) [
   | inl here ↦ have_first rules format offer ours answer here
@@ -108,7 +108,7 @@ answer_there rules offered own (u ∷ ours) zero within is there =
 answer_there rules offered own (u ∷ ours) (suc k) within is there =
     second_there (answer_by rules offered u) (answer_of rules offered ours) (answer_there rules offered own ours k (omega arith) is there)
 
-offer_there : (rules : Rules) (format : Format) (offer : List Format) (ours : List FormatParameters) (k : ℕ) → k < length offer → get_or offer k format ≡ format → is_some (format_answer rules format ours) ≡ true
+offer_there : (rules : Rules) (format : MediaFormat) (offer : List MediaFormat) (ours : List FormatParameters) (k : ℕ) → k < length offer → get_or offer k format ≡ format → is_some (format_answer rules format ours) ≡ true
     → is_some (offer_answer rules offer ours) ≡ true
 offer_there rules format [] ours k within is there = absurd (omega arith)
 offer_there rules format (f ∷ offer) ours zero within is there =
@@ -117,7 +117,7 @@ offer_there rules format (f ∷ offer) ours (suc k) within is there =
     second_there (format_answer rules f ours) (offer_answer rules offer ours) (offer_there rules format offer ours k (omega arith) is there)
 
 -- of two ends with a configuration in common there is an answer
-pub found : (rules : Rules) (offer : List Format) (ours : List FormatParameters) (format : Format) (own : FormatParameters) (terms : Terms) → HaveCommon rules offer ours format own terms
+pub found : (rules : Rules) (offer : List MediaFormat) (ours : List FormatParameters) (format : MediaFormat) (own : FormatParameters) (terms : Terms) → HaveCommon rules offer ours format own terms
     → is_some (offer_answer rules offer ours) ≡ true
 found rules offer ours format own terms have =
     let by : is_some (answer_by rules format.parameters own) ≡ true =

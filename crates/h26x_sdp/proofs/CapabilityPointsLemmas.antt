@@ -29,7 +29,7 @@ use Rattle.h26x_sdp.specs.Tables.{ParameterRow, row_at}
 use Rattle.h26x_sdp.specs.Parameters.{is_mark, IsTable, IsValue, IsValueIfGiven, AreValues, AreParameters}
 use Rattle.h26x_sdp.specs.Reading.{FormatParameters, value_at, number_at, given_pairs, all_of, read_of}
 use Rattle.h26x_sdp.specs.Units.{is_mark_of, pieces_at, pieces}
-use Rattle.h26x_sdp.specs.CapabilityPoints.{limit_rows, tool_name, tool_of, segmentation_of, segmentation_in, has_limit, limited, with_limits, with_segmentation, with_tool, head_of, point_in, point_before, points_from, in_braces, points_of, capability_points_in, limit_parameters, limits_text, point_text, points_text, capability_points_text, IsAtMost, IsPoint, AreCapabilityPoints}
+use Rattle.h26x_sdp.specs.CapabilityPoints.{limit_rows, tool_name, tool_of, segmentation_of, segmentation_in, has_limit, limited, with_limits, with_segmentation, with_tool, before_limits, point_in, point_before, points_from, in_braces, points_of, capability_points_in, limit_parameters, limits_text, point_text, points_text, capability_points_text, IsAtMost, IsPoint, AreCapabilityPoints}
 use Rattle.h26x_sdp.specs.CapabilityPointsViews.{FailsPoints}
 use Rattle.h26x_sdp.proofs.PartLemmas.{by_test}
 use Rattle.h26x_sdp.proofs.TrimLemmas.{trimmed_same}
@@ -238,15 +238,15 @@ point_back place it is =
     let small : it.spatial_segmentation < 2 ^ 64 = omega (arith, is.most) in
     let plain = head_plain it small in
     let limits : List ℕ = limits_text it in
-    let head : head_of (point_text it) ≡ head_text it = before_mark 59 (head_text it) limits refl plain in
+    let head : before_limits (point_text it) ≡ head_text it = before_mark 59 (head_text it) limits refl plain in
     let behind : after_first (λ b. b == 59) (point_text it) ≡ limits_text it = after_mark 59 (head_text it) limits refl plain in
-    let tool : tool_of (trim_ascii (before_first (λ b. b == 58) (head_of (point_text it)))) ≡ Some it.tool =
+    let tool : tool_of (trim_ascii (before_first (λ b. b == 58) (before_limits (point_text it)))) ≡ Some it.tool =
     ap (λ h. tool_of (trim_ascii (before_first (λ b. b == 58) h))) head
     ∙ ap (λ t. tool_of (trim_ascii t)) (before_mark 58 (tool_name it.tool) (decimal n) refl (tool_alone it.tool)) ∙ tool_back it.tool in
-    let number : segmentation_in (trim_ascii (after_first (λ b. b == 58) (head_of (point_text it)))) ≡ Ok it.spatial_segmentation =
+    let number : segmentation_in (trim_ascii (after_first (λ b. b == 58) (before_limits (point_text it)))) ≡ Ok it.spatial_segmentation =
     ap (λ h. segmentation_in (trim_ascii (after_first (λ b. b == 58) h))) head
     ∙ ap (λ t. segmentation_in (trim_ascii t)) (after_mark 58 (tool_name it.tool) (decimal n) refl (tool_alone it.tool)) ∙ segmentation_back n is.positive is.most small in
-    ap (with_tool place (trim_ascii (after_first (λ b. b == 58) (head_of (point_text it)))) (after_first (λ b. b == 59) (point_text it))) tool
+    ap (with_tool place (trim_ascii (after_first (λ b. b == 58) (before_limits (point_text it)))) (after_first (λ b. b == 59) (point_text it))) tool
     ∙ ap (with_segmentation place it.tool (after_first (λ b. b == 59) (point_text it))) number
     ∙ ap (λ l. with_limits place it.tool it.spatial_segmentation (read_of limit_rows l)) behind
     ∙ limits_back place it is
@@ -423,7 +423,7 @@ tool_read place number limits (Some tool) it h = segmentation_read place tool li
 
 point_read : (place : ℕ) (text : List ℕ) (it : CapabilityPoint) → point_in place text ≡ Ok it → IsPoint it
 point_read place text it h =
-    tool_read place (trim_ascii (after_first (λ b. b == 58) (head_of text))) (after_first (λ b. b == 59) text) (tool_of (trim_ascii (before_first (λ b. b == 58) (head_of text)))) it h
+    tool_read place (trim_ascii (after_first (λ b. b == 58) (before_limits text))) (after_first (λ b. b == 59) text) (tool_of (trim_ascii (before_first (λ b. b == 58) (before_limits text)))) it h
 
 before_parts : (r : Result CapabilityPoint CapabilityPointsError) (rs : Result (List CapabilityPoint) CapabilityPointsError) (points : List CapabilityPoint) → point_before r rs ≡ Ok points
     → (point : CapabilityPoint) × (rest : List CapabilityPoint) × (r ≡ Ok point) × (rs ≡ Ok rest) × (points ≡ point ∷ rest)

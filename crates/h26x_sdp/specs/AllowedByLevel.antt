@@ -58,6 +58,12 @@ pub record IsAnswerByLevel (rules : Rules) (by : LevelRows) (offered answer : Fo
   pub forth : can_hold rules.rows by offered answer ≡ true
   pub back : can_hold rules.rows by answer offered ≡ true
 
+-- what holds of each allowed answer
+abbrev pub OfEachAllowed : ((rules : Rules) (by : LevelRows) (offered answer : FormatParameters) →
+    IsAnswerByLevel rules by offered answer → Type 0) → Type 0
+OfEachAllowed Holds = (rules : Rules) (by : LevelRows) (offered answer : FormatParameters)
+    (it : IsAnswerByLevel rules by offered answer) → Holds rules by offered answer it
+
 -- what one end sends, at a level, is what the other said that it receives: its configuration, no level
 -- above its highest, and a buffer that it has
 pub record MaySendByLevel (rules : Rules) (by : LevelRows) (sender receiver : FormatParameters)

@@ -53,6 +53,10 @@ pub record MaySend (sender receiver : FormatParameters) (s r : ProfileLevelId) :
   pub level : rank_to_use sender receiver s r ≤ highest_rank receiver r
   pub buffer : is_interleaved sender ≡ true → can_deinterleave sender receiver ≡ true
 
+-- where an answer is of interleaved packets, we could put in order what we send
+abbrev pub CanDeinterleaveOwn : FormatParameters → FormatParameters → Type 0
+CanDeinterleaveOwn own answer = is_interleaved answer ≡ true → can_deinterleave own own ≡ true
+
 -- the rows of parameter sets, which depend on what the other end says of them
 abbrev pub is_sets_row : ℕ → Bool
 is_sets_row row = (row == row_place p.SpropParameterSets)

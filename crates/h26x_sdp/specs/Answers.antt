@@ -13,7 +13,7 @@ use Rattle.h26x_sdp.specs.Tables.{ParameterRow, same_name}
 use Rattle.h26x_sdp.specs.Reading.{FormatParameters}
 
 -- a payload type and the parameters of its format
-pub record Format : Type 0 where
+pub record MediaFormat : Type 0 where
   pub payload_type : ℕ
   pub parameters : FormatParameters
 
@@ -146,12 +146,12 @@ answer_of rules offered (own ∷ ours) = option_or (answer_by rules offered own)
     (answer_of rules offered ours)
 
 -- the same of a payload type, which it keeps
-abbrev pub format_answer : Rules → Format → List FormatParameters → Option Format
+abbrev pub format_answer : Rules → MediaFormat → List FormatParameters → Option MediaFormat
 format_answer rules format ours = option_map (λ it. record format { parameters = it })
     (answer_of rules format.parameters ours)
 
 -- the answer to the first offered format that has one
-abbrev pub offer_answer : Rules → List Format → List FormatParameters → Option Format
+abbrev pub offer_answer : Rules → List MediaFormat → List FormatParameters → Option MediaFormat
 offer_answer rules [] ours = None
 offer_answer rules (format ∷ rest) ours = option_or (format_answer rules format ours)
     (offer_answer rules rest ours)

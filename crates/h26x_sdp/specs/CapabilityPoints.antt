@@ -96,15 +96,15 @@ with_tool place number limits (Some tool) =
     with_segmentation place tool limits (segmentation_in number)
 
 -- what stands before the limits of a point: its tool and its number
-abbrev pub head_of : List ℕ → List ℕ
-head_of text = before_first (λ byte. byte == 59) text
+abbrev pub before_limits : List ℕ → List ℕ
+before_limits text = before_first (λ byte. byte == 59) text
 
 -- the point of a text, cut at its first `;`, and before that at its first `:`
 abbrev pub point_in : ℕ → List ℕ → Result CapabilityPoint CapabilityPointsError
 point_in place text =
-    with_tool place (trim_ascii (after_first (λ byte. byte == 58) (head_of text)))
+    with_tool place (trim_ascii (after_first (λ byte. byte == 58) (before_limits text)))
     (after_first (λ byte. byte == 59) text)
-    (tool_of (trim_ascii (before_first (λ byte. byte == 58) (head_of text))))
+    (tool_of (trim_ascii (before_first (λ byte. byte == 58) (before_limits text))))
 
 -- a point before others; the first fault is the answer
 abbrev pub point_before : Result CapabilityPoint CapabilityPointsError →

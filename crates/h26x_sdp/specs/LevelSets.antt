@@ -1,5 +1,5 @@
 -- Parameter sets of levels in `sprop-level-parameter-sets` (RFC 6184, section 8.1).
-use Rattle.std.specs.Prelude.{◌≡◌, ℕ, ◌+◌, ◌<◌, List, [], ◌∷◌, length, None, Result, Ok, Err}
+use Rattle.std.specs.Prelude.{◌≡◌, ℕ, ◌+◌, ◌<◌, List, [], ◌∷◌, ◌++◌, length, None, Result, Ok, Err}
 use Rattle.std.specs.List.{join_with_byte, AllByRecursion}
 use Rattle.base64.specs.GeneralPurpose.{IsBytes}
 use Rattle.hex.specs.Hex.{encode_lower, decode_sized}
@@ -50,6 +50,10 @@ abbrev pub level_texts : List LevelSets → List (List ℕ)
 level_texts [] = []
 level_texts (level ∷ rest) =
     encode_lower level.profile_level_id ∷ units_text level.sets ∷ level_texts rest
+
+-- a level as it is written
+abbrev pub level_text : LevelSets → List ℕ
+level_text level = encode_lower level.profile_level_id ++ 58 ∷ units_text level.sets
 
 -- levels as they are written
 abbrev pub level_sets_text : List LevelSets → List ℕ

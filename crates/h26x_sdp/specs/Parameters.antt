@@ -1,14 +1,14 @@
 -- Which parameters a table gives back.
-use Rattle.std.specs.Prelude.{◌≡◌, ℕ, ◌+◌, Bool, true, false, not, ◌&&◌, ◌||◌, ◌==◌, List, [], ◌∷◌, Option, Some, None}
+use Rattle.std.specs.Prelude.{◌≡◌, ℕ, ◌+◌, Bool, true, false, not, ◌&&◌, ◌||◌, ◌==◌, List, [], ◌∷◌, Option, Some, None, Ok}
 use Rattle.std.specs.List.{list_all, AllByRecursion}
 use Rattle.std.specs.Option.{option_and_then}
 use Rattle.std.specs.Char.{is_ascii_whitespace}
 use Rattle.h26x_sdp.specs.declared.error.Fault.{Fault}
 use Rattle.h26x_sdp.specs.Pairs.{Pair, is_equals}
-use Rattle.h26x_sdp.specs.Written.{with_pair, is_one_part, IsTrimmed, IsWritable}
+use Rattle.h26x_sdp.specs.Written.{written, with_pair, is_one_part, IsTrimmed, IsWritable}
 use Rattle.h26x_sdp.specs.Kinds.{fault_in}
 use Rattle.h26x_sdp.specs.Tables.{ParameterRow, row_of}
-use Rattle.h26x_sdp.specs.Reading.{FormatParameters}
+use Rattle.h26x_sdp.specs.Reading.{FormatParameters, read_of, all_of}
 
 -- a text with a row's value behind it, if it's given
 abbrev pub with_given : List ℕ → ParameterRow → Option (List ℕ) → List ℕ
@@ -64,3 +64,12 @@ pub record IsOther (rows : List ParameterRow) (pair : Pair) : Type 0 where
 pub record AreParameters (rows : List ParameterRow) (parameters : FormatParameters) : Type 0 where
   pub values : AreValues rows parameters.values
   pub others : AllByRecursion (IsOther rows) parameters.others
+
+-- what is written of parameters is read as the same
+abbrev pub IsReadAgain : List ParameterRow → FormatParameters → Type 0
+IsReadAgain rows it = read_of rows (written (all_of rows it)) ≡ Ok it
+
+-- what holds of whatever a table reads of a text
+abbrev pub OfEachRead : (List ParameterRow → FormatParameters → Type 0) → Type 0
+OfEachRead Holds = (rows : List ParameterRow) (text : List ℕ) (it : FormatParameters) →
+    IsTable rows → read_of rows text ≡ Ok it → Holds rows it

@@ -55,9 +55,9 @@ sprop_units text = units_from 0 (pieces text)
 
 -- the units of a row's value, if it's given and its kind is units: where each is of a type that the
 -- parameter is for, and holds no start code
-abbrev pub units_at : List ParameterRow → FormatParameters → ℕ →
+abbrev pub sprop_units_at : List ParameterRow → FormatParameters → ℕ →
     Option (Result (List (List ℕ)) UnitsError)
-units_at rows it row =
+sprop_units_at rows it row =
     option_and_then (λ types.
     option_map (λ text. of_types types (sprop_units text)) (value_at it.values row))
     (unit_types (row_at rows row).kind)

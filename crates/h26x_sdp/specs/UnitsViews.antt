@@ -1,5 +1,5 @@
 -- What units of the code say.
-use Rattle.std.specs.Prelude.{◌≡◌, ℕ, List, map, Option, Some, None, Result, Ok, Err, Vec}
+use Rattle.std.specs.Prelude.{◌≡◌, ℕ, List, map, Option, Some, None, Result, Ok, Err, Vec, MatchResult}
 use Rattle.std.specs.declared.alloc.Global.{Global}
 use Rattle.h26x_sdp.specs.declared.error.UnitsError.{UnitsError}
 use Rattle.h26x_sdp.specs.declared.error.UnitsError.TheVariants.{NotBase64, Empty, OtherType, StartCode, OutOfMemory}
@@ -20,13 +20,19 @@ abbrev pub SaysUnit : Result (Vec ℕ Global) UnitsError → Result (List ℕ) U
 SaysUnit (Ok unit) read = read ≡ Ok unit.items
 SaysUnit (Err error) read = FailsUnits error read
 
+-- the same of units
+abbrev pub SaysUnits : Result (Vec (Vec ℕ Global) Global) UnitsError →
+    Result (List (List ℕ)) UnitsError → Type 0
+SaysUnits result read =
+    MatchResult result (λ it. read ≡ Ok (units_view it.items)) (λ error. FailsUnits error read)
+
 -- the same of units that may be absent
-abbrev pub SaysUnits : Result (Option (Vec (Vec ℕ Global) Global)) UnitsError →
+abbrev pub SaysUnitsIfGiven : Result (Option (Vec (Vec ℕ Global) Global)) UnitsError →
     Option (Result (List (List ℕ)) UnitsError) → Type 0
-SaysUnits (Ok None) read = read ≡ None
-SaysUnits (Ok (Some units)) read = read ≡ Some (Ok (units_view units.items))
-SaysUnits (Err OutOfMemory) read = Unit {0}
-SaysUnits (Err (NotBase64 place)) read = read ≡ Some (Err (NotBase64 place))
-SaysUnits (Err (Empty place)) read = read ≡ Some (Err (Empty place))
-SaysUnits (Err (OtherType place)) read = read ≡ Some (Err (OtherType place))
-SaysUnits (Err (StartCode place)) read = read ≡ Some (Err (StartCode place))
+SaysUnitsIfGiven (Ok None) read = read ≡ None
+SaysUnitsIfGiven (Ok (Some units)) read = read ≡ Some (Ok (units_view units.items))
+SaysUnitsIfGiven (Err OutOfMemory) read = Unit {0}
+SaysUnitsIfGiven (Err (NotBase64 place)) read = read ≡ Some (Err (NotBase64 place))
+SaysUnitsIfGiven (Err (Empty place)) read = read ≡ Some (Err (Empty place))
+SaysUnitsIfGiven (Err (OtherType place)) read = read ≡ Some (Err (OtherType place))
+SaysUnitsIfGiven (Err (StartCode place)) read = read ≡ Some (Err (StartCode place))

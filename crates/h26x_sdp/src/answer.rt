@@ -11,7 +11,7 @@ ghost use Rattle.std.specs.Option.{option_map, option_or};
 ghost use Rattle.h26x_sdp.specs.Answers as spec;
 ghost use Rattle.h26x_sdp.specs.AnswersViews.{terms_view};
 ghost use Rattle.h26x_sdp.specs.Reading as reading;
-ghost use Rattle.h26x_sdp.specs.ParametersViews.{view, value_view, values_view, other_view, others_view};
+ghost use Rattle.h26x_sdp.specs.ParametersViews.{view, value_view, slice_view, values_view, other_view, others_view};
 ghost use Rattle.h26x_sdp.specs.TableViews.{row_view};
 
 use crate::codec::{CodecParameter, CodecParameters};
@@ -123,8 +123,8 @@ fn same_value(kind: Kind, a: &[u8], b: &[u8]) -> bool
 
 /// The same of values that may be absent.
 pub(crate) fn same_if_given(kind: Kind, a: Option<&[u8]>, b: Option<&[u8]>) -> bool
-    ensures { result ≡ spec.same_if_given kind (option_map (λ v. v.now) a.entry)
-        (option_map (λ v. v.now) b.entry) }
+    ensures { result ≡ spec.same_if_given kind (slice_view a.entry)
+        (slice_view b.entry) }
 {
     match (a, b) {
         (None, None) => true,
@@ -135,7 +135,7 @@ pub(crate) fn same_if_given(kind: Kind, a: Option<&[u8]>, b: Option<&[u8]>) -> b
 
 /// The bytes of a value, if it's given.
 fn bytes_of(value: &Option<Vec<u8>>) -> Option<&[u8]>
-    ensures { option_map (λ v. v.now) result ≡ value_view value.now }
+    ensures { slice_view result ≡ value_view value.now }
 {
     match value {
         Some(value) => Some(value.as_slice()),
@@ -145,7 +145,7 @@ fn bytes_of(value: &Option<Vec<u8>>) -> Option<&[u8]>
 
 /// The bytes of a value, or the default of its row.
 fn bytes_or_default<'a>(row: &'a ParameterRow, value: &'a Option<Vec<u8>>) -> Option<&'a [u8]>
-    ensures { option_map (λ v. v.now) result
+    ensures { slice_view result
         ≡ option_or (value_view value.now) (row_view row.now).default }
 {
     match value {
@@ -185,7 +185,7 @@ fn are_symmetric(
     requires offered { vec_len offered.now.values ≡ length roles.now }
     requires own { vec_len own.now.values ≡ length roles.now }
     ensures { result ≡ spec.are_symmetric roles.now (map row_view rows.now)
-        (values_view offered.now.values) (values_view own.now.values) }
+        (view offered.now).values (view own.now).values }
 {
     for place in 0..roles.len() {
         let (o, u) = (&offered.values[place], &own.values[place]);
@@ -198,7 +198,7 @@ fn are_symmetric(
 
 /// A value, where it belongs into the answer.
 pub(crate) fn only_if(belongs: bool, value: &Option<Vec<u8>>) -> Option<&[u8]>
-    ensures { option_map (λ v. v.now) result ≡ spec.only_if belongs (value_view value.now) }
+    ensures { slice_view result ≡ spec.only_if belongs (value_view value.now) }
 {
     if belongs { bytes_of(value) } else { None }
 }
@@ -210,7 +210,7 @@ fn answered_value<'a>(
     offered: &'a Option<Vec<u8>>,
     own: &'a Option<Vec<u8>>,
 ) -> Option<&'a [u8]>
-    ensures { option_map (λ v. v.now) result ≡ spec.answered_value role (terms_view terms.now)
+    ensures { slice_view result ≡ spec.answered_value role (terms_view terms.now)
         (value_view offered.now) (value_view own.now) }
 {
     match role {
@@ -228,7 +228,7 @@ fn answered_value<'a>(
 
 /// A copy of a value, if it's given.
 pub(crate) fn copy_of(alloc: Global, value: Option<&[u8]>) -> Result<Option<Vec<u8>>, AllocError>
-    ensures { IfOk result (λ it. value_view it ≡ option_map (λ v. v.now) value.entry) }
+    ensures { IfOk result (λ it. value_view it ≡ slice_view value.entry) }
 {
     match value {
         Some(value) => Ok(Some(Vec::from_slice(alloc, value)?)),
@@ -270,7 +270,7 @@ fn answered_values(
     requires offered { vec_len offered.now.values ≡ length roles.now }
     requires own { vec_len own.now.values ≡ length roles.now }
     ensures values { IfOk result (λ it. values_view it ≡ spec.answered_values (terms_view terms.now)
-        roles.now (values_view offered.now.values) (values_view own.now.values)) }
+        roles.now (view offered.now).values (view own.now).values) }
     ensures long { IfOk result (λ it. vec_len it ≡ length roles.now) }
 {
     let mut values = Vec::new(alloc);
@@ -293,7 +293,7 @@ pub struct Format<P: CodecParameter> {
 impl<P: CodecParameter> Model for Format<P> {
     ghost use Rattle.h26x_sdp.specs.Answers as spec;
 
-    ghost Value = { spec.Format };
+    ghost Value = { spec.MediaFormat };
 
     ghost view = { λ it. record { payload_type = it.payload_type; parameters = it.parameters } };
 }

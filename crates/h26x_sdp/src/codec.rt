@@ -1,13 +1,13 @@
 //! The format parameters of a codec, by the table of them that its RFC registers.
 
-ghost use Rattle.std.specs.Prelude.{◌≡◌, ◌<◌, ℕ, List, Ok, Some, None, IfOk, MatchResult, MatchOption, length, map};
+ghost use Rattle.std.specs.Prelude.{◌≡◌, ◌<◌, ℕ, List, Ok, IfOk, MatchResult, length, map};
 ghost use Rattle.h26x_sdp.specs.Tables.{ParameterRow};
 ghost use Rattle.h26x_sdp.specs.TableViews.{row_view};
 ghost use Rattle.h26x_sdp.specs.Reading.{read_of, all_of, none_of, with_one, value_at, number_at, value_or_default, number_or_default};
-ghost use Rattle.h26x_sdp.specs.ParametersViews.{Fails, other_view};
+ghost use Rattle.h26x_sdp.specs.ParametersViews.{Fails, SaysValue, other_view};
 ghost use Rattle.h26x_sdp.specs.Written.{written};
-ghost use Rattle.h26x_sdp.specs.Units.{units_at};
-ghost use Rattle.h26x_sdp.specs.UnitsViews.{SaysUnits};
+ghost use Rattle.h26x_sdp.specs.Units.{sprop_units_at};
+ghost use Rattle.h26x_sdp.specs.UnitsViews.{SaysUnitsIfGiven};
 
 use crate::error::{ParametersError, UnitsError};
 use crate::parameters;
@@ -99,9 +99,7 @@ impl<P: CodecParameter> CodecParameters<P> {
 
     /// The value of a parameter, as it came; `None` where it's absent.
     pub fn value(&self, parameter: P) -> Option<&[u8]>
-        ensures { MatchOption result
-            (value_at self.now.values (P.place parameter) ≡ None)
-            (λ value. value_at self.now.values (P.place parameter) ≡ Some value.now) }
+        ensures { SaysValue result (value_at self.now.values (P.place parameter)) }
     {
         let value = self.parameters.values.get(parameter.place())?.as_ref()?;
         Some(value.as_slice())
@@ -118,9 +116,7 @@ impl<P: CodecParameter> CodecParameters<P> {
     /// The value of a parameter, or where it's absent the one that the RFC gives for it; `None` where
     /// it gives none, as where the level says it or another parameter does.
     pub fn value_or_default(&self, parameter: P) -> Option<&[u8]>
-        ensures { MatchOption result
-            (value_or_default P.rows self.now (P.place parameter) ≡ None)
-            (λ value. value_or_default P.rows self.now (P.place parameter) ≡ Some value.now) }
+        ensures { SaysValue result (value_or_default P.rows self.now (P.place parameter)) }
     {
         match self.value(parameter) {
             Some(value) => Some(value),
@@ -144,7 +140,7 @@ impl<P: CodecParameter> CodecParameters<P> {
     /// has no byte, and where all are units, one that is of no type that the parameter is for, or has
     /// a start code inside.
     pub fn units(&self, alloc: Global, parameter: P) -> Result<Option<Vec<Vec<u8>>>, UnitsError>
-        ensures { SaysUnits result (units_at P.rows self.now (P.place parameter)) }
+        ensures { SaysUnitsIfGiven result (sprop_units_at P.rows self.now (P.place parameter)) }
     {
         let (Some(row), Some(value)) = (P::rows().get(parameter.place()), self.value(parameter))
         else {

@@ -1,9 +1,9 @@
 //! The constraints of H.266 that `interop-constraints` says.
 
-ghost use Rattle.std.specs.Prelude.{◌≡◌, ◌==◌, Ok, IfOk, MatchResult, slice_index_or};
+ghost use Rattle.std.specs.Prelude.{◌≡◌, ◌==◌, IfOk, slice_index_or};
 ghost use Rattle.h26x_core.specs.Word.{field};
 ghost use Rattle.h26x_sdp.specs.Constraints as spec;
-ghost use Rattle.h26x_sdp.specs.ConstraintsViews.{FailsConstraints};
+ghost use Rattle.h26x_sdp.specs.ConstraintsViews.{SaysConstraints};
 
 use crate::error::ConstraintsError;
 use base64::DecodeAllocError;
@@ -69,9 +69,7 @@ impl InteropConstraints {
 
     /// Reads them: base64 with its padding (RFC 4648, section 4).
     pub fn read(alloc: Global, text: &[u8]) -> Result<Self, ConstraintsError>
-        ensures { MatchResult result
-            (λ it. spec.constraints_in text.now ≡ Ok it)
-            (λ error. FailsConstraints error (spec.constraints_in text.now)) }
+        ensures { SaysConstraints result (spec.constraints_in text.now) }
     {
         match STANDARD.decode(alloc, text) {
             Ok(bytes) => InteropConstraints::from_bytes(bytes),

@@ -1,12 +1,13 @@
 //! What a stream says of itself: the parameters of a sender's offer, out of the sets before the first
 //! slice.
 
-ghost use Rattle.std.specs.Prelude.{◌≡◌, ◌<◌, ◌≤◌, ℕ, List, Ok, IfOk, OnOk, MatchResult, length, drop, decimal};
+ghost use Rattle.std.specs.Prelude.{◌≡◌, ◌<◌, ◌≤◌, ℕ, List, Ok, IfOk, OnOk, length, drop, decimal};
 ghost use Rattle.h26x_cut.specs.Cutting.{AreUnits};
 ghost use Rattle.h26x_cut.specs.declared.ZeroRule.TheVariants.{All, AtMostThree};
 ghost use Rattle.hex.specs.Hex.{encode_upper};
 ghost use Rattle.h26x_sdp.specs.FromStream as spec;
-ghost use Rattle.h26x_sdp.specs.FromStreamViews.{slices_view, set_view, FailsStream};
+ghost use Rattle.h26x_sdp.specs.FromStreamViews.{slices_view, SaysOfStream, SaysOfSet};
+ghost use Rattle.h26x_sdp.specs.ParametersViews.{slice_view};
 ghost use Rattle.h26x_sdp.specs.UnitsViews.{units_view};
 
 use crate::codec::{CodecParameter, CodecParameters};
@@ -61,7 +62,7 @@ fn is_base(types: UnitTypes, unit: &[u8]) -> bool
 
 /// The first set of a type and of the lowest layer, before the first slice.
 fn first_set<'a>(types: UnitTypes, units: &[&'a [u8]]) -> Option<&'a [u8]>
-    ensures { set_view result ≡ spec.first_set types (slices_view units.now) }
+    ensures { slice_view result ≡ spec.first_set types (slices_view units.now) }
 {
     let slices = slices(types.encoding);
     for unit in units {
@@ -112,9 +113,7 @@ fn set_bytes(
     many: usize,
     set: Option<&[u8]>,
 ) -> Result<Vec<u8>, StreamError>
-    ensures bytes { MatchResult result
-        (λ bytes. spec.set_bytes header many (set_view set.entry) ≡ Ok bytes.items)
-        (λ error. FailsStream error (spec.set_bytes header many (set_view set.entry))) }
+    ensures bytes { SaysOfSet result (spec.set_bytes header many (slice_view set.entry)) }
     ensures many { IfOk result (λ bytes. length bytes.items ≡ many) }
 {
     let Some(unit) = set else {
@@ -163,9 +162,7 @@ fn put_sets<P: CodecParameter>(
 /// The three bytes of profile and level of the first SPS of H.264 (Rec. ITU-T H.264, section
 /// 7.3.2.1.1).
 fn h264_profile(alloc: Global, units: &[&[u8]]) -> Result<Vec<u8>, StreamError>
-    ensures { MatchResult result
-        (λ bytes. spec.h264_profile (slices_view units.now) ≡ Ok bytes.items)
-        (λ error. FailsStream error (spec.h264_profile (slices_view units.now))) }
+    ensures { SaysOfSet result (spec.h264_profile (slices_view units.now)) }
 {
     set_bytes(alloc, 1, 3, first_set(H264_SPS, units))
 }
@@ -194,9 +191,7 @@ fn h264_put_profile(
 /// send_offer(format.write(alloc)?);
 /// ```
 pub fn h264_of_units(alloc: Global, units: &[&[u8]]) -> Result<H264Parameters, StreamError>
-    ensures { MatchResult result
-        (λ it. spec.h264_of_units (slices_view units.now) ≡ Ok it)
-        (λ error. FailsStream error (spec.h264_of_units (slices_view units.now))) }
+    ensures { SaysOfStream result (spec.h264_of_units (slices_view units.now)) }
 {
     let profile = h264_profile(alloc, units)?;
     let mut it = H264Parameters::none(alloc)?;
@@ -214,9 +209,7 @@ pub fn h264_of_units(alloc: Global, units: &[&[u8]]) -> Result<H264Parameters, S
 /// The twelve bytes of profile, tier and level of H.265: of the first SPS, or where none is there of
 /// the first VPS (Rec. ITU-T H.265, section 7.3.3).
 fn h265_profile(alloc: Global, units: &[&[u8]]) -> Result<Vec<u8>, StreamError>
-    ensures bytes { MatchResult result
-        (λ bytes. spec.h265_profile (slices_view units.now) ≡ Ok bytes.items)
-        (λ error. FailsStream error (spec.h265_profile (slices_view units.now))) }
+    ensures bytes { SaysOfSet result (spec.h265_profile (slices_view units.now)) }
     ensures many { IfOk result (λ bytes. length bytes.items ≡ 12) }
 {
     let sps = first_set(H265_SPS, units);
@@ -267,9 +260,7 @@ fn h265_put_profile(
 /// and level, or where none is there the first VPS. Where neither is there or it's too short, that is
 /// told.
 pub fn h265_of_units(alloc: Global, units: &[&[u8]]) -> Result<H265Parameters, StreamError>
-    ensures { MatchResult result
-        (λ it. spec.h265_of_units (slices_view units.now) ≡ Ok it)
-        (λ error. FailsStream error (spec.h265_of_units (slices_view units.now))) }
+    ensures { SaysOfStream result (spec.h265_of_units (slices_view units.now)) }
 {
     let profile = h265_profile(alloc, units)?;
     let mut it = H265Parameters::none(alloc)?;
@@ -283,9 +274,7 @@ pub fn h265_of_units(alloc: Global, units: &[&[u8]]) -> Result<H265Parameters, S
 /// The bytes of the first SPS of H.266 as far as its constraints: behind two of them profile, tier and
 /// level stand, and behind four the constraints (Rec. ITU-T H.266, sections 7.3.2.4 and 7.3.3.1).
 fn h266_profile(alloc: Global, units: &[&[u8]]) -> Result<Vec<u8>, StreamError>
-    ensures bytes { MatchResult result
-        (λ bytes. spec.h266_profile (slices_view units.now) ≡ Ok bytes.items)
-        (λ error. FailsStream error (spec.h266_profile (slices_view units.now))) }
+    ensures bytes { SaysOfSet result (spec.h266_profile (slices_view units.now)) }
     ensures many { IfOk result (λ bytes. 5 ≤ length bytes.items) }
 {
     h266_profile_in(alloc, first_set(H266_SPS, units))
@@ -293,11 +282,8 @@ fn h266_profile(alloc: Global, units: &[&[u8]]) -> Result<Vec<u8>, StreamError>
 
 /// The same of an SPS with general constraints, which say how long they are.
 fn with_general(alloc: Global, sps: Option<&[u8]>) -> Result<Vec<u8>, StreamError>
-    ensures bytes { MatchResult result
-        (λ bytes. spec.with_general (set_view sps.entry)
-        (spec.set_bytes 2 15 (set_view sps.entry)) ≡ Ok bytes.items)
-        (λ error. FailsStream error (spec.with_general (set_view sps.entry)
-        (spec.set_bytes 2 15 (set_view sps.entry)))) }
+    ensures bytes { SaysOfSet result (spec.with_general (slice_view sps.entry)
+        (spec.set_bytes 2 15 (slice_view sps.entry))) }
     ensures many { IfOk result (λ bytes. 5 ≤ length bytes.items) }
 {
     let bytes = set_bytes(alloc, 2, 15, sps)?;
@@ -307,9 +293,7 @@ fn with_general(alloc: Global, sps: Option<&[u8]>) -> Result<Vec<u8>, StreamErro
 
 /// Those bytes of an SPS.
 fn h266_profile_in(alloc: Global, sps: Option<&[u8]>) -> Result<Vec<u8>, StreamError>
-    ensures bytes { MatchResult result
-        (λ bytes. spec.h266_profile_in (set_view sps.entry) ≡ Ok bytes.items)
-        (λ error. FailsStream error (spec.h266_profile_in (set_view sps.entry))) }
+    ensures bytes { SaysOfSet result (spec.h266_profile_in (slice_view sps.entry)) }
     ensures many { IfOk result (λ bytes. 5 ≤ length bytes.items) }
 {
     let bytes = set_bytes(alloc, 2, 5, sps)?;
@@ -351,9 +335,7 @@ fn h266_put_profile(
 /// The sets are those before the first slice. The first SPS of the lowest layer says profile, tier
 /// and level. Where none is there, it's too short or it doesn't say them, that is told.
 pub fn h266_of_units(alloc: Global, units: &[&[u8]]) -> Result<H266Parameters, StreamError>
-    ensures { MatchResult result
-        (λ it. spec.h266_of_units (slices_view units.now) ≡ Ok it)
-        (λ error. FailsStream error (spec.h266_of_units (slices_view units.now))) }
+    ensures { SaysOfStream result (spec.h266_of_units (slices_view units.now)) }
 {
     let profile = h266_profile(alloc, units)?;
     let mut it = H266Parameters::none(alloc)?;
@@ -383,9 +365,8 @@ fn units_of<'a>(
 /// The parameters of H.264 that a sender says of its stream, out of the bytes that it begins with
 /// (Annex B), as [`h264_of_units`] gives them.
 pub fn h264_of_payload(alloc: Global, payload: &[u8]) -> Result<H264Parameters, StreamError>
-    ensures { (list : List (List ℕ)) × AreUnits All payload.now list × MatchResult result
-        (λ it. spec.h264_of_units list ≡ Ok it)
-        (λ error. FailsStream error (spec.h264_of_units list)) }
+    ensures { (list : List (List ℕ)) × AreUnits All payload.now list
+        × SaysOfStream result (spec.h264_of_units list) }
 {
     let list = units_of(alloc, payload, ZeroRule::All)?;
     h264_of_units(alloc, list.as_slice())
@@ -394,9 +375,8 @@ pub fn h264_of_payload(alloc: Global, payload: &[u8]) -> Result<H264Parameters, 
 /// The parameters of H.265 that a sender says of its stream, out of the bytes that it begins with
 /// (Annex B), as [`h265_of_units`] gives them.
 pub fn h265_of_payload(alloc: Global, payload: &[u8]) -> Result<H265Parameters, StreamError>
-    ensures { (list : List (List ℕ)) × AreUnits All payload.now list × MatchResult result
-        (λ it. spec.h265_of_units list ≡ Ok it)
-        (λ error. FailsStream error (spec.h265_of_units list)) }
+    ensures { (list : List (List ℕ)) × AreUnits All payload.now list
+        × SaysOfStream result (spec.h265_of_units list) }
 {
     let list = units_of(alloc, payload, ZeroRule::All)?;
     h265_of_units(alloc, list.as_slice())
@@ -405,9 +385,8 @@ pub fn h265_of_payload(alloc: Global, payload: &[u8]) -> Result<H265Parameters, 
 /// The parameters of H.266 that a sender says of its stream, out of the bytes that it begins with
 /// (Annex B), as [`h266_of_units`] gives them.
 pub fn h266_of_payload(alloc: Global, payload: &[u8]) -> Result<H266Parameters, StreamError>
-    ensures { (list : List (List ℕ)) × AreUnits AtMostThree payload.now list × MatchResult result
-        (λ it. spec.h266_of_units list ≡ Ok it)
-        (λ error. FailsStream error (spec.h266_of_units list)) }
+    ensures { (list : List (List ℕ)) × AreUnits AtMostThree payload.now list
+        × SaysOfStream result (spec.h266_of_units list) }
 {
     let list = units_of(alloc, payload, ZeroRule::AtMostThree)?;
     h266_of_units(alloc, list.as_slice())

@@ -213,10 +213,9 @@ fn text_of(text: Option<&[u8]>) -> &[u8]
 }
 
 impl CodecParameters<H266Parameter> {
-    ghost use Rattle.std.specs.Prelude.{Ok, MatchResult};
     ghost use Rattle.h26x_sdp.specs.Reading.{number_or_default, number_of_32_bits};
     ghost use Rattle.h26x_sdp.specs.Constraints.{constraints_of};
-    ghost use Rattle.h26x_sdp.specs.ConstraintsViews.{FailsConstraints};
+    ghost use Rattle.h26x_sdp.specs.ConstraintsViews.{SaysConstraints};
     ghost use Rattle.h26x_sdp.specs.H266Rows as spec;
     ghost use Rattle.h26x_sdp.specs.declared.h266.H266Parameter.TheVariants as p;
 
@@ -232,9 +231,7 @@ impl CodecParameters<H266Parameter> {
     /// The constraints that `interop-constraints` says, or where it's absent frames alone, one layer
     /// and no general ones.
     pub fn interop_constraints(&self, alloc: Global) -> Result<InteropConstraints, ConstraintsError>
-        ensures { MatchResult result
-            (λ it. constraints_of self.now ≡ Ok it)
-            (λ error. FailsConstraints error (constraints_of self.now)) }
+        ensures { SaysConstraints result (constraints_of self.now) }
     {
         let said = self.value_or_default(H266Parameter::InteropConstraints);
         InteropConstraints::read(alloc, text_of(said))

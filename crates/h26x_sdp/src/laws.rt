@@ -5,8 +5,8 @@ ghost use Rattle.std.specs.List.{AllByRecursion, join_with_byte};
 ghost use Rattle.h26x_sdp.specs.Pairs.{Pair, parts, pairs, closes};
 ghost use Rattle.h26x_sdp.specs.Written.{written, with_pair, IsWritable};
 ghost use Rattle.h26x_sdp.specs.Tables.{ParameterRow};
-ghost use Rattle.h26x_sdp.specs.Parameters.{IsTable, AreParameters};
-ghost use Rattle.h26x_sdp.specs.Reading.{FormatParameters, read_of, all_of};
+ghost use Rattle.h26x_sdp.specs.Parameters.{IsTable, AreParameters, IsReadAgain, OfEachRead};
+ghost use Rattle.h26x_sdp.specs.Reading.{FormatParameters};
 ghost use Rattle.base64.specs.GeneralPurpose.{IsBytes};
 ghost use Rattle.h26x_sdp.specs.Units.{AreSpropUnits, sprop_units, units_text};
 ghost use Rattle.h26x_sdp.specs.LevelSets.{LevelSets, AreLevelSets, level_sets_in, level_sets_text};
@@ -15,14 +15,13 @@ ghost use Rattle.h26x_sdp.specs.CapabilityPoints.{AreCapabilityPoints, capabilit
 ghost use Rattle.h26x_sdp.specs.declared.capability_points.CapabilityPoint.{CapabilityPoint};
 ghost use Rattle.h26x_sdp.specs.RtpMaps.{rtp_map_of, rtp_map_text};
 ghost use Rattle.h26x_sdp.specs.declared.rtp_map.RtpMap.{RtpMap};
-ghost use Rattle.std.specs.Prelude.{is_some};
-ghost use Rattle.h26x_sdp.specs.Answers.{Format, Terms, Rules, offer_answer};
-ghost use Rattle.h26x_sdp.specs.AnswerLaws.{HaveCommon, ComesFrom, OfEachAnswer};
+ghost use Rattle.h26x_sdp.specs.Answers.{MediaFormat, Rules};
+ghost use Rattle.h26x_sdp.specs.AnswerLaws.{IsCommonAnswered, IsAnswerCommon, OfEachAnswer};
 ghost use Rattle.h26x_sdp.specs.AnswersH264 as h264_answers;
-ghost use Rattle.h26x_sdp.specs.AllowedH264.{IsH264Answer, MaySend, is_sets_row};
-ghost use Rattle.h26x_sdp.specs.AnsweredAgain.{IsAnsweredAgain};
-ghost use Rattle.h26x_sdp.specs.AllowedByLevel.{IsAnswerByLevel, MaySendByLevel};
-ghost use Rattle.h26x_sdp.specs.AnswersByLevel.{LevelRows, can_hold};
+ghost use Rattle.h26x_sdp.specs.AllowedH264.{IsH264Answer, MaySend, CanDeinterleaveOwn, is_sets_row};
+ghost use Rattle.h26x_sdp.specs.AnsweredAgain.{AreAnsweredAgain};
+ghost use Rattle.h26x_sdp.specs.AllowedByLevel.{IsAnswerByLevel, OfEachAllowed, MaySendByLevel};
+ghost use Rattle.h26x_sdp.specs.AnswersByLevel.{can_hold};
 ghost use Rattle.h26x_sdp.specs.AnswersH265 as h265_answers;
 ghost use Rattle.h26x_sdp.specs.AnswersH266 as h266_answers;
 ghost use Rattle.h26x_sdp.specs.H264Rows as h264;
@@ -55,7 +54,7 @@ pub fn what_is_read_can_be_written()
 /// defaults is a value of its kind.
 pub fn what_is_written_of_a_table_is_read()
     ensures same { (rows : List ParameterRow) (it : FormatParameters) → IsTable rows →
-        AreParameters rows it → read_of rows (written (all_of rows it)) ≡ Ok it }
+        AreParameters rows it → IsReadAgain rows it }
     ensures h264 { IsTable h264.rows }
     ensures h265 { IsTable h265.rows }
     ensures h266 { IsTable h266.rows }
@@ -64,10 +63,8 @@ pub fn what_is_written_of_a_table_is_read()
 /// What a table reads of a text are parameters of it, and once they are written they are read and
 /// written as the same.
 pub fn what_is_read_of_a_table_is_written()
-    ensures parameters { (rows : List ParameterRow) (text : List ℕ) (it : FormatParameters) →
-        IsTable rows → read_of rows text ≡ Ok it → AreParameters rows it }
-    ensures again { (rows : List ParameterRow) (text : List ℕ) (it : FormatParameters) →
-        IsTable rows → read_of rows text ≡ Ok it → read_of rows (written (all_of rows it)) ≡ Ok it }
+    ensures parameters { OfEachRead (λ rows it. AreParameters rows it) }
+    ensures again { OfEachRead (λ rows it. IsReadAgain rows it) }
 {}
 
 /// What is written of NAL units is read as the same units, and what is read is written as the same
@@ -115,13 +112,10 @@ pub fn what_is_written_of_an_rtp_map_is_read()
 /// Of two ends with a configuration in common there is an answer, and each answer is of such a one and
 /// keeps its payload type.
 pub fn whom_both_understand_is_found()
-    ensures found { (rules : Rules) (offer : List Format) (ours : List FormatParameters)
-        (format : Format) (own : FormatParameters) (terms : Terms) →
-        HaveCommon rules offer ours format own terms → is_some (offer_answer rules offer ours)
-        ≡ true }
-    ensures none { (rules : Rules) (offer : List Format) (ours : List FormatParameters)
-        (answer : Format) → offer_answer rules offer ours ≡ Some answer →
-        ComesFrom rules offer ours answer }
+    ensures found { (rules : Rules) (offer : List MediaFormat) (ours : List FormatParameters) →
+        IsCommonAnswered rules offer ours }
+    ensures none { (rules : Rules) (offer : List MediaFormat) (ours : List FormatParameters) →
+        IsAnswerCommon rules offer ours }
 {}
 
 /// An answer of H.264 is one that RFC 6184, section 8.2.2, allows of the offered format, and of an
@@ -140,16 +134,14 @@ pub fn h264_answers_are_read()
     ensures parameters { OfEachAnswer h264_answers.rules
         (λ offered own answer. AreParameters h264.rows answer) }
     ensures read { OfEachAnswer h264_answers.rules
-        (λ offered own answer. read_of h264.rows (written (all_of h264.rows answer)) ≡ Ok answer) }
+        (λ offered own answer. IsReadAgain h264.rows answer) }
 {}
 
 /// An answer of H.264 is answered with itself, but for parameter sets, which depend on what the other
 /// end says of them; in interleaved mode where we could put in order what we send.
 pub fn h264_answers_are_answered_with_themselves()
-    ensures { OfEachAnswer h264_answers.rules (λ offered own answer.
-        (h264_answers.is_interleaved answer ≡ true →
-        h264_answers.can_deinterleave own own ≡ true) →
-        IsAnsweredAgain h264_answers.rules is_sets_row own answer) }
+    ensures { AreAnsweredAgain h264_answers.rules is_sets_row
+        (λ own answer. CanDeinterleaveOwn own answer) }
 {}
 
 /// An answer of H.265 is one that RFC 7798, section 7.2.2, allows of the offered format, and one of
@@ -157,32 +149,28 @@ pub fn h264_answers_are_answered_with_themselves()
 /// the other said that it receives.
 pub fn answers_by_level_are_allowed()
     ensures h265 { OfEachAnswer h265_answers.rules
-        (λ offered own answer. IsAnswerByLevel h265_answers.rules h265_answers.by offered answer) }
+        (λ offered _ answer. IsAnswerByLevel h265_answers.rules h265_answers.by offered answer) }
     ensures h266 { OfEachAnswer h266_answers.rules
-        (λ offered own answer. IsAnswerByLevel h266_answers.rules h266_answers.by offered answer) }
-    ensures forth { (rules : Rules) (by : LevelRows) (offered answer : FormatParameters)
-        (it : IsAnswerByLevel rules by offered answer) →
-        MaySendByLevel rules by offered answer it.ours.level it.ours }
-    ensures back { (rules : Rules) (by : LevelRows) (offered answer : FormatParameters)
-        (it : IsAnswerByLevel rules by offered answer) →
-        MaySendByLevel rules by answer offered it.ours.highest it.theirs }
+        (λ offered _ answer. IsAnswerByLevel h266_answers.rules h266_answers.by offered answer) }
+    ensures forth { OfEachAllowed (λ rules by offered answer it.
+        MaySendByLevel rules by offered answer it.ours.level it.ours) }
+    ensures back { OfEachAllowed (λ rules by offered answer it.
+        MaySendByLevel rules by answer offered it.ours.highest it.theirs) }
 {}
 
 /// An answer of H.265 or of H.266 is parameters of that codec, and once it's written it is read as the
 /// same.
 pub fn answers_by_level_are_read()
     ensures h265 { OfEachAnswer h265_answers.rules
-        (λ offered own answer. read_of h265.rows (written (all_of h265.rows answer)) ≡ Ok answer) }
+        (λ offered own answer. IsReadAgain h265.rows answer) }
     ensures h266 { OfEachAnswer h266_answers.rules
-        (λ offered own answer. read_of h266.rows (written (all_of h266.rows answer)) ≡ Ok answer) }
+        (λ offered own answer. IsReadAgain h266.rows answer) }
 {}
 
 /// An answer of H.265 or of H.266 is answered with itself, where we could put in order what we send.
 pub fn answers_by_level_are_answered_with_themselves()
-    ensures h265 { OfEachAnswer h265_answers.rules (λ offered own answer.
-        can_hold h265.rows h265_answers.by own own ≡ true →
-        IsAnsweredAgain h265_answers.rules (λ _. false) own answer) }
-    ensures h266 { OfEachAnswer h266_answers.rules (λ offered own answer.
-        can_hold h266.rows h266_answers.by own own ≡ true →
-        IsAnsweredAgain h266_answers.rules (λ _. false) own answer) }
+    ensures h265 { AreAnsweredAgain h265_answers.rules (λ _. false)
+        (λ own _. can_hold h265.rows h265_answers.by own own ≡ true) }
+    ensures h266 { AreAnsweredAgain h266_answers.rules (λ _. false)
+        (λ own _. can_hold h266.rows h266_answers.by own own ≡ true) }
 {}

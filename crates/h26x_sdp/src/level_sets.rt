@@ -1,13 +1,11 @@
 //! Parameter sets of levels: the value of `sprop-level-parameter-sets`.
 
-ghost use Rattle.std.specs.Prelude.{◌≡◌, ◌++◌, ◌∷◌, Ok, IfOk, OnOk, MatchResult, map};
-ghost use Rattle.std.specs.List.{join_with_byte};
-ghost use Rattle.hex.specs.Hex.{encode_lower};
+ghost use Rattle.std.specs.Prelude.{◌≡◌, ◌++◌, IfOk, OnOk, map};
 ghost use Rattle.h26x_sdp.specs.LevelSets as spec;
 ghost use Rattle.h26x_sdp.specs.LevelSetsViews.{level_view, levels_view, SaysLevel, SaysLevels};
-ghost use Rattle.h26x_sdp.specs.Units.{units_text, sprop_units};
+ghost use Rattle.h26x_sdp.specs.Units.{sprop_units};
 ghost use Rattle.h26x_sdp.specs.UnitTypes.{of_types, h264_sets};
-ghost use Rattle.h26x_sdp.specs.UnitsViews.{units_view, FailsUnits};
+ghost use Rattle.h26x_sdp.specs.UnitsViews.{SaysUnits};
 
 use crate::error::{LevelSetsError, UnitsError};
 use crate::unit_types::H264_SETS;
@@ -26,9 +24,7 @@ pub struct LevelSets {
 
 /// The sets of a text.
 fn sets_of(alloc: Global, text: &[u8]) -> Result<Vec<Vec<u8>>, UnitsError>
-    ensures { MatchResult result
-        (λ sets. of_types h264_sets (sprop_units text.now) ≡ Ok (units_view sets.items))
-        (λ error. FailsUnits error (of_types h264_sets (sprop_units text.now))) }
+    ensures { SaysUnits result (of_types h264_sets (sprop_units text.now)) }
 {
     let units = read_units(alloc, text)?;
     match H264_SETS.fault_in(units.as_slice()) {
@@ -87,8 +83,7 @@ pub fn read_level_sets(alloc: Global, text: &[u8]) -> Result<Vec<LevelSets>, Lev
 /// Writes a level at the end of a text.
 fn push_level(alloc: Global, text: &mut Vec<u8>, level: &LevelSets) -> Result<(), AllocError>
     ensures { OnOk result (text.new.items ≡ text.old.items
-        ++ (encode_lower level.now.profile_level_id
-        ++ 58 ∷ units_text (units_view level.now.sets.items))) }
+        ++ spec.level_text (level_view level.now)) }
 {
     let id = hex::encode(alloc, level.profile_level_id)?.into_bytes();
     let sets = write_units(alloc, level.sets.as_slice())?;

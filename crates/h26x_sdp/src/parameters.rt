@@ -1,8 +1,8 @@
 //! Parameters by a table of what each of them is.
 
-ghost use Rattle.std.specs.Prelude.{◌≡◌, ◌+◌, ◌<◌, ◌++◌, ◌∷◌, ◌^◌, [], Ok, IfOk, OnOk, OnErr, MatchResult, length, map, vec_len, slice_set, slice_index_or};
+ghost use Rattle.std.specs.Prelude.{◌≡◌, ◌+◌, ◌<◌, ◌++◌, ◌∷◌, ◌^◌, [], IfOk, OnOk, OnErr, length, map, vec_len, slice_set, slice_index_or};
 ghost use Rattle.h26x_sdp.specs.Reading as spec;
-ghost use Rattle.h26x_sdp.specs.ParametersViews.{view, value_view, values_view, others_view, Gives, Fails};
+ghost use Rattle.h26x_sdp.specs.ParametersViews.{view, value_view, values_view, others_view, Gives, GivesInPlace};
 ghost use Rattle.h26x_sdp.specs.PairViews.{pair_view};
 ghost use Rattle.h26x_sdp.specs.TableViews.{row_view};
 ghost use Rattle.h26x_sdp.specs.Written.{written};
@@ -77,11 +77,8 @@ fn take(
     pair: Pair<'_>,
 ) -> Result<(), ParametersError>
     requires { length rows.now ≡ vec_len it.old.values }
-    ensures taken { MatchResult result
-        (λ _. spec.with_parameter (map row_view rows.now) place (view it.old) (pair_view pair.entry)
-        ≡ Ok (view it.new))
-        (λ error. Fails error
-        (spec.with_parameter (map row_view rows.now) place (view it.old) (pair_view pair.entry))) }
+    ensures taken { GivesInPlace result it.new
+        (spec.with_parameter (map row_view rows.now) place (view it.old) (pair_view pair.entry)) }
     ensures long { vec_len it.new.values ≡ vec_len it.old.values }
 {
     let Some((row, kind)) = row_of(rows, pair.name) else {

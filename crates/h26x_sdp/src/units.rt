@@ -1,12 +1,12 @@
 //! NAL units in base64: the values of the `sprop` parameters.
 
-ghost use Rattle.std.specs.Prelude.{◌≡◌, ◌++◌, ◌∷◌, ◌<◌, [], Ok, IfOk, IfSome, OnOk, MatchResult, length, map};
+ghost use Rattle.std.specs.Prelude.{◌≡◌, ◌++◌, ◌∷◌, ◌<◌, [], IfOk, IfSome, OnOk, length, map};
 ghost use Rattle.std.specs.Option.{option_map_or};
 ghost use Rattle.std.specs.String.{string_bytes};
 ghost use Rattle.base64.specs.Engines.{standard};
 ghost use Rattle.base64.specs.GeneralPurpose.{encode_of};
 ghost use Rattle.h26x_sdp.specs.Units as spec;
-ghost use Rattle.h26x_sdp.specs.UnitsViews.{units_view, SaysUnit, FailsUnits};
+ghost use Rattle.h26x_sdp.specs.UnitsViews.{units_view, SaysUnit, SaysUnits};
 
 use crate::error::UnitsError;
 use base64::DecodeAllocError;
@@ -44,9 +44,7 @@ pub(crate) fn split_piece(text: &[u8], mark: u8) -> (&[u8], Option<&[u8]>)
 /// What is refused first is told, with its place: a text that is no base64, or one without a byte.
 /// They are written again as the same text.
 pub fn read_units(alloc: Global, text: &[u8]) -> Result<Vec<Vec<u8>>, UnitsError>
-    ensures { MatchResult result
-        (λ units. spec.sprop_units text.now ≡ Ok (units_view units.items))
-        (λ error. FailsUnits error (spec.sprop_units text.now)) }
+    ensures { SaysUnits result (spec.sprop_units text.now) }
 {
     let mut units = Vec::new(alloc);
     let mut rest = Some(text);

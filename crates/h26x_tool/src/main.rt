@@ -20,8 +20,6 @@ fn main(rt: HostRuntime) -> ExitCode {
 #[cfg(test)]
 mod cut;
 #[cfg(test)]
-mod handles;
-#[cfg(test)]
 mod rows;
 #[cfg(test)]
 mod sessions;

@@ -28,7 +28,7 @@
 
 use crate::proved::h26x_access_units::AccessUnitReceiver as Units;
 use crate::proved::h26x_access_units::Receives as _;
-use crate::proved::h26x_receiver::AnyPayloadDepacketizer;
+use crate::proved::h26x_codec::AnyPayloadDepacketizer;
 use crate::{Codec, HeldPacket, PacketError, RtpPacket};
 use alloc::vec::Vec;
 use core::fmt;

@@ -1,7 +1,8 @@
 //! Access units from packets that a network loses, repeats and reorders.
 
+use crate::proved::h26x_codec::AnyPayloadDepacketizer;
 use crate::proved::h26x_frames::FrameReceiver as Frames;
-use crate::proved::h26x_receiver::{AnyPayloadDepacketizer, SequencedDepacketizer};
+use crate::proved::h26x_receiver::SequencedDepacketizer;
 use crate::sequenced::{copied, expect_the_same};
 use crate::{
     AccessUnit, Codec, NotHeld, NotHeldReason, PacketError, Pushed, Received, ReorderBuffer,

@@ -1,13 +1,12 @@
 //! The units of an aggregate, as slices of it (RFC 6184, 5.7.1; RFC 7798, 4.4.2; RFC 9328, 4.3.2).
 
-ghost use Rattle.std.specs.Prelude.{◌≡◌, ◌⊎◌, ◌++◌, ◌-◌, ◌^◌, ◌<◌, ◌&&◌, nat_le, min, true, false, ℕ, List, [], ◌∷◌, length, take_while, None, Ok, Err, OnOk, OnErr, IfSome};
+ghost use Rattle.std.specs.Prelude.{◌≡◌, ◌⊎◌, ◌++◌, ◌-◌, ◌^◌, ◌<◌, ◌&&◌, nat_le, min, true, false, ℕ, List, [], ◌∷◌, length, None, Ok, Err, OnOk, OnErr, IfSome};
 ghost use Rattle.std.specs.List.{list_any};
 ghost use Rattle.h26x_core.specs.ByteStream.{byte_stream};
 ghost use Rattle.h26x_model.specs.Payload.Extra.{extra_after};
 ghost use Rattle.h26x_model.specs.Receive.Outcome.{is_too_long};
-ghost use Rattle.h26x_core.specs.Pieces.{pieces_of};
-ghost use Rattle.h26x_payload.specs.Run.{AreOfSize};
-ghost use Rattle.h26x_payload.specs.UnitSink.{with_written, IsRoomTold};
+ghost use Rattle.h26x_payload.specs.Run.{AreOfSize, headed_pieces};
+ghost use Rattle.h26x_payload.specs.UnitSink.{IsWritten, TellsRoom};
 
 use crate::format::PayloadFormat;
 use crate::receive::byte_stream::{PREFIX_SIZE, put_unit};
@@ -56,14 +55,14 @@ pub fn write_units<A: Aggregate, W: UnitSink>(
 ) -> Result<(), PacketError>
     requires { AreOfSize (A.units codec bytes.now) size }
     ensures outcome { (result ≡ Ok tt) ⊎ (result ≡ Err PacketError.OutOfMemory) }
-    ensures written { OnOk result (W.sink out.new ≡ with_written (W.sink out.old)
-        (byte_stream is_avc (A.units codec bytes.now))) }
+    ensures written { OnOk result
+        (IsWritten W.sink out.old out.new (byte_stream is_avc (A.units codec bytes.now))) }
     ensures told { OnOk result (codec_extra.new ≡ extra_after (A.format codec) codec_extra.old
         (A.units codec bytes.now)) }
     ensures kept { OnErr result (W.sink out.new ≡ W.sink out.old) }
     ensures kept_extra { OnErr result (codec_extra.new ≡ codec_extra.old) }
-    ensures told_room { IsRoomTold result (byte_stream is_avc (A.units codec bytes.now))
-        (W.room out.old) (W.lacks out.old) (W.lacks out.new) }
+    ensures told_room { TellsRoom W.room W.lacks out.old out.new result
+        (byte_stream is_avc (A.units codec bytes.now)) }
     ensures lacks { result ≡ Err PacketError.OutOfMemory → W.lacks out.new ≡ true }
 {
     out.reserve(size)?;
@@ -85,9 +84,8 @@ pub fn write_units<A: Aggregate, W: UnitSink>(
 /// Whether a key unit stands in bytes behind its length, before the first unit that is not whole or
 /// that has no whole header (str0m's rule for RFC 7798, 4.4.2, and RFC 9328, 4.3.2).
 pub fn holds_key<C: PayloadFormat>(codec: C, bytes: &[u8]) -> bool
-    ensures { result ≡ list_any (C.format codec).is_key
-        (take_while (λ unit. nat_le (C.format codec).header_len (length unit))
-        (pieces_of bytes.now).whole) }
+    ensures { result
+        ≡ list_any (C.format codec).is_key (headed_pieces (C.format codec) bytes.now) }
 {
     let mut rest = bytes;
     while rest.len() >= 2 {

@@ -2,11 +2,11 @@
 //! lengths (ISO/IEC 14496-15).
 
 ghost use Rattle.std.specs.Prelude.{◌≡◌, ◌≤◌, ◌<◌, ◌+◌, ◌^◌, nat_le, true, false, ◌&&◌, if◌then◌else◌, ◌⊎◌, [], ◌∷◌, ◌++◌, length, Ok, Err, OnOk, OnErr};
-ghost use Rattle.h26x_core.specs.ByteStream.{unit_prefix, byte_stream};
+ghost use Rattle.h26x_core.specs.ByteStream.{byte_stream};
 ghost use Rattle.h26x_core.specs.Word.{long_word};
 ghost use Rattle.h26x_model.specs.Receive.Outcome.{is_too_long};
-ghost use Rattle.h26x_payload.specs.Run.{IsWriteOutcome};
-ghost use Rattle.h26x_payload.specs.UnitSink.{with_written, IsRoomTold};
+ghost use Rattle.h26x_payload.specs.Run.{IsWriteOutcome, unit_text};
+ghost use Rattle.h26x_payload.specs.UnitSink.{IsWritten, TellsRoom};
 
 use crate::receive::sink::UnitSink;
 use h26x_core::{ANNEXB_NALUSTART_CODE, PacketError};
@@ -33,7 +33,7 @@ pub(crate) fn prefix_of(is_avc: bool, len: usize) -> [u8; 4]
 fn put_prefix<W: UnitSink>(is_avc: bool, len: usize, out: &mut W)
     requires room { 4 ≤ W.room out.old }
     requires fits { (is_avc && nat_le (2 ^ 32) len) ≡ false }
-    ensures written { W.sink out.new ≡ with_written (W.sink out.old)
+    ensures written { IsWritten W.sink out.old out.new
         (if is_avc then long_word len else 0 ∷ 0 ∷ 0 ∷ 1 ∷ []) }
     ensures room { W.room out.old ≤ W.room out.new + 4 }
     ensures kept_lacks { W.lacks out.new ≡ W.lacks out.old }
@@ -54,8 +54,7 @@ pub(crate) fn is_too_long(len: usize) -> bool
 pub(crate) fn put_unit<W: UnitSink>(is_avc: bool, unit: &[u8], out: &mut W)
     requires room { 4 + length unit.now ≤ W.room out.old }
     requires fits { (is_avc && is_too_long unit.now) ≡ false }
-    ensures written { W.sink out.new ≡ with_written (W.sink out.old)
-        (unit_prefix is_avc unit.now ++ unit.now) }
+    ensures written { IsWritten W.sink out.old out.new (unit_text is_avc unit.now) }
     ensures room { W.room out.old ≤ W.room out.new + (4 + length unit.now) }
     ensures kept_lacks { W.lacks out.new ≡ W.lacks out.old }
 {
@@ -67,11 +66,11 @@ pub(crate) fn put_unit<W: UnitSink>(is_avc: bool, unit: &[u8], out: &mut W)
 #[inline(always)]
 fn write_behind_length<W: UnitSink>(unit: &[u8], out: &mut W) -> Result<(), PacketError>
     ensures outcome { IsWriteOutcome (is_too_long unit.now) result }
-    ensures written { OnOk result (W.sink out.new ≡ with_written (W.sink out.old)
-        (byte_stream true (unit.now ∷ []))) }
+    ensures written { OnOk result
+        (IsWritten W.sink out.old out.new (byte_stream true (unit.now ∷ []))) }
     ensures kept { OnErr result (W.sink out.new ≡ W.sink out.old) }
-    ensures told_room { IsRoomTold result (byte_stream true (unit.now ∷ []))
-        (W.room out.old) (W.lacks out.old) (W.lacks out.new) }
+    ensures told_room { TellsRoom W.room W.lacks out.old out.new result
+        (byte_stream true (unit.now ∷ [])) }
     ensures lacks { result ≡ Err PacketError.OutOfMemory → W.lacks out.new ≡ true }
 {
     if is_too_long(unit.len()) {
@@ -86,11 +85,11 @@ fn write_behind_length<W: UnitSink>(unit: &[u8], out: &mut W) -> Result<(), Pack
 #[inline(always)]
 fn write_behind_start_code<W: UnitSink>(unit: &[u8], out: &mut W) -> Result<(), PacketError>
     ensures outcome { IsWriteOutcome false result }
-    ensures written { OnOk result (W.sink out.new ≡ with_written (W.sink out.old)
-        (byte_stream false (unit.now ∷ []))) }
+    ensures written { OnOk result
+        (IsWritten W.sink out.old out.new (byte_stream false (unit.now ∷ []))) }
     ensures kept { OnErr result (W.sink out.new ≡ W.sink out.old) }
-    ensures told_room { IsRoomTold result (byte_stream false (unit.now ∷ []))
-        (W.room out.old) (W.lacks out.old) (W.lacks out.new) }
+    ensures told_room { TellsRoom W.room W.lacks out.old out.new result
+        (byte_stream false (unit.now ∷ [])) }
     ensures lacks { result ≡ Err PacketError.OutOfMemory → W.lacks out.new ≡ true }
 {
     out.reserve(unit.len().saturating_add(PREFIX_SIZE))?;
@@ -105,11 +104,11 @@ fn write_behind_start_code<W: UnitSink>(unit: &[u8], out: &mut W) -> Result<(), 
 #[inline(always)]
 pub fn write_unit<W: UnitSink>(is_avc: bool, unit: &[u8], out: &mut W) -> Result<(), PacketError>
     ensures outcome { IsWriteOutcome (is_avc && is_too_long unit.now) result }
-    ensures written { OnOk result (W.sink out.new ≡ with_written (W.sink out.old)
-        (byte_stream is_avc (unit.now ∷ []))) }
+    ensures written { OnOk result
+        (IsWritten W.sink out.old out.new (byte_stream is_avc (unit.now ∷ []))) }
     ensures kept { OnErr result (W.sink out.new ≡ W.sink out.old) }
-    ensures told_room { IsRoomTold result (byte_stream is_avc (unit.now ∷ []))
-        (W.room out.old) (W.lacks out.old) (W.lacks out.new) }
+    ensures told_room { TellsRoom W.room W.lacks out.old out.new result
+        (byte_stream is_avc (unit.now ∷ [])) }
     ensures lacks { result ≡ Err PacketError.OutOfMemory → W.lacks out.new ≡ true }
 {
     if is_avc {
@@ -124,9 +123,8 @@ fn put_parts<W: UnitSink>(is_avc: bool, head: &[u8], run: &[u8], body: &[u8], ou
     requires room { 4 + (length head.now + (length run.now + length body.now)) ≤ W.room out.old }
     requires small { length head.now + (length run.now + length body.now) < 2 ^ 64 }
     requires fits { (is_avc && is_too_long (head.now ++ (run.now ++ body.now))) ≡ false }
-    ensures written { W.sink out.new ≡ with_written (W.sink out.old)
-        (unit_prefix is_avc (head.now ++ (run.now ++ body.now))
-        ++ (head.now ++ (run.now ++ body.now))) }
+    ensures written { IsWritten W.sink out.old out.new
+        (unit_text is_avc (head.now ++ (run.now ++ body.now))) }
     ensures kept_lacks { W.lacks out.new ≡ W.lacks out.old }
 {
     put_prefix(is_avc, head.len() + run.len() + body.len(), out);
@@ -148,12 +146,11 @@ pub fn write_parts<W: UnitSink>(
 ) -> Result<(), PacketError>
     ensures outcome { IsWriteOutcome (is_avc && is_too_long (head.now ++ (run.now ++ body.now)))
         result }
-    ensures written { OnOk result (W.sink out.new ≡ with_written (W.sink out.old)
+    ensures written { OnOk result (IsWritten W.sink out.old out.new
         (byte_stream is_avc ((head.now ++ (run.now ++ body.now)) ∷ []))) }
     ensures kept { OnErr result (W.sink out.new ≡ W.sink out.old) }
-    ensures told_room { IsRoomTold result (byte_stream is_avc
-        ((head.now ++ (run.now ++ body.now)) ∷ []))
-        (W.room out.old) (W.lacks out.old) (W.lacks out.new) }
+    ensures told_room { TellsRoom W.room W.lacks out.old out.new result
+        (byte_stream is_avc ((head.now ++ (run.now ++ body.now)) ∷ [])) }
     ensures lacks { result ≡ Err PacketError.OutOfMemory → W.lacks out.new ≡ true }
 {
     let len = head

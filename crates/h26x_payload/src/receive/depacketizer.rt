@@ -1,6 +1,6 @@
 //! NAL units from packets, for every codec.
 
-ghost use Rattle.std.specs.Prelude.{◌≡◌, ◌<◌, ◌≤◌, length, true, false, [], ◌∷◌, Some, None, Err, IfOk, OnOk, OnErr, IsOk};
+ghost use Rattle.std.specs.Prelude.{◌≡◌, ◌≤◌, true, false, [], ◌∷◌, Some, None, Err, IfOk, OnOk, OnErr, IsOk};
 ghost use Rattle.h26x_core.specs.Front.{IsFrontOf};
 ghost use Rattle.h26x_core.specs.Hint.{size_hint};
 ghost use Rattle.h26x_model.specs.Payload.Reading.{is_start};
@@ -8,10 +8,10 @@ ghost use Rattle.h26x_model.specs.Receive.Outcome.{is_startless};
 ghost use Rattle.h26x_model.specs.Receive.DepacketizerState.{after_packets, IsPacketOutcome};
 ghost use Rattle.h26x_model.specs.Receive.RunLimit.{run_len};
 ghost use Rattle.h26x_model.specs.Where.{Where};
-ghost use Rattle.h26x_payload.specs.DepacketizerView.{depacketizer_state, view_depacketization};
+ghost use Rattle.h26x_payload.specs.DepacketizerView.{brought_to, depacketization_of};
 ghost use Rattle.h26x_payload.specs.Run.{run_memory};
 ghost use Rattle.h26x_payload.specs.OpenText.{IsSameText, view_in_text, view_met_in_text};
-ghost use Rattle.h26x_payload.specs.UnitSink.{bytes_brought, grown_to, IsRoomTold};
+ghost use Rattle.h26x_payload.specs.UnitSink.{grown_to, TellsRoom, WantsRoom};
 
 use crate::format::DonlFormat;
 use crate::receive::extra::out_size_hint;
@@ -121,12 +121,12 @@ impl<C: PacketReader> PayloadDepacketizer<C> {
         out: &mut W,
         codec_extra: &mut CodecExtra,
     ) -> Result<(), PacketError>
-        ensures outcome { IsPacketOutcome (view_depacketization (C.format self.old.codec) self.old
+        ensures outcome { IsPacketOutcome (depacketization_of C.format self.old
             (W.sink out.old).bytes codec_extra.old) packet.now result }
-        ensures taken { OnOk result (view_depacketization (C.format self.new.codec) self.new
-            (W.sink out.new).bytes codec_extra.new
-            ≡ after_packets (view_depacketization (C.format self.old.codec) self.old
-            (W.sink out.old).bytes codec_extra.old) (packet.now ∷ [])) }
+        ensures taken { OnOk result
+            (depacketization_of C.format self.new (W.sink out.new).bytes codec_extra.new
+            ≡ after_packets (depacketization_of C.format self.old (W.sink out.old).bytes
+            codec_extra.old) (packet.now ∷ [])) }
         ensures behind { OnOk result (W.sink out.new
             ≡ grown_to (W.sink out.new).bytes (W.sink out.old)) }
         ensures accepted { OnOk result (IsFrontOf (W.sink out.old).bytes (W.sink out.new).bytes) }
@@ -139,12 +139,10 @@ impl<C: PacketReader> PayloadDepacketizer<C> {
 
         // A sink that tells that room lacks tells it only where it does; and where a packet brings
         // bytes, want of memory is want of room.
-        ensures told_room { IsRoomTold result (bytes_brought
-            (depacketizer_state (C.format self.old.codec) self.old) packet.now)
-            (W.room out.old) (W.lacks out.old) (W.lacks out.new) }
-        ensures lacks { result ≡ Err PacketError.OutOfMemory → 0 < length (bytes_brought
-            (depacketizer_state (C.format self.old.codec) self.old) packet.now) →
-            W.lacks out.new ≡ true }
+        ensures told_room { TellsRoom W.room W.lacks out.old out.new result
+            (brought_to C.format self.old packet.now) }
+        ensures lacks { WantsRoom result (brought_to C.format self.old packet.now)
+            (W.lacks out.new) }
     {
         let codec = self.codec;
         let parts = codec.read(packet)?;
@@ -164,12 +162,11 @@ impl<C: PacketReader> PayloadDepacketizer<C> {
         text: &mut OpenText,
         codec_extra: &mut CodecExtra,
     ) -> Result<(), PacketError>
-        ensures outcome { IsPacketOutcome (view_met_in_text rule.is_next
-            (C.format self.now.codec) self.now text.old codec_extra.old) packet.now result }
-        ensures taken { OnOk result
-            (view_in_text (C.format self.now.codec) self.now text.new codec_extra.new
-            ≡ after_packets (view_met_in_text rule.is_next (C.format self.now.codec) self.now
-            text.old codec_extra.old) (packet.now ∷ [])) }
+        ensures outcome { IsPacketOutcome (view_met_in_text rule.is_next C.format self.now
+            text.old codec_extra.old) packet.now result }
+        ensures taken { OnOk result (view_in_text C.format self.now text.new codec_extra.new
+            ≡ after_packets (view_met_in_text rule.is_next C.format self.now text.old
+            codec_extra.old) (packet.now ∷ [])) }
         ensures aside { rule.may_be_inside ≡ false → OnOk result (text.new.inside ≡ None) }
         ensures kept { OnErr result (IsSameText text.new text.old) }
         ensures kept_extra { OnErr result (codec_extra.new ≡ codec_extra.old) }
@@ -267,19 +264,16 @@ impl<C: PacketReader> Depacketizer for PayloadDepacketizer<C> {
         out: &mut Vec<u8>,
         codec_extra: &mut CodecExtra,
     ) -> Result<(), PacketError>
-        ensures outcome { IsPacketOutcome (view_depacketization (C.format self.old.codec) self.old
-            out.old.items
+        ensures outcome { IsPacketOutcome (depacketization_of C.format self.old out.old.items
             codec_extra.old) packet.now result }
-        ensures taken { OnOk result (view_depacketization (C.format self.new.codec) self.new
-            out.new.items
-            codec_extra.new ≡ after_packets (view_depacketization (C.format self.old.codec) self.old
-            out.old.items
-            codec_extra.old) (packet.now ∷ [])) }
+        ensures taken { OnOk result
+            (depacketization_of C.format self.new out.new.items codec_extra.new
+            ≡ after_packets (depacketization_of C.format self.old out.old.items codec_extra.old)
+            (packet.now ∷ [])) }
         ensures setting { self.new ≡ record self.old { run = self.new.run } }
-        ensures kept { OnErr result (view_depacketization (C.format self.new.codec) self.new
-            out.new.items
-            codec_extra.new ≡ view_depacketization (C.format self.old.codec) self.old out.old.items
-            codec_extra.old) }
+        ensures kept { OnErr result
+            (depacketization_of C.format self.new out.new.items codec_extra.new
+            ≡ depacketization_of C.format self.old out.old.items codec_extra.old) }
         ensures startless { is_startless self.old.run
             ((C.format self.old.codec).read packet.now) ≡ true → IsOk result }
 

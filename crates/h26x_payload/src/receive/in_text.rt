@@ -1,15 +1,12 @@
 //! What a packet brings to the text of an access unit that is open, with the open run in it (RFC 6184,
 //! 7; RFC 7798, 6; RFC 9328, 6).
 
-ghost use Rattle.std.specs.Prelude.{◌≡◌, ◌&&◌, ◌++◌, true, false, length, OnOk, OnErr, Some, None};
-ghost use Rattle.std.specs.List.{list_any};
-ghost use Rattle.h26x_core.specs.ByteStream.{byte_stream};
-ghost use Rattle.h26x_model.specs.Payload.Extra.{extra_after};
-ghost use Rattle.h26x_model.specs.Receive.Received.{reading_units, run_after};
-ghost use Rattle.h26x_model.specs.Receive.Outcome.{IsReadingOutcome, is_too_long};
-ghost use Rattle.h26x_payload.specs.Run.{header_bytes, fragment_reading, IsWriteOutcome};
-ghost use Rattle.h26x_payload.specs.DepacketizerView.{parts_reading, AreChecked, IsReadAs};
-ghost use Rattle.h26x_payload.specs.OpenText.{IsSameText, run_if, is_fragment};
+ghost use Rattle.std.specs.Prelude.{◌≡◌, true, false, length, OnOk, OnErr, Some, None};
+ghost use Rattle.h26x_model.specs.Receive.Received.{run_after};
+ghost use Rattle.h26x_model.specs.Receive.Outcome.{IsReadingOutcome};
+ghost use Rattle.h26x_payload.specs.Run.{header_bytes, fragment_reading, extra_with, IsTakeOutcome};
+ghost use Rattle.h26x_payload.specs.DepacketizerView.{reading_of, AreChecked, IsReadAs};
+ghost use Rattle.h26x_payload.specs.OpenText.{IsSameText, run_if, met_text, text_with, is_fragment};
 
 use crate::receive::extra::told;
 use crate::receive::open_text::OpenText;
@@ -41,12 +38,12 @@ fn take_fragment_inside<C: PacketReader>(
         ≡ (C.format codec).header_len }
     requires later { fragment.start ≡ false }
     requires inside { text.old.inside ≡ Some (C.format codec).header_len }
-    ensures outcome { IsWriteOutcome (is_avc && list_any is_too_long (reading_units text.old.run
-        (fragment_reading (C.format codec) fragment.entry))) result }
-    ensures text { OnOk result (text.new.text ≡ text.old.text ++ byte_stream is_avc
-        (reading_units text.old.run (fragment_reading (C.format codec) fragment.entry))) }
-    ensures told { OnOk result (codec_extra.new ≡ extra_after (C.format codec) codec_extra.old
-        (reading_units text.old.run (fragment_reading (C.format codec) fragment.entry))) }
+    ensures outcome { IsTakeOutcome is_avc text.old.run
+        (fragment_reading (C.format codec) fragment.entry) result }
+    ensures text { OnOk result (text.new.text
+        ≡ text_with is_avc text.old (fragment_reading (C.format codec) fragment.entry)) }
+    ensures told { OnOk result (codec_extra.new ≡ extra_with (C.format codec) codec_extra.old
+        text.old.run (fragment_reading (C.format codec) fragment.entry)) }
     ensures run { OnOk result (text.new.run
         ≡ run_after text.old.run (fragment_reading (C.format codec) fragment.entry)) }
     ensures inside { fragment.entry.end ≡ true → OnOk result (text.new.inside ≡ None) }
@@ -74,16 +71,14 @@ fn take_parts_aside<C: PacketReader>(
     codec_extra: &mut CodecExtra,
 ) -> Result<(), PacketError>
     requires { AreChecked (C.format codec) (C.units codec) packet.now parts }
-    ensures outcome { IsWriteOutcome (is_avc && list_any is_too_long (reading_units text.old.run
-        (parts_reading (C.format codec) (C.units codec) packet.now parts.entry))) result }
-    ensures text { OnOk result (text.new.text ≡ text.old.text ++ byte_stream is_avc
-        (reading_units text.old.run
-        (parts_reading (C.format codec) (C.units codec) packet.now parts.entry))) }
-    ensures told { OnOk result (codec_extra.new ≡ extra_after (C.format codec) codec_extra.old
-        (reading_units text.old.run
-        (parts_reading (C.format codec) (C.units codec) packet.now parts.entry))) }
-    ensures run { OnOk result (text.new.run ≡ run_after text.old.run
-        (parts_reading (C.format codec) (C.units codec) packet.now parts.entry)) }
+    ensures outcome { IsTakeOutcome is_avc text.old.run
+        (reading_of C.format C.units codec packet.now parts.entry) result }
+    ensures text { OnOk result (text.new.text
+        ≡ text_with is_avc text.old (reading_of C.format C.units codec packet.now parts.entry)) }
+    ensures told { OnOk result (codec_extra.new ≡ extra_with (C.format codec) codec_extra.old
+        text.old.run (reading_of C.format C.units codec packet.now parts.entry)) }
+    ensures run { OnOk result (text.new.run
+        ≡ run_after text.old.run (reading_of C.format C.units codec packet.now parts.entry)) }
     ensures inside { OnOk result (text.new.inside ≡ None) }
     ensures kept { OnErr result (IsSameText text.new text.old) }
     ensures kept_extra { OnErr result (codec_extra.new ≡ codec_extra.old) }
@@ -111,15 +106,12 @@ fn take_fragment_in_text<C: PacketReader>(
 ) -> Result<(), PacketError>
     requires { length (header_bytes (C.format codec) fragment.head)
         ≡ (C.format codec).header_len }
-    ensures outcome { IsWriteOutcome (is_avc && list_any is_too_long
-        (reading_units (run_if rule.is_next text.old.run)
-        (fragment_reading (C.format codec) fragment.entry))) result }
-    ensures text { OnOk result (text.new.text ≡ text.old.text ++ byte_stream is_avc
-        (reading_units (run_if rule.is_next text.old.run)
-        (fragment_reading (C.format codec) fragment.entry))) }
-    ensures told { OnOk result (codec_extra.new ≡ extra_after (C.format codec) codec_extra.old
-        (reading_units (run_if rule.is_next text.old.run)
-        (fragment_reading (C.format codec) fragment.entry))) }
+    ensures outcome { IsTakeOutcome is_avc (run_if rule.is_next text.old.run)
+        (fragment_reading (C.format codec) fragment.entry) result }
+    ensures text { OnOk result (text.new.text ≡ text_with is_avc (met_text rule.is_next text.old)
+        (fragment_reading (C.format codec) fragment.entry)) }
+    ensures told { OnOk result (codec_extra.new ≡ extra_with (C.format codec) codec_extra.old
+        (run_if rule.is_next text.old.run) (fragment_reading (C.format codec) fragment.entry)) }
     ensures run { OnOk result (text.new.run ≡ run_after (run_if rule.is_next text.old.run)
         (fragment_reading (C.format codec) fragment.entry)) }
     ensures aside { rule.may_be_inside ≡ false → OnOk result (text.new.inside ≡ None) }
@@ -158,17 +150,14 @@ fn take_whole_in_text<C: PacketReader>(
 ) -> Result<(), PacketError>
     requires checked { AreChecked (C.format codec) (C.units codec) packet.now parts }
     requires whole { is_fragment parts ≡ false }
-    ensures outcome { IsWriteOutcome (is_avc && list_any is_too_long
-        (reading_units (run_if is_next text.old.run)
-        (parts_reading (C.format codec) (C.units codec) packet.now parts.entry))) result }
-    ensures text { OnOk result (text.new.text ≡ text.old.text ++ byte_stream is_avc
-        (reading_units (run_if is_next text.old.run)
-        (parts_reading (C.format codec) (C.units codec) packet.now parts.entry))) }
-    ensures told { OnOk result (codec_extra.new ≡ extra_after (C.format codec) codec_extra.old
-        (reading_units (run_if is_next text.old.run)
-        (parts_reading (C.format codec) (C.units codec) packet.now parts.entry))) }
+    ensures outcome { IsTakeOutcome is_avc (run_if is_next text.old.run)
+        (reading_of C.format C.units codec packet.now parts.entry) result }
+    ensures text { OnOk result (text.new.text ≡ text_with is_avc (met_text is_next text.old)
+        (reading_of C.format C.units codec packet.now parts.entry)) }
+    ensures told { OnOk result (codec_extra.new ≡ extra_with (C.format codec) codec_extra.old
+        (run_if is_next text.old.run) (reading_of C.format C.units codec packet.now parts.entry)) }
     ensures run { OnOk result (text.new.run ≡ run_after (run_if is_next text.old.run)
-        (parts_reading (C.format codec) (C.units codec) packet.now parts.entry)) }
+        (reading_of C.format C.units codec packet.now parts.entry)) }
     ensures aside { OnOk result (text.new.inside ≡ None) }
     ensures kept { OnErr result (IsSameText text.new text.old) }
     ensures kept_extra { OnErr result (codec_extra.new ≡ codec_extra.old) }
@@ -192,17 +181,15 @@ fn take_parts_in_text<C: PacketReader>(
     codec_extra: &mut CodecExtra,
 ) -> Result<(), PacketError>
     requires { AreChecked (C.format codec) (C.units codec) packet.now parts }
-    ensures outcome { IsWriteOutcome (is_avc && list_any is_too_long
-        (reading_units (run_if rule.is_next text.old.run)
-        (parts_reading (C.format codec) (C.units codec) packet.now parts.entry))) result }
-    ensures text { OnOk result (text.new.text ≡ text.old.text ++ byte_stream is_avc
-        (reading_units (run_if rule.is_next text.old.run)
-        (parts_reading (C.format codec) (C.units codec) packet.now parts.entry))) }
-    ensures told { OnOk result (codec_extra.new ≡ extra_after (C.format codec) codec_extra.old
-        (reading_units (run_if rule.is_next text.old.run)
-        (parts_reading (C.format codec) (C.units codec) packet.now parts.entry))) }
+    ensures outcome { IsTakeOutcome is_avc (run_if rule.is_next text.old.run)
+        (reading_of C.format C.units codec packet.now parts.entry) result }
+    ensures text { OnOk result (text.new.text ≡ text_with is_avc (met_text rule.is_next text.old)
+        (reading_of C.format C.units codec packet.now parts.entry)) }
+    ensures told { OnOk result (codec_extra.new ≡ extra_with (C.format codec) codec_extra.old
+        (run_if rule.is_next text.old.run)
+        (reading_of C.format C.units codec packet.now parts.entry)) }
     ensures run { OnOk result (text.new.run ≡ run_after (run_if rule.is_next text.old.run)
-        (parts_reading (C.format codec) (C.units codec) packet.now parts.entry)) }
+        (reading_of C.format C.units codec packet.now parts.entry)) }
     ensures aside { rule.may_be_inside ≡ false → OnOk result (text.new.inside ≡ None) }
     ensures kept { OnErr result (IsSameText text.new text.old) }
     ensures kept_extra { OnErr result (codec_extra.new ≡ codec_extra.old) }
@@ -236,10 +223,10 @@ pub fn take_in_text<C: PacketReader>(
     requires { IsReadAs (C.format codec) (C.units codec) packet.now parts }
     ensures outcome { IsReadingOutcome is_avc (run_if rule.is_next text.old.run)
         ((C.format codec).read packet.now) result }
-    ensures text { OnOk result (text.new.text ≡ text.old.text ++ byte_stream is_avc
-        (reading_units (run_if rule.is_next text.old.run) ((C.format codec).read packet.now))) }
-    ensures told { OnOk result (codec_extra.new ≡ extra_after (C.format codec) codec_extra.old
-        (reading_units (run_if rule.is_next text.old.run) ((C.format codec).read packet.now))) }
+    ensures text { OnOk result (text.new.text
+        ≡ text_with is_avc (met_text rule.is_next text.old) ((C.format codec).read packet.now)) }
+    ensures told { OnOk result (codec_extra.new ≡ extra_with (C.format codec) codec_extra.old
+        (run_if rule.is_next text.old.run) ((C.format codec).read packet.now)) }
     ensures run { OnOk result (text.new.run ≡ run_after (run_if rule.is_next text.old.run)
         ((C.format codec).read packet.now)) }
     ensures aside { rule.may_be_inside ≡ false → OnOk result (text.new.inside ≡ None) }

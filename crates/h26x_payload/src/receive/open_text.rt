@@ -1,16 +1,14 @@
 //! The text of an access unit that is open, with the data of the open run in its memory.
 
 ghost use Rattle.std.specs.Prelude.{◌≡◌, ◌⊎◌, ◌&&◌, ◌+◌, ◌≤◌, ◌++◌, ◌∷◌, [], length, take, drop, Some, None, Ok, Err, OnOk, OnErr, IsTrue, ◌↔◌, is_some, true};
-ghost use Rattle.std.specs.List.{list_any};
 ghost use Rattle.std.specs.Option.{option_map};
 ghost use Rattle.h26x_core.specs.ByteStream.{byte_stream};
-ghost use Rattle.h26x_model.specs.Payload.Extra.{extra_after};
 ghost use Rattle.h26x_model.specs.Receive.Outcome.{is_too_long};
-ghost use Rattle.h26x_model.specs.Receive.Received.{reading_units, run_after};
+ghost use Rattle.h26x_model.specs.Receive.Received.{run_after};
 ghost use Rattle.h26x_model.specs.Receive.RunLimit.{run_len};
-ghost use Rattle.h26x_payload.specs.DepacketizerView.{parts_reading, AreChecked};
-ghost use Rattle.h26x_payload.specs.OpenText.{IsSameText, run_if};
-ghost use Rattle.h26x_payload.specs.Run.{run_bytes, IsWriteOutcome};
+ghost use Rattle.h26x_payload.specs.DepacketizerView.{reading_of, AreChecked};
+ghost use Rattle.h26x_payload.specs.OpenText.{IsSameText, run_if, text_with};
+ghost use Rattle.h26x_payload.specs.Run.{run_bytes, extra_with, IsWriteOutcome, IsTakeOutcome};
 
 use crate::receive::byte_stream::{PREFIX_SIZE, is_too_long, prefix_of};
 use crate::receive::parts::Parts;
@@ -247,16 +245,14 @@ impl OpenText {
     ) -> Result<(), PacketError>
         requires checked { AreChecked (C.format codec) (C.units codec) packet.now parts }
         requires aside { self.old.inside ≡ None }
-        ensures outcome { IsWriteOutcome (is_avc && list_any is_too_long (reading_units self.old.run
-            (parts_reading (C.format codec) (C.units codec) packet.now parts.entry))) result }
-        ensures text { OnOk result (self.new.text ≡ self.old.text
-            ++ byte_stream is_avc (reading_units self.old.run
-            (parts_reading (C.format codec) (C.units codec) packet.now parts.entry))) }
-        ensures told { OnOk result (codec_extra.new ≡ extra_after (C.format codec) codec_extra.old
-            (reading_units self.old.run
-            (parts_reading (C.format codec) (C.units codec) packet.now parts.entry))) }
-        ensures run { OnOk result (self.new.run ≡ run_after self.old.run
-            (parts_reading (C.format codec) (C.units codec) packet.now parts.entry)) }
+        ensures outcome { IsTakeOutcome is_avc self.old.run
+            (reading_of C.format C.units codec packet.now parts.entry) result }
+        ensures text { OnOk result (self.new.text ≡ text_with is_avc self.old
+            (reading_of C.format C.units codec packet.now parts.entry)) }
+        ensures told { OnOk result (codec_extra.new ≡ extra_with (C.format codec) codec_extra.old
+            self.old.run (reading_of C.format C.units codec packet.now parts.entry)) }
+        ensures run { OnOk result (self.new.run
+            ≡ run_after self.old.run (reading_of C.format C.units codec packet.now parts.entry)) }
         ensures inside { self.new.inside ≡ None }
         ensures kept { OnErr result (self.new ≡ self.old) }
         ensures kept_extra { OnErr result (codec_extra.new ≡ codec_extra.old) }

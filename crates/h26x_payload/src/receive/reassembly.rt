@@ -1,13 +1,9 @@
 //! Fragments as a depacketizer takes them (RFC 6184, 5.8; RFC 7798, 4.4.3; RFC 9328, 4.3.3).
 
-ghost use Rattle.std.specs.Prelude.{◌≡◌, ◌&&◌, ◌++◌, ◌<◌, ℕ, List, length, true, false, None, Err, OnOk, OnErr, IsOk};
-ghost use Rattle.std.specs.List.{list_any};
-ghost use Rattle.h26x_core.specs.ByteStream.{byte_stream};
-ghost use Rattle.h26x_model.specs.Payload.Extra.{extra_after};
+ghost use Rattle.std.specs.Prelude.{◌≡◌, length, false, None, OnOk, OnErr, IsOk};
 ghost use Rattle.h26x_model.specs.Receive.Received.{reading_units, run_after};
-ghost use Rattle.h26x_model.specs.Receive.Outcome.{is_too_long};
-ghost use Rattle.h26x_payload.specs.Run.{header_bytes, fragment_reading, IsWriteOutcome};
-ghost use Rattle.h26x_payload.specs.UnitSink.{with_written, IsRoomTold};
+ghost use Rattle.h26x_payload.specs.Run.{header_bytes, fragment_reading, reading_text, extra_with, IsTakeOutcome};
+ghost use Rattle.h26x_payload.specs.UnitSink.{IsWritten, TellsRoom, WantsRoom};
 
 use crate::format::PayloadFormat;
 use crate::receive::byte_stream::write_parts;
@@ -43,25 +39,22 @@ pub fn take_fragment<C: PayloadFormat, W: UnitSink>(
 ) -> Result<(), PacketError>
     requires { length (header_bytes (C.format codec) fragment.head)
         ≡ (C.format codec).header_len }
-    ensures outcome { IsWriteOutcome (is_avc && list_any is_too_long (reading_units run.old
-        (fragment_reading (C.format codec) fragment.entry))) result }
-    ensures written { OnOk result (W.sink out.new ≡ with_written (W.sink out.old)
-        (byte_stream is_avc (reading_units run.old
-        (fragment_reading (C.format codec) fragment.entry)))) }
-    ensures told { OnOk result (codec_extra.new ≡ extra_after (C.format codec) codec_extra.old
-        (reading_units run.old (fragment_reading (C.format codec) fragment.entry))) }
+    ensures outcome { IsTakeOutcome is_avc run.old
+        (fragment_reading (C.format codec) fragment.entry) result }
+    ensures written { OnOk result (IsWritten W.sink out.old out.new
+        (reading_text is_avc run.old (fragment_reading (C.format codec) fragment.entry))) }
+    ensures told { OnOk result (codec_extra.new ≡ extra_with (C.format codec) codec_extra.old
+        run.old (fragment_reading (C.format codec) fragment.entry)) }
     ensures run { OnOk result (run.new
         ≡ run_after run.old (fragment_reading (C.format codec) fragment.entry)) }
     ensures kept { OnErr result (W.sink out.new ≡ W.sink out.old) }
     ensures kept_extra { OnErr result (codec_extra.new ≡ codec_extra.old) }
     ensures kept_run { OnErr result (run.new ≡ run.old) }
     ensures startless { fragment.entry.start ≡ false → run.old ≡ None → IsOk result }
-    ensures told_room { IsRoomTold result (byte_stream is_avc (reading_units run.old
-        (fragment_reading (C.format codec) fragment.entry)))
-        (W.room out.old) (W.lacks out.old) (W.lacks out.new) }
-    ensures lacks { result ≡ Err PacketError.OutOfMemory → 0 < length (reading_units run.old
-        (fragment_reading (C.format codec) fragment.entry)) →
-        W.lacks out.new ≡ true }
+    ensures told_room { TellsRoom W.room W.lacks out.old out.new result
+        (reading_text is_avc run.old (fragment_reading (C.format codec) fragment.entry)) }
+    ensures lacks { WantsRoom result (reading_units run.old
+        (fragment_reading (C.format codec) fragment.entry)) (W.lacks out.new) }
 {
     if !fragment.start && !run.is_open() {
         return Ok(());

@@ -1,15 +1,11 @@
 //! What a packet brings to a depacketizer, for every codec (RFC 6184, 7; RFC 7798, 6; RFC 9328, 6).
 
-ghost use Rattle.std.specs.Prelude.{◌≡◌, ◌⊎◌, ◌&&◌, ◌++◌, ◌^◌, ◌<◌, nat_le, true, false, ℕ, List, Option, length, Ok, Err, OnOk, OnErr, IsOk};
-ghost use Rattle.std.specs.List.{list_any};
-ghost use Rattle.std.specs.Option.{option_map};
-ghost use Rattle.h26x_core.specs.ByteStream.{byte_stream};
-ghost use Rattle.h26x_model.specs.Payload.Extra.{extra_after};
+ghost use Rattle.std.specs.Prelude.{◌≡◌, ◌&&◌, ◌^◌, nat_le, true, length, Err, OnOk, OnErr, IsOk};
 ghost use Rattle.h26x_model.specs.Receive.Received.{reading_units, run_after};
-ghost use Rattle.h26x_model.specs.Receive.Outcome.{IsReadingOutcome, is_startless, is_too_long};
-ghost use Rattle.h26x_payload.specs.Run.{header_bytes, fragment_reading, IsWriteOutcome};
-ghost use Rattle.h26x_payload.specs.DepacketizerView.{parts_reading, AreChecked, IsReadAs};
-ghost use Rattle.h26x_payload.specs.UnitSink.{with_written, IsRoomTold};
+ghost use Rattle.h26x_model.specs.Receive.Outcome.{IsReadingOutcome, is_startless};
+ghost use Rattle.h26x_payload.specs.Run.{header_bytes, fragment_reading, reading_text, extra_with, brings_long_unit, IsTakeOutcome, ForEachRun, TellsLongUnit};
+ghost use Rattle.h26x_payload.specs.DepacketizerView.{reading_of, AreChecked, IsReadAs};
+ghost use Rattle.h26x_payload.specs.UnitSink.{IsWritten, TellsRoom, WantsRoom};
 
 use crate::format::PayloadFormat;
 use crate::receive::aggregate::write_units;
@@ -29,9 +25,8 @@ fn fragment_completes<C: PayloadFormat>(
     run_len: Option<usize>,
 ) -> usize
     requires { length (header_bytes (C.format codec) fragment.head) ≡ (C.format codec).header_len }
-    ensures { (run : Option (List ℕ)) → run_len ≡ option_map length run →
-        nat_le (2 ^ 32) result ≡ list_any is_too_long (reading_units run
-        (fragment_reading (C.format codec) fragment.entry)) }
+    ensures { TellsLongUnit run_len (fragment_reading (C.format codec) fragment.entry)
+        (nat_le (2 ^ 32) result) }
 {
     if !fragment.end {
         return 0;
@@ -54,9 +49,8 @@ fn completed_len<C: PacketReader>(
     run_len: Option<usize>,
 ) -> usize
     requires { AreChecked (C.format codec) (C.units codec) packet.now parts }
-    ensures { (run : Option (List ℕ)) → run_len ≡ option_map length run →
-        nat_le (2 ^ 32) result ≡ list_any is_too_long (reading_units run
-        (parts_reading (C.format codec) (C.units codec) packet.now parts.entry)) }
+    ensures { TellsLongUnit run_len (reading_of C.format C.units codec packet.now parts.entry)
+        (nat_le (2 ^ 32) result) }
 {
     match parts {
         Parts::Whole => packet.len(),
@@ -77,9 +71,8 @@ pub(crate) fn completes_long_unit<C: PacketReader>(
     run_len: Option<usize>,
 ) -> bool
     requires { AreChecked (C.format codec) (C.units codec) packet.now parts }
-    ensures { (run : Option (List ℕ)) → run_len ≡ option_map length run →
-        result ≡ (is_avc && list_any is_too_long (reading_units run
-        (parts_reading (C.format codec) (C.units codec) packet.now parts.entry))) }
+    ensures { ForEachRun run_len (λ run. result ≡ (is_avc && brings_long_unit run
+        (reading_of C.format C.units codec packet.now parts.entry))) }
 {
     is_avc && is_too_long(completed_len(codec, packet, parts, run_len))
 }
@@ -96,16 +89,16 @@ pub fn check_lengths<C: PacketReader>(
     run_len: Option<usize>,
 ) -> Result<(), PacketError>
     requires { IsReadAs (C.format codec) (C.units codec) packet.now parts }
-    ensures refused { (run : Option (List ℕ)) → run_len ≡ option_map length run →
-        OnErr result (IsReadingOutcome is_avc run ((C.format codec).read packet.now) result) }
+    ensures refused { ForEachRun run_len (λ run.
+        OnErr result (IsReadingOutcome is_avc run ((C.format codec).read packet.now) result)) }
 
     // Behind lengths that fit, want of memory is an outcome; a fragment that doesn't start while no
     // run is open completes nothing.
-    ensures memory { (run : Option (List ℕ)) → run_len ≡ option_map length run →
-        OnOk result (IsReadingOutcome is_avc run ((C.format codec).read packet.now)
-        (Err PacketError.OutOfMemory)) }
-    ensures startless { (run : Option (List ℕ)) → run_len ≡ option_map length run →
-        is_startless run ((C.format codec).read packet.now) ≡ true → IsOk result }
+    ensures memory { ForEachRun run_len (λ run. OnOk result
+        (IsReadingOutcome is_avc run ((C.format codec).read packet.now)
+        (Err PacketError.OutOfMemory))) }
+    ensures startless { ForEachRun run_len (λ run.
+        is_startless run ((C.format codec).read packet.now) ≡ true → IsOk result) }
 {
     if completes_long_unit(codec, is_avc, packet, parts, run_len) {
         return Err(PacketError::AvcUnitTooLong);
@@ -126,27 +119,23 @@ pub(crate) fn take_parts<C: PacketReader, W: UnitSink>(
     codec_extra: &mut CodecExtra,
 ) -> Result<(), PacketError>
     requires { AreChecked (C.format codec) (C.units codec) packet.now parts }
-    ensures outcome { IsWriteOutcome (is_avc && list_any is_too_long (reading_units run.old
-        (parts_reading (C.format codec) (C.units codec) packet.now parts.entry))) result }
-    ensures written { OnOk result (W.sink out.new ≡ with_written (W.sink out.old)
-        (byte_stream is_avc (reading_units run.old
-        (parts_reading (C.format codec) (C.units codec) packet.now parts.entry)))) }
-    ensures told { OnOk result (codec_extra.new ≡ extra_after (C.format codec) codec_extra.old
-        (reading_units run.old
-        (parts_reading (C.format codec) (C.units codec) packet.now parts.entry))) }
-    ensures run { OnOk result (run.new ≡ run_after run.old
-        (parts_reading (C.format codec) (C.units codec) packet.now parts.entry)) }
+    ensures outcome { IsTakeOutcome is_avc run.old
+        (reading_of C.format C.units codec packet.now parts.entry) result }
+    ensures written { OnOk result (IsWritten W.sink out.old out.new
+        (reading_text is_avc run.old (reading_of C.format C.units codec packet.now parts.entry))) }
+    ensures told { OnOk result (codec_extra.new ≡ extra_with (C.format codec) codec_extra.old
+        run.old (reading_of C.format C.units codec packet.now parts.entry)) }
+    ensures run { OnOk result (run.new
+        ≡ run_after run.old (reading_of C.format C.units codec packet.now parts.entry)) }
     ensures kept { OnErr result (W.sink out.new ≡ W.sink out.old) }
     ensures kept_extra { OnErr result (codec_extra.new ≡ codec_extra.old) }
     ensures kept_run { OnErr result (run.new ≡ run.old) }
     ensures startless { is_startless run.old
-        (parts_reading (C.format codec) (C.units codec) packet.now parts.entry) ≡ true → IsOk result }
-    ensures told_room { IsRoomTold result (byte_stream is_avc (reading_units run.old
-        (parts_reading (C.format codec) (C.units codec) packet.now parts.entry)))
-        (W.room out.old) (W.lacks out.old) (W.lacks out.new) }
-    ensures lacks { result ≡ Err PacketError.OutOfMemory → 0 < length (reading_units run.old
-        (parts_reading (C.format codec) (C.units codec) packet.now parts.entry)) →
-        W.lacks out.new ≡ true }
+        (reading_of C.format C.units codec packet.now parts.entry) ≡ true → IsOk result }
+    ensures told_room { TellsRoom W.room W.lacks out.old out.new result
+        (reading_text is_avc run.old (reading_of C.format C.units codec packet.now parts.entry)) }
+    ensures lacks { WantsRoom result (reading_units run.old
+        (reading_of C.format C.units codec packet.now parts.entry)) (W.lacks out.new) }
 {
     match parts {
         Parts::Whole => {
@@ -186,21 +175,20 @@ pub fn take_packet<C: PacketReader, W: UnitSink>(
 ) -> Result<(), PacketError>
     requires { IsReadAs (C.format codec) (C.units codec) packet.now parts }
     ensures outcome { IsReadingOutcome is_avc run.old ((C.format codec).read packet.now) result }
-    ensures written { OnOk result (W.sink out.new ≡ with_written (W.sink out.old)
-        (byte_stream is_avc (reading_units run.old ((C.format codec).read packet.now)))) }
-    ensures told { OnOk result (codec_extra.new ≡ extra_after (C.format codec) codec_extra.old
-        (reading_units run.old ((C.format codec).read packet.now))) }
+    ensures written { OnOk result (IsWritten W.sink out.old out.new
+        (reading_text is_avc run.old ((C.format codec).read packet.now))) }
+    ensures told { OnOk result (codec_extra.new
+        ≡ extra_with (C.format codec) codec_extra.old run.old ((C.format codec).read packet.now)) }
     ensures run { OnOk result (run.new ≡ run_after run.old ((C.format codec).read packet.now)) }
     ensures kept { OnErr result (W.sink out.new ≡ W.sink out.old) }
     ensures kept_extra { OnErr result (codec_extra.new ≡ codec_extra.old) }
     ensures kept_run { OnErr result (run.new ≡ run.old) }
     ensures startless { is_startless run.old ((C.format codec).read packet.now) ≡ true →
         IsOk result }
-    ensures told_room { IsRoomTold result (byte_stream is_avc
-        (reading_units run.old ((C.format codec).read packet.now)))
-        (W.room out.old) (W.lacks out.old) (W.lacks out.new) }
-    ensures lacks { result ≡ Err PacketError.OutOfMemory →
-        0 < length (reading_units run.old ((C.format codec).read packet.now)) → W.lacks out.new ≡ true }
+    ensures told_room { TellsRoom W.room W.lacks out.old out.new result
+        (reading_text is_avc run.old ((C.format codec).read packet.now)) }
+    ensures lacks { WantsRoom result (reading_units run.old ((C.format codec).read packet.now))
+        (W.lacks out.new) }
 {
     take_parts(codec, is_avc, packet, parts, run, out, codec_extra)
 }

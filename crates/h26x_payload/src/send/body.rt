@@ -1,7 +1,7 @@
 //! What stands behind a packet's header and its number.
 
 ghost use Rattle.std.specs.Prelude.{◌≡◌, ◌≤◌, ◌+◌, ◌++◌, replicate, min, length, vec_len, vec_capacity};
-ghost use Rattle.h26x_payload.specs.Sending.{body_bytes};
+ghost use Rattle.h26x_payload.specs.Sending.{body_bytes, packet_bytes, packet_len};
 
 use crate::send::sets::Sets;
 
@@ -73,10 +73,10 @@ pub(crate) fn put_packet(
     body: Body<'_>,
     bytes: &mut Vec<u8>,
 )
-    requires room { vec_len bytes.old + (headroom + (length header.now + (length donl.now
-        + length (body_bytes body)))) ≤ vec_capacity bytes.old }
-    ensures written { bytes.new.items ≡ bytes.old.items ++ (replicate headroom 0
-        ++ (header.now ++ (donl.now ++ body_bytes body.entry))) }
+    requires room { vec_len bytes.old + (headroom + packet_len header.now donl.now body)
+        ≤ vec_capacity bytes.old }
+    ensures written { bytes.new.items ≡ bytes.old.items
+        ++ (replicate headroom 0 ++ packet_bytes header.now donl.now body.entry) }
 {
     if headroom > 0 {
         bytes.resize(bytes.len() + headroom, 0).unwrap();

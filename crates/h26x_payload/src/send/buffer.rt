@@ -3,7 +3,7 @@
 ghost use Rattle.std.specs.Prelude.{◌≡◌, ◌≤◌, ◌<◌, ◌+◌, ◌-◌, ◌++◌, nat_eq, replicate, vec_len, vec_capacity, ◌∷◌, [], take, length, get_or, OnOk, OnErr};
 ghost use Rattle.std.specs.List.{between};
 ghost use Rattle.h26x_payload.specs.Buffer.{IsBuffer, HoldPackets, HoldHeadrooms, ends_of, last_end, packets_from, headrooms_from, first_packets, with_packets, headed_at};
-ghost use Rattle.h26x_payload.specs.Sending.{body_bytes, contents};
+ghost use Rattle.h26x_payload.specs.Sending.{packet_bytes, contents};
 
 mod cases;
 mod loan;
@@ -179,8 +179,8 @@ impl PacketBuffer {
         donl: &[u8],
         body: Body<'_>,
     ) -> Result<(), AllocError>
-        ensures pushed { OnOk result (self.new ≡ with_packets self.old
-            ((header.now ++ (donl.now ++ body_bytes body.entry)) ∷ [])) }
+        ensures pushed { OnOk result (self.new
+            ≡ with_packets self.old (packet_bytes header.now donl.now body.entry ∷ [])) }
         ensures kept { OnErr result (self.new ≡ self.old) }
     {
         let len = header

@@ -1,7 +1,7 @@
 //! Packets as the parts that they are made of, before they are copied anywhere.
 
 ghost use Rattle.std.specs.Prelude.{◌≡◌, ◌≤◌, ◌+◌, ◌++◌, min, length};
-ghost use Rattle.h26x_payload.specs.Sending.{body_bytes};
+ghost use Rattle.h26x_payload.specs.Sending.{packet_bytes};
 
 use crate::send::body::Body;
 use crate::send::sets::copy_part;
@@ -39,7 +39,7 @@ impl<'a> PacketParts<'a> {
     #[inline(always)]
     fn new(header: &[u8], donl: &[u8], body: Body<'a>) -> Self
         requires { length header.now + length donl.now ≤ 5 }
-        ensures { result ≡ header.now ++ (donl.now ++ body_bytes body.entry) }
+        ensures { result ≡ packet_bytes header.now donl.now body.entry }
     {
         let mut bytes = [0; LONGEST_HEADER];
         let behind = copy_part(header, 0, &mut bytes);

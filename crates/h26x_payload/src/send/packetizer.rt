@@ -3,14 +3,13 @@
 ghost use Rattle.std.specs.Prelude.{◌≡◌, ◌≤◌, ◌++◌, ◌∷◌, ℕ, [], true, false, OnOk, OnErr, IfOk, IsOk, None, length, drop, Err};
 ghost use Rattle.std.specs.Option.{option_map};
 ghost use Rattle.h26x_model.specs.Send.Limit.{AreWithinLimit};
-ghost use Rattle.h26x_model.specs.Send.Calls.{packet_limit, call_limit};
-ghost use Rattle.h26x_model.specs.Send.WaitingSets.{waiting_after_unit, due_items, plan_with_waiting, waiting_after, entries_with_limit, no_waiting_sets};
-ghost use Rattle.h26x_model.specs.Send.PacketizerState.{state_packets, is_skipped, are_skipped, has_no_effect, IsSentAsPlanned, one_unit_items, one_unit_packets};
+ghost use Rattle.h26x_model.specs.Send.WaitingSets.{waiting_after_unit, due_items, no_waiting_sets};
+ghost use Rattle.h26x_model.specs.Send.PacketizerState.{is_skipped, are_skipped, one_unit_items};
 ghost use Rattle.h26x_model.specs.Where.{Where};
-ghost use Rattle.h26x_payload.specs.Sending.{contents, ArePushed, set_list, latest_set, waiting_with_brought, due_to_items, is_nothing};
+ghost use Rattle.h26x_payload.specs.Sending.{contents, ArePushed, latest_set, due_to_items, is_nothing, lent_set, kept_set};
 ghost use Rattle.h26x_payload.specs.Buffer.{with_packets};
 ghost use Rattle.h26x_payload.specs.Placement.{IsPlacement, IsSizeOf, if_placed};
-ghost use Rattle.h26x_payload.specs.PacketizerView.{IsPacketizer, IsViewSentAsPlanned, packetizer_state, fresh_packetizer, view_call, view_entries, view_packets, view_after, view_after_call, view_after_unit, view_with_update};
+ghost use Rattle.h26x_payload.specs.PacketizerView.{IsPacketizerView, IsViewSentAsPlanned, SendsAsPlanned, packetizer_of, fresh_packetizer, limit_of, call_has_no_effect, packets_of, unit_packets, view_after_call, view_after_unit, view_with_update, held_sets, payload_plan, waiting_after_payload};
 
 use crate::format::{DonlFormat, PayloadFormat, UnitKind};
 use crate::send::buffer::{Appending, PacketBuffer};
@@ -73,9 +72,7 @@ fn newest_of<'a>(
     taken: bool,
     brought: Option<&'a [u8]>,
 ) -> Option<&'a [u8]>
-    ensures { set_list (option_map (λ s. s.now) result) ≡ latest_set
-        (set_list (option_map (λ v. v.items) old.now)) taken
-        (set_list (option_map (λ s. s.now) brought.entry)) }
+    ensures { lent_set result ≡ latest_set (kept_set old.now) taken (lent_set brought.entry) }
 {
     match brought {
         Some(set) => Some(set),
@@ -107,9 +104,7 @@ fn copied(alloc: Global, set: Option<&[u8]>) -> Result<Option<Vec<u8>>, PacketEr
 
 /// Puts the latest set in place.
 fn replace_set(set: &mut Option<Vec<u8>>, taken: bool, brought: Option<Vec<u8>>)
-    ensures { set_list (option_map (λ v. v.items) set.new) ≡ latest_set
-        (set_list (option_map (λ v. v.items) set.old)) taken
-        (set_list (option_map (λ v. v.items) brought)) }
+    ensures { kept_set set.new ≡ latest_set (kept_set set.old) taken (kept_set brought) }
 {
     if taken || brought.is_some() {
         *set = brought;
@@ -155,7 +150,7 @@ impl<C: PayloadFormat> PayloadPacketizer<C> {
 
     /// The limit of a call.
     fn limit(&self, mtu: usize) -> usize
-        ensures { result ≡ packet_limit (C.format self.now.codec) self.now.max_packet_size mtu }
+        ensures { result ≡ limit_of C.format self.now mtu }
     {
         if self.codec.has_max_packet_size() {
             mtu.min(usize::from(self.max_packet_size))
@@ -167,10 +162,10 @@ impl<C: PayloadFormat> PayloadPacketizer<C> {
     /// Takes the next unit of a payload, and tells what goes.
     fn take_unit<'a>(&'a self, unit: &'a [u8], brought: &mut Brought<'a>) -> Due<'a>
         ensures sent { (limit : ℕ) → due_to_items (C.format self.now.codec) limit unit.now result
-            ≡ due_items (C.format self.now.codec) (waiting_with_brought self.now.waiting brought.old)
+            ≡ due_items (C.format self.now.codec) (held_sets self.now brought.old)
             (record { unit = unit.now; limit = limit }) }
-        ensures waits { waiting_with_brought self.now.waiting brought.new ≡ waiting_after_unit
-            (C.format self.now.codec) (waiting_with_brought self.now.waiting brought.old) unit.now }
+        ensures waits { held_sets self.now brought.new ≡ waiting_after_unit
+            (C.format self.now.codec) (held_sets self.now brought.old) unit.now }
         ensures whole { is_nothing result ≡ false →
             (C.format self.now.codec).header_len ≤ length unit.now }
         ensures skipped { is_skipped ((C.format self.now.codec).kind unit.now) ≡ true →
@@ -218,12 +213,10 @@ impl<C: PayloadFormat> PayloadPacketizer<C> {
         made: &mut S,
     ) -> Result<(Brought<'a>, u16), PacketError>
         ensures sent { IfOk result (λ it. ArePushed (C.format self.now.codec) self.now.next_don
-            (plan_with_waiting (C.format self.now.codec) self.now.waiting
-            (entries_with_limit limit ((C.format self.now.codec).units b.now)))
+            (payload_plan C.format self.now limit b.now)
             (S.packets made.old) (S.packets made.new) it.1) }
-        ensures waits { IfOk result (λ it. waiting_with_brought self.now.waiting it.0 ≡ waiting_after
-            (C.format self.now.codec) self.now.waiting
-            (entries_with_limit limit ((C.format self.now.codec).units b.now))) }
+        ensures waits { IfOk result (λ it.
+            held_sets self.now it.0 ≡ waiting_after_payload C.format self.now limit b.now) }
         ensures skipped { are_skipped (C.format self.now.codec)
             ((C.format self.now.codec).units b.now) ≡ true → IfOk result (λ it. (it.0.vps ≡ None)
             × (it.0.sps ≡ None) × (it.0.pps ≡ None)) × IsOk result }
@@ -248,11 +241,10 @@ impl<C: PayloadFormat> PayloadPacketizer<C> {
     /// A law of each call: it does what is planned of whole lists, and one without effect has no
     /// packets and changes nothing.
     fn goes_as_planned(&self, mtu: usize, b: &[u8])
-        ensures planned { IsViewSentAsPlanned (C.format self.now.codec) self.now mtu b.now }
-        ensures without_effect { has_no_effect (C.format self.now.codec)
-            (view_call self.now mtu b.now) ≡ true →
-            (view_packets (C.format self.now.codec) self.now mtu b.now ≡ [])
-            × (view_after_call (C.format self.now.codec) self.now mtu b.now ≡ self.now) }
+        ensures planned { IsViewSentAsPlanned C.format self.now mtu b.now }
+        ensures without_effect { call_has_no_effect C.format self.now mtu b.now ≡ true →
+            (packets_of C.format self.now mtu b.now ≡ [])
+            × (view_after_call C.format self.now mtu b.now ≡ self.now) }
     {
         laws::packetizers_go_on();
         let _ = &self.codec;
@@ -266,20 +258,16 @@ impl<C: PayloadFormat> PayloadPacketizer<C> {
         made: &mut S,
     ) -> Result<Update, PacketError>
         ensures packets { OnOk result (S.packets made.new ≡ S.packets made.old
-            ++ state_packets (packetizer_state (C.format self.now.codec) self.now)
-            (view_entries (C.format self.now.codec) self.now mtu b.now)) }
-        ensures after { IfOk result (λ it. view_with_update self.now it
-            ≡ view_after (C.format self.now.codec) self.now
-            (view_entries (C.format self.now.codec) self.now mtu b.now)) }
-        ensures is { IfOk result (λ it. IsPacketizer (C.format self.now.codec)
-            (packetizer_state (C.format self.now.codec) (view_with_update self.now it))) }
+            ++ packets_of C.format self.now mtu b.now) }
+        ensures after { IfOk result (λ it.
+            view_with_update self.now it ≡ view_after_call C.format self.now mtu b.now) }
+        ensures is { IfOk result (λ it. IsPacketizerView C.format (view_with_update self.now it)) }
         ensures before { S.before made.new ≡ S.before made.old }
 
         ensures memory { OnErr result (result ≡ Err PacketError.OutOfMemory) }
 
         // Calls without effect take no memory.
-        ensures free { has_no_effect (C.format self.now.codec) (view_call self.now mtu b.now) ≡ true →
-            IsOk result }
+        ensures free { call_has_no_effect C.format self.now mtu b.now ≡ true → IsOk result }
     {
         laws::packetizers_go_on();
         if mtu < self.codec.least_mtu() {
@@ -305,8 +293,7 @@ impl<C: PayloadFormat> PayloadPacketizer<C> {
 
     /// Carries out a call.
     fn commit(&mut self, update: Update)
-        requires { IsPacketizer (C.format self.old.codec)
-            (packetizer_state (C.format self.old.codec) (view_with_update self.old update)) }
+        requires { IsPacketizerView C.format (view_with_update self.old update) }
         ensures { self.new ≡ view_with_update self.old update }
     {
         replace_set(&mut self.vps, update.taken, update.vps);
@@ -326,26 +313,19 @@ impl<C: PayloadFormat> PayloadPacketizer<C> {
         b: &[u8],
         into: &mut PacketBuffer,
     ) -> Result<(), PacketError>
-        ensures packets { OnOk result (into.new ≡ with_packets into.old
-            (state_packets (packetizer_state (C.format self.old.codec) self.old)
-            (view_entries (C.format self.old.codec) self.old mtu b.now))) }
-        ensures after { OnOk result (self.new
-            ≡ view_after (C.format self.old.codec) self.old
-            (view_entries (C.format self.old.codec) self.old mtu b.now)) }
-        ensures planned { OnOk result (IsSentAsPlanned
-            (packetizer_state (C.format self.old.codec) self.old) (view_call self.old mtu b.now)
-            (drop (length into.old.packets) into.new.packets)
-            (packetizer_state (C.format self.new.codec) self.new)) }
+        ensures packets { OnOk result (into.new
+            ≡ with_packets into.old (packets_of C.format self.old mtu b.now)) }
+        ensures after { OnOk result (self.new ≡ view_after_call C.format self.old mtu b.now) }
+        ensures planned { OnOk result (SendsAsPlanned C.format self.old mtu b.now
+            (drop (length into.old.packets) into.new.packets) self.new) }
 
         ensures kept { OnErr result (self.new ≡ self.old) }
         ensures kept_packets { OnErr result (into.new ≡ into.old) }
         ensures memory { OnErr result (result ≡ Err PacketError.OutOfMemory) }
 
         // Calls without effect take no memory.
-        ensures free { has_no_effect (C.format self.old.codec) (view_call self.old mtu b.now) ≡ true →
-            IsOk result }
-        ensures without_effect { has_no_effect (C.format self.old.codec)
-            (view_call self.old mtu b.now) ≡ true →
+        ensures free { call_has_no_effect C.format self.old mtu b.now ≡ true → IsOk result }
+        ensures without_effect { call_has_no_effect C.format self.old mtu b.now ≡ true →
             OnOk result ((into.new ≡ into.old) × (self.new ≡ self.old)) }
     {
         self.goes_as_planned(mtu, b);
@@ -372,15 +352,13 @@ impl<C: PayloadFormat> PayloadPacketizer<C> {
         b: &'a [u8],
         headroom: usize,
     ) -> Result<PacketsSize, PacketError>
-        ensures size { IfOk result (λ it. IsSizeOf headroom
-            (state_packets (packetizer_state (C.format self.now.codec) self.now)
-            (view_entries (C.format self.now.codec) self.now mtu b.now)) it) }
+        ensures size { IfOk result (λ it.
+            IsSizeOf headroom (packets_of C.format self.now mtu b.now) it) }
 
         ensures memory { OnErr result (result ≡ Err PacketError.OutOfMemory) }
 
         // Calls without effect take no memory.
-        ensures free { has_no_effect (C.format self.now.codec) (view_call self.now mtu b.now) ≡ true →
-            IsOk result }
+        ensures free { call_has_no_effect C.format self.now mtu b.now ≡ true → IsOk result }
     {
         let mut made: Vec<PacketParts<'a>> = Vec::new(self.alloc);
         self.prepare(mtu, b, &mut made)?;
@@ -397,21 +375,17 @@ impl<C: PayloadFormat> PayloadPacketizer<C> {
         ends: &mut [usize],
     ) -> Result<(Placement, Update), PacketError>
         ensures packets { IfOk result (λ it. IsPlacement headroom
-            (state_packets (packetizer_state (C.format self.now.codec) self.now)
-            (view_entries (C.format self.now.codec) self.now mtu b.now)) to.old to.new ends.old ends.new
-            it.0) }
-        ensures after { IfOk result (λ it. view_with_update self.now it.1
-            ≡ view_after (C.format self.now.codec) self.now
-            (view_entries (C.format self.now.codec) self.now mtu b.now)) }
-        ensures is { IfOk result (λ it. IsPacketizer (C.format self.now.codec)
-            (packetizer_state (C.format self.now.codec) (view_with_update self.now it.1))) }
+            (packets_of C.format self.now mtu b.now) to.old to.new ends.old ends.new it.0) }
+        ensures after { IfOk result (λ it.
+            view_with_update self.now it.1 ≡ view_after_call C.format self.now mtu b.now) }
+        ensures is { IfOk result (λ it.
+            IsPacketizerView C.format (view_with_update self.now it.1)) }
 
         ensures kept_memory { OnErr result ((to.new ≡ to.old) × (ends.new ≡ ends.old)) }
         ensures memory { OnErr result (result ≡ Err PacketError.OutOfMemory) }
 
         // Calls without effect take no memory.
-        ensures free { has_no_effect (C.format self.now.codec) (view_call self.now mtu b.now) ≡ true →
-            IsOk result }
+        ensures free { call_has_no_effect C.format self.now mtu b.now ≡ true → IsOk result }
     {
         let mut made: Vec<PacketParts<'a>> = Vec::new(self.alloc);
         let update = self.prepare(mtu, b, &mut made)?;
@@ -433,20 +407,16 @@ impl<C: PayloadFormat> PayloadPacketizer<C> {
         ends: &mut [usize],
     ) -> Result<Placement, PacketError>
         ensures packets { IfOk result (λ it. IsPlacement headroom
-            (state_packets (packetizer_state (C.format self.old.codec) self.old)
-            (view_entries (C.format self.old.codec) self.old mtu b.now)) to.old to.new ends.old ends.new
-            it) }
-        ensures after { IfOk result (λ it. self.new ≡ if_placed it
-            (view_after (C.format self.old.codec) self.old
-            (view_entries (C.format self.old.codec) self.old mtu b.now)) self.old) }
+            (packets_of C.format self.old mtu b.now) to.old to.new ends.old ends.new it) }
+        ensures after { IfOk result (λ it. self.new
+            ≡ if_placed it (view_after_call C.format self.old mtu b.now) self.old) }
 
         ensures kept { OnErr result (self.new ≡ self.old) }
         ensures kept_memory { OnErr result ((to.new ≡ to.old) × (ends.new ≡ ends.old)) }
         ensures memory { OnErr result (result ≡ Err PacketError.OutOfMemory) }
 
         // Calls without effect take no memory.
-        ensures free { has_no_effect (C.format self.old.codec) (view_call self.old mtu b.now) ≡ true →
-            IsOk result }
+        ensures free { call_has_no_effect C.format self.old mtu b.now ≡ true → IsOk result }
     {
         let (placement, update) = self.prepare_placed(mtu, b, headroom, to, ends)?;
         if let Placement::Placed(_) = placement {
@@ -457,8 +427,8 @@ impl<C: PayloadFormat> PayloadPacketizer<C> {
 
     /// A law of each unit that is sent as it is: its packets are within the limit of the call.
     fn one_unit_is_within(&self, mtu: usize, unit: &[u8])
-        ensures { AreWithinLimit (packet_limit (C.format self.now.codec) self.now.max_packet_size mtu)
-            (one_unit_packets (packetizer_state (C.format self.now.codec) self.now) mtu unit.now) }
+        ensures { AreWithinLimit (limit_of C.format self.now mtu)
+            (unit_packets C.format self.now mtu unit.now) }
     {
         laws::a_unit_sent_as_it_is();
         let _ = &self.codec;
@@ -471,19 +441,18 @@ impl<C: PayloadFormat> PayloadPacketizer<C> {
         unit: &'a [u8],
         made: &mut S,
     ) -> Result<Update, PacketError>
-        ensures packets { OnOk result (S.packets made.new ≡ S.packets made.old ++ one_unit_packets
-            (packetizer_state (C.format self.now.codec) self.now) mtu unit.now) }
-        ensures after { IfOk result (λ it. view_with_update self.now it
-            ≡ view_after_unit (C.format self.now.codec) self.now mtu unit.now) }
-        ensures is { IfOk result (λ it. IsPacketizer (C.format self.now.codec)
-            (packetizer_state (C.format self.now.codec) (view_with_update self.now it))) }
+        ensures packets { OnOk result (S.packets made.new ≡ S.packets made.old
+            ++ unit_packets C.format self.now mtu unit.now) }
+        ensures after { IfOk result (λ it.
+            view_with_update self.now it ≡ view_after_unit C.format self.now mtu unit.now) }
+        ensures is { IfOk result (λ it. IsPacketizerView C.format (view_with_update self.now it)) }
         ensures before { S.before made.new ≡ S.before made.old }
 
         ensures memory { OnErr result (result ≡ Err PacketError.OutOfMemory) }
 
         // Nothing is sent without memory.
-        ensures free { one_unit_items (packetizer_state (C.format self.now.codec) self.now) mtu
-            unit.now ≡ [] → IsOk result }
+        ensures free { one_unit_items (packetizer_of C.format self.now) mtu unit.now ≡ [] →
+            IsOk result }
     {
         laws::a_unit_sent_as_it_is();
         if mtu < self.codec.least_mtu() || unit.len() < self.codec.header_len() {
@@ -509,20 +478,18 @@ impl<C: PayloadFormat> PayloadPacketizer<C> {
     ///
     /// `OutOfMemory` is its only error, and leaves everything.
     pub fn packetize_unit(&mut self, mtu: usize, unit: &[u8]) -> Result<Vec<Vec<u8>>, PacketError>
-        ensures packets { IfOk result (λ made. contents made.items ≡ one_unit_packets
-            (packetizer_state (C.format self.old.codec) self.old) mtu unit.now) }
-        ensures after { OnOk result (self.new
-            ≡ view_after_unit (C.format self.old.codec) self.old mtu unit.now) }
-        ensures within { IfOk result (λ made. AreWithinLimit
-            (packet_limit (C.format self.old.codec) self.old.max_packet_size mtu)
-            (contents made.items)) }
+        ensures packets { IfOk result (λ made.
+            contents made.items ≡ unit_packets C.format self.old mtu unit.now) }
+        ensures after { OnOk result (self.new ≡ view_after_unit C.format self.old mtu unit.now) }
+        ensures within { IfOk result (λ made.
+            AreWithinLimit (limit_of C.format self.old mtu) (contents made.items)) }
 
         ensures kept { OnErr result (self.new ≡ self.old) }
         ensures memory { OnErr result (result ≡ Err PacketError.OutOfMemory) }
 
         // Nothing is sent without memory.
-        ensures free { one_unit_items (packetizer_state (C.format self.old.codec) self.old) mtu
-            unit.now ≡ [] → IsOk result }
+        ensures free { one_unit_items (packetizer_of C.format self.old) mtu unit.now ≡ [] →
+            IsOk result }
     {
         self.one_unit_is_within(mtu, unit);
         let mut made = Vec::new(self.alloc);
@@ -541,21 +508,19 @@ impl<C: PayloadFormat> PayloadPacketizer<C> {
         unit: &[u8],
         into: &mut PacketBuffer,
     ) -> Result<(), PacketError>
-        ensures packets { OnOk result (into.new ≡ with_packets into.old (one_unit_packets
-            (packetizer_state (C.format self.old.codec) self.old) mtu unit.now)) }
-        ensures after { OnOk result (self.new
-            ≡ view_after_unit (C.format self.old.codec) self.old mtu unit.now) }
-        ensures within { AreWithinLimit
-            (packet_limit (C.format self.old.codec) self.old.max_packet_size mtu)
-            (one_unit_packets (packetizer_state (C.format self.old.codec) self.old) mtu unit.now) }
+        ensures packets { OnOk result (into.new
+            ≡ with_packets into.old (unit_packets C.format self.old mtu unit.now)) }
+        ensures after { OnOk result (self.new ≡ view_after_unit C.format self.old mtu unit.now) }
+        ensures within { AreWithinLimit (limit_of C.format self.old mtu)
+            (unit_packets C.format self.old mtu unit.now) }
 
         ensures kept { OnErr result (self.new ≡ self.old) }
         ensures kept_packets { OnErr result (into.new ≡ into.old) }
         ensures memory { OnErr result (result ≡ Err PacketError.OutOfMemory) }
 
         // Nothing is sent without memory.
-        ensures free { one_unit_items (packetizer_state (C.format self.old.codec) self.old) mtu
-            unit.now ≡ [] → IsOk result }
+        ensures free { one_unit_items (packetizer_of C.format self.old) mtu unit.now ≡ [] →
+            IsOk result }
     {
         self.one_unit_is_within(mtu, unit);
         let mut made = Appending::take(self.alloc, into);
@@ -583,19 +548,18 @@ impl<C: PayloadFormat> PayloadPacketizer<C> {
         ends: &mut [usize],
     ) -> Result<(Placement, Update), PacketError>
         ensures packets { IfOk result (λ it. IsPlacement headroom
-            (one_unit_packets (packetizer_state (C.format self.now.codec) self.now) mtu unit.now)
-            to.old to.new ends.old ends.new it.0) }
-        ensures after { IfOk result (λ it. view_with_update self.now it.1
-            ≡ view_after_unit (C.format self.now.codec) self.now mtu unit.now) }
-        ensures is { IfOk result (λ it. IsPacketizer (C.format self.now.codec)
-            (packetizer_state (C.format self.now.codec) (view_with_update self.now it.1))) }
+            (unit_packets C.format self.now mtu unit.now) to.old to.new ends.old ends.new it.0) }
+        ensures after { IfOk result (λ it.
+            view_with_update self.now it.1 ≡ view_after_unit C.format self.now mtu unit.now) }
+        ensures is { IfOk result (λ it.
+            IsPacketizerView C.format (view_with_update self.now it.1)) }
 
         ensures kept_memory { OnErr result ((to.new ≡ to.old) × (ends.new ≡ ends.old)) }
         ensures memory { OnErr result (result ≡ Err PacketError.OutOfMemory) }
 
         // Nothing is sent without memory.
-        ensures free { one_unit_items (packetizer_state (C.format self.now.codec) self.now) mtu
-            unit.now ≡ [] → IsOk result }
+        ensures free { one_unit_items (packetizer_of C.format self.now) mtu unit.now ≡ [] →
+            IsOk result }
     {
         let mut made: Vec<PacketParts<'a>> = Vec::new(self.alloc);
         let update = self.prepare_unit(mtu, unit, &mut made)?;
@@ -614,18 +578,17 @@ impl<C: PayloadFormat> PayloadPacketizer<C> {
         ends: &mut [usize],
     ) -> Result<Placement, PacketError>
         ensures packets { IfOk result (λ it. IsPlacement headroom
-            (one_unit_packets (packetizer_state (C.format self.old.codec) self.old) mtu unit.now)
-            to.old to.new ends.old ends.new it) }
-        ensures after { IfOk result (λ it. self.new ≡ if_placed it
-            (view_after_unit (C.format self.old.codec) self.old mtu unit.now) self.old) }
+            (unit_packets C.format self.old mtu unit.now) to.old to.new ends.old ends.new it) }
+        ensures after { IfOk result (λ it. self.new
+            ≡ if_placed it (view_after_unit C.format self.old mtu unit.now) self.old) }
 
         ensures kept { OnErr result (self.new ≡ self.old) }
         ensures kept_memory { OnErr result ((to.new ≡ to.old) × (ends.new ≡ ends.old)) }
         ensures memory { OnErr result (result ≡ Err PacketError.OutOfMemory) }
 
         // Nothing is sent without memory.
-        ensures free { one_unit_items (packetizer_state (C.format self.old.codec) self.old) mtu
-            unit.now ≡ [] → IsOk result }
+        ensures free { one_unit_items (packetizer_of C.format self.old) mtu unit.now ≡ [] →
+            IsOk result }
     {
         let (placement, update) = self.prepare_unit_placed(mtu, unit, headroom, to, ends)?;
         if let Placement::Placed(_) = placement {
@@ -638,8 +601,7 @@ impl<C: PayloadFormat> PayloadPacketizer<C> {
 /// A law of every packetizer: at most one set of each kind waits, its next decoding order number is
 /// of two bytes, and where packets bear none that number is 0.
 pub fn packetizer_states<C: PayloadFormat>(packetizer: &PayloadPacketizer<C>)
-    ensures { IsPacketizer (C.format packetizer.now.codec)
-        (packetizer_state (C.format packetizer.now.codec) packetizer.now) }
+    ensures { IsPacketizerView C.format packetizer.now }
 {
     let _ = &packetizer.codec;
 }
@@ -682,27 +644,20 @@ impl<C: PayloadFormat> Packetizer for PayloadPacketizer<C> {
     ///
     /// `OutOfMemory` is its only error, and leaves everything.
     fn packetize(&mut self, mtu: usize, b: &[u8]) -> Result<Vec<Vec<u8>>, PacketError>
-        ensures packets { IfOk result (λ made. contents made.items
-            ≡ state_packets (packetizer_state (C.format self.old.codec) self.old)
-            (view_entries (C.format self.old.codec) self.old mtu b.now)) }
-        ensures after { OnOk result (self.new
-            ≡ view_after (C.format self.old.codec) self.old
-            (view_entries (C.format self.old.codec) self.old mtu b.now)) }
-        ensures planned { IfOk result (λ made. IsSentAsPlanned
-            (packetizer_state (C.format self.old.codec) self.old) (view_call self.old mtu b.now)
-            (contents made.items) (packetizer_state (C.format self.new.codec) self.new)) }
+        ensures packets { IfOk result (λ made.
+            contents made.items ≡ packets_of C.format self.old mtu b.now) }
+        ensures after { OnOk result (self.new ≡ view_after_call C.format self.old mtu b.now) }
+        ensures planned { IfOk result (λ made.
+            SendsAsPlanned C.format self.old mtu b.now (contents made.items) self.new) }
         ensures within { IfOk result (λ made.
-            AreWithinLimit (call_limit (C.format self.old.codec) (view_call self.old mtu b.now))
-            (contents made.items)) }
+            AreWithinLimit (limit_of C.format self.old mtu) (contents made.items)) }
 
         ensures kept { OnErr result (self.new ≡ self.old) }
         ensures memory { OnErr result (result ≡ Err PacketError.OutOfMemory) }
 
         // Calls without effect take no memory.
-        ensures free { has_no_effect (C.format self.old.codec) (view_call self.old mtu b.now) ≡ true →
-            IsOk result }
-        ensures without_effect { has_no_effect (C.format self.old.codec)
-            (view_call self.old mtu b.now) ≡ true →
+        ensures free { call_has_no_effect C.format self.old mtu b.now ≡ true → IsOk result }
+        ensures without_effect { call_has_no_effect C.format self.old mtu b.now ≡ true →
             IfOk result (λ made. (made.items ≡ []) × (self.new ≡ self.old)) }
     {
         self.goes_as_planned(mtu, b);

@@ -2,7 +2,7 @@
 
 ghost use Rattle.std.specs.Prelude.{◌≡◌, ◌≤◌, ◌+◌, ◌++◌, ◌∷◌, [], ℕ, List, length, OnOk};
 ghost use Rattle.h26x_payload.specs.Buffer.{PacketBufferView};
-ghost use Rattle.h26x_payload.specs.Sending.{body_bytes};
+ghost use Rattle.h26x_payload.specs.Sending.{packet_bytes};
 
 use crate::send::body::{Body, put_packet};
 use std::alloc::AllocError;
@@ -22,7 +22,7 @@ pub trait PacketSink<'a> {
     fn push(&mut self, header: &[u8], donl: &[u8], body: Body<'a>) -> Result<(), AllocError>
         requires { length header.now + length donl.now ≤ 5 }
         ensures pushed { OnOk result (packets self.new ≡ packets self.old
-            ++ (header.now ++ (donl.now ++ body_bytes body.entry)) ∷ []) }
+            ++ packet_bytes header.now donl.now body.entry ∷ []) }
         ensures before { before self.new ≡ before self.old };
 
     /// Reserves room for so many packets more, but none for their bytes.

@@ -1,10 +1,9 @@
 //! The packets of units and of the sets before them, for every codec.
 
 ghost use Rattle.std.specs.Prelude.{◌≡◌, ◌≤◌, ◌++◌, ◌∷◌, [], false, map, filter, length, IfOk, IsOk, OnOk, OnErr, Err};
-ghost use Rattle.std.specs.Option.{option_map};
 ghost use Rattle.h26x_model.specs.Send.Plan.{Alone, fits_one_packet, unit_items, sets_items};
 ghost use Rattle.h26x_model.specs.Send.Packets.{single_packet};
-ghost use Rattle.h26x_payload.specs.Sending.{ArePushed, set_list, sets_list, is_nothing, due_to_items};
+ghost use Rattle.h26x_payload.specs.Sending.{ArePushed, lent_set, sets_list, is_nothing, due_to_items};
 
 use crate::format::PayloadFormat;
 use crate::send::body::Body;
@@ -87,8 +86,7 @@ fn push_set<'a, C: PayloadFormat, S: PacketSink<'a>>(
     made: &mut S,
 ) -> Result<u16, PacketError>
     ensures sent { IfOk result (λ next. ArePushed (C.format codec) don (map (Alone limit)
-        (filter (fits_one_packet (C.format codec) limit)
-        (set_list (option_map (λ s. s.now) set.entry))))
+        (filter (fits_one_packet (C.format codec) limit) (lent_set set.entry)))
         (S.packets made.old) (S.packets made.new) next) }
     ensures before { S.before made.new ≡ S.before made.old }
     ensures memory { OnErr result (result ≡ Err PacketError.OutOfMemory) }

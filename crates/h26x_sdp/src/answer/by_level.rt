@@ -4,6 +4,7 @@ ghost use Rattle.std.specs.Prelude.{◌≡◌, IfOk};
 ghost use Rattle.std.specs.Option.{option_map};
 ghost use Rattle.h26x_sdp.specs.AnswersByLevel as spec;
 ghost use Rattle.h26x_sdp.specs.AnswersViews.{terms_view};
+ghost use Rattle.h26x_sdp.specs.ParametersViews.{slice_view};
 
 use crate::answer::{Terms, copy_of, holds};
 use crate::codec::{CodecParameter, CodecParameters};
@@ -54,7 +55,7 @@ fn highest_value<'a, P: CodecParameter>(
     it: &'a CodecParameters<P>,
     levels: Levels,
 ) -> Option<&'a [u8]>
-    ensures { option_map (λ v. v.now) result
+    ensures { slice_view result
         ≡ spec.highest_value P.rows (spec.level_rows P.place by.now) it.now levels }
 {
     if levels.level < levels.highest {
@@ -72,7 +73,7 @@ fn lower_level<'a, P: CodecParameter>(
     a: Levels,
     b: Levels,
 ) -> Option<&'a [u8]>
-    ensures { option_map (λ v. v.now) result
+    ensures { slice_view result
         ≡ spec.lower_level (spec.level_rows P.place by.now) offered.now own.now a b }
 {
     if b.level < a.level {
@@ -90,7 +91,7 @@ fn lower_highest<'a, P: CodecParameter>(
     a: Levels,
     b: Levels,
 ) -> Option<&'a [u8]>
-    ensures { option_map (λ v. v.now) result
+    ensures { slice_view result
         ≡ spec.lower_highest P.rows (spec.level_rows P.place by.now) offered.now own.now a b }
 {
     if a.level.min(b.level) >= a.highest.min(b.highest) {

@@ -1,5 +1,6 @@
 // Made from crates/h264_payload/src/lib.rt by tools/to-rust.
 
+mod codec;
 mod depacketizer;
 mod detect;
 mod packet;
@@ -8,6 +9,7 @@ mod stap;
 
 pub use crate::proved::h26x_core::ANNEXB_NALUSTART_CODE;
 pub use crate::proved::h26x_payload::{BufferPackets, PacketBuffer};
+pub use codec::H264;
 pub use depacketizer::H264Depacketizer;
 pub use detect::{detect_h264_keyframe, detect_h264_nalu};
-pub use packetizer::{H264, H264Packetizer};
+pub use packetizer::H264Packetizer;

@@ -4,11 +4,13 @@
 //! accepted last, PACI packets and the detection of keyframes, with the format's definitions and
 //! their laws.
 mod aggregate;
+mod codec;
 mod depacketizer;
 mod detect;
 mod lowest_header;
 mod packet;
 mod packetizer;
+mod run;
 mod show;
 mod spare;
 
@@ -18,7 +20,8 @@ pub use crate::proved::h265_packets::{
     H265AggregationPacket, H265AggregationUnit, H265AggregationUnitFirst,
     H265FragmentationUnitPacket, H265PACIPacket, H265Payload, H265SingleNALUnitPacket,
 };
+pub use codec::H265;
 pub use depacketizer::H265Depacketizer;
 pub use detect::detect_h265_keyframe;
 pub use lowest_header::set_lowest_header;
-pub use packetizer::{H265, H265Packetizer};
+pub use packetizer::H265Packetizer;

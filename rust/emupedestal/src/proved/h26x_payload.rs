@@ -25,6 +25,7 @@ pub use receive::parts::Parts;
 pub use receive::reader::{PacketReader, starts_run};
 pub use receive::reassembly::Fragment;
 pub use receive::run::OpenRun;
+pub use receive::run_depacketizer::{RunDepacketizer, take_run};
 pub(crate) use receive::sink::UnitSink;
 pub(crate) use receive::take::{check_lengths, take_packet};
 pub use send::buffer::PacketBuffer;

@@ -1,10 +1,10 @@
 //! A depacketizer that shows no packet beside one that may: the same units, extra and answers.
 
 use super::{bytes, payload};
+use crate::proved::h26x_codec::{AnyDepacketizer, AnyPayloadDepacketizer};
 use crate::proved::h26x_core::Depacketizer;
-use crate::proved::h26x_receiver::{
-    AnyDepacketizer, AnyPayloadDepacketizer, RunDepacketizer, SequencedDepacketizer,
-};
+use crate::proved::h26x_payload::RunDepacketizer;
+use crate::proved::h26x_receiver::SequencedDepacketizer;
 use crate::{Codec, CodecExtra, H264CodecExtra, H265CodecExtra, H266CodecExtra};
 
 /// Of each codec packets, the last of which is refused: a unit, an aggregate, of H.265 a PACI packet, a unit in

@@ -3,10 +3,10 @@
 
 use crate::PacketError;
 use crate::ends::{fragment, longer_fragment};
-use crate::proved::h26x_codec::Codec;
+use crate::proved::h26x_codec::{AnyPayloadDepacketizer, Codec};
 use crate::proved::h26x_core::CodecExtra;
 use crate::proved::h26x_frames::{AccessUnit, FrameReceiver, RtpPacket, receive_frames};
-use crate::proved::h26x_receiver::{AnyPayloadDepacketizer, Received, SequencedDepacketizer};
+use crate::proved::h26x_receiver::{Received, SequencedDepacketizer};
 use crate::refusing::{insist, refused_at, some_refused, without_memory};
 use crate::sequenced::{UNITS, Unit};
 

@@ -7,7 +7,7 @@ use crate::proved::h26x_core::{
     STAPA_HEADER_SIZE, STAPA_NALU_TYPE,
 };
 use crate::proved::h26x_payload::Aggregate;
-use crate::proved::h264_payload::packetizer::H264;
+use crate::proved::h264_payload::codec::H264;
 
 /// The type of a unit (RFC 6184, 1.3); 0 where it is empty.
 fn unit_type(unit: &[u8]) -> u8 {

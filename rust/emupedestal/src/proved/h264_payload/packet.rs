@@ -7,7 +7,7 @@ use crate::proved::h26x_core::{
     PacketError, STAPA_HEADER_SIZE, STAPA_NALU_TYPE,
 };
 use crate::proved::h26x_payload::{Fragment, PacketReader, Parts};
-use crate::proved::h264_payload::packetizer::H264;
+use crate::proved::h264_payload::codec::H264;
 use crate::proved::h264_payload::stap::check_stap;
 
 /// The header of a unit with the NRI of an FU-A's indicator and the type of its header; F is clear

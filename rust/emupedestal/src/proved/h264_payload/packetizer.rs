@@ -10,10 +10,7 @@ use crate::proved::h26x_core::{
 };
 use crate::proved::h26x_cut::{UnitSlices, ZeroRule};
 use crate::proved::h26x_payload::{PayloadFormat, PayloadPacketizer, Sets, UnitKind};
-
-/// H.264 (RFC 6184), which has no settings.
-#[derive(Debug, Clone, Copy, PartialEq, Eq)]
-pub struct H264;
+use crate::proved::h264_payload::codec::H264;
 
 /// Sends the NAL units of payloads (RFC 6184, packetization mode 1).
 ///

@@ -4,7 +4,7 @@
 
 use crate::proved::h26x_core::{PacketError, STAPA_NALU_LENGTH_SIZE, first_piece};
 use crate::proved::h26x_payload::{Aggregate, PREFIX_SIZE};
-use crate::proved::h264_payload::packetizer::H264;
+use crate::proved::h264_payload::codec::H264;
 
 impl Aggregate for H264 {
     fn first_unit(self, bytes: &[u8]) -> Option<(&[u8], &[u8])> {

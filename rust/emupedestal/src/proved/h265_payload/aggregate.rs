@@ -4,7 +4,7 @@
 
 use crate::proved::h26x_core::{PacketError, first_piece};
 use crate::proved::h26x_payload::{Aggregate, written_size};
-use crate::proved::h265_payload::packetizer::H265;
+use crate::proved::h265_payload::codec::H265;
 
 /// A unit behind its length, and with decoding order numbers behind DOND too.
 #[derive(Clone, Copy)]

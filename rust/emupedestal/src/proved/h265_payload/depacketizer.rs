@@ -8,7 +8,7 @@ use crate::proved::h26x_payload::{
     out_size_hint, starts_run, take_in_text, take_packet,
 };
 use crate::proved::h265_packets::H265Payload;
-use crate::proved::h265_payload::packetizer::H265;
+use crate::proved::h265_payload::codec::H265;
 use crate::proved::h265_payload::show::{prepare, show};
 use crate::proved::h265_payload::spare::Spare;
 use alloc::vec::Vec;

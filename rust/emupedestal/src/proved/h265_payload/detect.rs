@@ -4,7 +4,7 @@
 
 use crate::proved::h26x_core::{H265FragmentationUnitHeader, H265NALUHeader};
 use crate::proved::h26x_payload::{PayloadFormat, holds_key};
-use crate::proved::h265_payload::packetizer::{H265, header_of};
+use crate::proved::h265_payload::codec::{H265, header_of};
 
 /// Whether what stands behind a fragment's header begins a key unit (RFC 7798, 4.4.3).
 fn begins_key(rest: &[u8]) -> bool {

@@ -4,7 +4,7 @@
 
 use crate::proved::h26x_core::h265_types::AGGREGATION_PACKET;
 use crate::proved::h26x_payload::Aggregate;
-use crate::proved::h265_payload::packetizer::{H265, header_of};
+use crate::proved::h265_payload::codec::{H265, header_of};
 
 /// What units have in common with the header of their aggregate: F where one has it, and the lowest
 /// layer and temporal id.

@@ -8,7 +8,7 @@ use crate::proved::h26x_payload::{
 };
 use crate::proved::h265_packets::header::{high_byte, paci_f, paci_size, paci_type};
 use crate::proved::h265_payload::aggregate::check_aggregate;
-use crate::proved::h265_payload::packetizer::{H265, header_of};
+use crate::proved::h265_payload::codec::{H265, header_of};
 
 /// Whether a packet is a fragmentation unit.
 fn is_fragment(packet: &[u8]) -> bool {

@@ -6,18 +6,11 @@
 use crate::proved::h26x_core::h265_types::{
     AGGREGATION_PACKET, AUD_NUT, FRAGMENTATION_UNIT, PPS_NUT, SPS_NUT, VPS_NUT,
 };
-use crate::proved::h26x_core::{
-    CodecExtra, H265CodecExtra, H265FragmentationUnitHeader, H265NALUHeader,
-};
+use crate::proved::h26x_core::{CodecExtra, H265CodecExtra, H265FragmentationUnitHeader};
 use crate::proved::h26x_cut::{UnitSlices, ZeroRule};
 use crate::proved::h26x_payload::{DonlFormat, PayloadFormat, PayloadPacketizer, Sets, UnitKind};
 use crate::proved::h265_packets::header::high_byte;
-
-/// H.265 (RFC 7798), and whether packets bear decoding order numbers (4.6).
-#[derive(Debug, Clone, Copy, PartialEq, Eq)]
-pub struct H265 {
-    pub(crate) has_donl: bool,
-}
+use crate::proved::h265_payload::codec::{H265, header_of};
 
 /// Sends the NAL units of payloads (RFC 7798).
 ///
@@ -31,11 +24,6 @@ pub struct H265 {
 /// aggregate's second set on. The limit of a call is the lesser of its `mtu` and the largest packet
 /// size, 1200 unless `with_max_packet_size` sets another; an `mtu` under 4 has no effect.
 pub type H265Packetizer = PayloadPacketizer<H265>;
-
-/// The header of a unit or of a packet.
-pub(crate) fn header_of(unit: &[u8]) -> H265NALUHeader {
-    H265NALUHeader::new(unit[0], unit[1])
-}
 
 /// The first byte of this unit's header with another type: F and the layer's highest bit are kept.
 fn with_type(high: u8, nalu_type: u8) -> u8 {

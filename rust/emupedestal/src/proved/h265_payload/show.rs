@@ -9,7 +9,7 @@ use crate::proved::h265_packets::{
     H265Payload, H265SingleNALUnitPacket,
 };
 use crate::proved::h265_payload::aggregate::first_other;
-use crate::proved::h265_payload::packetizer::header_of;
+use crate::proved::h265_payload::codec::header_of;
 use crate::proved::h265_payload::spare::Spare;
 use crate::support::AllocError;
 use core::mem;

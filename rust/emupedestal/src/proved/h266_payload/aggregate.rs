@@ -4,7 +4,7 @@
 
 use crate::proved::h26x_core::{PacketError, first_piece};
 use crate::proved::h26x_payload::{Aggregate, PREFIX_SIZE};
-use crate::proved::h266_payload::packetizer::{H266, header_of};
+use crate::proved::h266_payload::codec::{H266, header_of};
 
 /// The bytes of a unit's length in an aggregate.
 const LENGTH_SIZE: usize = 2;

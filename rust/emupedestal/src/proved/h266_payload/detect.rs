@@ -4,8 +4,8 @@
 
 use crate::proved::h26x_core::{H266FragmentationUnitHeader, H266NALUHeader};
 use crate::proved::h26x_payload::{PayloadFormat, holds_key};
+use crate::proved::h266_payload::codec::{H266, header_of};
 use crate::proved::h266_payload::packet::PACKET_HEADER_SIZE;
-use crate::proved::h266_payload::packetizer::{H266, header_of};
 
 /// Whether what stands behind a fragment's header begins a key unit (RFC 9328, 4.3.3).
 fn begins_key(rest: &[u8]) -> bool {

@@ -7,7 +7,7 @@ use crate::proved::h26x_payload::{
     Fragment, PacketReader, Parts, ends_access_unit, may_begin_access_unit,
 };
 use crate::proved::h266_payload::aggregate::check_aggregate;
-use crate::proved::h266_payload::packetizer::{H266, header_of, with_type};
+use crate::proved::h266_payload::codec::{H266, header_of, with_type};
 
 /// The bytes of a packet's header.
 pub const PACKET_HEADER_SIZE: usize = 2;

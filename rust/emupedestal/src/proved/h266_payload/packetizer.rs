@@ -6,17 +6,10 @@
 use crate::proved::h26x_core::h266_types::{
     AGGREGATION_PACKET, AUD_NUT, FRAGMENTATION_UNIT, PPS_NUT, SPS_NUT, VPS_NUT,
 };
-use crate::proved::h26x_core::{
-    CodecExtra, H266CodecExtra, H266FragmentationUnitHeader, H266NALUHeader,
-};
+use crate::proved::h26x_core::{CodecExtra, H266CodecExtra, H266FragmentationUnitHeader};
 use crate::proved::h26x_cut::{UnitSlices, ZeroRule};
 use crate::proved::h26x_payload::{DonlFormat, PayloadFormat, PayloadPacketizer, Sets, UnitKind};
-
-/// H.266 (RFC 9328), and whether packets bear decoding order numbers (4.4).
-#[derive(Debug, Clone, Copy, PartialEq, Eq)]
-pub struct H266 {
-    pub(crate) has_donl: bool,
-}
+use crate::proved::h266_payload::codec::{H266, header_of, with_type};
 
 /// Sends the NAL units of payloads (RFC 9328).
 ///
@@ -31,16 +24,6 @@ pub struct H266 {
 /// of its `mtu` and the largest packet size, 1200 unless `with_max_packet_size` sets another; an
 /// `mtu` under 4 has no effect.
 pub type H266Packetizer = PayloadPacketizer<H266>;
-
-/// The header of a unit or of a packet.
-pub(crate) fn header_of(unit: &[u8]) -> H266NALUHeader {
-    H266NALUHeader::new(unit[0], unit[1])
-}
-
-/// The second byte of a header with another type; the temporal id is kept.
-pub(crate) fn with_type(low: u8, nalu_type: u8) -> u8 {
-    nalu_type * 8 + (low & 7)
-}
 
 /// Whether F is set.
 fn is_forbidden(unit: &[u8]) -> bool {

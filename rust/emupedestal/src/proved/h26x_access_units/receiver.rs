@@ -10,7 +10,8 @@ use crate::proved::h26x_access_units::pushed::{NotPushed, NotPushedReason, Pushe
 use crate::proved::h26x_access_units::unit::{ReceivedUnit, is_keyframe};
 use crate::proved::h26x_core::PacketError;
 use crate::proved::h26x_frames::{AccessUnit, FrameReceiver, HeldPacket, RtpPacket};
-use crate::proved::h26x_receiver::{Received, RunDepacketizer, SequencedDepacketizer};
+use crate::proved::h26x_payload::RunDepacketizer;
+use crate::proved::h26x_receiver::{Received, SequencedDepacketizer};
 use crate::support::TryVec;
 use alloc::vec::Vec;
 

@@ -5,8 +5,8 @@
 use crate::proved::h26x_core::{CodecExtra, PacketError};
 use crate::proved::h26x_frames::answers::{is_following, is_sound, was_taken};
 use crate::proved::h26x_frames::packet::RtpPacket;
-use crate::proved::h26x_payload::{OpenRun, OpenText};
-use crate::proved::h26x_receiver::{Received, RunDepacketizer, SequencedDepacketizer};
+use crate::proved::h26x_payload::{OpenRun, OpenText, RunDepacketizer};
+use crate::proved::h26x_receiver::{Received, SequencedDepacketizer};
 use alloc::vec::Vec;
 
 /// An access unit, the units of one picture: its packets bear one timestamp, and the last of them

@@ -7,7 +7,8 @@ use crate::proved::h26x_frames::access_unit::AccessUnit;
 use crate::proved::h26x_frames::packet::RtpPacket;
 use crate::proved::h26x_frames::receiver::FrameReceiver;
 use crate::proved::h26x_frames::reorder::ordered;
-use crate::proved::h26x_receiver::{Received, RunDepacketizer};
+use crate::proved::h26x_payload::RunDepacketizer;
+use crate::proved::h26x_receiver::Received;
 use crate::support::TryVec;
 use alloc::vec::Vec;
 

@@ -7,7 +7,8 @@ use crate::proved::h26x_frames::access_unit::{AccessUnit, OpenAccessUnit, OpenUn
 use crate::proved::h26x_frames::answers::{is_next, is_sound, was_taken};
 use crate::proved::h26x_frames::packet::RtpPacket;
 use crate::proved::h26x_frames::spare::SpareMemory;
-use crate::proved::h26x_receiver::{Received, RunDepacketizer, SequencedDepacketizer};
+use crate::proved::h26x_payload::RunDepacketizer;
+use crate::proved::h26x_receiver::{Received, SequencedDepacketizer};
 use alloc::vec::Vec;
 
 /// Takes a packet into the access unit that was open.

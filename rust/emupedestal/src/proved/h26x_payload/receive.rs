@@ -15,5 +15,6 @@ pub mod parts;
 pub mod reader;
 pub mod reassembly;
 pub mod run;
+pub mod run_depacketizer;
 pub mod sink;
 pub mod take;

@@ -3,8 +3,8 @@
 //! Packets with their sequence numbers, any whatever, through a receiver.
 
 use crate::proved::h26x_core::{CodecExtra, PacketError};
+use crate::proved::h26x_payload::RunDepacketizer;
 use crate::proved::h26x_receiver::received::Received;
-use crate::proved::h26x_receiver::run::RunDepacketizer;
 use crate::proved::h26x_receiver::sequenced::SequencedDepacketizer;
 use crate::support::TryVec;
 use alloc::vec::Vec;

@@ -3,9 +3,8 @@
 //! A depacketizer that is given packets with their sequence numbers.
 
 use crate::proved::h26x_core::{CodecExtra, PacketError};
-use crate::proved::h26x_payload::{OpenText, RunRule, UnitSink};
+use crate::proved::h26x_payload::{OpenText, RunDepacketizer, RunRule, UnitSink, take_run};
 use crate::proved::h26x_receiver::received::Received;
-use crate::proved::h26x_receiver::run::{RunDepacketizer, take_run};
 
 /// How far ahead of the expected number a number is taken as behind it: half of the circle (RFC
 /// 1982, 3.2).

@@ -13,7 +13,12 @@ pub struct Handle {
     pub(super) ptr: *mut (),
 }
 
-// An end may go to another thread, and so may its handle.
+/// What may go to another thread.
+trait GoesToAnotherThread: Send {}
+
+// An end may, and so may its handle.
+impl GoesToAnotherThread for Endpoint {}
+
 unsafe impl Send for Handle {}
 
 impl Handle {

@@ -12,7 +12,7 @@ use crate::proved::h26x_handles::code::{
 use crate::proved::h26x_handles::copy::copy_where_room;
 use crate::proved::h26x_handles::endpoint::Endpoint;
 use crate::proved::h26x_handles::receiving::ReceivingEndpoint;
-use crate::proved::h26x_receiver::RunDepacketizer;
+use crate::proved::h26x_payload::RunDepacketizer;
 use core::mem::MaybeUninit;
 
 /// Makes a depacketizer with no run open.

@@ -6,14 +6,13 @@
 use crate::proved::h26x_access_units::{
     AccessUnitConfig, AccessUnitReceiver, Counts, Pushed, ReceivedUnit, Receives,
 };
-use crate::proved::h26x_codec::Codec;
+use crate::proved::h26x_codec::{AnyPayloadDepacketizer, Codec};
 use crate::proved::h26x_core::PacketError;
 use crate::proved::h26x_frames::RtpPacket;
 use crate::proved::h26x_handles::code::{
     NO_ROOM, NOTHING_YET, OK, OUT_OF_RANGE, codec_wanted, number_of,
 };
 use crate::proved::h26x_handles::copy::{copy_first, copy_where_room};
-use crate::proved::h26x_receiver::AnyPayloadDepacketizer;
 use core::mem::MaybeUninit;
 
 /// What is told of an access unit.

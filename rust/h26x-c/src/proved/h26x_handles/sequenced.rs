@@ -3,13 +3,11 @@
 //! A receiver of packets with their sequence numbers, and what the last packet that it took completed
 //! and had no room for.
 
-use crate::proved::h26x_codec::Codec;
+use crate::proved::h26x_codec::{AnyDepacketizer, Codec};
 use crate::proved::h26x_core::{CodecExtra, PacketError};
 use crate::proved::h26x_handles::copy::put_or_keep;
-use crate::proved::h26x_payload::MemorySink;
-use crate::proved::h26x_receiver::{
-    AnyDepacketizer, Received, RunDepacketizer, SequencedDepacketizer,
-};
+use crate::proved::h26x_payload::{MemorySink, RunDepacketizer};
+use crate::proved::h26x_receiver::{Received, SequencedDepacketizer};
 use alloc::vec::Vec;
 use core::mem::MaybeUninit;
 

@@ -2,7 +2,7 @@ use Rattle.std.proofs.Common.{rules, Ok, ◌≡◌, List, ℕ, length, take, sub
 use Rattle.h26x_payload.specs.UnitSink.{memory_sink, grown_to}
 use Rattle.h26x_handles.specs.Copies.{with_front}
 use Rattle.h26x_handles.specs.States.{after_receiver_packet, receiver_at_work}
-use Rattle.h26x_receiver.specs.AnyDepacketizer.{any_depacketizer_state}
+use Rattle.h26x_codec.specs.AnyDepacketizer.{any_depacketizer_state}
 use Rattle.h26x_receiver.specs.Sequenced.{sequenced_depacketization}
 use Rattle.h26x_handles.proofs.MemoryLemmas.{written_to_front, run_stands}
 use Rattle.h26x_handles.proofs.sequenced.SequencedEndpoint.receive.Goals as goal

@@ -1,0 +1,5 @@
+//! The codec, which the packetizer and the depacketizer are made with.
+
+/// H.264 (RFC 6184), which has no settings.
+#[derive(Debug, Clone, Copy, PartialEq, Eq)]
+pub struct H264;
