@@ -6,7 +6,7 @@ use h26x_payload::PacketBuffer;
 use std::alloc::{AllocError, Global};
 
 /// How bytes are sent.
-#[derive(Clone, Copy, PartialEq, Eq)]
+#[derive(Clone, Copy)]
 pub(crate) enum How {
     /// As a payload, in which units are searched.
     Payload,
@@ -28,48 +28,89 @@ pub(crate) fn append(
     }
 }
 
-/// How these packets lie in a buffer: all bytes, with zeros before each packet, and its ends.
-fn laid(
+/// The packets of a buffer from a place on.
+pub(crate) fn copy_behind(
     alloc: Global,
-    headroom: usize,
-    packets: &[Vec<u8>],
-) -> Result<(Vec<u8>, Vec<usize>), AllocError> {
-    let mut bytes = Vec::new(alloc);
-    let mut ends = Vec::new(alloc);
-    for packet in packets {
-        bytes.resize(bytes.len().saturating_add(headroom), 0)?;
-        bytes.extend_from_slice(packet)?;
-        ends.push(bytes.len())?;
-    }
-    Ok((bytes, ends))
-}
-
-/// The packets of a buffer, one after the other.
-pub(crate) fn packets_of(alloc: Global, buffer: &PacketBuffer) -> Result<Vec<Vec<u8>>, AllocError> {
+    buffer: &PacketBuffer,
+    place: usize,
+) -> Result<Vec<Vec<u8>>, PacketError> {
     let mut packets = Vec::new(alloc);
-    for packet in buffer.iter() {
-        packets.push(packet.to_vec(alloc)?)?;
-    }
-    Ok(packets)
-}
-
-/// The packets of a buffer by their places.
-fn packets_by_place(alloc: Global, buffer: &PacketBuffer) -> Result<Vec<Vec<u8>>, AllocError> {
-    let mut packets = Vec::new(alloc);
-    for place in 0..buffer.len() {
+    for place in place..buffer.len() {
         packets.push(buffer.packet(place).to_vec(alloc)?)?;
     }
     Ok(packets)
 }
 
-/// Whether these packets lie in a buffer as they should.
-pub(crate) fn lie_well(
-    alloc: Global,
-    buffer: &PacketBuffer,
-    packets: &[Vec<u8>],
-) -> Result<bool, AllocError> {
-    let (bytes, ends) = laid(alloc, buffer.headroom(), packets)?;
+/// Appends copies of packets.
+pub(crate) fn keep(kept: &mut Vec<Vec<u8>>, packets: &[Vec<u8>]) -> Result<(), PacketError> {
+    for packet in packets {
+        kept.push(packet.clone()?)?;
+    }
+    Ok(())
+}
+
+/// How packets lie in a buffer: all bytes, with zeros before each packet, and its ends.
+#[derive(Drop)]
+struct Laid {
+    bytes: Vec<u8>,
+    ends: Vec<usize>,
+}
+
+impl Laid {
+    fn push(&mut self, headroom: usize, packet: &[u8]) -> Result<(), AllocError> {
+        let start = self.bytes.len().saturating_add(headroom);
+        self.bytes.resize(start, 0)?;
+        self.bytes.extend_from_slice(packet)?;
+        self.ends.push(self.bytes.len())?;
+        Ok(())
+    }
+
+    fn push_all(&mut self, headroom: usize, packets: &[Vec<u8>]) -> Result<(), AllocError> {
+        for packet in packets {
+            self.push(headroom, packet)?;
+        }
+        Ok(())
+    }
+}
+
+/// Whether a buffer shows these packets one after the other.
+fn shows_in_turn(buffer: &PacketBuffer, mut packets: &[Vec<u8>]) -> bool {
+    for shown in buffer.iter() {
+        match packets.split_first() {
+            Some((packet, rest)) if packet.as_slice() == shown => packets = rest,
+            _ => return false,
+        }
+    }
+    packets.is_empty()
+}
+
+/// Whether a buffer shows these packets by their places.
+fn shows_by_place(buffer: &PacketBuffer, packets: &[Vec<u8>]) -> bool {
+    for (place, packet) in packets.iter().enumerate() {
+        if place >= buffer.len() || buffer.packet(place) != packet.as_slice() {
+            return false;
+        }
+    }
+    buffer.len() == packets.len()
+}
+
+/// That these packets lie in a buffer as they should; else None.
+pub(crate) fn lie_well(alloc: Global, buffer: &PacketBuffer, packets: &[Vec<u8>]) -> Option<()> {
+    let mut laid = Laid {
+        bytes: Vec::new(alloc),
+        ends: Vec::new(alloc),
+    };
+    laid.push_all(buffer.headroom(), packets).ok()?;
     let lie = (buffer.bytes(), buffer.ends(), buffer.is_empty());
-    let want = (bytes.as_slice(), ends.as_slice(), packets.is_empty());
-    Ok(lie == want && packets_by_place(alloc, buffer)?.as_slice() == packets)
+    let want = (
+        laid.bytes.as_slice(),
+        laid.ends.as_slice(),
+        packets.is_empty(),
+    );
+    let are_shown = shows_in_turn(buffer, packets) && shows_by_place(buffer, packets);
+    if lie == want && are_shown {
+        Some(())
+    } else {
+        None
+    }
 }

@@ -2,7 +2,6 @@
 
 use super::lines::sending::{Sender, Way};
 use super::lines::walk;
-use std::test::Fail;
 
 /// Packetizers that are configured by a session description, and their packets.
 #[rattlefmt::skip]
@@ -90,31 +89,19 @@ pack 5 0009aa = 00090002aa
 ";
 
 #[test]
-fn packets_in_a_list(rt: HostRuntime) -> Result<(), Fail> {
-    walk(
-        &rt,
-        rt.alloc(),
-        &mut Sender::new(rt.alloc(), Way::List),
-        CONFIGURED,
-    )
+fn packets_in_a_list(rt: HostRuntime) {
+    let mut sender = Sender::new(rt.alloc(), Way::List);
+    walk(&rt, rt.alloc(), &mut sender, CONFIGURED);
 }
 
 #[test]
-fn packets_in_a_buffer(rt: HostRuntime) -> Result<(), Fail> {
-    walk(
-        &rt,
-        rt.alloc(),
-        &mut Sender::new(rt.alloc(), Way::Buffer(0)),
-        CONFIGURED,
-    )
+fn packets_in_a_buffer(rt: HostRuntime) {
+    let mut sender = Sender::new(rt.alloc(), Way::Buffer(0));
+    walk(&rt, rt.alloc(), &mut sender, CONFIGURED);
 }
 
 #[test]
-fn packets_behind_headroom(rt: HostRuntime) -> Result<(), Fail> {
-    walk(
-        &rt,
-        rt.alloc(),
-        &mut Sender::new(rt.alloc(), Way::Buffer(12)),
-        CONFIGURED,
-    )
+fn packets_behind_headroom(rt: HostRuntime) {
+    let mut sender = Sender::new(rt.alloc(), Way::Buffer(12));
+    walk(&rt, rt.alloc(), &mut sender, CONFIGURED);
 }

@@ -2,158 +2,150 @@
 
 use super::Answers;
 use super::settings::Settings;
-use super::text::{bytes_of, list_of, number, push_bytes, push_word, refusal, yes_or_no};
+use super::text::{bytes_of, number, push_bytes, push_is_so, push_number, push_refusal, push_word};
 use crate::rows::told;
-use h26x_codec::Codec;
+use h26x_codec::{AnyDepacketizer, Codec};
 use h26x_core::{CodecExtra, Depacketizer, H264CodecExtra, PacketError};
-use h26x_receiver::{AnyDepacketizer, RunDepacketizer};
 use h264_payload::{detect_h264_keyframe, detect_h264_nalu};
 use h265_payload::detect_h265_keyframe;
 use h266_payload::detect_h266_keyframe;
-use std::alloc::{AllocError, Global};
-use std::mem;
-use std::test::Fail;
+use std::alloc::Global;
 
-/// A depacketizer, and the one that it was copied from.
+/// A depacketizer, and one that it is compared with.
 #[derive(Drop)]
 pub(crate) struct Receiver {
     depacketizer: AnyDepacketizer,
-    other: AnyDepacketizer,
+    model: AnyDepacketizer,
 }
 
 impl Receiver {
     pub(crate) fn new(alloc: Global) -> Self {
         Receiver {
             depacketizer: AnyDepacketizer::new(alloc, Codec::H264),
-            other: AnyDepacketizer::new(alloc, Codec::H264),
+            model: AnyDepacketizer::new(alloc, Codec::H264),
         }
     }
 
-    fn copy(&mut self) -> Result<(), Fail> {
-        self.other = self.depacketizer.clone()?;
-        self.exchange();
-        Ok(())
+    fn copy(&mut self) -> Option<()> {
+        self.depacketizer = self.depacketizer.clone().ok()?;
+        Some(())
     }
 
-    fn exchange(&mut self) {
-        mem::swap(&mut self.depacketizer, &mut self.other);
+    fn set_numbers(&mut self, word: &str) -> Option<()> {
+        match word {
+            "on" => self.depacketizer.with_donl(true),
+            "off" => self.depacketizer.with_donl(false),
+            _ => return None,
+        }
+        Some(())
     }
 
     /// What is written and told of packets.
-    fn take(&mut self, alloc: Global, packets: &[&str]) -> Result<String, Fail> {
-        let codec = self.depacketizer.codec();
-        let packets = list_of(alloc, packets)?;
-        let (mut out, mut extra) = (Vec::new(alloc), CodecExtra::None);
-        hand(&mut self.depacketizer, &packets, &mut out, &mut extra)?;
-        let mut text = String::new(alloc);
-        push_bytes(&mut text, alloc, &out)?;
-        push_word(&mut text, word_of(codec, extra))?;
-        Ok(text)
+    fn take(&mut self, alloc: Global, packets: &[&str], answer: &mut String) -> Option<()> {
+        let mut out = Vec::new(alloc);
+        let told = hand_all(&mut self.depacketizer, alloc, packets, &mut out)?;
+        push_bytes(answer, alloc, &out)?;
+        push_word(answer, word_of(self.depacketizer.codec(), told))
     }
 
     /// Why a packet is refused, where that leaves what was written and told, and the state.
-    fn refuse(&mut self, alloc: Global, packet: &str) -> Result<String, Fail> {
-        let before = self.depacketizer.clone()?;
-        let packet = bytes_of(alloc, packet)?;
-        let error = refused(alloc, &mut self.depacketizer, &packet)?;
-        if !self.depacketizer.is_same(&before) {
-            return Err("a refusal changes the state")?;
+    fn refuse(&mut self, alloc: Global, packet: &str, answer: &mut String) -> Option<()> {
+        self.model = self.depacketizer.clone().ok()?;
+        let error = refused(&mut self.depacketizer, alloc, packet)?;
+        if !self.depacketizer.is_same(&self.model) {
+            return push_word(answer, "changed");
         }
-        Ok(refusal(alloc, error)?)
+        push_refusal(answer, alloc, error)
     }
 
     /// Whether it is the same as its copy, or as another of its codec.
-    fn is_like(&self, alloc: Global, words: &[&str]) -> Result<bool, Fail> {
+    fn is_like(&mut self, alloc: Global, words: &[&str]) -> Option<bool> {
         match words {
-            ["copy"] => Ok(self.depacketizer.is_same(&self.depacketizer.clone()?)),
-            _ => Ok(self.depacketizer.is_same(&made(alloc, words)?)),
+            ["copy"] => self.model = self.depacketizer.clone().ok()?,
+            _ => set_up(&mut self.model, alloc, words)?,
+        }
+        Some(self.depacketizer.is_same(&self.model))
+    }
+
+    /// What is told of a packet.
+    fn is_so(&self, alloc: Global, name: &str, packet: &str) -> Option<bool> {
+        let packet = bytes_of(alloc, packet)?;
+        match name {
+            "key" => Some(detect(self.depacketizer.codec(), &packet)),
+            _ => is_at_end(&self.depacketizer, name, &packet),
         }
     }
 
-    fn answer_told(&self, alloc: Global, call: &[&str]) -> Result<String, Fail> {
+    fn answer_told(&mut self, alloc: Global, call: &[&str], answer: &mut String) -> Option<()> {
         let is_so = match call {
             ["like", words @ ..] => self.is_like(alloc, words)?,
-            ["head", packet] => self
-                .depacketizer
-                .is_partition_head(&bytes_of(alloc, packet)?),
-            ["tail", packet] => self
-                .depacketizer
-                .is_partition_tail(false, &bytes_of(alloc, packet)?),
-            ["marked-tail", packet] => self
-                .depacketizer
-                .is_partition_tail(true, &bytes_of(alloc, packet)?),
-            ["key", packet] => detect(self.depacketizer.codec(), &bytes_of(alloc, packet)?),
-            ["has-type", nalu_type, packet] => {
-                detect_h264_nalu(&bytes_of(alloc, packet)?, nalu_type.parse::<u8>()?)
-            }
-            _ => return self.answer_hint(alloc, call),
+            ["has-type", nalu_type, packet] => has_type(alloc, nalu_type, packet)?,
+            [name, packet] => self.is_so(alloc, name, packet)?,
+            _ => return None,
         };
-        Ok(yes_or_no(alloc, is_so)?)
-    }
-
-    fn answer_hint(&self, alloc: Global, call: &[&str]) -> Result<String, Fail> {
-        match call {
-            ["hint", size] => {
-                let hint = self.depacketizer.out_size_hint(number(size)?);
-                let bytes = hint.ok_or("no hint")?;
-                Ok(format!(in alloc; "{bytes}")?)
-            }
-            _ => Err("no such call of a depacketizer")?,
-        }
+        push_is_so(answer, is_so)
     }
 }
 
 impl Answers for Receiver {
-    fn answer(&mut self, alloc: Global, call: &[&str]) -> Result<String, Fail> {
+    fn answer(&mut self, alloc: Global, call: &[&str], answer: &mut String) -> Option<()> {
         match call {
-            ["depacketizer", words @ ..] => self.depacketizer = made(alloc, words)?,
-            ["copy"] => self.copy()?,
-            ["other"] => self.exchange(),
-            ["numbers", "on"] => self.depacketizer.with_donl(true),
-            ["numbers", "off"] => self.depacketizer.with_donl(false),
-            ["give-up"] => self.depacketizer.give_up_run(),
-            ["take", packets @ ..] => return self.take(alloc, packets),
-            ["refuse", packet] => return self.refuse(alloc, packet),
-            _ => return self.answer_told(alloc, call),
+            ["depacketizer", words @ ..] => set_up(&mut self.depacketizer, alloc, words),
+            ["copy"] => self.copy(),
+            ["numbers", word] => self.set_numbers(word),
+            ["take", packets @ ..] => self.take(alloc, packets, answer),
+            ["refuse", packet] => self.refuse(alloc, packet, answer),
+            ["hint", size] => push_hint(&self.depacketizer, alloc, size, answer),
+            _ => self.answer_told(alloc, call, answer),
         }
-        Ok(String::new(alloc))
     }
 }
 
-/// Hands packets to a depacketizer.
+/// Hands a packet to a depacketizer.
 fn hand<D: Depacketizer>(
     depacketizer: &mut D,
-    packets: &[Vec<u8>],
+    alloc: Global,
+    packet: &str,
     out: &mut Vec<u8>,
     told: &mut CodecExtra,
-) -> Result<(), PacketError> {
-    for packet in packets {
-        depacketizer.depacketize(packet, out, told)?;
-    }
-    Ok(())
+) -> Option<()> {
+    let packet = bytes_of(alloc, packet)?;
+    depacketizer.depacketize(&packet, out, told).ok()
 }
 
-/// A depacketizer that words name: its codec, its settings, and packets that it has taken.
-fn made(alloc: Global, words: &[&str]) -> Result<AnyDepacketizer, Fail> {
+/// Hands packets to a depacketizer. What is told of them at last.
+fn hand_all<D: Depacketizer>(
+    depacketizer: &mut D,
+    alloc: Global,
+    packets: &[&str],
+    out: &mut Vec<u8>,
+) -> Option<CodecExtra> {
+    let mut told = CodecExtra::None;
+    for packet in packets {
+        hand(depacketizer, alloc, packet, out, &mut told)?;
+    }
+    Some(told)
+}
+
+/// Makes a depacketizer that words name: its codec, its settings, and packets that it has taken.
+fn set_up(depacketizer: &mut AnyDepacketizer, alloc: Global, words: &[&str]) -> Option<()> {
     let settings = Settings::of_words(words)?;
-    let mut depacketizer = AnyDepacketizer::new(alloc, settings.codec);
+    *depacketizer = AnyDepacketizer::new(alloc, settings.codec);
     depacketizer.with_donl(settings.numbers);
     depacketizer.with_avc(settings.avc);
-    let (mut out, mut extra) = (Vec::new(alloc), CodecExtra::None);
-    let packets = packets_behind(alloc, words)?;
-    hand(&mut depacketizer, &packets, &mut out, &mut extra)?;
-    Ok(depacketizer)
+    hand_rest(depacketizer, alloc, words)
 }
 
-/// The packets behind a codec and its settings.
-fn packets_behind(alloc: Global, words: &[&str]) -> Result<Vec<Vec<u8>>, Fail> {
-    let mut packets = Vec::new(alloc);
+/// Hands the packets behind a codec and its settings to a depacketizer.
+fn hand_rest<D: Depacketizer>(depacketizer: &mut D, alloc: Global, words: &[&str]) -> Option<()> {
+    let mut out = Vec::new(alloc);
+    let mut told = CodecExtra::None;
     for word in words.iter().skip(1) {
         if *word != "numbers" && *word != "avc" {
-            packets.push(bytes_of(alloc, word)?)?;
+            hand(depacketizer, alloc, word, &mut out, &mut told)?;
         }
     }
-    Ok(packets)
+    Some(())
 }
 
 /// Whether a keyframe starts in a packet.
@@ -163,6 +155,33 @@ fn detect(codec: Codec, packet: &[u8]) -> bool {
         Codec::H265 => detect_h265_keyframe(packet),
         Codec::H266 => detect_h266_keyframe(packet),
     }
+}
+
+/// Whether a packet of H.264 has a unit of a type.
+fn has_type(alloc: Global, nalu_type: &str, packet: &str) -> Option<bool> {
+    let nalu_type = nalu_type.parse::<u8>().ok()?;
+    let packet = bytes_of(alloc, packet)?;
+    Some(detect_h264_nalu(&packet, nalu_type))
+}
+
+/// Whether a packet may be the first of an access unit, or is the last of one.
+fn is_at_end<D: Depacketizer>(depacketizer: &D, name: &str, packet: &[u8]) -> Option<bool> {
+    match name {
+        "head" => Some(depacketizer.is_partition_head(packet)),
+        "tail" => Some(depacketizer.is_partition_tail(false, packet)),
+        "marked-tail" => Some(depacketizer.is_partition_tail(true, packet)),
+        _ => None,
+    }
+}
+
+/// Writes how many bytes may come of packets.
+fn push_hint<D: Depacketizer>(
+    depacketizer: &D,
+    alloc: Global,
+    size: &str,
+    answer: &mut String,
+) -> Option<()> {
+    push_number(answer, alloc, depacketizer.out_size_hint(number(size)?)?)
 }
 
 /// What is told of units of a codec.
@@ -183,16 +202,23 @@ const STOOD: CodecExtra = CodecExtra::H264(H264CodecExtra { is_keyframe: true })
 
 /// Why a packet is refused, where that leaves what was written and told.
 fn refused<D: Depacketizer>(
+    depacketizer: &mut D,
     alloc: Global,
+    packet: &str,
+) -> Option<PacketError> {
+    let packet = bytes_of(alloc, packet)?;
+    let mut out = vec![in alloc; 0x11].ok()?;
+    refused_with(depacketizer, &packet, &mut out)
+}
+
+/// Why a packet is refused, where that leaves the byte that was written, and what was told.
+fn refused_with<D: Depacketizer>(
     depacketizer: &mut D,
     packet: &[u8],
-) -> Result<PacketError, Fail> {
-    let mut out = vec![in alloc; 0x11]?;
-    let mut extra = STOOD;
-    let answer = depacketizer.depacketize(packet, &mut out, &mut extra);
-    let error = answer.err().ok_or("a packet isn't refused")?;
-    if (out.as_slice(), extra) != ([0x11].as_slice(), STOOD) {
-        return Err("a refusal changes what was written or told")?;
-    }
-    Ok(error)
+    out: &mut Vec<u8>,
+) -> Option<PacketError> {
+    let mut told = STOOD;
+    let answer = depacketizer.depacketize(packet, out, &mut told);
+    let stands = (out.as_slice(), told) == ([0x11].as_slice(), STOOD);
+    if stands { answer.err() } else { None }
 }

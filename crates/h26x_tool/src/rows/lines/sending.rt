@@ -2,14 +2,13 @@
 
 use super::Answers;
 use super::settings::Settings;
-use super::text::{bytes_of, number, packets, yes_or_no};
-use crate::rows::buffers::{How, append, lie_well, packets_of};
+use super::text::{bytes_of, number, push_is_so, push_number, push_packets, push_word};
+use crate::rows::buffers::{How, append, copy_behind, keep, lie_well};
 use h26x_codec::{Codec, CodecPacketizer};
 use h26x_core::{PacketError, Packetizer};
 use h26x_payload::PacketBuffer;
-use std::alloc::{AllocError, Global};
+use std::alloc::Global;
 use std::mem;
-use std::test::Fail;
 
 /// Where packets go.
 #[derive(Clone, Copy)]
@@ -20,13 +19,17 @@ pub(crate) enum Way {
     Buffer(usize),
 }
 
-/// A packetizer, the one that it was copied from, and the buffer that packets go to.
+/// A packetizer, the one that it was copied from, and where its packets go.
 #[derive(Drop)]
 pub(crate) struct Sender {
     packetizer: CodecPacketizer,
     other: CodecPacketizer,
-    buffer: PacketBuffer,
     way: Way,
+    buffer: PacketBuffer,
+    /// The packets that the buffer had when they came.
+    kept: Vec<Vec<u8>>,
+    /// The packets of the last bytes.
+    sent: Vec<Vec<u8>>,
 }
 
 impl Sender {
@@ -39,137 +42,211 @@ impl Sender {
         Sender {
             packetizer,
             other: CodecPacketizer::new(alloc, Codec::H264),
-            buffer: empty(alloc, way),
             way,
+            buffer: empty(alloc, way),
+            kept: Vec::new(alloc),
+            sent: Vec::new(alloc),
         }
     }
 
-    fn begin(&mut self, alloc: Global, words: &[&str]) -> Result<(), Fail> {
+    /// Begins with an empty buffer.
+    fn clear(&mut self, alloc: Global, way: Way) {
+        self.buffer = empty(alloc, way);
+        self.kept = Vec::new(alloc);
+    }
+
+    fn begin(&mut self, alloc: Global, words: &[&str]) -> Option<()> {
         self.packetizer = fresh(alloc, Settings::of_words(words)?);
-        self.buffer = empty(alloc, self.way);
-        Ok(())
+        self.clear(alloc, self.way);
+        Some(())
     }
 
-    fn copy(&mut self) -> Result<(), Fail> {
+    fn copy(&mut self) -> Option<()> {
         self.other = copy_of(&self.packetizer)?;
-        self.exchange();
-        Ok(())
+        self.exchange()
     }
 
-    fn exchange(&mut self) {
+    fn exchange(&mut self) -> Option<()> {
         mem::swap(&mut self.packetizer, &mut self.other);
+        Some(())
+    }
+
+    /// Sets the largest packet size, which is 4 or more.
+    fn set_size(&mut self, bytes: &str) -> Option<()> {
+        let bytes = bytes.parse::<u16>().ok()?;
+        self.packetizer.with_max_packet_size(bytes.max(4));
+        Some(())
+    }
+
+    fn configure(&mut self, word: &str) -> Option<()> {
+        let max_don_diff = max_don_diff_of(word)?;
+        self.packetizer.configure_for(max_don_diff);
+        Some(())
+    }
+
+    /// Sends bytes to a list.
+    fn list(&mut self, how: How, limit: usize, bytes: &[u8]) -> Option<()> {
+        self.sent = listed(&mut self.packetizer, how, limit, bytes).ok()?;
+        Some(())
+    }
+
+    /// Sends bytes to the buffer, in which all packets then lie as they should, and those of before
+    /// stay.
+    fn append(&mut self, alloc: Global, how: How, limit: usize, bytes: &[u8]) -> Option<()> {
+        append(&mut self.packetizer, how, limit, bytes, &mut self.buffer).ok()?;
+        self.sent = copy_behind(alloc, &self.buffer, self.kept.len()).ok()?;
+        keep(&mut self.kept, &self.sent).ok()?;
+        lie_well(alloc, &self.buffer, &self.kept)
     }
 
     /// Sends bytes by its way.
-    fn send(
+    fn send(&mut self, alloc: Global, how: How, limit: usize, bytes: &[u8]) -> Option<()> {
+        match self.way {
+            Way::List => self.list(how, limit, bytes),
+            Way::Buffer(_) => self.append(alloc, how, limit, bytes),
+        }
+    }
+
+    /// Sends bytes, and writes their packets.
+    fn pack(
         &mut self,
         alloc: Global,
         how: How,
-        limit: &str,
-        bytes: &str,
-    ) -> Result<Vec<Vec<u8>>, Fail> {
+        call: [&str; 2],
+        answer: &mut String,
+    ) -> Option<()> {
+        let [limit, bytes] = call;
+        let bytes = bytes_of(alloc, bytes)?;
+        self.send(alloc, how, number(limit)?, &bytes)?;
+        push_packets(answer, alloc, &self.sent)
+    }
+
+    /// Writes how many packets go of bytes, where none is longer than the limit.
+    fn count(&mut self, alloc: Global, call: [&str; 2], answer: &mut String) -> Option<()> {
+        let [limit, bytes] = call;
         let limit = number(limit)?;
         let bytes = bytes_of(alloc, bytes)?;
-        match self.way {
-            Way::List => Ok(list(&mut self.packetizer, how, limit, &bytes)?),
-            Way::Buffer(_) => append_well(
-                alloc,
-                &mut self.packetizer,
-                &mut self.buffer,
-                how,
-                limit,
-                &bytes,
-            ),
+        self.send(alloc, How::Payload, limit, &bytes)?;
+        if !are_within(&self.sent, limit) {
+            return push_word(answer, "longer");
         }
+        push_number(answer, alloc, self.sent.len())
     }
 
-    /// How many packets go of bytes, where none is longer than the limit.
-    fn count(&mut self, alloc: Global, limit: &str, bytes: &str) -> Result<String, Fail> {
-        let sent = self.send(alloc, How::Payload, limit, bytes)?;
-        let longest = number(limit)?;
-        if !are_within(&sent, longest) {
-            return Ok("longer".to_string(alloc)?);
-        }
-        Ok(format!(in alloc; "{}", sent.len())?)
-    }
-
-    /// The packets of a payload that is sent so many times.
+    /// Sends a payload so many times, and writes its last packets.
     fn repeat(
         &mut self,
         alloc: Global,
         times: &str,
-        limit: &str,
-        bytes: &str,
-    ) -> Result<String, Fail> {
-        let mut sent = Vec::new(alloc);
-        for _ in 0..number(times)? {
-            sent = self.send(alloc, How::Payload, limit, bytes)?;
-        }
-        Ok(packets(alloc, &sent)?)
+        call: [&str; 2],
+        answer: &mut String,
+    ) -> Option<()> {
+        let [limit, bytes] = call;
+        let bytes = bytes_of(alloc, bytes)?;
+        self.send_often(alloc, number(times)?, number(limit)?, &bytes)?;
+        push_packets(answer, alloc, &self.sent)
     }
 
-    fn answer_sent(&mut self, alloc: Global, call: &[&str]) -> Result<String, Fail> {
+    fn send_often(
+        &mut self,
+        alloc: Global,
+        times: usize,
+        limit: usize,
+        bytes: &[u8],
+    ) -> Option<()> {
+        for _ in 0..times {
+            self.send(alloc, How::Payload, limit, bytes)?;
+        }
+        Some(())
+    }
+
+    /// Whether it appends the packets of a payload, and then those of it as a unit, that the other
+    /// sends of the unit, and then of the payload.
+    fn is_alike(&mut self, alloc: Global, call: [&str; 2]) -> Option<bool> {
+        let [limit, bytes] = call;
+        let limit = number(limit)?;
+        let bytes = bytes_of(alloc, bytes)?;
+        self.clear(alloc, Way::Buffer(12));
+        self.append(alloc, How::Payload, limit, &bytes)?;
+        self.append(alloc, How::Unit, limit, &bytes)?;
+        self.lists_what_is_kept(limit, &bytes)
+    }
+
+    /// Whether the other sends what the buffer has, of a unit and then of the payload.
+    fn lists_what_is_kept(&mut self, limit: usize, bytes: &[u8]) -> Option<bool> {
+        self.exchange()?;
+        self.list(How::Unit, limit, bytes)?;
+        let place = place_behind(&self.kept, 0, &self.sent)?;
+        self.list(How::Payload, limit, bytes)?;
+        let end = place_behind(&self.kept, place, &self.sent)?;
+        self.exchange()?;
+        Some(end == self.kept.len())
+    }
+
+    /// Whether a packet bears the marker, behind another or none.
+    fn is_marker(&mut self, alloc: Global, call: [&str; 3]) -> Option<bool> {
+        let [packet, previous, is_last] = call;
+        let packet = bytes_of(alloc, packet)?;
+        let is_last = is_last == "last";
+        if previous == "-" {
+            return Some(self.packetizer.is_marker(&packet, None, is_last));
+        }
+        let previous = bytes_of(alloc, previous)?;
+        let previous = Some(previous.as_slice());
+        Some(self.packetizer.is_marker(&packet, previous, is_last))
+    }
+
+    fn answer_sent(&mut self, alloc: Global, call: &[&str], answer: &mut String) -> Option<()> {
         match call {
-            ["pack", limit, bytes] => {
-                let sent = self.send(alloc, How::Payload, limit, bytes)?;
-                Ok(packets(alloc, &sent)?)
-            }
-            ["unit", limit, bytes] => {
-                let sent = self.send(alloc, How::Unit, limit, bytes)?;
-                Ok(packets(alloc, &sent)?)
-            }
-            ["count", limit, bytes] => self.count(alloc, limit, bytes),
-            ["repeat", times, limit, bytes] => self.repeat(alloc, times, limit, bytes),
-            ["alike", limit, bytes] => {
-                let bytes = bytes_of(alloc, bytes)?;
-                let limit = number(limit)?;
-                let is_so = are_alike(alloc, &mut self.packetizer, &mut self.other, limit, &bytes)?;
-                Ok(yes_or_no(alloc, is_so)?)
-            }
-            _ => self.answer_told(alloc, call),
+            ["pack", limit, bytes] => self.pack(alloc, How::Payload, [limit, bytes], answer),
+            ["unit", limit, bytes] => self.pack(alloc, How::Unit, [limit, bytes], answer),
+            ["count", limit, bytes] => self.count(alloc, [limit, bytes], answer),
+            ["repeat", times, limit, bytes] => self.repeat(alloc, times, [limit, bytes], answer),
+            _ => self.answer_told(alloc, call, answer),
         }
     }
 
-    fn answer_told(&mut self, alloc: Global, call: &[&str]) -> Result<String, Fail> {
+    fn answer_told(&mut self, alloc: Global, call: &[&str], answer: &mut String) -> Option<()> {
         let is_so = match call {
-            ["marker", packet, "-", is_last] => {
-                let packet = bytes_of(alloc, packet)?;
-                self.packetizer.is_marker(&packet, None, *is_last == "last")
-            }
+            ["alike", limit, bytes] => self.is_alike(alloc, [limit, bytes])?,
             ["marker", packet, previous, is_last] => {
-                let packet = bytes_of(alloc, packet)?;
-                let previous = bytes_of(alloc, previous)?;
-                self.packetizer
-                    .is_marker(&packet, Some(&previous), *is_last == "last")
+                self.is_marker(alloc, [packet, previous, is_last])?
             }
             ["nackable"] => self.packetizer.nackable(),
             ["talkspurt"] => self.packetizer.marks_talkspurt(),
-            _ => return Err("no such call of a packetizer")?,
+            _ => return None,
         };
-        Ok(yes_or_no(alloc, is_so)?)
+        push_is_so(answer, is_so)
     }
 }
 
 impl Answers for Sender {
-    fn answer(&mut self, alloc: Global, call: &[&str]) -> Result<String, Fail> {
+    fn answer(&mut self, alloc: Global, call: &[&str], answer: &mut String) -> Option<()> {
         match call {
-            ["packetizer", words @ ..] => self.begin(alloc, words)?,
-            ["copy"] => self.copy()?,
+            ["packetizer", words @ ..] => self.begin(alloc, words),
+            ["copy"] => self.copy(),
             ["other"] => self.exchange(),
-            ["size", bytes] => set_size(&mut self.packetizer, bytes.parse::<u16>()?),
-            ["configure", "none"] => self.packetizer.configure_for(None),
-            ["configure", number] => self.packetizer.configure_for(Some(number.parse::<u32>()?)),
-            _ => return self.answer_sent(alloc, call),
+            ["size", bytes] => self.set_size(bytes),
+            ["configure", word] => self.configure(word),
+            _ => self.answer_sent(alloc, call, answer),
         }
-        Ok(String::new(alloc))
     }
 }
 
 fn empty(alloc: Global, way: Way) -> PacketBuffer {
-    match way {
-        Way::List => PacketBuffer::new(alloc, 0),
-        Way::Buffer(headroom) => PacketBuffer::new(alloc, headroom),
+    let headroom = match way {
+        Way::List => 0,
+        Way::Buffer(headroom) => headroom,
+    };
+    PacketBuffer::new(alloc, headroom)
+}
+
+/// What a session description says of numbers: a number or none.
+fn max_don_diff_of(word: &str) -> Option<Option<u32>> {
+    if word == "none" {
+        return Some(None);
     }
+    Some(Some(word.parse::<u32>().ok()?))
 }
 
 /// A packetizer for which nothing waits.
@@ -183,18 +260,14 @@ fn fresh(alloc: Global, settings: Settings) -> CodecPacketizer {
     packetizer
 }
 
-fn copy_of(packetizer: &CodecPacketizer) -> Result<CodecPacketizer, Fail> {
+/// None of one in a box.
+fn copy_of(packetizer: &CodecPacketizer) -> Option<CodecPacketizer> {
     match packetizer {
-        CodecPacketizer::H264(it) => Ok(CodecPacketizer::H264(it.clone()?)),
-        CodecPacketizer::H265(it) => Ok(CodecPacketizer::H265(it.clone()?)),
-        CodecPacketizer::H266(it) => Ok(CodecPacketizer::H266(it.clone()?)),
-        CodecPacketizer::Boxed(_) => Err("no copy of one in a box")?,
+        CodecPacketizer::H264(it) => Some(CodecPacketizer::H264(it.clone().ok()?)),
+        CodecPacketizer::H265(it) => Some(CodecPacketizer::H265(it.clone().ok()?)),
+        CodecPacketizer::H266(it) => Some(CodecPacketizer::H266(it.clone().ok()?)),
+        CodecPacketizer::Boxed(_) => None,
     }
-}
-
-/// Sets the largest packet size, which is 4 or more.
-fn set_size(packetizer: &mut CodecPacketizer, bytes: u16) {
-    packetizer.with_max_packet_size(bytes.max(4));
 }
 
 /// Whether no packet is longer than a limit.
@@ -207,8 +280,14 @@ fn are_within(packets: &[Vec<u8>], limit: usize) -> bool {
     true
 }
 
+/// The place behind these packets, which stand in a list from a place on.
+fn place_behind(list: &[Vec<u8>], place: usize, packets: &[Vec<u8>]) -> Option<usize> {
+    let rest = list.get(place..)?.strip_prefix(packets)?;
+    Some(list.len().saturating_sub(rest.len()))
+}
+
 /// The packets of bytes in a list.
-fn list(
+fn listed(
     packetizer: &mut CodecPacketizer,
     how: How,
     limit: usize,
@@ -218,55 +297,4 @@ fn list(
         How::Payload => packetizer.packetize(limit, bytes),
         How::Unit => packetizer.packetize_unit(limit, bytes),
     }
-}
-
-/// The packets of bytes that are appended to a buffer, in which all packets lie as they should, and
-/// those of before stay.
-fn append_well(
-    alloc: Global,
-    packetizer: &mut CodecPacketizer,
-    buffer: &mut PacketBuffer,
-    how: How,
-    limit: usize,
-    bytes: &[u8],
-) -> Result<Vec<Vec<u8>>, Fail> {
-    let before = packets_of(alloc, buffer)?;
-    append(packetizer, how, limit, bytes, buffer)?;
-    let all = packets_of(alloc, buffer)?;
-    if !lie_well(alloc, buffer, &all)? {
-        return Err("packets don't lie in a buffer as they should")?;
-    }
-    let added = all
-        .strip_prefix(before.as_slice())
-        .ok_or("packets of before don't stay")?;
-    Ok(copies(alloc, added)?)
-}
-
-fn copies(alloc: Global, packets: &[Vec<u8>]) -> Result<Vec<Vec<u8>>, AllocError> {
-    let mut list = Vec::new(alloc);
-    for packet in packets {
-        list.push(packet.clone()?)?;
-    }
-    Ok(list)
-}
-
-/// Whether one appends the packets of a payload, and then those of it as a unit, that the other
-/// sends of the unit, and then of the payload.
-fn are_alike(
-    alloc: Global,
-    one: &mut CodecPacketizer,
-    other: &mut CodecPacketizer,
-    limit: usize,
-    bytes: &[u8],
-) -> Result<bool, Fail> {
-    let mut buffer = PacketBuffer::new(alloc, 12);
-    let mut appended = append_well(alloc, one, &mut buffer, How::Payload, limit, bytes)?;
-    for packet in append_well(alloc, one, &mut buffer, How::Unit, limit, bytes)? {
-        appended.push(packet)?;
-    }
-    let mut sent = list(other, How::Unit, limit, bytes)?;
-    for packet in list(other, How::Payload, limit, bytes)? {
-        sent.push(packet)?;
-    }
-    Ok(appended == sent)
 }

@@ -1,7 +1,6 @@
 //! How an end is made, and what stands behind that in a line.
 
 use h26x_codec::Codec;
-use std::test::Fail;
 
 /// A codec, and the settings of an end.
 #[derive(Clone, Copy)]
@@ -13,10 +12,10 @@ pub(crate) struct Settings {
 
 impl Settings {
     /// Those that words name.
-    pub(crate) fn of_words(words: &[&str]) -> Result<Self, Fail> {
-        let (name, rest) = words.split_first().ok_or("no codec")?;
-        Ok(Settings {
-            codec: codec_of(name).ok_or("an unknown codec")?,
+    pub(crate) fn of_words(words: &[&str]) -> Option<Self> {
+        let (name, rest) = words.split_first()?;
+        Some(Settings {
+            codec: codec_of(name)?,
             numbers: has(rest, "numbers"),
             avc: has(rest, "avc"),
         })

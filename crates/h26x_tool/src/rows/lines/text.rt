@@ -1,120 +1,130 @@
-//! Bytes and answers as text.
+//! Bytes and answers as text. A call is None where a word isn't what it should be, or where memory
+//! lacks.
 
 use h26x_core::PacketError;
-use std::alloc::{AllocError, Global};
-use std::test::Fail;
+use std::alloc::Global;
 
 /// The number that a word has.
-pub(crate) fn number(word: &str) -> Result<usize, Fail> {
-    Ok(word.parse::<usize>()?)
+pub(crate) fn number(word: &str) -> Option<usize> {
+    word.parse::<usize>().ok()
+}
+
+/// Writes digits so many times.
+fn push_times(text: &mut String, digits: &str, times: usize) -> Option<()> {
+    for _ in 0..times {
+        text.push_str(digits).ok()?;
+    }
+    Some(())
 }
 
 /// Writes a part of a word so many times as it says.
-fn push_part(text: &mut String, part: &str) -> Result<(), Fail> {
+fn push_part(text: &mut String, part: &str) -> Option<()> {
     let (digits, times) = part.split_once('*').unwrap_or((part, "1"));
-    for _ in 0..number(times)? {
-        text.push_str(digits)?;
-    }
-    Ok(())
+    push_times(text, digits, number(times)?)
 }
 
-/// A word with all its digits.
-fn spelt_out(alloc: Global, word: &str) -> Result<String, Fail> {
-    let mut text = String::new(alloc);
+/// Writes a word with all its digits.
+fn push_spelt_out(text: &mut String, word: &str) -> Option<()> {
     for part in word.split('+') {
-        push_part(&mut text, part)?;
+        push_part(text, part)?;
     }
-    Ok(text)
+    Some(())
 }
 
 /// The bytes that a word has.
-pub(crate) fn bytes_of(alloc: Global, word: &str) -> Result<Vec<u8>, Fail> {
+pub(crate) fn bytes_of(alloc: Global, word: &str) -> Option<Vec<u8>> {
     if word == "-" {
-        return Ok(Vec::new(alloc));
+        return Some(Vec::new(alloc));
     }
-    let text = spelt_out(alloc, word)?;
-    Ok(hex::decode(alloc, text.as_str())?)
-}
-
-/// The bytes of each of these words.
-pub(crate) fn list_of(alloc: Global, words: &[&str]) -> Result<Vec<Vec<u8>>, Fail> {
-    let mut list = Vec::new(alloc);
-    for word in words {
-        list.push(bytes_of(alloc, word)?)?;
-    }
-    Ok(list)
+    let mut text = String::new(alloc);
+    push_spelt_out(&mut text, word)?;
+    hex::decode(alloc, text.as_str()).ok()
 }
 
 /// Writes a word behind others.
-pub(crate) fn push_word(text: &mut String, word: &str) -> Result<(), AllocError> {
-    if !text.is_empty() {
-        text.push(' ')?;
-    }
-    text.push_str(word)
+pub(crate) fn push_word(text: &mut String, word: &str) -> Option<()> {
+    let space = if text.is_empty() { "" } else { " " };
+    text.push_str(space).ok()?;
+    text.push_str(word).ok()
+}
+
+/// Writes a number as a word behind others.
+pub(crate) fn push_number(text: &mut String, alloc: Global, number: usize) -> Option<()> {
+    push_word(text, format!(in alloc; "{number}").ok()?.as_str())
 }
 
 /// Writes bytes as a word behind others.
-pub(crate) fn push_bytes(text: &mut String, alloc: Global, bytes: &[u8]) -> Result<(), AllocError> {
+pub(crate) fn push_bytes(text: &mut String, alloc: Global, bytes: &[u8]) -> Option<()> {
     if bytes.is_empty() {
         return push_word(text, "-");
     }
-    push_word(text, hex::encode(alloc, bytes)?.as_str())
+    push_word(text, hex::encode(alloc, bytes).ok()?.as_str())
+}
+
+/// Writes a word with all its digits so many times behind others.
+fn push_words(text: &mut String, word: &str, times: usize) -> Option<()> {
+    for _ in 0..times {
+        push_word(text, "")?;
+        push_spelt_out(text, word)?;
+    }
+    Some(())
 }
 
 /// Writes a word of an answer with all its digits, as often as it stands for.
-fn push_wanted(text: &mut String, alloc: Global, word: &str) -> Result<(), Fail> {
+fn push_wanted(text: &mut String, word: &str) -> Option<()> {
     let (times, word) = word.split_once(':').unwrap_or(("1", word));
-    let word = spelt_out(alloc, word)?;
-    for _ in 0..number(times)? {
-        push_word(text, word.as_str())?;
-    }
-    Ok(())
+    push_words(text, word, number(times)?)
 }
 
-/// The answer of a line in full.
-pub(super) fn wanted(alloc: Global, want: &str) -> Result<String, Fail> {
-    let mut text = String::new(alloc);
+/// Writes the answer of a line in full.
+pub(super) fn push_answer(text: &mut String, want: &str) -> Option<()> {
     for word in want.split(' ') {
         if !word.is_empty() {
-            push_wanted(&mut text, alloc, word)?;
+            push_wanted(text, word)?;
         }
     }
-    Ok(text)
+    Some(())
 }
 
-/// Packets, one behind the other.
-pub(crate) fn packets(alloc: Global, packets: &[Vec<u8>]) -> Result<String, AllocError> {
-    let mut text = String::new(alloc);
+/// Writes packets, one behind the other.
+pub(crate) fn push_packets(text: &mut String, alloc: Global, packets: &[Vec<u8>]) -> Option<()> {
     for packet in packets {
-        push_bytes(&mut text, alloc, packet)?;
+        push_bytes(text, alloc, packet)?;
     }
-    Ok(text)
+    Some(())
 }
 
-/// Yes or no.
-pub(crate) fn yes_or_no(alloc: Global, is_so: bool) -> Result<String, AllocError> {
-    if is_so {
-        "yes".to_string(alloc)
-    } else {
-        "no".to_string(alloc)
-    }
+/// Writes yes or no.
+pub(crate) fn push_is_so(text: &mut String, is_so: bool) -> Option<()> {
+    push_word(text, if is_so { "yes" } else { "no" })
 }
 
-/// Why a packet is refused.
-pub(crate) fn refusal(alloc: Global, error: PacketError) -> Result<String, AllocError> {
-    let name = match error {
+/// What a refusal is called.
+fn name_of(error: PacketError) -> &'static str {
+    match error {
         PacketError::ErrShortPacket => "short",
         PacketError::ErrH265CorruptedPacket => "h265-corrupted",
         PacketError::ErrH266CorruptedPacket => "h266-corrupted",
         PacketError::ErrH265PACIPHESTooLong => "extension-too-long",
         PacketError::AvcUnitTooLong => "unit-too-long",
         PacketError::OutOfMemory => "out-of-memory",
+        PacketError::NaluTypeIsNotHandled(_) => "type",
+        PacketError::StapASizeLargerThanBuffer(_, _) => "size",
+    }
+}
+
+/// Writes why a packet is refused.
+pub(crate) fn push_refusal(text: &mut String, alloc: Global, error: PacketError) -> Option<()> {
+    push_word(text, name_of(error))?;
+    match error {
         PacketError::NaluTypeIsNotHandled(nalu_type) => {
-            return format!(in alloc; "type {nalu_type}");
+            push_number(text, alloc, usize::from(nalu_type))
         }
         PacketError::StapASizeLargerThanBuffer(size, left) => {
-            return format!(in alloc; "size {size} of {left}");
+            push_number(text, alloc, size)?;
+            push_word(text, "of")?;
+            push_number(text, alloc, left)
         }
-    };
-    name.to_string(alloc)
+        _ => Some(()),
+    }
 }
