@@ -16,8 +16,8 @@ use h26x_core::PacketError;
 use h26x_frames::{
     AccessUnit, FrameReceiver, HeldPacket, NotHeld, NotHeldReason, ReorderBuffer, RtpPacket,
 };
-use h26x_payload::PayloadDepacketizer;
-use h26x_receiver::{RunDepacketizer, SequencedDepacketizer};
+use h26x_payload::{PayloadDepacketizer, RunDepacketizer};
+use h26x_receiver::SequencedDepacketizer;
 use h264_payload::H264;
 use h265_payload::H265;
 use h266_payload::H266;
