@@ -51,26 +51,6 @@ fn push_unit(
     Ok(())
 }
 
-/// Appends eleven units of `least` bytes behind their headers, or fewer than `more` more; the last
-/// has room for the number of a round.
-fn push_units(
-    packet: &mut Vec<u8>,
-    draws: &mut Draws,
-    setting: Setting,
-    least: u32,
-    more: u32,
-) -> Result<(), PacketError> {
-    for place in 0..UNITS {
-        let mut len = least.saturating_add(draws.below(more.max(1)));
-        if place == UNITS - 1 {
-            len = len.max(STAMP as u32);
-        }
-        packet.extend_from_slice(numbers(setting, place == 0))?;
-        push_unit(packet, draws, setting, len)?;
-    }
-    Ok(())
-}
-
 /// So many aggregates of eleven units of `least` bytes behind their headers, or fewer than `more`
 /// more; the last has room for the number of a round.
 pub fn aggregates(
@@ -84,7 +64,14 @@ pub fn aggregates(
     let mut packets = Vec::new(alloc);
     for _ in 0..count {
         let mut packet = Vec::from_slice(alloc, aggregate_header(setting))?;
-        push_units(&mut packet, draws, setting, least, more)?;
+        for place in 0..UNITS {
+            let mut len = least.saturating_add(draws.below(more.max(1)));
+            if place == UNITS - 1 {
+                len = len.max(STAMP as u32);
+            }
+            packet.extend_from_slice(numbers(setting, place == 0))?;
+            push_unit(&mut packet, draws, setting, len)?;
+        }
         packets.push(packet)?;
     }
     Ok(packets)

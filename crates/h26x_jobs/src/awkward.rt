@@ -1,13 +1,11 @@
 //! What is awkward and comes all the same: payloads of start codes or zeros alone, aggregates of
 //! empty units, a stranger's short fragments, and numbers from both ends of a wide window.
 
-ghost use Rattle.std.specs.Prelude.{◌<◌};
-
 use crate::Work;
 use crate::aggregates::aggregates;
 use crate::digest::Digest;
 use crate::draws::Draws;
-use crate::packets::stamp_ends;
+use crate::packets::stamp_end;
 use crate::record::take_list;
 use crate::send::{send_buffers, send_lists};
 use crate::setting::{SETTINGS, Setting};
@@ -24,23 +22,17 @@ const SIZE: usize = 60_000;
 /// How many packets a window has, the most that it can have.
 const WINDOW: u16 = 16_384;
 
-/// Appends this text again and again, behind the number of a round.
-fn repeat(bytes: &mut Vec<u8>, text: &[u8], round: u32) -> Result<(), PacketError> {
-    bytes.reserve(SIZE)?;
-    bytes.extend_from_slice(&[0, 0, 1, 0x41, 0x01])?;
-    for shift in [0, 7, 14, 21] {
-        bytes.push(0x80 | (round >> shift & 0x7f) as u8)?;
-    }
-    for _ in 0..SIZE / text.len().max(1) {
-        bytes.extend_from_slice(text)?;
-    }
-    Ok(())
-}
-
 /// A payload of this text again and again, behind the number of a round.
 fn repeated(alloc: Global, text: &[u8], round: u32) -> Result<Picture, PacketError> {
     let mut payload = Picture::new(alloc);
-    repeat(&mut payload.bytes, text, round)?;
+    payload.bytes.reserve(SIZE)?;
+    payload.bytes.extend_from_slice(&[0, 0, 1, 0x41, 0x01])?;
+    for shift in [0, 7, 14, 21] {
+        payload.bytes.push(0x80 | (round >> shift & 0x7f) as u8)?;
+    }
+    for _ in 0..SIZE / text.len().max(1) {
+        payload.bytes.extend_from_slice(text)?;
+    }
     Ok(payload)
 }
 
@@ -101,19 +93,6 @@ fn fragments(
     Ok(packets)
 }
 
-/// Receives a fragment of this number, and adds whether it was taken.
-#[inline]
-fn receive_fragment(
-    receiver: &mut SequencedDepacketizer<AnyDepacketizer>,
-    sequence: u16,
-    packet: &[u8],
-    out: &mut Vec<u8>,
-    digest: &mut Digest,
-) {
-    let received = receiver.receive(sequence, packet, out, &mut CodecExtra::None);
-    digest.number(u64::from(received.is_ok()));
-}
-
 /// Receives fragments that a stranger sends, from this number on, with a small limit on the open run.
 fn receive_fragments(
     alloc: Global,
@@ -121,59 +100,20 @@ fn receive_fragments(
     first: u16,
     packets: &[Vec<u8>],
     digest: &mut Digest,
-) {
+) -> Result<(), PacketError> {
     let mut depacketizer = AnyDepacketizer::new(alloc, setting.codec);
     depacketizer.with_donl(setting.has_donl);
     let mut receiver = SequencedDepacketizer::new(alloc, depacketizer, 100);
     let mut out = Vec::new(alloc);
+    let mut extra = CodecExtra::None;
     let mut sequence = first;
     for packet in packets {
-        receive_fragment(&mut receiver, sequence, packet, &mut out, digest);
+        let received = receiver.receive(sequence, packet, &mut out, &mut extra);
+        digest.number(u64::from(received.is_ok()));
         sequence = sequence.wrapping_add(1);
     }
     digest.bytes(&out);
-}
-
-/// The number of a packet from both ends of the widest window by turns, behind the first.
-#[inline]
-fn number_ahead(place: u16) -> u16
-    requires { place < 16384 }
-{
-    if place % 2 == 0 {
-        place / 2
-    } else {
-        WINDOW - 1 - place / 2
-    }
-}
-
-/// Pushes a packet of this number into a buffer, and adds what became of it.
-#[inline]
-fn push_packet(
-    buffer: &mut ReorderBuffer,
-    sequence: u16,
-    timestamp: u32,
-    digest: &mut Digest,
-) -> Result<(), PacketError> {
-    let pushed = buffer.push(&RtpPacket {
-        sequence,
-        timestamp,
-        marker: false,
-        payload: &[0x41, 0x01, 0x80],
-    })?;
-    digest.number(match pushed {
-        Pushed::Held => 0,
-        Pushed::Twice => 1,
-        Pushed::Late(behind) => 2 + u64::from(behind),
-    });
     Ok(())
-}
-
-/// Takes all packets out of a buffer, and adds them.
-fn pop_all(buffer: &mut ReorderBuffer, digest: &mut Digest) {
-    while let Some(held) = buffer.pop_first() {
-        digest.number(u64::from(held.sequence));
-        digest.number(u64::from(held.timestamp));
-    }
 }
 
 /// Pushes packets whose numbers come from both ends of the widest window by turns, and takes them
@@ -181,40 +121,27 @@ fn pop_all(buffer: &mut ReorderBuffer, digest: &mut Digest) {
 fn from_both_ends(alloc: Global, first: u16, digest: &mut Digest) -> Result<(), PacketError> {
     let mut buffer = ReorderBuffer::new(alloc, WINDOW);
     for place in 0..WINDOW {
-        let sequence = first.wrapping_add(number_ahead(place));
-        push_packet(&mut buffer, sequence, u32::from(place), digest)?;
+        let ahead = if place % 2 == 0 {
+            place / 2
+        } else {
+            WINDOW - 1 - place / 2
+        };
+        let pushed = buffer.push(&RtpPacket {
+            sequence: first.wrapping_add(ahead),
+            timestamp: u32::from(place),
+            marker: false,
+            payload: &[0x41, 0x01, 0x80],
+        })?;
+        digest.number(match pushed {
+            Pushed::Held => 0,
+            Pushed::Twice => 1,
+            Pushed::Late(behind) => 2 + u64::from(behind),
+        });
     }
-    pop_all(&mut buffer, digest);
-    Ok(())
-}
-
-/// Sends the awkward payloads of a round.
-fn send_payloads(
-    alloc: Global,
-    setting: Setting,
-    round: u32,
-    digest: &mut Digest,
-) -> Result<(), PacketError> {
-    let payloads = payloads(alloc, round)?;
-    send_lists(alloc, setting, &payloads, 1200, digest)?;
-    send_buffers(alloc, setting, &payloads, 1201, digest)
-}
-
-/// Does the awkward work of a setting in a round: with aggregates of empty units, and a stranger's
-/// fragments.
-fn do_round(
-    alloc: Global,
-    setting: Setting,
-    round: u32,
-    empty: &mut Vec<Vec<u8>>,
-    strange: &[Vec<u8>],
-    digest: &mut Digest,
-) -> Result<(), PacketError> {
-    send_payloads(alloc, setting, round, digest)?;
-    stamp_ends(empty, round);
-    take_list(alloc, setting, empty, digest)?;
-    let first = (round & 0xffff) as u16;
-    receive_fragments(alloc, setting, first, strange, digest);
+    while let Some(held) = buffer.pop_first() {
+        digest.number(u64::from(held.sequence));
+        digest.number(u64::from(held.timestamp));
+    }
     Ok(())
 }
 
@@ -230,7 +157,15 @@ fn do_setting(
     let mut empty = aggregates(alloc, draws, setting, count, 0, 2)?;
     let strange = fragments(alloc, setting, draws, work.pictures.saturating_mul(200))?;
     for round in 0..work.rounds {
-        do_round(alloc, setting, round, &mut empty, &strange, digest)?;
+        let payloads = payloads(alloc, round)?;
+        send_lists(alloc, setting, &payloads, 1200, digest)?;
+        send_buffers(alloc, setting, &payloads, 1201, digest)?;
+        for packet in empty.iter_mut() {
+            stamp_end(packet, round);
+        }
+        take_list(alloc, setting, &empty, digest)?;
+        let first = (round & 0xffff) as u16;
+        receive_fragments(alloc, setting, first, &strange, digest)?;
     }
     Ok(())
 }

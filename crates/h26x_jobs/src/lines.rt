@@ -3,7 +3,7 @@
 use crate::Work;
 use crate::digest::Digest;
 use crate::draws::Draws;
-use crate::packets::{FIRST_UNIT, LEAST, Packet, packets_of};
+use crate::packets::{FIRST_UNIT, LEAST, packets_of};
 use crate::setting::{SETTINGS, Setting};
 use crate::stream::{Picture, STAMP, pictures};
 use anyhow::Result;
@@ -89,21 +89,20 @@ fn first_lines(setting: Setting) -> &'static [u8] {
     }
 }
 
-/// Appends a line of this word for each picture.
-fn push_pictures(
-    session: &mut Session,
-    word: &[u8],
+/// A session: pictures to pack, their packets to unpack, and the pictures to carry.
+fn make_session(
+    alloc: Global,
+    setting: Setting,
     pictures: &[Picture],
-) -> Result<(), PacketError> {
+) -> Result<Session, PacketError> {
+    let mut session = Session {
+        text: Vec::from_slice(alloc, first_lines(setting))?,
+        stamps: Vec::new(alloc),
+    };
     for picture in pictures {
-        session.push_line(word, &picture.bytes, FIRST_UNIT)?;
+        session.push_line(b"pack 1200 ", &picture.bytes, FIRST_UNIT)?;
     }
-    Ok(())
-}
-
-/// Appends a line for each packet, and behind the last of a picture one that asks for keyframes.
-fn push_packets(session: &mut Session, packets: &[Packet]) -> Result<(), PacketError> {
-    for packet in packets {
+    for packet in &packets_of(alloc, setting, pictures)? {
         let stamp = if packet.payload.len() > LEAST {
             packet.payload.len() - STAMP
         } else {
@@ -114,58 +113,26 @@ fn push_packets(session: &mut Session, packets: &[Packet]) -> Result<(), PacketE
             session.text.extend_from_slice(b"key\n")?;
         }
     }
-    Ok(())
-}
-
-/// Appends pictures to pack, their packets to unpack, and the pictures to carry.
-fn push_lines(
-    session: &mut Session,
-    pictures: &[Picture],
-    packets: &[Packet],
-) -> Result<(), PacketError> {
-    push_pictures(session, b"pack 1200 ", pictures)?;
-    push_packets(session, packets)?;
-    push_pictures(session, b"carry 1200 ", pictures)
-}
-
-/// A session: pictures to pack, their packets to unpack, and the pictures to carry.
-fn make_session(
-    alloc: Global,
-    setting: Setting,
-    pictures: &[Picture],
-) -> Result<Session, PacketError> {
-    let packets = packets_of(alloc, setting, pictures)?;
-    let mut session = Session {
-        text: Vec::from_slice(alloc, first_lines(setting))?,
-        stamps: Vec::new(alloc),
-    };
-    push_lines(&mut session, pictures, &packets)?;
+    for picture in pictures {
+        session.push_line(b"carry 1200 ", &picture.bytes, FIRST_UNIT)?;
+    }
     Ok(session)
 }
 
-/// Runs the lines of pictures of a setting, in each round of other bytes.
-fn run_setting(
-    alloc: Global,
-    work: Work,
-    setting: Setting,
-    draws: &mut Draws,
-    digest: &mut Digest,
-) -> Result<()> {
-    let stream = pictures(alloc, draws, setting, work.pictures)?;
-    let mut session = make_session(alloc, setting, &stream)?;
-    for round in 0..work.rounds {
-        session.stamp(round);
-        run_session(alloc, session.text.as_slice(), Answers { digest })?;
-    }
-    Ok(())
-}
-
-/// Runs the lines of pictures of each setting.
+/// Runs the lines of pictures of each setting, in each round of other bytes.
 pub fn run(alloc: Global, work: Work) -> Result<Digest> {
     let mut draws = Draws::new(work.seed);
     let mut digest = Digest::new();
     for setting in &SETTINGS {
-        run_setting(alloc, work, *setting, &mut draws, &mut digest)?;
+        let stream = pictures(alloc, &mut draws, *setting, work.pictures)?;
+        let mut session = make_session(alloc, *setting, &stream)?;
+        for round in 0..work.rounds {
+            session.stamp(round);
+            let answers = Answers {
+                digest: &mut digest,
+            };
+            run_session(alloc, session.text.as_slice(), answers)?;
+        }
     }
     Ok(digest)
 }

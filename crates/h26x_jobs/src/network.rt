@@ -4,56 +4,33 @@ use crate::draws::Draws;
 use h26x_core::PacketError;
 use std::alloc::Global;
 
-/// Appends a packet of a sender, once or twice, or notes when it is due where it is late.
-#[inline]
-fn bring(
-    order: &mut Vec<usize>,
-    late: &mut Vec<(usize, usize)>,
-    draws: &mut Draws,
-    place: usize,
-) -> Result<(), PacketError> {
-    match draws.below(100) {
-        0 => {}
-        1 => {
-            order.push(place)?;
-            order.push(place)?;
-        }
-        2..=6 => {
-            let due = place.saturating_add(draws.below(16) as usize);
-            late.push((due, place))?;
-        }
-        _ => order.push(place)?,
-    }
-    Ok(())
-}
-
-/// Appends the late packets that are due at a place; the others.
-#[inline]
-fn bring_late(
-    alloc: Global,
-    order: &mut Vec<usize>,
-    late: Vec<(usize, usize)>,
-    place: usize,
-) -> Result<Vec<(usize, usize)>, PacketError> {
-    let mut still = Vec::new(alloc);
-    for (due, earlier) in late {
-        if due <= place {
-            order.push(earlier)?;
-        } else {
-            still.push((due, earlier))?;
-        }
-    }
-    Ok(still)
-}
-
 /// Where the packets of a network come from, in the order in which they come: 1 % are lost, 1 %
 /// come twice, and 5 % come up to 16 places late.
 pub fn arrivals(alloc: Global, draws: &mut Draws, count: usize) -> Result<Vec<usize>, PacketError> {
     let mut order = Vec::new(alloc);
-    let mut late = Vec::new(alloc);
+    let mut late: Vec<(usize, usize)> = Vec::new(alloc);
     for place in 0..count {
-        bring(&mut order, &mut late, draws, place)?;
-        late = bring_late(alloc, &mut order, late, place)?;
+        match draws.below(100) {
+            0 => {}
+            1 => {
+                order.push(place)?;
+                order.push(place)?;
+            }
+            2..=6 => {
+                let due = place.saturating_add(draws.below(16) as usize);
+                late.push((due, place))?;
+            }
+            _ => order.push(place)?,
+        }
+        let mut still = Vec::new(alloc);
+        for (due, earlier) in late {
+            if due <= place {
+                order.push(earlier)?;
+            } else {
+                still.push((due, earlier))?;
+            }
+        }
+        late = still;
     }
     for (_, earlier) in late {
         order.push(earlier)?;

@@ -21,32 +21,6 @@ pub struct Packet {
     pub marker: bool,
 }
 
-/// Appends packets, the last of which is marked.
-fn push_packets(packets: &mut Vec<Packet>, payloads: Vec<Vec<u8>>) -> Result<(), PacketError> {
-    for payload in payloads {
-        packets.push(Packet {
-            payload,
-            marker: false,
-        })?;
-    }
-    if let Some(last) = packets.last_mut() {
-        last.marker = true;
-    }
-    Ok(())
-}
-
-/// Appends the packets of pictures.
-fn push_packets_of<P: Packetizer>(
-    packets: &mut Vec<Packet>,
-    packetizer: &mut P,
-    pictures: &[Picture],
-) -> Result<(), PacketError> {
-    for picture in pictures {
-        push_packets(packets, packetizer.packetize(LIMIT, &picture.bytes)?)?;
-    }
-    Ok(())
-}
-
 /// The packets of pictures.
 pub fn packets_of(
     alloc: Global,
@@ -55,8 +29,18 @@ pub fn packets_of(
 ) -> Result<Vec<Packet>, PacketError> {
     let mut packetizer = CodecPacketizer::new(alloc, setting.codec);
     packetizer.configure_for(setting.max_don_diff());
-    let mut packets = Vec::new(alloc);
-    push_packets_of(&mut packets, &mut packetizer, pictures)?;
+    let mut packets: Vec<Packet> = Vec::new(alloc);
+    for picture in pictures {
+        for payload in packetizer.packetize(LIMIT, &picture.bytes)? {
+            packets.push(Packet {
+                payload,
+                marker: false,
+            })?;
+        }
+        if let Some(last) = packets.last_mut() {
+            last.marker = true;
+        }
+    }
     Ok(packets)
 }
 
@@ -69,13 +53,6 @@ pub fn stamp_end(payload: &mut Vec<u8>, round: u32) {
     let len = payload.len();
     if len > LEAST {
         stamp_at(payload, len - STAMP, round);
-    }
-}
-
-/// Writes the number of a round over the last bytes of each payload.
-pub fn stamp_ends(payloads: &mut Vec<Vec<u8>>, round: u32) {
-    for payload in payloads.iter_mut() {
-        stamp_end(payload, round);
     }
 }
 

@@ -13,20 +13,6 @@ use std::alloc::Global;
 /// The bytes of RTP's header.
 const HEADROOM: usize = 12;
 
-/// Sends a picture, its packets as a list.
-#[inline]
-fn send_list<P: Packetizer>(
-    packetizer: &mut P,
-    picture: &Picture,
-    limit: usize,
-    digest: &mut Digest,
-) -> Result<(), PacketError> {
-    for packet in &packetizer.packetize(limit, &picture.bytes)? {
-        digest.bytes(packet);
-    }
-    Ok(())
-}
-
 /// Sends pictures, the packets of each as a list.
 pub fn send_lists(
     alloc: Global,
@@ -38,17 +24,11 @@ pub fn send_lists(
     let mut packetizer = CodecPacketizer::new(alloc, setting.codec);
     packetizer.configure_for(setting.max_don_diff());
     for picture in pictures {
-        send_list(&mut packetizer, picture, limit, digest)?;
+        for packet in &packetizer.packetize(limit, &picture.bytes)? {
+            digest.bytes(packet);
+        }
     }
     Ok(())
-}
-
-/// Adds the packets of a buffer.
-#[inline]
-fn add_packets(digest: &mut Digest, buffer: &PacketBuffer) {
-    for packet in buffer.iter() {
-        digest.bytes(packet);
-    }
 }
 
 /// Sends pictures, the packets of each in one buffer, with room for RTP's headers.
@@ -65,31 +45,14 @@ pub fn send_buffers(
     for picture in pictures {
         buffer.clear();
         packetizer.packetize_into(limit, &picture.bytes, &mut buffer)?;
-        add_packets(digest, &buffer);
+        for packet in buffer.iter() {
+            digest.bytes(packet);
+        }
     }
     Ok(())
 }
 
-/// Sends pictures in a round, by turns as lists and in a buffer.
-pub fn send_round(
-    alloc: Global,
-    setting: Setting,
-    round: u32,
-    pictures: &mut Vec<Picture>,
-    limit: usize,
-    digest: &mut Digest,
-) -> Result<(), PacketError> {
-    for picture in pictures.iter_mut() {
-        picture.stamp(round);
-    }
-    if round % 2 == 0 {
-        send_lists(alloc, setting, pictures, limit, digest)
-    } else {
-        send_buffers(alloc, setting, pictures, limit, digest)
-    }
-}
-
-/// Sends the pictures of a setting in each round.
+/// Sends the pictures of a setting in each round, by turns as lists and in a buffer.
 fn send_setting(
     alloc: Global,
     work: Work,
@@ -99,8 +62,15 @@ fn send_setting(
 ) -> Result<(), PacketError> {
     let mut stream = pictures(alloc, draws, setting, work.pictures)?;
     for round in 0..work.rounds {
+        for picture in stream.iter_mut() {
+            picture.stamp(round);
+        }
         let limit = 1_100 + draws.below(301) as usize;
-        send_round(alloc, setting, round, &mut stream, limit, digest)?;
+        if round % 2 == 0 {
+            send_lists(alloc, setting, &stream, limit, digest)?;
+        } else {
+            send_buffers(alloc, setting, &stream, limit, digest)?;
+        }
     }
     Ok(())
 }

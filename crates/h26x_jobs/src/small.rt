@@ -4,9 +4,9 @@ use crate::Work;
 use crate::aggregates::aggregates;
 use crate::digest::Digest;
 use crate::draws::Draws;
-use crate::packets::{Packet, packets_of, stamp_all, stamp_ends};
+use crate::packets::{Packet, packets_of, stamp_all, stamp_end};
 use crate::record::{take_each, take_list};
-use crate::send::send_round;
+use crate::send::{send_buffers, send_lists};
 use crate::setting::{SETTINGS, Setting};
 use crate::stream::Picture;
 use h26x_core::PacketError;
@@ -15,17 +15,7 @@ use std::alloc::Global;
 /// How many units a payload has.
 const UNITS: u32 = 50;
 
-/// A payload of fifty units of 20 to 150 bytes.
-fn payload(alloc: Global, draws: &mut Draws, setting: Setting) -> Result<Picture, PacketError> {
-    let mut payload = Picture::new(alloc);
-    for _ in 0..UNITS {
-        let len = 20 + draws.below(131) as usize;
-        payload.push_unit(draws, setting.slice_header(), len)?;
-    }
-    Ok(payload)
-}
-
-/// So many payloads of fifty units.
+/// Payloads of fifty units of 20 to 150 bytes.
 fn payloads(
     alloc: Global,
     draws: &mut Draws,
@@ -34,7 +24,12 @@ fn payloads(
 ) -> Result<Vec<Picture>, PacketError> {
     let mut payloads = Vec::new(alloc);
     for _ in 0..count {
-        payloads.push(payload(alloc, draws, setting)?)?;
+        let mut payload = Picture::new(alloc);
+        for _ in 0..UNITS {
+            let len = 20 + draws.below(131) as usize;
+            payload.push_unit(draws, setting.slice_header(), len)?;
+        }
+        payloads.push(payload)?;
     }
     Ok(payloads)
 }
@@ -47,23 +42,6 @@ struct Small {
     aggregates: Vec<Vec<u8>>,
 }
 
-/// What the rounds of a setting send and take.
-fn prepare(
-    alloc: Global,
-    draws: &mut Draws,
-    setting: Setting,
-    count: u32,
-) -> Result<Small, PacketError> {
-    let payloads = payloads(alloc, draws, setting, count)?;
-    let packets = packets_of(alloc, setting, &payloads)?;
-    let aggregates = aggregates(alloc, draws, setting, count.saturating_mul(5), 20, 131)?;
-    Ok(Small {
-        payloads,
-        packets,
-        aggregates,
-    })
-}
-
 /// Sends the payloads, and takes the packets and the aggregates, in a round.
 fn do_round(
     alloc: Global,
@@ -72,27 +50,21 @@ fn do_round(
     round: u32,
     digest: &mut Digest,
 ) -> Result<(), PacketError> {
-    let limit = 1_100 + (round % 301) as usize;
-    send_round(alloc, setting, round, &mut small.payloads, limit, digest)?;
-    stamp_all(&mut small.packets, round);
-    take_each(alloc, setting, round % 4 == 3, &small.packets, digest);
-    stamp_ends(&mut small.aggregates, round);
-    take_list(alloc, setting, &small.aggregates, digest)
-}
-
-/// Sends and takes the small units of a setting in each round.
-fn do_setting(
-    alloc: Global,
-    work: Work,
-    setting: Setting,
-    draws: &mut Draws,
-    digest: &mut Digest,
-) -> Result<(), PacketError> {
-    let mut small = prepare(alloc, draws, setting, work.pictures)?;
-    for round in 0..work.rounds {
-        do_round(alloc, setting, &mut small, round, digest)?;
+    for payload in small.payloads.iter_mut() {
+        payload.stamp(round);
     }
-    Ok(())
+    let limit = 1_100 + (round % 301) as usize;
+    if round % 2 == 0 {
+        send_lists(alloc, setting, &small.payloads, limit, digest)?;
+    } else {
+        send_buffers(alloc, setting, &small.payloads, limit, digest)?;
+    }
+    stamp_all(&mut small.packets, round);
+    take_each(alloc, setting, round % 4 == 3, &small.packets, digest)?;
+    for aggregate in small.aggregates.iter_mut() {
+        stamp_end(aggregate, round);
+    }
+    take_list(alloc, setting, &small.aggregates, digest)
 }
 
 /// Sends and takes the small units of each setting.
@@ -100,7 +72,17 @@ pub fn run(alloc: Global, work: Work) -> Result<Digest, PacketError> {
     let mut draws = Draws::new(work.seed);
     let mut digest = Digest::new();
     for setting in &SETTINGS {
-        do_setting(alloc, work, *setting, &mut draws, &mut digest)?;
+        let payloads = payloads(alloc, &mut draws, *setting, work.pictures)?;
+        let packets = packets_of(alloc, *setting, &payloads)?;
+        let count = work.pictures.saturating_mul(5);
+        let mut small = Small {
+            payloads,
+            packets,
+            aggregates: aggregates(alloc, &mut draws, *setting, count, 20, 131)?,
+        };
+        for round in 0..work.rounds {
+            do_round(alloc, *setting, &mut small, round, &mut digest)?;
+        }
     }
     Ok(digest)
 }
