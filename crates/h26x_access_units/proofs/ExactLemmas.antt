@@ -4,10 +4,10 @@ use Rattle.std.specs.Prelude.{◌==◌, ◌||◌, ◌&&◌, not, nat_lt}
 use Rattle.std.specs.List.{list_any}
 use Rattle.std.proofs.lemmas.List.Folds.{list_any-append}
 use Rattle.std.proofs.lemmas.Bool.Decides.{nat_tests}
-use Rattle.h26x_receiver.specs.Sequence.{distance_ahead, next_sequence_number}
-use Rattle.h26x_frames.specs.Rtp.{RtpBody}
-use Rattle.h26x_frames.specs.ReorderBuffer.{is_number_held, last_number, AreHeldInOrder, IsHeldInOrder}
-use Rattle.h26x_frames.proofs.BufferLemmas.{rest_in_order}
+use Rattle.h26x_core.specs.Sequence.{distance_ahead, next_sequence_number}
+use Rattle.h26x_reorder.specs.Rtp.{RtpBody}
+use Rattle.h26x_reorder.specs.ReorderBuffer.{is_number_held, last_number, AreHeldInOrder, IsHeldInOrder}
+use Rattle.h26x_reorder.proofs.BufferLemmas.{rest_in_order}
 use Rattle.h26x_access_units.specs.Missing.{numbers_from, missing_before, missing_numbers, is_before_last, AreExactlyMissing}
 use Rattle.h26x_access_units.proofs.PassedLemmas.{further}
 

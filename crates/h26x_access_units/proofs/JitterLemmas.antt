@@ -2,10 +2,10 @@
 use Rattle.std.proofs.Common.{◌≡◌, ◌∙◌, ap, subst, ℕ, zero, suc, ◌+◌, ◌-◌, ◌<◌, true, false, cond, List, [], ◌∷◌, length, Option, Some, slice_index_or, refl, arith}
 use Rattle.std.specs.Prelude.{◌==◌, ◌||◌, ◌&&◌, nat_lt, nat_le}
 use Rattle.std.proofs.lemmas.Bool.Decides.{nat_tests}
-use Rattle.h26x_receiver.specs.Sequence.{distance_ahead, is_late}
-use Rattle.h26x_frames.specs.Rtp.{RtpBody, rtp_body}
-use Rattle.h26x_frames.specs.ReorderBuffer.{BufferState, buffer_state, due_at, put_packet, is_number_held, push_answer, after_push, AreHeldInOrder, IsHeldInOrder}
-use Rattle.h26x_frames.specs.declared.pushed.Pushed.TheVariants as pushes
+use Rattle.h26x_core.specs.Sequence.{distance_ahead, is_late}
+use Rattle.h26x_reorder.specs.Rtp.{RtpBody, rtp_body}
+use Rattle.h26x_reorder.specs.ReorderBuffer.{BufferState, buffer_state, due_at, put_packet, is_number_held, push_answer, after_push, AreHeldInOrder, IsHeldInOrder}
+use Rattle.h26x_reorder.specs.declared.pushed.Pushed.TheVariants as pushes
 use Rattle.h26x_access_units.specs.JitterBuffer.{held_bytes, newest_of, is_outside, is_far}
 
 -- a packet whose number is not held adds its bytes

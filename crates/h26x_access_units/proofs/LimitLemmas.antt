@@ -8,12 +8,12 @@ use Rattle.h26x_model.specs.Receive.DepacketizerState.{DepacketizerState}
 use Rattle.h26x_model.specs.Receive.RunLimit.{run_len, run_within}
 use Rattle.h26x_receiver.specs.declared.received.Received.{Received}
 use Rattle.h26x_receiver.specs.declared.received.Received.TheVariants as received
-use Rattle.h26x_receiver.specs.Sequence.{distance_ahead, is_late}
+use Rattle.h26x_core.specs.Sequence.{distance_ahead, is_late}
 use Rattle.h26x_receiver.specs.Sequenced.{is_run_kept, after_sequenced_packet}
-use Rattle.h26x_frames.specs.Rtp.{RtpBody}
-use Rattle.h26x_frames.specs.ReorderBuffer.{BufferState, due_at, put_packet, push_answer, after_push, without_first_of}
-use Rattle.h26x_frames.specs.declared.pushed.Pushed as buffers
-use Rattle.h26x_frames.specs.declared.pushed.Pushed.TheVariants as frames
+use Rattle.h26x_reorder.specs.Rtp.{RtpBody}
+use Rattle.h26x_reorder.specs.ReorderBuffer.{BufferState, due_at, put_packet, push_answer, after_push, without_first_of}
+use Rattle.h26x_reorder.specs.declared.pushed.Pushed as buffers
+use Rattle.h26x_reorder.specs.declared.pushed.Pushed.TheVariants as buffered
 use Rattle.h26x_frames.specs.AccessUnit.{AccessUnitValue, UnitDepacketization, unit_len, unit_within, whole_if, taken_by, after_rtp, after_taken_rtp, after_unit_skip, behind_missing, after_pass_over}
 use Rattle.h26x_access_units.specs.declared.config.AccessUnitConfig.{AccessUnitConfig}
 use Rattle.h26x_access_units.specs.declared.pushed.Pushed.{Pushed}
@@ -123,18 +123,18 @@ not_stray j p = by (is_full j (length p.1.payload)) (push_answer j.buffer p.0)
   where
     by : (f : Bool) (answer : buffers.Pushed) → cond f pushes.Full (as_pushed answer) ≡ pushes.Stray → ⊥
     by true answer e = absurd (let bad = e in cc)
-    by false frames.Held e = absurd (let bad = e in cc)
-    by false (frames.Late n) e = absurd (let bad = e in cc)
-    by false frames.Twice e = absurd (let bad = e in cc)
+    by false buffered.Held e = absurd (let bad = e in cc)
+    by false (buffered.Late n) e = absurd (let bad = e in cc)
+    by false buffered.Twice e = absurd (let bad = e in cc)
 
 not_anew : (j : JitterState) (p : ℕ × RtpBody) → jitter_answer j p ≡ pushes.Anew → ⊥
 not_anew j p = by (is_full j (length p.1.payload)) (push_answer j.buffer p.0)
   where
     by : (f : Bool) (answer : buffers.Pushed) → cond f pushes.Full (as_pushed answer) ≡ pushes.Anew → ⊥
     by true answer e = absurd (let bad = e in cc)
-    by false frames.Held e = absurd (let bad = e in cc)
-    by false (frames.Late n) e = absurd (let bad = e in cc)
-    by false frames.Twice e = absurd (let bad = e in cc)
+    by false buffered.Held e = absurd (let bad = e in cc)
+    by false (buffered.Late n) e = absurd (let bad = e in cc)
+    by false buffered.Twice e = absurd (let bad = e in cc)
 
 pub push_within : (most now : ℕ) (s : Reception) (p : ℕ × RtpBody) → length p.1.payload ≤ most → IsWithinLimits most s → IsWithinLimits most (after_reception now s p (reception_answer s p))
 push_within most now s p len is =

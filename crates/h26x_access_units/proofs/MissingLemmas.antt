@@ -1,8 +1,8 @@
 -- Numbers that are missing, packet by packet.
 use Rattle.std.proofs.Common.{◌≡◌, ◌∙◌, ap, sym, ℕ, ◌+◌, ◌<◌, List, ◌++◌, length, get_or, drop, append_assoc}
 use Rattle.std.proofs.lemmas.List.{drop_more}
-use Rattle.h26x_receiver.specs.Sequence.{next_sequence_number, distance_ahead}
-use Rattle.h26x_frames.specs.Rtp.{RtpBody}
+use Rattle.h26x_core.specs.Sequence.{next_sequence_number, distance_ahead}
+use Rattle.h26x_reorder.specs.Rtp.{RtpBody}
 use Rattle.h26x_access_units.specs.Missing.{numbers_from, missing_before}
 
 -- before a packet those up to its number are missing, and behind it those before the next

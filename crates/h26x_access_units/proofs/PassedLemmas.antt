@@ -3,9 +3,9 @@ use Rattle.std.proofs.Common.{◌≡◌, ◌∙◌, ap, sym, subst, refl, ℕ, �
 use Rattle.std.specs.Prelude.{◌==◌, ◌||◌, nat_lt}
 use Rattle.std.specs.List.{AllByRecursion}
 use Rattle.std.proofs.lemmas.Bool.Decides.{nat_tests}
-use Rattle.h26x_receiver.specs.Sequence.{distance_ahead, next_sequence_number, is_late}
-use Rattle.h26x_frames.specs.Rtp.{RtpBody}
-use Rattle.h26x_frames.specs.ReorderBuffer.{put_packet, is_number_held, AreHeldInOrder}
+use Rattle.h26x_core.specs.Sequence.{distance_ahead, next_sequence_number, is_late}
+use Rattle.h26x_reorder.specs.Rtp.{RtpBody}
+use Rattle.h26x_reorder.specs.ReorderBuffer.{put_packet, is_number_held, AreHeldInOrder}
 use Rattle.h26x_access_units.specs.declared.arrival.Arrival.{Arrival}
 use Rattle.h26x_access_units.specs.Arrival.{arrival_of, without_number, not_passed, deadline_of, has_waited, IsArrivalKept, AreArrivalsKept, HaveOwnNumbers, is_first_passed, IsEndOf, IsRoomMade, IsLetGo}
 

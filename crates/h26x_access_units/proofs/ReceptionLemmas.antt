@@ -1,11 +1,11 @@
 -- Packets that are due, taken one after the other, or at once.
 use Rattle.std.proofs.Common.{◌≡◌, ◌∙◌, ap, sym, subst, ℕ, ◌+◌, ◌<◌, Bool, true, false, cond, List, [], ◌∷◌, length, Option, Some, None, refl, arith}
 use Rattle.std.specs.Prelude.{◌==◌, ◌||◌, ◌&&◌, nat_lt, nat_le, slice_get}
-use Rattle.h26x_receiver.specs.Sequence.{distance_ahead, distance_behind, is_late}
+use Rattle.h26x_core.specs.Sequence.{distance_ahead, distance_behind, is_late}
 use Rattle.std.proofs.lemmas.Bool.Decides.{nat_tests}
-use Rattle.h26x_frames.specs.Rtp.{RtpBody}
-use Rattle.h26x_frames.specs.ReorderBuffer.{BufferState, buffer_state, goes_straight, push_answer, after_push, first_ready, next_packet, without_first_of}
-use Rattle.h26x_frames.proofs.BufferLemmas.{none_held, held_alone}
+use Rattle.h26x_reorder.specs.Rtp.{RtpBody}
+use Rattle.h26x_reorder.specs.ReorderBuffer.{BufferState, buffer_state, goes_straight, push_answer, after_push, first_ready, next_packet, without_first_of}
+use Rattle.h26x_reorder.proofs.BufferLemmas.{none_held, held_alone}
 use Rattle.h26x_core.specs.declared.error.PacketError.{PacketError}
 use Rattle.std.specs.Prelude.{Result, Ok, Err, IfOk, MatchBool, not}
 use Rattle.h26x_receiver.specs.declared.received.Received.{Received}
@@ -14,7 +14,7 @@ use Rattle.h26x_receiver.specs.Sequenced.{is_taken}
 use Rattle.h26x_frames.specs.AccessUnit.{AccessUnitValue, UnitDepacketization, is_text_given_up, after_rtp, after_end}
 use Rattle.h26x_access_units.specs.declared.counts.Counts.{Counts}
 use Rattle.h26x_access_units.specs.declared.numbers.NumbersSoFar.{NumbersSoFar}
-use Rattle.h26x_frames.specs.declared.pushed.Pushed.TheVariants as frames
+use Rattle.h26x_reorder.specs.declared.pushed.Pushed.TheVariants as buffered
 use Rattle.h26x_access_units.specs.declared.pushed.Pushed.{Pushed}
 use Rattle.h26x_access_units.specs.declared.pushed.Pushed.TheVariants as pushes
 use Rattle.h26x_access_units.specs.Counts.{counted_due, counted_skip, counted_answer}
@@ -127,7 +127,7 @@ straight_answer s p window small len =
     let b = buffer_state window (Some p.0) [] in
     ap (λ (f : Bool). cond f (cond (is_behind_stray s.stray p.0) pushes.Anew pushes.Stray) (jitter_answer (record s.waiting { buffer = b }) p)) near
     ∙ ap (λ (f : Bool). cond f pushes.Full (as_pushed (push_answer b p.0))) full
-    ∙ ap (λ (l : Bool). as_pushed (cond l (frames.Late (distance_behind (Some p.0) p.0)) frames.Held)) early
+    ∙ ap (λ (l : Bool). as_pushed (cond l (buffered.Late (distance_behind (Some p.0) p.0)) buffered.Held)) early
 
 pub held_at_once : (s : Reception) (p : ℕ × RtpBody) → p.0 < 65536 → length p.1.payload < 18446744073709551616 → is_taken_at_once s p.0 ≡ true → pushes.Held ≡ reception_answer s p
 held_at_once s p small len is =

@@ -3,11 +3,11 @@ use Rattle.std.proofs.Common.{◌≡◌, ◌∙◌, ap, sym, subst, refl, ℕ, �
 use Rattle.std.specs.Prelude.{◌==◌, slice_get}
 use Rattle.std.proofs.lemmas.Bool.Decides.{nat_tests}
 use Rattle.std.specs.Option.{unwrap_or}
-use Rattle.h26x_receiver.specs.Sequence.{next_sequence_number, is_late}
-use Rattle.h26x_frames.specs.Rtp.{RtpBody}
-use Rattle.h26x_frames.specs.ReorderBuffer.{BufferState, buffer_state, due_at, put_packet, is_number_held, goes_straight, push_answer, after_push, without_first, IsHeldInOrder}
-use Rattle.h26x_frames.specs.declared.pushed.Pushed.TheVariants as pushes
-use Rattle.h26x_frames.proofs.BufferLemmas.{order_at, put_in_order, rest_in_order, none_held}
+use Rattle.h26x_core.specs.Sequence.{next_sequence_number, is_late}
+use Rattle.h26x_reorder.specs.Rtp.{RtpBody}
+use Rattle.h26x_reorder.specs.ReorderBuffer.{BufferState, buffer_state, due_at, put_packet, is_number_held, goes_straight, push_answer, after_push, without_first, IsHeldInOrder}
+use Rattle.h26x_reorder.specs.declared.pushed.Pushed.TheVariants as pushes
+use Rattle.h26x_reorder.proofs.BufferLemmas.{order_at, put_in_order, rest_in_order, none_held}
 use Rattle.h26x_access_units.specs.declared.arrival.Arrival.{Arrival}
 use Rattle.h26x_access_units.specs.Arrival.{arrival_of, without_number, not_passed, is_first_passed, from_at, AreArrivals, IsLetGo}
 use Rattle.h26x_access_units.proofs.PassedLemmas.{one_waits, first_stays, one_kept, early_is}

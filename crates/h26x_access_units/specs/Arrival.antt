@@ -2,9 +2,9 @@
 use Rattle.std.specs.Prelude.{◌≡◌, ℕ, ◌+◌, ◌-◌, ◌%◌, ◌^◌, ◌<◌, ◌≤◌, ◌==◌, nat_le, Bool, true, false, not, if◌then◌else◌, List, [], ◌∷◌, ◌++◌, Option, Some, None}
 use Rattle.std.specs.List.{AllByRecursion, filter}
 use Rattle.std.specs.Option.{unwrap_or}
-use Rattle.h26x_receiver.specs.Sequence.{distance_ahead, is_late, next_sequence_number}
-use Rattle.h26x_frames.specs.Rtp.{RtpBody}
-use Rattle.h26x_frames.specs.ReorderBuffer.{is_number_held, AreHeldInOrder}
+use Rattle.h26x_core.specs.Sequence.{distance_ahead, is_late, next_sequence_number}
+use Rattle.h26x_reorder.specs.Rtp.{RtpBody}
+use Rattle.h26x_reorder.specs.ReorderBuffer.{is_number_held, AreHeldInOrder}
 use Rattle.h26x_access_units.specs.declared.arrival.Arrival.{Arrival}
 
 -- a packet with this number came at this tick

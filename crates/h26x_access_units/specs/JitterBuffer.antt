@@ -1,8 +1,8 @@
 -- Packets that wait for those before them: by a window, by time and by bytes (RFC 3550, 5.1; ours).
 use Rattle.std.specs.Prelude.{◌≡◌, ℕ, ◌+◌, ◌<◌, ◌≤◌, ◌-◌, ◌^◌, ◌==◌, nat_lt, nat_le, Bool, false, ◌||◌, ◌&&◌, not, if◌then◌else◌, List, [], ◌∷◌, ◌++◌, length, Option, Some, None, slice_get, slice_index_or}
-use Rattle.h26x_receiver.specs.Sequence.{distance_ahead}
-use Rattle.h26x_frames.specs.Rtp.{RtpBody, rtp_body}
-use Rattle.h26x_frames.specs.ReorderBuffer.{BufferState, fresh_buffer, push_answer, after_push, next_packet, without_first, IsHeldInOrder}
+use Rattle.h26x_core.specs.Sequence.{distance_ahead}
+use Rattle.h26x_reorder.specs.Rtp.{RtpBody, rtp_body}
+use Rattle.h26x_reorder.specs.ReorderBuffer.{BufferState, fresh_buffer, push_answer, after_push, next_packet, without_first, IsHeldInOrder}
 use Rattle.h26x_access_units.specs.declared.arrival.Arrival.{Arrival}
 use Rattle.h26x_access_units.specs.declared.config.AccessUnitConfig.{AccessUnitConfig}
 use Rattle.h26x_access_units.specs.declared.pushed.Pushed.{Pushed}

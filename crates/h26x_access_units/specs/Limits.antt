@@ -1,7 +1,7 @@
 -- What a receiver holds at most (ours).
 use Rattle.std.specs.Prelude.{ℕ, ◌+◌, ◌≤◌, max, length, Option, Some, None}
 use Rattle.h26x_model.specs.Receive.RunLimit.{run_len}
-use Rattle.h26x_frames.specs.Rtp.{RtpBody}
+use Rattle.h26x_reorder.specs.Rtp.{RtpBody}
 use Rattle.h26x_frames.specs.AccessUnit.{unit_len}
 use Rattle.h26x_access_units.specs.JitterBuffer.{held_bytes}
 use Rattle.h26x_access_units.specs.Reception.{Reception}

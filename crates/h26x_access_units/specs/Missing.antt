@@ -1,8 +1,8 @@
 -- Numbers that are missing before packets that wait (RFC 4585, 6.2.1; ours).
 use Rattle.std.specs.Prelude.{◌≡◌, ℕ, zero, suc, ◌^◌, ◌<◌, ◌==◌, nat_lt, Bool, not, ◌&&◌, List, [], ◌∷◌, ◌++◌, Option, Some, None}
 use Rattle.std.specs.List.{list_any}
-use Rattle.h26x_receiver.specs.Sequence.{next_sequence_number, distance_ahead}
-use Rattle.h26x_frames.specs.ReorderBuffer.{is_number_held, last_number}
+use Rattle.h26x_core.specs.Sequence.{next_sequence_number, distance_ahead}
+use Rattle.h26x_reorder.specs.ReorderBuffer.{is_number_held, last_number}
 
 -- so many numbers, from one on
 abbrev pub numbers_from : ℕ → ℕ → List ℕ

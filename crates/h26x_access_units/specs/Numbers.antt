@@ -4,7 +4,7 @@ use Rattle.h26x_core.specs.declared.error.PacketError.{PacketError}
 use Rattle.h26x_receiver.specs.declared.received.Received.{Received}
 use Rattle.h26x_receiver.specs.declared.received.Received.TheVariants.{Gap, TooLong, Late}
 use Rattle.h26x_receiver.specs.Sequenced.{skip_answer}
-use Rattle.h26x_frames.specs.Rtp.{RtpBody}
+use Rattle.h26x_reorder.specs.Rtp.{RtpBody}
 use Rattle.h26x_access_units.specs.declared.numbers.UnitNumbers.{UnitNumbers}
 use Rattle.h26x_access_units.specs.declared.numbers.NumbersSoFar.{NumbersSoFar}
 

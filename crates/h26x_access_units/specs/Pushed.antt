@@ -1,9 +1,9 @@
 -- What becomes of packets that are given to a receiver (ours).
 use Rattle.std.specs.Prelude.{◌≡◌, ◌⊎◌}
-use Rattle.h26x_frames.specs.declared.pushed.Pushed.{Pushed}
-use Rattle.h26x_frames.specs.declared.pushed.Pushed.TheVariants as frames
-use Rattle.h26x_frames.specs.declared.buffer.NotHeldReason.{NotHeldReason}
-use Rattle.h26x_frames.specs.declared.buffer.NotHeldReason.TheVariants as held
+use Rattle.h26x_reorder.specs.declared.pushed.Pushed.{Pushed}
+use Rattle.h26x_reorder.specs.declared.pushed.Pushed.TheVariants as buffered
+use Rattle.h26x_reorder.specs.declared.buffer.NotHeldReason.{NotHeldReason}
+use Rattle.h26x_reorder.specs.declared.buffer.NotHeldReason.TheVariants as held
 use Rattle.h26x_access_units.specs.declared.pushed.Pushed as own
 use Rattle.h26x_access_units.specs.declared.pushed.Pushed.TheVariants as pushes
 use Rattle.h26x_access_units.specs.declared.pushed.NotPushedReason.{NotPushedReason}
@@ -11,9 +11,9 @@ use Rattle.h26x_access_units.specs.declared.pushed.NotPushedReason.TheVariants a
 
 -- the answer of a reorder buffer
 abbrev pub as_pushed : Pushed → own.Pushed
-as_pushed frames.Held = pushes.Held
-as_pushed (frames.Late n) = pushes.Late n
-as_pushed frames.Twice = pushes.Twice
+as_pushed buffered.Held = pushes.Held
+as_pushed (buffered.Late n) = pushes.Late n
+as_pushed buffered.Twice = pushes.Twice
 
 -- why a packet doesn't wait for which this is answered: where it would wait, memory lacks
 abbrev pub not_pushed_reason : own.Pushed → NotPushedReason

@@ -1,7 +1,7 @@
 //! When packets came that wait.
 
 ghost use Rattle.std.specs.Prelude.{◌≡◌, ◌<◌, ◌^◌, ◌++◌, Some, false};
-ghost use Rattle.h26x_receiver.specs.Sequence.{distance_ahead, is_late, next_sequence_number};
+ghost use Rattle.h26x_core.specs.Sequence.{distance_ahead, is_late, next_sequence_number};
 ghost use Rattle.h26x_access_units.specs.Arrival.{not_passed, is_first_passed, IsEndOf, IsRoomMade, IsLetGo, from_at};
 
 use std::collections::VecDeque;

@@ -5,8 +5,8 @@ ghost use Rattle.h26x_access_units.specs.Counts.{no_counts, given_up, counted_an
 
 use crate::numbers::missing_told;
 use crate::pushed::{NotPushedReason, Pushed};
-use h26x_frames::RtpPacket;
 use h26x_receiver::Received;
+use h26x_reorder::RtpPacket;
 
 /// What a receiver has counted since it was made. Each count stays at 2^64 - 1.
 #[derive(Debug, Clone, Copy, PartialEq, Eq)]

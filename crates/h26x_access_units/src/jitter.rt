@@ -2,8 +2,8 @@
 
 ghost use Rattle.std.specs.Prelude.{◌≡◌, ℕ, ◌+◌, ◌^◌, ◌<◌, ◌≤◌, ◌==◌, ◌++◌, true, false, IfOk, IfErr, OnOk, OnErr, MatchOption, length, slice_get};
 ghost use Rattle.std.specs.Option.{option_map};
-ghost use Rattle.h26x_frames.specs.Rtp.{RtpBody};
-ghost use Rattle.h26x_frames.specs.ReorderBuffer.{numbered_packet, goes_straight};
+ghost use Rattle.h26x_reorder.specs.Rtp.{RtpBody};
+ghost use Rattle.h26x_reorder.specs.ReorderBuffer.{numbered_packet, goes_straight};
 ghost use Rattle.h26x_access_units.specs.Arrival.{deadline_of, has_waited};
 ghost use Rattle.h26x_access_units.specs.Pushed.{IsNotPushedReason};
 ghost use Rattle.h26x_access_units.specs.Missing.{numbers_from, missing_numbers, AreExactlyMissing};
@@ -12,7 +12,7 @@ ghost use Rattle.h26x_access_units.specs.JitterBuffer.{with_packet, newest_of, i
 use crate::arrival::{Arrival, from_at, let_go};
 use crate::config::AccessUnitConfig;
 use crate::pushed::{NotPushed, NotPushedReason, Pushed, as_not_pushed};
-use h26x_frames::{self, HeldPacket, ReorderBuffer, RtpPacket};
+use h26x_reorder::{self, HeldPacket, ReorderBuffer, RtpPacket};
 use std::alloc::{AllocError, Global};
 use std::collections::VecDeque;
 use std::marker::Model;
@@ -164,7 +164,7 @@ impl JitterBuffer {
         };
         self.arrivals.reserve(1)?;
         match self.buffer.push(packet)? {
-            h26x_frames::Pushed::Held => {
+            h26x_reorder::Pushed::Held => {
                 self.bytes = bytes;
                 self.from = from_at(&self.arrivals, self.from, self.buffer.due());
                 self.arrivals.push_back_reserved(Arrival {
@@ -173,8 +173,8 @@ impl JitterBuffer {
                 });
                 Ok(Pushed::Held)
             }
-            h26x_frames::Pushed::Late(count) => Ok(Pushed::Late(count)),
-            h26x_frames::Pushed::Twice => Ok(Pushed::Twice),
+            h26x_reorder::Pushed::Late(count) => Ok(Pushed::Late(count)),
+            h26x_reorder::Pushed::Twice => Ok(Pushed::Twice),
         }
     }
 

@@ -2,8 +2,8 @@
 
 ghost use Rattle.std.specs.Prelude.{◌≤◌, ◌<◌, ◌^◌, ℕ, List, Option, length};
 ghost use Rattle.h26x_model.specs.Receive.DepacketizerState.{DepacketizerState};
-ghost use Rattle.h26x_frames.specs.Rtp.{RtpBody};
-ghost use Rattle.h26x_frames.specs.ReorderBuffer.{IsHeldInOrder};
+ghost use Rattle.h26x_reorder.specs.Rtp.{RtpBody};
+ghost use Rattle.h26x_reorder.specs.ReorderBuffer.{IsHeldInOrder};
 ghost use Rattle.h26x_access_units.specs.declared.config.AccessUnitConfig.{AccessUnitConfig};
 ghost use Rattle.h26x_access_units.specs.Missing.{missing_numbers, AreExactlyMissing};
 ghost use Rattle.h26x_access_units.specs.ReceivedUnit.{ReceivedUnitValue};

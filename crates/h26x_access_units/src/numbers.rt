@@ -3,8 +3,8 @@
 ghost use Rattle.std.specs.Prelude.{◌≡◌, ℕ, Option, Some, Ok};
 ghost use Rattle.h26x_access_units.specs.Numbers.{fresh_numbers, unit_numbers, numbers_ended, after_gap, after_packet, missing_told, missing_with, first_ended, without_first_ended, after_last, numbers_after};
 
-use h26x_frames::RtpPacket;
 use h26x_receiver::Received;
+use h26x_reorder::RtpPacket;
 
 /// The sequence numbers of the packets of an access unit.
 #[derive(Debug, Clone, Copy, PartialEq, Eq)]

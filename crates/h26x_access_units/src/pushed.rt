@@ -3,7 +3,7 @@
 ghost use Rattle.std.specs.Prelude.{◌≡◌};
 ghost use Rattle.h26x_access_units.specs.Pushed as spec;
 
-use h26x_frames::{HeldPacket, NotHeldReason};
+use h26x_reorder::{HeldPacket, NotHeldReason};
 
 /// What became of a packet that was given to a receiver.
 #[derive(Debug, Clone, Copy, PartialEq, Eq)]

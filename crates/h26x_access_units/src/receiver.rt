@@ -3,8 +3,8 @@
 ghost use Rattle.std.specs.Prelude.{◌≡◌, ◌^◌, ◌<◌, ◌≤◌, true, false, not, [], None, Ok, Err, IfOk, OnOk, OnErr, IfErr, length};
 ghost use Rattle.std.specs.Option.{option_map};
 ghost use Rattle.h26x_receiver.specs.Sequenced.{IfTaken};
-ghost use Rattle.h26x_frames.specs.Rtp.{rtp_body};
-ghost use Rattle.h26x_frames.specs.ReorderBuffer.{numbered_packet};
+ghost use Rattle.h26x_reorder.specs.Rtp.{rtp_body};
+ghost use Rattle.h26x_reorder.specs.ReorderBuffer.{numbered_packet};
 ghost use Rattle.h26x_access_units.specs.Pushed.{IsNotPushedReason};
 ghost use Rattle.h26x_access_units.specs.Counts.{counted_due};
 ghost use Rattle.h26x_frames.specs.Receiver.{frames_at, gives_text_up};
@@ -20,9 +20,10 @@ use crate::numbers::{NumbersSoFar, missing_with};
 use crate::pushed::{NotPushed, NotPushedReason, Pushed};
 use crate::unit::{ReceivedUnit, is_keyframe};
 use h26x_core::PacketError;
-use h26x_frames::{AccessUnit, FrameReceiver, HeldPacket, RtpPacket};
+use h26x_frames::{AccessUnit, FrameReceiver};
 use h26x_payload::RunDepacketizer;
 use h26x_receiver::{Received, SequencedDepacketizer};
+use h26x_reorder::{HeldPacket, RtpPacket};
 use std::alloc::Global;
 
 /// Takes RTP packets as they come and gives out access units.
@@ -128,7 +129,7 @@ pub trait Receives: Drop {
 
 impl<D: RunDepacketizer> Receives for AccessUnitReceiver<D> {
     ghost use Rattle.std.specs.Option.{option_map};
-    ghost use Rattle.h26x_frames.specs.ReorderBuffer.{numbered_packet};
+    ghost use Rattle.h26x_reorder.specs.ReorderBuffer.{numbered_packet};
     ghost use Rattle.h26x_frames.specs.Receiver.{frames_at};
     ghost use Rattle.h26x_access_units.specs.Reception.{reception};
 

@@ -3,7 +3,7 @@
 ghost use Rattle.std.specs.Prelude.{◌≡◌, ◌≢◌, ◌⊎◌, ◌<◌, ℕ, [], true, false, Some, None, Ok, Err, length};
 ghost use Rattle.h26x_model.specs.Where.{Where};
 ghost use Rattle.h26x_codec.specs.declared.codec.Codec.{Codec};
-ghost use Rattle.h26x_frames.specs.Rtp.{rtp_body};
+ghost use Rattle.h26x_reorder.specs.Rtp.{rtp_body};
 ghost use Rattle.h26x_handles.specs.AccessUnits.{is_access_units, endpoint_units, endpoint_deadline, endpoint_missing, place_units};
 ghost use Rattle.h26x_handles.specs.UnitsState.{UnitsState, units_finished, units_restarted, IsOutOfMemory};
 ghost use Rattle.h26x_handles.specs.Codes.{ok, out_of_memory, wrong_end};
@@ -15,12 +15,12 @@ use crate::const_handle::ConstHandle;
 use crate::handle::Handle;
 use crate::place::{Place, put};
 use h26x_access_units::{self, AccessUnitConfig};
-use h26x_frames::RtpPacket;
 use h26x_handles::access_units::{
     AccessUnitEndpoint, GivesUnits, UnitTold, code_of_next, numbers_of_push, units_codec_wanted,
 };
 use h26x_handles::code::{OK, OUT_OF_MEMORY, WRONG_END};
 use h26x_handles::endpoint::Endpoint;
+use h26x_reorder::RtpPacket;
 use std::alloc::Global;
 
 /// What a caller sets.

@@ -9,3 +9,4 @@ pub mod H264AccessUnit
 pub mod Hint
 pub mod ByteStream
 pub mod Pieces
+pub mod Sequence

@@ -1,6 +1,6 @@
 //! What the H.264, H.265 and H.266 payload crates share: errors, what is told beside bytes, the
-//! constants and header words of the payload formats, and the traits of packetizers and
-//! depacketizers.
+//! constants and header words of the payload formats, sequence numbers, and the traits of
+//! packetizers and depacketizers.
 //!
 //! The definitions that contracts cite stand in `specs/`.
 #![tactic(auto)]
@@ -15,6 +15,7 @@ pub mod h266_types;
 mod h266_words;
 pub mod laws;
 mod pieces;
+mod sequence;
 mod traits;
 
 pub use constants::{
@@ -28,4 +29,5 @@ pub use extra::{CodecExtra, H264CodecExtra, H265CodecExtra, H266CodecExtra};
 pub use h265_words::{H265FragmentationUnitHeader, H265NALUHeader, H265TSCI};
 pub use h266_words::{H266FragmentationUnitHeader, H266NALUHeader};
 pub use pieces::first_piece;
+pub use sequence::is_next;
 pub use traits::{Depacketizer, Packetizer};

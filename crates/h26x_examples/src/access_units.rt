@@ -1,8 +1,9 @@
 //! The examples of `h26x_frames`'s documents: access units of packets with their timestamps.
 
 use h26x_core::PacketError;
-use h26x_frames::{AccessUnit, FrameReceiver, ReorderBuffer, RtpPacket};
+use h26x_frames::{AccessUnit, FrameReceiver};
 use h26x_receiver::SequencedDepacketizer;
+use h26x_reorder::{ReorderBuffer, RtpPacket};
 use h264_payload::H264Depacketizer;
 use std::alloc::Global;
 

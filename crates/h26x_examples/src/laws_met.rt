@@ -32,16 +32,16 @@ ghost use Rattle.h264_payload.specs.H264.{h264};
 ghost use Rattle.h26x_codec.specs.Codec.{codec_format, fresh_depacketizer_state};
 ghost use Rattle.h26x_codec.specs.declared.codec.Codec.{Codec};
 ghost use Rattle.h26x_receiver.specs.Delivery.{IsDelivery, NoneIsRefused, mask_of_places, taken_mask};
-ghost use Rattle.h26x_receiver.specs.Sequence.{is_expected, next_sequence_number};
+ghost use Rattle.h26x_core.specs.Sequence.{is_expected, next_sequence_number};
 ghost use Rattle.h26x_receiver.specs.Sequenced.{SequencedDepacketization, after_skip, is_taken, sequenced_depacketization, with_expected, after_answers, HaveSequencedAnswers};
 ghost use Rattle.h26x_receiver.specs.declared.received.Received.{Received};
 ghost use Rattle.h26x_frames.specs.AccessUnit.{UnitDepacketization, IsNoneOpen, follows, after_all_rtp, after_unit_skip, after_end, HaveUnitAnswers};
 ghost use Rattle.h26x_frames.specs.AnyUnits.{SentPackets, AreSentApart, IsAnyStream, any_mask, any_units_left};
-ghost use Rattle.h26x_frames.specs.BufferSteps.{BufferStep, AreInTurn, AreNumbered, after_steps, steps_held, steps_out};
+ghost use Rattle.h26x_reorder.specs.BufferSteps.{BufferStep, AreInTurn, AreNumbered, after_steps, steps_held, steps_out};
 ghost use Rattle.h26x_frames.specs.Network.{IsNetwork, released_packets};
-ghost use Rattle.h26x_frames.specs.ReorderBuffer.{BufferState, fresh_buffer, next_packet, packet_at, ready_packets, reordered, without_first};
-ghost use Rattle.h26x_frames.specs.Reordering.{IsReordered, in_order};
-ghost use Rattle.h26x_frames.specs.Rtp.{RtpBody};
+ghost use Rattle.h26x_reorder.specs.ReorderBuffer.{BufferState, fresh_buffer, next_packet, packet_at, ready_packets, reordered, without_first};
+ghost use Rattle.h26x_reorder.specs.Reordering.{IsReordered, in_order};
+ghost use Rattle.h26x_reorder.specs.Rtp.{RtpBody};
 ghost use Rattle.h26x_frames.specs.StampedCalls.{StampedCall, AreStreamed, AreApart, AreUnitsWithin, AreUnitsGiven, brought_mask, IsBroughtStream, IsStream, IsSentIfWhole, access_unit_packets, packets_len, sent_bodies, sent_unit, sent_units, unit_left, units_left};
 
 use h26x_codec::formats::formats_meet_the_facts;
@@ -213,8 +213,8 @@ pub fn packets_in_order()
         reordered 64 (map (packet_at sent first) places)
         ≡ map (packet_at sent first) (in_order places) }
 {
-    h26x_frames::laws::packets_go_one_by_one();
-    h26x_frames::laws::numbered_packets_are_put_in_order();
+    h26x_reorder::laws::packets_go_one_by_one();
+    h26x_reorder::laws::numbered_packets_are_put_in_order();
 }
 
 /// Through a network and a buffer, units of a codec come of whose items each packet came.
@@ -311,7 +311,7 @@ pub fn packets_that_were_held()
         AreInTurn (steps_out (fresh_buffer 64) steps
         ++ (after_steps (fresh_buffer 64) steps).held) }
 {
-    h26x_frames::laws::those_held_are_given_out();
+    h26x_reorder::laws::those_held_are_given_out();
 }
 
 /// A packet behind a number that was skipped in order does what it would behind that number's packet

@@ -17,9 +17,9 @@ use Rattle.h26x_receiver.specs.declared.received.Received.{Received}
 use Rattle.h26x_receiver.specs.Delivery.{AreNextPlaces, taken_places, mask_of_places, NoneIsRefused}
 use Rattle.h26x_receiver.proofs.PlaceLemmas.{expected_at, is_place, IsOn}
 use Rattle.h26x_receiver.proofs.DeliveryLemmas.{WritesIt, is_among, up_from_first}
-use Rattle.h26x_frames.specs.Rtp.{RtpBody}
-use Rattle.h26x_frames.specs.Reordering.{in_order}
-use Rattle.h26x_frames.specs.ReorderBuffer.{reordered}
+use Rattle.h26x_reorder.specs.Rtp.{RtpBody}
+use Rattle.h26x_reorder.specs.Reordering.{in_order}
+use Rattle.h26x_reorder.specs.ReorderBuffer.{reordered}
 use Rattle.h26x_frames.specs.AccessUnit.{AccessUnitValue, UnitDepacketization, IsNoneOpen, is_closed_at, given_out, after_end, after_all_rtp, HaveUnitAnswers, AreUnitsReceived}
 use Rattle.h26x_frames.specs.StampedCalls.{unit_bodies, body_of_place, last_came, closed_after, open_after, IsOtherStamp, AreGivenOut, AreUnitsGiven, first_place, are_runs_within}
 use Rattle.h26x_frames.specs.AnyUnits.{SentPackets, any_bodies, units_that_came, any_unit_left, any_units_left, AreSentApart, any_mask, are_used, AreAnyUnitsBrought}
@@ -31,8 +31,8 @@ use Rattle.h26x_frames.proofs.PastLimitLemmas.{measured_from, measured_all, none
 use Rattle.h26x_frames.proofs.OrderedLemmas.{nothing, by_mask, up_of, first_on, first_known, all_taken}
 use Rattle.h26x_frames.proofs.TakenLemmas.{taken_packets, taken_answers, only_taken, taken_at, taken_below, taken_next}
 use Rattle.h26x_frames.proofs.ReceivedLemmas.{up_first}
-use Rattle.h26x_frames.proofs.PlaceShiftLemmas.{put_in_order_all}
-use Rattle.h26x_frames.proofs.ReorderLemmas.{puts_below}
+use Rattle.h26x_reorder.proofs.PlaceShiftLemmas.{put_in_order_all}
+use Rattle.h26x_reorder.proofs.ReorderLemmas.{puts_below}
 
 -- the text of what is left of packets
 left_of_packets : (most : ℕ) (w : UnitDepacketization) (f : Format) (avc : Bool) (sent : SentPackets) (before : Bool) (mask : List Bool) →

@@ -3,7 +3,7 @@ use Rattle.std.proofs.Common.{◌≡◌, ℕ, ◌+◌, ◌<◌, ◌≤◌, Bool,
 use Rattle.std.specs.Prelude.{◌==◌, nat_lt, max}
 use Rattle.std.proofs.lemmas.Bool.Decides.{nat_tests}
 use Rattle.h26x_receiver.specs.Delivery.{IsNextPlace, AreNextPlaces}
-use Rattle.h26x_frames.specs.Reordering.{put, puts, in_order, due_after, AreWithinWindow, AreJumpsShort, IsReordered}
+use Rattle.h26x_reorder.specs.Reordering.{put, puts, in_order, due_after, AreWithinWindow, AreJumpsShort, IsReordered}
 
 -- the last of places in order is behind the one expected
 due_ge : (q : ℕ) (places : List ℕ) → AreNextPlaces (Some q) places → q ≤ due_after q places

@@ -3,7 +3,7 @@ use Rattle.std.proofs.Common.{◌≡◌, ℕ, ◌≤◌, Bool, true, false, cond
 use Rattle.std.specs.Prelude.{◌==◌, ◌&&◌, nat_lt}
 use Rattle.std.proofs.lemmas.Bool.Decides.{nat_tests}
 use Rattle.h26x_model.specs.Receive.DepacketizerState.{DepacketizerState}
-use Rattle.h26x_frames.specs.Rtp.{RtpBody}
+use Rattle.h26x_reorder.specs.Rtp.{RtpBody}
 use Rattle.h26x_receiver.specs.Sequenced.{after_taken_packet}
 use Rattle.h26x_frames.specs.AccessUnit.{AccessUnitValue, whole_if, UnitDepacketization, follows, is_run_closed, taken_by, unit_len, unit_within, unit_with, given_out, ended_by, after_taken_rtp}
 use Rattle.h26x_frames.specs.StampedCalls.{AreUnitsWithin}

@@ -1,11 +1,5 @@
-pub mod ReorderLemmas
 pub mod GapLemmas
 pub mod NetworkLemmas
-pub mod HeldLemmas
-pub mod BufferLemmas
-pub mod StepLemmas
-pub mod NumberLemmas
-pub mod PlaceShiftLemmas
 pub mod TakeLemmas
 pub mod UnitLemmas
 pub mod UsedLemmas

@@ -12,11 +12,11 @@ use Rattle.h26x_model.specs.Send.PacketizerState.{state_packets}
 use Rattle.h26x_receiver.specs.declared.received.Received.{Received}
 use Rattle.h26x_receiver.specs.Sequenced.{with_expected, after_answers, HaveSequencedAnswers}
 use Rattle.h26x_receiver.specs.Delivery.{packet_of_place, WritesThoseOfCalls}
-use Rattle.h26x_frames.specs.Reordering.{in_order}
+use Rattle.h26x_reorder.specs.Reordering.{in_order}
 use Rattle.h26x_frames.specs.Network.{released_packets, UnitsComeThrough}
 use Rattle.h26x_frames.proofs.GapLemmas.{gaps_short}
-use Rattle.h26x_frames.proofs.ReorderLemmas.{puts_below, among_puts}
-use Rattle.h26x_frames.proofs.PlaceShiftLemmas.{put_in_order_all}
+use Rattle.h26x_reorder.proofs.ReorderLemmas.{puts_below, among_puts}
+use Rattle.h26x_reorder.proofs.PlaceShiftLemmas.{put_in_order_all}
 
 -- the law of packets in order, as it stands in `h26x_receiver`
 abbrev pub WritesThoseThatCame : Type 0

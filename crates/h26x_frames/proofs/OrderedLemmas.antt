@@ -12,14 +12,15 @@ use Rattle.h26x_model.specs.Payload.Facts.{IsPayloadFormat}
 use Rattle.h26x_model.specs.Receive.RunLimit.{run_len}
 use Rattle.h26x_receiver.specs.declared.received.Received.{Received}
 use Rattle.h26x_receiver.specs.declared.received.Received.TheVariants.{InOrder, Gap, TooLong, Late}
-use Rattle.h26x_receiver.specs.Sequence.{missing_count, distance_behind, is_late}
+use Rattle.h26x_core.specs.Sequence.{missing_count, distance_behind, is_late}
 use Rattle.h26x_receiver.specs.Sequenced.{after_sequenced_packet}
 use Rattle.h26x_receiver.specs.Delivery.{mask_of_places, IsNextPlace, AreNextPlaces, NoneIsRefused}
-use Rattle.h26x_receiver.proofs.PlaceLemmas.{number_at, expected_at, is_place, IsOn, next_number, next_in_time}
+use Rattle.h26x_core.proofs.SequenceLemmas.{number_at, next_number}
+use Rattle.h26x_receiver.proofs.PlaceLemmas.{expected_at, is_place, IsOn, next_in_time}
 use Rattle.h26x_receiver.proofs.DeliveryLemmas.{DamagesNothing, GoUp, is_among, not_among, earlier_among, up_from_first}
 use Rattle.h26x_receiver.proofs.AnswerLemmas.{accepted}
 use Rattle.h26x_receiver.proofs.OrderLemmas.{in_time_taken}
-use Rattle.h26x_frames.specs.Rtp.{RtpBody, rtp_body}
+use Rattle.h26x_reorder.specs.Rtp.{RtpBody, rtp_body}
 use Rattle.h26x_frames.specs.AccessUnit.{AccessUnitValue, UnitDepacketization, IsNoneOpen, taken_by, IsTakenAnswer, IsUnitAnswer, given_out, with_unit_within, after_taken_rtp, after_rtp, after_end, after_all_rtp, HaveUnitAnswers}
 use Rattle.h26x_frames.specs.StampedCalls.{sent_bodies, body_of_place, units_left, AreGivenOut, first_place, AreAccessUnitsLeft}
 use Rattle.h26x_frames.proofs.UnitLemmas.{after_all_taken, kept_from, AreGapsShort, IsLeftOpen}

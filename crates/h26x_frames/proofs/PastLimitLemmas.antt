@@ -4,7 +4,7 @@ use Rattle.std.specs.Prelude.{◌==◌, ◌&&◌, nat_lt}
 use Rattle.std.proofs.lemmas.Bool.Decides.{nat_tests}
 use Rattle.h26x_model.specs.Receive.DepacketizerState.{DepacketizerState}
 use Rattle.h26x_receiver.specs.Sequenced.{after_taken_packet}
-use Rattle.h26x_frames.specs.Rtp.{RtpBody}
+use Rattle.h26x_reorder.specs.Rtp.{RtpBody}
 use Rattle.h26x_frames.specs.AccessUnit.{AccessUnitValue, whole_if, UnitDepacketization, is_run_closed, taken_by, unit_with, unit_within, with_unit_within, without_text, given_out, ended_by, follows, after_taken_rtp}
 use Rattle.h26x_frames.specs.StampedCalls.{IsGivenOut, AreGivenOut, AreUnitsWithin}
 use Rattle.h26x_frames.proofs.TakeLemmas.{at_gap}

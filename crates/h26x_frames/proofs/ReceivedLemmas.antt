@@ -7,13 +7,13 @@ use Rattle.h26x_model.specs.Payload.Facts.{IsPayloadFormat}
 use Rattle.h26x_receiver.specs.declared.received.Received.{Received}
 use Rattle.h26x_receiver.specs.Delivery.{taken_places}
 use Rattle.h26x_receiver.proofs.DeliveryLemmas.{DamagesNothing, GoUp, up_from_first}
-use Rattle.h26x_frames.specs.Rtp.{RtpBody}
-use Rattle.h26x_frames.specs.Reordering.{in_order, IsReordered}
-use Rattle.h26x_frames.specs.ReorderBuffer.{reordered}
+use Rattle.h26x_reorder.specs.Rtp.{RtpBody}
+use Rattle.h26x_reorder.specs.Reordering.{in_order, IsReordered}
+use Rattle.h26x_reorder.specs.ReorderBuffer.{reordered}
 use Rattle.h26x_frames.specs.AccessUnit.{AccessUnitValue, UnitDepacketization, IsNoneOpen, IsUnitAnswer, given_out, after_rtp, after_all_rtp, HaveUnitAnswers, AreUnitsReceived}
 use Rattle.h26x_frames.specs.StampedCalls.{sent_bodies, first_place, units_left, brought_mask, AreUnitsGiven, AreAccessUnitsBrought}
-use Rattle.h26x_frames.proofs.ReorderLemmas.{puts_below}
-use Rattle.h26x_frames.proofs.PlaceShiftLemmas.{put_in_order_all}
+use Rattle.h26x_reorder.proofs.ReorderLemmas.{puts_below}
+use Rattle.h26x_reorder.proofs.PlaceShiftLemmas.{put_in_order_all}
 use Rattle.h26x_frames.proofs.GapLemmas.{gaps_short}
 use Rattle.h26x_frames.proofs.TakenLemmas.{taken_packets, taken_answers, only_taken, taken_at, taken_below, taken_next}
 use Rattle.h26x_frames.proofs.StreamLemmas.{GoesOn}

@@ -11,18 +11,18 @@ use Rattle.h26x_model.specs.Receive.DepacketizerState.{DepacketizerState, depack
 use Rattle.h26x_model.specs.Send.PacketizerState.{PacketizerState}
 use Rattle.h26x_receiver.specs.declared.received.Received.{Received}
 use Rattle.h26x_receiver.specs.declared.received.Received.TheVariants.{InOrder, Gap, TooLong, Late}
-use Rattle.h26x_receiver.specs.Sequence.{distance_behind, is_late, is_expected}
+use Rattle.h26x_core.specs.Sequence.{distance_behind, is_late, is_expected}
 use Rattle.h26x_receiver.specs.Sequenced.{with_run_if}
 use Rattle.h26x_receiver.specs.Delivery.{IsWantOrTooLong}
-use Rattle.h26x_receiver.proofs.PlaceLemmas.{number_at}
+use Rattle.h26x_core.proofs.SequenceLemmas.{number_at}
 use Rattle.h26x_receiver.proofs.RefusalLemmas.{no_answer, at_place, want_of}
-use Rattle.h26x_frames.specs.Rtp.{RtpBody}
-use Rattle.h26x_frames.specs.Reordering.{in_order}
-use Rattle.h26x_frames.specs.ReorderBuffer.{reordered}
+use Rattle.h26x_reorder.specs.Rtp.{RtpBody}
+use Rattle.h26x_reorder.specs.Reordering.{in_order}
+use Rattle.h26x_reorder.specs.ReorderBuffer.{reordered}
 use Rattle.h26x_frames.specs.AccessUnit.{UnitDepacketization, taken_by, IsTakenAnswer, after_rtp, HaveUnitAnswers}
 use Rattle.h26x_frames.specs.StampedCalls.{StampedCall, access_unit_packets, after_call, unit_bodies, sent_bodies, body_of_place, AreStreamed, NoneBroughtIsRefused}
-use Rattle.h26x_frames.proofs.ReorderLemmas.{puts_below}
-use Rattle.h26x_frames.proofs.PlaceShiftLemmas.{put_in_order_all}
+use Rattle.h26x_reorder.proofs.ReorderLemmas.{puts_below}
+use Rattle.h26x_reorder.proofs.PlaceShiftLemmas.{put_in_order_all}
 use Rattle.h26x_frames.proofs.StreamLemmas.{GoesOn, next_call}
 use Rattle.h26x_frames.proofs.OrderedLemmas.{nothing}
 use Rattle.h26x_frames.proofs.WholeLemmas.{Carries, all_append}

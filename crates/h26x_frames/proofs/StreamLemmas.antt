@@ -15,9 +15,10 @@ use Rattle.h26x_model.specs.Send.Calls.{AreCalls, call_entries, all_entries}
 use Rattle.h26x_model.specs.Send.PacketizerState.{PacketizerState, IsPacketizerState, state_units}
 use Rattle.h26x_model.specs.Carry.Gaps.{whole_units, after_kept_packets, WritesWholeUnits}
 use Rattle.h26x_model.specs.Carry.Laws.{PacketizerGoesOn}
-use Rattle.h26x_receiver.proofs.PlaceLemmas.{number_at, expected_at, is_place, IsOn}
+use Rattle.h26x_core.proofs.SequenceLemmas.{number_at}
+use Rattle.h26x_receiver.proofs.PlaceLemmas.{expected_at, is_place, IsOn}
 use Rattle.h26x_receiver.proofs.DeliveryLemmas.{DamagesNothing}
-use Rattle.h26x_frames.specs.Rtp.{RtpBody}
+use Rattle.h26x_reorder.specs.Rtp.{RtpBody}
 use Rattle.h26x_frames.specs.AccessUnit.{AccessUnitValue, UnitDepacketization, is_unit_at, is_closed_at, given_out}
 use Rattle.h26x_frames.specs.StampedCalls.{StampedCall, calls_of, access_unit_packets, after_call, unit_bodies, sent_bodies, are_runs_within, unit_left, last_came, closed_after, open_after, units_left, IsOtherStamp, AreApart, AreStreamed}
 use Rattle.h26x_frames.proofs.TakeLemmas.{at_gap}

@@ -12,10 +12,10 @@ use Rattle.h26x_model.specs.Receive.DepacketizerState.{DepacketizerState}
 use Rattle.h26x_model.specs.Receive.RunLimit.{run_len, run_within, state_with_run}
 use Rattle.h26x_receiver.specs.declared.received.Received.{Received}
 use Rattle.h26x_receiver.specs.declared.received.Received.TheVariants.{InOrder, Gap, TooLong, Late}
-use Rattle.h26x_receiver.specs.Sequence.{missing_count, distance_behind, is_late}
+use Rattle.h26x_core.specs.Sequence.{missing_count, distance_behind, is_late}
 use Rattle.h26x_receiver.specs.Sequenced.{SequencedDepacketization, sequenced_depacketization, after_sequenced_packet, after_taken_packet, answer_by_missing, is_taken, IsSequencedAnswer, after_answer}
 use Rattle.h26x_receiver.proofs.AnswerLemmas.{accepted}
-use Rattle.h26x_frames.specs.Rtp.{RtpBody, rtp_body}
+use Rattle.h26x_reorder.specs.Rtp.{RtpBody, rtp_body}
 use Rattle.h26x_frames.specs.AccessUnit.{AccessUnitValue, OpenUnitView, empty_unit, whole_if, UnitDepacketization, open_depacketization, is_unit_at, taken_by, unit_with, given_out, is_run_too_long, is_following, is_run_closed, gives_up_run, is_unit_broken, after_taken_rtp}
 
 -- an answer says whether the run was too long

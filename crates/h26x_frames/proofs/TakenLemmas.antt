@@ -8,7 +8,7 @@ use Rattle.h26x_receiver.specs.Delivery.{taken_places, IsNearPlace, AreNearPlace
 use Rattle.h26x_receiver.specs.Sequenced.{is_taken}
 use Rattle.h26x_receiver.proofs.DeliveryLemmas.{GoUp}
 use Rattle.h26x_receiver.proofs.PlaceLemmas.{IsOn, next_near}
-use Rattle.h26x_frames.specs.Rtp.{RtpBody}
+use Rattle.h26x_reorder.specs.Rtp.{RtpBody}
 use Rattle.h26x_frames.specs.AccessUnit.{UnitDepacketization, after_rtp, after_all_rtp, HaveUnitAnswers}
 use Rattle.h26x_frames.specs.StampedCalls.{body_of_place}
 

@@ -11,11 +11,12 @@ use Rattle.h26x_model.specs.Receive.Received.{run_after, reading_units}
 use Rattle.h26x_model.specs.Receive.DepacketizerState.{DepacketizerState, Depacketization, depacketization, after_packets}
 use Rattle.h26x_model.specs.Receive.RunLimit.{run_len, run_within, state_with_run, without_open_run, with_run_within}
 use Rattle.h26x_model.specs.Carry.Gaps.{after_kept_packets}
-use Rattle.h26x_receiver.specs.Sequence.{next_sequence_number, is_expected}
+use Rattle.h26x_core.specs.Sequence.{next_sequence_number, is_expected}
 use Rattle.h26x_receiver.specs.Sequenced.{with_run_if}
 use Rattle.h26x_receiver.specs.Delivery.{IsNextPlace}
-use Rattle.h26x_receiver.proofs.PlaceLemmas.{number_at, expected_at, is_place, IsOn, next_number, on_place, next_in_time, next_near}
-use Rattle.h26x_frames.specs.Rtp.{RtpBody, rtp_body}
+use Rattle.h26x_core.proofs.SequenceLemmas.{number_at, next_number}
+use Rattle.h26x_receiver.proofs.PlaceLemmas.{expected_at, is_place, IsOn, on_place, next_in_time, next_near}
+use Rattle.h26x_reorder.specs.Rtp.{RtpBody, rtp_body}
 use Rattle.h26x_frames.specs.AccessUnit.{AccessUnitValue, whole_if, UnitDepacketization, unit_depacketization, is_unit_at, is_closed_at, is_run_closed, leaves_no_byte, gives_up_run, is_unit_broken, given_out, after_taken_rtp}
 use Rattle.h26x_frames.specs.StampedCalls.{has_none, unit_bodies, are_runs_within, last_came}
 use Rattle.h26x_frames.specs.AnyUnits.{is_some_unit, is_unused, are_used}

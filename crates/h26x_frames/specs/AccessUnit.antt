@@ -12,9 +12,9 @@ use Rattle.h26x_model.specs.Receive.RunLimit.{run_len, state_with_run}
 use Rattle.h26x_receiver.specs.declared.received.Received.{Received}
 use Rattle.h26x_receiver.specs.declared.sequenced.SequencedDepacketizer.{SequencedDepacketizer}
 use Rattle.h26x_receiver.specs.declared.received.Received.TheVariants.{TooLong, Late}
-use Rattle.h26x_receiver.specs.Sequence.{is_expected, is_late, next_sequence_number}
+use Rattle.h26x_core.specs.Sequence.{is_expected, is_late, next_sequence_number}
 use Rattle.h26x_receiver.specs.Sequenced.{SequencedDepacketization, sequenced_depacketization, after_sequenced_packet, after_taken_packet, IsSequencedAnswer, expected_after_skip, is_run_kept}
-use Rattle.h26x_frames.specs.Rtp.{RtpBody, rtp_body}
+use Rattle.h26x_reorder.specs.Rtp.{RtpBody, rtp_body}
 use Rattle.h26x_frames.specs.declared.access_unit.AccessUnit.{AccessUnit}
 use Rattle.h26x_frames.specs.declared.access_unit.OpenUnit.{OpenUnit}
 

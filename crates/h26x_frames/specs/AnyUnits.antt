@@ -15,10 +15,10 @@ use Rattle.h26x_model.specs.Carry.Loss.{keep}
 use Rattle.h26x_model.specs.Carry.AnySender.{units_came}
 use Rattle.h26x_receiver.specs.declared.received.Received.{Received}
 use Rattle.h26x_receiver.specs.Delivery.{AreNearPlaces, taken_places, mask_of_places}
-use Rattle.h26x_frames.specs.Reordering.{in_order, IsReordered}
-use Rattle.h26x_frames.specs.Rtp.{RtpBody}
+use Rattle.h26x_reorder.specs.Reordering.{in_order, IsReordered}
+use Rattle.h26x_reorder.specs.Rtp.{RtpBody}
 use Rattle.h26x_frames.specs.AccessUnit.{AccessUnitValue, UnitDepacketization, IsNoneOpen, is_closed_at, is_run_closed, gives_up_run, after_all_rtp, after_end, HaveUnitAnswers}
-use Rattle.h26x_frames.specs.ReorderBuffer.{reordered}
+use Rattle.h26x_reorder.specs.ReorderBuffer.{reordered}
 use Rattle.h26x_frames.specs.StampedCalls.{unit_bodies, body_of_place, are_runs_within, last_came, closed_after, open_after, IsOtherStamp, AreUnitsGiven, first_place}
 
 -- whether some unit is among these

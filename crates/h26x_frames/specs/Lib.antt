@@ -1,10 +1,5 @@
-pub mod Reordering
-pub mod ReorderBuffer
-pub mod BufferSteps
 pub mod Network
-pub mod Rtp
 pub mod AccessUnit
 pub mod StampedCalls
 pub mod AnyUnits
 pub mod Receiver
-pub mod NumberOrder

@@ -10,8 +10,8 @@ use Rattle.h26x_model.specs.Receive.DepacketizerState.{Depacketization, AreWritt
 use Rattle.h26x_receiver.specs.declared.received.Received.{Received}
 use Rattle.h26x_receiver.specs.Sequenced.{with_expected, after_answers, HaveSequencedAnswers, is_taken}
 use Rattle.h26x_receiver.specs.Delivery.{packet_of_place, mask_of_places, NoneIsRefused, AreNearPlaces}
-use Rattle.h26x_frames.specs.Reordering.{IsReordered, in_order}
-use Rattle.h26x_frames.specs.ReorderBuffer.{reordered}
+use Rattle.h26x_reorder.specs.Reordering.{IsReordered, in_order}
+use Rattle.h26x_reorder.specs.ReorderBuffer.{reordered}
 
 -- The places, in the order in which they come, of the packets that a network brings of those that
 -- calls send: any of them may be lost, come twice, or before others that were sent earlier, but less

@@ -5,7 +5,7 @@ use Rattle.h26x_model.specs.Receive.DepacketizerState.{DepacketizerState}
 use Rattle.h26x_receiver.specs.declared.received.Received.{Received}
 use Rattle.h26x_frames.specs.declared.access_unit.AccessUnit.{AccessUnit}
 use Rattle.h26x_frames.specs.declared.receiver.FrameReceiver.{FrameReceiver}
-use Rattle.h26x_frames.specs.Rtp.{RtpBody}
+use Rattle.h26x_reorder.specs.Rtp.{RtpBody}
 use Rattle.h26x_frames.specs.AccessUnit.{AccessUnitValue, UnitDepacketization, IsNoneOpen, parts_at, after_rtp, is_text_given_up}
 use Rattle.h26x_frames.specs.StampedCalls.{AreAccessUnitsBrought, NoneBroughtIsRefused}
 use Rattle.h26x_frames.specs.AnyUnits.{AreAnyUnitsBrought}

@@ -16,10 +16,10 @@ use Rattle.h26x_model.specs.Receive.RunLimit.{run_len}
 use Rattle.h26x_model.specs.Carry.Gaps.{whole_units}
 use Rattle.h26x_receiver.specs.declared.received.Received.{Received}
 use Rattle.h26x_receiver.specs.Delivery.{AreNextPlaces, AreNearPlaces, taken_places, mask_of_places, NoneIsRefused, IsWantOrTooLong}
-use Rattle.h26x_frames.specs.Reordering.{in_order, IsReordered}
-use Rattle.h26x_frames.specs.Rtp.{RtpBody, rtp_body}
+use Rattle.h26x_reorder.specs.Reordering.{in_order, IsReordered}
+use Rattle.h26x_reorder.specs.Rtp.{RtpBody, rtp_body}
 use Rattle.h26x_frames.specs.AccessUnit.{AccessUnitValue, UnitDepacketization, IsNoneOpen, is_closed_at, after_all_rtp, after_end, HaveUnitAnswers}
-use Rattle.h26x_frames.specs.ReorderBuffer.{reordered}
+use Rattle.h26x_reorder.specs.ReorderBuffer.{reordered}
 
 -- a call, and the timestamp of the access unit that it sends
 pub record StampedCall : Type 0 where

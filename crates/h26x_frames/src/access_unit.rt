@@ -8,11 +8,11 @@ ghost use Rattle.h26x_frames.specs.AccessUnit.{access_unit_value, open_unit_valu
 ghost use Rattle.h26x_payload.specs.RunDepacketizer.{RunStaysWithin};
 
 use crate::answers::{is_following, is_sound, was_taken};
-use crate::packet::RtpPacket;
 use h26x_core::{CodecExtra, PacketError};
 use h26x_model::laws;
 use h26x_payload::{OpenRun, OpenText, RunDepacketizer};
 use h26x_receiver::{Received, SequencedDepacketizer};
+use h26x_reorder::RtpPacket;
 use std::alloc::Global;
 use std::marker::Model;
 

@@ -1,24 +1,12 @@
 //! What is known of a packet by its number and by what was answered for it.
 
 ghost use Rattle.std.specs.Prelude.{◌≡◌, false, if◌then◌else◌};
-ghost use Rattle.h26x_receiver.specs.Sequence.{is_expected};
 ghost use Rattle.h26x_receiver.specs.Sequenced.{is_taken};
 ghost use Rattle.h26x_frames.specs.AccessUnit.{is_closed_at, is_following, is_run_too_long};
 
-use crate::packet::RtpPacket;
-use h26x_core::PacketError;
+use h26x_core::{PacketError, is_next};
 use h26x_receiver::Received;
-
-/// Whether a sequence number is the one expected.
-#[inline]
-pub(crate) fn is_next(expected: Option<u16>, sequence: u16) -> bool
-    ensures { result ≡ is_expected expected sequence }
-{
-    match expected {
-        Some(expected) => sequence == expected,
-        None => false,
-    }
-}
+use h26x_reorder::RtpPacket;
 
 /// Whether the marker of the last packet ended an access unit of this timestamp.
 #[inline]

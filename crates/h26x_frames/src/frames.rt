@@ -2,19 +2,18 @@
 
 ghost use Rattle.std.specs.Prelude.{◌≡◌, ◌<◌, ◌≤◌, ◌^◌, IfOk, OnErr, Err, map};
 ghost use Rattle.h26x_receiver.specs.Sequenced.{having_taken_all};
-ghost use Rattle.h26x_frames.specs.ReorderBuffer.{reordered};
+ghost use Rattle.h26x_reorder.specs.ReorderBuffer.{reordered};
 ghost use Rattle.h26x_frames.specs.AccessUnit.{unit_len, with_open_unit, AreUnitsReceived};
 ghost use Rattle.h26x_frames.specs.Receiver.{frames_at, BringsAccessUnits, BringsAnyUnits, RefusesNoneBrought};
 ghost use Rattle.h26x_payload.specs.RunDepacketizer.{RunStaysWithin, IsSameBesideRun};
 
 use crate::access_unit::AccessUnit;
-use crate::packet::RtpPacket;
 use crate::receiver::FrameReceiver;
-use crate::reorder::ordered;
 use h26x_core::PacketError;
 use h26x_model::laws;
 use h26x_payload::RunDepacketizer;
 use h26x_receiver::Received;
+use h26x_reorder::{RtpPacket, ordered};
 use std::alloc::Global;
 
 /// Puts packets in the order of their sequence numbers through a buffer with this window, 1 to 2^14,

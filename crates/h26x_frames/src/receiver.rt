@@ -8,12 +8,12 @@ ghost use Rattle.h26x_frames.specs.Receiver.{frames_at, after_receiving, gives_t
 ghost use Rattle.h26x_payload.specs.RunDepacketizer.{RunStaysWithin};
 
 use crate::access_unit::{AccessUnit, OpenAccessUnit, OpenUnit};
-use crate::answers::{is_next, is_sound, was_taken};
-use crate::packet::RtpPacket;
+use crate::answers::{is_sound, was_taken};
 use crate::spare::SpareMemory;
-use h26x_core::PacketError;
+use h26x_core::{PacketError, is_next};
 use h26x_payload::RunDepacketizer;
 use h26x_receiver::{Received, SequencedDepacketizer};
+use h26x_reorder::RtpPacket;
 use std::alloc::Global;
 
 /// Takes a packet into the access unit that was open.

@@ -10,7 +10,7 @@ ghost use Rattle.h26x_access_units.specs.JitterBuffer.{due_packet};
 ghost use Rattle.h26x_access_units.specs.ReceivedUnit.{ReceivedUnitValue};
 ghost use Rattle.h26x_access_units.specs.Reception.{Reception, IsNext, after_reception, ended_if_anew};
 ghost use Rattle.h26x_access_units.specs.declared.pushed.Pushed.TheVariants as pushes;
-ghost use Rattle.h26x_frames.specs.Rtp.{RtpBody};
+ghost use Rattle.h26x_reorder.specs.Rtp.{RtpBody};
 ghost use Rattle.h26x_handles.specs.Codes.{ok, no_room, out_of_memory, out_of_range, unknown_codec, not_of_this_codec};
 ghost use Rattle.h26x_handles.specs.Copies.{with_first};
 ghost use Rattle.h26x_handles.specs.PlacementAnswer.{AreCounted, IsPlacementAnswer};

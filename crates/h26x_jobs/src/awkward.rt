@@ -12,8 +12,8 @@ use crate::setting::{SETTINGS, Setting};
 use crate::stream::Picture;
 use h26x_codec::{AnyDepacketizer, Codec};
 use h26x_core::{CodecExtra, PacketError};
-use h26x_frames::{Pushed, ReorderBuffer, RtpPacket};
 use h26x_receiver::SequencedDepacketizer;
+use h26x_reorder::{Pushed, ReorderBuffer, RtpPacket};
 use std::alloc::Global;
 
 /// How many bytes a payload has.

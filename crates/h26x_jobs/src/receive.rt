@@ -12,8 +12,9 @@ use crate::setting::{SETTINGS, Setting};
 use crate::stream::{pictures, small_pictures};
 use h26x_codec::AnyDepacketizer;
 use h26x_core::{CodecExtra, PacketError};
-use h26x_frames::{AccessUnit, FrameReceiver, ReorderBuffer, RtpPacket, receive_frames};
+use h26x_frames::{AccessUnit, FrameReceiver, receive_frames};
 use h26x_receiver::{Received, SequencedDepacketizer};
+use h26x_reorder::{ReorderBuffer, RtpPacket};
 use std::alloc::Global;
 
 /// How many bytes an open run may hold.

@@ -13,11 +13,10 @@ use crate::setting::{SETTINGS, Setting};
 use crate::stream::{pictures, small_pictures};
 use h26x_codec::Codec;
 use h26x_core::PacketError;
-use h26x_frames::{
-    AccessUnit, FrameReceiver, HeldPacket, NotHeld, NotHeldReason, ReorderBuffer, RtpPacket,
-};
+use h26x_frames::{AccessUnit, FrameReceiver};
 use h26x_payload::{PayloadDepacketizer, RunDepacketizer};
 use h26x_receiver::SequencedDepacketizer;
+use h26x_reorder::{HeldPacket, NotHeld, NotHeldReason, ReorderBuffer, RtpPacket};
 use h264_payload::H264;
 use h265_payload::H265;
 use h266_payload::H266;

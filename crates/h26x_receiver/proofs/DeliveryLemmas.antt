@@ -16,11 +16,12 @@ use Rattle.h26x_model.specs.Carry.AnySender.{WritesWhatCame}
 use Rattle.h26x_model.specs.Payload.Format.{Format}
 use Rattle.h26x_receiver.specs.declared.received.Received.{Received}
 use Rattle.h26x_receiver.specs.declared.received.Received.TheVariants.{InOrder, Gap, TooLong, Late}
-use Rattle.h26x_receiver.specs.Sequence.{next_sequence_number, distance_behind, is_late, is_expected}
+use Rattle.h26x_core.specs.Sequence.{next_sequence_number, distance_behind, is_late, is_expected}
 use Rattle.h26x_receiver.specs.Sequenced.{SequencedDepacketization, with_expected, with_run_if, after_sequenced_packet, is_taken, IsSequencedAnswer, after_answers, HaveSequencedAnswers, AreAllReceived}
 use Rattle.h26x_receiver.specs.Delivery.{packet_of_place, taken_places, IsNearPlace, AreNearPlaces, taken_mask, WholeUnitsAreWritten, WhatWasTakenIsWritten}
 use Rattle.h26x_receiver.proofs.AnswerLemmas.{accepted}
-use Rattle.h26x_receiver.proofs.PlaceLemmas.{number_at, expected_at, is_place, IsOn, next_number, on_place}
+use Rattle.h26x_core.proofs.SequenceLemmas.{number_at, next_number}
+use Rattle.h26x_receiver.proofs.PlaceLemmas.{expected_at, is_place, IsOn, on_place}
 
 -- what stands after the packets at these places, which are taken
 abbrev pub after_places : ℕ → List (List ℕ) → Depacketization → Option ℕ → List ℕ → Depacketization

@@ -10,10 +10,11 @@ use Rattle.h26x_model.specs.Receive.DepacketizerState.{Depacketization, AreWritt
 use Rattle.h26x_model.specs.Send.PacketizerState.{state_packets}
 use Rattle.h26x_receiver.specs.declared.received.Received.{Received}
 use Rattle.h26x_receiver.specs.declared.received.Received.TheVariants.{InOrder, Gap, TooLong, Late}
-use Rattle.h26x_receiver.specs.Sequence.{missing_count, distance_behind, is_late}
+use Rattle.h26x_core.specs.Sequence.{missing_count, distance_behind, is_late}
 use Rattle.h26x_receiver.specs.Sequenced.{SequencedDepacketization, with_expected, after_sequenced_packet, answer_by_missing, after_answer, HaveSequencedAnswers}
 use Rattle.h26x_receiver.specs.Delivery.{packet_of_place, taken_places, AreNearPlaces, mask_of_places, AreNextPlaces, NoneIsRefused, WholeUnitsAreWritten, ThoseThatCameAreWritten}
-use Rattle.h26x_receiver.proofs.PlaceLemmas.{number_at, expected_at, next_number, next_in_time, next_near}
+use Rattle.h26x_core.proofs.SequenceLemmas.{number_at, next_number}
+use Rattle.h26x_receiver.proofs.PlaceLemmas.{expected_at, next_in_time, next_near}
 use Rattle.h26x_receiver.proofs.AnswerLemmas.{accepted}
 
 -- no packet that is taken is answered as late

@@ -1,14 +1,11 @@
 -- Numbers of packets by their places, which are less than half of the circle apart.
-use Rattle.std.proofs.Common.{◌≡◌, ℕ, ◌+◌, ◌%◌, ◌^◌, ◌<◌, ◌≤◌, Bool, false, Option, Some, None, refl, ap, arith}
+use Rattle.std.proofs.Common.{◌≡◌, ℕ, ◌+◌, ◌<◌, ◌≤◌, Bool, false, Option, Some, None, refl, ap, arith}
 use Rattle.std.specs.Prelude.{◌==◌}
 use Rattle.std.specs.Option.{option_map}
 use Rattle.std.proofs.lemmas.Bool.Decides.{nat_tests}
-use Rattle.h26x_receiver.specs.Sequence.{next_sequence_number, distance_ahead, is_late, is_expected}
+use Rattle.h26x_core.specs.Sequence.{distance_ahead, is_late, is_expected}
+use Rattle.h26x_core.proofs.SequenceLemmas.{number_at}
 use Rattle.h26x_receiver.specs.Delivery.{IsNearPlace, IsNextPlace}
-
--- the number of a place
-abbrev pub number_at : ℕ → ℕ → ℕ
-number_at first place = (first + place) % 2 ^ 16
 
 -- the number that is expected, by its place
 abbrev pub expected_at : ℕ → Option ℕ → Option ℕ
@@ -23,10 +20,6 @@ is_place (Some expected) place = place == expected
 abbrev pub IsOn : Option ℕ → ℕ → Type 0
 IsOn None place = Unit {0}
 IsOn (Some expected) place = expected ≤ place
-
--- the next place has the next number
-pub next_number : (first place : ℕ) → next_sequence_number (number_at first place) ≡ number_at first (place + 1)
-next_number first place = omega arith
 
 -- an earlier place has a number in the half behind
 earlier_late : (first expected place : ℕ) → place < expected → expected ≤ place + 32768 → 32768 ≤ distance_ahead (number_at first expected) (number_at first place)

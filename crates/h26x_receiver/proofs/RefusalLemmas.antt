@@ -15,10 +15,10 @@ use Rattle.h26x_model.specs.Receive.DepacketizerState.{Depacketization}
 use Rattle.h26x_model.specs.Send.PacketizerState.{PacketizerState, IsPacketizerState, state_units, state_packets}
 use Rattle.h26x_receiver.specs.declared.received.Received.{Received}
 use Rattle.h26x_receiver.specs.declared.received.Received.TheVariants.{InOrder, Gap, TooLong, Late}
-use Rattle.h26x_receiver.specs.Sequence.{distance_behind, is_late, is_expected}
+use Rattle.h26x_core.specs.Sequence.{distance_behind, is_late, is_expected}
 use Rattle.h26x_receiver.specs.Sequenced.{SequencedDepacketization, with_expected, with_run_if, after_answer, HaveSequencedAnswers}
 use Rattle.h26x_receiver.specs.Delivery.{packet_of_place, IsWantOrTooLong, NoneIsRefusedForWhatItIs}
-use Rattle.h26x_receiver.proofs.PlaceLemmas.{number_at}
+use Rattle.h26x_core.proofs.SequenceLemmas.{number_at}
 use Rattle.h26x_receiver.proofs.AnswerLemmas.{accepted}
 
 -- a refusal as an outcome of a depacketizer

@@ -1,7 +1,7 @@
 -- Numbers that bear nothing of the stream.
 use Rattle.std.proofs.Common.{◌≡◌, ℕ, ◌<◌, true, false, Option, Some, None, refl, arith}
 use Rattle.std.proofs.lemmas.Bool.Decides.{nat_tests}
-use Rattle.h26x_receiver.specs.Sequence.{next_sequence_number, distance_ahead, is_late, is_expected}
+use Rattle.h26x_core.specs.Sequence.{next_sequence_number, distance_ahead, is_late, is_expected}
 use Rattle.h26x_receiver.specs.Sequenced.{SequencedDepacketization, with_expected, after_skip}
 
 -- the number that is expected is not late

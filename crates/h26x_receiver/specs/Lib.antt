@@ -1,3 +1,2 @@
-pub mod Sequence
 pub mod Sequenced
 pub mod Delivery

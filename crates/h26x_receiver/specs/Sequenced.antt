@@ -8,7 +8,7 @@ use Rattle.h26x_payload.specs.OpenText.{OpenTextView, text_depacketization}
 use Rattle.h26x_receiver.specs.declared.received.Received.{Received}
 use Rattle.h26x_receiver.specs.declared.sequenced.SequencedDepacketizer.{SequencedDepacketizer}
 use Rattle.h26x_receiver.specs.declared.received.Received.TheVariants.{InOrder, Gap, TooLong, Late}
-use Rattle.h26x_receiver.specs.Sequence.{next_sequence_number, missing_count, distance_behind, is_late, is_expected}
+use Rattle.h26x_core.specs.Sequence.{next_sequence_number, missing_count, distance_behind, is_late, is_expected}
 use Rattle.h26x_payload.specs.RunDepacketizer.{RunStaysWithin}
 use Rattle.h26x_payload.specs.UnitSink.{Sink}
 

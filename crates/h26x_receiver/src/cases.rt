@@ -10,7 +10,7 @@ ghost use Rattle.h26x_model.specs.Receive.DepacketizerState.{depacketization};
 ghost use Rattle.h26x_model.specs.Carry.Gaps.{whole_units};
 ghost use Rattle.h264_payload.specs.H264.{h264};
 ghost use Rattle.h26x_codec.specs.Codec.{fresh_packetizer_state, fresh_depacketizer_state};
-ghost use Rattle.h26x_receiver.specs.Sequence.{next_sequence_number, missing_count, distance_behind, is_late, is_expected};
+ghost use Rattle.h26x_core.specs.Sequence.{next_sequence_number, missing_count, distance_behind, is_late, is_expected};
 ghost use Rattle.h26x_receiver.specs.Sequenced.{sequenced_depacketization, answer_by_missing, HaveSequencedAnswers, skip_answer, expected_after_skip, is_run_kept};
 ghost use Rattle.h26x_receiver.specs.Delivery.{IsDelivery, IsAnyDelivery, IsOrderedDelivery, IsNearPlace, IsNextPlace, ThoseThatCameAreWritten, WhatWasTakenIsWritten, IsWantOrTooLong, NoneIsRefused, taken_mask};
 

@@ -6,7 +6,7 @@ ghost use Rattle.h26x_model.specs.Receive.DepacketizerState.{depacketization, af
 ghost use Rattle.h26x_model.specs.Receive.RunLimit.{run_len, run_within, state_with_run};
 ghost use Rattle.h26x_payload.specs.OpenText.{IsSameText};
 ghost use Rattle.h26x_payload.specs.UnitSink.{bytes_brought, grown_to, TellsRoom};
-ghost use Rattle.h26x_receiver.specs.Sequence.{missing_count, is_expected};
+ghost use Rattle.h26x_core.specs.Sequence.{missing_count, is_expected};
 ghost use Rattle.h26x_receiver.specs.Sequenced.{after_answer, is_taken, skip_answer, expected_after_skip, is_run_kept, receiver_at, receiver_in_text, met_at_sink, RunGrowsByPacket, IsAnswerOf, IsAnswerInText, IsSkipped, IfTaken};
 ghost use Rattle.h26x_payload.specs.RunDepacketizer.{IsSameBesideRun, RunStaysWithin, runless, anew_at_sink};
 

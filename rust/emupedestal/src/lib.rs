@@ -166,10 +166,11 @@ pub use proved::h26x_core::{
 };
 pub use proved::h26x_core::{H265FragmentationUnitHeader, H265NALUHeader, H265TSCI};
 pub use proved::h26x_core::{H266FragmentationUnitHeader, H266NALUHeader};
-pub use proved::h26x_frames::{
-    AccessUnit, HeldPacket, NotHeld, NotHeldReason, Pushed, ReorderBuffer, RtpPacket,
-};
+pub use proved::h26x_frames::AccessUnit;
 pub use proved::h26x_receiver::Received;
+pub use proved::h26x_reorder::{
+    HeldPacket, NotHeld, NotHeldReason, Pushed, ReorderBuffer, RtpPacket,
+};
 pub use proved::h264_payload::{detect_h264_keyframe, detect_h264_nalu};
 pub use proved::h265_packets::{
     H265AggregationPacket, H265AggregationUnit, H265AggregationUnitFirst,

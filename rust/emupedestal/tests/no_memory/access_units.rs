@@ -5,8 +5,9 @@ use crate::PacketError;
 use crate::ends::{fragment, longer_fragment};
 use crate::proved::h26x_codec::{AnyPayloadDepacketizer, Codec};
 use crate::proved::h26x_core::CodecExtra;
-use crate::proved::h26x_frames::{AccessUnit, FrameReceiver, RtpPacket, receive_frames};
+use crate::proved::h26x_frames::{AccessUnit, FrameReceiver, receive_frames};
 use crate::proved::h26x_receiver::{Received, SequencedDepacketizer};
+use crate::proved::h26x_reorder::RtpPacket;
 use crate::refusing::{insist, refused_at, some_refused, without_memory};
 use crate::sequenced::{UNITS, Unit};
 

@@ -39,6 +39,7 @@ mod proved {
     pub mod h26x_payload;
     pub mod h26x_profile;
     pub mod h26x_receiver;
+    pub mod h26x_reorder;
     #[cfg(feature = "sdp")]
     pub mod h26x_sdp;
 }

@@ -1,7 +1,7 @@
 //! Requests for memory that are refused.
 
 use crate::PacketError;
-use crate::proved::h26x_frames::{NotHeld, NotHeldReason};
+use crate::proved::h26x_reorder::{NotHeld, NotHeldReason};
 use crate::support::AllocError;
 use std::alloc::{GlobalAlloc, Layout, System};
 use std::cell::Cell;

@@ -1,7 +1,7 @@
 //! A buffer for packets that come before earlier ones: one that is refused for memory leaves it, and can be given
 //! again.
 
-use crate::proved::h26x_frames::{
+use crate::proved::h26x_reorder::{
     HeldPacket, NotHeldReason, Pushed, ReorderBuffer, RtpPacket, reorder_all,
 };
 use crate::refusing::{insist_on, insist_or_go_on, refused_at, some_refused, without_memory};

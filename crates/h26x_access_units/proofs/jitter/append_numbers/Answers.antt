@@ -1,7 +1,7 @@
 use Rattle.std.proofs.Common.{rules, ◌≡◌, ◌∙◌, ap, sym, ℕ, List, [], ◌∷◌, ◌++◌, append_assoc, arith}
 use Rattle.std.proofs.lemmas.List.{append-nil}
 use Rattle.std.specs.Prelude.{suc}
-use Rattle.h26x_receiver.specs.Sequence.{next_sequence_number}
+use Rattle.h26x_core.specs.Sequence.{next_sequence_number}
 use Rattle.h26x_access_units.specs.Missing.{numbers_from}
 use Rattle.h26x_access_units.proofs.jitter.append_numbers.Goals as goal
 

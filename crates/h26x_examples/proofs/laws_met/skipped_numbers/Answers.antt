@@ -1,5 +1,5 @@
 use Rattle.std.proofs.Common.{◌≡◌, ◌∙◌, ap, eq-eqb, refl, true, sym}
-use Rattle.h26x_receiver.specs.Sequence.{is_expected, next_sequence_number}
+use Rattle.h26x_core.specs.Sequence.{is_expected, next_sequence_number}
 use Rattle.h26x_receiver.specs.Sequenced.{SequencedDepacketization}
 use Rattle.h26x_frames.specs.AccessUnit.{UnitDepacketization, follows}
 use Rattle.h26x_examples.proofs.laws_met.skipped_numbers.Goals as goal

@@ -7,8 +7,8 @@ use Rattle.h26x_receiver.specs.declared.received.Received.TheVariants.{Late}
 use Rattle.h26x_receiver.specs.Sequenced.{is_taken, having_taken_all}
 use Rattle.h26x_receiver.proofs.AnswerLemmas.{accepted}
 use Rattle.h26x_receiver.proofs.TakenLemmas.{taken_on}
-use Rattle.h26x_frames.specs.Rtp.{RtpBody}
-use Rattle.h26x_frames.specs.ReorderBuffer.{reordered}
+use Rattle.h26x_reorder.specs.Rtp.{RtpBody}
+use Rattle.h26x_reorder.specs.ReorderBuffer.{reordered}
 use Rattle.h26x_frames.specs.AccessUnit.{access_unit_value, open_depacketization, unit_len, IsUnitAnswer, after_rtp, AreUnitsReceived}
 use Rattle.h26x_frames.proofs.ReceivedLemmas.{units_more, units_to_end, units_brought_by}
 use Rattle.h26x_frames.proofs.AnyLemmas.{any_brought_by}

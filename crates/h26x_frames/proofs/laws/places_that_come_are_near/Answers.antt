@@ -1,5 +1,5 @@
 use Rattle.std.proofs.Common.{None}
-use Rattle.h26x_frames.specs.Reordering.{in_order}
+use Rattle.h26x_reorder.specs.Reordering.{in_order}
 use Rattle.h26x_frames.proofs.GapLemmas.{gaps_short}
 use Rattle.h26x_frames.proofs.TakenLemmas.{all_near}
 use Rattle.h26x_frames.proofs.laws.places_that_come_are_near.Goals as goal

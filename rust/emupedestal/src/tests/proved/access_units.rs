@@ -4,8 +4,8 @@ use crate::proved::h26x_access_units::{
     AccessUnitConfig, AccessUnitReceiver, Pushed, ReceivedUnit, Receives,
 };
 use crate::proved::h26x_codec::{AnyDepacketizer, AnyPayloadDepacketizer, Codec};
-use crate::proved::h26x_frames::RtpPacket;
 use crate::proved::h26x_payload::RunDepacketizer;
+use crate::proved::h26x_reorder::RtpPacket;
 use crate::proved::h264_payload::H264Depacketizer;
 
 /// The settings of the tests: a window of 4 packets, a wait of 100 ticks, 20 bytes; a number so far

@@ -2,9 +2,10 @@
 //! what came of what was sent.
 
 use crate::proved::h26x_core::Packetizer;
-use crate::proved::h26x_frames::{AccessUnit, FrameReceiver, RtpPacket, receive_frames};
+use crate::proved::h26x_frames::{AccessUnit, FrameReceiver, receive_frames};
 use crate::proved::h26x_payload::RunDepacketizer;
 use crate::proved::h26x_receiver::SequencedDepacketizer;
+use crate::proved::h26x_reorder::RtpPacket;
 use crate::proved::h264_payload::{H264Depacketizer, H264Packetizer};
 use crate::proved::h265_payload::{H265Depacketizer, H265Packetizer};
 use crate::proved::h266_payload::{H266Depacketizer, H266Packetizer};

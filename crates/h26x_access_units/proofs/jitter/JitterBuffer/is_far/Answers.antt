@@ -1,5 +1,5 @@
 use Rattle.std.proofs.Common.{rules, ◌≡◌, ◌<◌, Some, false, sym, subst}
-use Rattle.h26x_receiver.specs.Sequence.{distance_ahead}
+use Rattle.h26x_core.specs.Sequence.{distance_ahead}
 use Rattle.h26x_access_units.specs.JitterBuffer.{JitterState, is_far}
 use Rattle.h26x_access_units.proofs.JitterLemmas.{near_not_far}
 use Rattle.h26x_access_units.proofs.jitter.JitterBuffer.is_far.Goals as goal

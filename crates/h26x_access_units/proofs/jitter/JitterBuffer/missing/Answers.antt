@@ -1,7 +1,7 @@
 use Rattle.std.proofs.Common.{rules, ◌≡◌, ◌∙◌, ◌<◌, ◌≤◌, ◌++◌, ap, sym, ℕ, List, Option, Some, length, subst, false, [], arith}
 use Rattle.std.proofs.lemmas.List.{append-nil, drop_all}
-use Rattle.h26x_frames.specs.Rtp.{RtpBody, rtp_body}
-use Rattle.h26x_frames.specs.ReorderBuffer.{IsHeldInOrder}
+use Rattle.h26x_reorder.specs.Rtp.{RtpBody, rtp_body}
+use Rattle.h26x_reorder.specs.ReorderBuffer.{IsHeldInOrder}
 use Rattle.h26x_access_units.specs.JitterBuffer.{JitterState}
 use Rattle.h26x_access_units.specs.Missing.{missing_before, missing_numbers}
 use Rattle.h26x_access_units.proofs.ExactLemmas.{exact_of}

@@ -1,7 +1,7 @@
 use Rattle.std.proofs.Common.{rules, false, ◌≡◌, ◌∙◌, ◌<◌, ap, sym, true, List, [], ◌∷◌, ◌++◌}
-use Rattle.h26x_frames.specs.Rtp.{RtpBody, rtp_body}
-use Rattle.h26x_frames.specs.ReorderBuffer.{BufferState, goes_straight, after_push}
-use Rattle.h26x_frames.proofs.BufferLemmas.{straight_goes}
+use Rattle.h26x_reorder.specs.Rtp.{RtpBody, rtp_body}
+use Rattle.h26x_reorder.specs.ReorderBuffer.{BufferState, goes_straight, after_push}
+use Rattle.h26x_reorder.proofs.BufferLemmas.{straight_goes}
 use Rattle.h26x_access_units.specs.declared.arrival.Arrival.{Arrival}
 use Rattle.h26x_access_units.specs.Arrival.{arrival_of, not_passed}
 use Rattle.h26x_access_units.specs.JitterBuffer.{JitterState, jitter_state, with_packet, without_arrival_of, without_due}

@@ -1,7 +1,7 @@
 use Rattle.std.proofs.Common.{rules, ◌≡◌, ◌∙◌, ap, sym, ℕ, ◌+◌, length}
-use Rattle.h26x_frames.specs.Rtp.{RtpBody}
-use Rattle.h26x_frames.specs.ReorderBuffer.{BufferState, numbered_packet, push_answer, after_push}
-use Rattle.h26x_frames.specs.declared.pushed.Pushed.TheVariants as pushes
+use Rattle.h26x_reorder.specs.Rtp.{RtpBody}
+use Rattle.h26x_reorder.specs.ReorderBuffer.{BufferState, numbered_packet, push_answer, after_push}
+use Rattle.h26x_reorder.specs.declared.pushed.Pushed.TheVariants as pushes
 use Rattle.h26x_access_units.specs.JitterBuffer.{JitterState, held_bytes}
 use Rattle.h26x_access_units.proofs.JitterLemmas.{push_bytes, push_window}
 use Rattle.h26x_access_units.proofs.WaitingLemmas.{came}

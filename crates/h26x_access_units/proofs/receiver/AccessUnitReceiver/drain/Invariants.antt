@@ -1,6 +1,6 @@
 use Rattle.std.proofs.Common.{length, map}
 use Rattle.std.specs.Option.{option_map}
-use Rattle.h26x_frames.specs.ReorderBuffer.{numbered_packet}
+use Rattle.h26x_reorder.specs.ReorderBuffer.{numbered_packet}
 use Rattle.h26x_frames.specs.AccessUnit.{access_unit_value, open_depacketization}
 use Rattle.h26x_access_units.specs.Reception.{reception, IsDrained}
 use Rattle.h26x_access_units.proofs.receiver.AccessUnitReceiver.drain.Given as goal

@@ -1,6 +1,6 @@
 use Rattle.std.proofs.Common.{◌∙◌, ap, sym, subst, map}
 use Rattle.std.specs.Option.{option_map}
-use Rattle.h26x_frames.specs.ReorderBuffer.{numbered_packet}
+use Rattle.h26x_reorder.specs.ReorderBuffer.{numbered_packet}
 use Rattle.h26x_frames.specs.AccessUnit.{access_unit_value, open_depacketization}
 use Rattle.h26x_access_units.specs.Reception.{Reception, reception, unit_given, without_given, IsDrained}
 use Rattle.h26x_access_units.specs.Limits.{IsWithinLimits}

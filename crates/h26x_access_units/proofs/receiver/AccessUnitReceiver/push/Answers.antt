@@ -1,6 +1,6 @@
 use Rattle.std.proofs.Common.{rules, ◌≡◌, ◌<◌, true, length}
 use Rattle.std.specs.Option.{option_map}
-use Rattle.h26x_frames.specs.ReorderBuffer.{numbered_packet}
+use Rattle.h26x_reorder.specs.ReorderBuffer.{numbered_packet}
 use Rattle.h26x_frames.specs.Receiver.{frames_at}
 use Rattle.h26x_access_units.specs.declared.pushed.Pushed.TheVariants as pushes
 use Rattle.h26x_access_units.specs.Reception.{reception, is_taken_at_once}

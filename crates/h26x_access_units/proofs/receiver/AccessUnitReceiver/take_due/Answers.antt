@@ -1,7 +1,7 @@
 use Rattle.std.proofs.Common.{rules, ◌≡◌, ◌∙◌, ap, sym, map, ℕ, false, Some}
 use Rattle.std.specs.Option.{option_map}
-use Rattle.h26x_frames.specs.ReorderBuffer.{numbered_packet}
-use Rattle.h26x_frames.specs.Rtp.{RtpBody}
+use Rattle.h26x_reorder.specs.ReorderBuffer.{numbered_packet}
+use Rattle.h26x_reorder.specs.Rtp.{RtpBody}
 use Rattle.h26x_frames.specs.AccessUnit.{access_unit_value, open_depacketization}
 use Rattle.h26x_access_units.specs.Reception.{reception, lacks_memory}
 use Rattle.h26x_access_units.proofs.ReceptionLemmas.{due_stands}

@@ -2,7 +2,7 @@ use Rattle.std.proofs.Common.{rules, ◌≡◌, ◌∙◌, ap, sym, subst, map, 
 use Rattle.std.specs.Option.{option_map}
 use Rattle.std.proofs.lemmas.List.{map-append}
 use Rattle.h26x_model.specs.Receive.RunLimit.{state_with_run}
-use Rattle.h26x_frames.specs.Rtp.{RtpBody}
+use Rattle.h26x_reorder.specs.Rtp.{RtpBody}
 use Rattle.h26x_frames.specs.AccessUnit.{AccessUnitValue, UnitDepacketization, whole_if, is_run_closed, OpenUnitView, access_unit_value, open_unit_value, open_unit_view, open_depacketization, is_unit_at, after_taken_rtp}
 use Rattle.h26x_frames.proofs.TakeLemmas.{ends_taken, same_open, unit_stamp}
 use Rattle.h26x_frames.proofs.access_unit.OpenAccessUnit.go_on_to_end.Goals as goal

@@ -2,7 +2,7 @@ use Rattle.std.proofs.Common.{rules, ◌≡◌, ◌∙◌, ap, sym, Bool, false,
 use Rattle.std.specs.Prelude.{◌&&◌, is_some}
 use Rattle.h26x_model.specs.Receive.RunLimit.{state_with_run}
 use Rattle.h26x_receiver.specs.Sequenced.{sequenced_in_text}
-use Rattle.h26x_frames.specs.Rtp.{RtpBody, rtp_body}
+use Rattle.h26x_reorder.specs.Rtp.{RtpBody, rtp_body}
 use Rattle.h26x_frames.specs.AccessUnit.{open_unit_value, is_run_too_long, is_following, after_taken_rtp}
 use Rattle.h26x_frames.proofs.TakeLemmas.{goes_on_taken, taken_work, at_gap, broken_by, broken_told, some_len}
 use Rattle.h26x_frames.proofs.access_unit.OpenUnit.take.Goals.{then-self, else-self}

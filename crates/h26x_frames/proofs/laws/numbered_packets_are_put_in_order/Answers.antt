@@ -1,5 +1,0 @@
-use Rattle.h26x_frames.proofs.PlaceShiftLemmas.{put_in_order_all}
-use Rattle.h26x_frames.proofs.laws.numbered_packets_are_put_in_order.Goals as goal
-
-pub returns : goal.returns
-returns c = put_in_order_all

@@ -1,5 +1,0 @@
-use Rattle.h26x_frames.proofs.StepLemmas.{those_held}
-use Rattle.h26x_frames.proofs.laws.those_held_are_given_out.Goals as goal
-
-pub returns : goal.returns
-returns c = those_held

@@ -1,0 +1,5 @@
+pub mod Rtp
+pub mod Reordering
+pub mod ReorderBuffer
+pub mod BufferSteps
+pub mod NumberOrder

@@ -1,0 +1,19 @@
+//! Packets that a network brings in any order, put in the order of their sequence numbers (RFC 3550,
+//! 5.1).
+#![tactic(auto)]
+
+mod buffer;
+mod cases;
+pub mod laws;
+mod numbered;
+mod order;
+mod packet;
+mod parted;
+mod pushed;
+mod reorder;
+mod spare;
+
+pub use buffer::{HeldPacket, NotHeld, NotHeldReason, ReorderBuffer};
+pub use packet::RtpPacket;
+pub use pushed::Pushed;
+pub use reorder::{ordered, reorder_all};

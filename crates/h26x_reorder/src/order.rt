@@ -1,0 +1,242 @@
+//! Packets in the order of their sequence numbers, until they may go.
+
+ghost use Rattle.std.specs.Prelude.{◌≡◌, ◌+◌, ◌^◌, ◌<◌, ◌≤◌, ◌==◌, if◌then◌else◌, true, false, ℕ, IfOk, IfErr, OnOk, OnErr, None, is_some, length, map, slice_get, slice_index_or};
+ghost use Rattle.std.specs.Option.{option_map};
+ghost use Rattle.h26x_core.specs.Sequence.{distance_ahead};
+ghost use Rattle.h26x_reorder.specs.Rtp.{RtpBody};
+ghost use Rattle.h26x_reorder.specs.NumberOrder.{IsPlaceOf, IsSearchResult};
+ghost use Rattle.h26x_reorder.specs.ReorderBuffer.{fresh_buffer, goes_straight, push_answer, after_push, next_packet, without_first, AreHeldInOrder};
+
+use crate::numbered::Numbered;
+use crate::parted::Parted;
+use crate::pushed::Pushed;
+use h26x_core::is_next;
+use std::alloc::{AllocFailed, Global};
+use std::marker::Model;
+
+/// How far ahead of the number that is due a number is taken as behind it: half of the circle (RFC
+/// 1982, 3.2).
+const HALF: u16 = 0x8000;
+
+/// Packets in the order of their numbers, each once, from one that is due on.
+#[derive(Debug, Drop)]
+pub(crate) struct NumberOrder<T: Numbered> {
+    window: u16,
+    due: Option<u16>,
+    held: Parted<T>,
+}
+
+impl<T: Numbered> Model for NumberOrder<T> {
+    ghost use Rattle.std.specs.Prelude.{map};
+    ghost use Rattle.h26x_reorder.specs.Rtp.{RtpBody};
+    ghost use Rattle.h26x_reorder.specs.ReorderBuffer.{BufferState, IsBufferState, buffer_state};
+
+    ghost Value = { BufferState RtpBody };
+
+    ghost view = { λ b. buffer_state b.window b.due (map T.numbered b.held) };
+
+    ghost invariant = { λ b. IsBufferState (buffer_state b.window b.due (map T.numbered b.held)) };
+}
+
+impl<T: Numbered> NumberOrder<T> {
+    /// None, with a window of so many.
+    pub(crate) fn new(alloc: Global, window: u16) -> Self
+        requires some { 0 < window }
+        requires half { window ≤ 2 ^ 14 }
+        ensures { result ≡ fresh_buffer window }
+    {
+        NumberOrder {
+            window,
+            due: None,
+            held: Parted::new(alloc),
+        }
+    }
+
+    /// How many packets it holds.
+    pub(crate) fn len(&self) -> usize
+        ensures { result ≡ length self.now.held }
+    {
+        self.held.len()
+    }
+
+    /// Whether it holds none.
+    pub(crate) fn is_empty(&self) -> bool
+        ensures { result ≡ (length self.now.held == 0) }
+    {
+        self.held.is_empty()
+    }
+
+    /// The number that is due, if a packet came.
+    #[inline]
+    pub(crate) fn due(&self) -> Option<u16>
+        ensures { result ≡ self.now.due }
+    {
+        self.due
+    }
+
+    /// The first packet.
+    #[inline]
+    pub(crate) fn first(&self) -> Option<&T>
+        ensures { option_map (λ p. T.numbered p.now) result ≡ slice_get self.now.held 0 }
+    {
+        self.held.first()
+    }
+
+    /// The number of the packet at a place.
+    #[inline]
+    pub(crate) fn number_at(&self, place: usize) -> u16
+        requires { place < length self.now.held }
+        ensures { (d : ℕ × RtpBody) → result ≡ (slice_index_or self.now.held place d).0 }
+    {
+        self.held.get(place).sequence()
+    }
+
+    /// How far ahead of a number the packet at a place is.
+    #[inline]
+    fn ahead_at(&self, due: u16, place: usize) -> u16
+        requires { place < length self.now.held }
+        ensures { (d : ℕ × RtpBody) → result
+            ≡ distance_ahead due (slice_index_or self.now.held place d).0 }
+    {
+        self.held.get(place).sequence().wrapping_sub(due)
+    }
+
+    /// Where a packet with this number stands, or else where it belongs, by halves.
+    fn search(&self, due: u16, number: u16) -> Result<usize, usize>
+        requires { AreHeldInOrder due 0 self.now.held }
+        ensures { IsSearchResult self.now.held due number result }
+    {
+        let ahead = number.wrapping_sub(due);
+        let (mut low, mut high) = (0, self.len());
+        while low < high {
+            let middle = low + (high - low) / 2;
+            let there = self.ahead_at(due, middle);
+            if there == ahead {
+                return Ok(middle);
+            }
+            if there < ahead {
+                low = middle + 1;
+            } else {
+                high = middle;
+            }
+        }
+        Err(low)
+    }
+
+    /// Where a packet with this number stands, or else where it belongs. One ahead of the last, as
+    /// most are, is not searched for.
+    #[inline(always)]
+    fn place_from(&self, due: u16, number: u16) -> Result<usize, usize>
+        requires { AreHeldInOrder due 0 self.now.held }
+        ensures { IsSearchResult self.now.held due number result }
+    {
+        let len = self.len();
+        if len == 0 || self.ahead_at(due, len - 1) < number.wrapping_sub(due) {
+            return Err(len);
+        }
+        self.search(due, number)
+    }
+
+    /// The number that is due once a packet comes, and the place where that packet is put; or what
+    /// is answered for one that isn't held.
+    #[inline(always)]
+    pub(crate) fn place_of(&self, sequence: u16) -> Result<(u16, usize), Pushed>
+        ensures held { IfOk result (λ at. IsPlaceOf self.now sequence at.0 at.1) }
+        ensures answer { IfOk result (λ _. push_answer self.now sequence ≡ Pushed.Held) }
+        ensures other { IfErr result (λ answer. answer ≡ push_answer self.now sequence) }
+        ensures same { (packet : RtpBody) → OnErr result
+            (self.now ≡ after_push self.now (sequence, packet)) }
+    {
+        let first_due = sequence.wrapping_add(1).wrapping_sub(self.window);
+        let due = self.due.unwrap_or(first_due);
+        let ahead = sequence.wrapping_sub(due);
+        if ahead >= HALF {
+            return Err(Pushed::Late(u16::MAX - ahead + 1));
+        }
+        match self.place_from(due, sequence) {
+            Ok(_) => Err(Pushed::Twice),
+            Err(place) => Ok((due, place)),
+        }
+    }
+
+    /// Puts a packet at its place. Without memory all stays as it was, and the packet comes back.
+    #[inline(always)]
+    pub(crate) fn put(&mut self, due: u16, place: usize, packet: T) -> Result<(), AllocFailed<T>>
+        requires { IsPlaceOf self.old (T.numbered packet).0 due place }
+        ensures after { OnOk result (self.new ≡ after_push self.old (T.numbered packet)) }
+        ensures kept { OnErr result (self.new ≡ self.old) }
+        ensures back { IfErr result (λ it. it.value ≡ packet) }
+    {
+        self.held.insert(place, packet)?;
+        self.due = Some(due);
+        Ok(())
+    }
+
+    /// The first packet, if it may go: the one that is due, or one that the window has passed.
+    #[inline]
+    pub(crate) fn pop(&mut self) -> Option<T>
+        ensures packet { option_map T.numbered result ≡ next_packet self.old }
+        ensures after { self.new ≡ (if is_some result then without_first self.old else self.old) }
+        ensures bounded { result ≡ None → length self.new.held < self.new.window }
+    {
+        if self.is_ready() {
+            self.pop_first()
+        } else {
+            None
+        }
+    }
+
+    /// The first packet, whether it may go or not.
+    #[inline]
+    pub(crate) fn pop_first(&mut self) -> Option<T>
+        ensures packet { option_map T.numbered result ≡ slice_get self.old.held 0 }
+        ensures after { self.new ≡ without_first self.old }
+    {
+        let first = self.held.pop_first()?;
+        self.due = Some(first.sequence().wrapping_add(1));
+        Some(first)
+    }
+
+    /// Whether none is held and this number is due, so that its packet needn't be held.
+    #[inline]
+    pub(crate) fn goes_straight(&self, number: u16) -> bool
+        ensures { result ≡ goes_straight self.now number }
+    {
+        self.is_empty() && is_next(self.due, number)
+    }
+
+    /// The packet with this number, which needn't be held, has gone.
+    #[inline]
+    pub(crate) fn pass(&mut self, number: u16)
+        requires { goes_straight self.old number ≡ true }
+        ensures { (packet : RtpBody) → self.new
+            ≡ without_first (after_push self.old (number, packet)) }
+    {
+        self.due = Some(number.wrapping_add(1));
+    }
+
+    /// Whether the first packet may go.
+    #[inline]
+    pub(crate) fn is_ready(&self) -> bool
+        ensures ready { result ≡ is_some (next_packet self.now) }
+        ensures few { result ≡ false → length self.now.held < self.now.window }
+    {
+        match (self.due, self.held.first(), self.held.last()) {
+            (Some(due), Some(first), Some(last)) => {
+                let number = first.sequence();
+                let ahead = number.wrapping_sub(due);
+                let newest = last.sequence().wrapping_sub(due);
+                number == due || newest - ahead + 1 >= self.window
+            }
+            _ => false,
+        }
+    }
+
+    /// Drops the packets, and takes any number as the next.
+    pub(crate) fn restart(&mut self)
+        ensures { self.new ≡ fresh_buffer self.old.window }
+    {
+        self.held.clear();
+        self.due = None;
+    }
+}
