@@ -4,7 +4,6 @@
 
 mod access_unit;
 mod answers;
-mod cases;
 mod frames;
 pub mod laws;
 mod receiver;

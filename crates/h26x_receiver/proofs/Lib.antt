@@ -6,4 +6,3 @@ pub mod OrderLemmas
 pub mod RefusalLemmas
 pub mod DeliveryLemmas
 pub mod SkipLemmas
-pub mod CaseLemmas

@@ -2,8 +2,8 @@ use Rattle.std.proofs.Common.{[], ◌∷◌, refl, arith, lit<, lit≤}
 use Rattle.h26x_model.specs.Send.Calls.{fresh_call}
 use Rattle.h264_payload.specs.H264.{h264}
 use Rattle.h26x_codec.specs.Codec.{fresh_packetizer_state}
-use Rattle.h26x_receiver.proofs.CaseLemmas.{fresh_is_one}
-use Rattle.h26x_receiver.proofs.cases.an_ordered_delivery.Goals as goal
+use Rattle.h26x_cases.proofs.CaseLemmas.{fresh_is_one}
+use Rattle.h26x_cases.proofs.receiver.an_ordered_delivery.Goals as goal
 
 pub returns-clause-is : goal.returns-clause-is
 returns-clause-is c = record {

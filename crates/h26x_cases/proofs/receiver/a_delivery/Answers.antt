@@ -1,6 +1,6 @@
 use Rattle.std.proofs.Common.{refl, arith, lit<, lit≤}
-use Rattle.h26x_receiver.proofs.CaseLemmas.{fresh_is_one}
-use Rattle.h26x_receiver.proofs.cases.a_delivery.Goals as goal
+use Rattle.h26x_cases.proofs.CaseLemmas.{fresh_is_one}
+use Rattle.h26x_cases.proofs.receiver.a_delivery.Goals as goal
 
 pub returns-clause-is : goal.returns-clause-is
 returns-clause-is c = record {

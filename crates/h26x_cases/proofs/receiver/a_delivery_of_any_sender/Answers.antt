@@ -1,5 +1,5 @@
 use Rattle.std.proofs.Common.{[], ◌∷◌, refl, lit<, lit≤}
-use Rattle.h26x_receiver.proofs.cases.a_delivery_of_any_sender.Goals as goal
+use Rattle.h26x_cases.proofs.receiver.a_delivery_of_any_sender.Goals as goal
 
 pub returns-clause-is : goal.returns-clause-is
 returns-clause-is c = record {

@@ -2,10 +2,10 @@ use Rattle.std.proofs.Common.{◌∙◌, ap, map, ℕ, Bool, true, [], ◌∷◌
 use Rattle.h26x_model.specs.Send.Calls.{fresh_call}
 use Rattle.h264_payload.specs.H264.{h264}
 use Rattle.h26x_codec.specs.Codec.{fresh_packetizer_state}
-use Rattle.h26x_receiver.proofs.CaseLemmas.{fresh_is_one}
+use Rattle.h26x_cases.proofs.CaseLemmas.{fresh_is_one}
 use Rattle.h26x_frames.specs.StampedCalls.{stamped_call}
 use Rattle.h26x_frames.proofs.PastLimitLemmas.{within_same}
-use Rattle.h26x_frames.proofs.cases.a_stream_left.Goals as goal
+use Rattle.h26x_cases.proofs.access_units.a_stream_left.Goals as goal
 
 pub returns : goal.returns
 returns c = λ units left.

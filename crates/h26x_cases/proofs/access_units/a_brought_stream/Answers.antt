@@ -1,6 +1,6 @@
 use Rattle.std.proofs.Common.{refl, arith, lit<, lit≤}
-use Rattle.h26x_receiver.proofs.CaseLemmas.{fresh_is_one}
-use Rattle.h26x_frames.proofs.cases.a_brought_stream.Goals as goal
+use Rattle.h26x_cases.proofs.CaseLemmas.{fresh_is_one}
+use Rattle.h26x_cases.proofs.access_units.a_brought_stream.Goals as goal
 
 pub returns : goal.returns
 returns c = record {

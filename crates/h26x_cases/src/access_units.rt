@@ -1,4 +1,4 @@
-//! Worked cases of the definitions, each the contract of a function without a result.
+//! Access units that packets bring, and what is left of them where some are missing.
 
 ghost use Rattle.std.specs.Prelude.{◌≡◌, ℕ, List, Bool, true, false, None, Some, [], ◌∷◌, Ok, map};
 ghost use Rattle.h26x_core.specs.declared.extra.CodecExtra.{CodecExtra};
