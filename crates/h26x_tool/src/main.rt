@@ -1,7 +1,6 @@
-//! The program: reads lines and prints the answers, as `h26x_session` does them.
+//! The program: reads lines and prints the answers, as `h26x_session` does them. Its answers are
+//! tested in `h26x_rows`.
 #![tactic(auto)]
-
-pub mod plain;
 
 pub use h26x_session::run;
 use std::io;
@@ -16,10 +15,3 @@ fn main(rt: HostRuntime) -> ExitCode {
         }
     }
 }
-
-#[cfg(test)]
-mod cut;
-#[cfg(test)]
-mod rows;
-#[cfg(test)]
-mod sessions;

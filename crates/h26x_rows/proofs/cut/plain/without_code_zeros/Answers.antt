@@ -1,6 +1,6 @@
 use Rattle.h26x_cut.proofs.SliceLemmas.{one_taken}
-use Rattle.h26x_tool.proofs.cut.plain.without_code_zeros.Goals as goal
-use Rattle.h26x_tool.proofs.cut.plain.without_code_zeros.Goals.{in-All, in-AtMostThree}
+use Rattle.h26x_rows.proofs.cut.plain.without_code_zeros.Goals as goal
+use Rattle.h26x_rows.proofs.cut.plain.without_code_zeros.Goals.{in-All, in-AtMostThree}
 
 pub returns : goal.returns
 returns c =

@@ -4,7 +4,7 @@ use Rattle.h26x_cut.specs.Cutting.{cut_pieces}
 use Rattle.h26x_cut.specs.Slices.{units_behind}
 use Rattle.h26x_cut.proofs.CuttingLemmas.{has_cutting}
 use Rattle.h26x_cut.proofs.SliceLemmas.{units_from, units_whole}
-use Rattle.h26x_tool.proofs.cut.plain.units.Goals as goal
+use Rattle.h26x_rows.proofs.cut.plain.units.Goals as goal
 
 pub returns-in-Some : goal.returns-in-Some
 returns-in-Some c =

@@ -1,8 +1,8 @@
 use Rattle.std.proofs.Common.{arith, ◌≡◌, false, drop}
 use Rattle.h26x_cut.specs.Cutting.{begins_code}
 use Rattle.h26x_cut.proofs.SliceLemmas.{from_start, from_next, first_found, none_found, begins_at, begins_not}
-use Rattle.h26x_tool.proofs.cut.plain.first_code.Goals as goal
-use Rattle.h26x_tool.proofs.cut.plain.first_code.Goals.{else-bytes-place-eq0-via-then-bytes-place-eq0+then-bytes-place-eq0-2+else-bytes-place-eq1, else-bytes-place-eq0-via-then-bytes-place-eq0+else-bytes-place-eq0-2, else-bytes-place-eq0-via-else-bytes-place-eq0}
+use Rattle.h26x_rows.proofs.cut.plain.first_code.Goals as goal
+use Rattle.h26x_rows.proofs.cut.plain.first_code.Goals.{else-bytes-place-eq0-via-then-bytes-place-eq0+then-bytes-place-eq0-2+else-bytes-place-eq1, else-bytes-place-eq0-via-then-bytes-place-eq0+else-bytes-place-eq0-2, else-bytes-place-eq0-via-else-bytes-place-eq0}
 
 pub loop-place-init : goal.loop-place-init
 loop-place-init c = from_start c.args.bytes.now

@@ -1,6 +1,6 @@
 use Rattle.std.proofs.Common.{◌≡◌, ◌-◌, ◌≤◌, take}
 use Rattle.h26x_cut.specs.Cutting.{without_zeros}
-use Rattle.h26x_tool.proofs.cut.plain.zeros_at_end.Given as goal
+use Rattle.h26x_rows.proofs.cut.plain.zeros_at_end.Given as goal
 
 -- the zeros before the place are counted
 abbrev pub invariant-loop-place : goal.invariant-loop-place

@@ -1,7 +1,7 @@
 use Rattle.std.proofs.Common.{arith}
 use Rattle.h26x_cut.proofs.SliceLemmas.{zero_counted, none_counted}
-use Rattle.h26x_tool.proofs.cut.plain.zeros_at_end.Goals as goal
-use Rattle.h26x_tool.proofs.cut.plain.zeros_at_end.Goals.{then-bytes-place-eq0, else-bytes-place-eq0}
+use Rattle.h26x_rows.proofs.cut.plain.zeros_at_end.Goals as goal
+use Rattle.h26x_rows.proofs.cut.plain.zeros_at_end.Goals.{then-bytes-place-eq0, else-bytes-place-eq0}
 
 pub loop-place-preserved : goal.loop-place-preserved
 loop-place-preserved c =

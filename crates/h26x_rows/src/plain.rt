@@ -3,7 +3,7 @@
 ghost use Rattle.std.specs.Prelude.{◌≡◌, ◌≢◌, [], ◌++◌, true, Some, Ok, Err, IfOk, OnOk, OnErr, IsOk};
 ghost use Rattle.h26x_core.specs.Front.{IsFrontOf};
 ghost use Rattle.h26x_payload.specs.Sending.{contents};
-ghost use Rattle.h26x_tool.specs.Plain.{plain_packets};
+ghost use Rattle.h26x_rows.specs.Plain.{plain_packets};
 
 use h26x_core::{CodecExtra, Depacketizer, PacketError, Packetizer};
 use std::alloc::Global;
