@@ -3,10 +3,9 @@
 //! them alone.
 #![tactic(auto)]
 
-pub mod plain;
-
 #[cfg(test)]
 mod cut;
+pub mod plain;
 #[cfg(test)]
 mod rows;
 #[cfg(test)]
