@@ -2,14 +2,14 @@
 
 ghost use Rattle.std.specs.Prelude.{◌≡◌, ◌≢◌, ◌≤◌, ◌<◌, ◌⊎◌, ℕ, [], true, false, Some, None, Ok, Err, length, drop};
 ghost use Rattle.std.specs.List.{concat};
-ghost use Rattle.h26x_model.specs.Send.PacketizerState.{one_unit_items, one_unit_packets, after_one_unit};
+ghost use Rattle.h26x_model.specs.Send.PacketizerState.{next_packets, after_payload, payload_has_no_effect, one_unit_items, one_unit_packets, after_one_unit};
 ghost use Rattle.h26x_codec.specs.Codec.{codec_format, fresh_packetizer_state};
 ghost use Rattle.h26x_codec.specs.declared.codec.Codec.{Codec};
 ghost use Rattle.h26x_handles.specs.Codes.{codec_or_code, may_have_donl, ok, out_of_memory, wrong_end, not_of_this_codec, out_of_range};
 ghost use Rattle.h26x_handles.specs.Copies.{with_front, nth_packet, AreCopied};
 ghost use Rattle.h26x_c.specs.Endpoints.{Makes, HasPacketizer, WherePacketizer, OnceDone, WhereDonl};
 ghost use Rattle.h26x_handles.specs.PlacementAnswer.{AreCounted, IsPlacementAnswer};
-ghost use Rattle.h26x_handles.specs.States.{endpoint_packetizer_state, endpoint_packets, endpoint_codec, endpoint_headers, endpoint_lowest_header, place_packetizer_state, place_packets, place_lowest_header, endpoint_without_output, packets_of_payload, payload_has_no_effect, headed_packets, after_payload, state_with_donl};
+ghost use Rattle.h26x_handles.specs.States.{endpoint_packetizer_state, endpoint_packets, endpoint_codec, endpoint_headers, endpoint_lowest_header, place_packetizer_state, place_packets, place_lowest_header, endpoint_without_output, headed_packets, state_with_donl};
 
 use crate::const_handle::ConstHandle;
 use crate::handle::Handle;
@@ -252,7 +252,7 @@ pub extern "C" fn h26x_packets_size(
     ensures free { WherePacketizer p.now.value
         (λ it. payload_has_no_effect it mtu payload.now ≡ true → result ≡ ok) }
     ensures size { OnceDone p.now.value result
-        (λ it. AreCounted headroom (packets_of_payload it mtu payload.now) count.new size.new) }
+        (λ it. AreCounted headroom (next_packets it mtu payload.now) count.new size.new) }
     ensures none { result ≢ ok → (count.new ≡ 0) × (size.new ≡ 0) }
 {
     *count = 0;

@@ -25,10 +25,9 @@ use Rattle.h26x_model.specs.Payload.Extra.{extra_after, first_extra}
 use Rattle.h26x_model.specs.Send.Plan.{item_units, plan, units_sent}
 use Rattle.h26x_model.specs.Send.WaitingSets.{WaitingSets, no_waiting_sets, plan_with_waiting}
 use Rattle.h26x_model.specs.Send.Packets.{plan_packets}
-use Rattle.h26x_model.specs.Send.PacketizerState.{PacketizerState, state_plan, state_units, state_packets, after_entries, has_no_effect, AreWithinLimits}
+use Rattle.h26x_model.specs.Send.PacketizerState.{PacketizerState, state_plan, state_units, state_packets, after_entries, has_no_effect, AreWithinLimits, next_call}
 use Rattle.h26x_model.specs.Receive.DepacketizerState.{DepacketizerState, Depacketization, units_brought, after_packets, IsPacketOutcome, IsRefusalCause, depacketization, AreWritten}
 use Rattle.h26x_model.specs.Carry.Laws.{PacketizerGoesOn, DepacketizerGoesOn, CarriesWhole}
-use Rattle.h26x_codec.specs.Codec.{next_call}
 use Rattle.h26x_codec.specs.Runs.{made_entries, made_units, AreMade, AreSent, IsSentCall, AreTaken, IsLeftOver, IsUnbegun, IsStoppedIn, IsStopped, IsFresh, AreCarriedWhole, next_calls}
 
 -- a beginning of a beginning is one of the whole

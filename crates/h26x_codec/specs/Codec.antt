@@ -5,9 +5,9 @@ use Rattle.std.specs.Option.{option_map, option_map_or}
 use Rattle.h26x_core.specs.declared.extra.CodecExtra.{CodecExtra}
 use Rattle.h26x_model.specs.Payload.Format.{Format}
 use Rattle.h26x_model.specs.Payload.TwoBytes.{is_two_byte_fragment}
-use Rattle.h26x_model.specs.Send.Calls.{Call, packet_limit, call_entries, default_max_packet_size}
+use Rattle.h26x_model.specs.Send.Calls.{packet_limit, default_max_packet_size}
 use Rattle.h26x_model.specs.Send.WaitingSets.{no_waiting_sets}
-use Rattle.h26x_model.specs.Send.PacketizerState.{PacketizerState, call_packets, after_entries, has_no_effect}
+use Rattle.h26x_model.specs.Send.PacketizerState.{PacketizerState}
 use Rattle.h26x_model.specs.Receive.Outcome.{is_startless}
 use Rattle.h26x_model.specs.Receive.DepacketizerState.{DepacketizerState, Depacketization, depacketization}
 use Rattle.h26x_model.specs.Where.{Where, WhereBoth}
@@ -70,22 +70,6 @@ fresh_packetizer_state f = record {
   next_don = 0;
   max_packet_size = default_max_packet_size;
 }
-
--- a call of a packetizer
-abbrev pub next_call : PacketizerState → ℕ → List ℕ → Call
-next_call s mtu payload = record { mtu = mtu; max_packet_size = s.max_packet_size; payload = payload }
-
--- the packets of it
-abbrev pub next_packets : PacketizerState → ℕ → List ℕ → List (List ℕ)
-next_packets s mtu payload = call_packets s (next_call s mtu payload)
-
--- the packetizer after it
-abbrev pub after_next_call : PacketizerState → ℕ → List ℕ → PacketizerState
-after_next_call s mtu payload = after_entries s (call_entries s.format (next_call s mtu payload))
-
--- it has no effect: its mtu is under the least, or its payload has no unit but skipped ones
-abbrev pub HasNoEffect : PacketizerState → ℕ → List ℕ → Type 0
-HasNoEffect s mtu payload = has_no_effect s.format (next_call s mtu payload) ≡ true
 
 -- how long a packet may be at an mtu, in bytes
 abbrev pub limit_at : PacketizerState → ℕ → ℕ

@@ -9,7 +9,7 @@ use Rattle.h26x_model.specs.Payload.Format.{Format}
 use Rattle.h26x_model.specs.Send.Calls.{Call, default_max_packet_size, all_entries, all_packets, sent_by}
 use Rattle.h26x_model.specs.Payload.Facts.{AreCarried}
 use Rattle.h26x_model.specs.Send.Again.{NothingDropped, IsSentAlike}
-use Rattle.h26x_model.specs.Send.PacketizerState.{PacketizerState}
+use Rattle.h26x_model.specs.Send.PacketizerState.{PacketizerState, next_call}
 use Rattle.h26x_model.specs.Receive.DepacketizerState.{DepacketizerState}
 use Rattle.h26x_model.specs.Receive.Received.{received}
 use Rattle.h26x_model.specs.Carry.Laws.{calls_like}
@@ -19,7 +19,7 @@ use Rattle.h26x_cut.specs.Cutting.{AreSeparable}
 use Rattle.h26x_codec.specs.declared.codec.Codec.{Codec}
 use Rattle.h26x_codec.specs.declared.codec.Codec.TheVariants as c
 use Rattle.h26x_codec.specs.declared.repeated.Repeated.{Repeated}
-use Rattle.h26x_codec.specs.Codec.{codec_format, fresh_packetizer_state, next_call}
+use Rattle.h26x_codec.specs.Codec.{codec_format, fresh_packetizer_state}
 
 -- how many zeros before 01 a start code of a codec has
 abbrev pub zero_rule : Codec → ZeroRule

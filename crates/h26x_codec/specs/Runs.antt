@@ -18,11 +18,11 @@ use Rattle.h26x_model.specs.Payload.Extra.{first_extra}
 use Rattle.h26x_model.specs.Payload.Facts.{AreCarried}
 use Rattle.h26x_model.specs.Send.Rival.{TakesFewestFragments}
 use Rattle.h26x_model.specs.Send.WaitingSets.{no_waiting_sets}
-use Rattle.h26x_model.specs.Send.PacketizerState.{PacketizerState, IsPacketizerState, state_units, state_packets, call_packets, calls_plan, after_entries, has_no_effect, AreWithinLimits}
+use Rattle.h26x_model.specs.Send.PacketizerState.{PacketizerState, IsPacketizerState, state_units, state_packets, call_packets, calls_plan, after_entries, has_no_effect, AreWithinLimits, next_call}
 use Rattle.h26x_model.specs.Receive.DepacketizerState.{DepacketizerState, depacketization, HaveAvcLengths, Depacketization, after_packets, IsRefusalCause, AreWritten}
 use Rattle.h26x_codec.specs.declared.carried.Carried.{Carried}
 use Rattle.h26x_codec.specs.declared.packetizer.CodecPacketizer.{CodecPacketizer}
-use Rattle.h26x_codec.specs.Codec.{OfPacketizer, next_call}
+use Rattle.h26x_codec.specs.Codec.{OfPacketizer}
 
 -- calls of a packetizer: an mtu and a payload each
 abbrev pub next_calls : PacketizerState → List (ℕ × Vec ℕ Global) → List Call

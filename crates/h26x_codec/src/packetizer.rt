@@ -2,11 +2,11 @@
 
 ghost use Rattle.std.specs.Prelude.{◌≡◌, ◌≤◌, [], true, false, Some, Err, IfOk, OnOk, OnErr, IsOk};
 ghost use Rattle.h26x_model.specs.Send.Limit.{AreWithinLimit};
-ghost use Rattle.h26x_model.specs.Send.PacketizerState.{PacketizerState, IsSentAsPlanned, one_unit_items, one_unit_packets, after_one_unit};
+ghost use Rattle.h26x_model.specs.Send.PacketizerState.{PacketizerState, IsSentAsPlanned, next_call, next_packets, after_payload, payload_has_no_effect, one_unit_items, one_unit_packets, after_one_unit};
 ghost use Rattle.h26x_model.specs.Send.Rival.{TakesFewestFragments};
 ghost use Rattle.h26x_payload.specs.Sending.{contents};
 ghost use Rattle.h26x_payload.specs.Buffer.{IsAppended, with_packets};
-ghost use Rattle.h26x_codec.specs.Codec.{default_format, codec_packetizer_state, packetizer_codec, fresh_packetizer_state, next_call, with_max_don_diff, with_max_packet_size, OfPacketizer, next_packets, after_next_call, HasNoEffect, limit_at};
+ghost use Rattle.h26x_codec.specs.Codec.{default_format, codec_packetizer_state, packetizer_codec, fresh_packetizer_state, with_max_don_diff, with_max_packet_size, OfPacketizer, limit_at};
 ghost use Rattle.h26x_codec.specs.declared.packetizer.CodecPacketizer.TheVariants as p;
 ghost use Rattle.h264_payload.specs.H264.{h264};
 ghost use Rattle.h265_payload.specs.Setting as h265_setting;
@@ -124,7 +124,7 @@ impl CodecPacketizer {
             (λ s. OnOk result (into.new ≡ with_packets into.old (next_packets s mtu b.now))) }
         ensures after { OfPacketizer self.old
             (λ s. OnOk result
-            (codec_packetizer_state self.new ≡ Some (after_next_call s mtu b.now))) }
+            (codec_packetizer_state self.new ≡ Some (after_payload s mtu b.now))) }
         ensures codec { packetizer_codec self.new ≡ packetizer_codec self.old }
 
         ensures kept { OfPacketizer self.old (λ s. OnErr result (self.new ≡ self.old)) }
@@ -132,7 +132,8 @@ impl CodecPacketizer {
             (λ s. OnErr result (result ≡ Err PacketError.OutOfMemory)) }
 
         // Calls without effect take no memory.
-        ensures free { OfPacketizer self.old (λ s. HasNoEffect s mtu b.now → IsOk result) }
+        ensures free { OfPacketizer self.old
+            (λ s. payload_has_no_effect s mtu b.now ≡ true → IsOk result) }
 
         // A packetizer in a box too.
         ensures appended { OnOk result (IsAppended into.old into.new) }
@@ -239,7 +240,7 @@ impl Packetizer for CodecPacketizer {
             (λ s. IfOk result (λ made. contents made.items ≡ next_packets s mtu b.now)) }
         ensures after { OfPacketizer self.old
             (λ s. OnOk result
-            (codec_packetizer_state self.new ≡ Some (after_next_call s mtu b.now))) }
+            (codec_packetizer_state self.new ≡ Some (after_payload s mtu b.now))) }
         ensures planned { (s after : PacketizerState) → codec_packetizer_state self.old ≡ Some s →
             codec_packetizer_state self.new ≡ Some after → IfOk result (λ made.
             IsSentAsPlanned s (next_call s mtu b.now) (contents made.items) after) }
@@ -254,9 +255,10 @@ impl Packetizer for CodecPacketizer {
             (λ s. OnErr result (result ≡ Err PacketError.OutOfMemory)) }
 
         // Calls without effect take no memory.
-        ensures free { OfPacketizer self.old (λ s. HasNoEffect s mtu b.now → IsOk result) }
+        ensures free { OfPacketizer self.old
+            (λ s. payload_has_no_effect s mtu b.now ≡ true → IsOk result) }
         ensures without_effect { OfPacketizer self.old
-            (λ s. HasNoEffect s mtu b.now → IfOk result (λ made.
+            (λ s. payload_has_no_effect s mtu b.now ≡ true → IfOk result (λ made.
             (made.items ≡ []) × (self.new ≡ self.old))) }
 
         // A packetizer in a box too.

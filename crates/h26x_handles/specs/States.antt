@@ -1,9 +1,7 @@
 -- What an endpoint is in the words of the payload formats: a packetizer with its packets, or a
 -- depacketizer or a receiver of packets with their sequence numbers, with what it wrote.
 use Rattle.std.specs.Prelude.{◌≡◌, ℕ, Bool, true, false, if◌then◌else◌, List, [], ◌∷◌, Option, Some, None}
-use Rattle.h26x_model.specs.Send.Group.{Entry}
-use Rattle.h26x_model.specs.Send.Calls.{call_entries}
-use Rattle.h26x_model.specs.Send.PacketizerState.{PacketizerState, state_packets, after_entries, has_no_effect}
+use Rattle.h26x_model.specs.Send.PacketizerState.{PacketizerState, next_packets}
 use Rattle.h26x_model.specs.Receive.DepacketizerState.{DepacketizerState, Depacketization, depacketization, after_packets}
 use Rattle.h26x_payload.specs.PacketizerView.{packetizer_state}
 use Rattle.h26x_payload.specs.Placement.{if_placed}
@@ -11,7 +9,7 @@ use Rattle.h26x_payload.specs.declared.send.placement.Placement.{Placement}
 use Rattle.h264_payload.specs.H264.{h264}
 use Rattle.h265_payload.specs.Setting as h265_setting
 use Rattle.h266_payload.specs.Setting as h266_setting
-use Rattle.h26x_codec.specs.Codec.{codec_format, next_call}
+use Rattle.h26x_codec.specs.Codec.{codec_format}
 use Rattle.h26x_codec.specs.declared.codec.Codec.{Codec}
 use Rattle.h26x_codec.specs.declared.codec.Codec.TheVariants as c
 use Rattle.h26x_handles.specs.declared.packetizer.AnyPacketizer.{AnyPacketizer}
@@ -53,30 +51,14 @@ any_packetizer_with_max_packet_size n (s.H264 it) = s.H264 it
 any_packetizer_with_max_packet_size n (s.H265 it) = s.H265 (record it { max_packet_size = n })
 any_packetizer_with_max_packet_size n (s.H266 it) = s.H266 (record it { max_packet_size = n })
 
--- the units of a payload, as a packetizer is given them
-abbrev pub payload_entries : PacketizerState → ℕ → List ℕ → List Entry
-payload_entries it mtu payload = call_entries it.format (next_call it mtu payload)
-
--- its packets
-abbrev pub packets_of_payload : PacketizerState → ℕ → List ℕ → List (List ℕ)
-packets_of_payload it mtu payload = state_packets it (payload_entries it mtu payload)
-
--- the same under headers that are asked for
+-- the packets of a payload under headers that are asked for
 abbrev pub headed_packets : Option Bool → PacketizerState → ℕ → List ℕ → List (List ℕ)
-headed_packets headers it mtu payload = under_headers headers (packets_of_payload it mtu payload)
-
--- whether a payload has no effect
-abbrev pub payload_has_no_effect : PacketizerState → ℕ → List ℕ → Bool
-payload_has_no_effect it mtu payload = has_no_effect it.format (next_call it mtu payload)
+headed_packets headers it mtu payload = under_headers headers (next_packets it mtu payload)
 
 -- a packetizer that has decoding order numbers, from 0, or none
 abbrev pub state_with_donl : Codec → Bool → PacketizerState → PacketizerState
 state_with_donl codec has_donl it =
     record it { format = codec_format codec has_donl; next_don = 0 }
-
--- a packetizer behind a payload
-abbrev pub after_payload : PacketizerState → ℕ → List ℕ → PacketizerState
-after_payload it mtu payload = after_entries it (payload_entries it mtu payload)
 
 -- a packetizer is behind packets where they were placed in memory, and else as it was
 abbrev pub IsBehindPlaced : Placement → (PacketizerState → PacketizerState) → AnyPacketizer →

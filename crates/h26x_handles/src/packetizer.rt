@@ -1,11 +1,11 @@
 //! A packetizer of any codec.
 
 ghost use Rattle.std.specs.Prelude.{◌≡◌, ◌≤◌, [], true, false, Err, IfOk, OnOk, OnErr, IsOk};
-ghost use Rattle.h26x_model.specs.Send.PacketizerState.{one_unit_items, one_unit_packets, after_one_unit};
+ghost use Rattle.h26x_model.specs.Send.PacketizerState.{next_packets, after_payload, payload_has_no_effect, one_unit_items, one_unit_packets, after_one_unit};
 ghost use Rattle.h26x_payload.specs.Buffer.{with_packets};
 ghost use Rattle.h26x_payload.specs.Placement.{IsPlacement, IsSizeOf, is_placed};
 ghost use Rattle.h26x_codec.specs.Codec.{codec_format, fresh_packetizer_state};
-ghost use Rattle.h26x_handles.specs.States.{any_packetizer_state, any_packetizer_codec, any_packetizer_with_donl, any_packetizer_with_max_packet_size, packets_of_payload, payload_has_no_effect, after_payload, IsBehindPlaced};
+ghost use Rattle.h26x_handles.specs.States.{any_packetizer_state, any_packetizer_codec, any_packetizer_with_donl, any_packetizer_with_max_packet_size, IsBehindPlaced};
 
 use h26x_codec::Codec;
 use h26x_core::PacketError;
@@ -93,7 +93,7 @@ impl AnyPacketizer {
         into: &mut PacketBuffer,
     ) -> Result<(), PacketError>
         ensures packets { OnOk result (into.new ≡ with_packets into.old
-            (packets_of_payload (any_packetizer_state self.old) mtu payload.now)) }
+            (next_packets (any_packetizer_state self.old) mtu payload.now)) }
         ensures after { OnOk result (any_packetizer_state self.new
             ≡ after_payload (any_packetizer_state self.old) mtu payload.now) }
         ensures codec { any_packetizer_codec self.new ≡ any_packetizer_codec self.old }
@@ -145,7 +145,7 @@ impl AnyPacketizer {
         headroom: usize,
     ) -> Result<PacketsSize, PacketError>
         ensures size { IfOk result (λ it. IsSizeOf headroom
-            (packets_of_payload (any_packetizer_state self.now) mtu payload.now) it) }
+            (next_packets (any_packetizer_state self.now) mtu payload.now) it) }
         ensures memory { OnErr result (result ≡ Err PacketError.OutOfMemory) }
         ensures free { payload_has_no_effect (any_packetizer_state self.now) mtu payload.now
             ≡ true → IsOk result }
@@ -167,7 +167,7 @@ impl AnyPacketizer {
         ends: &mut [usize],
     ) -> Result<Placement, PacketError>
         ensures packets { IfOk result (λ it. IsPlacement headroom
-            (packets_of_payload (any_packetizer_state self.old) mtu payload.now)
+            (next_packets (any_packetizer_state self.old) mtu payload.now)
             to.old to.new ends.old ends.new it) }
         ensures after { IfOk result (λ it.
             IsBehindPlaced it (λ s. after_payload s mtu payload.now) self.old self.new) }

@@ -2,10 +2,10 @@
 
 ghost use Rattle.std.specs.Prelude.{◌≡◌, ◌≤◌, [], Err, true, false, IfOk, OnOk, OnErr, IsOk, length, drop};
 ghost use Rattle.std.specs.List.{concat};
-ghost use Rattle.h26x_model.specs.Send.PacketizerState.{one_unit_items, one_unit_packets, after_one_unit};
+ghost use Rattle.h26x_model.specs.Send.PacketizerState.{after_payload, payload_has_no_effect, one_unit_items, one_unit_packets, after_one_unit};
 ghost use Rattle.h26x_payload.specs.Placement.{IsPlacement, is_placed};
 ghost use Rattle.h26x_codec.specs.Codec.{codec_format, fresh_packetizer_state};
-ghost use Rattle.h26x_handles.specs.States.{any_packetizer_codec, any_packetizer_with_donl, any_packetizer_with_max_packet_size, sending_state, sending_packets, payload_has_no_effect, after_payload, headers_asked, IsBehindPlaced};
+ghost use Rattle.h26x_handles.specs.States.{any_packetizer_codec, any_packetizer_with_donl, any_packetizer_with_max_packet_size, sending_state, sending_packets, headers_asked, IsBehindPlaced};
 ghost use Rattle.h26x_handles.specs.Copies.{nth_packet, AreCopied};
 
 use crate::code::may_have_donl;

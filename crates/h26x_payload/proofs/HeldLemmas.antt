@@ -5,19 +5,19 @@ use Rattle.h26x_model.specs.Send.Group.{Entry}
 use Rattle.h26x_core.specs.Kind.{Kind, is_vps, is_sps, is_pps}
 use Rattle.h26x_model.specs.Send.Packets.{plan_packets}
 use Rattle.h26x_model.specs.Send.WaitingSets.{WaitingSets, IsOneSet, NoSet, OneSet, AreWaitingSets}
-use Rattle.h26x_model.specs.Send.PacketizerState.{PacketizerState, state_packets, after_entries, has_no_effect}
+use Rattle.h26x_model.specs.Send.PacketizerState.{PacketizerState, after_entries, next_call, payload_entries, next_packets, payload_has_no_effect}
 use Rattle.h26x_model.specs.Carry.Laws.{PacketizerGoesOn}
-use Rattle.h26x_payload.specs.PacketizerView.{PacketizerView, IsPacketizer, packetizer_state, view_call, view_entries, view_after}
+use Rattle.h26x_payload.specs.PacketizerView.{PacketizerView, IsPacketizer, packetizer_state, view_after}
 
 -- what is held after units is held
 pub held_more : (s : PacketizerState) (entries : List Entry) → PacketizerGoesOn s → IsPacketizer s.format s → IsPacketizer s.format (after_entries s entries)
 held_more s entries law held = record { is = law.stays entries; none = λ no. rw no (held.none no) }
 
 -- nothing changes by a call without effect, and no packet is made
-pub held_same : {C : Type 0} (f : Format) (h : PacketizerView C) (mtu : ℕ) (payload : List ℕ) → PacketizerGoesOn (packetizer_state f h) → has_no_effect f (view_call h mtu payload) ≡ true →
-    (state_packets (packetizer_state f h) (view_entries f h mtu payload) ≡ []) × (view_after f h (view_entries f h mtu payload) ≡ h)
+pub held_same : {C : Type 0} (f : Format) (h : PacketizerView C) (mtu : ℕ) (payload : List ℕ) → PacketizerGoesOn (packetizer_state f h) → payload_has_no_effect (packetizer_state f h) mtu payload ≡ true →
+    (next_packets (packetizer_state f h) mtu payload ≡ []) × (view_after f h (payload_entries (packetizer_state f h) mtu payload) ≡ h)
 held_same f h mtu payload law none =
-    let (no_items, same) = law.no_effect (view_call h mtu payload) none in (
+    let (no_items, same) = law.no_effect (next_call (packetizer_state f h) mtu payload) none in (
       ap (plan_packets f h.next_don) no_items,
       ap (λ (s : PacketizerState). record { codec = h.codec; waiting = s.waiting; next_don = s.next_don; max_packet_size = h.max_packet_size }) same,
     )

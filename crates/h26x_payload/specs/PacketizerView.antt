@@ -1,11 +1,11 @@
 -- What a packetizer keeps from call to call.
-use Rattle.std.specs.Prelude.{◌≡◌, ℕ, Bool, false, List, Option}
+use Rattle.std.specs.Prelude.{◌≡◌, ℕ, false, List, Option}
 use Rattle.h26x_model.specs.Payload.Format.{Format}
 use Rattle.h26x_model.specs.Send.Group.{Entry}
-use Rattle.h26x_model.specs.Send.Calls.{Call, default_max_packet_size, packet_limit, call_entries}
+use Rattle.h26x_model.specs.Send.Calls.{default_max_packet_size, packet_limit}
 use Rattle.h26x_model.specs.Send.Plan.{Item}
 use Rattle.h26x_model.specs.Send.WaitingSets.{WaitingSets, no_waiting_sets, waiting_after, entries_with_limit}
-use Rattle.h26x_model.specs.Send.PacketizerState.{PacketizerState, IsPacketizerState, IsSentAsPlanned, state_plan, state_packets, has_no_effect, after_entries, one_unit_packets, after_one_unit}
+use Rattle.h26x_model.specs.Send.PacketizerState.{PacketizerState, IsPacketizerState, IsSentAsPlanned, state_plan, after_entries, next_call, payload_entries, next_packets, one_unit_packets, after_one_unit}
 use Rattle.h26x_payload.specs.declared.send.packetizer.Brought.{Brought}
 use Rattle.h26x_payload.specs.declared.send.update.Update.{Update}
 use Rattle.h26x_payload.specs.Sending.{waiting_sets, waiting_with_brought, waiting_with_update}
@@ -64,14 +64,6 @@ IsPacketizerView format h = IsPacketizer (format h.codec) (packetizer_of format 
 abbrev pub limit_of : {C : Type 0} → (C → Format) → PacketizerView C → ℕ → ℕ
 limit_of format h mtu = packet_limit (format h.codec) h.max_packet_size mtu
 
--- a call of it
-abbrev pub view_call : {C : Type 0} → PacketizerView C → ℕ → List ℕ → Call
-view_call h mtu payload = record { mtu = mtu; max_packet_size = h.max_packet_size; payload = payload }
-
--- the units of a payload, at the limit of a call of it
-abbrev pub view_entries : {C : Type 0} → Format → PacketizerView C → ℕ → List ℕ → List Entry
-view_entries f h mtu payload = call_entries f (view_call h mtu payload)
-
 -- what is held after units
 abbrev pub view_after : {C : Type 0} → Format → PacketizerView C → List Entry → PacketizerView C
 view_after f h entries = record {
@@ -81,33 +73,23 @@ view_after f h entries = record {
   max_packet_size = h.max_packet_size;
 }
 
--- whether a call of it has no effect
-abbrev pub call_has_no_effect : {C : Type 0} → (C → Format) → PacketizerView C → ℕ → List ℕ → Bool
-call_has_no_effect format h mtu payload = has_no_effect (format h.codec) (view_call h mtu payload)
-
--- the packets of a call of it
-abbrev pub packets_of : {C : Type 0} → (C → Format) → PacketizerView C → ℕ → List ℕ →
-    List (List ℕ)
-packets_of format h mtu payload = state_packets (packetizer_of format h)
-    (view_entries (format h.codec) h mtu payload)
-
 -- what is held after a call of it
 abbrev pub view_after_call : {C : Type 0} → (C → Format) → PacketizerView C → ℕ → List ℕ →
     PacketizerView C
 view_after_call format h mtu payload = view_after (format h.codec) h
-    (view_entries (format h.codec) h mtu payload)
+    (payload_entries (packetizer_of format h) mtu payload)
 
 -- a call of it that makes these packets, and leaves that one, does what is planned of whole lists
 abbrev pub SendsAsPlanned : {C : Type 0} → (C → Format) → PacketizerView C → ℕ → List ℕ →
     List (List ℕ) → PacketizerView C → Type 0
 SendsAsPlanned format h mtu payload packets new = IsSentAsPlanned (packetizer_of format h)
-    (view_call h mtu payload) packets (packetizer_of format new)
+    (next_call (packetizer_of format h) mtu payload) packets (packetizer_of format new)
 
 -- so does each call of it
 abbrev pub IsViewSentAsPlanned : {C : Type 0} → (C → Format) → PacketizerView C → ℕ → List ℕ →
     Type 0
 IsViewSentAsPlanned format h mtu payload = SendsAsPlanned format h mtu payload
-    (packets_of format h mtu payload) (view_after_call format h mtu payload)
+    (next_packets (packetizer_of format h) mtu payload) (view_after_call format h mtu payload)
 
 -- the packets of one unit as it is
 abbrev pub unit_packets : {C : Type 0} → (C → Format) → PacketizerView C → ℕ → List ℕ →

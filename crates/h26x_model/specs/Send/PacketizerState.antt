@@ -90,6 +90,26 @@ are_skipped f units = list_all (λ unit. is_skipped (f.kind unit)) units
 abbrev pub has_no_effect : Format → Call → Bool
 has_no_effect f call = nat_lt call.mtu f.least_mtu || are_skipped f (f.units call.payload)
 
+-- the next call of a packetizer, of this payload at an mtu
+abbrev pub next_call : PacketizerState → ℕ → List ℕ → Call
+next_call s mtu payload = record { mtu = mtu; max_packet_size = s.max_packet_size; payload = payload }
+
+-- the units of the payload, at the limit of that call
+abbrev pub payload_entries : PacketizerState → ℕ → List ℕ → List Entry
+payload_entries s mtu payload = call_entries s.format (next_call s mtu payload)
+
+-- its packets
+abbrev pub next_packets : PacketizerState → ℕ → List ℕ → List (List ℕ)
+next_packets s mtu payload = state_packets s (payload_entries s mtu payload)
+
+-- the packetizer after it
+abbrev pub after_payload : PacketizerState → ℕ → List ℕ → PacketizerState
+after_payload s mtu payload = after_entries s (payload_entries s mtu payload)
+
+-- whether it has no effect
+abbrev pub payload_has_no_effect : PacketizerState → ℕ → List ℕ → Bool
+payload_has_no_effect s mtu payload = has_no_effect s.format (next_call s mtu payload)
+
 -- the sets that wait, and behind them the units of a call, all at its limit
 abbrev pub waiting_and_call_entries : PacketizerState → Call → List Entry
 waiting_and_call_entries s call = entries_with_limit (call_limit s.format call)

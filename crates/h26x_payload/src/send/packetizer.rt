@@ -4,12 +4,12 @@ ghost use Rattle.std.specs.Prelude.{◌≡◌, ◌≤◌, ◌++◌, ◌∷◌, �
 ghost use Rattle.std.specs.Option.{option_map};
 ghost use Rattle.h26x_model.specs.Send.Limit.{AreWithinLimit};
 ghost use Rattle.h26x_model.specs.Send.WaitingSets.{waiting_after_unit, due_items, no_waiting_sets};
-ghost use Rattle.h26x_model.specs.Send.PacketizerState.{is_skipped, are_skipped, one_unit_items};
+ghost use Rattle.h26x_model.specs.Send.PacketizerState.{is_skipped, are_skipped, next_packets, payload_has_no_effect, one_unit_items};
 ghost use Rattle.h26x_model.specs.Where.{Where};
 ghost use Rattle.h26x_payload.specs.Sending.{contents, ArePushed, latest_set, due_to_items, is_nothing, lent_set, kept_set};
 ghost use Rattle.h26x_payload.specs.Buffer.{with_packets};
 ghost use Rattle.h26x_payload.specs.Placement.{IsPlacement, IsSizeOf, if_placed};
-ghost use Rattle.h26x_payload.specs.PacketizerView.{IsPacketizerView, IsViewSentAsPlanned, SendsAsPlanned, packetizer_of, fresh_packetizer, limit_of, call_has_no_effect, packets_of, unit_packets, view_after_call, view_after_unit, view_with_update, held_sets, payload_plan, waiting_after_payload};
+ghost use Rattle.h26x_payload.specs.PacketizerView.{IsPacketizerView, IsViewSentAsPlanned, SendsAsPlanned, packetizer_of, fresh_packetizer, limit_of, unit_packets, view_after_call, view_after_unit, view_with_update, held_sets, payload_plan, waiting_after_payload};
 
 use crate::format::{DonlFormat, PayloadFormat, UnitKind};
 use crate::send::buffer::{Appending, PacketBuffer};
@@ -242,8 +242,8 @@ impl<C: PayloadFormat> PayloadPacketizer<C> {
     /// packets and changes nothing.
     fn goes_as_planned(&self, mtu: usize, b: &[u8])
         ensures planned { IsViewSentAsPlanned C.format self.now mtu b.now }
-        ensures without_effect { call_has_no_effect C.format self.now mtu b.now ≡ true →
-            (packets_of C.format self.now mtu b.now ≡ [])
+        ensures without_effect { payload_has_no_effect (packetizer_of C.format self.now) mtu b.now
+            ≡ true → (next_packets (packetizer_of C.format self.now) mtu b.now ≡ [])
             × (view_after_call C.format self.now mtu b.now ≡ self.now) }
     {
         laws::packetizers_go_on();
@@ -258,7 +258,7 @@ impl<C: PayloadFormat> PayloadPacketizer<C> {
         made: &mut S,
     ) -> Result<Update, PacketError>
         ensures packets { OnOk result (S.packets made.new ≡ S.packets made.old
-            ++ packets_of C.format self.now mtu b.now) }
+            ++ next_packets (packetizer_of C.format self.now) mtu b.now) }
         ensures after { IfOk result (λ it.
             view_with_update self.now it ≡ view_after_call C.format self.now mtu b.now) }
         ensures is { IfOk result (λ it. IsPacketizerView C.format (view_with_update self.now it)) }
@@ -267,7 +267,8 @@ impl<C: PayloadFormat> PayloadPacketizer<C> {
         ensures memory { OnErr result (result ≡ Err PacketError.OutOfMemory) }
 
         // Calls without effect take no memory.
-        ensures free { call_has_no_effect C.format self.now mtu b.now ≡ true → IsOk result }
+        ensures free { payload_has_no_effect (packetizer_of C.format self.now) mtu b.now ≡ true →
+            IsOk result }
     {
         laws::packetizers_go_on();
         if mtu < self.codec.least_mtu() {
@@ -314,7 +315,7 @@ impl<C: PayloadFormat> PayloadPacketizer<C> {
         into: &mut PacketBuffer,
     ) -> Result<(), PacketError>
         ensures packets { OnOk result (into.new
-            ≡ with_packets into.old (packets_of C.format self.old mtu b.now)) }
+            ≡ with_packets into.old (next_packets (packetizer_of C.format self.old) mtu b.now)) }
         ensures after { OnOk result (self.new ≡ view_after_call C.format self.old mtu b.now) }
         ensures planned { OnOk result (SendsAsPlanned C.format self.old mtu b.now
             (drop (length into.old.packets) into.new.packets) self.new) }
@@ -324,9 +325,10 @@ impl<C: PayloadFormat> PayloadPacketizer<C> {
         ensures memory { OnErr result (result ≡ Err PacketError.OutOfMemory) }
 
         // Calls without effect take no memory.
-        ensures free { call_has_no_effect C.format self.old mtu b.now ≡ true → IsOk result }
-        ensures without_effect { call_has_no_effect C.format self.old mtu b.now ≡ true →
-            OnOk result ((into.new ≡ into.old) × (self.new ≡ self.old)) }
+        ensures free { payload_has_no_effect (packetizer_of C.format self.old) mtu b.now ≡ true →
+            IsOk result }
+        ensures without_effect { payload_has_no_effect (packetizer_of C.format self.old) mtu b.now
+            ≡ true → OnOk result ((into.new ≡ into.old) × (self.new ≡ self.old)) }
     {
         self.goes_as_planned(mtu, b);
         let mut made = Appending::take(self.alloc, into);
@@ -353,12 +355,13 @@ impl<C: PayloadFormat> PayloadPacketizer<C> {
         headroom: usize,
     ) -> Result<PacketsSize, PacketError>
         ensures size { IfOk result (λ it.
-            IsSizeOf headroom (packets_of C.format self.now mtu b.now) it) }
+            IsSizeOf headroom (next_packets (packetizer_of C.format self.now) mtu b.now) it) }
 
         ensures memory { OnErr result (result ≡ Err PacketError.OutOfMemory) }
 
         // Calls without effect take no memory.
-        ensures free { call_has_no_effect C.format self.now mtu b.now ≡ true → IsOk result }
+        ensures free { payload_has_no_effect (packetizer_of C.format self.now) mtu b.now ≡ true →
+            IsOk result }
     {
         let mut made: Vec<PacketParts<'a>> = Vec::new(self.alloc);
         self.prepare(mtu, b, &mut made)?;
@@ -375,7 +378,8 @@ impl<C: PayloadFormat> PayloadPacketizer<C> {
         ends: &mut [usize],
     ) -> Result<(Placement, Update), PacketError>
         ensures packets { IfOk result (λ it. IsPlacement headroom
-            (packets_of C.format self.now mtu b.now) to.old to.new ends.old ends.new it.0) }
+            (next_packets (packetizer_of C.format self.now) mtu b.now)
+            to.old to.new ends.old ends.new it.0) }
         ensures after { IfOk result (λ it.
             view_with_update self.now it.1 ≡ view_after_call C.format self.now mtu b.now) }
         ensures is { IfOk result (λ it.
@@ -385,7 +389,8 @@ impl<C: PayloadFormat> PayloadPacketizer<C> {
         ensures memory { OnErr result (result ≡ Err PacketError.OutOfMemory) }
 
         // Calls without effect take no memory.
-        ensures free { call_has_no_effect C.format self.now mtu b.now ≡ true → IsOk result }
+        ensures free { payload_has_no_effect (packetizer_of C.format self.now) mtu b.now ≡ true →
+            IsOk result }
     {
         let mut made: Vec<PacketParts<'a>> = Vec::new(self.alloc);
         let update = self.prepare(mtu, b, &mut made)?;
@@ -407,7 +412,8 @@ impl<C: PayloadFormat> PayloadPacketizer<C> {
         ends: &mut [usize],
     ) -> Result<Placement, PacketError>
         ensures packets { IfOk result (λ it. IsPlacement headroom
-            (packets_of C.format self.old mtu b.now) to.old to.new ends.old ends.new it) }
+            (next_packets (packetizer_of C.format self.old) mtu b.now)
+            to.old to.new ends.old ends.new it) }
         ensures after { IfOk result (λ it. self.new
             ≡ if_placed it (view_after_call C.format self.old mtu b.now) self.old) }
 
@@ -416,7 +422,8 @@ impl<C: PayloadFormat> PayloadPacketizer<C> {
         ensures memory { OnErr result (result ≡ Err PacketError.OutOfMemory) }
 
         // Calls without effect take no memory.
-        ensures free { call_has_no_effect C.format self.old mtu b.now ≡ true → IsOk result }
+        ensures free { payload_has_no_effect (packetizer_of C.format self.old) mtu b.now ≡ true →
+            IsOk result }
     {
         let (placement, update) = self.prepare_placed(mtu, b, headroom, to, ends)?;
         if let Placement::Placed(_) = placement {
@@ -645,7 +652,7 @@ impl<C: PayloadFormat> Packetizer for PayloadPacketizer<C> {
     /// `OutOfMemory` is its only error, and leaves everything.
     fn packetize(&mut self, mtu: usize, b: &[u8]) -> Result<Vec<Vec<u8>>, PacketError>
         ensures packets { IfOk result (λ made.
-            contents made.items ≡ packets_of C.format self.old mtu b.now) }
+            contents made.items ≡ next_packets (packetizer_of C.format self.old) mtu b.now) }
         ensures after { OnOk result (self.new ≡ view_after_call C.format self.old mtu b.now) }
         ensures planned { IfOk result (λ made.
             SendsAsPlanned C.format self.old mtu b.now (contents made.items) self.new) }
@@ -656,9 +663,10 @@ impl<C: PayloadFormat> Packetizer for PayloadPacketizer<C> {
         ensures memory { OnErr result (result ≡ Err PacketError.OutOfMemory) }
 
         // Calls without effect take no memory.
-        ensures free { call_has_no_effect C.format self.old mtu b.now ≡ true → IsOk result }
-        ensures without_effect { call_has_no_effect C.format self.old mtu b.now ≡ true →
-            IfOk result (λ made. (made.items ≡ []) × (self.new ≡ self.old)) }
+        ensures free { payload_has_no_effect (packetizer_of C.format self.old) mtu b.now ≡ true →
+            IsOk result }
+        ensures without_effect { payload_has_no_effect (packetizer_of C.format self.old) mtu b.now
+            ≡ true → IfOk result (λ made. (made.items ≡ []) × (self.new ≡ self.old)) }
     {
         self.goes_as_planned(mtu, b);
         let mut made = Vec::new(self.alloc);

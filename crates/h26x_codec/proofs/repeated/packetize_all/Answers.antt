@@ -1,9 +1,9 @@
 use Rattle.std.proofs.Common.{rules, ◌≡◌, ◌∙◌, ◌<◌, ◌++◌, [], sym, ap, ℕ, List, Some, Vec, Global, map, take, get_or, length}
 use Rattle.std.proofs.lemmas.List.{get_or-map, length-map, map-append}
 use Rattle.h26x_model.specs.Send.Calls.{call_entries, all_entries}
-use Rattle.h26x_model.specs.Send.PacketizerState.{state_packets, after_entries}
+use Rattle.h26x_model.specs.Send.PacketizerState.{state_packets, after_entries, next_call}
 use Rattle.h26x_model.specs.Carry.Laws.{PacketizerGoesOn, calls_like}
-use Rattle.h26x_codec.specs.Codec.{codec_packetizer_state, next_call}
+use Rattle.h26x_codec.specs.Codec.{codec_packetizer_state}
 use Rattle.h26x_codec.proofs.AgainLemmas.{packets_more, after_more, packets_all}
 use Rattle.h26x_codec.proofs.repeated.packetize_all.Goals as goal
 

@@ -1,8 +1,8 @@
 use Rattle.std.proofs.Common.{◌≡◌, [], map, take, Some}
 use Rattle.h26x_model.specs.Send.Calls.{all_entries}
-use Rattle.h26x_model.specs.Send.PacketizerState.{PacketizerState, state_packets, after_entries}
+use Rattle.h26x_model.specs.Send.PacketizerState.{PacketizerState, state_packets, after_entries, next_call}
 use Rattle.h26x_model.specs.Carry.Laws.{calls_like}
-use Rattle.h26x_codec.specs.Codec.{codec_packetizer_state, next_call}
+use Rattle.h26x_codec.specs.Codec.{codec_packetizer_state}
 use Rattle.h26x_codec.proofs.repeated.packetize_all.Given as goal
 
 -- the payloads so far were sent

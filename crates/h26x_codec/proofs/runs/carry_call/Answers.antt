@@ -3,9 +3,9 @@ use Rattle.std.proofs.lemmas.List.{map-append}
 use Rattle.std.proofs.lemmas.Result.{err_from_is_err_and}
 use Rattle.h26x_core.specs.declared.error.PacketError.TheVariants.{OutOfMemory}
 use Rattle.h26x_model.specs.Send.Calls.{call_entries}
-use Rattle.h26x_model.specs.Send.PacketizerState.{state_packets}
+use Rattle.h26x_model.specs.Send.PacketizerState.{state_packets, next_call}
 use Rattle.h26x_model.specs.Carry.Laws.{DepacketizerGoesOn}
-use Rattle.h26x_codec.specs.Codec.{codec_depacketizer_state, next_call}
+use Rattle.h26x_codec.specs.Codec.{codec_depacketizer_state}
 use Rattle.h26x_codec.proofs.RunLemmas.{work_parts, none_mapped, none_taken}
 use Rattle.h26x_codec.proofs.runs.carry_call.Goals as goal
 

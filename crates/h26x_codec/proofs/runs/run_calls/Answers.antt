@@ -1,10 +1,10 @@
 use Rattle.std.proofs.Common.{rules, arith, ◌≡◌, ◌++◌, ◌∷◌, [], sym, ap, ℕ, Vec, Global, map, length, slice_get, Some, inr}
 use Rattle.std.proofs.lemmas.Grind.{common_steps}
 use Rattle.std.proofs.lemmas.Result.{err_from_is_err_and}
-use Rattle.h26x_model.specs.Send.PacketizerState.{after_entries}
+use Rattle.h26x_model.specs.Send.PacketizerState.{after_entries, next_call}
 use Rattle.h26x_model.specs.Receive.DepacketizerState.{after_packets}
 use Rattle.h26x_model.specs.Carry.Laws.{PacketizerGoesOn, DepacketizerGoesOn}
-use Rattle.h26x_codec.specs.Codec.{codec_depacketizer_state, next_call}
+use Rattle.h26x_codec.specs.Codec.{codec_depacketizer_state}
 use Rattle.h26x_codec.specs.Runs.{next_calls, made_entries}
 use Rattle.h26x_codec.proofs.RunLemmas.{call_made_next, still_front, work_parts, sent_more, taken_more, run_stopped}
 use Rattle.h26x_codec.proofs.runs.run_calls.Goals as goal

@@ -1,14 +1,14 @@
 use Rattle.std.proofs.Common.{◌≡◌, refl, Some}
 use Rattle.std.specs.Prelude.{IfOk, OnOk}
 use Rattle.h26x_model.specs.Send.Calls.{call_entries}
-use Rattle.h26x_model.specs.Send.PacketizerState.{PacketizerState, state_packets, after_entries, IsSentAsPlanned}
+use Rattle.h26x_model.specs.Send.PacketizerState.{PacketizerState, state_packets, after_entries, IsSentAsPlanned, next_call}
 use Rattle.h26x_model.specs.Send.Rival.{TakesFewestFragments}
 use Rattle.h265_payload.specs.Setting as h265_setting
 use Rattle.h266_payload.specs.Setting as h266_setting
 use Rattle.h26x_payload.specs.Sending.{contents}
 use Rattle.h26x_payload.specs.PacketizerView.{packetizer_state}
 use Rattle.h26x_codec.specs.declared.codec.Codec.TheVariants as codec
-use Rattle.h26x_codec.specs.Codec.{codec_packetizer_state, next_call}
+use Rattle.h26x_codec.specs.Codec.{codec_packetizer_state}
 use Rattle.h26x_codec.proofs.StateLemmas.{of_state, of_states, then_mapped}
 use Rattle.h26x_codec.proofs.packetizer.CodecPacketizerPacketizer.packetize.Goals as goal
 

@@ -1,6 +1,7 @@
 use Rattle.std.proofs.Common.{subst}
+use Rattle.h26x_model.specs.Send.PacketizerState.{next_call}
 use Rattle.h26x_model.specs.Carry.Laws.{PacketizerGoesOn}
-use Rattle.h26x_payload.specs.PacketizerView.{PacketizerView, IsPacketizer, packetizer_state, view_call}
+use Rattle.h26x_payload.specs.PacketizerView.{PacketizerView, IsPacketizer, packetizer_state}
 use Rattle.h26x_payload.proofs.HeldLemmas.{held_same}
 use Rattle.h26x_payload.proofs.send.packetizer.PayloadPacketizer.goes_as_planned.Goals as goal
 
@@ -10,7 +11,7 @@ returns-clause-planned g c =
     let f = g.C.PayloadFormat.format h.codec in
     let is : IsPacketizer f (packetizer_state f h) = subst (λ (x : PacketizerView _). IsPacketizer (g.C.PayloadFormat.format x.codec) (packetizer_state (g.C.PayloadFormat.format x.codec) x)) c.self.view_is c.self.invariant in
     let law : PacketizerGoesOn (packetizer_state f h) = c.packetizers_go_on.ensures.goes_on (packetizer_state f h) (g.met.C.PayloadFormat.fits h.codec) (g.met.C.PayloadFormat.dons h.codec) is.is in
-    law.planned (view_call h c.args.mtu c.args.b.now)
+    law.planned (next_call (packetizer_state f h) c.args.mtu c.args.b.now)
 
 pub returns-clause-without_effect : goal.returns-clause-without_effect
 returns-clause-without_effect g c =
