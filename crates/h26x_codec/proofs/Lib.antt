@@ -3,3 +3,4 @@ pub mod RunLemmas
 pub mod StateLemmas
 pub mod TakeLemmas
 pub mod PlainLemmas
+pub mod PlacementLemmas

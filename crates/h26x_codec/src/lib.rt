@@ -16,6 +16,7 @@
 #![tactic(auto)]
 
 mod any_depacketizer;
+mod any_packetizer;
 mod any_payload_depacketizer;
 mod carried;
 mod cases;
@@ -30,6 +31,7 @@ mod runs;
 mod take;
 
 pub use any_depacketizer::AnyDepacketizer;
+pub use any_packetizer::AnyPacketizer;
 pub use any_payload_depacketizer::AnyPayloadDepacketizer;
 pub use carried::{Carried, Marks, Packets};
 pub use codec::Codec;

@@ -5,7 +5,6 @@ pub mod HeaderLemmas
 pub mod MemoryLemmas
 pub mod NumberLemmas
 pub mod ParameterLemmas
-pub mod PlacementLemmas
 pub mod SdpValueLemmas
 pub mod SkipLemmas
 pub mod KeptUnitsLemmas

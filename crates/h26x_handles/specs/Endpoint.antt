@@ -1,7 +1,7 @@
 -- What stands behind a handle.
 use Rattle.std.specs.Prelude.{ℕ, Bool, false, List, Option}
-use Rattle.h26x_handles.specs.declared.packetizer.AnyPacketizer.{AnyPacketizer}
-use Rattle.h26x_handles.specs.declared.packetizer.AnyPacketizer.TheVariants as s
+use Rattle.h26x_codec.specs.declared.any_packetizer.AnyPacketizer.{AnyPacketizer}
+use Rattle.h26x_codec.specs.declared.any_packetizer.AnyPacketizer.TheVariants as s
 use Rattle.h26x_codec.specs.declared.any_depacketizer.AnyDepacketizer.{AnyDepacketizer}
 
 -- whether packets of a packetizer bear decoding order numbers

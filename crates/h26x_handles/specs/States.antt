@@ -3,17 +3,9 @@
 use Rattle.std.specs.Prelude.{◌≡◌, ℕ, Bool, true, false, if◌then◌else◌, List, [], ◌∷◌, Option, Some, None}
 use Rattle.h26x_model.specs.Send.PacketizerState.{PacketizerState, next_packets}
 use Rattle.h26x_model.specs.Receive.DepacketizerState.{DepacketizerState, Depacketization, depacketization, after_packets}
-use Rattle.h26x_payload.specs.PacketizerView.{packetizer_state}
-use Rattle.h26x_payload.specs.Placement.{if_placed}
-use Rattle.h26x_payload.specs.declared.send.placement.Placement.{Placement}
-use Rattle.h264_payload.specs.H264.{h264}
-use Rattle.h265_payload.specs.Setting as h265_setting
-use Rattle.h266_payload.specs.Setting as h266_setting
 use Rattle.h26x_codec.specs.Codec.{codec_format}
 use Rattle.h26x_codec.specs.declared.codec.Codec.{Codec}
-use Rattle.h26x_codec.specs.declared.codec.Codec.TheVariants as c
-use Rattle.h26x_handles.specs.declared.packetizer.AnyPacketizer.{AnyPacketizer}
-use Rattle.h26x_handles.specs.declared.packetizer.AnyPacketizer.TheVariants as s
+use Rattle.h26x_codec.specs.AnyPacketizer.{any_packetizer_state, any_packetizer_codec}
 use Rattle.h26x_core.specs.declared.extra.CodecExtra.{CodecExtra}
 use Rattle.h26x_model.specs.Receive.RunLimit.{run_len}
 use Rattle.h26x_receiver.specs.Sequenced.{SequencedDepacketization, sequenced_depacketization, after_taken_packet, is_run_kept, expected_after_skip}
@@ -26,31 +18,6 @@ use Rattle.h26x_handles.specs.Sdp.{sdp_codec}
 use Rattle.h26x_handles.specs.declared.endpoint.Endpoint.{Endpoint}
 use Rattle.h26x_handles.specs.declared.endpoint.Endpoint.TheVariants as e
 
--- the packetizer of a codec
-abbrev pub any_packetizer_state : AnyPacketizer → PacketizerState
-any_packetizer_state (s.H264 it) = packetizer_state h264 it
-any_packetizer_state (s.H265 it) = packetizer_state (h265_setting.setting_format it.codec) it
-any_packetizer_state (s.H266 it) = packetizer_state (h266_setting.setting_format it.codec) it
-
-abbrev pub any_packetizer_codec : AnyPacketizer → Codec
-any_packetizer_codec (s.H264 it) = c.H264
-any_packetizer_codec (s.H265 it) = c.H265
-any_packetizer_codec (s.H266 it) = c.H266
-
--- a packetizer with decoding order numbers, from 0, or without; that of H.264 has none
-abbrev pub any_packetizer_with_donl : Bool → AnyPacketizer → AnyPacketizer
-any_packetizer_with_donl has_donl (s.H264 it) = s.H264 it
-any_packetizer_with_donl has_donl (s.H265 it) =
-    s.H265 (record it { codec = h265_setting.setting has_donl; next_don = 0 })
-any_packetizer_with_donl has_donl (s.H266 it) =
-    s.H266 (record it { codec = h266_setting.setting has_donl; next_don = 0 })
-
--- a packetizer with this largest packet size; that of H.264 has none
-abbrev pub any_packetizer_with_max_packet_size : ℕ → AnyPacketizer → AnyPacketizer
-any_packetizer_with_max_packet_size n (s.H264 it) = s.H264 it
-any_packetizer_with_max_packet_size n (s.H265 it) = s.H265 (record it { max_packet_size = n })
-any_packetizer_with_max_packet_size n (s.H266 it) = s.H266 (record it { max_packet_size = n })
-
 -- the packets of a payload under headers that are asked for
 abbrev pub headed_packets : Option Bool → PacketizerState → ℕ → List ℕ → List (List ℕ)
 headed_packets headers it mtu payload = under_headers headers (next_packets it mtu payload)
@@ -59,12 +26,6 @@ headed_packets headers it mtu payload = under_headers headers (next_packets it m
 abbrev pub state_with_donl : Codec → Bool → PacketizerState → PacketizerState
 state_with_donl codec has_donl it =
     record it { format = codec_format codec has_donl; next_don = 0 }
-
--- a packetizer is behind packets where they were placed in memory, and else as it was
-abbrev pub IsBehindPlaced : Placement → (PacketizerState → PacketizerState) → AnyPacketizer →
-    AnyPacketizer → Type 0
-IsBehindPlaced made after old new = any_packetizer_state new
-    ≡ if_placed made (after (any_packetizer_state old)) (any_packetizer_state old)
 
 -- a depacketizer that is told with a packet to write units behind lengths or behind start codes
 abbrev pub told_depacketizer_state : Bool → AnyDepacketizer → DepacketizerState

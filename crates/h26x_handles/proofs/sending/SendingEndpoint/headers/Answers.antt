@@ -1,6 +1,7 @@
 use Rattle.std.proofs.Common.{sym, ap, ◌∙◌}
+use Rattle.h26x_codec.specs.AnyPacketizer.{any_packetizer_codec}
 use Rattle.h26x_handles.specs.Headers.{headers_wanted}
-use Rattle.h26x_handles.specs.States.{any_packetizer_codec, headers_asked}
+use Rattle.h26x_handles.specs.States.{headers_asked}
 use Rattle.h26x_handles.proofs.NumberLemmas.{numbers_are}
 use Rattle.h26x_handles.proofs.sending.SendingEndpoint.headers.Goals as goal
 

@@ -1,9 +1,10 @@
 use Rattle.std.proofs.Common.{subst}
 use Rattle.h26x_model.specs.Send.PacketizerState.{next_packets}
 use Rattle.h26x_payload.specs.Placement.{IsPlacement}
+use Rattle.h26x_codec.specs.AnyPacketizer.{any_packetizer_state}
 use Rattle.h26x_handles.specs.Endpoint.{SendingEndpoint}
 use Rattle.h26x_handles.specs.Headers.{under_headers}
-use Rattle.h26x_handles.specs.States.{any_packetizer_state, headers_asked}
+use Rattle.h26x_handles.specs.States.{headers_asked}
 use Rattle.h26x_handles.proofs.sending.SendingEndpoint.packetize_to_memory.Goals as goal
 
 pub set_placed_headers-requires : goal.set_placed_headers-requires

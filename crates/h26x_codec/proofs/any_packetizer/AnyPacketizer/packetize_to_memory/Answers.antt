@@ -1,8 +1,8 @@
 use Rattle.h26x_payload.specs.PacketizerView.{packetizer_state}
 use Rattle.h265_payload.specs.Setting as h265_setting
 use Rattle.h266_payload.specs.Setting as h266_setting
-use Rattle.h26x_handles.proofs.PlacementLemmas.{placed_by}
-use Rattle.h26x_handles.proofs.packetizer.AnyPacketizer.packetize_to_memory.Goals as goal
+use Rattle.h26x_codec.proofs.PlacementLemmas.{placed_by}
+use Rattle.h26x_codec.proofs.any_packetizer.AnyPacketizer.packetize_to_memory.Goals as goal
 
 pub returns-in-H265-clause-after : goal.returns-in-H265-clause-after
 returns-in-H265-clause-after c = rw c.in-H265.is (placed_by (λ v. packetizer_state (h265_setting.setting_format v.codec) v) c.packetize_to_memory-in-H265.result _ _ _ c.packetize_to_memory-in-H265.ensures.after)

@@ -1,13 +1,13 @@
-//! A packetizer of any codec.
+//! A packetizer of one of the codecs, chosen when it is made.
 
 ghost use Rattle.std.specs.Prelude.{◌≡◌, ◌≤◌, [], true, false, Err, IfOk, OnOk, OnErr, IsOk};
 ghost use Rattle.h26x_model.specs.Send.PacketizerState.{next_packets, after_payload, payload_has_no_effect, one_unit_items, one_unit_packets, after_one_unit};
 ghost use Rattle.h26x_payload.specs.Buffer.{with_packets};
 ghost use Rattle.h26x_payload.specs.Placement.{IsPlacement, IsSizeOf, is_placed};
 ghost use Rattle.h26x_codec.specs.Codec.{codec_format, fresh_packetizer_state};
-ghost use Rattle.h26x_handles.specs.States.{any_packetizer_state, any_packetizer_codec, any_packetizer_with_donl, any_packetizer_with_max_packet_size, IsBehindPlaced};
+ghost use Rattle.h26x_codec.specs.AnyPacketizer.{any_packetizer_state, any_packetizer_codec, any_packetizer_with_donl, any_packetizer_with_max_packet_size, IsBehindPlaced};
 
-use h26x_codec::Codec;
+use crate::codec::Codec;
 use h26x_core::PacketError;
 use h26x_payload::{PacketBuffer, PacketsSize, Placement};
 use h264_payload::H264Packetizer;
@@ -15,11 +15,15 @@ use h265_payload::H265Packetizer;
 use h266_payload::H266Packetizer;
 use std::alloc::Global;
 
-/// A packetizer of one of the codecs, which may go from thread to thread.
+/// A packetizer of one of the codecs, chosen when it is made, which may go from thread to thread.
+/// Every call goes to the one that it holds.
 #[derive(Drop)]
 pub enum AnyPacketizer {
+    /// Sends H.264 (RFC 6184).
     H264(H264Packetizer),
+    /// Sends H.265 (RFC 7798).
     H265(H265Packetizer),
+    /// Sends H.266 (RFC 9328).
     H266(H266Packetizer),
 }
 

@@ -1,4 +1,4 @@
-use Rattle.h26x_handles.proofs.packetizer.AnyPacketizer.packetize_into.Goals as goal
+use Rattle.h26x_codec.proofs.any_packetizer.AnyPacketizer.packetize_into.Goals as goal
 
 pub returns-in-H265-clause-packets : goal.returns-in-H265-clause-packets
 returns-in-H265-clause-packets c = rw c.in-H265.is c.packetize_into-in-H265.ensures.packets
