@@ -5,6 +5,7 @@ pub mod body;
 pub mod buffer;
 pub mod buffer_packets;
 pub mod fragmentation;
+pub mod one_unit;
 pub mod packet_parts;
 pub mod packetizer;
 pub mod placement;
