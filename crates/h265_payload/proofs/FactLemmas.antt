@@ -7,9 +7,9 @@ use Rattle.h26x_model.specs.Payload.Facts.{IsPayloadFormat}
 use Rattle.h26x_model.proofs.TwoByteLemmas as two_byte
 use Rattle.h26x_model.proofs.TwoByteLemmas.{HasRoom, none_borne}
 use Rattle.h265_payload.specs.CodecFacts.{fits_limits, aggregate_numbers}
-use Rattle.h265_payload.specs.H265.{h265, read}
+use Rattle.h265_payload.specs.H265.{h265, h265_rules, read}
 use Rattle.h265_payload.specs.Reading.{IsReading, IsShort, IsCorrupted, IsUnit, IsNumberedUnit, IsShortUnit, IsAggregate, IsShortAggregate, IsNumberedAggregate, IsOneNumbered, IsNoneNumbered, IsWithoutNumber, IsFragment, IsNumberedStart, IsShortFragment, IsShortStart, IsPaci, IsShortPaci, IsPaciWithoutFields}
-use Rattle.h265_payload.proofs.HeaderLemmas.{two, is_two_bytes}
+use Rattle.h265_payload.proofs.HeaderLemmas.{is_two_bytes}
 use Rattle.h265_payload.proofs.SetsLemmas.{fit_is_within, sets_back, undetected}
 use Rattle.h265_payload.proofs.RuleLemmas.{has_reading}
 
@@ -38,7 +38,7 @@ has_room has_donl packet reading (IsPaciWithoutFields high low a w type is) = rw
 
 -- the format meets all facts, with and without numbers
 pub is_payload_format : (has_donl : Bool) → IsPayloadFormat (h265 has_donl)
-is_payload_format has_donl = two_byte.is_payload_format has_donl (two has_donl) (is_two_bytes has_donl) (h265 has_donl) (record {
+is_payload_format has_donl = two_byte.is_payload_format has_donl (h265_rules has_donl) (is_two_bytes has_donl) (record {
   within = fit_is_within has_donl;
   long = (fits_limits has_donl).sets;
   back = λ n limit sets unit is fit many carried h. sets_back has_donl n limit sets unit is fit many h;

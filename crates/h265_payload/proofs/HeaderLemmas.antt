@@ -1,32 +1,16 @@
 -- H.265 as a format whose headers have two bytes: headers, and fragments behind them.
-use Rattle.std.proofs.Common.{◌≡◌, ℕ, ◌+◌, ◌*◌, ◌<◌, ◌≤◌, Bool, true, false, cond, eqb, List, [], ◌∷◌, length, Some, None, refl, ap, arith}
+use Rattle.std.proofs.Common.{◌≡◌, ℕ, ◌+◌, ◌*◌, ◌<◌, ◌≤◌, Bool, true, false, eqb, List, [], ◌∷◌, length, Some, None, refl, ap, arith}
 use Rattle.std.specs.Prelude.{◌&&◌, ◌||◌, ◌==◌, nat_le, nat_lt}
 use Rattle.std.proofs.lemmas.Bool.{and_parts}
 use Rattle.std.proofs.lemmas.Bool.Decides.{nat_tests}
-use Rattle.h26x_core.specs.declared.error.PacketError.TheVariants.{ErrH265CorruptedPacket}
 use Rattle.h26x_core.specs.Word.{field, is_set}
 use Rattle.h26x_core.specs.Kind.{is_other}
 use Rattle.h26x_core.specs.H265Unit.{type_of, kind_of_type, is_key_type}
-use Rattle.h26x_model.specs.Payload.Reading.{Fragment, two_byte_single}
+use Rattle.h26x_model.specs.Payload.Reading.{Fragment}
 use Rattle.h26x_core.proofs.HeaderLemmas.{six_bits_back}
-use Rattle.h26x_model.proofs.TwoByteLemmas.{TwoBytes, IsTwoBytes, IsCarried}
+use Rattle.h26x_model.proofs.TwoByteLemmas.{IsTwoBytes, IsCarried}
 use Rattle.h265_packets.specs.Header.{with_type}
-use Rattle.h265_payload.specs.H265.{h265_header, with_type_and_f, aggregate_of, fragment_of, paci_of}
-
--- what sets H.265 apart: types stand in the high byte, and have six bits
-abbrev pub two : (has_donl : Bool) → TwoBytes has_donl
-two has_donl = record {
-  header = h265_header;
-  mark_high = λ high. with_type_and_f high 49;
-  mark_low = λ low. low;
-  with_type = λ high low type. with_type high type ∷ low ∷ [];
-  carries = λ high low. nat_lt high 0x80 && (nat_lt (type_of high) 48 || nat_lt 50 (type_of high));
-  kind = kind_of_type;
-  corrupted = ErrH265CorruptedPacket;
-  aggregate_of = aggregate_of has_donl;
-  fragment_of = fragment_of has_donl;
-  own_of = λ high low rest. cond (type_of high == 50) (paci_of high low rest) (two_byte_single has_donl high low rest);
-}
+use Rattle.h265_payload.specs.H265.{h265_rules, with_type_and_f, fragment_of}
 
 -- another type leaves F clear
 pub clear_as : (b type : ℕ) → is_set b 7 ≡ false → type < 64 → is_set (with_type_and_f b type) 7 ≡ false
@@ -38,7 +22,7 @@ head_back : (b : ℕ) → b < 128 → with_type (with_type_and_f b 49) (type_of 
 head_back b h = omega arith
 
 -- a carried unit has F clear and is no packet of type 48 to 50
-pub carried : (has_donl : Bool) (high low : ℕ) → (nat_lt high 0x80 && (nat_lt (type_of high) 48 || nat_lt 50 (type_of high))) ≡ true → IsCarried has_donl (two has_donl) high low
+pub carried : (has_donl : Bool) (high low : ℕ) → (nat_lt high 0x80 && (nat_lt (type_of high) 48 || nat_lt 50 (type_of high))) ≡ true → IsCarried has_donl (h265_rules has_donl) high low
 carried has_donl high low h =
     let p = and_parts (nat_lt high 0x80) (nat_lt (type_of high) 48 || nat_lt 50 (type_of high)) h in
     let small : nat_lt high 0x80 ≡ true = p.0 in
@@ -56,21 +40,20 @@ carried has_donl high low h =
     }
 
 -- a fragment that bears no number
-pub some_fragment : (has_donl start : Bool) (high low b : ℕ) (body : List ℕ) → (has_donl && start) ≡ false → 1 ≤ length body →
-    fragment_of has_donl start high low b body ≡ Fragment start (is_set b 6) (with_type high (field b 5 0) ∷ low ∷ []) None body
-some_fragment has_donl start high low b [] n some = absurd (omega arith)
-some_fragment true true high low b (x ∷ body) n some = absurd cc
-some_fragment true false high low b (x ∷ body) n some = refl
-some_fragment false true high low b (x ∷ body) n some = refl
-some_fragment false false high low b (x ∷ body) n some = refl
+pub some_fragment : (has_donl start end : Bool) (head body : List ℕ) → (has_donl && start) ≡ false → 1 ≤ length body → fragment_of has_donl start end head body ≡ Fragment start end head None body
+some_fragment has_donl start end head [] n some = absurd (omega arith)
+some_fragment true true end head (x ∷ body) n some = absurd cc
+some_fragment true false end head (x ∷ body) n some = refl
+some_fragment false true end head (x ∷ body) n some = refl
+some_fragment false false end head (x ∷ body) n some = refl
 
 -- a start that bears one
-pub numbered_start : (has_donl start : Bool) (high low b d e : ℕ) (body : List ℕ) → (has_donl && start) ≡ true → 1 ≤ length body →
-    fragment_of has_donl start high low b (d ∷ e ∷ body) ≡ Fragment true (is_set b 6) (with_type high (field b 5 0) ∷ low ∷ []) (Some (d * 256 + e)) body
-numbered_start has_donl start high low b d e [] n some = absurd (omega arith)
-numbered_start true true high low b d e (x ∷ body) n some = refl
-numbered_start true false high low b d e (x ∷ body) n some = absurd cc
-numbered_start false start high low b d e (x ∷ body) n some = absurd cc
+pub numbered_start : (has_donl start end : Bool) (head : List ℕ) (d e : ℕ) (body : List ℕ) → (has_donl && start) ≡ true → 1 ≤ length body →
+    fragment_of has_donl start end head (d ∷ e ∷ body) ≡ Fragment true end head (Some (d * 256 + e)) body
+numbered_start has_donl start end head d e [] n some = absurd (omega arith)
+numbered_start true true end head d e (x ∷ body) n some = refl
+numbered_start true false end head d e (x ∷ body) n some = absurd cc
+numbered_start false start end head d e (x ∷ body) n some = absurd cc
 
 -- a key type is no parameter set's
 key_is_other : (t : ℕ) → is_key_type t ≡ true → is_other (kind_of_type t) ≡ true
@@ -84,7 +67,7 @@ key_is_other t e =
     rw (no_35, no_32, no_33, no_34) refl
 
 -- H.265 is what is asked of formats whose headers have two bytes
-pub is_two_bytes : (has_donl : Bool) → IsTwoBytes has_donl (two has_donl)
+pub is_two_bytes : (has_donl : Bool) → IsTwoBytes has_donl (h265_rules has_donl)
 is_two_bytes has_donl = record {
   apart = refl;
   type_fits = λ high low. omega arith;

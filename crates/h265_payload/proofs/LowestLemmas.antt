@@ -13,7 +13,7 @@ use Rattle.h26x_core.specs.ByteStream.{byte_stream}
 use Rattle.h26x_model.specs.Payload.Format.{Format, donl_bytes}
 use Rattle.h26x_model.specs.Payload.Reading.{Reading}
 use Rattle.h26x_model.specs.Payload.Extra.{extra_after}
-use Rattle.h26x_model.specs.Payload.TwoBytes.{two_byte_detects}
+use Rattle.h26x_model.specs.Payload.TwoBytes.{two_byte_carries, two_byte_detects}
 use Rattle.h26x_model.specs.Receive.DepacketizerState.{Depacketization, after_packets, readings_units, run_after_readings}
 use Rattle.h26x_model.specs.Payload.Facts.{AreCarried, IsPlanned}
 use Rattle.h26x_model.specs.Send.Calls.{Call, AreCalls, all_entries}
@@ -26,10 +26,10 @@ use Rattle.h26x_model.proofs.SetsLemmas.{sets_short}
 use Rattle.h26x_model.proofs.LossLemmas.{numbered_back}
 use Rattle.h26x_model.proofs.TwoByteLemmas.{of_carried}
 use Rattle.h265_packets.specs.Payload.{OtherUnit}
-use Rattle.h265_payload.specs.H265.{h265, h265_header, read, carries, sets_packet, with_type_and_f, further_set}
+use Rattle.h265_payload.specs.H265.{h265, h265_header, h265_rules, read, sets_packet, with_type_and_f, further_set}
 use Rattle.h265_payload.specs.Shown.{others_of, without_dond}
 use Rattle.h265_payload.specs.LowestHeader.{has_forbidden_bit, layer_of, temporal_of, lowest, lowest_layer, lowest_temporal, lowest_high, lowest_low, units_carried, is_whole_aggregate, with_lowest_header, IsLowest, IsLowestHeader, IsHeadedByUnits, IsReadAlike, IsDetectedAlike, AreTakenAlike}
-use Rattle.h265_payload.proofs.HeaderLemmas.{two, is_two_bytes, clear_as}
+use Rattle.h265_payload.proofs.HeaderLemmas.{is_two_bytes, clear_as}
 use Rattle.h265_payload.proofs.SetsLemmas.{fit_is_within, units_back}
 use Rattle.h265_payload.proofs.AggregateLemmas.{all_apart, units_without}
 use Rattle.h265_payload.proofs.FactLemmas.{is_payload_format}
@@ -183,8 +183,8 @@ left_alone : (has_donl : Bool) (high : ℕ) (rest : List ℕ) → eqb (type_of h
 left_alone has_donl high rest other = rw other refl
 
 -- so does a unit alone
-single_left : (has_donl : Bool) (n : ℕ) (unit : List ℕ) → IsTrue (carries unit) → with_lowest_header has_donl (single_packet (h265 has_donl) n unit) ≡ single_packet (h265 has_donl) n unit
-single_left has_donl n = of_carried has_donl (two has_donl) (is_two_bytes has_donl)
+single_left : (has_donl : Bool) (n : ℕ) (unit : List ℕ) → IsTrue (two_byte_carries h265_header unit) → with_lowest_header has_donl (single_packet (h265 has_donl) n unit) ≡ single_packet (h265 has_donl) n unit
+single_left has_donl n = of_carried has_donl (h265_rules has_donl) (is_two_bytes has_donl)
     (λ unit. with_lowest_header has_donl (single_packet (h265 has_donl) n unit) ≡ single_packet (h265 has_donl) n unit)
     (λ high low b unit c. left_alone has_donl high (low ∷ donl_bytes has_donl n ++ (b ∷ unit)) c.no_aggregate)
 
@@ -193,13 +193,13 @@ fragment_type : (high : ℕ) → eqb (type_of (with_type_and_f high 49)) 48 ≡ 
 fragment_type high = let is : type_of (with_type_and_f high 49) ≡ 49 = omega arith in rw is refl
 
 -- and stays
-fragment_left : (has_donl : Bool) (n limit j : ℕ) (unit : List ℕ) → IsTrue (carries unit) → with_lowest_header has_donl (fragment (h265 has_donl) n limit unit j) ≡ fragment (h265 has_donl) n limit unit j
-fragment_left has_donl n limit j = of_carried has_donl (two has_donl) (is_two_bytes has_donl)
+fragment_left : (has_donl : Bool) (n limit j : ℕ) (unit : List ℕ) → IsTrue (two_byte_carries h265_header unit) → with_lowest_header has_donl (fragment (h265 has_donl) n limit unit j) ≡ fragment (h265 has_donl) n limit unit j
+fragment_left has_donl n limit j = of_carried has_donl (h265_rules has_donl) (is_two_bytes has_donl)
     (λ unit. with_lowest_header has_donl (fragment (h265 has_donl) n limit unit j) ≡ fragment (h265 has_donl) n limit unit j)
     (λ high low b unit c. left_alone has_donl (with_type_and_f high 49) (drop 1 (fragment (h265 has_donl) n limit (high ∷ low ∷ b ∷ unit) j)) (fragment_type high))
 
 -- and so all of them are read as before
-fragments_alike : (has_donl : Bool) (n limit : ℕ) (unit : List ℕ) (places : List ℕ) → IsTrue (carries unit) →
+fragments_alike : (has_donl : Bool) (n limit : ℕ) (unit : List ℕ) (places : List ℕ) → IsTrue (two_byte_carries h265_header unit) →
     map (read has_donl) (map (with_lowest_header has_donl) (map (fragment (h265 has_donl) n limit unit) places)) ≡ map (read has_donl) (map (fragment (h265 has_donl) n limit unit) places)
 fragments_alike has_donl n limit unit [] carried = refl
 fragments_alike has_donl n limit unit (j ∷ places) carried =
@@ -227,14 +227,14 @@ sets_carried true n high low unit set sets short =
 none_forbidden : (has_donl : Bool) (units : List (List ℕ)) → AreCarried (h265 has_donl) units → list_any has_forbidden_bit units ≡ false
 none_forbidden has_donl [] carried = refl
 none_forbidden has_donl (unit ∷ units) (this, others) =
-    let clear : has_forbidden_bit unit ≡ false = of_carried has_donl (two has_donl) (is_two_bytes has_donl) (λ unit. has_forbidden_bit unit ≡ false) (λ high low b unit c. c.clear) unit this in
+    let clear : has_forbidden_bit unit ≡ false = of_carried has_donl (h265_rules has_donl) (is_two_bytes has_donl) (λ unit. has_forbidden_bit unit ≡ false) (λ high low b unit c. c.clear) unit this in
     rw clear (none_forbidden has_donl units others)
 
 -- a packet of carried sets is read as before
-sets_alike : (has_donl : Bool) (n : ℕ) (sets : List (List ℕ)) (unit : List ℕ) → AllByRecursion (λ set. length set < 65536) sets → AreCarried (h265 has_donl) sets → IsTrue (carries unit) →
+sets_alike : (has_donl : Bool) (n : ℕ) (sets : List (List ℕ)) (unit : List ℕ) → AllByRecursion (λ set. length set < 65536) sets → AreCarried (h265 has_donl) sets → IsTrue (two_byte_carries h265_header unit) →
     read has_donl (with_lowest_header has_donl (sets_packet has_donl n sets unit)) ≡ read has_donl (sets_packet has_donl n sets unit)
 sets_alike has_donl n [] unit short carried h = refl
-sets_alike has_donl n (set ∷ sets) unit short carried h = of_carried has_donl (two has_donl) (is_two_bytes has_donl)
+sets_alike has_donl n (set ∷ sets) unit short carried h = of_carried has_donl (h265_rules has_donl) (is_two_bytes has_donl)
     (λ unit. read has_donl (with_lowest_header has_donl (sets_packet has_donl n (set ∷ sets) unit)) ≡ read has_donl (sets_packet has_donl n (set ∷ sets) unit))
     (λ high low b unit c. read_alike has_donl (with_type_and_f high 48) low (donl_bytes has_donl n ++ piece set ++ flat_map (further_set has_donl) sets)
     (clear_as high 48 c.clear (omega arith)

@@ -11,19 +11,20 @@ use Rattle.h26x_core.specs.Pieces.{HasNoPiece, Pieces}
 use Rattle.h26x_core.proofs.PieceLemmas.{only_pieces, split_at, enough}
 use Rattle.h26x_model.proofs.TwoByteLemmas.{short_read, marked_read, aggregate_read, own_read}
 use Rattle.h26x_model.proofs.SingleLemmas.{short_single, numbered_single}
-use Rattle.h265_payload.specs.H265.{read, two_or_more, aggregate_of, units_behind_donl, further_units, fragment_of, paci_of, paci_behind, paci_head}
+use Rattle.h265_packets.specs.Header.{with_type}
+use Rattle.h265_payload.specs.H265.{h265_rules, read, two_or_more, aggregate_of, units_behind_donl, further_units, fragment_of, paci_of, paci_behind, paci_head}
 use Rattle.h265_payload.specs.Reading.{IsReading, IsWhole, IsUnitType, AreFurther, HasNoFurther, IsShort, IsCorrupted, IsUnit, IsNumberedUnit, IsShortUnit, IsAggregate, IsShortAggregate, IsNumberedAggregate, IsOneNumbered, IsNoneNumbered, IsWithoutNumber, IsFragment, IsNumberedStart, IsShortFragment, IsShortStart, IsPaci, IsShortPaci, IsPaciWithoutFields}
-use Rattle.h265_payload.proofs.HeaderLemmas.{two, some_fragment, numbered_start}
+use Rattle.h265_payload.proofs.HeaderLemmas.{some_fragment, numbered_start}
 use Rattle.h265_payload.proofs.FurtherLemmas.{only_further}
 
 -- a packet with F clear and type 48 is read as an aggregate
 pub read_aggregate : (has_donl : Bool) (packet : List ℕ) (high low : ℕ) (rest : List ℕ) → IsWhole packet high low rest → type_of high ≡ 48 →
     read has_donl packet ≡ aggregate_of has_donl rest
-read_aggregate has_donl packet high low rest w t = ap (read has_donl) w.whole ∙ aggregate_read has_donl (two has_donl) high low rest w.some w.clear t
+read_aggregate has_donl packet high low rest w t = ap (read has_donl) w.whole ∙ aggregate_read (h265_rules has_donl) high low rest w.some w.clear t
 
 -- one of type 49 as a fragment
 read_fragment : (has_donl : Bool) (packet : List ℕ) (high low b : ℕ) (rest : List ℕ) → IsWhole packet high low (b ∷ rest) → type_of high ≡ 49 →
-    read has_donl packet ≡ fragment_of has_donl (is_set b 7) high low b rest
+    read has_donl packet ≡ fragment_of has_donl (is_set b 7) (is_set b 6) (with_type high (field b 5 0) ∷ low ∷ []) rest
 read_fragment has_donl packet high low b rest w t = rw (w.whole, w.clear, t) refl
 
 -- one of type 50 as a PACI
@@ -42,7 +43,7 @@ read_single : (has_donl : Bool) (packet : List ℕ) (high low : ℕ) (rest : Lis
     read has_donl packet ≡ two_byte_single has_donl high low rest
 read_single has_donl packet high low rest w t =
     let u = unit_type (type_of high) t in
-    ap (read has_donl) w.whole ∙ own_read has_donl (two has_donl) high low rest w.some w.clear u.0 u.1 ∙ rw u.2 refl
+    ap (read has_donl) w.whole ∙ own_read (h265_rules has_donl) high low rest w.some w.clear u.0 u.1 ∙ rw u.2 refl
 
 -- two units or more are an aggregate, and fewer are too short
 pub two_read : (units : List (List ℕ × Option ℕ)) → 2 ≤ length units → two_or_more units ≡ Aggregate units
@@ -77,21 +78,21 @@ no_units n (high ∷ low ∷ bytes) none =
     ] refl
 
 -- without data a fragment is too short
-no_fragment : (has_donl start : Bool) (high low b : ℕ) → (has_donl && start) ≡ false → fragment_of has_donl start high low b [] ≡ Refused ErrShortPacket
-no_fragment true true high low b n = absurd cc
-no_fragment true false high low b n = refl
-no_fragment false true high low b n = refl
-no_fragment false false high low b n = refl
+no_fragment : (has_donl start end : Bool) (head : List ℕ) → (has_donl && start) ≡ false → fragment_of has_donl start end head [] ≡ Refused ErrShortPacket
+no_fragment true true end head n = absurd cc
+no_fragment true false end head n = refl
+no_fragment false true end head n = refl
+no_fragment false false end head n = refl
 
 -- a numbered start without data is too short
-short_start : (has_donl start : Bool) (high low b : ℕ) (body : List ℕ) → (has_donl && start) ≡ true → length body ≤ 2 →
-    fragment_of has_donl start high low b body ≡ Refused ErrShortPacket
-short_start true true high low b [] n short = refl
-short_start true true high low b (d ∷ []) n short = refl
-short_start true true high low b (d ∷ e ∷ []) n short = refl
-short_start true true high low b (d ∷ e ∷ x ∷ body) n short = absurd (omega arith)
-short_start true false high low b body n short = absurd cc
-short_start false start high low b body n short = absurd cc
+short_start : (has_donl start end : Bool) (head body : List ℕ) → (has_donl && start) ≡ true → length body ≤ 2 →
+    fragment_of has_donl start end head body ≡ Refused ErrShortPacket
+short_start true true end head [] n short = refl
+short_start true true end head (d ∷ []) n short = refl
+short_start true true end head (d ∷ e ∷ []) n short = refl
+short_start true true end head (d ∷ e ∷ x ∷ body) n short = absurd (omega arith)
+short_start true false end head body n short = absurd cc
+short_start false start end head body n short = absurd cc
 
 -- a PACI with a payload behind its extension, and without one
 some_behind : (high low fields : ℕ) (extension body : List ℕ) → 1 ≤ length body → paci_behind high low fields extension body ≡ Paci (paci_head high low fields) fields extension body
@@ -117,8 +118,8 @@ short_paci high low a b bytes short =
 
 -- a packet has no other reading than the one that is computed
 pub only_reading : (has_donl : Bool) (packet : List ℕ) (reading : Reading) → IsReading has_donl packet reading → read has_donl packet ≡ reading
-only_reading has_donl packet reading (IsShort short is) = short_read has_donl (two has_donl) packet short ∙ sym is
-only_reading has_donl packet reading (IsCorrupted high low rest same some f is) = ap (read has_donl) same ∙ marked_read has_donl (two has_donl) high low rest some f ∙ sym is
+only_reading has_donl packet reading (IsShort short is) = short_read (h265_rules has_donl) packet short ∙ sym is
+only_reading has_donl packet reading (IsCorrupted high low rest same some f is) = ap (read has_donl) same ∙ marked_read (h265_rules has_donl) high low rest some f ∙ sym is
 only_reading has_donl packet reading (IsUnit high low rest w t n is) = read_single has_donl packet high low rest w t ∙ rw n (ap (λ (x : List ℕ). Single x None) (sym w.whole)) ∙ sym is
 only_reading has_donl packet reading (IsNumberedUnit high low d e body w t n some is) =
     read_single has_donl packet high low (d ∷ e ∷ body) w t ∙ rw n (numbered_single high low d e body some) ∙ sym is
@@ -139,12 +140,12 @@ only_reading has_donl packet reading (IsNoneNumbered high low d e bytes w t n no
     read_aggregate has_donl packet high low (d ∷ e ∷ bytes) w t ∙ rw n (ap two_or_more (no_units (d * 256 + e) bytes none)) ∙ sym is
 only_reading has_donl packet reading (IsWithoutNumber high low d w t n is) = read_aggregate has_donl packet high low (d ∷ []) w t ∙ rw n refl ∙ sym is
 only_reading has_donl packet reading (IsFragment high low b body w t n some is) =
-    read_fragment has_donl packet high low b body w t ∙ some_fragment has_donl (is_set b 7) high low b body n some ∙ sym is
+    read_fragment has_donl packet high low b body w t ∙ some_fragment has_donl (is_set b 7) _ _ body n some ∙ sym is
 only_reading has_donl packet reading (IsNumberedStart high low b d e body w t n some is) =
-    read_fragment has_donl packet high low b (d ∷ e ∷ body) w t ∙ numbered_start has_donl (is_set b 7) high low b d e body n some ∙ sym is
-only_reading has_donl packet reading (IsShortFragment high low b w t n is) = read_fragment has_donl packet high low b [] w t ∙ no_fragment has_donl (is_set b 7) high low b n ∙ sym is
+    read_fragment has_donl packet high low b (d ∷ e ∷ body) w t ∙ numbered_start has_donl (is_set b 7) _ _ d e body n some ∙ sym is
+only_reading has_donl packet reading (IsShortFragment high low b w t n is) = read_fragment has_donl packet high low b [] w t ∙ no_fragment has_donl (is_set b 7) _ _ n ∙ sym is
 only_reading has_donl packet reading (IsShortStart high low b body w t n short is) =
-    read_fragment has_donl packet high low b body w t ∙ short_start has_donl (is_set b 7) high low b body n short ∙ sym is
+    read_fragment has_donl packet high low b body w t ∙ short_start has_donl (is_set b 7) _ _ body n short ∙ sym is
 only_reading has_donl packet reading (IsPaci high low a b extension body w t long some is) =
     read_paci has_donl packet high low (a ∷ b ∷ extension ++ body) w t ∙ some_paci high low a b extension body long some ∙ sym is
 only_reading has_donl packet reading (IsShortPaci high low a b bytes w t short is) =

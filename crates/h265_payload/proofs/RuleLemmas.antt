@@ -9,10 +9,10 @@ use Rattle.h26x_core.specs.H265Unit.{type_of}
 use Rattle.h26x_model.specs.Payload.Reading.{without_don, two_byte_single}
 use Rattle.h26x_core.specs.Pieces.{ArePieces, HasNoPiece, pieces_of}
 use Rattle.h26x_core.proofs.PieceLemmas.{pieces_are, split_at, none_past}
-use Rattle.h265_payload.specs.H265.{read, two_or_more, aggregate_of, further_units, fragment_of, paci_of, paci_behind}
+use Rattle.h265_packets.specs.Header.{with_type}
+use Rattle.h265_payload.specs.H265.{h265_rules, read, two_or_more, aggregate_of, further_units, fragment_of, paci_of, paci_behind}
 use Rattle.h265_payload.specs.Reading.{IsReading, IsWhole, IsUnitType, AreFurther, HasNoFurther, IsShort, IsCorrupted, IsUnit, IsNumberedUnit, IsShortUnit, IsAggregate, IsShortAggregate, IsNumberedAggregate, IsOneNumbered, IsNoneNumbered, IsWithoutNumber, IsFragment, IsNumberedStart, IsShortFragment, IsShortStart, IsPaci, IsShortPaci, IsPaciWithoutFields}
 use Rattle.h26x_model.proofs.TwoByteLemmas.{by_kind}
-use Rattle.h265_payload.proofs.HeaderLemmas.{two}
 use Rattle.h265_payload.proofs.FurtherLemmas.{further_are}
 
 -- a single unit
@@ -63,7 +63,7 @@ aggregate_is true packet high low (d ∷ e ∷ h ∷ l ∷ bytes) w t =
 
 -- a fragment
 fragment_is : (has_donl start : Bool) (packet : List ℕ) (high low b : ℕ) (body : List ℕ) → IsWhole packet high low (b ∷ body) → type_of high ≡ 49 → is_set b 7 ≡ start →
-    IsReading has_donl packet (fragment_of has_donl start high low b body)
+    IsReading has_donl packet (fragment_of has_donl start (is_set b 6) (with_type high (field b 5 0) ∷ low ∷ []) body)
 fragment_is true true packet high low b [] w t s = IsShortStart high low b [] w t s (omega arith) refl
 fragment_is true true packet high low b (d ∷ []) w t s = IsShortStart high low b (d ∷ []) w t s (omega arith) refl
 fragment_is true true packet high low b (d ∷ e ∷ []) w t s = IsShortStart high low b (d ∷ e ∷ []) w t s (omega arith) refl
@@ -107,7 +107,7 @@ whole high low rest some clear = record { whole = refl; some = some; clear = cle
 
 -- the reading that is computed is one by a rule
 pub has_reading : (has_donl : Bool) (packet : List ℕ) → IsReading has_donl packet (read has_donl packet)
-has_reading has_donl = by_kind has_donl (two has_donl) (IsReading has_donl) (λ packet short. IsShort short refl)
+has_reading has_donl = by_kind (h265_rules has_donl) (IsReading has_donl) (λ packet short. IsShort short refl)
     (λ high low rest some f. IsCorrupted high low rest refl some f refl)
     (λ high low rest some f type. aggregate_is has_donl (high ∷ low ∷ rest) high low rest (whole high low rest some f) type)
     (λ high low b body f type. fragment_is has_donl (is_set b 7) (high ∷ low ∷ b ∷ body) high low b body (whole high low (b ∷ body) (omega arith) f) type refl)

@@ -13,9 +13,9 @@ use Rattle.h26x_core.proofs.PieceLemmas.{word_back, pieces_back, enough, number_
 use Rattle.h26x_model.proofs.SetsLemmas.{FitIsWithin, sets_short, plain_numbers, next_number}
 use Rattle.h26x_model.proofs.TwoByteLemmas.{IsCarried, of_carried, sets_undetected}
 use Rattle.h265_payload.specs.CodecFacts.{fit_within, further_long}
-use Rattle.h26x_model.specs.Payload.TwoBytes.{two_byte_detects}
-use Rattle.h265_payload.specs.H265.{h265, carries, read, sets_fit, sets_packet, with_type_and_f, further_set, further_units, units_behind_donl, two_or_more, h265_header}
-use Rattle.h265_payload.proofs.HeaderLemmas.{two, is_two_bytes, clear_as}
+use Rattle.h26x_model.specs.Payload.TwoBytes.{two_byte_carries, two_byte_detects}
+use Rattle.h265_payload.specs.H265.{h265, h265_rules, read, sets_fit, sets_packet, with_type_and_f, further_set, further_units, units_behind_donl, two_or_more, h265_header}
+use Rattle.h265_payload.proofs.HeaderLemmas.{is_two_bytes, clear_as}
 
 -- the number of a first set takes no more
 pub fit_is_within : (has_donl : Bool) → FitIsWithin (h265 has_donl)
@@ -59,7 +59,7 @@ pub sets_type : (high : ℕ) → type_of (with_type_and_f high 48) ≡ 48
 sets_type high = omega arith
 
 -- an aggregate before a unit with these bytes is read back
-aggregate_back : (has_donl : Bool) (n : ℕ) (sets : List (List ℕ)) (high low : ℕ) (unit : List ℕ) → IsCarried has_donl (two has_donl) high low →
+aggregate_back : (has_donl : Bool) (n : ℕ) (sets : List (List ℕ)) (high low : ℕ) (unit : List ℕ) → IsCarried has_donl (h265_rules has_donl) high low →
     2 ≤ length sets → AllByRecursion (λ set. length set < 65536) sets →
     read has_donl (sets_packet has_donl n sets (high ∷ low ∷ unit)) ≡ Aggregate (with_dons (h265 has_donl) n sets)
 aggregate_back has_donl n [] high low unit c two short = absurd (omega arith)
@@ -72,17 +72,17 @@ aggregate_back true n (set ∷ second ∷ sets) high low unit c two short =
 
 -- two sets or more that fit an aggregate are read back with their numbers
 pub sets_back : (has_donl : Bool) (n limit : ℕ) (sets : List (List ℕ)) (unit : List ℕ) → IsLimit (h265 has_donl) limit → sets_fit has_donl limit sets ≡ true → 2 ≤ length sets →
-    IsTrue (carries unit) → read has_donl (sets_packet has_donl n sets unit) ≡ Aggregate (with_dons (h265 has_donl) n sets)
-sets_back has_donl n limit sets unit is fit many h = of_carried has_donl (two has_donl) (is_two_bytes has_donl)
+    IsTrue (two_byte_carries h265_header unit) → read has_donl (sets_packet has_donl n sets unit) ≡ Aggregate (with_dons (h265 has_donl) n sets)
+sets_back has_donl n limit sets unit is fit many h = of_carried has_donl (h265_rules has_donl) (is_two_bytes has_donl)
     (λ unit. read has_donl (sets_packet has_donl n sets unit) ≡ Aggregate (with_dons (h265 has_donl) n sets))
     (λ high low b unit c. aggregate_back has_donl n sets high low (b ∷ unit) c many (sets_short (h265 has_donl) (fit_is_within has_donl) limit sets (is refl) fit)) unit h
 
 -- an aggregate of sets without numbers is not detected
 pub undetected : (has_donl : Bool) (n limit : ℕ) (sets : List (List ℕ)) (unit : List ℕ) → has_donl ≡ false → IsLimit (h265 has_donl) limit →
-    sets_fit has_donl limit sets ≡ true → IsTrue (carries unit) → AllByRecursion (λ set. is_key set ≡ false) sets → two_byte_detects h265_header (sets_packet has_donl n sets unit) ≡ false
+    sets_fit has_donl limit sets ≡ true → IsTrue (two_byte_carries h265_header unit) → AllByRecursion (λ set. is_key set ≡ false) sets → two_byte_detects h265_header (sets_packet has_donl n sets unit) ≡ false
 undetected true n limit sets unit none is fit h all = absurd cc
 undetected false n limit [] unit none is fit h all = refl
 undetected false n limit (set ∷ sets) unit none is fit h all =
-    of_carried false (two false) (is_two_bytes false) (λ unit. two_byte_detects h265_header (sets_packet false n (set ∷ sets) unit) ≡ false)
-    (λ high low b unit c. sets_undetected false (two false) (is_two_bytes false) (with_type_and_f high 48) low (set ∷ sets) (sets_type high)
+    of_carried false (h265_rules false) (is_two_bytes false) (λ unit. two_byte_detects h265_header (sets_packet false n (set ∷ sets) unit) ≡ false)
+    (λ high low b unit c. sets_undetected false (h265_rules false) (is_two_bytes false) (with_type_and_f high 48) low (set ∷ sets) (sets_type high)
     (sets_short (h265 false) (fit_is_within false) limit (set ∷ sets) (is refl) fit) all) unit h

@@ -7,6 +7,7 @@ use Rattle.h26x_core.specs.H265Unit.{type_of}
 use Rattle.h26x_core.specs.Pieces.{pieces_of}
 use Rattle.h26x_core.specs.declared.error.PacketError.TheVariants.{ErrH265CorruptedPacket}
 use Rattle.h26x_model.specs.Payload.Reading.{Refused, two_byte_single, without_don}
+use Rattle.h265_packets.specs.Header.{with_type}
 use Rattle.h265_packets.specs.Payload.{AggregationPacket}
 use Rattle.h265_packets.specs.declared.payload.H265Payload.TheVariants as p
 use Rattle.h265_payload.specs.H265.{read, aggregate_of, two_or_more, fragment_of, paci_of, paci_behind, units_behind_donl}
@@ -51,7 +52,7 @@ single_so true high low (d ∷ e ∷ b ∷ body) = refl
 
 -- a fragmentation unit, by its S bit
 fragment_so : (has_donl start : Bool) (high low fu : ℕ) (body : List ℕ) → is_set fu 7 ≡ start →
-    ShowsReading has_donl high low (fragment_of has_donl start high low fu body) (p.H265FragmentationUnitPacket (record {
+    ShowsReading has_donl high low (fragment_of has_donl start (is_set fu 6) (with_type high (field fu 5 0) ∷ low ∷ []) body) (p.H265FragmentationUnitPacket (record {
       header = high * 256 + low;
       fu_header = fu;
       donl = donl_of (has_donl && start) body;
@@ -95,7 +96,7 @@ shows_reading has_donl high low (b ∷ body) =
     let word = high * 256 + low in
     let paci = paci_of high low (b ∷ body) in
     let single = two_byte_single has_donl high low (b ∷ body) in
-    let fragment = fragment_of has_donl (is_set b 7) high low b body in
+    let fragment = fragment_of has_donl (is_set b 7) (is_set b 6) (with_type high (field b 5 0) ∷ low ∷ []) body in
     let aggregate = aggregate_of has_donl (b ∷ body) in
     let paci_shown = shown_paci word (b ∷ body) in
     let single_shown = shown_single has_donl word (b ∷ body) in

@@ -5,23 +5,19 @@ use Rattle.std.proofs.Common.{arith, cond, length-append}
 use Rattle.std.proofs.lemmas.Bool.Decides.{nat_tests}
 use Rattle.std.proofs.Math.Nat.{mod-mod}
 use Rattle.h26x_core.specs.Kind.{is_other}
-use Rattle.h26x_core.specs.H265Unit.{type_of, kind, is_key}
+use Rattle.h26x_core.specs.H265Unit.{kind, is_key}
 use Rattle.h26x_model.specs.Payload.Facts.{FitsLimits, DonlHasTwoBytes}
 use Rattle.h26x_model.proofs.SetsLemmas.{room_of, room_of-cons}
-use Rattle.h26x_model.proofs.TwoByteLemmas.{fragment_header_long}
-use Rattle.h265_payload.specs.H265.{h265, with_type_and_f, sets_fit, sets_packet, further_set}
+use Rattle.h26x_model.proofs.TwoByteLemmas as two_byte
+use Rattle.h265_payload.specs.H265.{h265, h265_header, sets_fit, sets_packet, further_set}
 
 -- an other unit has a whole header
 pub has_header : (unit : List ℕ) → is_other (kind unit) ≡ true → 2 ≤ length unit
-has_header [] is = absurd cc
-has_header (high ∷ []) is = absurd cc
-has_header (high ∷ low ∷ unit) is = omega arith
+has_header = two_byte.has_header h265_header
 
 -- a header tells whether its unit is a key unit
 pub header_tells : (head rest : List ℕ) → length head ≡ 2 → is_key (head ++ rest) ≡ is_key head
-header_tells [] rest two = absurd (omega arith)
-header_tells (high ∷ []) rest two = absurd (omega arith)
-header_tells (high ∷ low ∷ head) rest two = refl
+header_tells = two_byte.header_tells h265_header
 
 -- sets that fit an aggregate are within the limit
 pub fit_within : (has_donl : Bool) (limit : ℕ) (sets : List (List ℕ)) →
@@ -59,8 +55,7 @@ sets_within false limit n (set ∷ sets) (high ∷ low ∷ unit) fit =
 -- headers are as long as they are counted, and aggregates are within the limit
 pub fits_limits : (has_donl : Bool) → FitsLimits (h265 has_donl)
 fits_limits has_donl = record {
-  header = fragment_header_long (λ high low. type_of high) (λ high. with_type_and_f high 49)
-      (λ low. low);
+  header = two_byte.fragment_header_long h265_header;
   sets = sets_within has_donl;
 }
 

@@ -6,11 +6,11 @@ use Rattle.h26x_core.specs.declared.extra.CodecExtra.TheVariants as extras
 use Rattle.h26x_core.specs.declared.error.PacketError.TheVariants.{ErrShortPacket, ErrH265CorruptedPacket}
 use Rattle.h26x_cut.specs.declared.ZeroRule.TheVariants.{All}
 use Rattle.h26x_cut.specs.Cutting.{units_of}
-use Rattle.h26x_core.specs.Word.{field, is_set, flag}
-use Rattle.h26x_core.specs.H265Unit.{type_of, kind, is_key, is_key_type}
+use Rattle.h26x_core.specs.Word.{field}
+use Rattle.h26x_core.specs.H265Unit.{type_of, kind_of_type, is_key_type}
 use Rattle.h26x_model.specs.Payload.Reading.{Reading, Aggregate, Fragment, Paci, Refused, without_don, two_byte_single}
 use Rattle.h26x_model.specs.Payload.Format.{Format, donl_bytes}
-use Rattle.h26x_model.specs.Payload.TwoBytes.{TwoByteHeader, two_byte_detects}
+use Rattle.h26x_model.specs.Payload.TwoBytes.{TwoByteHeader, TwoByteFormat, two_byte_format}
 use Rattle.h26x_core.specs.Pieces.{pieces_of, piece}
 use Rattle.h265_packets.specs.Header.{with_type}
 
@@ -38,12 +38,6 @@ sets_packet has_donl n (set ∷ sets) (high ∷ low ∷ unit) =
     (with_type_and_f high 48 ∷ low ∷ []) ++ donl_bytes has_donl n ++ piece set
     ++ flat_map (further_set has_donl) sets
 sets_packet has_donl n sets unit = []
-
--- a fragment's header: the unit's with type 49, and a byte of S, E and the unit's type (4.4.3)
-abbrev pub fragment_header : List ℕ → Bool → Bool → List ℕ
-fragment_header (high ∷ low ∷ unit) start end = with_type_and_f high 49 ∷ low ∷
-    (flag start 0x80 + flag end 0x40 + type_of high) ∷ []
-fragment_header unit start end = []
 
 -- the units of an aggregate behind the first, each behind the difference of its number and its
 -- length
@@ -74,14 +68,13 @@ aggregate_of false bytes = two_or_more (map without_don (pieces_of bytes).whole)
 aggregate_of true (high ∷ low ∷ bytes) = two_or_more (units_behind_donl (high * 256 + low) bytes)
 aggregate_of true bytes = Refused ErrShortPacket
 
--- a fragment behind its header, by its S bit (4.4.3)
-abbrev pub fragment_of : Bool → Bool → ℕ → ℕ → ℕ → List ℕ → Reading
-fragment_of true true high low fu (d ∷ e ∷ b ∷ body) = Fragment true (is_set fu 6)
-    (with_type high (field fu 5 0) ∷ low ∷ []) (Some (d * 256 + e)) (b ∷ body)
-fragment_of true true high low fu body = Refused ErrShortPacket
-fragment_of has_donl start high low fu (b ∷ body) = Fragment start (is_set fu 6)
-    (with_type high (field fu 5 0) ∷ low ∷ []) None (b ∷ body)
-fragment_of has_donl start high low fu body = Refused ErrShortPacket
+-- a fragment by its marks, its unit's header and what stands behind these (4.4.3)
+abbrev pub fragment_of : Bool → Bool → Bool → List ℕ → List ℕ → Reading
+fragment_of true true end head (d ∷ e ∷ b ∷ body) = Fragment true end head (Some (d * 256 + e))
+    (b ∷ body)
+fragment_of true true end head body = Refused ErrShortPacket
+fragment_of has_donl start end head (b ∷ body) = Fragment start end head None (b ∷ body)
+fragment_of has_donl start end head body = Refused ErrShortPacket
 
 -- the header that a PACI packet stands for: A as F, cType, and the packet's layer and temporal id
 -- (4.4.4; ours)
@@ -99,51 +92,49 @@ paci_of high low (a ∷ b ∷ bytes) = paci_behind high low (a * 256 + b)
     (take (field (a * 256 + b) 8 4) bytes) (drop (field (a * 256 + b) 8 4) bytes)
 paci_of high low bytes = Refused ErrShortPacket
 
--- the same as the relation `IsReading` of the file beside this one, computed
-abbrev pub read : Bool → List ℕ → Reading
-read has_donl (high ∷ low ∷ b ∷ body) =
-    if is_set high 7 then Refused ErrH265CorruptedPacket
-    else if type_of high == 48 then aggregate_of has_donl (b ∷ body)
-    else if type_of high == 49 then fragment_of has_donl (is_set b 7) high low b body
-    else if type_of high == 50 then paci_of high low (b ∷ body)
-    else two_byte_single has_donl high low (b ∷ body)
-read has_donl packet = Refused ErrShortPacket
-
--- a unit of three bytes or more with F clear and a type of its own
-abbrev pub carries : List ℕ → Bool
-carries (high ∷ low ∷ b ∷ unit) = nat_lt high 0x80
-    && (nat_lt (type_of high) 48 || nat_lt 50 (type_of high))
-carries unit = false
+-- a packet of another type: a PACI, or a unit
+abbrev pub own_of : Bool → ℕ → ℕ → List ℕ → Reading
+own_of has_donl high low bytes =
+    if type_of high == 50 then paci_of high low bytes else two_byte_single has_donl high low bytes
 
 abbrev pub has_key : CodecExtra → Bool  -- the H.265 variant with its flag true
 has_key (extras.H265 extra) = extra.is_keyframe
 has_key extra = false
 
-abbrev pub h265_header : TwoByteHeader  -- what the headers of units and packets say
+-- what the headers of units and packets say: a fragment's has the unit's bytes with type 49, and
+-- packets carry units with F clear and a type of their own
+abbrev pub h265_header : TwoByteHeader
 h265_header = record {
   type_of = λ high low. type_of high;
   aggregate = 48;
   fragment = 49;
   unit_type = λ fu. field fu 5 0;
+  mark_high = λ high. with_type_and_f high 49;
+  mark_low = λ low. low;
+  with_type = λ high low type. with_type high type ∷ low ∷ [];
   is_key_type = is_key_type;
+  kind = kind_of_type;
+  carries = λ high low. nat_lt high 0x80 && (nat_lt (type_of high) 48 || nat_lt 50 (type_of high));
+}
+
+-- what sets H.265 apart, with or without numbers
+abbrev pub h265_rules : Bool → TwoByteFormat
+h265_rules has_donl = record {
+  header = h265_header;
+  units = units_of All;
+  sets_fit = sets_fit has_donl;
+  sets_packet = sets_packet has_donl;
+  corrupted = ErrH265CorruptedPacket;
+  aggregate_of = aggregate_of has_donl;
+  fragment_of = fragment_of has_donl;
+  own_of = own_of has_donl;
+  extra = λ key. extras.H265 (record { is_keyframe = key });
+  has_key = has_key;
 }
 
 abbrev pub h265 : Bool → Format  -- the format, with or without numbers
-h265 has_donl = record {
-  units = units_of All;
-  kind = kind;
-  is_key = is_key;
-  least_mtu = 4;
-  has_max_packet_size = true;
-  header_len = 2;
-  may_have_donl = true;
-  has_donl = has_donl;
-  sets_fit = sets_fit has_donl;
-  sets_packet = sets_packet has_donl;
-  fragment_header = fragment_header;
-  read = read has_donl;
-  carries = carries;
-  extra = λ key. extras.H265 (record { is_keyframe = key });
-  has_key = has_key;
-  detects = two_byte_detects h265_header;
-}
+h265 has_donl = two_byte_format has_donl (h265_rules has_donl)
+
+-- the same as the relation `IsReading` of the file beside this one, computed
+abbrev pub read : Bool → List ℕ → Reading
+read has_donl = (h265 has_donl).read

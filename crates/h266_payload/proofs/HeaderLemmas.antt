@@ -3,29 +3,13 @@ use Rattle.std.proofs.Common.{◌≡◌, ℕ, ◌+◌, ◌*◌, ◌<◌, Bool, t
 use Rattle.std.specs.Prelude.{◌&&◌, ◌||◌, ◌==◌, nat_lt, max}
 use Rattle.std.proofs.lemmas.Bool.{and_parts}
 use Rattle.std.proofs.lemmas.Bool.Decides.{nat_tests}
-use Rattle.h26x_core.specs.declared.error.PacketError.TheVariants.{ErrH266CorruptedPacket}
-use Rattle.h26x_core.specs.Word.{field, is_set}
+use Rattle.h26x_core.specs.Word.{is_set}
 use Rattle.h26x_core.specs.Kind.{is_other}
 use Rattle.h26x_core.specs.H266Unit.{type_of, kind_of_type, is_key_type}
-use Rattle.h26x_model.specs.Payload.Reading.{Fragment, two_byte_single}
+use Rattle.h26x_model.specs.Payload.Reading.{Fragment}
 use Rattle.h26x_core.proofs.HeaderLemmas.{type_back}
-use Rattle.h26x_model.proofs.TwoByteLemmas.{TwoBytes, IsTwoBytes, IsCarried}
-use Rattle.h266_payload.specs.H266.{h266_header, with_type, aggregate_of, fragment_of}
-
--- what sets H.266 apart: types stand in the low byte, and have five bits
-abbrev pub two : (has_donl : Bool) → TwoBytes has_donl
-two has_donl = record {
-  header = h266_header;
-  mark_high = λ high. high;
-  mark_low = λ low. with_type low 29;
-  with_type = λ high low type. high ∷ with_type low type ∷ [];
-  carries = λ high low. nat_lt high 0x80 && (nat_lt (type_of low) 28 || nat_lt 29 (type_of low));
-  kind = kind_of_type;
-  corrupted = ErrH266CorruptedPacket;
-  aggregate_of = aggregate_of has_donl;
-  fragment_of = fragment_of has_donl;
-  own_of = two_byte_single has_donl;
-}
+use Rattle.h26x_model.proofs.TwoByteLemmas.{IsTwoBytes, IsCarried}
+use Rattle.h266_payload.specs.H266.{h266_rules, with_type, fragment_of}
 
 -- the low byte of an aggregate's header has type 28, whatever its temporal id
 pub aggregate_type : (temporal : ℕ) → temporal < 8 → type_of (28 * 8 + max 1 temporal) ≡ 28
@@ -37,7 +21,7 @@ low_back low = omega arith
 
 -- a carried unit has F clear and is no packet of type 28 or 29
 pub carried : (has_donl : Bool) (high low : ℕ) → (nat_lt high 0x80 && (nat_lt (type_of low) 28 || nat_lt 29 (type_of low))) ≡ true →
-    IsCarried has_donl (two has_donl) high low
+    IsCarried has_donl (h266_rules has_donl) high low
 carried has_donl high low h =
     let s = and_parts _ _ h in
     let small : nat_lt high 0x80 ≡ true = s.0 in
@@ -54,18 +38,17 @@ carried has_donl high low h =
     }
 
 -- a fragment without a number keeps all its bytes
-pub plain_fragment : (has_donl start : Bool) (high low fu : ℕ) (body : List ℕ) → (has_donl && start) ≡ false →
-    fragment_of has_donl start high low fu body ≡ Fragment start (is_set fu 6) (high ∷ with_type low (field fu 4 0) ∷ []) None body
-plain_fragment false start high low fu body none = refl
-plain_fragment true false high low fu body none = refl
-plain_fragment true true high low fu body none = absurd cc
+pub plain_fragment : (has_donl start end : Bool) (head body : List ℕ) → (has_donl && start) ≡ false → fragment_of has_donl start end head body ≡ Fragment start end head None body
+plain_fragment false start end head body none = refl
+plain_fragment true false end head body none = refl
+plain_fragment true true end head body none = absurd cc
 
 -- a start with a number keeps those behind it
-pub numbered_start : (has_donl start : Bool) (high low fu d e : ℕ) (body : List ℕ) → (has_donl && start) ≡ true →
-    fragment_of has_donl start high low fu (d ∷ e ∷ body) ≡ Fragment true (is_set fu 6) (high ∷ with_type low (field fu 4 0) ∷ []) (Some (d * 256 + e)) body
-numbered_start true true high low fu d e body both = refl
-numbered_start true false high low fu d e body both = absurd cc
-numbered_start false start high low fu d e body both = absurd cc
+pub numbered_start : (has_donl start end : Bool) (head : List ℕ) (d e : ℕ) (body : List ℕ) → (has_donl && start) ≡ true →
+    fragment_of has_donl start end head (d ∷ e ∷ body) ≡ Fragment true end head (Some (d * 256 + e)) body
+numbered_start true true end head d e body both = refl
+numbered_start true false end head d e body both = absurd cc
+numbered_start false start end head d e body both = absurd cc
 
 -- a key type is neither a parameter set's nor one that is skipped
 key_type_other : (type : ℕ) → is_key_type type ≡ true → is_other (kind_of_type type) ≡ true
@@ -79,7 +62,7 @@ key_type_other type e =
     rw (aud, aggregate, fragment, vps, sps, pps) refl
 
 -- H.266 is what is asked of formats whose headers have two bytes
-pub is_two_bytes : (has_donl : Bool) → IsTwoBytes has_donl (two has_donl)
+pub is_two_bytes : (has_donl : Bool) → IsTwoBytes has_donl (h266_rules has_donl)
 is_two_bytes has_donl = record {
   apart = refl;
   type_fits = λ high low. omega arith;
@@ -87,6 +70,6 @@ is_two_bytes has_donl = record {
   type_back = λ start end high low. type_back start end (type_of low) (omega arith);
   carried = carried has_donl;
   other = key_type_other;
-  plain = λ start high low fu body none some. plain_fragment has_donl start high low fu body none;
-  start = λ start high low fu d e body both some. numbered_start has_donl start high low fu d e body both;
+  plain = λ start end head body none some. plain_fragment has_donl start end head body none;
+  start = λ start end head d e body both some. numbered_start has_donl start end head d e body both;
 }

@@ -3,18 +3,18 @@ use Rattle.std.proofs.Common.{◌≡◌, ℕ, ◌+◌, ◌*◌, ◌<◌, ◌≤�
 use Rattle.std.specs.Prelude.{◌==◌, Result, Ok, Err}
 use Rattle.std.proofs.lemmas.Bool.{cases_lt, and_parts}
 use Rattle.std.proofs.lemmas.Bool.Decides.{nat_tests}
-use Rattle.h26x_core.specs.Word.{is_set}
+use Rattle.h26x_core.specs.Word.{field, is_set}
 use Rattle.h26x_core.specs.H266Unit.{type_of}
 use Rattle.h26x_model.specs.Payload.Reading.{Reading, Single, Aggregate, Refused, two_byte_single}
 use Rattle.h26x_core.specs.declared.error.PacketError.{PacketError}
 use Rattle.h26x_core.specs.declared.error.PacketError.TheVariants.{ErrShortPacket, ErrH266CorruptedPacket}
 use Rattle.h26x_model.proofs.SingleLemmas.{short_single, numbered_single}
 use Rattle.h26x_model.proofs.TwoByteLemmas.{by_kind, short_read, marked_read, aggregate_read, own_read}
-use Rattle.h266_payload.specs.H266.{read, units_with_dons, two_or_more, units_within, aggregate_of, fragment_of}
+use Rattle.h266_payload.specs.H266.{h266_rules, read, with_type, units_with_dons, two_or_more, units_within, aggregate_of, fragment_of}
 use Rattle.h266_payload.specs.Reading.{IsReading, IsWhole, IsUnitType, IsBehind, IsPlain, IsNumbered}
 use Rattle.h266_payload.specs.Reading.{IsShort, IsCorrupted, IsUnit, IsNumberedUnit, IsShortUnit}
 use Rattle.h266_payload.specs.Reading.{IsAggregate, IsShortAggregate, IsCutAggregate, IsCorruptedAggregate, IsWithoutNumber, IsFragment, IsNumberedStart, IsShortStart}
-use Rattle.h266_payload.proofs.HeaderLemmas.{two, plain_fragment, numbered_start}
+use Rattle.h266_payload.proofs.HeaderLemmas.{plain_fragment, numbered_start}
 use Rattle.h266_payload.proofs.WithinLemmas.{IsFound, ToTheEnd, ToACut, ToAForbidden, found_within, only_found}
 
 -- an aggregate is read as its bytes are found to be
@@ -43,17 +43,17 @@ aggregate_is true high low packet (d ∷ e ∷ bytes) whole type =
 
 -- a start with numbers has one, or it is too short
 start_is : (high low fu : ℕ) (packet body : List ℕ) → IsWhole packet high low (fu ∷ body) → type_of low ≡ 29 → is_set fu 7 ≡ true →
-    IsReading true packet (fragment_of true true high low fu body)
+    IsReading true packet (fragment_of true true (is_set fu 6) (high ∷ with_type low (field fu 4 0) ∷ []) body)
 start_is high low fu packet [] whole type starts = IsShortStart high low fu [] whole type starts (omega arith) refl
 start_is high low fu packet (d ∷ []) whole type starts = IsShortStart high low fu (d ∷ []) whole type starts (omega arith) refl
 start_is high low fu packet (d ∷ e ∷ body) whole type starts = IsNumberedStart high low fu d e body whole type starts refl
 
 -- a packet of type 29 is read as a fragment is computed to be
 fragment_is : (has_donl : Bool) (high low fu : ℕ) (packet body : List ℕ) → IsWhole packet high low (fu ∷ body) → type_of low ≡ 29 →
-    IsReading has_donl packet (fragment_of has_donl (is_set fu 7) high low fu body)
+    IsReading has_donl packet (fragment_of has_donl (is_set fu 7) (is_set fu 6) (high ∷ with_type low (field fu 4 0) ∷ []) body)
 fragment_is false high low fu packet body whole type = IsFragment high low fu body whole type refl refl
 fragment_is true high low fu packet body whole type =
-    elim (is_set fu 7) as (λ b. is_set fu 7 ≡ b → IsReading true packet (fragment_of true b high low fu body)) [
+    elim (is_set fu 7) as (λ b. is_set fu 7 ≡ b → IsReading true packet (fragment_of true b (is_set fu 6) (high ∷ with_type low (field fu 4 0) ∷ []) body)) [
       | true ↦ λ starts. start_is high low fu packet body whole type starts
       | false ↦ λ later. IsFragment high low fu body whole type later (rw later refl)
     ] refl
@@ -81,7 +81,7 @@ is_whole high low rest some clear = record { whole = refl; some = some; clear = 
 
 -- what is computed is a packet's reading
 pub has_reading : (has_donl : Bool) (packet : List ℕ) → IsReading has_donl packet (read has_donl packet)
-has_reading has_donl = by_kind has_donl (two has_donl) (IsReading has_donl) (λ packet short. IsShort short refl)
+has_reading has_donl = by_kind (h266_rules has_donl) (IsReading has_donl) (λ packet short. IsShort short refl)
     (λ high low rest some marked. IsCorrupted high low rest refl some marked refl)
     (λ high low rest some clear type. aggregate_is has_donl high low (high ∷ low ∷ rest) rest (is_whole high low rest some clear) type)
     (λ high low fu body clear type. fragment_is has_donl high low fu (high ∷ low ∷ fu ∷ body) body (is_whole high low (fu ∷ body) (omega arith) clear) type)
@@ -91,16 +91,16 @@ has_reading has_donl = by_kind has_donl (two has_donl) (IsReading has_donl) (λ 
 unit_read : (has_donl : Bool) (high low : ℕ) (packet rest : List ℕ) → IsWhole packet high low rest → IsUnitType (type_of low) → read has_donl packet ≡ two_byte_single has_donl high low rest
 unit_read has_donl high low packet rest whole type =
     let other = other_type (type_of low) type in
-    ap (read has_donl) whole.whole ∙ own_read has_donl (two has_donl) high low rest whole.some whole.clear other.0 other.1
+    ap (read has_donl) whole.whole ∙ own_read (h266_rules has_donl) high low rest whole.some whole.clear other.0 other.1
 
 -- type 29 is read as a fragment
 fragment_read : (has_donl : Bool) (high low fu : ℕ) (packet body : List ℕ) → IsWhole packet high low (fu ∷ body) → type_of low ≡ 29 →
-    read has_donl packet ≡ fragment_of has_donl (is_set fu 7) high low fu body
+    read has_donl packet ≡ fragment_of has_donl (is_set fu 7) (is_set fu 6) (high ∷ with_type low (field fu 4 0) ∷ []) body
 fragment_read has_donl high low fu packet body whole type = rw (whole.whole, whole.clear, type) refl
 
 -- type 28 is read as an aggregate
 whole_read : (has_donl : Bool) (high low : ℕ) (packet rest : List ℕ) → IsWhole packet high low rest → type_of low ≡ 28 → read has_donl packet ≡ aggregate_of has_donl rest
-whole_read has_donl high low packet rest whole type = ap (read has_donl) whole.whole ∙ aggregate_read has_donl (two has_donl) high low rest whole.some whole.clear type
+whole_read has_donl high low packet rest whole type = ap (read has_donl) whole.whole ∙ aggregate_read (h266_rules has_donl) high low rest whole.some whole.clear type
 
 -- an aggregate's units are computed from the bytes behind its number
 behind_read : (has_donl : Bool) (rest bytes : List ℕ) (don : Option ℕ) → IsBehind has_donl rest don bytes →
@@ -127,15 +127,15 @@ few_read don (first ∷ []) one = refl
 few_read don (first ∷ second ∷ units) one = absurd (omega arith)
 
 -- a start without a whole number is too short
-short_start : (high low fu : ℕ) (body : List ℕ) → length body ≤ 1 → fragment_of true true high low fu body ≡ Refused ErrShortPacket
-short_start high low fu [] short = refl
-short_start high low fu (d ∷ []) short = refl
-short_start high low fu (d ∷ e ∷ body) short = absurd (omega arith)
+short_start : (end : Bool) (head body : List ℕ) → length body ≤ 1 → fragment_of true true end head body ≡ Refused ErrShortPacket
+short_start end head [] short = refl
+short_start end head (d ∷ []) short = refl
+short_start end head (d ∷ e ∷ body) short = absurd (omega arith)
 
 -- a packet has no other reading than the one computed
 pub only_reading : (has_donl : Bool) (packet : List ℕ) (reading : Reading) → IsReading has_donl packet reading → read has_donl packet ≡ reading
-only_reading has_donl packet reading (IsShort short is) = short_read has_donl (two has_donl) packet short ∙ sym is
-only_reading has_donl packet reading (IsCorrupted high low rest whole some marked is) = ap (read has_donl) whole ∙ marked_read has_donl (two has_donl) high low rest some marked ∙ sym is
+only_reading has_donl packet reading (IsShort short is) = short_read (h266_rules has_donl) packet short ∙ sym is
+only_reading has_donl packet reading (IsCorrupted high low rest whole some marked is) = ap (read has_donl) whole ∙ marked_read (h266_rules has_donl) high low rest some marked ∙ sym is
 only_reading has_donl packet reading (IsUnit high low rest whole type plain is) =
     unit_read has_donl high low packet rest whole type ∙ rw plain (ap (λ (unit : List ℕ). Single unit None) (sym whole.whole)) ∙ sym is
 only_reading has_donl packet reading (IsNumberedUnit high low d e body whole type bears some is) =
@@ -153,9 +153,9 @@ only_reading has_donl packet reading (IsCorruptedAggregate high low h l rest byt
 only_reading has_donl packet reading (IsWithoutNumber high low d whole type bears is) =
     whole_read has_donl high low packet (d ∷ []) whole type ∙ rw bears (sym is)
 only_reading has_donl packet reading (IsFragment high low fu body whole type none is) =
-    fragment_read has_donl high low fu packet body whole type ∙ plain_fragment has_donl (is_set fu 7) high low fu body none ∙ sym is
+    fragment_read has_donl high low fu packet body whole type ∙ plain_fragment has_donl (is_set fu 7) _ _ body none ∙ sym is
 only_reading has_donl packet reading (IsNumberedStart high low fu d e body whole type starts is) =
-    fragment_read has_donl high low fu packet (d ∷ e ∷ body) whole type ∙ numbered_start has_donl (is_set fu 7) high low fu d e body starts ∙ sym is
+    fragment_read has_donl high low fu packet (d ∷ e ∷ body) whole type ∙ numbered_start has_donl (is_set fu 7) _ _ d e body starts ∙ sym is
 only_reading has_donl packet reading (IsShortStart high low fu body whole type starts short is) =
     let both = and_parts has_donl (is_set fu 7) starts in
-    fragment_read has_donl high low fu packet body whole type ∙ rw (both.0, both.1) (short_start high low fu body short) ∙ sym is
+    fragment_read has_donl high low fu packet body whole type ∙ rw (both.0, both.1) (short_start _ _ body short) ∙ sym is

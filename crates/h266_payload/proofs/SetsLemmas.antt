@@ -14,10 +14,10 @@ use Rattle.h26x_core.proofs.PieceLemmas.{word_back, number_back}
 use Rattle.h26x_model.proofs.SetsLemmas.{FitIsWithin, sets_short, plain_numbers, next_number}
 use Rattle.h26x_model.proofs.TwoByteLemmas.{of_carried, header_there, aggregate_read, sets_undetected}
 use Rattle.h266_payload.specs.CodecFacts.{fit_within}
-use Rattle.h26x_model.specs.Payload.TwoBytes.{two_byte_detects}
-use Rattle.h266_payload.specs.H266.{h266, read, carries, sets_fit, sets_packet, has_forbidden_bit, layer_of, temporal_of, least}
+use Rattle.h26x_model.specs.Payload.TwoBytes.{two_byte_carries, two_byte_detects}
+use Rattle.h266_payload.specs.H266.{h266, h266_rules, read, sets_fit, sets_packet, has_forbidden_bit, layer_of, temporal_of, least}
 use Rattle.h266_payload.specs.H266.{has_packet_type, with_unit, units_within, units_with_dons, two_or_more, aggregate_of, h266_header}
-use Rattle.h266_payload.proofs.HeaderLemmas.{two, is_two_bytes, aggregate_type}
+use Rattle.h266_payload.proofs.HeaderLemmas.{is_two_bytes, aggregate_type}
 use Rattle.h266_payload.proofs.WithinLemmas.{unit_within}
 
 -- sets that fit an aggregate are within the limit
@@ -25,8 +25,8 @@ pub fit_is_within : (has_donl : Bool) → FitIsWithin (h266 has_donl)
 fit_is_within has_donl limit sets some fit = fit_within has_donl limit sets fit
 
 -- no carried unit has F set
-unmarked : (has_donl : Bool) (unit : List ℕ) → IsTrue (carries unit) → has_forbidden_bit unit ≡ false
-unmarked has_donl = of_carried has_donl (two has_donl) (is_two_bytes has_donl) _ (λ high low b unit c. c.clear)
+unmarked : (has_donl : Bool) (unit : List ℕ) → IsTrue (two_byte_carries h266_header unit) → has_forbidden_bit unit ≡ false
+unmarked has_donl = of_carried has_donl (h266_rules has_donl) (is_two_bytes has_donl) _ (λ high low b unit c. c.clear)
 
 -- none of carried sets has F set
 none_marked : (has_donl : Bool) (sets : List (List ℕ)) → AreCarried (h266 has_donl) sets → list_any has_forbidden_bit sets ≡ false
@@ -34,8 +34,8 @@ none_marked has_donl [] carried = refl
 none_marked has_donl (set ∷ sets) (here, later) = rw (unmarked has_donl set here) (none_marked has_donl sets later)
 
 -- no carried unit is an aggregate or a fragment
-allowed : (has_donl : Bool) (unit : List ℕ) → IsTrue (carries unit) → has_packet_type unit ≡ false
-allowed has_donl = of_carried has_donl (two has_donl) (is_two_bytes has_donl) _ (λ high low b unit c. rw (c.no_aggregate, c.no_fragment) refl)
+allowed : (has_donl : Bool) (unit : List ℕ) → IsTrue (two_byte_carries h266_header unit) → has_packet_type unit ≡ false
+allowed has_donl = of_carried has_donl (h266_rules has_donl) (is_two_bytes has_donl) _ (λ high low b unit c. rw (c.no_aggregate, c.no_fragment) refl)
 
 -- the least of values below a bound is below it
 least_below : (bound : ℕ) (value : List ℕ → ℕ) → 0 < bound → ((unit : List ℕ) → value unit < bound) → (sets : List (List ℕ)) → least value sets < bound
@@ -73,7 +73,7 @@ sets_within has_donl (suc most) (set ∷ sets) few (here, others) (is, later) =
     let l : length (set ++ flat_map piece sets) ≡ length set + length (flat_map piece sets) = length-append set (flat_map piece sets) in
     let whole : suc (suc (length (set ++ flat_map piece sets))) ≤ suc most = few in
     unit_within most (length set / 256 % 256) (length set % 256) set (flat_map piece sets)
-    (header_there has_donl (two has_donl) (is_two_bytes has_donl) set is) (word_back (length set) here) (allowed has_donl set is)
+    (header_there has_donl (h266_rules has_donl) (is_two_bytes has_donl) set is) (word_back (length set) here) (allowed has_donl set is)
     ∙ ap (with_unit set) (sets_within has_donl most sets (omega (arith, l, whole)) others later)
 
 -- units with numbers are read with those that they are sent with
@@ -85,7 +85,7 @@ borne_numbers n (unit ∷ units) = ap (λ (us : List (List ℕ × Option ℕ)). 
 sets_read : (has_donl : Bool) (sets : List (List ℕ)) (bytes : List ℕ) → 1 ≤ length bytes → AreCarried (h266 has_donl) sets →
     read has_donl ((cond (list_any has_forbidden_bit sets) 0x80 0 + least layer_of sets) ∷ (28 * 8 + max 1 (least temporal_of sets)) ∷ bytes) ≡ aggregate_of has_donl bytes
 sets_read has_donl sets bytes some carried =
-    aggregate_read has_donl (two has_donl) (cond (list_any has_forbidden_bit sets) 0x80 0 + least layer_of sets) (28 * 8 + max 1 (least temporal_of sets)) bytes some
+    aggregate_read (h266_rules has_donl) (cond (list_any has_forbidden_bit sets) 0x80 0 + least layer_of sets) (28 * 8 + max 1 (least temporal_of sets)) bytes some
     (sets_clear has_donl sets carried) (sets_type sets)
 
 -- sets that fit one packet at a call's limit are found again behind their lengths
@@ -115,5 +115,5 @@ pub undetected : (has_donl : Bool) (n limit : ℕ) (sets : List (List ℕ)) (uni
     sets_fit has_donl limit sets ≡ true → AllByRecursion (λ set. is_key set ≡ false) sets → two_byte_detects h266_header (sets_packet has_donl n sets unit) ≡ false
 undetected true n limit sets unit none is fit each = absurd cc
 undetected false n limit sets unit none is fit each =
-    sets_undetected false (two false) (is_two_bytes false) (cond (list_any has_forbidden_bit sets) 0x80 0 + least layer_of sets) (28 * 8 + max 1 (least temporal_of sets)) sets (sets_type sets)
+    sets_undetected false (h266_rules false) (is_two_bytes false) (cond (list_any has_forbidden_bit sets) 0x80 0 + least layer_of sets) (28 * 8 + max 1 (least temporal_of sets)) sets (sets_type sets)
     (sets_short (h266 false) (fit_is_within false) limit sets (is refl) fit) each

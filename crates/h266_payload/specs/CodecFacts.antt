@@ -1,27 +1,23 @@
 -- What a packetizer asks of H.266's format.
-use Rattle.std.specs.Prelude.{◌≡◌, ℕ, ◌+◌, ◌≤◌, Bool, true, false, List, [], ◌∷◌, ◌++◌, length, refl}
+use Rattle.std.specs.Prelude.{◌≡◌, ℕ, ◌+◌, ◌≤◌, Bool, true, false, List, ◌++◌, length, refl}
 use Rattle.std.proofs.Common.{arith, cond}
 use Rattle.std.proofs.lemmas.Bool.Decides.{nat_tests}
 use Rattle.std.proofs.Math.Nat.{mod-mod}
 use Rattle.h26x_core.specs.Kind.{is_other}
-use Rattle.h26x_core.specs.H266Unit.{type_of, kind, is_key}
+use Rattle.h26x_core.specs.H266Unit.{kind, is_key}
 use Rattle.h26x_model.specs.Payload.Facts.{FitsLimits, DonlHasTwoBytes}
 use Rattle.h26x_core.proofs.PieceLemmas.{pieces_long}
 use Rattle.h26x_model.proofs.SetsLemmas.{room_of}
-use Rattle.h26x_model.proofs.TwoByteLemmas.{fragment_header_long}
-use Rattle.h266_payload.specs.H266.{h266, with_type, sets_fit, sets_packet}
+use Rattle.h26x_model.proofs.TwoByteLemmas as two_byte
+use Rattle.h266_payload.specs.H266.{h266, h266_header, sets_fit, sets_packet}
 
 -- an other unit has a whole header
 pub has_header : (unit : List ℕ) → is_other (kind unit) ≡ true → 2 ≤ length unit
-has_header [] is = absurd cc
-has_header (high ∷ []) is = absurd cc
-has_header (high ∷ low ∷ unit) is = omega arith
+has_header = two_byte.has_header h266_header
 
 -- a header tells whether its unit is a key unit
 pub header_tells : (head rest : List ℕ) → length head ≡ 2 → is_key (head ++ rest) ≡ is_key head
-header_tells [] rest two = absurd (omega arith)
-header_tells (high ∷ []) rest two = absurd (omega arith)
-header_tells (high ∷ low ∷ head) rest two = refl
+header_tells = two_byte.header_tells h266_header
 
 -- sets that fit an aggregate are within the limit
 pub fit_within : (has_donl : Bool) (limit : ℕ) (sets : List (List ℕ)) →
@@ -39,7 +35,7 @@ sets_within true limit n sets unit fit =
 -- headers are as long as they are counted, and aggregates are within the limit
 pub fits_limits : (has_donl : Bool) → FitsLimits (h266 has_donl)
 fits_limits has_donl = record {
-  header = fragment_header_long (λ high low. type_of low) (λ high. high) (λ low. with_type low 29);
+  header = two_byte.fragment_header_long h266_header;
   sets = sets_within has_donl;
 }
 

@@ -7,11 +7,11 @@ use Rattle.h26x_core.specs.declared.error.PacketError.{PacketError}
 use Rattle.h26x_core.specs.declared.error.PacketError.TheVariants.{ErrShortPacket, ErrH266CorruptedPacket}
 use Rattle.h26x_cut.specs.declared.ZeroRule.TheVariants.{AtMostThree}
 use Rattle.h26x_cut.specs.Cutting.{units_of}
-use Rattle.h26x_core.specs.Word.{field, is_set, flag}
-use Rattle.h26x_core.specs.H266Unit.{type_of, kind, is_key, is_key_type}
+use Rattle.h26x_core.specs.Word.{field, is_set}
+use Rattle.h26x_core.specs.H266Unit.{type_of, kind_of_type, is_key_type}
 use Rattle.h26x_model.specs.Payload.Reading.{Reading, Aggregate, Fragment, Refused, without_don, two_byte_single}
 use Rattle.h26x_model.specs.Payload.Format.{Format, donl_bytes}
-use Rattle.h26x_model.specs.Payload.TwoBytes.{TwoByteHeader, two_byte_detects}
+use Rattle.h26x_model.specs.Payload.TwoBytes.{TwoByteHeader, TwoByteFormat, two_byte_format}
 use Rattle.h26x_core.specs.Pieces.{piece}
 
 -- the low byte of a header with another type: all else kept
@@ -47,13 +47,6 @@ sets_packet has_donl n sets unit =
     (((if list_any has_forbidden_bit sets then 0x80 else 0) + least layer_of sets) ∷
     (28 * 8 + max 1 (least temporal_of sets)) ∷ [])
     ++ donl_bytes has_donl n ++ flat_map piece sets
-
--- a fragment's header: the unit's with type 29, and a byte of S, E, P clear and the unit's type
--- (4.3.3)
-abbrev pub fragment_header : List ℕ → Bool → Bool → List ℕ
-fragment_header (high ∷ low ∷ unit) start end = high ∷ with_type low 29 ∷
-    (flag start 0x80 + flag end 0x40 + type_of low) ∷ []
-fragment_header unit start end = []
 
 -- an aggregate or a fragment, which no aggregate may hold
 abbrev pub has_packet_type : List ℕ → Bool
@@ -98,58 +91,50 @@ aggregate_of true (d ∷ e ∷ bytes) = two_or_more (Some (d * 256 + e))
     (units_within (length bytes) bytes)
 aggregate_of true bytes = Refused ErrShortPacket
 
--- a fragment behind its header, by its S bit (4.3.3)
-abbrev pub fragment_of : Bool → Bool → ℕ → ℕ → ℕ → List ℕ → Reading
-fragment_of true true high low fu (d ∷ e ∷ body) = Fragment true (is_set fu 6) (high ∷
-    with_type low (field fu 4 0) ∷ []) (Some (d * 256 + e)) body
-fragment_of true true high low fu body = Refused ErrShortPacket
-fragment_of has_donl start high low fu body = Fragment start (is_set fu 6) (high ∷
-    with_type low (field fu 4 0) ∷ []) None body
-
--- the same as the relation `IsReading` of the file beside this one, computed
-abbrev pub read : Bool → List ℕ → Reading
-read has_donl (high ∷ low ∷ b ∷ body) =
-    if is_set high 7 then Refused ErrH266CorruptedPacket
-    else if type_of low == 28 then aggregate_of has_donl (b ∷ body)
-    else if type_of low == 29 then fragment_of has_donl (is_set b 7) high low b body
-    else two_byte_single has_donl high low (b ∷ body)
-read has_donl packet = Refused ErrShortPacket
-
--- a unit of three bytes or more with F clear and a type of its own
-abbrev pub carries : List ℕ → Bool
-carries (high ∷ low ∷ b ∷ unit) = nat_lt high 0x80
-    && (nat_lt (type_of low) 28 || nat_lt 29 (type_of low))
-carries unit = false
+-- a fragment by its marks, its unit's header and what stands behind these (4.3.3)
+abbrev pub fragment_of : Bool → Bool → Bool → List ℕ → List ℕ → Reading
+fragment_of true true end head (d ∷ e ∷ body) = Fragment true end head (Some (d * 256 + e)) body
+fragment_of true true end head body = Refused ErrShortPacket
+fragment_of has_donl start end head body = Fragment start end head None body
 
 abbrev pub has_key : CodecExtra → Bool  -- the H.266 variant with its flag true
 has_key (extras.H266 extra) = extra.is_keyframe
 has_key extra = false
 
-abbrev pub h266_header : TwoByteHeader  -- what the headers of units and packets say
+-- what the headers of units and packets say: a fragment's has the unit's bytes with type 29 and,
+-- behind them, P clear, and packets carry units with F clear and a type of their own
+abbrev pub h266_header : TwoByteHeader
 h266_header = record {
   type_of = λ high low. type_of low;
   aggregate = 28;
   fragment = 29;
   unit_type = λ fu. field fu 4 0;
+  mark_high = λ high. high;
+  mark_low = λ low. with_type low 29;
+  with_type = λ high low type. high ∷ with_type low type ∷ [];
   is_key_type = is_key_type;
+  kind = kind_of_type;
+  carries = λ high low. nat_lt high 0x80 && (nat_lt (type_of low) 28 || nat_lt 29 (type_of low));
+}
+
+-- what sets H.266 apart, with or without numbers
+abbrev pub h266_rules : Bool → TwoByteFormat
+h266_rules has_donl = record {
+  header = h266_header;
+  units = units_of AtMostThree;
+  sets_fit = sets_fit has_donl;
+  sets_packet = sets_packet has_donl;
+  corrupted = ErrH266CorruptedPacket;
+  aggregate_of = aggregate_of has_donl;
+  fragment_of = fragment_of has_donl;
+  own_of = two_byte_single has_donl;
+  extra = λ key. extras.H266 (record { is_keyframe = key });
+  has_key = has_key;
 }
 
 abbrev pub h266 : Bool → Format  -- the format, with or without numbers
-h266 has_donl = record {
-  units = units_of AtMostThree;
-  kind = kind;
-  is_key = is_key;
-  least_mtu = 4;
-  has_max_packet_size = true;
-  header_len = 2;
-  may_have_donl = true;
-  has_donl = has_donl;
-  sets_fit = sets_fit has_donl;
-  sets_packet = sets_packet has_donl;
-  fragment_header = fragment_header;
-  read = read has_donl;
-  carries = carries;
-  extra = λ key. extras.H266 (record { is_keyframe = key });
-  has_key = has_key;
-  detects = two_byte_detects h266_header;
-}
+h266 has_donl = two_byte_format has_donl (h266_rules has_donl)
+
+-- the same as the relation `IsReading` of the file beside this one, computed
+abbrev pub read : Bool → List ℕ → Reading
+read has_donl = (h266 has_donl).read
