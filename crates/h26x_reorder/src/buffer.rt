@@ -245,18 +245,7 @@ impl ReorderBuffer {
         ensures kept { OnErr result (self.new ≡ self.old) }
         ensures one_more { length self.new.held ≤ length self.old.held + 1 }
     {
-        self.push_at(packet.sequence, packet)
-    }
-
-    /// Takes a packet, which has this sequence number.
-    fn push_at(&mut self, sequence: u16, packet: &RtpPacket<'_>) -> Result<Pushed, AllocError>
-        ensures answer { IfOk result (λ answer. answer ≡ push_answer self.old sequence) }
-        ensures after { OnOk result (self.new ≡ after_push self.old (sequence, packet.now.1)) }
-        ensures late { (n : ℕ) → result ≡ Ok (Pushed.Late n) → self.new ≡ self.old }
-        ensures twice { result ≡ Ok Pushed.Twice → self.new ≡ self.old }
-        ensures kept { OnErr result (self.new ≡ self.old) }
-        ensures one_more { length self.new.held ≤ length self.old.held + 1 }
-    {
+        let sequence = packet.sequence;
         match self.held.place_of(sequence) {
             Ok((due, place)) => {
                 let payload = self.spare.copy(packet.payload)?;

@@ -169,7 +169,8 @@ fn take_whole_in_text<C: PacketReader>(
     Ok(())
 }
 
-/// Takes the parts of a packet.
+/// Takes the parts of a packet. Its clauses speak of these; those of `take_in_text` of the packet
+/// that was read as them.
 #[inline]
 fn take_parts_in_text<C: PacketReader>(
     codec: C,

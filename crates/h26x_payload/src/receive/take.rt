@@ -108,6 +108,9 @@ pub fn check_lengths<C: PacketReader>(
 
 /// Takes the parts of a packet: writes the units that it completes, tells of them, and keeps its
 /// run.
+///
+/// Its clauses speak of the parts, which the match takes apart; those of `take_packet` of the
+/// packet that was read as them.
 #[inline(always)]
 pub(crate) fn take_parts<C: PacketReader, W: UnitSink>(
     codec: C,
