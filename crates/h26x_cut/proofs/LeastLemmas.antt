@@ -6,10 +6,11 @@ use Rattle.std.proofs.lemmas.Bool.{ltb-true, ltb-false, cases_lt, not-true}
 use Rattle.std.proofs.lemmas.List.Sums.{prefix_len_passes}
 use Rattle.std.proofs.lemmas.Simd.{length-chunk, get_or-chunk, length-zip2, get_or-zip2, length-sel_l, get_or-sel_l, tops_compared, get_or_wider, get_or-replicate, length-replicate, bitmask_splat, leading_from_mask_l}
 use Rattle.std.proofs.lemmas.List.{drop_more}
+use Rattle.h26x_cut.specs.declared.blocks.TheConstants.{LANES, BLOCK, PAIR_MASK}
 use Rattle.h26x_cut.specs.Search.{HasNoCode, AreLeast}
 
 -- a load
-pub loaded : (bytes : List ℕ) (place : ℕ) → place + 16 ≤ length bytes → AreLeast bytes place 16 (chunk place 16 bytes)
+pub loaded : (bytes : List ℕ) (place : ℕ) → place + LANES ≤ length bytes → AreLeast bytes place LANES (chunk place LANES bytes)
 loaded bytes place room = record {
   long = length-chunk place 16 bytes room;
   low = λ k within.
@@ -50,8 +51,8 @@ long_lower front back long same =
     ap length (chosen front back) ∙ length-sel_l (zip2 ltb front back) front back (tests ∙ sym long) (tests ∙ sym same) ∙ tests
 
 -- the lower lanes of two runs of bytes that follow each other
-pub lowered : (bytes : List ℕ) (place next n : ℕ) (front back : List ℕ) → AreLeast bytes place (16 * n) front → AreLeast bytes next (16 * n) back → next ≡ place + 16 * n →
-    AreLeast bytes place (32 * n) (lower_lanes front back)
+pub lowered : (bytes : List ℕ) (place next n : ℕ) (front back : List ℕ) → AreLeast bytes place (LANES * n) front → AreLeast bytes next (LANES * n) back → next ≡ place + LANES * n →
+    AreLeast bytes place (2 * LANES * n) (lower_lanes front back)
 lowered bytes place next n front back ahead behind follows = record {
   long = long_lower front back ahead.long behind.long;
   low = λ k within.
@@ -76,9 +77,9 @@ pair_of xs j within =
     ap (number_l 256) two ∙ omega arith
 
 -- what may be two bytes of a start code is 0 but for the low bit of the second
-masked : (low high : ℕ) → low ≡ 0 → high ≤ 1 → bit_and (low + 256 * high) 0xfeff ≡ 0
-masked low zero none small = let is : low + 256 * 0 ≡ 0 = omega (arith, none) in ap (λ n. bit_and n 0xfeff) is
-masked low (suc zero) none small = let is : low + 256 * 1 ≡ 256 = omega (arith, none) in ap (λ n. bit_and n 0xfeff) is
+masked : (low high : ℕ) → low ≡ 0 → high ≤ 1 → bit_and (low + 256 * high) PAIR_MASK ≡ 0
+masked low zero none small = let is : low + 256 * 0 ≡ 0 = omega (arith, none) in ap (λ n. bit_and n PAIR_MASK) is
+masked low (suc zero) none small = let is : low + 256 * 1 ≡ 256 = omega (arith, none) in ap (λ n. bit_and n PAIR_MASK) is
 masked low (suc (suc high)) none small = absurd (omega arith)
 
 -- as many digits as are asked for
@@ -88,7 +89,7 @@ length_digits q (suc n) x = ap suc (length_digits q n (x / q))
 
 -- the lanes of pairs, without the low bit of each second byte
 abbrev pub pair_lanes : List ℕ → List ℕ
-pair_lanes lanes = zip2 bit_and (digits_l 65536 8 (number_l 256 lanes)) (replicate 8 0xfeff)
+pair_lanes lanes = zip2 bit_and (digits_l 65536 8 (number_l 256 lanes)) (replicate 8 PAIR_MASK)
 
 -- a lane of a pair that may be a start code's is 0
 pair_is_zero : (lanes : List ℕ) (i : ℕ) → length lanes ≡ 16 → Each1 (λ x. x < 256) lanes → i < 8 →
@@ -97,15 +98,15 @@ pair_is_zero lanes i long bytes within low high =
     let wide : get_or (digits_l 65536 8 (number_l 256 lanes)) i 0 ≡ get_or lanes (2 * i) 0 + 256 * get_or lanes (2 * i + 1) 0 =
     get_or_wider 256 2 65536 8 lanes i refl bytes within ∙ pair_of lanes (2 * i) (omega arith) in
     let all : length (digits_l 65536 8 (number_l 256 lanes)) ≡ 8 = length_digits 65536 8 (number_l 256 lanes) in
-    let masks : length (replicate {A = ℕ} 8 0xfeff) ≡ 8 = length-replicate {A = ℕ} 8 0xfeff in
-    get_or-zip2 bit_and (digits_l 65536 8 (number_l 256 lanes)) (replicate 8 0xfeff) i 0 0 0 (omega arith) (omega arith)
-    ∙ (λ t. bit_and (wide t) (get_or-replicate 8 i 0xfeff 0 within t))
+    let masks : length (replicate {A = ℕ} 8 PAIR_MASK) ≡ 8 = length-replicate {A = ℕ} 8 PAIR_MASK in
+    get_or-zip2 bit_and (digits_l 65536 8 (number_l 256 lanes)) (replicate 8 PAIR_MASK) i 0 0 0 (omega arith) (omega arith)
+    ∙ (λ t. bit_and (wide t) (get_or-replicate 8 i PAIR_MASK 0 within t))
     ∙ masked (get_or lanes (2 * i) 0) (get_or lanes (2 * i + 1) 0) low high
 
 long_pairs : (lanes : List ℕ) → length (pair_lanes lanes) ≡ 8
 long_pairs lanes =
     let all : length (digits_l 65536 8 (number_l 256 lanes)) ≡ 8 = length_digits 65536 8 (number_l 256 lanes) in
-    length-zip2 bit_and (digits_l 65536 8 (number_l 256 lanes)) (replicate 8 0xfeff) all ∙ all
+    length-zip2 bit_and (digits_l 65536 8 (number_l 256 lanes)) (replicate 8 PAIR_MASK) all ∙ all
 
 -- the mask of a block: bits of the pairs of lanes that may be a start code's
 abbrev pub block_mask : List ℕ → ℕ
@@ -124,8 +125,8 @@ no_pair lanes i long bytes none within low high =
     absurd cc
 
 -- so none of the block's pairs at even places is
-no_pair_at : (bytes lanes : List ℕ) (place r : ℕ) → AreLeast bytes place 128 lanes → Each1 (λ x. x < 256) lanes → block_mask lanes ≡ 0 →
-    r < 128 → r % 2 ≡ 0 → get_or bytes (place + r) 0 ≡ 0 → get_or bytes (place + r + 1) 0 ≤ 1 → ⊥
+no_pair_at : (bytes lanes : List ℕ) (place r : ℕ) → AreLeast bytes place BLOCK lanes → Each1 (λ x. x < 256) lanes → block_mask lanes ≡ 0 →
+    r < BLOCK → r % 2 ≡ 0 → get_or bytes (place + r) 0 ≡ 0 → get_or bytes (place + r + 1) 0 ≤ 1 → ⊥
 no_pair_at bytes lanes place r least each none within even low high =
     let i = r % 16 / 2 in
     let first = least.low r within in
@@ -139,8 +140,8 @@ no_pair_at bytes lanes place r least each none within even low high =
     (let lane = ap (λ j. get_or lanes j 0) next in omega (arith, lane, second, byte, high))
 
 -- a block that has no such pair has no start code, and neither does the place before it
-pub quiet : (bytes lanes : List ℕ) (place : ℕ) → AreLeast bytes place 128 lanes → Each1 (λ x. x < 256) lanes → block_mask lanes ≡ 0 →
-    HasNoCode bytes (place - 1) (place + 127)
+pub quiet : (bytes lanes : List ℕ) (place : ℕ) → AreLeast bytes place BLOCK lanes → Each1 (λ x. x < 256) lanes → block_mask lanes ≡ 0 →
+    HasNoCode bytes (place - 1) (place + (BLOCK - 1))
 quiet bytes lanes place least each none at from to is =
     ⊎_elim
     (λ (before : at < place).

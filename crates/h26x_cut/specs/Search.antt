@@ -1,5 +1,6 @@
 -- What the search for start codes has found out.
 use Rattle.std.specs.Prelude.{◌≡◌, ℕ, ◌+◌, ◌-◌, ◌%◌, ◌<◌, ◌≤◌, List, length, slice_index, Option, Some, None}
+use Rattle.h26x_cut.specs.declared.blocks.TheConstants.{LANES}
 
 -- 00 00 01 stands at a place
 pub record IsCodeAt (bytes : List ℕ) (place : ℕ) : Type 0 where
@@ -31,7 +32,7 @@ IsFirstZeros bytes from to None = HasNoZeros bytes from to
 IsFirstZeros bytes from to (Some first) = (from ≤ first) × (first < to) × AreZeros bytes first
     × HasNoZeros bytes from first
 
--- each of 16 lanes is at most each of the n bytes from a place on that stand in it
+-- each lane is at most each of the n bytes from a place on that stand in it
 pub record AreLeast (bytes : List ℕ) (place n : ℕ) (lanes : List ℕ) : Type 0 where
-  pub long : length lanes ≡ 16
-  pub low : (k : ℕ) → k < n → slice_index lanes (k % 16) ≤ slice_index bytes (place + k)
+  pub long : length lanes ≡ LANES
+  pub low : (k : ℕ) → k < n → slice_index lanes (k % LANES) ≤ slice_index bytes (place + k)

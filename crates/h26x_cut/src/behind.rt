@@ -4,7 +4,7 @@ ghost use Rattle.std.specs.Prelude.{◌+◌, ◌<◌, ◌≤◌, length};
 ghost use Rattle.h26x_cut.specs.Slices.{IsFirstCode};
 ghost use Rattle.h26x_cut.specs.Search.{HasNoCode};
 
-use crate::blocks::{RUN, first_zeros, skip_quiet};
+use crate::blocks::{PLACES, first_zeros, skip_quiet};
 use crate::marks::{CODE, is_behind_zeros, next_mark};
 use memchr::memmem;
 
@@ -57,9 +57,9 @@ fn first_by_zeros(bytes: &[u8], from: usize) -> Option<usize>
     ensures { IsFirstCode bytes.now result }
 {
     let (mut place, mut runs) = (skip_quiet(bytes, from), 0);
-    while runs < RUNS + place / NEAR && RUN < bytes.len() - place {
+    while runs < RUNS + place / NEAR && PLACES < bytes.len() - place {
         let next = match first_zeros(bytes, place) {
-            None => place + RUN,
+            None => place + PLACES,
             Some(zeros) => {
                 let mark = next_mark(bytes, zeros)?;
                 if is_behind_zeros(bytes, mark) {

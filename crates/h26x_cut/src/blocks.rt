@@ -6,17 +6,24 @@ ghost use Rattle.h26x_cut.specs.Search.{HasNoCode, IsFirstZeros, AreLeast};
 
 use std::simd::prelude::*;
 
+/// How many bytes a load takes.
+const LANES: usize = 16;
+
 /// How many bytes are tested at once for a pair that a start code may have.
 const BLOCK: usize = 128;
 
+/// The bits of two bytes that are clear where these may be two of a start code, the first of them
+/// the low one: all but the lowest of the second, since `00 00` and `00 01` may.
+const PAIR_MASK: u16 = 0xfeff;
+
 /// How many places are tested at once for two zeros.
-pub const RUN: usize = 64;
+pub const PLACES: usize = 64;
 
 /// The bytes from a place on.
 #[inline(always)]
 fn load(bytes: &[u8], place: usize) -> u8x16
-    requires { place + 16 ≤ length bytes.now }
-    ensures { AreLeast bytes.now place 16 result }
+    requires { place + LANES ≤ length bytes.now }
+    ensures { AreLeast bytes.now place LANES result }
 {
     u8x16::from_slice(&bytes[place..])
 }
@@ -24,9 +31,9 @@ fn load(bytes: &[u8], place: usize) -> u8x16
 /// Of each two lanes the lower.
 #[inline(always)]
 fn lower(front: u8x16, back: u8x16) -> u8x16
-    ensures { (bytes : List ℕ) (place next n : ℕ) → AreLeast bytes place (16 * n) front →
-        AreLeast bytes next (16 * n) back → next ≡ place + 16 * n →
-        AreLeast bytes place (32 * n) result }
+    ensures { (bytes : List ℕ) (place next n : ℕ) → AreLeast bytes place (LANES * n) front →
+        AreLeast bytes next (LANES * n) back → next ≡ place + LANES * n →
+        AreLeast bytes place (2 * LANES * n) result }
 {
     front.simd_min(back)
 }
@@ -34,13 +41,13 @@ fn lower(front: u8x16, back: u8x16) -> u8x16
 /// The least of the bytes of a block, of those that lie whole vectors apart.
 #[inline(always)]
 fn least_of_block(bytes: &[u8], place: usize) -> u8x16
-    requires { place + 128 ≤ length bytes.now }
-    ensures { AreLeast bytes.now place 128 result }
+    requires { place + BLOCK ≤ length bytes.now }
+    ensures { AreLeast bytes.now place BLOCK result }
 {
-    let first = lower(load(bytes, place), load(bytes, place + 16));
-    let second = lower(load(bytes, place + 32), load(bytes, place + 48));
-    let third = lower(load(bytes, place + 64), load(bytes, place + 80));
-    let fourth = lower(load(bytes, place + 96), load(bytes, place + 112));
+    let first = lower(load(bytes, place), load(bytes, place + LANES));
+    let second = lower(load(bytes, place + 2 * LANES), load(bytes, place + 3 * LANES));
+    let third = lower(load(bytes, place + 4 * LANES), load(bytes, place + 5 * LANES));
+    let fourth = lower(load(bytes, place + 6 * LANES), load(bytes, place + 7 * LANES));
     lower(lower(first, second), lower(third, fourth))
 }
 
@@ -48,10 +55,10 @@ fn least_of_block(bytes: &[u8], place: usize) -> u8x16
 /// code: `00 00`, or `00 01`.
 #[inline(always)]
 fn has_no_pair(least: u8x16) -> bool
-    ensures { result ≡ true → (bytes : List ℕ) (place : ℕ) → AreLeast bytes place 128 least →
-        HasNoCode bytes (place - 1) (place + 127) }
+    ensures { result ≡ true → (bytes : List ℕ) (place : ℕ) → AreLeast bytes place BLOCK least →
+        HasNoCode bytes (place - 1) (place + (BLOCK - 1)) }
 {
-    let pairs = u16x8::from_le_bytes(least) & u16x8::splat(0xfeff);
+    let pairs = u16x8::from_le_bytes(least) & u16x8::splat(PAIR_MASK);
     pairs.simd_eq(u16x8::splat(0)).to_bitmask() == 0
 }
 
@@ -60,8 +67,8 @@ fn has_no_pair(least: u8x16) -> bool
 /// sixty blocks of random bytes one may have a code by this test and has none.
 #[inline(always)]
 fn is_quiet(bytes: &[u8], place: usize) -> bool
-    requires { place + 128 ≤ length bytes.now }
-    ensures { result ≡ true → HasNoCode bytes.now (place - 1) (place + 127) }
+    requires { place + BLOCK ≤ length bytes.now }
+    ensures { result ≡ true → HasNoCode bytes.now (place - 1) (place + (BLOCK - 1)) }
 {
     has_no_pair(least_of_block(bytes, place))
 }
@@ -85,8 +92,8 @@ pub fn skip_quiet(bytes: &[u8], from: usize) -> usize
 /// The first of the places of a run at which two zeros stand.
 #[inline(always)]
 pub fn first_zeros(bytes: &[u8], place: usize) -> Option<usize>
-    requires { place + 65 ≤ length bytes.now }
-    ensures { IsFirstZeros bytes.now place (place + 64) result }
+    requires { place + (PLACES + 1) ≤ length bytes.now }
+    ensures { IsFirstZeros bytes.now place (place + PLACES) result }
 {
     let zeros = u8x64::from_slice(&bytes[place..]) | u8x64::from_slice(&bytes[place + 1..]);
     let found = zeros.simd_eq(u8x64::splat(0)).to_bitmask();
