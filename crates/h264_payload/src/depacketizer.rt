@@ -1,7 +1,7 @@
 //! NAL units from H.264 packets (RFC 6184, 5 and 7).
 
 use crate::codec::H264;
-use h26x_payload::PayloadDepacketizer;
+use h26x_depacketizer::PayloadDepacketizer;
 
 /// Writes the units of packets (RFC 6184, 5 and 7), each behind a start code, or behind its length
 /// where `is_avc` is set (as MP4 files have them, `avc1`).

@@ -10,7 +10,7 @@ use h26x_core::{
     FU_START_BITMASK, FUA_HEADER_SIZE, FUA_NALU_TYPE, IDR_NALU_TYPE, NALU_TYPE_BITMASK,
     STAPA_HEADER_SIZE, STAPA_NALU_TYPE,
 };
-use h26x_payload::Aggregate;
+use h26x_depacketizer::Aggregate;
 
 /// The type of a unit (RFC 6184, 1.3); 0 where it is empty.
 fn unit_type(unit: &[u8]) -> u8

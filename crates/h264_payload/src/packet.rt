@@ -3,7 +3,7 @@
 ghost use Rattle.std.specs.Prelude.{◌≡◌, ◌+◌, IfOk, IfErr};
 ghost use Rattle.h26x_core.specs.H264Unit.{type_of, type_of_first};
 ghost use Rattle.h26x_model.specs.Payload.Reading.{Refused};
-ghost use Rattle.h26x_payload.specs.DepacketizerView.{IsReadAs};
+ghost use Rattle.h26x_depacketizer.specs.DepacketizerView.{IsReadAs};
 ghost use Rattle.h264_payload.specs.H264.{h264, reference_bits, stap_units};
 
 use crate::codec::H264;
@@ -13,7 +13,7 @@ use h26x_core::{
     FU_START_BITMASK, FUA_HEADER_SIZE, FUA_NALU_TYPE, FUB_NALU_TYPE, NALU_TYPE_BITMASK,
     PacketError, STAPA_HEADER_SIZE, STAPA_NALU_TYPE,
 };
-use h26x_payload::{Fragment, PacketReader, Parts};
+use h26x_depacketizer::{Fragment, PacketReader, Parts};
 
 /// The header of a unit with the NRI of an FU-A's indicator and the type of its header; F is clear
 /// (RFC 6184, 5.8).

@@ -4,11 +4,11 @@ ghost use Rattle.std.specs.Prelude.{◌≡◌, map, IfOk, IfErr};
 ghost use Rattle.h26x_core.specs.Pieces.{pieces_of};
 ghost use Rattle.h26x_model.specs.Payload.Reading.{Aggregate, Refused, without_don};
 ghost use Rattle.h264_payload.specs.H264.{aggregate_of, stap_units};
-ghost use Rattle.h26x_payload.specs.Run.{AreOfSize};
+ghost use Rattle.h26x_depacketizer.specs.Run.{AreOfSize};
 
 use crate::codec::H264;
 use h26x_core::{PacketError, STAPA_NALU_LENGTH_SIZE, first_piece};
-use h26x_payload::{Aggregate, PREFIX_SIZE};
+use h26x_depacketizer::{Aggregate, PREFIX_SIZE};
 
 impl Aggregate for H264 {
     ghost use Rattle.h264_payload.specs.H264.{stap_units};

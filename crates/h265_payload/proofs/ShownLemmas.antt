@@ -5,11 +5,11 @@ use Rattle.std.proofs.lemmas.Bool.Decides.{nat_tests}
 use Rattle.h26x_core.specs.H265Unit.{type_of}
 use Rattle.h26x_model.specs.Payload.Reading.{Reading}
 use Rattle.h26x_model.specs.Receive.Received.{reading_units}
-use Rattle.h26x_payload.specs.DepacketizerView.{taken_as, parts_reading}
-use Rattle.h26x_payload.specs.declared.receive.parts.Parts.{Parts}
-use Rattle.h26x_payload.specs.declared.receive.parts.Parts.TheVariants as p
-use Rattle.h26x_payload.proofs.AggregateLemmas.{units_only}
-use Rattle.h26x_payload.proofs.ReceivingLemmas.{taken_brings}
+use Rattle.h26x_depacketizer.specs.DepacketizerView.{taken_as, parts_reading}
+use Rattle.h26x_depacketizer.specs.declared.parts.Parts.{Parts}
+use Rattle.h26x_depacketizer.specs.declared.parts.Parts.TheVariants as p
+use Rattle.h26x_depacketizer.proofs.AggregateLemmas.{units_only}
+use Rattle.h26x_depacketizer.proofs.ReceivingLemmas.{taken_brings}
 use Rattle.h265_payload.specs.Shown.{shown, shown_single, shown_fragment, shown_paci, is_aggregate, units_of_aggregate, units_in, others_of, donl_of}
 use Rattle.h265_payload.specs.H265.{h265}
 use Rattle.h265_payload.specs.Packet.{IsShownBy}

@@ -3,13 +3,13 @@
 ghost use Rattle.std.specs.Prelude.{◌≡◌, ◌-◌, ◌^◌, ◌<◌, ◌≤◌, ◌∷◌, [], true, false, min, length, None, IfSome, IfOk, IfErr};
 ghost use Rattle.std.specs.List.{list_any};
 ghost use Rattle.h26x_model.specs.Receive.Outcome.{is_too_long};
-ghost use Rattle.h26x_payload.specs.Run.{AreOfSize};
+ghost use Rattle.h26x_depacketizer.specs.Run.{AreOfSize};
 ghost use Rattle.h265_payload.specs.Shown.{others_of, units_in};
 ghost use Rattle.h265_payload.specs.ShownParts.{other_of};
 
 use crate::codec::H265;
 use h26x_core::{PacketError, first_piece};
-use h26x_payload::{Aggregate, written_size};
+use h26x_depacketizer::{Aggregate, written_size};
 
 /// A unit behind its length, and with decoding order numbers behind DOND too.
 #[derive(Clone, Copy)]

@@ -7,10 +7,10 @@ ghost use Rattle.h26x_model.specs.Payload.Reading.{is_start};
 ghost use Rattle.h26x_model.specs.Receive.DepacketizerState.{after_packets, IsPacketOutcome, AreWritten};
 ghost use Rattle.h26x_model.specs.Receive.RunLimit.{run_len};
 ghost use Rattle.h265_packets.specs.Payload.{empty_single};
-ghost use Rattle.h26x_payload.specs.AccessUnit.{may_begin, is_last};
-ghost use Rattle.h26x_payload.specs.Run.{run_memory};
-ghost use Rattle.h26x_payload.specs.OpenText.{IsSameText, text_depacketization, met_depacketization};
-ghost use Rattle.h26x_payload.specs.UnitSink.{bytes_brought, grown_to, IsRoomTold};
+ghost use Rattle.h26x_depacketizer.specs.AccessUnit.{may_begin, is_last};
+ghost use Rattle.h26x_depacketizer.specs.Run.{run_memory};
+ghost use Rattle.h26x_depacketizer.specs.OpenText.{IsSameText, text_depacketization, met_depacketization};
+ghost use Rattle.h26x_depacketizer.specs.UnitSink.{bytes_brought, grown_to, IsRoomTold};
 ghost use Rattle.h26x_model.specs.Payload.TwoBytes.{is_two_byte_fragment};
 ghost use Rattle.h26x_model.specs.Where.{Where};
 ghost use Rattle.h265_payload.specs.H265.{h265_header};
@@ -22,10 +22,11 @@ use crate::codec::H265;
 use crate::show::{prepare, show};
 use crate::spare::Spare;
 use h26x_core::{CodecExtra, Depacketizer, PacketError};
-use h26x_payload::{
-    DonlFormat, OpenRun, OpenText, PacketReader, PayloadFormat, RunRule, UnitSink, check_lengths,
-    out_size_hint, starts_run, take_in_text, take_packet,
+use h26x_depacketizer::{
+    OpenRun, OpenText, PacketReader, RunRule, UnitSink, check_lengths, out_size_hint, starts_run,
+    take_in_text, take_packet,
 };
+use h26x_payload::{DonlFormat, PayloadFormat};
 use h265_packets::H265Payload;
 use std::alloc::Global;
 use std::marker::Model;

@@ -6,7 +6,8 @@ ghost use Rattle.h265_payload.specs.H265.{h265_header};
 
 use crate::codec::{H265, header_of};
 use h26x_core::{H265FragmentationUnitHeader, H265NALUHeader};
-use h26x_payload::{PayloadFormat, holds_key};
+use h26x_depacketizer::holds_key;
+use h26x_payload::PayloadFormat;
 
 /// Whether what stands behind a fragment's header begins a key unit (RFC 7798, 4.4.3).
 fn begins_key(rest: &[u8]) -> bool

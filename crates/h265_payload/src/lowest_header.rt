@@ -10,7 +10,7 @@ mod cases;
 
 use crate::codec::{H265, header_of};
 use h26x_core::h265_types::AGGREGATION_PACKET;
-use h26x_payload::Aggregate;
+use h26x_depacketizer::Aggregate;
 
 /// What units have in common with the header of their aggregate: F where one has it, and the lowest
 /// layer and temporal id.

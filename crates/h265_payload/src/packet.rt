@@ -4,7 +4,7 @@ ghost use Rattle.std.specs.Prelude.{◌≡◌, ◌⊎◌, ◌+◌, ◌*◌, ◌<
 ghost use Rattle.h26x_core.specs.Word.{is_set};
 ghost use Rattle.h26x_core.specs.H265Unit.{type_of};
 ghost use Rattle.h26x_model.specs.Payload.Reading.{Refused};
-ghost use Rattle.h26x_payload.specs.DepacketizerView.{IsReadAs};
+ghost use Rattle.h26x_depacketizer.specs.DepacketizerView.{IsReadAs};
 ghost use Rattle.h26x_model.specs.Payload.TwoBytes.{is_two_byte_fragment};
 ghost use Rattle.h265_payload.specs.H265.{h265_header, h265};
 ghost use Rattle.h265_payload.specs.Reading.{IsUnitType};
@@ -15,7 +15,7 @@ use crate::aggregate::check_aggregate;
 use crate::codec::{H265, header_of};
 use crate::laws;
 use h26x_core::{H265FragmentationUnitHeader, H265NALUHeader, PacketError};
-use h26x_payload::{Fragment, PacketReader, Parts, ends_access_unit, may_begin_access_unit};
+use h26x_depacketizer::{Fragment, PacketReader, Parts, ends_access_unit, may_begin_access_unit};
 use h265_packets::header::{high_byte, paci_f, paci_size, paci_type};
 
 /// Whether a packet is a fragmentation unit.
@@ -28,7 +28,7 @@ fn is_fragment(packet: &[u8]) -> bool
 impl PacketReader for H265 {
     ghost use Rattle.h265_payload.specs.H265.{h265_header};
     ghost use Rattle.h26x_model.specs.Payload.TwoBytes.{is_two_byte_fragment};
-    ghost use Rattle.h26x_payload.specs.AccessUnit as access_unit;
+    ghost use Rattle.h26x_depacketizer.specs.AccessUnit as access_unit;
 
     ghost begins = { λ codec packet. access_unit.may_begin (is_two_byte_fragment h265_header packet)
         packet };

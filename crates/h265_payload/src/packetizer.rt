@@ -10,7 +10,8 @@ use h26x_core::h265_types::{
 };
 use h26x_core::{CodecExtra, H265CodecExtra, H265FragmentationUnitHeader};
 use h26x_cut::{UnitSlices, ZeroRule};
-use h26x_payload::{DonlFormat, PayloadFormat, PayloadPacketizer, Sets, UnitKind};
+use h26x_packetizer::PayloadPacketizer;
+use h26x_payload::{DonlFormat, PayloadFormat, Sets, UnitKind};
 use h265_packets::header::high_byte;
 
 /// Sends the NAL units of payloads (RFC 7798).

@@ -7,7 +7,7 @@ ghost use Rattle.h265_payload.specs.Shown.{shown};
 use crate::depacketizer::H265Depacketizer;
 use crate::laws;
 use h26x_core::{CodecExtra, PacketError};
-use h26x_payload::{OpenRun, OpenText, RunDepacketizer, RunRule, UnitSink};
+use h26x_depacketizer::{OpenRun, OpenText, RunDepacketizer, RunRule, UnitSink};
 
 impl RunDepacketizer for H265Depacketizer {
     ghost state = { h265_state };

@@ -6,12 +6,12 @@ ghost use Rattle.h26x_model.specs.Receive.Outcome.{is_too_long};
 ghost use Rattle.h26x_core.specs.Pieces.{pieces_of, with_piece};
 ghost use Rattle.h26x_model.specs.Payload.Reading.{Refused};
 ghost use Rattle.h266_payload.specs.H266.{has_packet_type, with_unit, two_or_more};
-ghost use Rattle.h26x_payload.specs.Run.{AreOfSize};
+ghost use Rattle.h26x_depacketizer.specs.Run.{AreOfSize};
 ghost use Rattle.h266_payload.specs.Packet.{aggregate_units, aggregate_outcome};
 
 use crate::codec::{H266, header_of};
 use h26x_core::{PacketError, first_piece};
-use h26x_payload::{Aggregate, PREFIX_SIZE};
+use h26x_depacketizer::{Aggregate, PREFIX_SIZE};
 
 /// The bytes of a unit's length in an aggregate.
 const LENGTH_SIZE: usize = 2;

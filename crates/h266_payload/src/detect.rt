@@ -7,7 +7,8 @@ ghost use Rattle.h266_payload.specs.H266.{h266_header};
 use crate::codec::{H266, header_of};
 use crate::packet::PACKET_HEADER_SIZE;
 use h26x_core::{H266FragmentationUnitHeader, H266NALUHeader};
-use h26x_payload::{PayloadFormat, holds_key};
+use h26x_depacketizer::holds_key;
+use h26x_payload::PayloadFormat;
 
 /// Whether what stands behind a fragment's header begins a key unit (RFC 9328, 4.3.3).
 fn begins_key(rest: &[u8]) -> bool

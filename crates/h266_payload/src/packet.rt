@@ -4,7 +4,7 @@ ghost use Rattle.std.specs.Prelude.{◌≡◌, ◌≤◌, length, slice_index, S
 ghost use Rattle.h26x_core.specs.Word.{is_set};
 ghost use Rattle.h26x_core.specs.H266Unit.{type_of};
 ghost use Rattle.h26x_model.specs.Payload.Reading.{Refused};
-ghost use Rattle.h26x_payload.specs.DepacketizerView.{IsReadAs};
+ghost use Rattle.h26x_depacketizer.specs.DepacketizerView.{IsReadAs};
 ghost use Rattle.h26x_model.specs.Payload.TwoBytes.{is_two_byte_fragment};
 ghost use Rattle.h266_payload.specs.H266.{h266_header, h266, has_packet_type};
 ghost use Rattle.h266_payload.specs.Packet.{aggregate_units, rest_behind_donl};
@@ -13,7 +13,7 @@ use crate::aggregate::check_aggregate;
 use crate::codec::{H266, header_of, with_type};
 use crate::laws;
 use h26x_core::{H266FragmentationUnitHeader, PacketError};
-use h26x_payload::{Fragment, PacketReader, Parts, ends_access_unit, may_begin_access_unit};
+use h26x_depacketizer::{Fragment, PacketReader, Parts, ends_access_unit, may_begin_access_unit};
 
 /// The bytes of a packet's header.
 pub const PACKET_HEADER_SIZE: usize = 2;
@@ -50,7 +50,7 @@ fn is_fragment(packet: &[u8]) -> bool
 impl PacketReader for H266 {
     ghost use Rattle.h266_payload.specs.H266.{h266_header};
     ghost use Rattle.h26x_model.specs.Payload.TwoBytes.{is_two_byte_fragment};
-    ghost use Rattle.h26x_payload.specs.AccessUnit as access_unit;
+    ghost use Rattle.h26x_depacketizer.specs.AccessUnit as access_unit;
 
     ghost begins = { λ codec packet. access_unit.may_begin (is_two_byte_fragment h266_header packet)
         packet };

@@ -3,7 +3,7 @@
 
 ghost use Rattle.std.specs.Prelude.{◌≡◌, ◌+◌, ◌*◌, max, if◌then◌else◌};
 ghost use Rattle.std.specs.List.{list_any};
-ghost use Rattle.h26x_payload.specs.Sending.{sets_list};
+ghost use Rattle.h26x_payload.specs.Sets.{sets_list};
 ghost use Rattle.h266_payload.specs.H266 as spec;
 
 use crate::codec::{H266, header_of, with_type};
@@ -12,7 +12,8 @@ use h26x_core::h266_types::{
 };
 use h26x_core::{CodecExtra, H266CodecExtra, H266FragmentationUnitHeader};
 use h26x_cut::{UnitSlices, ZeroRule};
-use h26x_payload::{DonlFormat, PayloadFormat, PayloadPacketizer, Sets, UnitKind};
+use h26x_packetizer::PayloadPacketizer;
+use h26x_payload::{DonlFormat, PayloadFormat, Sets, UnitKind};
 
 /// Sends the NAL units of payloads (RFC 9328).
 ///

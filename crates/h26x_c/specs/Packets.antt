@@ -2,7 +2,7 @@
 use Rattle.std.specs.Prelude.{ℕ, Bool, false, List, Option, Some, None}
 use Rattle.h26x_core.specs.H264AccessUnit as h264_access_unit
 use Rattle.h26x_model.specs.Payload.TwoBytes.{is_two_byte_fragment, two_byte_detects}
-use Rattle.h26x_payload.specs.AccessUnit.{may_begin, is_last}
+use Rattle.h26x_depacketizer.specs.AccessUnit.{may_begin, is_last}
 use Rattle.h264_payload.specs.H264 as h264
 use Rattle.h265_payload.specs.H265 as h265
 use Rattle.h265_payload.specs.LowestHeader.{with_lowest_header}

@@ -14,6 +14,7 @@ use crate::const_handle::ConstHandle;
 use crate::handle::Handle;
 use crate::place::{Place, put};
 use h26x_codec::Codec;
+use h26x_depacketizer::RunDepacketizer;
 use h26x_handles::code::{
     NOT_OF_THIS_CODEC, OK, OUT_OF_MEMORY, Refusal, WRONG_END, code_of, codec_wanted, extra_of,
     may_have_donl, number_of,
@@ -21,7 +22,6 @@ use h26x_handles::code::{
 use h26x_handles::copy::copy_where_room;
 use h26x_handles::endpoint::Endpoint;
 use h26x_handles::receiving::ReceivingEndpoint;
-use h26x_payload::RunDepacketizer;
 use std::alloc::Global;
 
 /// Makes a depacketizer with no run open.

@@ -2,9 +2,9 @@
 use Rattle.std.proofs.Common.{◌≡◌, ap}
 use Rattle.std.specs.Prelude.{Result, Ok, Err, IfOk}
 use Rattle.h26x_core.specs.declared.error.PacketError.{PacketError}
-use Rattle.h26x_payload.specs.declared.send.placement.Placement.{Placement}
-use Rattle.h26x_payload.specs.declared.send.placement.Placement.TheVariants as p
-use Rattle.h26x_payload.specs.Placement.{if_placed}
+use Rattle.h26x_packetizer.specs.declared.placement.Placement.{Placement}
+use Rattle.h26x_packetizer.specs.declared.placement.Placement.TheVariants as p
+use Rattle.h26x_packetizer.specs.Placement.{if_placed}
 
 -- what is read of a packetizer is that of the packetizer
 pub placed_by : {V S : Type 0} (read : V → S) (made : Result Placement PacketError) (old new after : V) → IfOk made (λ it. new ≡ if_placed it after old) →

@@ -5,7 +5,7 @@ use Rattle.std.specs.Option.{option_eq}
 use Rattle.std.specs.Cmp.Lexicographic.{pointwise}
 use Rattle.h26x_core.specs.declared.extra.CodecExtra.{CodecExtra}
 use Rattle.h26x_model.specs.Receive.DepacketizerState.{DepacketizerState, Depacketization, depacketization, depacketizer_meaning}
-use Rattle.h26x_payload.specs.DepacketizerView.{depacketizer_state}
+use Rattle.h26x_depacketizer.specs.DepacketizerView.{depacketizer_state}
 use Rattle.h264_payload.specs.H264.{h264}
 use Rattle.h265_packets.specs.Payload.{empty_single}
 use Rattle.h265_packets.specs.declared.payload.H265Payload.{H265Payload}

@@ -1,9 +1,9 @@
 -- A packetizer of one of the codecs.
 use Rattle.std.specs.Prelude.{◌≡◌, ℕ, Bool}
 use Rattle.h26x_model.specs.Send.PacketizerState.{PacketizerState}
-use Rattle.h26x_payload.specs.PacketizerView.{packetizer_state}
-use Rattle.h26x_payload.specs.Placement.{if_placed}
-use Rattle.h26x_payload.specs.declared.send.placement.Placement.{Placement}
+use Rattle.h26x_packetizer.specs.PacketizerView.{packetizer_state}
+use Rattle.h26x_packetizer.specs.Placement.{if_placed}
+use Rattle.h26x_packetizer.specs.declared.placement.Placement.{Placement}
 use Rattle.h264_payload.specs.H264.{h264}
 use Rattle.h265_payload.specs.Setting as h265_setting
 use Rattle.h266_payload.specs.Setting as h266_setting

@@ -6,7 +6,7 @@ use Rattle.h26x_model.specs.Receive.DepacketizerState.{DepacketizerState, Depack
 use Rattle.h26x_codec.specs.Codec.{codec_format, may_begin_h265, may_begin_h266, is_last_h265, is_last_h266}
 use Rattle.h26x_codec.specs.declared.codec.Codec.{Codec}
 use Rattle.h26x_codec.specs.declared.codec.Codec.TheVariants as c
-use Rattle.h26x_payload.specs.OpenText.{OpenTextView, text_depacketization, met_depacketization}
+use Rattle.h26x_depacketizer.specs.OpenText.{OpenTextView, text_depacketization, met_depacketization}
 
 -- its codec, whether packets bear decoding order numbers, whether it writes lengths, and the data of
 -- its open run

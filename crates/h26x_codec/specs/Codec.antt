@@ -11,9 +11,9 @@ use Rattle.h26x_model.specs.Send.PacketizerState.{PacketizerState}
 use Rattle.h26x_model.specs.Receive.Outcome.{is_startless}
 use Rattle.h26x_model.specs.Receive.DepacketizerState.{DepacketizerState, Depacketization, depacketization}
 use Rattle.h26x_model.specs.Where.{Where, WhereBoth}
-use Rattle.h26x_payload.specs.AccessUnit.{may_begin, is_last}
-use Rattle.h26x_payload.specs.PacketizerView.{packetizer_state}
-use Rattle.h26x_payload.specs.DepacketizerView.{DepacketizerView, depacketizer_state}
+use Rattle.h26x_depacketizer.specs.AccessUnit.{may_begin, is_last}
+use Rattle.h26x_packetizer.specs.PacketizerView.{packetizer_state}
+use Rattle.h26x_depacketizer.specs.DepacketizerView.{DepacketizerView, depacketizer_state}
 use Rattle.h264_payload.specs.H264.{h264}
 use Rattle.h264_payload.specs.declared.codec.H264.{H264}
 use Rattle.h265_payload.specs.H265.{h265, h265_header}

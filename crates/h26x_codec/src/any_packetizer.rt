@@ -2,14 +2,14 @@
 
 ghost use Rattle.std.specs.Prelude.{◌≡◌, ◌≤◌, [], true, false, Err, IfOk, OnOk, OnErr, IsOk};
 ghost use Rattle.h26x_model.specs.Send.PacketizerState.{next_packets, after_payload, payload_has_no_effect, one_unit_items, one_unit_packets, after_one_unit};
-ghost use Rattle.h26x_payload.specs.Buffer.{with_packets};
-ghost use Rattle.h26x_payload.specs.Placement.{IsPlacement, IsSizeOf, is_placed};
+ghost use Rattle.h26x_packetizer.specs.Buffer.{with_packets};
+ghost use Rattle.h26x_packetizer.specs.Placement.{IsPlacement, IsSizeOf, is_placed};
 ghost use Rattle.h26x_codec.specs.Codec.{codec_format, fresh_packetizer_state};
 ghost use Rattle.h26x_codec.specs.AnyPacketizer.{any_packetizer_state, any_packetizer_codec, any_packetizer_with_donl, any_packetizer_with_max_packet_size, IsBehindPlaced};
 
 use crate::codec::Codec;
 use h26x_core::PacketError;
-use h26x_payload::{PacketBuffer, PacketsSize, Placement};
+use h26x_packetizer::{PacketBuffer, PacketsSize, Placement};
 use h264_payload::H264Packetizer;
 use h265_payload::H265Packetizer;
 use h266_payload::H266Packetizer;

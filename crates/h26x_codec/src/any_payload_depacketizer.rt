@@ -6,19 +6,20 @@ ghost use Rattle.h26x_core.specs.Hint.{size_hint};
 ghost use Rattle.h26x_model.specs.Receive.Outcome.{is_startless};
 ghost use Rattle.h26x_model.specs.Receive.DepacketizerState.{after_packets, depacketizer_meaning, IsPacketOutcome};
 ghost use Rattle.h26x_model.specs.Receive.RunLimit.{run_len};
-ghost use Rattle.h26x_payload.specs.Run.{run_memory};
-ghost use Rattle.h26x_payload.specs.OpenText.{IsSameText};
-ghost use Rattle.h26x_payload.specs.UnitSink.{bytes_brought, grown_to, TellsRoom};
+ghost use Rattle.h26x_depacketizer.specs.Run.{run_memory};
+ghost use Rattle.h26x_depacketizer.specs.OpenText.{IsSameText};
+ghost use Rattle.h26x_depacketizer.specs.UnitSink.{bytes_brought, grown_to, TellsRoom};
 ghost use Rattle.h26x_codec.specs.Codec.{codec_format};
 ghost use Rattle.h26x_codec.specs.AnyPayloadDepacketizer.{any_payload_state, any_payload_depacketization, codec_begins, codec_ends, any_payload_met, any_payload_in_text};
 
 use crate::codec::Codec;
 use crate::formats;
 use h26x_core::{CodecExtra, Depacketizer, PacketError};
-use h26x_payload::{
-    DonlFormat, OpenRun, OpenText, PacketReader, PayloadFormat, RunDepacketizer, RunRule, UnitSink,
-    out_size_hint, starts_run, take_in_text, take_packet,
+use h26x_depacketizer::{
+    OpenRun, OpenText, PacketReader, RunDepacketizer, RunRule, UnitSink, out_size_hint, starts_run,
+    take_in_text, take_packet,
 };
+use h26x_payload::{DonlFormat, PayloadFormat};
 use h264_payload::H264;
 use h265_payload::H265;
 use h266_payload::H266;

@@ -1,7 +1,7 @@
 //! What a run has made: its packets, and which calls were made.
 
 ghost use Rattle.std.specs.Prelude.{◌≡◌};
-ghost use Rattle.h26x_payload.specs.Sending.{contents};
+ghost use Rattle.h26x_packetizer.specs.Sending.{contents};
 
 use std::marker::Model;
 
@@ -13,7 +13,7 @@ pub struct Packets {
 
 impl Model for Packets {
     ghost use Rattle.std.specs.Prelude.{ℕ, List};
-    ghost use Rattle.h26x_payload.specs.Sending.{contents};
+    ghost use Rattle.h26x_packetizer.specs.Sending.{contents};
 
     ghost Value = { List (List ℕ) };
 

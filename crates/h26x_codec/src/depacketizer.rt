@@ -8,7 +8,7 @@ ghost use Rattle.h264_payload.specs.declared.codec.H264.{H264};
 ghost use Rattle.h264_payload.specs.H264.{h264};
 ghost use Rattle.h265_payload.specs.DepacketizerView as h265_end;
 ghost use Rattle.h265_payload.specs.Shown.{shown};
-ghost use Rattle.h26x_payload.specs.DepacketizerView.{depacketizer_state};
+ghost use Rattle.h26x_depacketizer.specs.DepacketizerView.{depacketizer_state};
 ghost use Rattle.h266_payload.specs.declared.codec.H266.{H266};
 ghost use Rattle.h266_payload.specs.Setting as h266_setting;
 ghost use Rattle.h26x_codec.specs.Codec.{default_format, codec_depacketizer_state, depacketizer_codec, fresh_depacketizer_state, codec_depacketization, shown_payload, payload_at_first, without_run, OfDepacketizer, OfDepacketization, OfH264, OfH265, OfH266, may_begin_h265, may_begin_h266, is_last_h265, is_last_h266, is_startless_h264, is_startless_h266};

@@ -15,7 +15,7 @@ use crate::codec::Codec;
 use crate::depacketizer::CodecDepacketizer;
 use crate::formats::formats_meet_the_facts;
 use crate::packetizer::CodecPacketizer;
-use h26x_payload::packetizer_states as payload_packetizer_states;
+use h26x_packetizer::packetizer_states as payload_packetizer_states;
 
 /// At most one set of each kind waits for a packetizer of a codec, its next decoding order number
 /// and its largest packet size are of two bytes, and its format meets the facts on which the laws of

@@ -36,7 +36,7 @@ pub use any_payload_depacketizer::AnyPayloadDepacketizer;
 pub use carried::{Carried, Marks, Packets};
 pub use codec::Codec;
 pub use depacketizer::CodecDepacketizer;
-pub use h26x_payload::{BufferPackets, PacketBuffer};
+pub use h26x_packetizer::{BufferPackets, PacketBuffer};
 pub use packetizer::CodecPacketizer;
 pub use repeated::{Repeated, again};
 pub use runs::carry;

@@ -4,20 +4,20 @@ ghost use Rattle.std.specs.Prelude.{◌≡◌, ◌≤◌, [], true, false, Some,
 ghost use Rattle.h26x_model.specs.Send.Limit.{AreWithinLimit};
 ghost use Rattle.h26x_model.specs.Send.PacketizerState.{PacketizerState, IsSentAsPlanned, next_call, next_packets, after_payload, payload_has_no_effect, one_unit_items, one_unit_packets, after_one_unit};
 ghost use Rattle.h26x_model.specs.Send.Rival.{TakesFewestFragments};
-ghost use Rattle.h26x_payload.specs.Sending.{contents};
-ghost use Rattle.h26x_payload.specs.Buffer.{IsAppended, with_packets};
+ghost use Rattle.h26x_packetizer.specs.Sending.{contents};
+ghost use Rattle.h26x_packetizer.specs.Buffer.{IsAppended, with_packets};
 ghost use Rattle.h26x_codec.specs.Codec.{default_format, codec_packetizer_state, packetizer_codec, fresh_packetizer_state, with_max_don_diff, with_max_packet_size, OfPacketizer, limit_at};
 ghost use Rattle.h26x_codec.specs.declared.packetizer.CodecPacketizer.TheVariants as p;
 ghost use Rattle.h264_payload.specs.H264.{h264};
 ghost use Rattle.h265_payload.specs.Setting as h265_setting;
 ghost use Rattle.h266_payload.specs.Setting as h266_setting;
-ghost use Rattle.h26x_payload.specs.PacketizerView.{packetizer_state};
+ghost use Rattle.h26x_packetizer.specs.PacketizerView.{packetizer_state};
 ghost use Rattle.h26x_model.specs.Send.PacketizerState.{packetizer_meaning};
 
 use crate::codec::Codec;
 use crate::formats::formats_meet_the_facts;
 use h26x_core::{PacketError, Packetizer};
-use h26x_payload::PacketBuffer;
+use h26x_packetizer::PacketBuffer;
 use h264_payload::H264Packetizer;
 use h265_payload::H265Packetizer;
 use h266_payload::H266Packetizer;

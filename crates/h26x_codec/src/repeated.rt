@@ -4,7 +4,7 @@ ghost use Rattle.std.specs.Prelude.{◌≡◌, ◌≤◌, [], ◌∷◌, false, 
 ghost use Rattle.h26x_core.specs.ByteStream.{annex_b};
 ghost use Rattle.h26x_model.specs.Receive.Received.{received};
 ghost use Rattle.h26x_model.specs.Send.PacketizerState.{calls_packets};
-ghost use Rattle.h26x_payload.specs.Sending.{contents};
+ghost use Rattle.h26x_packetizer.specs.Sending.{contents};
 ghost use Rattle.h26x_codec.specs.Codec.{codec_format, codec_packetizer_state, codec_depacketizer_state, fresh_depacketizer_state, OfPacketizer, OfDepacketizer, OfBoth};
 ghost use Rattle.h26x_codec.specs.Runs.{IsFresh};
 ghost use Rattle.h26x_codec.specs.Repeating.{zero_rule, starting_packetizer, repeated_calls, calls_at, packets_at, MayBeRepeated, IsTextOf, IsRefusal, received_text, repeated_packets};

@@ -9,7 +9,7 @@ ghost use Rattle.h26x_core.specs.declared.extra.CodecExtra.TheVariants as extras
 ghost use Rattle.h26x_model.specs.Send.PacketizerState.{PacketizerState, call_packets, AreWithinLimits, calls_packets, after_calls, next_call};
 ghost use Rattle.h26x_model.specs.Receive.DepacketizerState.{DepacketizerState, after_packets, depacketization, AreWritten};
 ghost use Rattle.h26x_model.specs.Where.{WhereBoth};
-ghost use Rattle.h26x_payload.specs.Sending.{contents};
+ghost use Rattle.h26x_packetizer.specs.Sending.{contents};
 ghost use Rattle.h26x_codec.specs.Codec.{codec_packetizer_state, codec_depacketizer_state, codec_depacketization, OfPacketizer, OfDepacketizer, OfDepacketization, OfBoth};
 ghost use Rattle.h26x_codec.specs.Runs.{AreSent, IsSentCall, AreTaken, IsLeftOver, IsBrokenIfErr, IsStoppedIfErr, AreMade, IsMadeText, IsFresh, AreCarriedWhole, next_calls, OfCarried, HaveDonsInOrder, HaveKeyUnitsDetected};
 ghost use Rattle.h26x_model.specs.Carry.Laws.{AreCallsCarried};

@@ -3,7 +3,7 @@
 ghost use Rattle.std.specs.Prelude.{◌≡◌, IfOk, OnErr, Err, IsErr, All, length, vec_len, None};
 ghost use Rattle.h26x_core.specs.Front.{IsFrontOf};
 ghost use Rattle.h26x_model.specs.Receive.DepacketizerState.{AreAllTaken, accepted_packets, depacketization};
-ghost use Rattle.h26x_payload.specs.Sending.{contents};
+ghost use Rattle.h26x_packetizer.specs.Sending.{contents};
 ghost use Rattle.h26x_codec.specs.Codec.{codec_depacketization, OfDepacketizer};
 ghost use Rattle.h26x_codec.specs.Taking.{AreReceivedAs, LossIsWithin};
 

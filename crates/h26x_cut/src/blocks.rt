@@ -45,9 +45,18 @@ fn least_of_block(bytes: &[u8], place: usize) -> u8x16
     ensures { AreLeast bytes.now place BLOCK result }
 {
     let first = lower(load(bytes, place), load(bytes, place + LANES));
-    let second = lower(load(bytes, place + 2 * LANES), load(bytes, place + 3 * LANES));
-    let third = lower(load(bytes, place + 4 * LANES), load(bytes, place + 5 * LANES));
-    let fourth = lower(load(bytes, place + 6 * LANES), load(bytes, place + 7 * LANES));
+    let second = lower(
+        load(bytes, place + 2 * LANES),
+        load(bytes, place + 3 * LANES),
+    );
+    let third = lower(
+        load(bytes, place + 4 * LANES),
+        load(bytes, place + 5 * LANES),
+    );
+    let fourth = lower(
+        load(bytes, place + 6 * LANES),
+        load(bytes, place + 7 * LANES),
+    );
     lower(lower(first, second), lower(third, fourth))
 }
 

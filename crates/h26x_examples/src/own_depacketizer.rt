@@ -3,11 +3,11 @@
 
 ghost use Rattle.std.specs.Prelude.{◌+◌, min, refl};
 ghost use Rattle.h26x_model.specs.Receive.DepacketizerState.{depacketizer_meaning};
-ghost use Rattle.h26x_payload.specs.DepacketizerView.{depacketizer_state};
+ghost use Rattle.h26x_depacketizer.specs.DepacketizerView.{depacketizer_state};
 ghost use Rattle.h264_payload.specs.H264.{h264};
 
 use h26x_core::{CodecExtra, Depacketizer, PacketError};
-use h26x_payload::{OpenRun, OpenText, RunDepacketizer, RunRule, UnitSink};
+use h26x_depacketizer::{OpenRun, OpenText, RunDepacketizer, RunRule, UnitSink};
 use h26x_receiver::SequencedDepacketizer;
 use h264_payload::H264Depacketizer;
 use std::alloc::Global;

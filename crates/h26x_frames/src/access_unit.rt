@@ -5,12 +5,12 @@ ghost use Rattle.h26x_model.specs.Payload.Reading.{is_start};
 ghost use Rattle.h26x_model.specs.Receive.RunLimit.{run_len};
 ghost use Rattle.h26x_receiver.specs.Sequenced.{IfTaken, UnlessTaken};
 ghost use Rattle.h26x_frames.specs.AccessUnit.{access_unit_value, open_unit_value, open_unit_view, empty_unit, whole_if, one_open, none_open, without_marker, behind_gap, is_following, is_run_closed, unit_len, unit_within, is_unit_at, given_out, after_taken_rtp, parts_at, IsTakenAnswerAt, unit_views};
-ghost use Rattle.h26x_payload.specs.RunDepacketizer.{RunStaysWithin};
+ghost use Rattle.h26x_depacketizer.specs.RunDepacketizer.{RunStaysWithin};
 
 use crate::answers::{is_following, is_sound, was_taken};
 use h26x_core::{CodecExtra, PacketError};
+use h26x_depacketizer::{OpenRun, OpenText, RunDepacketizer};
 use h26x_model::laws;
-use h26x_payload::{OpenRun, OpenText, RunDepacketizer};
 use h26x_receiver::{Received, SequencedDepacketizer};
 use h26x_reorder::RtpPacket;
 use std::alloc::Global;

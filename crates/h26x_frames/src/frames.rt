@@ -5,13 +5,13 @@ ghost use Rattle.h26x_receiver.specs.Sequenced.{having_taken_all};
 ghost use Rattle.h26x_reorder.specs.ReorderBuffer.{reordered};
 ghost use Rattle.h26x_frames.specs.AccessUnit.{unit_len, with_open_unit, AreUnitsReceived};
 ghost use Rattle.h26x_frames.specs.Receiver.{frames_at, BringsAccessUnits, BringsAnyUnits, RefusesNoneBrought};
-ghost use Rattle.h26x_payload.specs.RunDepacketizer.{RunStaysWithin, IsSameBesideRun};
+ghost use Rattle.h26x_depacketizer.specs.RunDepacketizer.{RunStaysWithin, IsSameBesideRun};
 
 use crate::access_unit::AccessUnit;
 use crate::receiver::FrameReceiver;
 use h26x_core::PacketError;
+use h26x_depacketizer::RunDepacketizer;
 use h26x_model::laws;
-use h26x_payload::RunDepacketizer;
 use h26x_receiver::Received;
 use h26x_reorder::{RtpPacket, ordered};
 use std::alloc::Global;

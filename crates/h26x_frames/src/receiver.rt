@@ -5,13 +5,13 @@ ghost use Rattle.h26x_receiver.specs.Sequenced.{skip_answer, is_run_kept, IfTake
 ghost use Rattle.h26x_frames.specs.declared.access_unit.AccessUnit.{AccessUnit};
 ghost use Rattle.h26x_frames.specs.AccessUnit.{none_open, is_unit_at, IsUnitAnswer, after_taken_rtp, after_unit_skip, after_pass_over, after_end, unit_len, is_text_given_up, parts_at, IsTakenAnswerAt};
 ghost use Rattle.h26x_frames.specs.Receiver.{frames_at, after_receiving, gives_text_up, IsNumberPassed};
-ghost use Rattle.h26x_payload.specs.RunDepacketizer.{RunStaysWithin};
+ghost use Rattle.h26x_depacketizer.specs.RunDepacketizer.{RunStaysWithin};
 
 use crate::access_unit::{AccessUnit, OpenAccessUnit, OpenUnit};
 use crate::answers::{is_sound, was_taken};
 use crate::spare::SpareMemory;
 use h26x_core::{PacketError, is_next};
-use h26x_payload::RunDepacketizer;
+use h26x_depacketizer::RunDepacketizer;
 use h26x_receiver::{Received, SequencedDepacketizer};
 use h26x_reorder::RtpPacket;
 use std::alloc::Global;

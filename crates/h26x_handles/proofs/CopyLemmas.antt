@@ -5,7 +5,7 @@ use Rattle.std.proofs.lemmas.Bool.{cases_lt}
 use Rattle.std.proofs.lemmas.List.{append-nil, drop-drop, drop_all, drop_at, length-drop, length-take-le, take-append-drop, take_all}
 use Rattle.std.proofs.lemmas.List.Folds.{concat-append}
 use Rattle.std.specs.List.{concat}
-use Rattle.h26x_payload.specs.Buffer.{ends_of, last_end, packets_from, HoldPackets}
+use Rattle.h26x_packetizer.specs.Buffer.{ends_of, last_end, packets_from, HoldPackets}
 use Rattle.h26x_handles.specs.Copies.{with_front, end_offsets, Fits, AreMost}
 
 -- one packet more

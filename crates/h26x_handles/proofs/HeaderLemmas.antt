@@ -4,14 +4,14 @@ use Rattle.std.specs.Prelude.{Bool, Option, Some, min}
 use Rattle.std.specs.List.{between, concat}
 use Rattle.std.proofs.lemmas.List.{drop-drop, drop_at, length-drop, length-take-le, take-append-drop, take_at}
 use borrow.Rule.Slice.PartMut.{put_mid}
-use Rattle.h26x_payload.specs.Buffer.{PacketBufferView, ends_of, last_end, packets_from, headrooms_from, AreEnds, HoldPackets, HoldHeadrooms}
-use Rattle.h26x_payload.specs.BufferLoan.{packets_under, headrooms_under, buffer_under, part_under}
-use Rattle.h26x_payload.specs.Placement.{laid_size, packets_over, ArePlaced, HaveNoRoom, IsSizeOf, IsPlacement}
-use Rattle.h26x_payload.specs.declared.send.placement.PacketsSize.{PacketsSize}
-use Rattle.h26x_payload.specs.declared.send.placement.Placement.{Placement}
-use Rattle.h26x_payload.specs.declared.send.placement.Placement.TheVariants as p
-use Rattle.h26x_payload.proofs.BufferLemmas.{start_le_last, between_long, packets_count, packet_at, packet_within, last_at}
-use Rattle.h26x_payload.proofs.PlacementLemmas.{size_next, size_of_first}
+use Rattle.h26x_packetizer.specs.Buffer.{PacketBufferView, ends_of, last_end, packets_from, headrooms_from, AreEnds, HoldPackets, HoldHeadrooms}
+use Rattle.h26x_packetizer.specs.BufferLoan.{packets_under, headrooms_under, buffer_under, part_under}
+use Rattle.h26x_packetizer.specs.Placement.{laid_size, packets_over, ArePlaced, HaveNoRoom, IsSizeOf, IsPlacement}
+use Rattle.h26x_packetizer.specs.declared.placement.PacketsSize.{PacketsSize}
+use Rattle.h26x_packetizer.specs.declared.placement.Placement.{Placement}
+use Rattle.h26x_packetizer.specs.declared.placement.Placement.TheVariants as p
+use Rattle.h26x_packetizer.proofs.BufferLemmas.{start_le_last, between_long, packets_count, packet_at, packet_within, last_at}
+use Rattle.h26x_packetizer.proofs.PlacementLemmas.{size_next, size_of_first}
 use Rattle.h265_payload.specs.LowestHeader.{with_lowest_header, with_lowest_headers}
 use Rattle.h265_payload.proofs.LowestLemmas.{is_headed}
 use Rattle.h26x_handles.specs.Copies.{end_offsets}

@@ -3,7 +3,7 @@ use Rattle.std.proofs.Common.{rules, ◌≡◌, true, Ok, Err, Result, refl, ℕ
 use Rattle.std.specs.Borrow.{GName}
 use Rattle.std.proofs.lemmas.List.{length-take-le, take-append-drop}
 use Rattle.h26x_core.specs.declared.error.PacketError.{PacketError}
-use Rattle.h26x_payload.specs.UnitSink.{memory_sink, grown_to}
+use Rattle.h26x_depacketizer.specs.UnitSink.{memory_sink, grown_to}
 use Rattle.h26x_receiver.specs.declared.received.Received.{Received}
 use Rattle.h26x_receiver.specs.declared.received.Received.TheVariants.{InOrder, Gap, TooLong, Late}
 use Rattle.h26x_receiver.specs.Sequenced.{SequencedDepacketization, is_taken, after_answer, after_taken_packet}

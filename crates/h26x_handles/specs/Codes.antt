@@ -4,8 +4,8 @@ use Rattle.h26x_core.specs.declared.error.PacketError.{PacketError}
 use Rattle.h26x_core.specs.declared.error.PacketError.TheVariants as error
 use Rattle.h26x_core.specs.declared.extra.CodecExtra.{CodecExtra}
 use Rattle.h26x_core.specs.declared.extra.CodecExtra.TheVariants as extra
-use Rattle.h26x_payload.specs.declared.send.placement.Placement.{Placement}
-use Rattle.h26x_payload.specs.declared.send.placement.Placement.TheVariants as p
+use Rattle.h26x_packetizer.specs.declared.placement.Placement.{Placement}
+use Rattle.h26x_packetizer.specs.declared.placement.Placement.TheVariants as p
 use Rattle.h26x_codec.specs.declared.codec.Codec.{Codec}
 use Rattle.h26x_codec.specs.declared.codec.Codec.TheVariants as c
 use Rattle.h26x_receiver.specs.declared.received.Received.{Received}

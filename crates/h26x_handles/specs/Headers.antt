@@ -1,7 +1,7 @@
 -- The headers of the packets that are sent.
 use Rattle.std.specs.Prelude.{ℕ, Bool, true, List, Option, Some, None}
-use Rattle.h26x_payload.specs.declared.send.placement.Placement.{Placement}
-use Rattle.h26x_payload.specs.Placement.{IsPlacement}
+use Rattle.h26x_packetizer.specs.declared.placement.Placement.{Placement}
+use Rattle.h26x_packetizer.specs.Placement.{IsPlacement}
 use Rattle.h265_payload.specs.LowestHeader.{with_lowest_headers}
 use Rattle.h26x_codec.specs.declared.codec.Codec.{Codec}
 use Rattle.h26x_codec.specs.declared.codec.Codec.TheVariants as c

@@ -1,6 +1,6 @@
 -- What is answered of packets that were to go into a caller's memory.
 use Rattle.std.specs.Prelude.{◌≡◌, ◌⊎◌, ℕ, List}
-use Rattle.h26x_payload.specs.Placement.{ArePlaced, HaveNoRoom, IsSizeOf}
+use Rattle.h26x_packetizer.specs.Placement.{ArePlaced, HaveNoRoom, IsSizeOf}
 use Rattle.h26x_handles.specs.Codes.{ok, no_room, out_of_memory}
 
 -- how many packets there are, and their bytes

@@ -2,7 +2,7 @@
 //! cases of it. Each is the contract of a function without a result.
 
 ghost use Rattle.std.specs.Prelude.{◌≡◌, ◌⊎◌, ◌<◌, ◌≤◌, ◌+◌, ◌^◌, ℕ, Bool, true, false, List, [], ◌∷◌, ◌++◌, drop, length, Option, Some, None, Ok, Err};
-ghost use Rattle.h26x_payload.specs.Placement.{ArePlaced, HaveNoRoom};
+ghost use Rattle.h26x_packetizer.specs.Placement.{ArePlaced, HaveNoRoom};
 ghost use Rattle.h26x_codec.specs.declared.codec.Codec.{Codec};
 ghost use Rattle.h26x_codec.specs.declared.codec.Codec.TheVariants as codecs;
 ghost use Rattle.h26x_access_units.specs.declared.config.AccessUnitConfig.{AccessUnitConfig};

@@ -5,7 +5,7 @@ ghost use Rattle.h26x_handles.specs.Codes.{codec_with_number, extra_with_number,
 
 use h26x_codec::Codec;
 use h26x_core::{CodecExtra, H264CodecExtra, H265CodecExtra, H266CodecExtra, PacketError};
-use h26x_payload::{PacketsSize, Placement};
+use h26x_packetizer::{PacketsSize, Placement};
 use h26x_receiver::Received;
 
 /// The call was carried out.

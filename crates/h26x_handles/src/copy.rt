@@ -4,7 +4,7 @@ ghost use Rattle.std.specs.Prelude.{◌≡◌, ◌≤◌, length, take, drop};
 ghost use Rattle.std.specs.List.{concat};
 ghost use Rattle.h26x_handles.specs.Copies.{with_front, with_first, without_room, end_offsets, AreMost, AreCopied};
 
-use h26x_payload::PacketBuffer;
+use h26x_packetizer::PacketBuffer;
 use std::{cmp, mem};
 
 /// Copies bytes to the front of a buffer where there is room for them; how many they are.

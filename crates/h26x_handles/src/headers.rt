@@ -2,14 +2,14 @@
 
 ghost use Rattle.std.specs.Prelude.{◌≡◌, ◌≤◌, ◌<◌, ◌++◌, ℕ, List, [], length, take, drop, get_or, slice_set};
 ghost use Rattle.std.specs.List.{between};
-ghost use Rattle.h26x_payload.specs.Buffer.{packets_from, last_end, AreEnds};
-ghost use Rattle.h26x_payload.specs.Placement.{packets_over, IsPlacement};
+ghost use Rattle.h26x_packetizer.specs.Buffer.{packets_from, last_end, AreEnds};
+ghost use Rattle.h26x_packetizer.specs.Placement.{packets_over, IsPlacement};
 ghost use Rattle.h265_payload.specs.LowestHeader.{with_lowest_header, with_lowest_headers};
 ghost use Rattle.h26x_handles.specs.Headers.{headers_wanted, under_headers, IsPlaced};
 
 use crate::copy::{ends_of, start_of};
 use h26x_codec::Codec;
-use h26x_payload::{PacketBuffer, Placement};
+use h26x_packetizer::{PacketBuffer, Placement};
 use h265_payload::set_lowest_header;
 
 /// Whether packets bear decoding order numbers, where that header is asked for and they are of H.265.

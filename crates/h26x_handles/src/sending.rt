@@ -3,7 +3,7 @@
 ghost use Rattle.std.specs.Prelude.{◌≡◌, ◌≤◌, [], Err, true, false, IfOk, OnOk, OnErr, IsOk, length, drop};
 ghost use Rattle.std.specs.List.{concat};
 ghost use Rattle.h26x_model.specs.Send.PacketizerState.{after_payload, payload_has_no_effect, one_unit_items, one_unit_packets, after_one_unit};
-ghost use Rattle.h26x_payload.specs.Placement.{IsPlacement, is_placed};
+ghost use Rattle.h26x_packetizer.specs.Placement.{IsPlacement, is_placed};
 ghost use Rattle.h26x_codec.specs.Codec.{codec_format, fresh_packetizer_state};
 ghost use Rattle.h26x_codec.specs.AnyPacketizer.{any_packetizer_codec, any_packetizer_with_donl, any_packetizer_with_max_packet_size, IsBehindPlaced};
 ghost use Rattle.h26x_handles.specs.States.{sending_state, sending_packets, headers_asked};
@@ -14,7 +14,7 @@ use crate::copy::{bytes_from, copy_packets};
 use crate::headers::{headers_wanted, set_headers, set_placed_headers};
 use h26x_codec::{AnyPacketizer, Codec};
 use h26x_core::PacketError;
-use h26x_payload::{PacketBuffer, Placement};
+use h26x_packetizer::{PacketBuffer, Placement};
 use std::alloc::Global;
 use std::marker::Model;
 use std::mem;

@@ -10,7 +10,7 @@ ghost use Rattle.h26x_handles.specs.States.{receiver_at_work, after_receiver_pac
 use crate::copy::put_or_keep;
 use h26x_codec::{AnyDepacketizer, Codec};
 use h26x_core::{CodecExtra, PacketError};
-use h26x_payload::{MemorySink, RunDepacketizer};
+use h26x_depacketizer::{MemorySink, RunDepacketizer};
 use h26x_receiver::{Received, SequencedDepacketizer};
 use std::alloc::Global;
 use std::marker::Model;

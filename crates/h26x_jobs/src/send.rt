@@ -7,7 +7,7 @@ use crate::setting::{SETTINGS, Setting};
 use crate::stream::{Picture, pictures};
 use h26x_codec::CodecPacketizer;
 use h26x_core::{PacketError, Packetizer};
-use h26x_payload::PacketBuffer;
+use h26x_packetizer::PacketBuffer;
 use std::alloc::Global;
 
 /// The bytes of RTP's header.

@@ -193,8 +193,16 @@ module _ (has_donl : Bool) (t : TwoByteFormat) (ok : IsTwoBytes has_donl t) wher
           (λ unit. two_byte_read t (two_byte_fragment_header t.header unit start end ++ ((if start then donl_bytes has_donl n else []) ++ body))
           ≡ Fragment start end (take 2 unit) (if start then don_sent (two_byte_format has_donl t) n else None) body)
           (λ high low b unit c. let fits = ok.type_fits high low in
-          rw (c.mark_clear, ok.marked high low, ok.apart, eq-eqb t.header.fragment t.header.fragment refl, start_back start end (t.header.type_of high low) fits,
-          end_back start end (t.header.type_of high low) fits, ok.type_back start end high low, c.back)
+          rw (
+            c.mark_clear,
+            ok.marked high low,
+            ok.apart,
+            eq-eqb t.header.fragment t.header.fragment refl,
+            start_back start end (t.header.type_of high low) fits,
+            end_back start end (t.header.type_of high low) fits,
+            ok.type_back start end high low,
+            c.back,
+          )
           (data_read has_donl t ok start end n (high ∷ low ∷ []) body some)) unit h;
       sets = sets.back;
     }

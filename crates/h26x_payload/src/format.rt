@@ -4,9 +4,9 @@ ghost use Rattle.std.specs.Prelude.{◌≡◌, ◌≤◌, ◌+◌, ◌++◌, ℕ
 ghost use Rattle.h26x_model.specs.Payload.Format.{Format, donl};
 ghost use Rattle.h26x_model.specs.Payload.Facts.{FitsLimits, DonlHasTwoBytes};
 ghost use Rattle.h26x_core.specs.Kind.{is_other};
-ghost use Rattle.h26x_payload.specs.Sending.{unit_kind, sets_list, sets_gap, sets_behind_lengths};
+ghost use Rattle.h26x_payload.specs.Sets.{unit_kind, sets_list, sets_gap, sets_behind_lengths};
 
-use crate::send::sets::Sets;
+use crate::sets::Sets;
 use h26x_core::CodecExtra;
 use h26x_cut::UnitSlices;
 use std::fmt;

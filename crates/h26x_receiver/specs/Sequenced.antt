@@ -4,13 +4,13 @@ use Rattle.h26x_core.specs.declared.extra.CodecExtra.{CodecExtra}
 use Rattle.h26x_core.specs.declared.error.PacketError.{PacketError}
 use Rattle.h26x_model.specs.Receive.DepacketizerState.{DepacketizerState, Depacketization, depacketization, after_packets, IsPacketOutcome}
 use Rattle.h26x_model.specs.Receive.RunLimit.{run_len, with_open_run, with_run_within}
-use Rattle.h26x_payload.specs.OpenText.{OpenTextView, text_depacketization}
+use Rattle.h26x_depacketizer.specs.OpenText.{OpenTextView, text_depacketization}
 use Rattle.h26x_receiver.specs.declared.received.Received.{Received}
 use Rattle.h26x_receiver.specs.declared.sequenced.SequencedDepacketizer.{SequencedDepacketizer}
 use Rattle.h26x_receiver.specs.declared.received.Received.TheVariants.{InOrder, Gap, TooLong, Late}
 use Rattle.h26x_core.specs.Sequence.{next_sequence_number, missing_count, distance_behind, is_late, is_expected}
-use Rattle.h26x_payload.specs.RunDepacketizer.{RunStaysWithin}
-use Rattle.h26x_payload.specs.UnitSink.{Sink}
+use Rattle.h26x_depacketizer.specs.RunDepacketizer.{RunStaysWithin}
+use Rattle.h26x_depacketizer.specs.UnitSink.{Sink}
 
 -- what a depacketizer works on, and the number that is expected next, if one was taken
 pub record SequencedDepacketization : Type 0 where

@@ -4,13 +4,13 @@ ghost use Rattle.std.specs.Prelude.{◌≡◌, IfOk, OnErr, Err, length, map, ve
 ghost use Rattle.h26x_core.specs.Front.{IsFrontOf};
 ghost use Rattle.h26x_receiver.specs.Delivery.{sequenced_packets, NoneIsRefused, NoneIsRefusedForWhatItIs, WholeUnitsAreWritten, ThoseThatCameAreWritten, WhatWasTakenIsWritten};
 ghost use Rattle.h26x_receiver.specs.Sequenced.{AreAllReceived, having_taken_all, receiver_at, work_at};
-ghost use Rattle.h26x_payload.specs.RunDepacketizer.{IsSameBesideRun, RunStaysWithin};
+ghost use Rattle.h26x_depacketizer.specs.RunDepacketizer.{IsSameBesideRun, RunStaysWithin};
 
 use crate::received::Received;
 use crate::sequenced::SequencedDepacketizer;
 use h26x_core::{CodecExtra, PacketError};
+use h26x_depacketizer::RunDepacketizer;
 use h26x_model::laws;
-use h26x_payload::RunDepacketizer;
 use std::alloc::Global;
 
 /// Gives every packet with its sequence number to a receiver, in the order in which they come, and

@@ -4,16 +4,16 @@ ghost use Rattle.std.specs.Prelude.{◌≡◌, ◌+◌, ◌-◌, ◌^◌, ◌<�
 ghost use Rattle.h26x_core.specs.Front.{IsFrontOf};
 ghost use Rattle.h26x_model.specs.Receive.DepacketizerState.{depacketization, after_packets, IsPacketOutcome};
 ghost use Rattle.h26x_model.specs.Receive.RunLimit.{run_len, run_within, state_with_run};
-ghost use Rattle.h26x_payload.specs.OpenText.{IsSameText};
-ghost use Rattle.h26x_payload.specs.UnitSink.{bytes_brought, grown_to, TellsRoom};
+ghost use Rattle.h26x_depacketizer.specs.OpenText.{IsSameText};
+ghost use Rattle.h26x_depacketizer.specs.UnitSink.{bytes_brought, grown_to, TellsRoom};
 ghost use Rattle.h26x_core.specs.Sequence.{missing_count, is_expected};
 ghost use Rattle.h26x_receiver.specs.Sequenced.{after_answer, is_taken, skip_answer, expected_after_skip, is_run_kept, receiver_at, receiver_in_text, met_at_sink, RunGrowsByPacket, IsAnswerOf, IsAnswerInText, IsSkipped, IfTaken};
-ghost use Rattle.h26x_payload.specs.RunDepacketizer.{IsSameBesideRun, RunStaysWithin, runless, anew_at_sink};
+ghost use Rattle.h26x_depacketizer.specs.RunDepacketizer.{IsSameBesideRun, RunStaysWithin, runless, anew_at_sink};
 
 use crate::received::Received;
 use h26x_core::{CodecExtra, PacketError};
+use h26x_depacketizer::{OpenText, RunDepacketizer, RunRule, UnitSink, take_run};
 use h26x_model::laws;
-use h26x_payload::{OpenText, RunDepacketizer, RunRule, UnitSink, take_run};
 use std::alloc::Global;
 
 /// How far ahead of the expected number a number is taken as behind it: half of the circle (RFC

@@ -2,7 +2,7 @@
 
 ghost use Rattle.std.specs.Prelude.{◌≡◌, ◌≢◌, [], ◌++◌, true, Some, Ok, Err, IfOk, OnOk, OnErr, IsOk};
 ghost use Rattle.h26x_core.specs.Front.{IsFrontOf};
-ghost use Rattle.h26x_payload.specs.Sending.{contents};
+ghost use Rattle.h26x_packetizer.specs.Sending.{contents};
 ghost use Rattle.h26x_rows.specs.Plain.{plain_packets};
 
 use h26x_core::{CodecExtra, Depacketizer, PacketError, Packetizer};

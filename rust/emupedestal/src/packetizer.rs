@@ -1,7 +1,7 @@
 //! The packetizers.
 
 use crate::proved::h26x_core::Packetizer as _;
-use crate::proved::h26x_payload::{PacketsSize, PayloadPacketizer, Placement};
+use crate::proved::h26x_packetizer::{PacketsSize, PayloadPacketizer, Placement};
 use crate::proved::h264_payload::H264;
 use crate::proved::h265_payload::{H265, set_lowest_header};
 use crate::proved::h266_payload::H266;

@@ -1,7 +1,7 @@
 //! Packets with their sequence numbers.
 
 use crate::proved::h26x_codec::AnyDepacketizer;
-use crate::proved::h26x_payload::RunDepacketizer;
+use crate::proved::h26x_depacketizer::RunDepacketizer;
 use crate::proved::h26x_receiver::SequencedDepacketizer as Sequenced;
 use crate::{Codec, CodecExtra, H265Payload, PacketError, Received};
 use alloc::vec::Vec;

@@ -2,7 +2,7 @@
 //! request for memory. Such a call answers an error where memory lacks, and changes nothing then; behind its
 //! `try_reserve` std's own call takes no memory. And when two open texts are equal.
 
-use crate::proved::h26x_payload::OpenText;
+use crate::proved::h26x_depacketizer::OpenText;
 use alloc::collections::{TryReserveError, VecDeque};
 use alloc::vec::Vec;
 use core::fmt;

@@ -11,7 +11,9 @@ mod shared {
     pub mod h26x_codec;
     pub mod h26x_core;
     pub mod h26x_cut;
+    pub mod h26x_depacketizer;
     pub mod h26x_frames;
+    pub mod h26x_packetizer;
     pub mod h26x_payload;
     pub mod h26x_profile;
     pub mod h26x_receiver;

@@ -2,7 +2,7 @@
 
 use h26x_codec::CodecPacketizer;
 use h26x_core::PacketError;
-use h26x_payload::PacketBuffer;
+use h26x_packetizer::PacketBuffer;
 use std::alloc::{AllocError, Global};
 
 /// How bytes are sent.

@@ -3,7 +3,7 @@
 use super::{bytes, payload};
 use crate::proved::h26x_codec::{AnyDepacketizer, AnyPayloadDepacketizer};
 use crate::proved::h26x_core::Depacketizer;
-use crate::proved::h26x_payload::RunDepacketizer;
+use crate::proved::h26x_depacketizer::RunDepacketizer;
 use crate::proved::h26x_receiver::SequencedDepacketizer;
 use crate::{Codec, CodecExtra, H264CodecExtra, H265CodecExtra, H266CodecExtra};
 

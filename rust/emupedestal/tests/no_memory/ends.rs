@@ -2,9 +2,9 @@
 
 use crate::PacketError;
 use crate::proved::h26x_core::{CodecExtra, Depacketizer, Packetizer};
-use crate::proved::h26x_payload::{
-    DonlFormat, PacketReader, PayloadDepacketizer, PayloadFormat, PayloadPacketizer,
-};
+use crate::proved::h26x_depacketizer::{PacketReader, PayloadDepacketizer};
+use crate::proved::h26x_packetizer::PayloadPacketizer;
+use crate::proved::h26x_payload::{DonlFormat, PayloadFormat};
 use crate::proved::h265_payload::H265Depacketizer;
 use crate::refusing::{insist, insist_on, some_refused, without_memory};
 use std::fmt::Debug;

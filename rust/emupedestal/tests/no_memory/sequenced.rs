@@ -4,7 +4,7 @@ use crate::PacketError;
 use crate::ends::{fragment, longer_fragment};
 use crate::proved::h26x_codec::{AnyDepacketizer, Codec};
 use crate::proved::h26x_core::{CodecExtra, H264CodecExtra, H265CodecExtra, H266CodecExtra};
-use crate::proved::h26x_payload::RunDepacketizer;
+use crate::proved::h26x_depacketizer::RunDepacketizer;
 use crate::proved::h26x_receiver::{Received, SequencedDepacketizer, receive_all};
 use crate::proved::h264_payload::H264Depacketizer;
 use crate::proved::h265_payload::H265Depacketizer;

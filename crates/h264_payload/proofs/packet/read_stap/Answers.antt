@@ -3,9 +3,9 @@ use Rattle.std.proofs.lemmas.List.{length-drop, take_all}
 use Rattle.h26x_core.specs.H264Unit.{type_of, type_of_first}
 use Rattle.h26x_core.specs.Pieces.{pieces_of}
 use Rattle.h26x_model.specs.Payload.Reading.{without_don}
-use Rattle.h26x_payload.specs.DepacketizerView.{taken_as}
-use Rattle.h26x_payload.proofs.AggregateLemmas.{units_only}
-use Rattle.h26x_payload.proofs.ReceivingLemmas.{units_taken}
+use Rattle.h26x_depacketizer.specs.DepacketizerView.{taken_as}
+use Rattle.h26x_depacketizer.proofs.AggregateLemmas.{units_only}
+use Rattle.h26x_depacketizer.proofs.ReceivingLemmas.{units_taken}
 use Rattle.h264_payload.specs.H264.{read, aggregate_of, stap_units}
 use Rattle.h264_payload.proofs.packet.read_stap.Goals as goal
 

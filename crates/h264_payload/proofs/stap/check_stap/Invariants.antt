@@ -2,7 +2,7 @@ use Rattle.std.proofs.Common.{◌≡◌, ◌+◌, ◌-◌, ◌≤◌, ◌^◌, m
 use Rattle.std.specs.List.{list_any}
 use Rattle.h26x_model.specs.Receive.Outcome.{is_too_long}
 use Rattle.h26x_core.specs.Pieces.{pieces_of}
-use Rattle.h26x_payload.specs.Run.{written_len}
+use Rattle.h26x_depacketizer.specs.Run.{written_len}
 use Rattle.h264_payload.specs.H264.{stap_units}
 use Rattle.h264_payload.proofs.stap.check_stap.Given as goal
 

@@ -1,8 +1,8 @@
 use Rattle.std.proofs.Common.{rules, ◌-◌, ◌≤◌, ◌∙◌, ap, arith, true, take, drop, length}
 use Rattle.std.proofs.lemmas.List.{length-drop, take_all}
 use Rattle.std.proofs.lemmas.Bool.Decides.{nat_tests}
-use Rattle.h26x_payload.specs.DepacketizerView.{taken_as}
-use Rattle.h26x_payload.proofs.ReceivingLemmas.{units_taken}
+use Rattle.h26x_depacketizer.specs.DepacketizerView.{taken_as}
+use Rattle.h26x_depacketizer.proofs.ReceivingLemmas.{units_taken}
 use Rattle.h265_payload.specs.Shown.{others_of, donl_of}
 use Rattle.h265_payload.proofs.AggregateLemmas.{numbered_accepted, numbered_shown, numbered_short, units_without}
 use Rattle.h265_payload.proofs.packet.read_numbered_aggregate.Goals as goal

@@ -1,7 +1,7 @@
 use Rattle.std.proofs.Common.{◌-◌, ◌∙◌, ap, arith, false, None, take, drop, length}
 use Rattle.std.proofs.lemmas.List.{length-drop, take_all}
-use Rattle.h26x_payload.specs.DepacketizerView.{taken_as}
-use Rattle.h26x_payload.proofs.ReceivingLemmas.{units_taken}
+use Rattle.h26x_depacketizer.specs.DepacketizerView.{taken_as}
+use Rattle.h26x_depacketizer.proofs.ReceivingLemmas.{units_taken}
 use Rattle.h265_payload.specs.Shown.{others_of}
 use Rattle.h265_payload.proofs.AggregateLemmas.{plain_accepted, plain_shown, units_without}
 use Rattle.h265_payload.proofs.packet.read_plain_aggregate.Goals as goal

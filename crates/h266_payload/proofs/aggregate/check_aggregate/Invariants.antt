@@ -1,7 +1,7 @@
 use Rattle.std.proofs.Common.{◌≡◌, ◌+◌, ◌-◌, ◌≤◌, ◌^◌, min, length}
 use Rattle.std.specs.List.{list_any}
 use Rattle.h26x_model.specs.Receive.Outcome.{is_too_long}
-use Rattle.h26x_payload.specs.Run.{written_len}
+use Rattle.h26x_depacketizer.specs.Run.{written_len}
 use Rattle.h266_payload.specs.Packet.{aggregate_units, aggregate_outcome}
 use Rattle.h266_payload.proofs.JudgedLemmas.{fault_of}
 use Rattle.h266_payload.proofs.aggregate.check_aggregate.Given as goal

@@ -1,6 +1,6 @@
 use Rattle.std.proofs.Common.{◌∙◌, ap, None, rules}
-use Rattle.h26x_payload.specs.DepacketizerView.{taken_as}
-use Rattle.h26x_payload.proofs.ReceivingLemmas.{taken_refused}
+use Rattle.h26x_depacketizer.specs.DepacketizerView.{taken_as}
+use Rattle.h26x_depacketizer.proofs.ReceivingLemmas.{taken_refused}
 use Rattle.h266_payload.specs.H266.{read}
 use Rattle.h266_payload.specs.Packet.{aggregate_units, aggregate_outcome}
 use Rattle.h266_payload.proofs.JudgedLemmas.{read_by_units, accepted_units}

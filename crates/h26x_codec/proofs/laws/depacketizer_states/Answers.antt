@@ -2,7 +2,7 @@ use Rattle.std.proofs.Common.{refl}
 use Rattle.h26x_model.specs.Payload.Facts.{IsPayloadFormat}
 use Rattle.h26x_model.specs.Receive.DepacketizerState.{DepacketizerState}
 use Rattle.h265_payload.specs.DepacketizerView as h265_end
-use Rattle.h26x_payload.specs.DepacketizerView.{depacketizer_state}
+use Rattle.h26x_depacketizer.specs.DepacketizerView.{depacketizer_state}
 use Rattle.h266_payload.specs.Setting as h266_setting
 use Rattle.h26x_codec.specs.Codec.{codec_depacketizer_state}
 use Rattle.h26x_codec.proofs.StateLemmas.{of_state}

@@ -3,7 +3,7 @@ use Rattle.h26x_model.specs.Payload.Facts.{IsPayloadFormat}
 use Rattle.h26x_model.specs.Send.PacketizerState.{PacketizerState}
 use Rattle.h265_payload.specs.Setting as h265_setting
 use Rattle.h266_payload.specs.Setting as h266_setting
-use Rattle.h26x_payload.specs.PacketizerView.{packetizer_state}
+use Rattle.h26x_packetizer.specs.PacketizerView.{packetizer_state}
 use Rattle.h26x_codec.specs.Codec.{codec_packetizer_state}
 use Rattle.h26x_codec.proofs.StateLemmas.{of_state}
 use Rattle.h26x_codec.proofs.laws.packetizer_states.Goals as goal

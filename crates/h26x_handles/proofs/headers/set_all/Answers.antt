@@ -1,5 +1,5 @@
 use Rattle.std.proofs.Common.{◌<◌, ◌∙◌, ap, length, arith}
-use Rattle.h26x_payload.specs.Buffer.{PacketBufferView}
+use Rattle.h26x_packetizer.specs.Buffer.{PacketBufferView}
 use Rattle.h265_payload.specs.LowestHeader.{with_lowest_header}
 use Rattle.h26x_handles.proofs.HeaderLemmas.{view_next, view_count, view_all}
 use Rattle.h26x_handles.proofs.headers.set_all.Goals as goal

@@ -1,6 +1,6 @@
 use Rattle.std.proofs.Common.{◌≡◌, ◌-◌, ◌≤◌, length, take}
-use Rattle.h26x_payload.specs.Buffer.{packets_from, last_end}
-use Rattle.h26x_payload.specs.Placement.{packets_over}
+use Rattle.h26x_packetizer.specs.Buffer.{packets_from, last_end}
+use Rattle.h26x_packetizer.specs.Placement.{packets_over}
 use Rattle.h265_payload.specs.LowestHeader.{with_lowest_header}
 use Rattle.h26x_handles.proofs.HeaderLemmas.{anew}
 use Rattle.h26x_handles.proofs.headers.set_in_memory.Given as goal

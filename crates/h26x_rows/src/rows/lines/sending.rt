@@ -6,7 +6,7 @@ use super::text::{bytes_of, number, push_is_so, push_number, push_packets, push_
 use crate::rows::buffers::{How, append, copy_behind, keep, lie_well};
 use h26x_codec::{Codec, CodecPacketizer};
 use h26x_core::{PacketError, Packetizer};
-use h26x_payload::PacketBuffer;
+use h26x_packetizer::PacketBuffer;
 use std::alloc::Global;
 use std::mem;
 

@@ -4,7 +4,7 @@ use crate::proved::h26x_access_units::{
     AccessUnitConfig, AccessUnitReceiver, Pushed, ReceivedUnit, Receives,
 };
 use crate::proved::h26x_codec::{AnyDepacketizer, AnyPayloadDepacketizer, Codec};
-use crate::proved::h26x_payload::RunDepacketizer;
+use crate::proved::h26x_depacketizer::RunDepacketizer;
 use crate::proved::h26x_reorder::RtpPacket;
 use crate::proved::h264_payload::H264Depacketizer;
 

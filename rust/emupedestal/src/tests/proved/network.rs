@@ -3,7 +3,7 @@
 
 use crate::proved::h26x_core::Packetizer;
 use crate::proved::h26x_frames::{AccessUnit, FrameReceiver, receive_frames};
-use crate::proved::h26x_payload::RunDepacketizer;
+use crate::proved::h26x_depacketizer::RunDepacketizer;
 use crate::proved::h26x_receiver::SequencedDepacketizer;
 use crate::proved::h26x_reorder::RtpPacket;
 use crate::proved::h264_payload::{H264Depacketizer, H264Packetizer};

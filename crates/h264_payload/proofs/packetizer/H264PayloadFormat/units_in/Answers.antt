@@ -1,5 +1,5 @@
 use Rattle.h26x_cut.specs.declared.ZeroRule.TheVariants.{All}
-use Rattle.h26x_payload.proofs.SendLemmas.{units_are}
+use Rattle.h26x_packetizer.proofs.SendLemmas.{units_are}
 use Rattle.h264_payload.proofs.packetizer.H264PayloadFormat.units_in.Goals as goal
 
 pub returns : goal.returns

@@ -1,5 +1,5 @@
 use Rattle.h26x_cut.specs.declared.ZeroRule.TheVariants.{All}
-use Rattle.h26x_payload.proofs.SendLemmas.{units_are}
+use Rattle.h26x_packetizer.proofs.SendLemmas.{units_are}
 use Rattle.h265_payload.proofs.packetizer.H265PayloadFormat.units_in.Goals as goal
 
 pub returns : goal.returns

@@ -1,5 +1,5 @@
 use Rattle.h26x_cut.specs.declared.ZeroRule.TheVariants.{AtMostThree}
-use Rattle.h26x_payload.proofs.SendLemmas.{units_are}
+use Rattle.h26x_packetizer.proofs.SendLemmas.{units_are}
 use Rattle.h266_payload.proofs.packetizer.H266PayloadFormat.units_in.Goals as goal
 
 pub returns : goal.returns

@@ -1,4 +1,4 @@
-use Rattle.h26x_payload.specs.PacketizerView.{packetizer_state}
+use Rattle.h26x_packetizer.specs.PacketizerView.{packetizer_state}
 use Rattle.h265_payload.specs.Setting as h265_setting
 use Rattle.h266_payload.specs.Setting as h266_setting
 use Rattle.h26x_codec.proofs.PlacementLemmas.{placed_by}

@@ -4,7 +4,7 @@ use Rattle.h26x_core.specs.ByteStream.{byte_stream}
 use Rattle.h26x_model.specs.Payload.Format.{Format}
 use Rattle.h26x_model.specs.Receive.Outcome.{IsReadingOutcome}
 use Rattle.h26x_model.specs.Receive.Received.{reading_units}
-use Rattle.h26x_payload.specs.UnitSink.{IsRoomTold}
+use Rattle.h26x_depacketizer.specs.UnitSink.{IsRoomTold}
 use Rattle.h26x_codec.specs.Codec.{codec_format}
 use Rattle.h26x_codec.specs.AnyPayloadDepacketizer.{AnyPayloadView}
 use Rattle.h26x_codec.proofs.any_payload_depacketizer.AnyPayloadDepacketizer.take_as.Goals as goal

@@ -2,7 +2,7 @@ use Rattle.std.proofs.Common.{◌≡◌, refl, [], ◌∷◌, Some}
 use Rattle.std.specs.Prelude.{OnOk}
 use Rattle.h26x_model.specs.Receive.DepacketizerState.{Depacketization, after_packets, IsPacketOutcome}
 use Rattle.h265_payload.specs.DepacketizerView as h265_end
-use Rattle.h26x_payload.specs.DepacketizerView.{view_depacketization}
+use Rattle.h26x_depacketizer.specs.DepacketizerView.{view_depacketization}
 use Rattle.h266_payload.specs.Setting as h266_setting
 use Rattle.h26x_codec.specs.Codec.{codec_depacketization}
 use Rattle.h26x_codec.proofs.StateLemmas.{of_state, then_mapped}

@@ -4,8 +4,8 @@ use Rattle.h26x_model.specs.Send.Calls.{call_entries}
 use Rattle.h26x_model.specs.Send.PacketizerState.{PacketizerState, state_packets, next_call}
 use Rattle.h265_payload.specs.Setting as h265_setting
 use Rattle.h266_payload.specs.Setting as h266_setting
-use Rattle.h26x_payload.specs.Buffer.{with_packets}
-use Rattle.h26x_payload.specs.PacketizerView.{packetizer_state}
+use Rattle.h26x_packetizer.specs.Buffer.{with_packets}
+use Rattle.h26x_packetizer.specs.PacketizerView.{packetizer_state}
 use Rattle.h26x_codec.specs.Codec.{codec_packetizer_state}
 use Rattle.h26x_codec.proofs.StateLemmas.{of_state}
 use Rattle.h26x_codec.proofs.packetizer.CodecPacketizer.packetize_into.Goals as goal

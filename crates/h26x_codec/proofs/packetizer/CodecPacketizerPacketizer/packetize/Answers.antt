@@ -5,8 +5,8 @@ use Rattle.h26x_model.specs.Send.PacketizerState.{PacketizerState, state_packets
 use Rattle.h26x_model.specs.Send.Rival.{TakesFewestFragments}
 use Rattle.h265_payload.specs.Setting as h265_setting
 use Rattle.h266_payload.specs.Setting as h266_setting
-use Rattle.h26x_payload.specs.Sending.{contents}
-use Rattle.h26x_payload.specs.PacketizerView.{packetizer_state}
+use Rattle.h26x_packetizer.specs.Sending.{contents}
+use Rattle.h26x_packetizer.specs.PacketizerView.{packetizer_state}
 use Rattle.h26x_codec.specs.declared.codec.Codec.TheVariants as codec
 use Rattle.h26x_codec.specs.Codec.{codec_packetizer_state}
 use Rattle.h26x_codec.proofs.StateLemmas.{of_state, of_states, then_mapped}

@@ -1,6 +1,6 @@
 use Rattle.std.proofs.Common.{subst}
 use Rattle.h26x_model.specs.Send.PacketizerState.{next_packets}
-use Rattle.h26x_payload.specs.Placement.{IsPlacement}
+use Rattle.h26x_packetizer.specs.Placement.{IsPlacement}
 use Rattle.h26x_codec.specs.AnyPacketizer.{any_packetizer_state}
 use Rattle.h26x_handles.specs.Endpoint.{SendingEndpoint}
 use Rattle.h26x_handles.specs.Headers.{under_headers}

@@ -1,0 +1,3 @@
+pub mod AggregateLemmas
+pub mod ReceivingLemmas
+pub mod OpenTextLemmas

@@ -1,0 +1,6 @@
+pub mod AccessUnit
+pub mod DepacketizerView
+pub mod OpenText
+pub mod Run
+pub mod RunDepacketizer
+pub mod UnitSink

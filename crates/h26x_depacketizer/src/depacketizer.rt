@@ -1,0 +1,301 @@
+//! NAL units from packets, for every codec.
+
+ghost use Rattle.std.specs.Prelude.{◌≡◌, ◌≤◌, true, false, [], ◌∷◌, Some, None, Err, IfOk, OnOk, OnErr, IsOk};
+ghost use Rattle.h26x_core.specs.Front.{IsFrontOf};
+ghost use Rattle.h26x_core.specs.Hint.{size_hint};
+ghost use Rattle.h26x_model.specs.Payload.Reading.{is_start};
+ghost use Rattle.h26x_model.specs.Receive.Outcome.{is_startless};
+ghost use Rattle.h26x_model.specs.Receive.DepacketizerState.{after_packets, IsPacketOutcome};
+ghost use Rattle.h26x_model.specs.Receive.RunLimit.{run_len};
+ghost use Rattle.h26x_model.specs.Where.{Where};
+ghost use Rattle.h26x_depacketizer.specs.DepacketizerView.{brought_to, depacketization_of};
+ghost use Rattle.h26x_depacketizer.specs.Run.{run_memory};
+ghost use Rattle.h26x_depacketizer.specs.OpenText.{IsSameText, view_in_text, view_met_in_text};
+ghost use Rattle.h26x_depacketizer.specs.UnitSink.{grown_to, TellsRoom, WantsRoom};
+
+use crate::extra::out_size_hint;
+use crate::in_text::{RunRule, take_in_text};
+use crate::open_text::OpenText;
+use crate::reader::{PacketReader, starts_run};
+use crate::run::OpenRun;
+use crate::sink::UnitSink;
+use crate::take::take_packet;
+use h26x_core::{CodecExtra, Depacketizer, PacketError};
+use h26x_payload::DonlFormat;
+use std::alloc::Global;
+use std::marker::Model;
+use std::mem;
+
+/// Writes the units of packets (RFC 6184, 5 and 7; RFC 7798, 4.4 and 6; RFC 9328, 4.3 and 6), each
+/// behind a start code, or behind its length where `is_avc` is set.
+///
+/// It keeps the data of the fragments since the latest start, until an end completes their unit.
+#[derive(Debug, Drop)]
+pub struct PayloadDepacketizer<C: PacketReader> {
+    codec: C,
+    /// Whether units are written behind lengths of four bytes, as MP4 files have them (ISO/IEC
+    /// 14496-15: `avc1`, `hvc1`, `vvc1`), and not behind start codes. False at first.
+    pub is_avc: bool,
+    run: OpenRun,
+}
+
+impl<C: PacketReader> Model for PayloadDepacketizer<C> {
+    ghost use Rattle.h26x_depacketizer.specs.DepacketizerView.{DepacketizerView};
+
+    ghost Value = { DepacketizerView C };
+
+    ghost view = { λ a. record { codec = a.codec; is_avc = a.is_avc; run = a.run } };
+}
+
+impl<C: PacketReader> PayloadDepacketizer<C> {
+    /// A depacketizer with the setting of a new one, which writes start codes and has no run open.
+    pub fn new(alloc: Global) -> Self
+        ensures codec { result.codec ≡ C.fresh }
+        ensures avc { result.is_avc ≡ false }
+        ensures run { result.run ≡ None }
+    {
+        PayloadDepacketizer {
+            codec: C::new(),
+            is_avc: false,
+            run: OpenRun::none(alloc),
+        }
+    }
+
+    /// How many bytes the open run holds; none where none is open.
+    pub fn run_len(&self) -> usize
+        ensures { result ≡ run_len self.now.run }
+    {
+        self.run.len()
+    }
+
+    /// How many bytes of memory it keeps for runs: twice the open run at most, or 2^20 bytes. It keeps
+    /// no other memory.
+    pub fn run_memory(&self) -> usize
+        ensures { result ≤ run_memory (run_len self.now.run) }
+    {
+        self.run.memory()
+    }
+
+    /// Exchanges the open run, or none, for another one. It takes no memory.
+    pub fn swap_run(&mut self, run: &mut OpenRun)
+        ensures taken { self.new ≡ record self.old { run = run.old } }
+        ensures given { run.new ≡ self.old.run }
+    {
+        mem::swap(&mut self.run, run);
+    }
+
+    /// Gives up the open run, if there is one, and gives its buffer back. It takes no memory.
+    ///
+    /// A run grows by every fragment until one ends it: a caller that will not hold so much asks
+    /// `run_len` and calls this. Fragments that follow without a start are accepted and complete
+    /// nothing. A run that ends leaves its buffer for later ones, if that has 2^20 bytes at most.
+    pub fn give_up_run(&mut self)
+        ensures { self.new ≡ record self.old { run = None } }
+    {
+        self.run.give_up();
+    }
+
+    /// The same depacketizer again, with its setting and its open run. `OutOfMemory` is its only
+    /// error, and with no run open it takes no memory.
+    pub fn clone(&self) -> Result<Self, PacketError>
+        ensures same { IfOk result (λ it. it ≡ self.now) }
+        ensures memory { OnErr result (result ≡ Err PacketError.OutOfMemory) }
+        ensures free { self.now.run ≡ None → IsOk result }
+    {
+        Ok(PayloadDepacketizer {
+            codec: self.codec,
+            is_avc: self.is_avc,
+            run: self.run.clone()?,
+        })
+    }
+}
+
+impl<C: PacketReader> PayloadDepacketizer<C> {
+    /// Takes a packet as `depacketize` does, and writes the units that it completes to a list of
+    /// bytes or to memory of a caller. Where that has no room for them the error is `OutOfMemory`;
+    /// a refusal leaves everything, the memory too.
+    #[inline]
+    pub fn depacketize_into<W: UnitSink>(
+        &mut self,
+        packet: &[u8],
+        out: &mut W,
+        codec_extra: &mut CodecExtra,
+    ) -> Result<(), PacketError>
+        ensures outcome { IsPacketOutcome (depacketization_of C.format self.old
+            (W.sink out.old).bytes codec_extra.old) packet.now result }
+        ensures taken { OnOk result
+            (depacketization_of C.format self.new (W.sink out.new).bytes codec_extra.new
+            ≡ after_packets (depacketization_of C.format self.old (W.sink out.old).bytes
+            codec_extra.old) (packet.now ∷ [])) }
+        ensures behind { OnOk result (W.sink out.new
+            ≡ grown_to (W.sink out.new).bytes (W.sink out.old)) }
+        ensures accepted { OnOk result (IsFrontOf (W.sink out.old).bytes (W.sink out.new).bytes) }
+        ensures setting { self.new ≡ record self.old { run = self.new.run } }
+        ensures startless { is_startless self.old.run
+            ((C.format self.old.codec).read packet.now) ≡ true → IsOk result }
+        ensures kept { OnErr result (self.new ≡ self.old) }
+        ensures kept_sink { OnErr result (W.sink out.new ≡ W.sink out.old) }
+        ensures kept_extra { OnErr result (codec_extra.new ≡ codec_extra.old) }
+
+        // A sink that tells that room lacks tells it only where it does; and where a packet brings
+        // bytes, want of memory is want of room.
+        ensures told_room { TellsRoom W.room W.lacks out.old out.new result
+            (brought_to C.format self.old packet.now) }
+        ensures lacks { WantsRoom result (brought_to C.format self.old packet.now)
+            (W.lacks out.new) }
+    {
+        let codec = self.codec;
+        let parts = codec.read(packet)?;
+        let is_avc = self.is_avc;
+        let run = &mut self.run;
+        take_packet(codec, is_avc, packet, parts, run, out, codec_extra)
+    }
+
+    /// Takes a packet as `depacketize_into` does, where the run that is open stands in the text that
+    /// is written to, and not here: the data of its fragments are copied once. By the rule the packet
+    /// goes on with that run, or has it given up. A refusal leaves everything.
+    #[inline]
+    pub fn depacketize_in_text(
+        &self,
+        rule: RunRule,
+        packet: &[u8],
+        text: &mut OpenText,
+        codec_extra: &mut CodecExtra,
+    ) -> Result<(), PacketError>
+        ensures outcome { IsPacketOutcome (view_met_in_text rule.is_next C.format self.now
+            text.old codec_extra.old) packet.now result }
+        ensures taken { OnOk result (view_in_text C.format self.now text.new codec_extra.new
+            ≡ after_packets (view_met_in_text rule.is_next C.format self.now text.old
+            codec_extra.old) (packet.now ∷ [])) }
+        ensures aside { rule.may_be_inside ≡ false → OnOk result (text.new.inside ≡ None) }
+        ensures kept { OnErr result (IsSameText text.new text.old) }
+        ensures kept_extra { OnErr result (codec_extra.new ≡ codec_extra.old) }
+    {
+        let parts = self.codec.read(packet)?;
+        take_in_text(
+            self.codec,
+            self.is_avc,
+            rule,
+            packet,
+            parts,
+            text,
+            codec_extra,
+        )
+    }
+
+    /// Whether a packet is a fragment that starts, which gives up a run that is open.
+    pub fn starts_run(&self, packet: &[u8]) -> bool
+        ensures { result ≡ is_start ((C.format self.now.codec).read packet.now) }
+    {
+        starts_run(self.codec, packet)
+    }
+}
+
+impl<C: PacketReader + DonlFormat> PayloadDepacketizer<C> {
+    /// Sets whether packets bear decoding order numbers (RFC 7798, 4.4; RFC 9328, 4.3). An open run
+    /// stays open.
+    pub fn with_donl(&mut self, value: bool)
+        ensures { self.new ≡ record self.old {
+          codec = C.with_donl_of self.old.codec value;
+        } }
+    {
+        self.codec = self.codec.with_donl(value);
+    }
+}
+
+impl<C: PacketReader + Eq> PartialEq for PayloadDepacketizer<C> {
+    ghost use Rattle.std.specs.Prelude.{nat_eq};
+    ghost use Rattle.std.specs.Bool.{beq};
+    ghost use Rattle.std.specs.Ordering.{eq_of_both, on};
+    ghost use Rattle.std.specs.Option.{option_eq};
+    ghost use Rattle.std.specs.Cmp.{partial_equiv_from_equiv};
+    ghost use Rattle.std.specs.Cmp.Rules.{comparing};
+    ghost use Rattle.std.specs.Cmp.Lexicographic.{pointwise};
+    ghost use Rattle.std.proofs.Common.{rules};
+
+    ghost eq = { eq_of_both (on (λ it. it.codec) C.eq) (eq_of_both (on (λ it. it.is_avc) beq)
+        (on (λ it. it.run) (option_eq (pointwise nat_eq)))) };
+
+    ghost laws = { partial_equiv_from_equiv (Prim.search (comparing, rules) depth 9) };
+
+    fn eq(&self, other: &Self) -> bool {
+        self.codec == other.codec && self.is_avc == other.is_avc && self.run == other.run
+    }
+}
+
+impl<C: PacketReader + Eq> Eq for PayloadDepacketizer<C> {
+    ghost use Rattle.std.specs.Cmp.Rules.{comparing};
+    ghost use Rattle.std.proofs.Common.{rules};
+
+    ghost laws = { Prim.search (comparing, rules) depth 9 };
+}
+
+impl<C: PacketReader> Depacketizer for PayloadDepacketizer<C> {
+    ghost use Rattle.h26x_model.specs.Receive.DepacketizerState.{depacketizer_meaning};
+    ghost use Rattle.h26x_depacketizer.specs.DepacketizerView.{depacketizer_state};
+
+    // The setting, and the data of the open run if there is one.
+    ghost meaning = { λ it. depacketizer_meaning (depacketizer_state (C.format it.codec) it) };
+
+    /// The bytes of the packets, four more, and four for each whole 1200 of them; at most
+    /// `usize::MAX`.
+    fn out_size_hint(&self, packets_size: usize) -> Option<usize>
+        ensures { result ≡ Some (size_hint packets_size) }
+    {
+        out_size_hint(packets_size)
+    }
+
+    /// Appends the units that `packet` completes to `out`, each behind `00 00 00 01`, or where
+    /// `is_avc` is set behind its length in four bytes, and without decoding order numbers.
+    /// `codec_extra` then tells whether one of them, or one told of before, is of a keyframe; what
+    /// another codec told is replaced. A packet that completes none leaves it.
+    ///
+    /// A start of fragments gives up a unit that was open, and a fragment without a start before it
+    /// is accepted, completes nothing and takes no memory. That fragments between were lost is not
+    /// noticed here: their unit is written without their data. `h26x_receiver` notices it, by the
+    /// sequence numbers of packets.
+    ///
+    /// The codec says which packets are refused; behind lengths a unit over `u32::MAX` bytes is too
+    /// (`AvcUnitTooLong`); else memory may lack. A refusal leaves `out`, `codec_extra` and the open
+    /// unit.
+    fn depacketize(
+        &mut self,
+        packet: &[u8],
+        out: &mut Vec<u8>,
+        codec_extra: &mut CodecExtra,
+    ) -> Result<(), PacketError>
+        ensures outcome { IsPacketOutcome (depacketization_of C.format self.old out.old.items
+            codec_extra.old) packet.now result }
+        ensures taken { OnOk result
+            (depacketization_of C.format self.new out.new.items codec_extra.new
+            ≡ after_packets (depacketization_of C.format self.old out.old.items codec_extra.old)
+            (packet.now ∷ [])) }
+        ensures setting { self.new ≡ record self.old { run = self.new.run } }
+        ensures kept { OnErr result
+            (depacketization_of C.format self.new out.new.items codec_extra.new
+            ≡ depacketization_of C.format self.old out.old.items codec_extra.old) }
+        ensures startless { is_startless self.old.run
+            ((C.format self.old.codec).read packet.now) ≡ true → IsOk result }
+
+        ensures accepted { OnOk result (IsFrontOf out.old.items out.new.items) }
+        ensures kept_out { OnErr result (out.new.items ≡ out.old.items) }
+        ensures kept_extra { OnErr result (codec_extra.new ≡ codec_extra.old) }
+        ensures kept_self { OnErr result (self.new ≡ self.old) }
+    {
+        self.depacketize_into(packet, out, codec_extra)
+    }
+
+    /// Whether `packet` may be the first of an access unit, as its codec says.
+    fn is_partition_head(&self, packet: &[u8]) -> bool
+        ensures { result ≡ C.begins self.now.codec packet.now }
+    {
+        self.codec.may_begin(packet)
+    }
+
+    /// Whether `packet` is the last of an access unit, as its codec says.
+    fn is_partition_tail(&self, marker: bool, packet: &[u8]) -> bool
+        ensures { result ≡ C.ends self.now.codec marker packet.now }
+    {
+        self.codec.is_last(marker, packet)
+    }
+}

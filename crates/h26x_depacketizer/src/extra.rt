@@ -1,0 +1,22 @@
+//! What a depacketizer tells of the units that it wrote.
+
+ghost use Rattle.std.specs.Prelude.{◌≡◌, ◌||◌, Some};
+ghost use Rattle.h26x_core.specs.Hint.{size_hint};
+
+use h26x_core::CodecExtra;
+use h26x_payload::PayloadFormat;
+
+/// The extra after units, with a key unit among them or not.
+pub fn told<C: PayloadFormat>(codec: C, extra: CodecExtra, key: bool) -> CodecExtra
+    ensures { result ≡ (C.format codec).extra (key || (C.format codec).has_key extra) }
+{
+    codec.extra(key || codec.has_key(extra))
+}
+
+/// How many bytes the units of packets of this many bytes may take: four more, and four for each
+/// whole 1200 of them; at most `usize::MAX`.
+pub fn out_size_hint(packets_size: usize) -> Option<usize>
+    ensures { result ≡ Some (size_hint packets_size) }
+{
+    Some(packets_size.saturating_add(4 * (packets_size / 1200 + 1)))
+}

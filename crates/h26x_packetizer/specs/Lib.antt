@@ -1,0 +1,5 @@
+pub mod Buffer
+pub mod BufferLoan
+pub mod PacketizerView
+pub mod Placement
+pub mod Sending

@@ -1,0 +1,110 @@
+//! A unit in fragments, for every codec.
+
+ghost use Rattle.std.specs.Prelude.{◌≡◌, ◌≤◌, ◌<◌, ◌+◌, ◌++◌, ◌∷◌, [], OnOk, length};
+ghost use Rattle.h26x_model.specs.Payload.Format.{donl_bytes, donl_len, fragment_header_len};
+ghost use Rattle.h26x_model.specs.Send.Packets.{fragments, fragment_count};
+
+use crate::body::Body;
+use crate::sink::PacketSink;
+use h26x_payload::PayloadFormat;
+use std::alloc::AllocError;
+
+/// How many bytes a number takes.
+pub(crate) fn donl_len<C: PayloadFormat>(codec: C) -> usize
+    ensures is { result ≡ donl_len (C.format codec) }
+    ensures short { result ≤ 2 }
+{
+    if codec.has_donl() { 2 } else { 0 }
+}
+
+/// The bytes of a number, of which packets bear either all or none.
+pub(crate) fn donl_bytes<'a>(has_donl: bool, don: u16, bytes: &'a mut [u8; 2]) -> &'a [u8]
+    ensures { result.now ≡ donl_bytes has_donl don }
+{
+    *bytes = don.to_be_bytes();
+    if has_donl { bytes.as_slice() } else { &[] }
+}
+
+/// Appends a fragment of this data, behind these bytes of a number.
+#[inline(always)]
+fn push_fragment<'a, C: PayloadFormat, S: PacketSink<'a>>(
+    codec: C,
+    unit: &[u8],
+    start: bool,
+    end: bool,
+    donl: &[u8],
+    part: &'a [u8],
+    made: &mut S,
+) -> Result<(), AllocError>
+    requires whole { (C.format codec).header_len ≤ length unit.now }
+    requires donl { length donl.now ≤ 2 }
+    ensures pushed { OnOk result (S.packets made.new ≡ S.packets made.old
+        ++ ((C.format codec).fragment_header unit.now start end ++ (donl.now ++ part.now)) ∷ []) }
+    ensures before { S.before made.new ≡ S.before made.old }
+{
+    let header = codec.fragment_header(unit, start, end);
+    made.push(&header[..codec.header_len() + 1], donl, Body::Data(part))
+}
+
+/// How many fragments a unit that doesn't fit goes in.
+fn count_of_fragments<C: PayloadFormat>(codec: C, limit: usize, unit: &[u8]) -> usize
+    requires room { fragment_header_len (C.format codec) + donl_len (C.format codec) < limit }
+    requires long { limit < length unit.now + donl_len (C.format codec) }
+    ensures { result ≡ fragment_count (C.format codec) limit unit.now }
+{
+    let header_len = codec.header_len();
+    (donl_len(codec) + (unit.len() - header_len)).div_ceil(limit - (header_len + 1))
+}
+
+/// Appends the fragments of a unit, the first with these bytes of its number. Each but the last is
+/// of `limit` bytes.
+fn push_parts<'a, C: PayloadFormat, S: PacketSink<'a>>(
+    codec: C,
+    limit: usize,
+    don: u16,
+    unit: &'a [u8],
+    donl: &[u8],
+    made: &mut S,
+) -> Result<(), AllocError>
+    requires donl { donl.now ≡ donl_bytes (C.format codec).has_donl don }
+    requires room { fragment_header_len (C.format codec) + donl_len (C.format codec) < limit }
+    requires long { limit < length unit.now + donl_len (C.format codec) }
+    ensures made { OnOk result (S.packets made.new ≡ S.packets made.old
+        ++ fragments (C.format codec) don limit unit.now) }
+    ensures before { S.before made.new ≡ S.before made.old }
+{
+    let header_len = codec.header_len();
+    let room = limit - (header_len + 1);
+    let mut donl = donl;
+    let mut start = true;
+    let mut rest = &unit[header_len..];
+    while !rest.is_empty() {
+        let taken = rest.len().min(room - donl.len());
+        let end = taken == rest.len();
+        push_fragment(codec, unit, start, end, donl, &rest[..taken], made)?;
+        donl = &[];
+        start = false;
+        rest = &rest[taken..];
+    }
+    Ok(())
+}
+
+/// Appends the fragments of a unit that doesn't fit.
+pub(crate) fn push_fragments<'a, C: PayloadFormat, S: PacketSink<'a>>(
+    codec: C,
+    limit: usize,
+    don: u16,
+    unit: &'a [u8],
+    made: &mut S,
+) -> Result<(), AllocError>
+    requires room { fragment_header_len (C.format codec) + donl_len (C.format codec) < limit }
+    requires long { limit < length unit.now + donl_len (C.format codec) }
+    ensures made { OnOk result (S.packets made.new ≡ S.packets made.old
+        ++ fragments (C.format codec) don limit unit.now) }
+    ensures before { S.before made.new ≡ S.before made.old }
+{
+    made.reserve(count_of_fragments(codec, limit, unit))?;
+    let mut bytes = [0; 2];
+    let donl = donl_bytes(codec.has_donl(), don, &mut bytes);
+    push_parts(codec, limit, don, unit, donl, made)
+}

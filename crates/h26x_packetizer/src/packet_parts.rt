@@ -1,0 +1,91 @@
+//! Packets as the parts that they are made of, before they are copied anywhere.
+
+ghost use Rattle.std.specs.Prelude.{◌≡◌, ◌≤◌, ◌+◌, ◌++◌, min, length};
+ghost use Rattle.h26x_packetizer.specs.Sending.{packet_bytes};
+
+use crate::body::Body;
+use crate::sink::PacketSink;
+use h26x_payload::copy_part;
+use std::alloc::AllocError;
+use std::marker::Model;
+
+/// How many bytes a packet's header and number have at most: those of a fragment with both.
+const LONGEST_HEADER: usize = 5;
+
+/// How many packets a list of parts takes room for at first.
+const FIRST_PARTS: usize = 8;
+
+/// A packet as its parts: its header and number, and what stands behind these, which is borrowed.
+#[derive(Drop)]
+pub struct PacketParts<'a> {
+    header: [u8; 5],
+    header_len: usize,
+    body: Body<'a>,
+}
+
+impl<'a> Model for PacketParts<'a> {
+    ghost use Rattle.std.specs.Prelude.{◌≤◌, ◌++◌, List, ℕ, take};
+    ghost use Rattle.h26x_packetizer.specs.Sending.{body_bytes};
+
+    ghost Value = { List ℕ };
+
+    ghost view = { λ a. take a.header_len a.header ++ body_bytes a.body };
+
+    ghost invariant = { λ a. a.header_len ≤ 5 };
+}
+
+impl<'a> PacketParts<'a> {
+    /// A packet of these parts, one behind the other.
+    #[inline(always)]
+    fn new(header: &[u8], donl: &[u8], body: Body<'a>) -> Self
+        requires { length header.now + length donl.now ≤ 5 }
+        ensures { result ≡ packet_bytes header.now donl.now body.entry }
+    {
+        let mut bytes = [0; LONGEST_HEADER];
+        let behind = copy_part(header, 0, &mut bytes);
+        let header_len = copy_part(donl, behind, &mut bytes);
+        PacketParts {
+            header: bytes,
+            header_len,
+            body,
+        }
+    }
+
+    /// How many bytes it has; the greatest number where they are more.
+    pub(crate) fn len(&self) -> usize
+        ensures { result ≡ min (length self.now) 18446744073709551615 }
+    {
+        self.body.len().saturating_add(self.header_len)
+    }
+
+    /// Copies it to memory of its length.
+    pub(crate) fn copy_to(&self, to: &mut [u8])
+        requires { length to.old ≡ length self.now }
+        ensures { to.new ≡ self.now }
+    {
+        if self.header_len > 0 {
+            to[..self.header_len].copy_from_slice(&self.header[..self.header_len]);
+        }
+        self.body.copy_to(&mut to[self.header_len..]);
+    }
+}
+
+impl<'a> PacketSink<'a> for Vec<PacketParts<'a>> {
+    ghost use Rattle.h26x_packetizer.specs.Buffer.{no_buffer};
+
+    ghost packets = { λ packets. packets.items };
+
+    ghost before = { λ packets. no_buffer };
+
+    #[inline(always)]
+    fn push(&mut self, header: &[u8], donl: &[u8], body: Body<'a>) -> Result<(), AllocError> {
+        Vec::push(self, PacketParts::new(header, donl, body))?;
+        Ok(())
+    }
+
+    #[inline(always)]
+    fn reserve(&mut self, count: usize) -> Result<(), AllocError> {
+        let least = if self.is_empty() { FIRST_PARTS } else { 0 };
+        Vec::reserve(self, count.max(least))
+    }
+}

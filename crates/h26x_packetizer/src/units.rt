@@ -1,0 +1,182 @@
+//! The packets of units and of the sets before them, for every codec.
+
+ghost use Rattle.std.specs.Prelude.{◌≡◌, ◌≤◌, ◌++◌, ◌∷◌, [], false, map, filter, length, IfOk, IsOk, OnOk, OnErr, Err};
+ghost use Rattle.h26x_model.specs.Send.Plan.{Alone, fits_one_packet, unit_items, sets_items};
+ghost use Rattle.h26x_model.specs.Send.Packets.{single_packet};
+ghost use Rattle.h26x_payload.specs.Sets.{lent_set, sets_list};
+ghost use Rattle.h26x_packetizer.specs.Sending.{ArePushed, is_nothing, due_to_items};
+
+use crate::body::Body;
+use crate::fragmentation::{donl_bytes, donl_len, push_fragments};
+use crate::sink::PacketSink;
+use h26x_core::PacketError;
+use h26x_model::laws;
+use h26x_payload::{PayloadFormat, Sets};
+use std::alloc::AllocError;
+
+/// What goes when a unit comes.
+#[derive(Clone, Copy)]
+pub enum Due<'a> {
+    Nothing,
+    Unit,
+    /// Sets, and then the unit.
+    SetsAndUnit(Sets<'a>),
+}
+
+/// Appends a unit with its number behind its header.
+#[inline(always)]
+fn push_single<'a, C: PayloadFormat, S: PacketSink<'a>>(
+    codec: C,
+    don: u16,
+    unit: &'a [u8],
+    made: &mut S,
+) -> Result<(), AllocError>
+    ensures pushed { OnOk result (S.packets made.new ≡ S.packets made.old
+        ++ single_packet (C.format codec) don unit.now ∷ []) }
+    ensures before { S.before made.new ≡ S.before made.old }
+{
+    if !codec.has_donl() {
+        return made.push(&[], &[], Body::Data(unit));
+    }
+    let mut bytes = [0; 2];
+    let donl = donl_bytes(true, don, &mut bytes);
+    let header_len = unit.len().min(codec.header_len());
+    made.push(&unit[..header_len], donl, Body::Data(&unit[header_len..]))
+}
+
+/// Whether a unit and its number go in one packet.
+fn fits_one<C: PayloadFormat>(codec: C, limit: usize, unit: &[u8]) -> bool
+    ensures { result ≡ fits_one_packet (C.format codec) limit unit.now }
+{
+    unit.len() + donl_len(codec) <= limit
+}
+
+/// Appends the packets of one unit: itself where it fits one, else its fragments; none where these
+/// have no room for data.
+pub(crate) fn push_unit<'a, C: PayloadFormat, S: PacketSink<'a>>(
+    codec: C,
+    limit: usize,
+    don: u16,
+    unit: &'a [u8],
+    made: &mut S,
+) -> Result<u16, PacketError>
+    ensures sent { IfOk result (λ next. ArePushed (C.format codec) don
+        (unit_items (C.format codec) limit unit.now) (S.packets made.old)
+        (S.packets made.new) next) }
+    ensures nothing { unit_items (C.format codec) limit unit.now ≡ [] → IsOk result }
+    ensures before { S.before made.new ≡ S.before made.old }
+    ensures memory { OnErr result (result ≡ Err PacketError.OutOfMemory) }
+{
+    if fits_one(codec, limit, unit) {
+        push_single(codec, don, unit, made)?;
+    } else if limit > codec.header_len() + 1 + donl_len(codec) {
+        push_fragments(codec, limit, don, unit, made)?;
+    } else {
+        return Ok(don);
+    }
+    Ok(don.wrapping_add(1))
+}
+
+/// Appends the packet of a set alone, if there is one and it fits.
+fn push_set<'a, C: PayloadFormat, S: PacketSink<'a>>(
+    codec: C,
+    limit: usize,
+    don: u16,
+    set: Option<&'a [u8]>,
+    made: &mut S,
+) -> Result<u16, PacketError>
+    ensures sent { IfOk result (λ next. ArePushed (C.format codec) don (map (Alone limit)
+        (filter (fits_one_packet (C.format codec) limit) (lent_set set.entry)))
+        (S.packets made.old) (S.packets made.new) next) }
+    ensures before { S.before made.new ≡ S.before made.old }
+    ensures memory { OnErr result (result ≡ Err PacketError.OutOfMemory) }
+{
+    match set {
+        Some(set) if fits_one(codec, limit, set) => {
+            push_single(codec, don, set, made)?;
+            Ok(don.wrapping_add(1))
+        }
+        _ => Ok(don),
+    }
+}
+
+/// Appends the packet of sets that go together, before a unit.
+fn push_aggregate<'a, C: PayloadFormat, S: PacketSink<'a>>(
+    codec: C,
+    don: u16,
+    sets: Sets<'a>,
+    unit: &[u8],
+    made: &mut S,
+) -> Result<(), AllocError>
+    requires whole { (C.format codec).header_len ≤ length unit.now }
+    ensures pushed { OnOk result (S.packets made.new ≡ S.packets made.old
+        ++ (C.format codec).sets_packet don (sets_list sets.entry) unit.now ∷ []) }
+    ensures before { S.before made.new ≡ S.before made.old }
+{
+    let header = codec.sets_header(sets, unit);
+    let mut bytes = [0; 2];
+    let donl = donl_bytes(codec.has_donl(), don, &mut bytes);
+    let gap: &'a [u8] = if codec.has_dond() { &[0] } else { &[] };
+    made.push(
+        &header[..codec.header_len()],
+        donl,
+        Body::Sets { sets, gap },
+    )
+}
+
+/// Appends the packets of sets: one if they fit it, else each that fits alone.
+fn push_sets<'a, C: PayloadFormat, S: PacketSink<'a>>(
+    codec: C,
+    limit: usize,
+    don: u16,
+    sets: Sets<'a>,
+    unit: &[u8],
+    made: &mut S,
+) -> Result<u16, PacketError>
+    requires whole { (C.format codec).header_len ≤ length unit.now }
+    ensures sent { IfOk result (λ next. ArePushed (C.format codec) don
+        (sets_items (C.format codec) limit (sets_list sets.entry) unit.now)
+        (S.packets made.old) (S.packets made.new) next) }
+    ensures before { S.before made.new ≡ S.before made.old }
+    ensures memory { OnErr result (result ≡ Err PacketError.OutOfMemory) }
+{
+    if codec.sets_fit(limit, sets) {
+        push_aggregate(codec, don, sets, unit, made)?;
+        return Ok(don.wrapping_add(sets.count()));
+    }
+    let second = push_set(codec, limit, don, sets.vps, made)?;
+    let third = push_set(codec, limit, second, Some(sets.sps), made)?;
+    push_set(codec, limit, third, Some(sets.pps), made)
+}
+
+/// Appends the packets of what goes when a unit comes.
+pub(crate) fn push_due<'a, C: PayloadFormat, S: PacketSink<'a>>(
+    codec: C,
+    limit: usize,
+    don: u16,
+    unit: &'a [u8],
+    due: Due<'a>,
+    made: &mut S,
+) -> Result<u16, PacketError>
+    requires whole { is_nothing due ≡ false → (C.format codec).header_len ≤ length unit.now }
+    ensures sent { IfOk result (λ next. ArePushed (C.format codec) don
+        (due_to_items (C.format codec) limit unit.now due.entry) (S.packets made.old)
+        (S.packets made.new) next) }
+    ensures nothing { due.entry ≡ Due.Nothing → IsOk result }
+    ensures before { S.before made.new ≡ S.before made.old }
+    ensures memory { OnErr result (result ≡ Err PacketError.OutOfMemory) }
+{
+    laws::donl_has_two_bytes();
+    match due {
+        Due::Nothing => Ok(don),
+        Due::Unit => {
+            made.reserve(1)?;
+            push_unit(codec, limit, don, unit, made)
+        }
+        Due::SetsAndUnit(sets) => {
+            made.reserve(1)?;
+            let next = push_sets(codec, limit, don, sets, unit, made)?;
+            push_unit(codec, limit, next, unit, made)
+        }
+    }
+}
