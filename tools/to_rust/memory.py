@@ -31,7 +31,7 @@ SLICES = {"try_to_vec"}
 TEXTS = {"try_push_str"}
 
 ALLOCATOR = re.compile(r"alloc|self \. alloc|(?:\* )?(?:\w+ \. )+allocator \(\)")
-OF_ALLOCATOR = re.compile(r"(?:pub )?alloc : (?:Global|" + ALLOCATOR.pattern + ")")
+OF_ALLOCATOR = re.compile(r"(?:pub (?:\(\w+\) )?)?alloc : (?:Global|" + ALLOCATOR.pattern + ")")
 
 
 def erase_allocators(items):
