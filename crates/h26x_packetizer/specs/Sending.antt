@@ -19,7 +19,7 @@ use Rattle.h26x_payload.specs.Sets.{set_list, lent_set, sets_list, sets_behind_l
 abbrev pub contents : {A : Type 0} → List (Vec ℕ A) → List (List ℕ)
 contents packets = map (λ p. p.items) packets
 
--- and of a set that is kept
+-- a set that is kept, if there is one, as a list
 abbrev pub kept_set : {A : Type 0} → Option (Vec ℕ A) → List (List ℕ)
 kept_set set = set_list (option_map (λ v. v.items) set)
 

@@ -42,13 +42,13 @@ pub struct Brought<'a> {
 /// its kind, and go before the next other unit once there are an SPS and a PPS.
 #[derive(Debug, Drop)]
 pub struct PayloadPacketizer<C: PayloadFormat> {
-    pub(super) codec: C,
+    pub(crate) codec: C,
     vps: Option<Vec<u8>>,
     sps: Option<Vec<u8>>,
     pps: Option<Vec<u8>>,
-    pub(super) next_don: u16,
+    pub(crate) next_don: u16,
     max_packet_size: u16,
-    pub(super) alloc: Global,
+    pub(crate) alloc: Global,
 }
 
 impl<C: PayloadFormat> Model for PayloadPacketizer<C> {
@@ -149,7 +149,7 @@ impl<C: PayloadFormat> PayloadPacketizer<C> {
     }
 
     /// The limit of a call.
-    pub(super) fn limit(&self, mtu: usize) -> usize
+    pub(crate) fn limit(&self, mtu: usize) -> usize
         ensures { result ≡ limit_of C.format self.now mtu }
     {
         if self.codec.has_max_packet_size() {
@@ -293,7 +293,7 @@ impl<C: PayloadFormat> PayloadPacketizer<C> {
     }
 
     /// Carries out a call.
-    pub(super) fn commit(&mut self, update: Update)
+    pub(crate) fn commit(&mut self, update: Update)
         requires { IsPacketizerView C.format (view_with_update self.old update) }
         ensures { self.new ≡ view_with_update self.old update }
     {
