@@ -1,5 +1,5 @@
 -- Packets in memory of the caller.
-use Rattle.std.specs.Prelude.{◌≡◌, ℕ, ◌+◌, ◌<◌, ◌≤◌, ◌⊎◌, Bool, true, false, min, List, [], ◌∷◌, ◌++◌, length, take, drop}
+use Rattle.std.specs.Prelude.{◌≡◌, ℕ, ◌+◌, ◌-◌, ◌^◌, ◌<◌, ◌≤◌, ◌⊎◌, Bool, true, false, min, List, [], ◌∷◌, ◌++◌, length, take, drop}
 use Rattle.h26x_packetizer.specs.Buffer.{ends_of}
 use Rattle.h26x_packetizer.specs.declared.placement.PacketsSize.{PacketsSize}
 use Rattle.h26x_packetizer.specs.declared.placement.Placement.{Placement}
@@ -19,7 +19,7 @@ packets_over headroom (packet ∷ packets) memory = take headroom memory
 -- it tells how much packets take
 pub record IsSizeOf (headroom : ℕ) (laid : List (List ℕ)) (size : PacketsSize) : Type 0 where
   pub packets : size.packets ≡ length laid
-  pub bytes : size.bytes ≡ min (laid_size headroom laid) 18446744073709551615
+  pub bytes : size.bytes ≡ min (laid_size headroom laid) (2 ^ 64 - 1)
 
 -- packets fit, and stand in memory with their ends told; what is behind both stays
 pub record ArePlaced (headroom : ℕ) (packets : List (List ℕ)) (to new_to ends new_ends : List ℕ) : Type
@@ -33,7 +33,7 @@ pub record ArePlaced (headroom : ℕ) (packets : List (List ℕ)) (to new_to end
 pub record HaveNoRoom (headroom : ℕ) (packets : List (List ℕ)) (to new_to ends new_ends : List ℕ) : Type
     0 where
   pub lacks : (length to < laid_size headroom packets) ⊎ ((length ends < length packets)
-      ⊎ (18446744073709551615 ≤ laid_size headroom packets))
+      ⊎ (2 ^ 64 - 1 ≤ laid_size headroom packets))
   pub kept : new_to ≡ to
   pub kept_ends : new_ends ≡ ends
 

@@ -1,6 +1,6 @@
 //! What stands behind a packet's header and its number.
 
-ghost use Rattle.std.specs.Prelude.{◌≡◌, ◌≤◌, ◌+◌, ◌++◌, replicate, min, length, vec_len, vec_capacity};
+ghost use Rattle.std.specs.Prelude.{◌≡◌, ◌≤◌, ◌+◌, ◌-◌, ◌^◌, ◌++◌, replicate, min, length, vec_len, vec_capacity};
 ghost use Rattle.h26x_packetizer.specs.Sending.{body_bytes, packet_bytes, packet_len};
 
 use h26x_payload::Sets;
@@ -18,7 +18,7 @@ impl<'a> Body<'a> {
     /// How many bytes it has; the greatest number where they are more.
     #[inline(always)]
     pub(crate) fn len(self) -> usize
-        ensures { result ≡ min (length (body_bytes self.entry)) 18446744073709551615 }
+        ensures { result ≡ min (length (body_bytes self.entry)) (2 ^ 64 - 1) }
     {
         match self {
             Body::Data(data) => data.len(),

@@ -1,6 +1,6 @@
 //! Packets as the parts that they are made of, before they are copied anywhere.
 
-ghost use Rattle.std.specs.Prelude.{◌≡◌, ◌≤◌, ◌+◌, ◌++◌, min, length};
+ghost use Rattle.std.specs.Prelude.{◌≡◌, ◌≤◌, ◌+◌, ◌-◌, ◌^◌, ◌++◌, min, length};
 ghost use Rattle.h26x_packetizer.specs.Sending.{packet_bytes};
 
 use crate::body::Body;
@@ -53,7 +53,7 @@ impl<'a> PacketParts<'a> {
 
     /// How many bytes it has; the greatest number where they are more.
     pub(crate) fn len(&self) -> usize
-        ensures { result ≡ min (length self.now) 18446744073709551615 }
+        ensures { result ≡ min (length self.now) (2 ^ 64 - 1) }
     {
         self.body.len().saturating_add(self.header_len)
     }

@@ -1,6 +1,6 @@
 //! Packets in memory of the caller.
 
-ghost use Rattle.std.specs.Prelude.{◌≡◌, ◌<◌, ◌≤◌, ◌++◌, drop, length};
+ghost use Rattle.std.specs.Prelude.{◌≡◌, ◌<◌, ◌≤◌, ◌-◌, ◌^◌, ◌++◌, drop, length};
 ghost use Rattle.h26x_packetizer.specs.Buffer.{ends_of};
 ghost use Rattle.h26x_packetizer.specs.Placement.{laid_size, packets_over, IsPlacement, IsSizeOf};
 
@@ -43,7 +43,7 @@ pub(crate) fn size_of(packets: &[PacketParts<'_>], headroom: usize) -> PacketsSi
 fn lay(packets: &[PacketParts<'_>], headroom: usize, to: &mut [u8], ends: &mut [usize])
     requires room { laid_size headroom packets.now ≤ length to.old }
     requires ends { length packets.now ≤ length ends.old }
-    requires small { laid_size headroom packets.now < 18446744073709551615 }
+    requires small { laid_size headroom packets.now < 2 ^ 64 - 1 }
     ensures laid { to.new ≡ packets_over headroom packets.now to.old }
     ensures ends { ends.new ≡ ends_of headroom 0 packets.now ++ drop (length packets.now) ends.old }
 {
