@@ -3,7 +3,7 @@
 from __future__ import annotations
 
 from ctypes import byref, c_size_t, c_uint8
-from typing import Any, NamedTuple, Optional
+from typing import Any, Callable, NamedTuple, Optional
 
 from ._handle import Owner
 from ._library import Handle, Refusal, library
@@ -33,6 +33,9 @@ class Units(NamedTuple):
 class Taking(Owner):
     """What takes packets, and writes what they complete."""
 
+    #: The call that turns decoding order numbers on or off.
+    _SET_NUMBERS: Callable[..., int]
+
     def _set_up(self, handle: Handle, codec: Codec, donl: bool, avc: bool) -> None:
         self._codec, self._donl, self._avc = codec, donl, avc
         self._room = Room()
@@ -43,6 +46,31 @@ class Taking(Owner):
     def codec(self) -> Codec:
         """Its codec."""
         return self._codec
+
+    @property
+    def donl(self) -> bool:
+        """Whether packets bear decoding order numbers. An open unit stays open. Of H.264 setting it
+        raises NotOfThisCodec."""
+        return self._donl
+
+    @donl.setter
+    def donl(self, value: bool) -> None:
+        check(self._with_handle(type(self)._SET_NUMBERS, value))
+        self._donl = value
+
+    @property
+    def avc(self) -> bool:
+        """Whether units are written behind lengths. A unit has the form that is set when the packet
+        comes that completes it."""
+        return self._avc
+
+    @avc.setter
+    def avc(self, value: bool) -> None:
+        self._tell_avc(value)
+        self._avc = value
+
+    def _tell_avc(self, value: bool) -> None:
+        """Has the library know it, where it isn't told with each packet."""
 
     def shown(self) -> ShownPacket:
         """Of H.265 the packet that was taken last, by its parts (RFC 7798, 4.4); before any, a single
@@ -102,6 +130,7 @@ class Depacketizer(Taking):
 
     _CLONE = library.h26x_depacketizer_clone
     _FREE = library.h26x_depacketizer_free
+    _SET_NUMBERS = library.h26x_depacketizer_set_numbers
 
     def __init__(self, codec: int, *, donl: bool = False, avc: bool = False) -> None:
         """A depacketizer with no unit open.
@@ -115,27 +144,6 @@ class Depacketizer(Taking):
         made = Handle()
         check(library.h26x_depacketizer_new(known, donl, byref(made)))
         self._set_up(made, known, donl, avc)
-
-    @property
-    def donl(self) -> bool:
-        """Whether packets bear decoding order numbers. An open unit stays open. Of H.264 setting it
-        raises NotOfThisCodec."""
-        return self._donl
-
-    @donl.setter
-    def donl(self, value: bool) -> None:
-        check(self._with_handle(library.h26x_depacketizer_set_numbers, value))
-        self._donl = value
-
-    @property
-    def avc(self) -> bool:
-        """Whether units are written behind lengths. A unit has the form that is set when the packet
-        comes that completes it."""
-        return self._avc
-
-    @avc.setter
-    def avc(self, value: bool) -> None:
-        self._avc = value
 
     def depacketize(self, packet: Buffer) -> Units:
         """Takes a packet, and answers the units that it completes.

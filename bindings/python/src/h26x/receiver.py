@@ -61,6 +61,7 @@ class Receiver(Taking):
 
     _CLONE = library.h26x_receiver_clone
     _FREE = library.h26x_receiver_free
+    _SET_NUMBERS = library.h26x_receiver_set_numbers
 
     def __init__(
         self, codec: int, run_limit: int, *, donl: bool = False, avc: bool = False
@@ -88,27 +89,8 @@ class Receiver(Taking):
         """How many bytes of data an open unit may hold from a packet to the next."""
         return self._run_limit
 
-    @property
-    def donl(self) -> bool:
-        """Whether packets bear decoding order numbers. An open unit stays open. Of H.264 setting it
-        raises NotOfThisCodec."""
-        return self._donl
-
-    @donl.setter
-    def donl(self, value: bool) -> None:
-        check(self._with_handle(library.h26x_receiver_set_numbers, value))
-        self._donl = value
-
-    @property
-    def avc(self) -> bool:
-        """Whether units are written behind lengths. A unit has the form that is set when the packet
-        comes that completes it."""
-        return self._avc
-
-    @avc.setter
-    def avc(self, value: bool) -> None:
+    def _tell_avc(self, value: bool) -> None:
         check(self._with_handle(library.h26x_receiver_set_avc, value))
-        self._avc = value
 
     @property
     def run_len(self) -> int:
