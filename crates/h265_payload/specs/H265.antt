@@ -101,8 +101,8 @@ abbrev pub has_key : CodecExtra → Bool  -- the H.265 variant with its flag tru
 has_key (extras.H265 extra) = extra.is_keyframe
 has_key extra = false
 
--- what the headers of units and packets say: a fragment's has the unit's bytes with type 49, and
--- packets carry units with F clear and a type of their own
+-- what the headers of units and packets say: a fragment's has the unit's bytes with type 49 (4.4.3),
+-- and packets carry units with F clear and a type of their own
 abbrev pub h265_header : TwoByteHeader
 h265_header = record {
   type_of = λ high low. type_of high;

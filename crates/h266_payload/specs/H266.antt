@@ -102,7 +102,7 @@ has_key (extras.H266 extra) = extra.is_keyframe
 has_key extra = false
 
 -- what the headers of units and packets say: a fragment's has the unit's bytes with type 29 and,
--- behind them, P clear, and packets carry units with F clear and a type of their own
+-- behind them, P clear (4.3.3), and packets carry units with F clear and a type of their own
 abbrev pub h266_header : TwoByteHeader
 h266_header = record {
   type_of = λ high low. type_of low;
