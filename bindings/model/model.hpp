@@ -1,5 +1,5 @@
 // A model of the receiver of access units of h26x.h, written from its definitions alone: docs/DEFINITIONS.md, the pages
-// beside h26x_receiver, h26x_frames and h26x_access_units, and the RFCs named below. Packets wait at places that don't
+// beside h26x_receiver, h26x_assembler and h26x_access_units, and the RFCs named below. Packets wait at places that don't
 // go round, fragments stay in a list, and an access unit is made of all its packets once it has ended. It is slow, and
 // has no limit on what it holds beside those of the settings.
 #ifndef MODEL_HPP

@@ -4,13 +4,13 @@
 //! calls JOB FORMAT ROUNDS
 //! ```
 //!
-//! A job is `packetize`, `into`, `take`, `aggregates`, `sequenced` or `frames`, and a format `h264`, `h265` or `h266`.
-//! Each round does the same: a frame of 8 kB, fifty units of 100 bytes and fifty of 20 are packetized, or their packets
-//! are taken; or ten aggregates of eleven units are.
+//! A job is `packetize`, `into`, `take`, `aggregates`, `sequenced` or `assembled`, and a format `h264`, `h265` or
+//! `h266`. Each round does the same: a frame of 8 kB, fifty units of 100 bytes and fifty of 20 are packetized, or their
+//! packets are taken; or ten aggregates of eleven units are.
 
 use emupedestal::{
-    Codec, CodecDepacketizer, CodecExtra, CodecPacketizer, Depacketizer, FrameReceiver, Packetizer,
-    Packets, ReorderBuffer, RtpPacket, SequencedDepacketizer,
+    AccessUnitAssembler, Codec, CodecDepacketizer, CodecExtra, CodecPacketizer, Depacketizer,
+    Packetizer, Packets, ReorderBuffer, RtpPacket, SequencedDepacketizer,
 };
 use std::env;
 use std::hint::black_box;
@@ -21,7 +21,7 @@ const LIMIT: usize = 1200;
 /// The payloads: how many units each has, and how long they are.
 const PAYLOADS: [(usize, usize); 3] = [(1, 8_000), (50, 100), (50, 20)];
 
-/// How many packets the buffer of `frames` waits for.
+/// How many packets the buffer of `assembled` waits for.
 const WINDOW: u16 = 16;
 
 /// Far over what the open unit of any payload takes.
@@ -150,10 +150,10 @@ impl Inputs {
     }
 
     /// Takes packets of which each two neighbours are exchanged; a payload is a picture.
-    fn receive_frames(
+    fn assemble_all(
         &self,
         buffer: &mut ReorderBuffer,
-        receiver: &mut FrameReceiver,
+        receiver: &mut AccessUnitAssembler,
         number: &mut u16,
     ) {
         let mut units = Vec::new();
@@ -200,7 +200,7 @@ fn run(job: &str, inputs: &Inputs, rounds: u32) -> bool {
     let (mut packets, mut out, mut number) = (Packets::default(), Vec::new(), 0);
     let mut sequenced = SequencedDepacketizer::new(codec, BOUND);
     let mut buffer = ReorderBuffer::new(WINDOW);
-    let mut frames = FrameReceiver::new(codec, BOUND, BOUND);
+    let mut assembled = AccessUnitAssembler::new(codec, BOUND, BOUND);
     for _ in 0..rounds {
         match job {
             "packetize" => inputs.packetize(&mut packetizer),
@@ -208,7 +208,7 @@ fn run(job: &str, inputs: &Inputs, rounds: u32) -> bool {
             "take" => inputs.take(&mut depacketizer, &mut out),
             "aggregates" => inputs.take_aggregates(&mut depacketizer, &mut out),
             "sequenced" => inputs.receive(&mut sequenced, &mut number, &mut out),
-            "frames" => inputs.receive_frames(&mut buffer, &mut frames, &mut number),
+            "assembled" => inputs.assemble_all(&mut buffer, &mut assembled, &mut number),
             _ => return false,
         }
     }

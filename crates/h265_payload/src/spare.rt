@@ -98,8 +98,8 @@ impl Spare {
         self.data.extend_from_slice(data)
     }
 
-    /// Takes the data out.
-    pub fn take_data(&mut self) -> Vec<u8>
+    /// Removes the data.
+    pub fn remove_data(&mut self) -> Vec<u8>
         ensures data { result.items ≡ self.old.data.items }
         ensures others { self.new.others.items ≡ self.old.others.items }
     {
@@ -169,8 +169,8 @@ impl Spare {
         }
     }
 
-    /// Takes the further units out.
-    pub fn take_others(&mut self) -> Vec<H265AggregationUnit>
+    /// Removes the further units.
+    pub fn remove_others(&mut self) -> Vec<H265AggregationUnit>
         ensures others { result.items ≡ self.old.others.items }
         ensures kept { AreFew self.new.others.items }
         ensures room { vec_capacity self.new.others ≤ 256 }

@@ -14,15 +14,15 @@ use Rattle.h26x_reorder.specs.Rtp.{RtpBody}
 use Rattle.h26x_reorder.specs.ReorderBuffer.{BufferState, due_at, put_packet, push_answer, after_push, without_first_of}
 use Rattle.h26x_reorder.specs.declared.pushed.Pushed as buffers
 use Rattle.h26x_reorder.specs.declared.pushed.Pushed.TheVariants as buffered
-use Rattle.h26x_frames.specs.AccessUnit.{AccessUnitValue, UnitDepacketization, unit_len, unit_within, whole_if, taken_by, after_rtp, after_taken_rtp, after_unit_skip, behind_missing, after_pass_over}
+use Rattle.h26x_assembler.specs.AccessUnit.{AccessUnitValue, Assembly, unit_len, unit_within, whole_if, taken_by, after_rtp, after_taken_rtp, after_unit_skip, behind_missing, after_pass_over}
 use Rattle.h26x_access_units.specs.declared.config.AccessUnitConfig.{AccessUnitConfig}
 use Rattle.h26x_access_units.specs.declared.pushed.Pushed.{Pushed}
 use Rattle.h26x_access_units.specs.declared.pushed.Pushed.TheVariants as pushes
 use Rattle.h26x_access_units.specs.Numbers.{bears_nothing}
 use Rattle.h26x_access_units.specs.JitterBuffer.{JitterState, held_bytes, is_full, is_far, jitter_answer, after_jitter, with_held_limit, fresh_jitter}
 use Rattle.h26x_access_units.specs.Pushed.{as_pushed}
-use Rattle.h26x_access_units.specs.Reception.{Reception, reception_answer, after_reception, is_behind_stray, pushed_to, anew_of, frames_after, is_taken_at_once, IsDueTaken, IsPushed, IsDrained, none, more, ended_if_anew, ended_if_over, has_no_unit, without_given, without_given_of, fresh_reception, IsNext}
-use Rattle.h26x_access_units.specs.ReceivedUnit.{ReceivedUnitValue}
+use Rattle.h26x_access_units.specs.Reception.{Reception, reception_answer, after_reception, is_behind_stray, pushed_to, anew_of, assembly_after, is_taken_at_once, IsDueTaken, IsPushed, IsDrained, none, more, ended_if_anew, ended_if_over, has_no_unit, without_given, without_given_of, fresh_reception, IsNext}
+use Rattle.h26x_access_units.specs.ReceivedAccessUnit.{ReceivedAccessUnitValue}
 use Rattle.h26x_access_units.specs.Limits.{stray_len, IsWithinLimits, StaysWithinLimits}
 
 -- a packet adds no more than its bytes
@@ -162,17 +162,17 @@ text_is_within limit (Some unit) = elim (nat_lt limit (length unit.bytes)) as (�
 ] refl
 
 -- a receiver of access units within these limits
-record AreWithin (most limit : ℕ) (s : UnitDepacketization) : Type 0 where
+record AreWithin (most limit : ℕ) (s : Assembly) : Type 0 where
   run : run_len s.state.run ≤ most
   unit : unit_len s.unit ≤ limit
 
-taken_within : (most limit : ℕ) (s : UnitDepacketization) (p : ℕ × RtpBody) → AreWithin most limit (record (after_taken_rtp most s p) { unit = unit_within limit (after_taken_rtp most s p).unit })
+taken_within : (most limit : ℕ) (s : Assembly) (p : ℕ × RtpBody) → AreWithin most limit (record (after_taken_rtp most s p) { unit = unit_within limit (after_taken_rtp most s p).unit })
 taken_within most limit s p = record {
   run = run_is_within most (after_sequenced_packet (taken_by s p.1.timestamp) p.0 p.1.payload).state.run;
   unit = text_is_within limit (after_taken_rtp most s p).unit;
 }
 
-answered_within : (most limit : ℕ) (s : UnitDepacketization) (p : ℕ × RtpBody) (answer : Result Received PacketError) → AreWithin most limit s → AreWithin most limit (after_rtp most limit s p answer)
+answered_within : (most limit : ℕ) (s : Assembly) (p : ℕ × RtpBody) (answer : Result Received PacketError) → AreWithin most limit s → AreWithin most limit (after_rtp most limit s p answer)
 answered_within most limit s p (Ok (received.Late n)) is = is
 answered_within most limit s p (Ok received.InOrder) is = taken_within most limit s p
 answered_within most limit s p (Ok (received.Gap n)) is = taken_within most limit s p
@@ -183,27 +183,27 @@ same_len : (unit : Option AccessUnitValue) → unit_len (option_map (whole_if fa
 same_len None = refl
 same_len (Some unit) = refl
 
-behind_within : (most limit : ℕ) (s : UnitDepacketization) (number : ℕ) → AreWithin most limit s → AreWithin most limit (behind_missing s number)
+behind_within : (most limit : ℕ) (s : Assembly) (number : ℕ) → AreWithin most limit s → AreWithin most limit (behind_missing s number)
 behind_within most limit s number is = record { run = omega arith; unit = let same = same_len s.unit in let at = is.unit in omega (arith, same, at) }
 
-skipped_within : (most limit : ℕ) (s : UnitDepacketization) (number : ℕ) → AreWithin most limit s → AreWithin most limit (after_unit_skip s number)
+skipped_within : (most limit : ℕ) (s : Assembly) (number : ℕ) → AreWithin most limit s → AreWithin most limit (after_unit_skip s number)
 skipped_within most limit s number is = elim (is_run_kept s.expected number) as (λ b. is_run_kept s.expected number ≡ b → AreWithin most limit (after_unit_skip s number)) [
   | true ↦ λ e. rw e (record { run = is.run; unit = is.unit })
   | false ↦ λ e. rw e (behind_within most limit s number is)
 ] refl
 
-passed_over_within : (most limit : ℕ) (s : UnitDepacketization) (number : ℕ) → AreWithin most limit s → AreWithin most limit (after_pass_over s number)
+passed_over_within : (most limit : ℕ) (s : Assembly) (number : ℕ) → AreWithin most limit s → AreWithin most limit (after_pass_over s number)
 passed_over_within most limit s number is = elim (is_late s.expected number) as (λ b. AreWithin most limit (cond b s (behind_missing s number))) [
   | true ↦ is
   | false ↦ behind_within most limit s number is
 ]
 
-frames_within : (most limit : ℕ) (s : UnitDepacketization) (p : ℕ × RtpBody) (answer : Result Received PacketError) → AreWithin most limit s → AreWithin most limit (frames_after most limit s p answer)
-frames_within most limit s p (Ok answer) is = elim (bears_nothing p.1.payload) as (λ b. AreWithin most limit (cond b (after_unit_skip s p.0) (after_rtp most limit s p (Ok answer)))) [
+assembly_within : (most limit : ℕ) (s : Assembly) (p : ℕ × RtpBody) (answer : Result Received PacketError) → AreWithin most limit s → AreWithin most limit (assembly_after most limit s p answer)
+assembly_within most limit s p (Ok answer) is = elim (bears_nothing p.1.payload) as (λ b. AreWithin most limit (cond b (after_unit_skip s p.0) (after_rtp most limit s p (Ok answer)))) [
   | true ↦ skipped_within most limit s p.0 is
   | false ↦ answered_within most limit s p (Ok answer) is
 ]
-frames_within most limit s p (Err error) is = passed_over_within most limit s p.0 is
+assembly_within most limit s p (Err error) is = passed_over_within most limit s p.0 is
 
 -- a packet that goes takes its bytes with it
 goes_bytes : (window : ℕ) (due : Option ℕ) (held : List (ℕ × RtpBody)) → held_bytes (without_first_of window due held).held ≤ held_bytes held
@@ -212,29 +212,29 @@ goes_bytes window due (p ∷ held) = omega arith
 
 due_within : (most now : ℕ) (s t : Reception) → IsDueTaken now s t → IsWithinLimits most s → IsWithinLimits most t
 due_within most now s t it is =
-    let frames = frames_within s.run_limit s.unit_limit s.frames it.packet it.answer (record { run = is.run; unit = is.unit }) in
+    let assembler = assembly_within s.run_limit s.unit_limit s.assembler it.packet it.answer (record { run = is.run; unit = is.unit }) in
     let less = goes_bytes s.waiting.buffer.window s.waiting.buffer.due s.waiting.buffer.held in
     let at = is.waiting in
-    subst (IsWithinLimits most) (sym it.stands) (record { waiting = omega (arith, less, at); stray = is.stray; run = frames.run; unit = frames.unit })
+    subst (IsWithinLimits most) (sym it.stands) (record { waiting = omega (arith, less, at); stray = is.stray; run = assembler.run; unit = assembler.unit })
 
 pub drained_within : (most now : ℕ) (s t : Reception) → IsDrained now s t → IsWithinLimits most s → IsWithinLimits most t
 drained_within most now s t none is = is
 drained_within most now s t (more before empty taken) is = due_within most now _ t taken (drained_within most now s _ before is)
 
 pub anew_within : (most : ℕ) (s : Reception) → IsWithinLimits most s → IsWithinLimits most (ended_if_anew s)
-anew_within most s is = elim (has_no_unit s.frames.ended && s.is_anew) as (λ b. (has_no_unit s.frames.ended && s.is_anew) ≡ b → IsWithinLimits most (ended_if_anew s)) [
+anew_within most s is = elim (has_no_unit s.assembler.ended && s.is_anew) as (λ b. (has_no_unit s.assembler.ended && s.is_anew) ≡ b → IsWithinLimits most (ended_if_anew s)) [
   | true ↦ λ e. rw e (record { waiting = is.waiting; stray = is.stray; run = omega arith; unit = omega arith })
   | false ↦ λ e. rw e is
 ] refl
 
 over_within : (most : ℕ) (s : Reception) → IsWithinLimits most s → IsWithinLimits most (ended_if_over s)
-over_within most s is = elim (has_no_unit s.frames.ended && s.waiting.is_over) as (λ b. (has_no_unit s.frames.ended && s.waiting.is_over) ≡ b → IsWithinLimits most (ended_if_over s)) [
+over_within most s is = elim (has_no_unit s.assembler.ended && s.waiting.is_over) as (λ b. (has_no_unit s.assembler.ended && s.waiting.is_over) ≡ b → IsWithinLimits most (ended_if_over s)) [
   | true ↦ λ e. rw e (record { waiting = omega arith; stray = omega arith; run = omega arith; unit = omega arith })
   | false ↦ λ e. rw e is
 ] refl
 
 given_within : (most : ℕ) (s : Reception) → IsWithinLimits most s → IsWithinLimits most (without_given s)
-given_within most s is = by s.frames.ended
+given_within most s is = by s.assembler.ended
   where
     by : (ended : List AccessUnitValue) → IsWithinLimits most (without_given_of s ended)
     by [] = is
@@ -243,7 +243,7 @@ given_within most s is = by s.frames.ended
 pub fresh_within : (most : ℕ) (config : AccessUnitConfig) (state : DepacketizerState) → IsWithinLimits most (fresh_reception config state)
 fresh_within most config state = record { waiting = omega arith; stray = omega arith; run = omega arith; unit = omega arith }
 
-pub next_within : (most now : ℕ) (s new : Reception) (unit : Option ReceivedUnitValue) → IsNext now s new unit → IsWithinLimits most s → IsWithinLimits most new
+pub next_within : (most now : ℕ) (s new : Reception) (unit : Option ReceivedAccessUnitValue) → IsNext now s new unit → IsWithinLimits most s → IsWithinLimits most new
 next_within most now s new unit it is =
     subst (IsWithinLimits most) (sym it.stands)
     (given_within most (ended_if_over it.drained) (over_within most it.drained (drained_within most now (ended_if_anew s) it.drained it.taken (anew_within most s is))))

@@ -11,7 +11,7 @@ use Rattle.std.specs.Prelude.{Result, Ok, Err, IfOk, MatchBool, not}
 use Rattle.h26x_receiver.specs.declared.received.Received.{Received}
 use Rattle.h26x_receiver.specs.declared.received.Received.TheVariants.{InOrder, Gap, TooLong, Late}
 use Rattle.h26x_receiver.specs.Sequenced.{is_taken}
-use Rattle.h26x_frames.specs.AccessUnit.{AccessUnitValue, UnitDepacketization, is_text_given_up, after_rtp, after_end}
+use Rattle.h26x_assembler.specs.AccessUnit.{AccessUnitValue, Assembly, is_text_given_up, after_rtp, after_finishing}
 use Rattle.h26x_access_units.specs.declared.counts.Counts.{Counts}
 use Rattle.h26x_access_units.specs.declared.numbers.NumbersSoFar.{NumbersSoFar}
 use Rattle.h26x_reorder.specs.declared.pushed.Pushed.TheVariants as buffered
@@ -21,8 +21,8 @@ use Rattle.h26x_access_units.specs.Counts.{counted_due, counted_skip, counted_an
 use Rattle.h26x_access_units.specs.Pushed.{as_pushed}
 use Rattle.h26x_access_units.specs.Numbers.{bears_nothing, numbers_after, after_last}
 use Rattle.h26x_access_units.specs.JitterBuffer.{JitterState, is_far, is_full, jitter_answer, is_pressed, due_packet, with_packet, without_due}
-use Rattle.h26x_access_units.specs.ReceivedUnit.{ReceivedUnitValue}
-use Rattle.h26x_access_units.specs.Reception.{Reception, reception, frames_after, marker_forgotten, after_due, is_behind_stray, reception_answer, after_reception, has_no_unit, is_taken_at_once, is_idle, after_finish, ended_if_anew, ended_if_over, unit_given_of, unit_given, without_given_of, without_given, IsDueTaken, IsPushed, IsDrained, none, more, IsNext}
+use Rattle.h26x_access_units.specs.ReceivedAccessUnit.{ReceivedAccessUnitValue}
+use Rattle.h26x_access_units.specs.Reception.{Reception, reception, assembly_after, marker_forgotten, after_due, is_behind_stray, reception_answer, after_reception, has_no_unit, is_taken_at_once, is_idle, after_finish, ended_if_anew, ended_if_over, unit_given_of, unit_given, without_given_of, without_given, IsDueTaken, IsPushed, IsDrained, none, more, IsNext}
 
 -- where nothing is held nothing is ready
 none_ready : (window : ℕ) (due : Option ℕ) → first_ready {A = RtpBody} window due [] ≡ None
@@ -43,8 +43,8 @@ taken_falls now s t it =
     ∙ goes (is_pressed now s.waiting) s.waiting.buffer.window s.waiting.buffer.due s.waiting.buffer.held it.packet it.due
 
 -- what stands after a packet with a payload
-pub taken_as : (most limit : ℕ) (s new : UnitDepacketization) (p : ℕ × RtpBody) (a : Result Received PacketError) → bears_nothing p.1.payload ≡ false → new ≡ after_rtp most limit s p a →
-    IfOk a (λ received. new ≡ frames_after most limit s p (Ok received))
+pub taken_as : (most limit : ℕ) (s new : Assembly) (p : ℕ × RtpBody) (a : Result Received PacketError) → bears_nothing p.1.payload ≡ false → new ≡ after_rtp most limit s p a →
+    IfOk a (λ received. new ≡ assembly_after most limit s p (Ok received))
 taken_as most limit s new p (Ok received) some is = rw some is
 taken_as most limit s new p (Err error) some is = tt
 
@@ -65,18 +65,18 @@ counted_as expected c p answer x y = by (bears_nothing p.1.payload) answer
     by false (TooLong n) same = ap (counted_answer c (TooLong n)) (same refl refl)
 
 -- what stands after a packet that was due, by its parts
-pub due_stands : (s : Reception) (p : ℕ × RtpBody) (a : Result Received PacketError) (waiting : JitterState) (frames : UnitDepacketization) (numbers : NumbersSoFar) (counts : Counts) (run unit : ℕ) →
-    waiting ≡ without_due s.waiting → frames ≡ marker_forgotten (frames_after s.run_limit s.unit_limit s.frames p a) → numbers ≡ numbers_after s.frames.expected s.numbers p a →
-    counts ≡ counted_due s.frames.expected s.counts p a (is_text_given_up s.run_limit s.unit_limit s.frames p) →
-    run ≡ s.run_limit → unit ≡ s.unit_limit → reception waiting s.stray s.is_anew frames numbers s.is_clean counts run unit ≡ after_due s p a
-due_stands s p a waiting frames numbers counts run unit w f n c r u =
+pub due_stands : (s : Reception) (p : ℕ × RtpBody) (a : Result Received PacketError) (waiting : JitterState) (assembler : Assembly) (numbers : NumbersSoFar) (counts : Counts) (run unit : ℕ) →
+    waiting ≡ without_due s.waiting → assembler ≡ marker_forgotten (assembly_after s.run_limit s.unit_limit s.assembler p a) → numbers ≡ numbers_after s.assembler.expected s.numbers p a →
+    counts ≡ counted_due s.assembler.expected s.counts p a (is_text_given_up s.run_limit s.unit_limit s.assembler p) →
+    run ≡ s.run_limit → unit ≡ s.unit_limit → reception waiting s.stray s.is_anew assembler numbers s.is_clean counts run unit ≡ after_due s p a
+due_stands s p a waiting assembler numbers counts run unit w f n c r u =
     let after = after_due s p a in
-    ap (λ (x : JitterState). reception x s.stray s.is_anew frames numbers s.is_clean counts run unit) w
-    ∙ ap (λ (x : UnitDepacketization). reception after.waiting s.stray s.is_anew x numbers s.is_clean counts run unit) f
-    ∙ ap (λ (x : NumbersSoFar). reception after.waiting s.stray s.is_anew after.frames x s.is_clean counts run unit) n
-    ∙ ap (λ (x : Counts). reception after.waiting s.stray s.is_anew after.frames after.numbers s.is_clean x run unit) c
-    ∙ ap (λ (x : ℕ). reception after.waiting s.stray s.is_anew after.frames after.numbers s.is_clean after.counts x unit) r
-    ∙ ap (λ (x : ℕ). reception after.waiting s.stray s.is_anew after.frames after.numbers s.is_clean after.counts s.run_limit x) u
+    ap (λ (x : JitterState). reception x s.stray s.is_anew assembler numbers s.is_clean counts run unit) w
+    ∙ ap (λ (x : Assembly). reception after.waiting s.stray s.is_anew x numbers s.is_clean counts run unit) f
+    ∙ ap (λ (x : NumbersSoFar). reception after.waiting s.stray s.is_anew after.assembler x s.is_clean counts run unit) n
+    ∙ ap (λ (x : Counts). reception after.waiting s.stray s.is_anew after.assembler after.numbers s.is_clean x run unit) c
+    ∙ ap (λ (x : ℕ). reception after.waiting s.stray s.is_anew after.assembler after.numbers s.is_clean after.counts x unit) r
+    ∙ ap (λ (x : ℕ). reception after.waiting s.stray s.is_anew after.assembler after.numbers s.is_clean after.counts s.run_limit x) u
 
 -- a packet that needn't wait is due where it waits, whatever the tick
 pub straight_is_due : (now at : ℕ) (j : JitterState) (p : ℕ × RtpBody) → p.0 < 65536 → goes_straight j.buffer p.0 ≡ true → due_packet now (with_packet at j p) ≡ Some p
@@ -94,8 +94,8 @@ none_of_units [] is = refl
 none_of_units (unit ∷ units) is = absurd (let bad = is in cc)
 
 -- what is known of a packet that is taken at once
-pub at_once : (s : Reception) (number : ℕ) → is_taken_at_once s number ≡ true → (goes_straight s.waiting.buffer number ≡ true) × (has_no_unit s.frames.ended ≡ true) × (s.is_anew ≡ false)
-at_once s number = by (goes_straight s.waiting.buffer number) (has_no_unit s.frames.ended) s.is_anew
+pub at_once : (s : Reception) (number : ℕ) → is_taken_at_once s number ≡ true → (goes_straight s.waiting.buffer number ≡ true) × (has_no_unit s.assembler.ended ≡ true) × (s.is_anew ≡ false)
+at_once s number = by (goes_straight s.waiting.buffer number) (has_no_unit s.assembler.ended) s.is_anew
   where
     by : (a b c : Bool) → (a && (b && not c)) ≡ true → (a ≡ true) × (b ≡ true) × (c ≡ false)
     by true true false e = (refl, refl, refl)
@@ -143,28 +143,28 @@ taken_later now later s t p small is it =
     record { packet = it.packet; answer = it.answer; due = straight_is_due later now s.waiting p small is ∙ same; answered = it.answered; room = it.room; stands = it.stands }
 
 -- one more that was taken first
-one_before : (now : ℕ) (s t u : Reception) → s.frames.ended ≡ [] → IsDueTaken now s t → IsDrained now t u → IsDrained now s u
+one_before : (now : ℕ) (s t u : Reception) → s.assembler.ended ≡ [] → IsDueTaken now s t → IsDrained now t u → IsDrained now s u
 one_before now s t u empty taken none = more none empty taken
 one_before now s t u empty taken (more before ended last) = more (one_before now s t _ empty taken before) ended last
 
 -- where the stream hasn't begun anew none is ended for that
 pub not_anew : (s : Reception) → s.is_anew ≡ false → ended_if_anew s ≡ s
-not_anew s is = by (has_no_unit s.frames.ended) s.is_anew is
+not_anew s is = by (has_no_unit s.assembler.ended) s.is_anew is
   where
-    by : (b c : Bool) → c ≡ false → cond (b && c) (record s { is_anew = false; frames = after_end s.frames; numbers = after_last s.numbers }) s ≡ s
+    by : (b c : Bool) → c ≡ false → cond (b && c) (record s { is_anew = false; assembler = after_finishing s.assembler; numbers = after_last s.numbers }) s ≡ s
     by true false e = refl
     by false c e = refl
     by true true e = absurd (let bad = e in cc)
 
 -- what is given out next is the same whether a packet was taken at once or waited
-pub as_if_it_waited : (now later : ℕ) (s t new : Reception) (p : ℕ × RtpBody) (unit : Option ReceivedUnitValue) → p.0 < 65536 → IsPushed now s p pushes.Held t → IsNext later t new unit →
+pub as_if_it_waited : (now later : ℕ) (s t new : Reception) (p : ℕ × RtpBody) (unit : Option ReceivedAccessUnitValue) → p.0 < 65536 → IsPushed now s p pushes.Held t → IsNext later t new unit →
     IsNext later (after_reception now s p pushes.Held) new unit
 as_if_it_waited now later s t new p unit small pushed next =
     elim (is_taken_at_once s p.0) as (λ b. is_taken_at_once s p.0 ≡ b → MatchBool b (IsDueTaken now (after_reception now s p pushes.Held) t) (t ≡ after_reception now s p pushes.Held) → IsNext later (after_reception now s p pushes.Held) new unit) [
       | true ↦ λ is taken.
           let at = at_once s p.0 is in
           let waits = after_reception now s p pushes.Held in
-          let empty : s.frames.ended ≡ [] = none_of_units s.frames.ended at.1 in
+          let empty : s.assembler.ended ≡ [] = none_of_units s.assembler.ended at.1 in
           let anew : t.is_anew ≡ false = ap (λ (r : Reception). r.is_anew) taken.stands ∙ at.2 in
           let rest : IsDrained later t next.drained = subst (λ (r : Reception). IsDrained later r next.drained) (not_anew t anew) next.taken in
           let all : IsDrained later waits next.drained = one_before later waits t next.drained empty (taken_later now later s t p small at.0 taken) rest in
@@ -180,7 +180,7 @@ as_if_it_waited now later s t new p unit small pushed next =
 
 -- at the end of the stream alone one is ended for that
 not_over : (s : Reception) → s.waiting.is_over ≡ false → ended_if_over s ≡ s
-not_over s is = by (has_no_unit s.frames.ended) s.waiting.is_over is
+not_over s is = by (has_no_unit s.assembler.ended) s.waiting.is_over is
   where
     by : (b c : Bool) → c ≡ false → cond (b && c) (after_finish s) s ≡ s
     by true false e = refl
@@ -201,10 +201,10 @@ none_waits [] is = refl
 none_waits (p ∷ held) is = absurd (let some : (length (p ∷ held) == 0) ≡ false = grind (arith, nat_tests) in let bad = rw some at is in cc)
 
 -- what is known where there is nothing to take and nothing to give out
-idle_parts : (s : Reception) → is_idle s ≡ true → (s.frames.ended ≡ []) × (s.is_anew ≡ false) × (s.waiting.buffer.held ≡ []) × (s.waiting.is_over ≡ false)
+idle_parts : (s : Reception) → is_idle s ≡ true → (s.assembler.ended ≡ []) × (s.is_anew ≡ false) × (s.waiting.buffer.held ≡ []) × (s.waiting.is_over ≡ false)
 idle_parts s is =
-    let at = by (has_no_unit s.frames.ended) s.is_anew (length s.waiting.buffer.held == 0) s.waiting.is_over is in
-    (none_of_units s.frames.ended at.0, at.1, none_waits s.waiting.buffer.held at.2, at.3)
+    let at = by (has_no_unit s.assembler.ended) s.is_anew (length s.waiting.buffer.held == 0) s.waiting.is_over is in
+    (none_of_units s.assembler.ended at.0, at.1, none_waits s.waiting.buffer.held at.2, at.3)
   where
     by : (a b c d : Bool) → (a && (not b && (c && not d))) ≡ true → (a ≡ true) × (b ≡ false) × (c ≡ true) × (d ≡ false)
     by true false true false e = (refl, refl, refl, refl)
@@ -231,7 +231,7 @@ pub none_more : (now : ℕ) (s : Reception) → IsDrained now s s
 none_more now s = none
 
 -- one more packet that was taken
-pub one_more : (now : ℕ) (s t u : Reception) → IsDrained now s t → t.frames.ended ≡ [] → IsDueTaken now t u → IsDrained now s u
+pub one_more : (now : ℕ) (s t u : Reception) → IsDrained now s t → t.assembler.ended ≡ [] → IsDueTaken now t u → IsDrained now s u
 one_more now s t u before empty taken = more before empty taken
 
 -- no access unit has ended

@@ -3,7 +3,7 @@ pub mod Pushed
 pub mod JitterBuffer
 pub mod Numbers
 pub mod Counts
-pub mod ReceivedUnit
+pub mod ReceivedAccessUnit
 pub mod Reception
 pub mod Missing
 pub mod Limits

@@ -2,7 +2,7 @@
 use Rattle.std.specs.Prelude.{ℕ, ◌+◌, ◌≤◌, max, length, Option, Some, None}
 use Rattle.h26x_model.specs.Receive.RunLimit.{run_len}
 use Rattle.h26x_reorder.specs.Rtp.{RtpBody}
-use Rattle.h26x_frames.specs.AccessUnit.{unit_len}
+use Rattle.h26x_assembler.specs.AccessUnit.{unit_len}
 use Rattle.h26x_access_units.specs.JitterBuffer.{held_bytes}
 use Rattle.h26x_access_units.specs.Reception.{Reception}
 
@@ -17,8 +17,8 @@ stray_len (Some stray) = length stray.1.payload
 pub record IsWithinLimits (most : ℕ) (s : Reception) : Type 0 where
   pub waiting : held_bytes s.waiting.buffer.held ≤ max s.waiting.config.held_limit most + most
   pub stray : stray_len s.stray ≤ most
-  pub run : run_len s.frames.state.run ≤ s.run_limit
-  pub unit : unit_len s.frames.unit ≤ s.unit_limit
+  pub run : run_len s.assembler.state.run ≤ s.run_limit
+  pub unit : unit_len s.assembler.unit ≤ s.unit_limit
 
 -- what is within the limits stays so, by a packet of so many bytes
 abbrev pub StaysWithinLimits : ℕ → Reception → Reception → Type 0

@@ -5,7 +5,7 @@ use Rattle.h26x_receiver.specs.declared.received.Received.{Received}
 use Rattle.h26x_receiver.specs.declared.received.Received.TheVariants.{Gap, TooLong, Late}
 use Rattle.h26x_receiver.specs.Sequenced.{skip_answer}
 use Rattle.h26x_reorder.specs.Rtp.{RtpBody}
-use Rattle.h26x_access_units.specs.declared.numbers.UnitNumbers.{UnitNumbers}
+use Rattle.h26x_access_units.specs.declared.numbers.AccessUnitNumbers.{AccessUnitNumbers}
 use Rattle.h26x_access_units.specs.declared.numbers.NumbersSoFar.{NumbersSoFar}
 
 -- how many numbers an answer tells to be missing
@@ -44,7 +44,7 @@ is_timestamp None timestamp = false
 is_timestamp (Some marked) timestamp = marked == timestamp
 
 -- the numbers of an access unit of which a packet is the first
-abbrev pub begun_numbers : Option ℕ → ℕ × RtpBody → ℕ → UnitNumbers
+abbrev pub begun_numbers : Option ℕ → ℕ × RtpBody → ℕ → AccessUnitNumbers
 begun_numbers marked p missing = record {
   timestamp = p.1.timestamp;
   first = p.0;
@@ -54,25 +54,25 @@ begun_numbers marked p missing = record {
 }
 
 -- with a packet more
-abbrev pub numbers_to : UnitNumbers → ℕ × RtpBody → ℕ → UnitNumbers
+abbrev pub numbers_to : AccessUnitNumbers → ℕ × RtpBody → ℕ → AccessUnitNumbers
 numbers_to unit p missing = record unit {
   last = p.0;
   missing = missing_sum unit.missing missing;
 }
 
 -- the numbers of a packet's access unit: the one that is open, where it has its timestamp
-abbrev pub numbers_with : Option UnitNumbers → Option ℕ → ℕ × RtpBody → ℕ → UnitNumbers
+abbrev pub numbers_with : Option AccessUnitNumbers → Option ℕ → ℕ × RtpBody → ℕ → AccessUnitNumbers
 numbers_with None marked p missing = begun_numbers marked p missing
 numbers_with (Some unit) marked p missing =
     if unit.timestamp == p.1.timestamp then numbers_to unit p missing
     else begun_numbers marked p missing
 
 -- so of what is known so far
-abbrev pub unit_numbers : NumbersSoFar → ℕ × RtpBody → ℕ → UnitNumbers
+abbrev pub unit_numbers : NumbersSoFar → ℕ × RtpBody → ℕ → AccessUnitNumbers
 unit_numbers n p missing = numbers_with n.unit n.marked p missing
 
 -- the numbers of the access unit that a timestamp ends, if it is another one
-abbrev pub numbers_ended : Option UnitNumbers → ℕ → Option UnitNumbers
+abbrev pub numbers_ended : Option AccessUnitNumbers → ℕ → Option AccessUnitNumbers
 numbers_ended None timestamp = None
 numbers_ended (Some unit) timestamp =
     if unit.timestamp == timestamp then None else Some unit
@@ -116,21 +116,21 @@ abbrev pub after_last : NumbersSoFar → NumbersSoFar
 after_last n = record fresh_numbers { ended = n.unit }
 
 -- those of an access unit of which no packet came
-abbrev pub numbers_of_none : UnitNumbers
+abbrev pub numbers_of_none : AccessUnitNumbers
 numbers_of_none = record { timestamp = 0; first = 0; last = 0; missing = 0; continues = false }
 
 -- those of the first access unit that ended
-abbrev pub first_of_ended : Option UnitNumbers → Option UnitNumbers → UnitNumbers
+abbrev pub first_of_ended : Option AccessUnitNumbers → Option AccessUnitNumbers → AccessUnitNumbers
 first_of_ended (Some numbers) other = numbers
 first_of_ended None (Some numbers) = numbers
 first_of_ended None None = numbers_of_none
 
 -- so of what is known so far
-abbrev pub first_ended : NumbersSoFar → UnitNumbers
+abbrev pub first_ended : NumbersSoFar → AccessUnitNumbers
 first_ended n = first_of_ended n.ended n.ended_by_marker
 
 -- once it is given out
-abbrev pub without_ended_of : NumbersSoFar → Option UnitNumbers → NumbersSoFar
+abbrev pub without_ended_of : NumbersSoFar → Option AccessUnitNumbers → NumbersSoFar
 without_ended_of n (Some numbers) = record n { ended = None }
 without_ended_of n None = record n { ended_by_marker = None }
 

@@ -8,7 +8,7 @@ use Rattle.h26x_core.specs.Sequence.{next_sequence_number}
 use Rattle.h26x_receiver.specs.Sequenced.{skip_answer}
 use Rattle.h26x_reorder.specs.Rtp.{RtpBody}
 use Rattle.h26x_reorder.specs.ReorderBuffer.{goes_straight}
-use Rattle.h26x_frames.specs.AccessUnit.{AccessUnitValue, UnitDepacketization, none_open, open_depacketization, IsUnitAnswer, is_text_given_up, after_rtp, after_unit_skip, after_pass_over, after_end}
+use Rattle.h26x_assembler.specs.AccessUnit.{AccessUnitValue, Assembly, none_open, open_assembly, IsAssemblyAnswer, is_text_given_up, after_rtp, after_unit_skip, after_pass_over, after_finishing}
 use Rattle.h26x_access_units.specs.declared.config.AccessUnitConfig.{AccessUnitConfig}
 use Rattle.h26x_access_units.specs.declared.counts.Counts.{Counts}
 use Rattle.h26x_access_units.specs.declared.numbers.NumbersSoFar.{NumbersSoFar}
@@ -17,22 +17,22 @@ use Rattle.h26x_access_units.specs.declared.pushed.Pushed.TheVariants as pushes
 use Rattle.h26x_access_units.specs.Counts.{no_counts, counted_push, counted_dropped, counted_due, counted_unit, counted_reason}
 use Rattle.h26x_access_units.specs.JitterBuffer.{JitterState, is_far, jitter_answer, after_jitter, due_packet, without_due, fresh_jitter, with_held_limit, waits_for_none}
 use Rattle.h26x_access_units.specs.Numbers.{fresh_numbers, bears_nothing, numbers_after, after_last, first_ended, without_first_ended}
-use Rattle.h26x_access_units.specs.ReceivedUnit.{ReceivedUnitValue, received_unit, clean_with, whole_with, received_unit_value}
+use Rattle.h26x_access_units.specs.ReceivedAccessUnit.{ReceivedAccessUnitValue, received_unit, clean_with, whole_with, received_unit_value}
 use Rattle.std.specs.Option.{option_map}
 use Rattle.h26x_access_units.specs.declared.pushed.NotPushedReason.{NotPushedReason}
-use Rattle.h26x_access_units.specs.declared.unit.ReceivedUnit.{ReceivedUnit}
+use Rattle.h26x_access_units.specs.declared.unit.ReceivedAccessUnit.{ReceivedAccessUnit}
 use Rattle.h26x_access_units.specs.Missing.{missing_numbers, AreExactlyMissing}
 use Rattle.h26x_access_units.specs.Arrival.{deadline_of}
 
 -- what a receiver is to contracts: what waits, and the packet that waits alone; whether the stream has
--- begun anew, so that the access unit that is open is to end; the receiver of access units, those that
--- ended and weren't given out; their numbers; whether nothing was missing since a keyframe; the counts;
--- and the limits on an open run and on an open access unit
+-- begun anew, so that the access unit that is open is to end; the assembler of access units, those
+-- that ended and weren't given out; their numbers; whether nothing was missing since a keyframe;
+-- the counts; and the limits on an open run and on an open access unit
 pub record Reception : Type 0 where
   pub waiting : JitterState
   pub stray : Option (ℕ × RtpBody)
   pub is_anew : Bool
-  pub frames : UnitDepacketization
+  pub assembler : Assembly
   pub numbers : NumbersSoFar
   pub is_clean : Bool
   pub counts : Counts
@@ -40,13 +40,13 @@ pub record Reception : Type 0 where
   pub unit_limit : ℕ
 
 -- these
-abbrev pub reception : JitterState → Option (ℕ × RtpBody) → Bool → UnitDepacketization →
+abbrev pub reception : JitterState → Option (ℕ × RtpBody) → Bool → Assembly →
     NumbersSoFar → Bool → Counts → ℕ → ℕ → Reception
-reception waiting stray is_anew frames numbers is_clean counts run_limit unit_limit = record {
+reception waiting stray is_anew assembler numbers is_clean counts run_limit unit_limit = record {
   waiting = waiting;
   stray = stray;
   is_anew = is_anew;
-  frames = frames;
+  assembler = assembler;
   numbers = numbers;
   is_clean = is_clean;
   counts = counts;
@@ -57,7 +57,7 @@ reception waiting stray is_anew frames numbers is_clean counts run_limit unit_li
 -- before any packet came
 abbrev pub fresh_reception : AccessUnitConfig → DepacketizerState → Reception
 fresh_reception config state = reception (fresh_jitter config) None false
-    (open_depacketization state None none_open []) fresh_numbers false no_counts config.run_limit
+    (open_assembly state None none_open []) fresh_numbers false no_counts config.run_limit
     config.unit_limit
 
 -- before any packet of another sender came
@@ -66,7 +66,7 @@ restarted s = record s {
   waiting = fresh_jitter s.waiting.config;
   stray = None;
   is_anew = false;
-  frames = open_depacketization s.frames.state None none_open [];
+  assembler = open_assembly s.assembler.state None none_open [];
   numbers = fresh_numbers;
   is_clean = false;
 }
@@ -131,39 +131,39 @@ IsPutAside now s p result new = IfOk result (λ answer. new ≡ after_reception 
 abbrev pub refused_reception : Reception → NotPushedReason → Reception
 refused_reception s reason = record s { counts = counted_reason s.counts reason }
 
--- what is answered for a packet that is given to the receiver of access units: one that bears nothing
--- is skipped
-abbrev pub IsAnswerTo : ℕ → UnitDepacketization → ℕ × RtpBody → Result Received PacketError →
+-- what is answered for a packet that is given to the assembler of access units: one that bears
+-- nothing is skipped
+abbrev pub IsAnswerTo : ℕ → Assembly → ℕ × RtpBody → Result Received PacketError →
     Type 0
 IsAnswerTo most s p answer = MatchBool (bears_nothing p.1.payload)
-    (answer ≡ Ok (skip_answer s.expected p.0)) (IsUnitAnswer most s p answer)
+    (answer ≡ Ok (skip_answer s.expected p.0)) (IsAssemblyAnswer most s p answer)
 
 -- whether an answer says that memory lacks
 abbrev pub lacks_memory : Result Received PacketError → Bool
 lacks_memory (Err OutOfMemory) = true
 lacks_memory answer = false
 
--- that receiver afterwards: one that is refused for what it is is passed over
-abbrev pub frames_after : ℕ → ℕ → UnitDepacketization → ℕ × RtpBody →
-    Result Received PacketError → UnitDepacketization
-frames_after most limit s p (Ok answer) =
+-- that assembler afterwards: one that is refused for what it is is passed over
+abbrev pub assembly_after : ℕ → ℕ → Assembly → ℕ × RtpBody →
+    Result Received PacketError → Assembly
+assembly_after most limit s p (Ok answer) =
     if bears_nothing p.1.payload then after_unit_skip s p.0
     else after_rtp most limit s p (Ok answer)
-frames_after most limit s p (Err error) = after_pass_over s p.0
+assembly_after most limit s p (Err error) = after_pass_over s p.0
 
 -- the same once it forgot that a marker ended the last access unit: what goes on with that may be
 -- known to be whole too
-abbrev pub marker_forgotten : UnitDepacketization → UnitDepacketization
+abbrev pub marker_forgotten : Assembly → Assembly
 marker_forgotten s = record s { closed = None }
 
 -- after a packet that was due and was answered so, but for want of memory: it waits no more
 abbrev pub after_due : Reception → ℕ × RtpBody → Result Received PacketError → Reception
 after_due s p answer = record s {
   waiting = without_due s.waiting;
-  frames = marker_forgotten (frames_after s.run_limit s.unit_limit s.frames p answer);
-  numbers = numbers_after s.frames.expected s.numbers p answer;
-  counts = counted_due s.frames.expected s.counts p answer
-      (is_text_given_up s.run_limit s.unit_limit s.frames p);
+  assembler = marker_forgotten (assembly_after s.run_limit s.unit_limit s.assembler p answer);
+  numbers = numbers_after s.assembler.expected s.numbers p answer;
+  counts = counted_due s.assembler.expected s.counts p answer
+      (is_text_given_up s.run_limit s.unit_limit s.assembler p);
 }
 
 -- a packet that was due was taken, or passed over
@@ -171,7 +171,7 @@ pub record IsDueTaken (now : ℕ) (s new : Reception) : Type 0 where
   pub packet : ℕ × RtpBody
   pub answer : Result Received PacketError
   pub due : due_packet now s.waiting ≡ Some packet
-  pub answered : IsAnswerTo s.run_limit s.frames packet answer
+  pub answered : IsAnswerTo s.run_limit s.assembler packet answer
   pub room : answer ≡ Err OutOfMemory → ⊥
   pub stands : new ≡ after_due s packet answer
 
@@ -186,7 +186,7 @@ IsDueTakenOrNone now s took new = MatchBool took (IsDueTaken now s new)
 
 -- no packet is due, unless an access unit has ended
 abbrev pub NoneIsDueUnlessEnded : ℕ → Reception → Type 0
-NoneIsDueUnlessEnded now s = s.frames.ended ≡ [] → due_packet now s.waiting ≡ None
+NoneIsDueUnlessEnded now s = s.assembler.ended ≡ [] → due_packet now s.waiting ≡ None
 
 -- whether a list has no entry
 abbrev pub has_no_unit : List AccessUnitValue → Bool
@@ -197,7 +197,7 @@ has_no_unit (unit ∷ units) = false
 -- ended is left, and the stream hasn't begun anew
 abbrev pub is_taken_at_once : Reception → ℕ → Bool
 is_taken_at_once s number = goes_straight s.waiting.buffer number
-    && (has_no_unit s.frames.ended && not s.is_anew)
+    && (has_no_unit s.assembler.ended && not s.is_anew)
 
 -- after a packet came, at this tick, that is answered so: where it is taken at once, it is as if it had
 -- waited and was taken then
@@ -213,7 +213,7 @@ IsPushedIfOk now s p result new = IfOk result (λ answer. IsPushed now s p answe
 -- packets that were due were taken, one after the other, as long as no access unit had ended
 pub data IsDrained (now : ℕ) (s : Reception) : Reception → Type 0 where
   none : IsDrained now s s
-  more : {t u : Reception} → IsDrained now s t → t.frames.ended ≡ [] → IsDueTaken now t u →
+  more : {t u : Reception} → IsDrained now s t → t.assembler.ended ≡ [] → IsDueTaken now t u →
       IsDrained now s u
 
 -- at the end of the stream: all that waits is due
@@ -226,15 +226,19 @@ abbrev pub after_finish : Reception → Reception
 after_finish s = record s {
   waiting = fresh_jitter s.waiting.config;
   stray = None;
-  frames = after_end s.frames;
+  assembler = after_finishing s.assembler;
   numbers = after_last s.numbers;
 }
 
 -- where the stream has begun anew, and no access unit that ended is left, the one that is open ends
 abbrev pub ended_if_anew : Reception → Reception
 ended_if_anew s =
-    if has_no_unit s.frames.ended && s.is_anew
-    then record s { is_anew = false; frames = after_end s.frames; numbers = after_last s.numbers }
+    if has_no_unit s.assembler.ended && s.is_anew
+    then record s {
+      is_anew = false;
+      assembler = after_finishing s.assembler;
+      numbers = after_last s.numbers;
+    }
     else s
 
 -- where memory lacked for the next access unit: nothing was done, or packets that were due were taken
@@ -244,27 +248,27 @@ IsDrainedInPart now s new = (new ≡ s) ⊎ IsDrained now (ended_if_anew s) new
 -- at the end of the stream, once no access unit that ended is left, the one that is open ends
 abbrev pub ended_if_over : Reception → Reception
 ended_if_over s =
-    if has_no_unit s.frames.ended && s.waiting.is_over then after_finish s else s
+    if has_no_unit s.assembler.ended && s.waiting.is_over then after_finish s else s
 
 -- whether there is nothing to take and nothing to give out: no access unit that ended is left, the
 -- stream hasn't begun anew nor ended, and no packet waits
 abbrev pub is_idle : Reception → Bool
-is_idle s = has_no_unit s.frames.ended && (not s.is_anew && waits_for_none s.waiting)
+is_idle s = has_no_unit s.assembler.ended && (not s.is_anew && waits_for_none s.waiting)
 
 -- the first access unit that ended
-abbrev pub unit_given_of : Reception → List AccessUnitValue → Option ReceivedUnitValue
+abbrev pub unit_given_of : Reception → List AccessUnitValue → Option ReceivedAccessUnitValue
 unit_given_of s [] = None
 unit_given_of s (unit ∷ units) = Some (received_unit s.is_clean unit (first_ended s.numbers))
 
 -- so of a receiver
-abbrev pub unit_given : Reception → Option ReceivedUnitValue
-unit_given s = unit_given_of s s.frames.ended
+abbrev pub unit_given : Reception → Option ReceivedAccessUnitValue
+unit_given s = unit_given_of s s.assembler.ended
 
 -- once it is given out
 abbrev pub without_given_of : Reception → List AccessUnitValue → Reception
 without_given_of s [] = s
 without_given_of s (unit ∷ units) = record s {
-  frames = record s.frames { ended = units };
+  assembler = record s.assembler { ended = units };
   numbers = without_first_ended s.numbers;
   is_clean = clean_with s.is_clean unit (first_ended s.numbers);
   counts = counted_unit s.counts (whole_with unit (first_ended s.numbers));
@@ -272,20 +276,22 @@ without_given_of s (unit ∷ units) = record s {
 
 -- so of a receiver
 abbrev pub without_given : Reception → Reception
-without_given s = without_given_of s s.frames.ended
+without_given s = without_given_of s s.assembler.ended
 
 -- The next access unit: where the stream has begun anew the one that was open ends; packets that were
 -- due were taken until one ended or none was due, and the
 -- first that ended is given out.
-pub record IsNext (now : ℕ) (s new : Reception) (unit : Option ReceivedUnitValue) : Type 0 where
-  pub drained : Reception
-  pub taken : IsDrained now (ended_if_anew s) drained
-  pub until : NoneIsDueUnlessEnded now drained
-  pub unit_is : unit ≡ unit_given (ended_if_over drained)
-  pub stands : new ≡ without_given (ended_if_over drained)
+pub record IsNext (now : ℕ) (s new : Reception) (unit : Option ReceivedAccessUnitValue) : Type 0
+  where
+    pub drained : Reception
+    pub taken : IsDrained now (ended_if_anew s) drained
+    pub until : NoneIsDueUnlessEnded now drained
+    pub unit_is : unit ≡ unit_given (ended_if_over drained)
+    pub stands : new ≡ without_given (ended_if_over drained)
 
 -- so it is of what is given out, but for want of memory
-abbrev pub GivesNext : ℕ → Reception → Result (Option ReceivedUnit) PacketError → Reception → Type 0
+abbrev pub GivesNext : ℕ → Reception → Result (Option ReceivedAccessUnit) PacketError → Reception →
+    Type 0
 GivesNext now s result new =
     IfOk result (λ unit. IsNext now s new (option_map received_unit_value unit))
 

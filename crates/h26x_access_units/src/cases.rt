@@ -9,7 +9,7 @@ ghost use Rattle.h26x_model.specs.Receive.DepacketizerState.{DepacketizerState};
 ghost use Rattle.h26x_core.specs.Sequence.{is_late};
 ghost use Rattle.h26x_reorder.specs.Rtp.{rtp_body};
 ghost use Rattle.h26x_reorder.specs.ReorderBuffer.{buffer_state, IsHeldInOrder};
-ghost use Rattle.h26x_frames.specs.AccessUnit.{empty_unit};
+ghost use Rattle.h26x_assembler.specs.AccessUnit.{empty_unit};
 ghost use Rattle.h26x_access_units.specs.JitterBuffer.{fresh_jitter};
 ghost use Rattle.h26x_access_units.specs.declared.config.AccessUnitConfig.{AccessUnitConfig};
 ghost use Rattle.h26x_access_units.specs.Reception.{fresh_reception, is_taken_at_once};
@@ -119,6 +119,6 @@ pub fn packets_taken_at_once()
     ensures ended { (config : AccessUnitConfig) (state : DepacketizerState) →
         let b = buffer_state 4 (Some 7) [] in let j = record (fresh_jitter config) { buffer = b } in
         let s = record (fresh_reception config state) { waiting = j } in
-        let f = record s.frames { ended = empty_unit 0 ∷ [] } in
-        is_taken_at_once (record s { frames = f }) 7 ≡ false }
+        let f = record s.assembler { ended = empty_unit 0 ∷ [] } in
+        is_taken_at_once (record s { assembler = f }) 7 ≡ false }
 {}

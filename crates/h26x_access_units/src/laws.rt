@@ -6,7 +6,7 @@ ghost use Rattle.h26x_reorder.specs.Rtp.{RtpBody};
 ghost use Rattle.h26x_reorder.specs.ReorderBuffer.{IsHeldInOrder};
 ghost use Rattle.h26x_access_units.specs.declared.config.AccessUnitConfig.{AccessUnitConfig};
 ghost use Rattle.h26x_access_units.specs.Missing.{missing_numbers, AreExactlyMissing};
-ghost use Rattle.h26x_access_units.specs.ReceivedUnit.{ReceivedUnitValue};
+ghost use Rattle.h26x_access_units.specs.ReceivedAccessUnit.{ReceivedAccessUnitValue};
 ghost use Rattle.h26x_access_units.specs.Reception.{Reception, fresh_reception, reception_answer, after_reception, IsPushed, IsNext};
 ghost use Rattle.h26x_access_units.specs.Limits.{IsWithinLimits, StaysWithinLimits};
 
@@ -26,13 +26,13 @@ pub fn what_is_held_is_within_the_limits()
         IsWithinLimits most (fresh_reception config state) }
     ensures push { (now : ℕ) (s new : Reception) (p : ℕ × RtpBody) →
         IsPushed now s p (reception_answer s p) new → StaysWithinLimits (length p.1.payload) s new }
-    ensures next { (now : ℕ) (s new : Reception) (unit : Option ReceivedUnitValue) →
+    ensures next { (now : ℕ) (s new : Reception) (unit : Option ReceivedAccessUnitValue) →
         IsNext now s new unit → StaysWithinLimits 0 s new }
 {}
 
 /// Whether a packet is taken at once or waits, the same is given out next.
 pub fn packets_taken_at_once_are_as_those_that_wait()
     ensures { (now later : ℕ) (s held new : Reception) (p : ℕ × RtpBody)
-        (unit : Option ReceivedUnitValue) → p.0 < 2 ^ 16 → IsPushed now s p Pushed.Held held →
+        (unit : Option ReceivedAccessUnitValue) → p.0 < 2 ^ 16 → IsPushed now s p Pushed.Held held →
         IsNext later held new unit → IsNext later (after_reception now s p Pushed.Held) new unit }
 {}

@@ -7,10 +7,10 @@ ghost use Rattle.h26x_reorder.specs.Rtp.{rtp_body};
 ghost use Rattle.h26x_reorder.specs.ReorderBuffer.{numbered_packet};
 ghost use Rattle.h26x_access_units.specs.Pushed.{IsNotPushedReason};
 ghost use Rattle.h26x_access_units.specs.Counts.{counted_due};
-ghost use Rattle.h26x_frames.specs.Receiver.{frames_at, gives_text_up};
+ghost use Rattle.h26x_assembler.specs.Assembler.{assembly_at, gives_text_up};
 ghost use Rattle.h26x_access_units.specs.Numbers.{bears_nothing, numbers_after};
-ghost use Rattle.h26x_access_units.specs.ReceivedUnit.{received_unit_value};
-ghost use Rattle.h26x_access_units.specs.Reception.{fresh_reception, reception_answer, has_no_unit, ended_if_anew, ended_if_over, restarted, unit_given, without_given, frames_after, lacks_memory, marker_forgotten, is_taken_at_once, is_idle, IsAnswerTo, IsDrained, is_too_far, IsPushAnswer, IsPutAside, refused_reception, IsTakenAsDue, IsDueTakenOrNone, NoneIsDueUnlessEnded, IsPushedIfOk, ended_reception, IsDrainedInPart, GivesNext, nack_numbers, AreExactNacks, next_deadline};
+ghost use Rattle.h26x_access_units.specs.ReceivedAccessUnit.{received_unit_value};
+ghost use Rattle.h26x_access_units.specs.Reception.{fresh_reception, reception_answer, has_no_unit, ended_if_anew, ended_if_over, restarted, unit_given, without_given, assembly_after, lacks_memory, marker_forgotten, is_taken_at_once, is_idle, IsAnswerTo, IsDrained, is_too_far, IsPushAnswer, IsPutAside, refused_reception, IsTakenAsDue, IsDueTakenOrNone, NoneIsDueUnlessEnded, IsPushedIfOk, ended_reception, IsDrainedInPart, GivesNext, nack_numbers, AreExactNacks, next_deadline};
 ghost use Rattle.h26x_access_units.specs.Limits.{StaysWithinLimits};
 
 use crate::config::AccessUnitConfig;
@@ -18,10 +18,10 @@ use crate::counts::Counts;
 use crate::jitter::JitterBuffer;
 use crate::numbers::{NumbersSoFar, missing_with};
 use crate::pushed::{NotPushed, NotPushedReason, Pushed};
-use crate::unit::{ReceivedUnit, is_keyframe};
+use crate::unit::{ReceivedAccessUnit, is_keyframe};
+use h26x_assembler::{AccessUnit, AccessUnitAssembler};
 use h26x_core::PacketError;
 use h26x_depacketizer::RunDepacketizer;
-use h26x_frames::{AccessUnit, FrameReceiver};
 use h26x_receiver::{Received, SequencedDepacketizer};
 use h26x_reorder::{HeldPacket, RtpPacket};
 use std::alloc::Global;
@@ -33,7 +33,7 @@ pub struct AccessUnitReceiver<D: RunDepacketizer> {
     stray: Option<HeldPacket>,
     is_anew: bool,
     alloc: Global,
-    frames: FrameReceiver<D>,
+    assembler: AccessUnitAssembler<D>,
     ended: Vec<AccessUnit>,
     numbers: NumbersSoFar,
     is_clean: bool,
@@ -47,68 +47,69 @@ fn is_want_of_memory(received: &Result<Received, PacketError>) -> bool
     matches!(received, Err(PacketError::OutOfMemory))
 }
 
-/// Gives a packet that is due to the receiver of access units; one without a payload is skipped.
+/// Gives a packet that is due to the assembler; one without a payload is skipped.
 fn take_packet<D: RunDepacketizer>(
-    frames: &mut FrameReceiver<D>,
+    assembler: &mut AccessUnitAssembler<D>,
     packet: &RtpPacket<'_>,
     ended: &mut Vec<AccessUnit>,
 ) -> Result<Received, PacketError>
-    ensures answer { IsAnswerTo frames.old.packets.run_limit
-        (frames_at D.state frames.old ended.old.items) packet.now result }
-    ensures after { IfOk result (λ received. frames_at D.state frames.new ended.new.items
-        ≡ frames_after frames.old.packets.run_limit frames.old.unit_limit
-        (frames_at D.state frames.old ended.old.items) packet.now (Ok received)) }
-    ensures limit { frames.new.packets.run_limit ≡ frames.old.packets.run_limit }
-    ensures unit_limit { frames.new.unit_limit ≡ frames.old.unit_limit }
+    ensures answer { IsAnswerTo assembler.old.packets.run_limit
+        (assembly_at D.state assembler.old ended.old.items) packet.now result }
+    ensures after { IfOk result (λ received. assembly_at D.state assembler.new ended.new.items
+        ≡ assembly_after assembler.old.packets.run_limit assembler.old.unit_limit
+        (assembly_at D.state assembler.old ended.old.items) packet.now (Ok received)) }
+    ensures limit { assembler.new.packets.run_limit ≡ assembler.old.packets.run_limit }
+    ensures unit_limit { assembler.new.unit_limit ≡ assembler.old.unit_limit }
     ensures text { bears_nothing packet.now.1.payload ≡ false → IfTaken result
-        (frames.new.is_text_given_up ≡ gives_text_up D.state frames.old ended.old.items packet.now) }
-    ensures kept { OnErr result (frames.new ≡ frames.old) }
+        (assembler.new.is_text_given_up ≡ gives_text_up D.state assembler.old ended.old.items
+        packet.now) }
+    ensures kept { OnErr result (assembler.new ≡ assembler.old) }
     ensures kept_ended { OnErr result (ended.new.items ≡ ended.old.items) }
 {
     if packet.payload.is_empty() {
-        Ok(frames.skip(packet.sequence))
+        Ok(assembler.skip(packet.sequence))
     } else {
-        frames.receive(packet, ended)
+        assembler.receive(packet, ended)
     }
 }
 
 /// Gives it a packet that is due, passes over one that it refuses, and notes what became of it. Without
 /// memory all stays as it was.
 fn take_noted<D: RunDepacketizer>(
-    frames: &mut FrameReceiver<D>,
+    assembler: &mut AccessUnitAssembler<D>,
     ended: &mut Vec<AccessUnit>,
     numbers: &mut NumbersSoFar,
     counts: &mut Counts,
     packet: &RtpPacket<'_>,
 ) -> Result<Received, PacketError>
-    ensures answer { IsAnswerTo frames.old.packets.run_limit
-        (frames_at D.state frames.old ended.old.items) packet.now result }
-    ensures after { lacks_memory result ≡ false → frames_at D.state frames.new ended.new.items
-        ≡ marker_forgotten (frames_after frames.old.packets.run_limit frames.old.unit_limit
-        (frames_at D.state frames.old ended.old.items) packet.now result) }
+    ensures answer { IsAnswerTo assembler.old.packets.run_limit
+        (assembly_at D.state assembler.old ended.old.items) packet.now result }
+    ensures after { lacks_memory result ≡ false → assembly_at D.state assembler.new ended.new.items
+        ≡ marker_forgotten (assembly_after assembler.old.packets.run_limit assembler.old.unit_limit
+        (assembly_at D.state assembler.old ended.old.items) packet.now result) }
     ensures numbers { lacks_memory result ≡ false → numbers.new
-        ≡ numbers_after frames.old.packets.expected numbers.old packet.now result }
+        ≡ numbers_after assembler.old.packets.expected numbers.old packet.now result }
     ensures counts { lacks_memory result ≡ false → counts.new
-        ≡ counted_due frames.old.packets.expected counts.old packet.now result (gives_text_up
-        D.state frames.old ended.old.items packet.now) }
-    ensures limit { frames.new.packets.run_limit ≡ frames.old.packets.run_limit }
-    ensures unit_limit { frames.new.unit_limit ≡ frames.old.unit_limit }
-    ensures kept { lacks_memory result ≡ true → frames_at D.state frames.new ended.new.items
-        ≡ frames_at D.state frames.old ended.old.items }
+        ≡ counted_due assembler.old.packets.expected counts.old packet.now result (gives_text_up
+        D.state assembler.old ended.old.items packet.now) }
+    ensures limit { assembler.new.packets.run_limit ≡ assembler.old.packets.run_limit }
+    ensures unit_limit { assembler.new.unit_limit ≡ assembler.old.unit_limit }
+    ensures kept { lacks_memory result ≡ true → assembly_at D.state assembler.new ended.new.items
+        ≡ assembly_at D.state assembler.old ended.old.items }
     ensures kept_numbers { lacks_memory result ≡ true → numbers.new ≡ numbers.old }
     ensures kept_counts { lacks_memory result ≡ true → counts.new ≡ counts.old }
 {
-    match take_packet(frames, packet, ended) {
+    match take_packet(assembler, packet, ended) {
         Ok(received) => {
-            frames.forget_marker();
+            assembler.forget_marker();
             numbers.note(packet, received);
-            counts.note(packet, received, frames.is_text_given_up);
+            counts.note(packet, received, assembler.is_text_given_up);
             Ok(received)
         }
         Err(PacketError::OutOfMemory) => Err(PacketError::OutOfMemory),
         Err(error) => {
-            let missing = missing_with(frames.pass_over(packet.sequence));
-            frames.forget_marker();
+            let missing = missing_with(assembler.pass_over(packet.sequence));
+            assembler.forget_marker();
             numbers.skip(missing);
             counts.refuse(missing);
             Err(error)
@@ -130,12 +131,12 @@ pub trait Receives: Drop {
 impl<D: RunDepacketizer> Receives for AccessUnitReceiver<D> {
     ghost use Rattle.std.specs.Option.{option_map};
     ghost use Rattle.h26x_reorder.specs.ReorderBuffer.{numbered_packet};
-    ghost use Rattle.h26x_frames.specs.Receiver.{frames_at};
+    ghost use Rattle.h26x_assembler.specs.Assembler.{assembly_at};
     ghost use Rattle.h26x_access_units.specs.Reception.{reception};
 
     ghost reception = { λ r. reception r.waiting (option_map numbered_packet r.stray) r.is_anew
-        (frames_at D.state r.frames r.ended.items) r.numbers r.is_clean r.counts
-        r.frames.packets.run_limit r.frames.unit_limit };
+        (assembly_at D.state r.assembler r.ended.items) r.numbers r.is_clean r.counts
+        r.assembler.packets.run_limit r.assembler.unit_limit };
 
     fn counts(&self) -> Counts {
         self.counts
@@ -157,7 +158,7 @@ impl<D: RunDepacketizer> AccessUnitReceiver<D> {
             stray: None,
             is_anew: false,
             alloc,
-            frames: FrameReceiver::new(alloc, packets, config.unit_limit),
+            assembler: AccessUnitAssembler::new(alloc, packets, config.unit_limit),
             ended: Vec::new(alloc),
             numbers: NumbersSoFar::none(),
             is_clean: false,
@@ -227,7 +228,7 @@ impl<D: RunDepacketizer> AccessUnitReceiver<D> {
             OnErr result (r self.new ≡ r self.old) }
     {
         let received = take_noted(
-            &mut self.frames,
+            &mut self.assembler,
             &mut self.ended,
             &mut self.numbers,
             &mut self.counts,
@@ -384,7 +385,7 @@ impl<D: RunDepacketizer> AccessUnitReceiver<D> {
             None => return Ok(false),
         };
         let received = take_noted(
-            &mut self.frames,
+            &mut self.assembler,
             &mut self.ended,
             &mut self.numbers,
             &mut self.counts,
@@ -406,8 +407,8 @@ impl<D: RunDepacketizer> AccessUnitReceiver<D> {
             OnErr result (r self.new ≡ r self.old) }
     {
         if self.ended.is_empty() && self.is_anew {
-            self.frames.end(&mut self.ended)?;
-            self.numbers.end();
+            self.assembler.finish(&mut self.ended)?;
+            self.numbers.finish();
             self.is_anew = false;
         }
         Ok(())
@@ -428,7 +429,7 @@ impl<D: RunDepacketizer> AccessUnitReceiver<D> {
     /// Whether an access unit has ended and wasn't given out.
     fn has_ended(&self) -> bool
         ensures { let r = ⟦<Self as Receives>⟧.reception in
-            result ≡ not (has_no_unit (r self.now).frames.ended) }
+            result ≡ not (has_no_unit (r self.now).assembler.ended) }
     {
         !self.ended.is_empty()
     }
@@ -442,8 +443,8 @@ impl<D: RunDepacketizer> AccessUnitReceiver<D> {
             OnErr result (r self.new ≡ r self.old) }
     {
         if self.ended.is_empty() && self.waiting.is_over() {
-            self.frames.end(&mut self.ended)?;
-            self.numbers.end();
+            self.assembler.finish(&mut self.ended)?;
+            self.numbers.finish();
             self.waiting.restart();
             self.stray = None;
         }
@@ -451,7 +452,7 @@ impl<D: RunDepacketizer> AccessUnitReceiver<D> {
     }
 
     /// Gives out the first access unit that ended.
-    fn give(&mut self) -> Option<ReceivedUnit>
+    fn give(&mut self) -> Option<ReceivedAccessUnit>
         ensures unit { let r = ⟦<Self as Receives>⟧.reception in
             option_map received_unit_value result ≡ unit_given (r self.old) }
         ensures after { let r = ⟦<Self as Receives>⟧.reception in
@@ -466,7 +467,7 @@ impl<D: RunDepacketizer> AccessUnitReceiver<D> {
         let is_keyframe = is_keyframe(unit.extra) && !numbers.continues;
         self.is_clean = unit.is_whole && (is_keyframe || self.is_clean);
         self.counts.unit(is_whole);
-        Some(ReceivedUnit {
+        Some(ReceivedAccessUnit {
             timestamp: unit.timestamp,
             bytes: unit.bytes,
             extra: unit.extra,
@@ -484,7 +485,7 @@ impl<D: RunDepacketizer> AccessUnitReceiver<D> {
     ///
     /// Without memory the error is `OutOfMemory`: what was taken before stays taken, and the packet for
     /// which memory lacks is due still.
-    pub fn next(&mut self, now: u32) -> Result<Option<ReceivedUnit>, PacketError>
+    pub fn next(&mut self, now: u32) -> Result<Option<ReceivedAccessUnit>, PacketError>
         ensures next { let r = ⟦<Self as Receives>⟧.reception in
             GivesNext now (r self.old) result (r self.new) }
         ensures memory { OnErr result (result ≡ Err PacketError.OutOfMemory) }
@@ -510,7 +511,7 @@ impl<D: RunDepacketizer> AccessUnitReceiver<D> {
     }
 
     /// What `next` does.
-    fn next_due(&mut self, now: u32) -> Result<Option<ReceivedUnit>, PacketError>
+    fn next_due(&mut self, now: u32) -> Result<Option<ReceivedAccessUnit>, PacketError>
         ensures next { let r = ⟦<Self as Receives>⟧.reception in
             GivesNext now (r self.old) result (r self.new) }
         ensures memory { OnErr result (result ≡ Err PacketError.OutOfMemory) }
@@ -542,17 +543,17 @@ impl<D: RunDepacketizer> AccessUnitReceiver<D> {
         self.waiting.restart();
         self.stray = None;
         self.is_anew = false;
-        self.frames.restart();
+        self.assembler.restart();
         self.ended.clear();
         self.numbers = NumbersSoFar::none();
         self.is_clean = false;
     }
 
     /// Takes back an access unit that was given out, for its memory: a later one is written there.
-    pub fn give_back(&mut self, unit: ReceivedUnit)
+    pub fn give_back(&mut self, unit: ReceivedAccessUnit)
         ensures { let r = ⟦<Self as Receives>⟧.reception in r self.new ≡ r self.old }
     {
-        self.frames.give_back(unit.into_access_unit());
+        self.assembler.give_back(unit.into_access_unit());
     }
 
     /// The numbers that are missing before packets that wait and still could come, in order: for a NACK

@@ -1,14 +1,14 @@
 //! Access units as a receiver gives them out.
 
 ghost use Rattle.std.specs.Prelude.{◌≡◌};
-ghost use Rattle.h26x_access_units.specs.ReceivedUnit.{is_keyframe};
+ghost use Rattle.h26x_access_units.specs.ReceivedAccessUnit.{is_keyframe};
 
+use h26x_assembler::AccessUnit;
 use h26x_core::CodecExtra;
-use h26x_frames::AccessUnit;
 
 /// An access unit, and what is told of it.
 #[derive(Debug, Drop)]
-pub struct ReceivedUnit {
+pub struct ReceivedAccessUnit {
     /// The timestamp of its packets (RFC 3550, 5.1).
     pub timestamp: u32,
     /// The text of its NAL units, as the depacketizer writes it: nothing of a NAL unit of which a
@@ -33,7 +33,7 @@ pub struct ReceivedUnit {
     pub missing: u32,
 }
 
-impl ReceivedUnit {
+impl ReceivedAccessUnit {
     /// The access unit alone.
     pub(crate) fn into_access_unit(self) -> AccessUnit {
         AccessUnit {

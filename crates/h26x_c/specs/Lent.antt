@@ -11,5 +11,5 @@ abbrev pub handle_with : Handle → Endpoint → Handle
 handle_with h it = record { ptr = h.ptr; alloc = h.alloc; value = it }
 
 -- the handle ends with the last value of what was lent
-abbrev pub LendsEnd : MutBor Handle → MutBor Endpoint → Fml
-LendsEnd h lent = Lends Handle.the_row Endpoint.the_row h lent (handle_with h.now)
+abbrev pub LendsEndpoint : MutBor Handle → MutBor Endpoint → Fml
+LendsEndpoint h lent = Lends Handle.the_row Endpoint.the_row h lent (handle_with h.now)

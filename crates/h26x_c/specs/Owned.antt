@@ -10,21 +10,21 @@ use Rattle.std.specs.Coded.{coded_option}
 use Rattle.std_heap.specs.contracts.GlobalAllocator.TheImpl.{ghosts}
 use Rattle.h26x_handles.specs.contracts.endpoint.Endpoint as Endpoint
 
-abbrev pub end_owned : Global → Ptr → Endpoint.the_row.Denot → Fml
-end_owned alloc = box_owns (ghosts.dealloc_token alloc) Endpoint.the_row
+abbrev pub endpoint_owned : Global → Ptr → Endpoint.the_row.Denot → Fml
+endpoint_owned alloc = box_owns (ghosts.dealloc_token alloc) Endpoint.the_row
 
 -- who may look at an end has it on loan for a lifetime, and a share of that one's token
-abbrev pub end_lent : ℕ → Ptr → Endpoint.the_row.Denot → Fml
-end_lent life p end = fsep (fex Share (λ share. flft (life ∷ []) share))
+abbrev pub endpoint_lent : ℕ → Ptr → Endpoint.the_row.Denot → Fml
+endpoint_lent life p end = fsep (fex Share (λ share. flft (life ∷ []) share))
     (lent_at Endpoint.the_row p end (life ∷ []))
 
-abbrev pub end_coded : Coded Endpoint.the_row.Denot
-end_coded = Endpoint.the_row.coded
+abbrev pub endpoint_coded : Coded Endpoint.the_row.Denot
+endpoint_coded = Endpoint.the_row.coded
 
 -- a place owns nothing before a handle was written into it
 abbrev pub place_owned : Global → Ptr → Option Endpoint.the_row.Denot → Fml
 place_owned alloc p None = ftrue
-place_owned alloc p (Some it) = end_owned alloc p it
+place_owned alloc p (Some it) = endpoint_owned alloc p it
 
 abbrev pub place_coded : Coded (Option Endpoint.the_row.Denot)
 place_coded = coded_option Endpoint.the_row.coded

@@ -1,8 +1,8 @@
-//! What C holds of an end that a call only looks at.
+//! What C holds of an endpoint that a call only looks at.
 
 ghost use Rattle.std.specs.Prelude.{◌≡◌, ℕ};
 ghost use Rattle.h26x_handles.specs.declared.endpoint.Endpoint.{Endpoint};
-ghost use Rattle.h26x_c.specs.Owned.{end_lent, end_coded};
+ghost use Rattle.h26x_c.specs.Owned.{endpoint_lent, endpoint_coded};
 
 use h26x_handles::endpoint::Endpoint;
 use std::marker::Model;
@@ -12,11 +12,11 @@ use std::marker::Model;
 pub struct ConstHandle {
     ptr: *mut (),
     ghost life: { ℕ },
-    pub ghost value: { Endpoint } by { end_coded },
+    pub ghost value: { Endpoint } by { endpoint_coded },
 }
 
 impl Model for ConstHandle {
-    ghost also_owns = { λ h. end_lent h.life h.ptr h.value };
+    ghost also_owns = { λ h. endpoint_lent h.life h.ptr h.value };
 }
 
 // Threads may look at an end at once, and so at its handle.

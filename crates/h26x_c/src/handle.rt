@@ -1,8 +1,8 @@
-//! What C holds of an end: the pointer of a box.
+//! What C holds of an endpoint: the pointer of a box.
 
 ghost use Rattle.std.specs.Prelude.{◌≡◌};
 ghost use Rattle.h26x_handles.specs.declared.endpoint.Endpoint.{Endpoint};
-ghost use Rattle.h26x_c.specs.Owned.{end_owned, end_coded};
+ghost use Rattle.h26x_c.specs.Owned.{endpoint_owned, endpoint_coded};
 
 mod lends;
 
@@ -15,17 +15,17 @@ use std::marker::Model;
 pub struct Handle {
     pub(super) ptr: *mut (),
     alloc: Global,
-    pub ghost value: { Endpoint } by { end_coded },
+    pub ghost value: { Endpoint } by { endpoint_coded },
 }
 
 impl Model for Handle {
-    ghost also_owns = { λ h. end_owned h.alloc h.ptr h.value };
+    ghost also_owns = { λ h. endpoint_owned h.alloc h.ptr h.value };
 }
 
 /// What may go to another thread.
 trait GoesToAnotherThread: Send {}
 
-// An end may, and so may its handle.
+// An endpoint may, and so may its handle.
 impl GoesToAnotherThread for Endpoint {}
 
 unsafe impl Send for Handle {}

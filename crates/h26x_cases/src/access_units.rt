@@ -8,11 +8,11 @@ ghost use Rattle.h26x_model.specs.Send.Calls.{fresh_call};
 ghost use Rattle.h264_payload.specs.H264.{h264};
 ghost use Rattle.h26x_codec.specs.declared.codec.Codec.TheVariants as c;
 ghost use Rattle.h26x_codec.specs.Codec.{codec_format, fresh_packetizer_state, fresh_depacketizer_state};
-ghost use Rattle.h26x_frames.specs.Network.{IsNetwork, released_packets};
+ghost use Rattle.h26x_assembler.specs.Network.{IsNetwork, released_packets};
 ghost use Rattle.h26x_reorder.specs.Rtp.{rtp_body};
-ghost use Rattle.h26x_frames.specs.AccessUnit.{AccessUnitValue, empty_unit, unit_depacketization, fresh_units, gives_up_run, is_text_given_up, after_all_rtp, after_unit_skip, after_pass_over, after_end, HaveUnitAnswers};
-ghost use Rattle.h26x_frames.specs.AnyUnits.{any_units_left};
-ghost use Rattle.h26x_frames.specs.StampedCalls.{stamped_call, access_unit_packets, sent_bodies, unit_left, units_left, sent_unit, sent_units, packets_len, AreApart, AreUnitsWithin, IsGivenOut, IsStream, IsBroughtStream, IsSentIfWhole, AreAccessUnitsLeft};
+ghost use Rattle.h26x_assembler.specs.AccessUnit.{AccessUnitValue, empty_unit, assembly, fresh_assembly, gives_up_run, is_text_given_up, after_all_rtp, after_unit_skip, after_pass_over, after_finishing, HaveAssemblyAnswers};
+ghost use Rattle.h26x_assembler.specs.AnyUnits.{any_units_left};
+ghost use Rattle.h26x_assembler.specs.StampedCalls.{stamped_call, access_unit_packets, sent_bodies, unit_left, units_left, sent_unit, sent_units, packets_len, AreApart, AreUnitsWithin, IsGivenOut, IsStream, IsBroughtStream, IsSentIfWhole, AreAccessUnitsLeft};
 
 use h26x_receiver::Received;
 
@@ -31,30 +31,30 @@ pub fn a_network()
 /// timestamp the second. Each is known to be whole but the first of all, since a packet before its
 /// first may be missing; behind a gap, and where a gap may be in it, it isn't.
 pub fn access_units_by_marker_and_timestamp()
-    ensures not_ended { (after_all_rtp 4 12 (fresh_units (fresh_depacketizer_state h264))
+    ensures not_ended { (after_all_rtp 4 12 (fresh_assembly (fresh_depacketizer_state h264))
         ((7, rtp_body 3000 false (0x65 ∷ 0x01 ∷ [])) ∷ []) (Ok Received.InOrder ∷ [])).ended ≡ [] }
     ensures whole { map {B = ℕ × Bool} (λ u. (u.timestamp, u.is_whole))
-        (after_all_rtp 4 12 (fresh_units (fresh_depacketizer_state h264))
+        (after_all_rtp 4 12 (fresh_assembly (fresh_depacketizer_state h264))
         ((7, rtp_body 3000 true (0x65 ∷ 0x01 ∷ [])) ∷ (8, rtp_body 6000 false (0x61 ∷ 0x02 ∷ []))
         ∷ (9, rtp_body 9000 true (0x61 ∷ 0x03 ∷ [])) ∷ [])
         (Ok Received.InOrder ∷ Ok Received.InOrder ∷ Ok Received.InOrder ∷ [])).ended
         ≡ (3000, false) ∷ (6000, true) ∷ (9000, true) ∷ [] }
     ensures text { map (λ u. u.bytes)
-        (after_all_rtp 4 12 (fresh_units (fresh_depacketizer_state h264))
+        (after_all_rtp 4 12 (fresh_assembly (fresh_depacketizer_state h264))
         ((7, rtp_body 3000 false (0x65 ∷ 0x01 ∷ [])) ∷ (8, rtp_body 3000 true (0x65 ∷ 0x02 ∷ []))
         ∷ (9, rtp_body 6000 true (0x61 ∷ 0x03 ∷ [])) ∷ [])
         (Ok Received.InOrder ∷ Ok Received.InOrder ∷ Ok Received.InOrder ∷ [])).ended
         ≡ (0x00 ∷ 0x00 ∷ 0x00 ∷ 0x01 ∷ 0x65 ∷ 0x01 ∷ 0x00 ∷ 0x00 ∷ 0x00 ∷ 0x01 ∷ 0x65 ∷ 0x02 ∷ [])
         ∷ (0x00 ∷ 0x00 ∷ 0x00 ∷ 0x01 ∷ 0x61 ∷ 0x03 ∷ []) ∷ [] }
     ensures gap { map {B = ℕ × Bool} (λ u. (u.timestamp, u.is_whole))
-        (after_all_rtp 4 12 (fresh_units (fresh_depacketizer_state h264))
+        (after_all_rtp 4 12 (fresh_assembly (fresh_depacketizer_state h264))
         ((7, rtp_body 3000 true (0x65 ∷ 0x01 ∷ [])) ∷ (8, rtp_body 6000 false (0x61 ∷ 0x02 ∷ []))
         ∷ (10, rtp_body 9000 true (0x61 ∷ 0x03 ∷ [])) ∷ (11, rtp_body 12000 true (0x61 ∷ []))
         ∷ []) (Ok Received.InOrder ∷ Ok Received.InOrder ∷ Ok (Received.Gap 1)
         ∷ Ok Received.InOrder ∷ [])).ended
         ≡ (3000, false) ∷ (6000, false) ∷ (9000, false) ∷ (12000, true) ∷ [] }
     ensures at_the_end { map {B = ℕ × Bool} (λ u. (u.timestamp, u.is_whole))
-        (after_end (after_all_rtp 4 12 (fresh_units (fresh_depacketizer_state h264))
+        (after_finishing (after_all_rtp 4 12 (fresh_assembly (fresh_depacketizer_state h264))
         ((7, rtp_body 3000 true (0x65 ∷ [])) ∷ (8, rtp_body 6000 false (0x61 ∷ [])) ∷ [])
         (Ok Received.InOrder ∷ Ok Received.InOrder ∷ []))).ended
         ≡ (3000, false) ∷ (6000, false) ∷ [] }
@@ -65,14 +65,14 @@ pub fn access_units_by_marker_and_timestamp()
 /// whose start is missing, though no number is, or another timestamp while a unit is open: nor these.
 pub fn markers_that_are_wrong()
     ensures each_slice { map {B = ℕ × Bool} (λ u. (u.timestamp, u.is_whole))
-        (after_all_rtp 4 12 (fresh_units (fresh_depacketizer_state h264))
+        (after_all_rtp 4 12 (fresh_assembly (fresh_depacketizer_state h264))
         ((7, rtp_body 3000 true (0x65 ∷ [])) ∷ (8, rtp_body 6000 true (0x61 ∷ []))
         ∷ (9, rtp_body 6000 true (0x61 ∷ [])) ∷ (10, rtp_body 9000 true (0x61 ∷ [])) ∷ [])
         (Ok Received.InOrder ∷ Ok Received.InOrder ∷ Ok Received.InOrder ∷ Ok Received.InOrder
         ∷ [])).ended
         ≡ (3000, false) ∷ (6000, true) ∷ (6000, false) ∷ (9000, true) ∷ [] }
     ensures middle { map {B = ℕ × List ℕ × Bool} (λ u. (u.timestamp, u.bytes, u.is_whole))
-        (after_all_rtp 4 12 (fresh_units (fresh_depacketizer_state h264))
+        (after_all_rtp 4 12 (fresh_assembly (fresh_depacketizer_state h264))
         ((7, rtp_body 3000 true (0x65 ∷ []))
         ∷ (8, rtp_body 6000 false (0x7c ∷ 0x85 ∷ 0x01 ∷ []))
         ∷ (9, rtp_body 6000 true (0x7c ∷ 0x05 ∷ 0x02 ∷ []))
@@ -82,13 +82,13 @@ pub fn markers_that_are_wrong()
         ≡ (3000, 0x00 ∷ 0x00 ∷ 0x00 ∷ 0x01 ∷ 0x65 ∷ [], false) ∷ (6000, [], false)
         ∷ (6000, [], false) ∷ [] }
     ensures startless { map {B = ℕ × Bool} (λ u. (u.timestamp, u.is_whole))
-        (after_all_rtp 4 12 (fresh_units (fresh_depacketizer_state h264))
+        (after_all_rtp 4 12 (fresh_assembly (fresh_depacketizer_state h264))
         ((7, rtp_body 3000 true (0x65 ∷ [])) ∷ (8, rtp_body 6000 false (0x61 ∷ []))
         ∷ (9, rtp_body 6000 true (0x7c ∷ 0x45 ∷ 0x03 ∷ [])) ∷ [])
         (Ok Received.InOrder ∷ Ok Received.InOrder ∷ Ok Received.InOrder ∷ [])).ended
         ≡ (3000, false) ∷ (6000, false) ∷ [] }
     ensures cut_off { map {B = ℕ × Bool} (λ u. (u.timestamp, u.is_whole))
-        (after_all_rtp 4 12 (fresh_units (fresh_depacketizer_state h264))
+        (after_all_rtp 4 12 (fresh_assembly (fresh_depacketizer_state h264))
         ((7, rtp_body 3000 true (0x65 ∷ []))
         ∷ (8, rtp_body 6000 false (0x7c ∷ 0x85 ∷ 0x01 ∷ []))
         ∷ (9, rtp_body 9000 true (0x61 ∷ [])) ∷ [])
@@ -101,14 +101,14 @@ pub fn markers_that_are_wrong()
 /// where the first has no data; an access unit whose units end, each before the next starts, is whole.
 pub fn starts_that_give_up_a_run()
     ensures h264 { map {B = List ℕ × Bool} (λ u. (u.bytes, u.is_whole))
-        (after_all_rtp 4 12 (unit_depacketization (fresh_depacketizer_state h264) (Some 7) None [])
+        (after_all_rtp 4 12 (assembly (fresh_depacketizer_state h264) (Some 7) None [])
         ((7, rtp_body 3000 false (0x7c ∷ 0x85 ∷ 0x01 ∷ []))
         ∷ (8, rtp_body 3000 false (0x7c ∷ 0x85 ∷ 0x02 ∷ []))
         ∷ (9, rtp_body 3000 true (0x7c ∷ 0x45 ∷ 0x03 ∷ [])) ∷ [])
         (Ok Received.InOrder ∷ Ok Received.InOrder ∷ Ok Received.InOrder ∷ [])).ended
         ≡ (0x00 ∷ 0x00 ∷ 0x00 ∷ 0x01 ∷ 0x65 ∷ 0x02 ∷ 0x03 ∷ [], false) ∷ [] }
     ensures h265 { map {B = List ℕ × Bool} (λ u. (u.bytes, u.is_whole))
-        (after_all_rtp 4 12 (unit_depacketization
+        (after_all_rtp 4 12 (assembly
         (fresh_depacketizer_state (codec_format c.H265 false)) (Some 7) None [])
         ((7, rtp_body 3000 false (0x62 ∷ 0x01 ∷ 0x93 ∷ 0x01 ∷ []))
         ∷ (8, rtp_body 3000 false (0x62 ∷ 0x01 ∷ 0x93 ∷ 0x02 ∷ []))
@@ -116,7 +116,7 @@ pub fn starts_that_give_up_a_run()
         (Ok Received.InOrder ∷ Ok Received.InOrder ∷ Ok Received.InOrder ∷ [])).ended
         ≡ (0x00 ∷ 0x00 ∷ 0x00 ∷ 0x01 ∷ 0x26 ∷ 0x01 ∷ 0x02 ∷ 0x03 ∷ [], false) ∷ [] }
     ensures h266 { map {B = List ℕ × Bool} (λ u. (u.bytes, u.is_whole))
-        (after_all_rtp 4 12 (unit_depacketization
+        (after_all_rtp 4 12 (assembly
         (fresh_depacketizer_state (codec_format c.H266 false)) (Some 7) None [])
         ((7, rtp_body 3000 false (0x00 ∷ 0xe9 ∷ 0x87 ∷ 0x01 ∷ []))
         ∷ (8, rtp_body 3000 false (0x00 ∷ 0xe9 ∷ 0x87 ∷ 0x02 ∷ []))
@@ -135,7 +135,7 @@ pub fn starts_that_give_up_a_run()
         ≡ false }
     ensures another_unit { gives_up_run (Some (0x01 ∷ [])) (h264.read (0x41 ∷ [])) ≡ false }
     ensures one_behind_the_other { map {B = Bool} (λ u. u.is_whole)
-        (after_all_rtp 4 12 (unit_depacketization (fresh_depacketizer_state h264) (Some 7) None [])
+        (after_all_rtp 4 12 (assembly (fresh_depacketizer_state h264) (Some 7) None [])
         ((7, rtp_body 3000 false (0x7c ∷ 0x85 ∷ 0x01 ∷ []))
         ∷ (8, rtp_body 3000 false (0x7c ∷ 0x45 ∷ 0x02 ∷ []))
         ∷ (9, rtp_body 3000 false (0x7c ∷ 0x85 ∷ 0x03 ∷ []))
@@ -149,14 +149,14 @@ pub fn starts_that_give_up_a_run()
 pub fn numbers_skipped_in_access_units()
     ensures within { map {B = ℕ × Bool} (λ u. (u.timestamp, u.is_whole))
         (after_all_rtp 4 12 (after_unit_skip
-        (after_all_rtp 4 12 (fresh_units (fresh_depacketizer_state h264))
+        (after_all_rtp 4 12 (fresh_assembly (fresh_depacketizer_state h264))
         ((65534, rtp_body 3000 true (0x65 ∷ [])) ∷ (65535, rtp_body 6000 false (0x61 ∷ [])) ∷ [])
         (Ok Received.InOrder ∷ Ok Received.InOrder ∷ [])) 0)
         ((1, rtp_body 6000 true (0x61 ∷ [])) ∷ []) (Ok Received.InOrder ∷ [])).ended
         ≡ (3000, false) ∷ (6000, true) ∷ [] }
     ensures gap_within { map {B = ℕ × Bool} (λ u. (u.timestamp, u.is_whole))
         (after_all_rtp 4 12 (after_unit_skip
-        (after_all_rtp 4 12 (fresh_units (fresh_depacketizer_state h264))
+        (after_all_rtp 4 12 (fresh_assembly (fresh_depacketizer_state h264))
         ((65534, rtp_body 3000 true (0x65 ∷ [])) ∷ (65535, rtp_body 6000 false (0x61 ∷ [])) ∷ [])
         (Ok Received.InOrder ∷ Ok Received.InOrder ∷ [])) 1)
         ((2, rtp_body 6000 true (0x61 ∷ [])) ∷ (3, rtp_body 9000 true (0x61 ∷ [])) ∷ [])
@@ -164,15 +164,15 @@ pub fn numbers_skipped_in_access_units()
         ≡ (3000, false) ∷ (6000, false) ∷ (9000, true) ∷ [] }
     ensures gap_before { map {B = ℕ × Bool} (λ u. (u.timestamp, u.is_whole))
         (after_all_rtp 4 12 (after_unit_skip (after_unit_skip
-        (after_all_rtp 4 12 (fresh_units (fresh_depacketizer_state h264))
+        (after_all_rtp 4 12 (fresh_assembly (fresh_depacketizer_state h264))
         ((65534, rtp_body 3000 true (0x65 ∷ [])) ∷ []) (Ok Received.InOrder ∷ [])) 0) 1)
         ((2, rtp_body 6000 true (0x61 ∷ [])) ∷ (3, rtp_body 9000 true (0x61 ∷ [])) ∷ [])
         (Ok Received.InOrder ∷ Ok Received.InOrder ∷ [])).ended
         ≡ (3000, false) ∷ (6000, false) ∷ (9000, true) ∷ [] }
     ensures late { after_unit_skip
-        (after_all_rtp 4 12 (fresh_units (fresh_depacketizer_state h264))
+        (after_all_rtp 4 12 (fresh_assembly (fresh_depacketizer_state h264))
         ((65534, rtp_body 3000 false (0x65 ∷ [])) ∷ []) (Ok Received.InOrder ∷ [])) 65534
-        ≡ after_all_rtp 4 12 (fresh_units (fresh_depacketizer_state h264))
+        ≡ after_all_rtp 4 12 (fresh_assembly (fresh_depacketizer_state h264))
         ((65534, rtp_body 3000 false (0x65 ∷ [])) ∷ []) (Ok Received.InOrder ∷ []) }
 {}
 
@@ -181,15 +181,15 @@ pub fn numbers_skipped_in_access_units()
 pub fn numbers_passed_over_in_access_units()
     ensures within { map {B = ℕ × Bool} (λ u. (u.timestamp, u.is_whole))
         (after_all_rtp 4 12 (after_pass_over
-        (after_all_rtp 4 12 (fresh_units (fresh_depacketizer_state h264))
+        (after_all_rtp 4 12 (fresh_assembly (fresh_depacketizer_state h264))
         ((65534, rtp_body 3000 true (0x65 ∷ [])) ∷ (65535, rtp_body 6000 false (0x61 ∷ [])) ∷ [])
         (Ok Received.InOrder ∷ Ok Received.InOrder ∷ [])) 0)
         ((1, rtp_body 6000 true (0x61 ∷ [])) ∷ (2, rtp_body 9000 true (0x61 ∷ [])) ∷ [])
         (Ok Received.InOrder ∷ Ok Received.InOrder ∷ [])).ended
         ≡ (3000, false) ∷ (6000, false) ∷ (9000, true) ∷ [] }
-    ensures late { after_pass_over (record (fresh_units (fresh_depacketizer_state h264)) {
+    ensures late { after_pass_over (record (fresh_assembly (fresh_depacketizer_state h264)) {
       expected = Some 7;
-    }) 6 ≡ record (fresh_units (fresh_depacketizer_state h264)) {
+    }) 6 ≡ record (fresh_assembly (fresh_depacketizer_state h264)) {
       expected = Some 7;
     } }
 {}
@@ -198,7 +198,7 @@ pub fn numbers_passed_over_in_access_units()
 /// up, and what follows of that access unit isn't told to be whole; the next one is.
 pub fn access_units_at_the_limit()
     ensures at { map {B = List ℕ × Bool} (λ u. (u.bytes, u.is_whole))
-        (after_all_rtp 4 6 (fresh_units (fresh_depacketizer_state h264))
+        (after_all_rtp 4 6 (fresh_assembly (fresh_depacketizer_state h264))
         ((7, rtp_body 3000 true (0x65 ∷ [])) ∷ (8, rtp_body 6000 false (0x61 ∷ 0x02 ∷ []))
         ∷ (9, rtp_body 6000 true (0x61 ∷ [])) ∷ (10, rtp_body 9000 true (0x61 ∷ [])) ∷ [])
         (Ok Received.InOrder ∷ Ok Received.InOrder ∷ Ok Received.InOrder ∷ Ok Received.InOrder
@@ -207,7 +207,7 @@ pub fn access_units_at_the_limit()
         ∷ (0x00 ∷ 0x00 ∷ 0x00 ∷ 0x01 ∷ 0x61 ∷ 0x02 ∷ 0x00 ∷ 0x00 ∷ 0x00 ∷ 0x01 ∷ 0x61 ∷ [], true)
         ∷ (0x00 ∷ 0x00 ∷ 0x00 ∷ 0x01 ∷ 0x61 ∷ [], true) ∷ [] }
     ensures past { map {B = List ℕ × Bool} (λ u. (u.bytes, u.is_whole))
-        (after_all_rtp 4 5 (fresh_units (fresh_depacketizer_state h264))
+        (after_all_rtp 4 5 (fresh_assembly (fresh_depacketizer_state h264))
         ((7, rtp_body 3000 true (0x65 ∷ [])) ∷ (8, rtp_body 6000 false (0x61 ∷ 0x02 ∷ []))
         ∷ (9, rtp_body 6000 true (0x61 ∷ [])) ∷ (10, rtp_body 9000 true (0x61 ∷ [])) ∷ [])
         (Ok Received.InOrder ∷ Ok Received.InOrder ∷ Ok Received.InOrder ∷ Ok Received.InOrder
@@ -215,11 +215,11 @@ pub fn access_units_at_the_limit()
         ≡ (0x00 ∷ 0x00 ∷ 0x00 ∷ 0x01 ∷ 0x65 ∷ [], false)
         ∷ (0x00 ∷ 0x00 ∷ 0x00 ∷ 0x01 ∷ 0x61 ∷ [], false)
         ∷ (0x00 ∷ 0x00 ∷ 0x00 ∷ 0x01 ∷ 0x61 ∷ [], true) ∷ [] }
-    ensures stays { is_text_given_up 4 6 (fresh_units (fresh_depacketizer_state h264))
+    ensures stays { is_text_given_up 4 6 (fresh_assembly (fresh_depacketizer_state h264))
         (8, rtp_body 6000 false (0x61 ∷ 0x02 ∷ [])) ≡ false }
-    ensures goes { is_text_given_up 4 5 (fresh_units (fresh_depacketizer_state h264))
+    ensures goes { is_text_given_up 4 5 (fresh_assembly (fresh_depacketizer_state h264))
         (8, rtp_body 6000 false (0x61 ∷ 0x02 ∷ [])) ≡ true }
-    ensures ends { is_text_given_up 4 5 (fresh_units (fresh_depacketizer_state h264))
+    ensures ends { is_text_given_up 4 5 (fresh_assembly (fresh_depacketizer_state h264))
         (8, rtp_body 6000 true (0x61 ∷ 0x02 ∷ [])) ≡ false }
 {}
 
@@ -325,7 +325,7 @@ pub fn a_stream()
         (stamped_call 3000 (fresh_call 3 (0x65 ∷ 0x01 ∷ 0x02 ∷ 0x03 ∷ []))
         ∷ stamped_call 6000 (fresh_call 3 (0x61 ∷ 0x05 ∷ [])) ∷ [])
         (true ∷ false ∷ true ∷ true ∷ []) }
-    ensures answers { HaveUnitAnswers 4 12 (fresh_units (fresh_depacketizer_state h264))
+    ensures answers { HaveAssemblyAnswers 4 12 (fresh_assembly (fresh_depacketizer_state h264))
         ((65535, rtp_body 3000 false (0x7c ∷ 0x85 ∷ 0x01 ∷ []))
         ∷ (1, rtp_body 3000 true (0x7c ∷ 0x45 ∷ 0x03 ∷ []))
         ∷ (2, rtp_body 6000 true (0x61 ∷ 0x05 ∷ [])) ∷ [])
@@ -335,7 +335,7 @@ pub fn a_stream()
 /// What is given out of that stream, whatever is said of it, where none is past the limit.
 pub fn a_stream_left()
     ensures { (units : List AccessUnitValue) → AreAccessUnitsLeft 4 12
-        (unit_depacketization (fresh_depacketizer_state h264) (Some 65535) None [])
+        (assembly (fresh_depacketizer_state h264) (Some 65535) None [])
         ((65535, rtp_body 3000 false (0x7c ∷ 0x85 ∷ 0x01 ∷ []))
         ∷ (1, rtp_body 3000 true (0x7c ∷ 0x45 ∷ 0x03 ∷ []))
         ∷ (2, rtp_body 6000 true (0x61 ∷ 0x05 ∷ [])) ∷ []) units →
@@ -345,14 +345,14 @@ pub fn a_stream_left()
 
 /// At the end no run is open, and any number may be the next.
 pub fn an_end()
-    ensures run { (after_end (after_all_rtp 4 12 (fresh_units (fresh_depacketizer_state h264))
-        ((7, rtp_body 3000 false (0x7c ∷ 0x85 ∷ 0x01 ∷ [])) ∷ [])
+    ensures run { (after_finishing (after_all_rtp 4 12 (fresh_assembly (fresh_depacketizer_state
+        h264)) ((7, rtp_body 3000 false (0x7c ∷ 0x85 ∷ 0x01 ∷ [])) ∷ [])
         (Ok Received.InOrder ∷ []))).state.run ≡ None }
-    ensures expected { (after_end (after_all_rtp 4 12 (fresh_units (fresh_depacketizer_state h264))
-        ((7, rtp_body 3000 false (0x7c ∷ 0x85 ∷ 0x01 ∷ [])) ∷ [])
+    ensures expected { (after_finishing (after_all_rtp 4 12 (fresh_assembly
+        (fresh_depacketizer_state h264)) ((7, rtp_body 3000 false (0x7c ∷ 0x85 ∷ 0x01 ∷ [])) ∷ [])
         (Ok Received.InOrder ∷ []))).expected ≡ None }
     ensures extra { map {B = CodecExtra} (λ u. u.extra)
-        (after_all_rtp 4 5 (fresh_units (fresh_depacketizer_state h264))
+        (after_all_rtp 4 5 (fresh_assembly (fresh_depacketizer_state h264))
         ((7, rtp_body 3000 false (0x65 ∷ 0x01 ∷ [])) ∷ (8, rtp_body 3000 true (0x41 ∷ [])) ∷ [])
         (Ok Received.InOrder ∷ Ok Received.InOrder ∷ [])).ended
         ≡ extra_after h264 extras.None ((0x41 ∷ []) ∷ []) ∷ [] }

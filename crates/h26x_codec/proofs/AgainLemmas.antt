@@ -19,11 +19,11 @@ use Rattle.h26x_model.specs.Receive.DepacketizerState.{DepacketizerState, Depack
 use Rattle.h26x_model.specs.Carry.Laws.{PacketizerGoesOn, calls_like}
 use Rattle.h26x_payload.specs.Units.{CutsBy}
 use Rattle.h26x_codec.specs.Codec.{codec_format}
-use Rattle.h26x_codec.specs.Runs.{IsLeftOver}
+use Rattle.h26x_codec.specs.Transmissions.{IsLeftOver}
 use Rattle.h26x_codec.specs.Repeating.{zero_rule, IsFirstRefused}
 use Rattle.h26x_codec.specs.declared.codec.Codec.{Codec}
 use Rattle.h26x_codec.specs.declared.codec.Codec.TheVariants as c
-use Rattle.h26x_codec.proofs.RunLemmas.{written_of}
+use Rattle.h26x_codec.proofs.TransmissionLemmas.{written_of}
 
 -- a call with this payload
 abbrev pub call_for : Call → List ℕ → Call

@@ -1,5 +1,5 @@
 pub mod AgainLemmas
-pub mod RunLemmas
+pub mod TransmissionLemmas
 pub mod StateLemmas
 pub mod TakeLemmas
 pub mod PlainLemmas

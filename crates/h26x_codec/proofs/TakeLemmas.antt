@@ -10,7 +10,7 @@ use Rattle.h26x_core.specs.declared.error.PacketError.{PacketError}
 use Rattle.h26x_core.specs.Front.{IsFrontOf}
 use Rattle.h26x_model.specs.Receive.DepacketizerState.{DepacketizerState, Depacketization, after_packets, IsPacketOutcome, accepted_packets, HaveOutcomes, AreAllTaken, depacketization}
 use Rattle.h26x_model.specs.Carry.Laws.{DepacketizerGoesOn}
-use Rattle.h26x_codec.proofs.RunLemmas.{still_front, same_work}
+use Rattle.h26x_codec.proofs.TransmissionLemmas.{still_front, same_work}
 
 -- one packet more, and its outcome
 outcomes_more : (w : Depacketization) (before packets : List (List ℕ)) (outcomes : List (Result (Unit {0}) PacketError)) (packet : List ℕ) (outcome : Result (Unit {0}) PacketError) →

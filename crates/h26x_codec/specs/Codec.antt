@@ -18,7 +18,7 @@ use Rattle.h264_payload.specs.H264.{h264}
 use Rattle.h264_payload.specs.declared.codec.H264.{H264}
 use Rattle.h265_payload.specs.H265.{h265, h265_header}
 use Rattle.h265_payload.specs.Setting as h265_setting
-use Rattle.h265_payload.specs.DepacketizerView as h265_end
+use Rattle.h265_payload.specs.DepacketizerView as h265_view
 use Rattle.h265_packets.specs.Payload.{empty_single}
 use Rattle.h265_packets.specs.declared.payload.H265Payload.{H265Payload}
 use Rattle.h265_packets.specs.declared.payload.H265Payload.TheVariants as shows
@@ -99,7 +99,7 @@ with_max_packet_size n (p.Boxed it) = p.Boxed it
 abbrev pub codec_depacketizer_state : {X : Type 0} {P : X → Type 0} → CodecDepacketizer X P →
     Option DepacketizerState
 codec_depacketizer_state (d.H264 it) = Some (depacketizer_state h264 it)
-codec_depacketizer_state (d.H265 it) = Some (h265_end.h265_state it)
+codec_depacketizer_state (d.H265 it) = Some (h265_view.h265_state it)
 codec_depacketizer_state (d.H266 it) = Some (depacketizer_state
     (h266_setting.setting_format it.codec) it)
 codec_depacketizer_state (d.Boxed it) = None
@@ -122,8 +122,8 @@ OfH264 depacketizer holds = (it : DepacketizerView H264) → depacketizer ≡ d.
 
 -- of one of H.265
 abbrev pub OfH265 : {X : Type 0} {P : X → Type 0} → CodecDepacketizer X P →
-    (h265_end.H265DepacketizerView → Type 0) → Type 0
-OfH265 depacketizer holds = (it : h265_end.H265DepacketizerView) → depacketizer ≡ d.H265 it →
+    (h265_view.H265DepacketizerView → Type 0) → Type 0
+OfH265 depacketizer holds = (it : h265_view.H265DepacketizerView) → depacketizer ≡ d.H265 it →
     holds it
 
 -- of one of H.266

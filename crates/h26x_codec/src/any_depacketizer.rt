@@ -129,7 +129,7 @@ impl AnyDepacketizer {
     }
 
     /// Sets whether it writes units behind lengths or behind start codes.
-    pub fn with_avc(&mut self, is_avc: bool)
+    pub fn set_avc(&mut self, is_avc: bool)
         ensures { self.new ≡ any_depacketizer_with_avc is_avc self.old }
     {
         match self {

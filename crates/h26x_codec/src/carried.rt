@@ -1,4 +1,4 @@
-//! What a run has made: its packets, and which calls were made.
+//! What a transmission has made: its packets, and which calls were made.
 
 ghost use Rattle.std.specs.Prelude.{◌≡◌};
 ghost use Rattle.h26x_packetizer.specs.Sending.{contents};
@@ -43,7 +43,7 @@ impl Packets {
     }
 }
 
-/// Of each call of a run whether it was made.
+/// Of each call of a transmission whether it was made.
 #[derive(Debug, Drop)]
 pub struct Marks {
     marks: Vec<bool>,
@@ -80,7 +80,7 @@ impl Marks {
     }
 }
 
-/// What a run of calls made.
+/// What a transmission made.
 #[derive(Debug, Drop)]
 pub struct Carried {
     /// The packets of all calls, in order.

@@ -1,4 +1,5 @@
-//! Worked cases of what is said of whole runs. Each is the contract of a function without a result.
+//! Worked cases of what is said of whole transmissions. Each is the contract of a function without
+//! a result.
 
 ghost use Rattle.std.specs.Prelude.{◌≡◌, ℕ, ◌≤◌, true, false, List, [], ◌∷◌, ◌++◌, length, Some, Ok};
 ghost use Rattle.std.specs.List.{AllByRecursion};
@@ -17,7 +18,7 @@ ghost use Rattle.h264_payload.specs.H264.{h264};
 ghost use Rattle.h265_payload.specs.H265.{h265};
 ghost use Rattle.h266_payload.specs.H266.{h266};
 ghost use Rattle.h26x_codec.specs.Codec.{fresh_packetizer_state, fresh_depacketizer_state};
-ghost use Rattle.h26x_codec.specs.Runs.{AreMade, AreSent, IsSentCall, AreTaken, IsLeftOver, IsStopped, LacksMemory, IsFresh, AreCarriedWhole};
+ghost use Rattle.h26x_codec.specs.Transmissions.{AreMade, AreSent, IsSentCall, AreTaken, IsLeftOver, IsStopped, LacksMemory, IsFresh, AreCarriedWhole};
 ghost use Rattle.h26x_codec.specs.Taking.{AreSomePackets, AreReceivedAs, LossIsWithin};
 ghost use Rattle.h26x_codec.specs.Repeating.{MayBeRepeated, IsFirstRefused};
 ghost use Rattle.h26x_codec.specs.Plain.{EndsUnitAt, IsPlainUnit};
@@ -77,7 +78,7 @@ pub fn packets_left_over()
 {}
 
 /// A run stops in its second call, whose packet is refused; the first one's unit was written.
-pub fn runs_that_stopped()
+pub fn transmissions_that_stopped()
     ensures stopped { IsStopped (fresh_packetizer_state h264)
         (depacketization (fresh_depacketizer_state h264) [] extras.None)
         (fresh_call 9 (0x65 ∷ []) ∷ fresh_call 9 (0x60 ∷ []) ∷ fresh_call 9 (0x61 ∷ []) ∷ [])

@@ -9,7 +9,7 @@ ghost use Rattle.h26x_model.specs.Send.PacketizerState.{IsPacketizerState};
 ghost use Rattle.h26x_codec.specs.Codec.{codec_format, OfPacketizer, OfDepacketizer};
 ghost use Rattle.h26x_codec.specs.Plain.{EndsUnitAt, IsPlainUnit, ArePlainUnits, ReadsPlainUnits, EachFitsAvcLength};
 ghost use Rattle.h26x_codec.specs.Repeating.{zero_rule, SendsAgainAlike};
-ghost use Rattle.h26x_codec.specs.Runs.{DetectsKeyUnits};
+ghost use Rattle.h26x_codec.specs.Transmissions.{DetectsKeyUnits};
 
 use crate::codec::Codec;
 use crate::depacketizer::CodecDepacketizer;

@@ -1,5 +1,5 @@
 //! The packetizers and depacketizers of all codecs behind one type each, with a caller's own, and
-//! whole runs through them: calls through both ends ([`carry`]), packets of any peer
+//! whole transmissions through them: calls through both endpoints ([`carry`]), packets of any peer
 //! ([`take_all`]), and payloads sent, written and sent again ([`again`]).
 //!
 //! ```rust
@@ -27,8 +27,8 @@ pub mod laws;
 mod packetizer;
 mod plain;
 mod repeated;
-mod runs;
 mod take;
+mod transmissions;
 
 pub use any_depacketizer::AnyDepacketizer;
 pub use any_packetizer::AnyPacketizer;
@@ -39,5 +39,5 @@ pub use depacketizer::CodecDepacketizer;
 pub use h26x_packetizer::{BufferPackets, PacketBuffer};
 pub use packetizer::CodecPacketizer;
 pub use repeated::{Repeated, again};
-pub use runs::carry;
 pub use take::take_all;
+pub use transmissions::carry;

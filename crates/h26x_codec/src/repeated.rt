@@ -6,7 +6,7 @@ ghost use Rattle.h26x_model.specs.Receive.Received.{received};
 ghost use Rattle.h26x_model.specs.Send.PacketizerState.{calls_packets};
 ghost use Rattle.h26x_packetizer.specs.Sending.{contents};
 ghost use Rattle.h26x_codec.specs.Codec.{codec_format, codec_packetizer_state, codec_depacketizer_state, fresh_depacketizer_state, OfPacketizer, OfDepacketizer, OfBoth};
-ghost use Rattle.h26x_codec.specs.Runs.{IsFresh};
+ghost use Rattle.h26x_codec.specs.Transmissions.{IsFresh};
 ghost use Rattle.h26x_codec.specs.Repeating.{zero_rule, starting_packetizer, repeated_calls, calls_at, packets_at, MayBeRepeated, IsTextOf, IsRefusal, received_text, repeated_packets};
 
 use crate::carried::Packets;
@@ -14,7 +14,7 @@ use crate::codec::Codec;
 use crate::depacketizer::CodecDepacketizer;
 use crate::laws::{depacketizer_states, packetizer_states};
 use crate::packetizer::CodecPacketizer;
-use crate::runs::deliver;
+use crate::transmissions::deliver;
 use h26x_core::{CodecExtra, PacketError, Packetizer};
 use h26x_model::laws;
 use h264_payload::{H264Depacketizer, H264Packetizer};

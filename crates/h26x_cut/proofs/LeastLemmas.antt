@@ -50,7 +50,7 @@ long_lower front back long same =
     let tests : length (zip2 ltb front back) ≡ 16 = length-zip2 ltb front back (long ∙ sym same) ∙ long in
     ap length (chosen front back) ∙ length-sel_l (zip2 ltb front back) front back (tests ∙ sym long) (tests ∙ sym same) ∙ tests
 
--- the lower lanes of two runs of bytes that follow each other
+-- the lower lanes of two lists of bytes that follow each other
 pub lowered : (bytes : List ℕ) (place next n : ℕ) (front back : List ℕ) → AreLeast bytes place (LANES * n) front → AreLeast bytes next (LANES * n) back → next ≡ place + LANES * n →
     AreLeast bytes place (2 * LANES * n) (lower_lanes front back)
 lowered bytes place next n front back ahead behind follows = record {

@@ -4,7 +4,7 @@ use Rattle.std.specs.Prelude.{filter}
 use Rattle.std.proofs.Math.Seq.{take-suc}
 use Rattle.std.proofs.lemmas.List.{append-nil, length-drop, length-take, drop-drop, get_or-drop, take-append-drop, take_all}
 use Rattle.h26x_cut.specs.declared.ZeroRule.{ZeroRule}
-use Rattle.h26x_cut.specs.Cutting.{begins_code, cut_at, cut_of, trimmed_by, trimmed, without_zeros, without_zero, trimmed_but_last, units_of_pieces, units_of}
+use Rattle.h26x_cut.specs.Cutting.{begins_code, cut_at, cut_of, trimmed_by, trimmed, without_zeros, without_zero, trimmed_but_last, units_of_segments, units_of}
 use Rattle.h26x_cut.specs.Slices.{IsFirstCode, units_behind}
 use Rattle.h26x_core.specs.ByteStream.{is_not_empty}
 use Rattle.h26x_cut.proofs.CuttingLemmas.{begins_with, without_zero_of}
@@ -43,7 +43,7 @@ begins_not bytes i differs = elim (begins_code (drop i bytes)) as (λ t. begins_
 cuts_here : (rest : List ℕ) → begins_code rest ≡ true → (3 ≤ length rest) × (cut_of rest ≡ ([], (cut_of (drop 3 rest)).0 ∷ (cut_of (drop 3 rest)).1))
 cuts_here rest e = let (behind, same) = begins_with rest e in rw same (omega arith, refl)
 
--- fewer than three bytes are one piece
+-- fewer than three bytes are one segment
 cuts_short : (rest : List ℕ) → length rest < 3 → cut_of rest ≡ (rest, [])
 cuts_short [] h = refl
 cuts_short (zero ∷ []) h = refl
@@ -63,7 +63,7 @@ pub from_start : (bytes : List ℕ) → CutsFrom bytes 0
 unfolding CutsFrom
 from_start bytes = refl
 
--- a byte at which no start code begins belongs to the first piece
+-- a byte at which no start code begins belongs to the first segment
 cut_next : (b : ℕ) (rest : List ℕ) → begins_code (b ∷ rest) ≡ false → cut_of (b ∷ rest) ≡ (b ∷ (cut_of rest).0, (cut_of rest).1)
 cut_next b rest none = ap (λ t. cut_at t b (cut_of rest)) none
 
@@ -90,10 +90,10 @@ none_found bytes i short so_far =
     let cut = cuts_short (drop i bytes) (rw length-drop (omega arith)) in
     so_far ∙ (rw cut (ap (λ (x : List ℕ). (x, [])) (take-append-drop i bytes)))
 
--- of two pieces or more the units are those of all but the first
-pub more_than_one : (rule : ZeroRule) (before piece : List ℕ) (pieces : List (List ℕ)) → units_of_pieces (before ∷ trimmed_but_last rule piece pieces) ≡ filter is_not_empty (trimmed_but_last rule piece pieces)
-more_than_one rule before piece [] = refl
-more_than_one rule before piece (second ∷ pieces) = refl
+-- of two segments or more the units are those of all but the first
+pub more_than_one : (rule : ZeroRule) (before segment : List ℕ) (segments : List (List ℕ)) → units_of_segments (before ∷ trimmed_but_last rule segment segments) ≡ filter is_not_empty (trimmed_but_last rule segment segments)
+more_than_one rule before segment [] = refl
+more_than_one rule before segment (second ∷ segments) = refl
 
 -- what stands behind the first start code has the units of the payload
 pub units_from : (rule : ZeroRule) (bytes : List ℕ) (place : ℕ) → IsFirstCode bytes (Some place) → units_behind rule (drop (place + 3) bytes) ≡ units_of rule bytes
@@ -103,7 +103,7 @@ units_from rule bytes place (long, cut) = rw cut (sym (more_than_one rule (trimm
 pub units_whole : (rule : ZeroRule) (bytes : List ℕ) → IsFirstCode bytes None → units_behind rule bytes ≡ units_of rule bytes
 units_whole rule bytes cut = rw cut refl
 
--- the zeros at a piece's end, by place
+-- the zeros at a segment's end, by place
 zero_last : (xs : List ℕ) → without_zeros (xs ++ 0 ∷ []) ≡ without_zeros xs
 zero_last [] = refl
 zero_last (b ∷ xs) = ap (trimmed_by b) (zero_last xs)

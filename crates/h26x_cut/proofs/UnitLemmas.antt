@@ -4,30 +4,30 @@ use Rattle.std.specs.Prelude.{filter}
 use Rattle.std.specs.List.{AllByRecursion}
 use Rattle.h26x_core.specs.ByteStream.{is_not_empty}
 use Rattle.h26x_cut.specs.declared.ZeroRule.{ZeroRule}
-use Rattle.h26x_cut.specs.Cutting.{HoldsStartCode, IsCutting, AreUnits, IsUnit, units_of_pieces}
+use Rattle.h26x_cut.specs.Cutting.{HoldsStartCode, IsCutting, AreUnits, IsUnit, units_of_segments}
 
--- no piece holds a start code
+-- no segment holds a start code
 abbrev AreWhole : List (List ℕ) → Type 0
-AreWhole pieces = AllByRecursion (λ piece. HoldsStartCode piece → ⊥) pieces
+AreWhole segments = AllByRecursion (λ segment. HoldsStartCode segment → ⊥) segments
 
--- no piece of a cutting holds a start code
-pieces_whole : (rule : ZeroRule) (bytes : List ℕ) (pieces : List (List ℕ)) → IsCutting rule bytes pieces → AreWhole pieces
-pieces_whole rule bytes [] cut = absurd cut
-pieces_whole rule bytes (piece ∷ []) (same, free) = (free, tt)
-pieces_whole rule bytes (piece ∷ second ∷ pieces) (code, rest, same, free, is_code, later) = (free, pieces_whole rule rest (second ∷ pieces) later)
+-- no segment of a cutting holds a start code
+segments_whole : (rule : ZeroRule) (bytes : List ℕ) (segments : List (List ℕ)) → IsCutting rule bytes segments → AreWhole segments
+segments_whole rule bytes [] cut = absurd cut
+segments_whole rule bytes (segment ∷ []) (same, free) = (free, tt)
+segments_whole rule bytes (segment ∷ second ∷ segments) (code, rest, same, free, is_code, later) = (free, segments_whole rule rest (second ∷ segments) later)
 
--- of such pieces those that are not empty are units
-kept_whole : (pieces : List (List ℕ)) → AreWhole pieces → AllByRecursion IsUnit (filter is_not_empty pieces)
+-- of such segments those that are not empty are units
+kept_whole : (segments : List (List ℕ)) → AreWhole segments → AllByRecursion IsUnit (filter is_not_empty segments)
 kept_whole [] free = tt
-kept_whole ([] ∷ pieces) (first, later) = kept_whole pieces later
-kept_whole ((b ∷ piece) ∷ pieces) (first, later) = (record { not_empty = refl; no_code = first }, kept_whole pieces later)
+kept_whole ([] ∷ segments) (first, later) = kept_whole segments later
+kept_whole ((b ∷ segment) ∷ segments) (first, later) = (record { not_empty = refl; no_code = first }, kept_whole segments later)
 
--- of whole pieces the units are not empty and whole
-units_of_whole : (pieces : List (List ℕ)) → AreWhole pieces → AllByRecursion IsUnit (units_of_pieces pieces)
+-- of whole segments the units are not empty and whole
+units_of_whole : (segments : List (List ℕ)) → AreWhole segments → AllByRecursion IsUnit (units_of_segments segments)
 units_of_whole [] free = tt
-units_of_whole (piece ∷ []) free = kept_whole (piece ∷ []) free
-units_of_whole (before ∷ piece ∷ pieces) (first, later) = kept_whole (piece ∷ pieces) later
+units_of_whole (segment ∷ []) free = kept_whole (segment ∷ []) free
+units_of_whole (before ∷ segment ∷ segments) (first, later) = kept_whole (segment ∷ segments) later
 
 -- the units of a payload are not empty and whole
 pub units_whole : (rule : ZeroRule) (payload : List ℕ) (units : List (List ℕ)) → AreUnits rule payload units → AllByRecursion IsUnit units
-units_whole rule payload units (pieces, cut, same) = subst (AllByRecursion IsUnit) (sym same) (units_of_whole pieces (pieces_whole rule payload pieces cut))
+units_whole rule payload units (segments, cut, same) = subst (AllByRecursion IsUnit) (sym same) (units_of_whole segments (segments_whole rule payload segments cut))

@@ -2,11 +2,11 @@
 use Rattle.std.specs.Prelude.{◌≡◌, ℕ, ◌+◌, ◌≤◌, List, [], ◌∷◌, length, take, drop, filter, Option, Some, None}
 use Rattle.h26x_core.specs.ByteStream.{is_not_empty}
 use Rattle.h26x_cut.specs.declared.ZeroRule.{ZeroRule}
-use Rattle.h26x_cut.specs.Cutting.{cut_of, cut_pieces}
+use Rattle.h26x_cut.specs.Cutting.{cut_of, cut_segments}
 
 -- the units of bytes that stand behind a start code
 abbrev pub units_behind : ZeroRule → List ℕ → List (List ℕ)
-units_behind rule bytes = filter is_not_empty (cut_pieces rule bytes)
+units_behind rule bytes = filter is_not_empty (cut_segments rule bytes)
 
 -- the first start code of bytes begins here, or there is none
 abbrev pub IsFirstCode : List ℕ → Option ℕ → Type 0

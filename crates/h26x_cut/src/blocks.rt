@@ -98,7 +98,7 @@ pub fn skip_quiet(bytes: &[u8], from: usize) -> usize
     if place == from { from } else { place - 1 }
 }
 
-/// The first of the places of a run at which two zeros stand.
+/// The first of `PLACES` places at which two zeros stand.
 #[inline(always)]
 pub fn first_zeros(bytes: &[u8], place: usize) -> Option<usize>
     requires { place + (PLACES + 1) ≤ length bytes.now }

@@ -22,7 +22,7 @@ pub fn payloads_and_units()
     ensures empty { units_of All (0 ∷ 0 ∷ 1 ∷ 0 ∷ 0 ∷ 1 ∷ 0xaa ∷ []) ≡ (0xaa ∷ []) ∷ [] }
 {}
 
-/// A cutting by each rule: pieces and the start codes between them, empty pieces too.
+/// A cutting by each rule: segments and the start codes between them, empty segments too.
 pub fn cuttings()
     ensures all { IsCutting All
         (0xbb ∷ 0 ∷ 0 ∷ 1 ∷ 0xaa ∷ 0 ∷ 0 ∷ 0 ∷ 1 ∷ 0 ∷ 0 ∷ 1 ∷ 0xcc ∷ 0 ∷ [])

@@ -4,7 +4,7 @@ ghost use Rattle.std.specs.Prelude.{◌≡◌, ℕ, List};
 ghost use Rattle.std.specs.List.{AllByRecursion};
 ghost use Rattle.h26x_core.specs.Mark.{IsMark};
 ghost use Rattle.h26x_core.specs.ByteStream.{annex_b};
-ghost use Rattle.h26x_cut.specs.Cutting.{EndsCodeAt, IsCutting, cut_pieces, AreUnits, IsUnit, AreSeparable, units_of};
+ghost use Rattle.h26x_cut.specs.Cutting.{EndsCodeAt, IsCutting, cut_segments, AreUnits, IsUnit, AreSeparable, units_of};
 
 use crate::ZeroRule;
 
@@ -17,7 +17,7 @@ pub fn a_start_code_ends_at_a_mark()
 /// A payload has one cutting under each rule, and so one list of units.
 pub fn one_cutting()
     ensures is { (rule : ZeroRule) (payload : List ℕ) →
-        IsCutting rule payload (cut_pieces rule payload) }
+        IsCutting rule payload (cut_segments rule payload) }
     ensures only { (rule : ZeroRule) (payload : List ℕ) (a b : List (List ℕ)) →
         IsCutting rule payload a → IsCutting rule payload b → a ≡ b }
     ensures units { (rule : ZeroRule) (payload : List ℕ) →

@@ -30,6 +30,6 @@ pub use parts::Parts;
 pub use reader::{PacketReader, starts_run};
 pub use reassembly::Fragment;
 pub use run::OpenRun;
-pub use run_depacketizer::{RunDepacketizer, take_run};
+pub use run_depacketizer::{RunDepacketizer, remove_run};
 pub use sink::UnitSink;
 pub use take::{check_lengths, take_packet};

@@ -12,14 +12,14 @@ use std::marker::Model;
 
 /// How many bytes of memory a run may have whatever it holds, sixteen of the largest packets: so many a
 /// closed one keeps at most.
-const KEPT: usize = 1_048_576;
+const KEPT_MEMORY: usize = 1_048_576;
 
 /// How many bytes of memory a run of so many bytes may have.
 #[inline]
 fn most_memory(len: usize) -> usize
     ensures { result ≤ run_memory len }
 {
-    KEPT.max(len.saturating_mul(2))
+    KEPT_MEMORY.max(len.saturating_mul(2))
 }
 
 /// Memory of so many bytes, with two lists of data one behind the other at its front. It asks once.
@@ -77,7 +77,7 @@ fn put(bytes: &mut Vec<u8>, at: usize, body: &[u8]) -> Result<usize, PacketError
     Ok(end)
 }
 
-/// The data of an open run, in a buffer that a closed one keeps, of `KEPT` bytes at most.
+/// The data of an open run, in a buffer that a closed one keeps, of `KEPT_MEMORY` bytes at most.
 #[derive(Debug, Drop)]
 pub struct OpenRun {
     /// As many bytes as the buffer has memory, the data at its front.
@@ -174,12 +174,12 @@ impl OpenRun {
         Ok(())
     }
 
-    /// Closes the run. Memory over `KEPT` bytes goes back.
+    /// Closes the run. Memory over `KEPT_MEMORY` bytes goes back.
     #[inline]
     pub fn close(&mut self)
         ensures { self.new ≡ None }
     {
-        if self.bytes.capacity() > KEPT {
+        if self.bytes.capacity() > KEPT_MEMORY {
             self.give_up();
         } else {
             self.len = 0;

@@ -113,9 +113,9 @@ pub trait RunDepacketizer: Depacketizer {
         having_taken packet (with_run run it) ≡ with_run run (having_taken packet it) };
 }
 
-/// Takes out the open run, for a packet that is to be taken without it. Where none is open a
+/// Removes the open run, for a packet that is to be taken without it. Where none is open a
 /// depacketizer keeps its buffer, for the next one.
-pub fn take_run<D: RunDepacketizer>(alloc: Global, depacketizer: &mut D) -> OpenRun
+pub fn remove_run<D: RunDepacketizer>(alloc: Global, depacketizer: &mut D) -> OpenRun
     ensures run { result ≡ (D.state depacketizer.old).run }
     ensures rest { depacketizer.new ≡ D.with_run None depacketizer.old }
 {

@@ -1,7 +1,7 @@
-//! The examples of `h26x_frames`'s documents: access units of packets with their timestamps.
+//! The examples of `h26x_assembler`'s documents: access units of packets with their timestamps.
 
+use h26x_assembler::{AccessUnit, AccessUnitAssembler};
 use h26x_core::PacketError;
-use h26x_frames::{AccessUnit, FrameReceiver};
 use h26x_receiver::SequencedDepacketizer;
 use h26x_reorder::{ReorderBuffer, RtpPacket};
 use h264_payload::H264Depacketizer;
@@ -16,17 +16,17 @@ pub fn receive_access_units(
     let mut buffer = ReorderBuffer::new(alloc, 64);
     let depacketizer = H264Depacketizer::new(alloc);
     let sequenced = SequencedDepacketizer::new(alloc, depacketizer, 4_000_000);
-    let mut receiver = FrameReceiver::new(alloc, sequenced, 8_000_000);
+    let mut assembler = AccessUnitAssembler::new(alloc, sequenced, 8_000_000);
     for packet in packets {
         buffer.push(packet)?;
         while let Some(held) = buffer.pop() {
-            receiver.receive(&held.packet(), &mut units)?;
+            assembler.receive(&held.packet(), &mut units)?;
         }
     }
     while let Some(held) = buffer.pop_first() {
-        receiver.receive(&held.packet(), &mut units)?;
+        assembler.receive(&held.packet(), &mut units)?;
     }
-    receiver.end(&mut units)?;
+    assembler.finish(&mut units)?;
     Ok(units)
 }
 
@@ -55,7 +55,7 @@ mod tests {
     fn an_access_unit_that_does_not_end(rt: HostRuntime) -> Result<(), PacketError> {
         let alloc = rt.alloc();
         let sequenced = SequencedDepacketizer::new(alloc, H264Depacketizer::new(alloc), 100);
-        let mut receiver = FrameReceiver::new(alloc, sequenced, 12);
+        let mut assembler = AccessUnitAssembler::new(alloc, sequenced, 12);
         let mut units = Vec::new(alloc);
         for (sequence, bytes_len) in [(1, 6), (2, 12), (3, 0), (4, 6)] {
             let packet = RtpPacket {
@@ -64,10 +64,10 @@ mod tests {
                 marker: false,
                 payload: &[0x61, 1],
             };
-            receiver.receive(&packet, &mut units)?;
-            assert!(rt; receiver.unit.bytes_len() == bytes_len);
+            assembler.receive(&packet, &mut units)?;
+            assert!(rt; assembler.unit.bytes_len() == bytes_len);
         }
-        receiver.end(&mut units)?;
+        assembler.finish(&mut units)?;
         assert!(rt; units.len() == 1 && !units[0].is_whole && units[0].bytes.len() == 6);
         Ok(())
     }

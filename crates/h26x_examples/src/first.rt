@@ -1,4 +1,4 @@
-//! The first example of `h264_payload`'s page: both ends.
+//! The first example of `h264_payload`'s page: both endpoints.
 
 use h26x_core::{CodecExtra, Depacketizer, PacketError, Packetizer};
 use h264_payload::{H264Depacketizer, H264Packetizer};

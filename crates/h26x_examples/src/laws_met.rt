@@ -35,14 +35,14 @@ ghost use Rattle.h26x_receiver.specs.Delivery.{IsDelivery, NoneIsRefused, mask_o
 ghost use Rattle.h26x_core.specs.Sequence.{is_expected, next_sequence_number};
 ghost use Rattle.h26x_receiver.specs.Sequenced.{SequencedDepacketization, after_skip, is_taken, sequenced_depacketization, with_expected, after_answers, HaveSequencedAnswers};
 ghost use Rattle.h26x_receiver.specs.declared.received.Received.{Received};
-ghost use Rattle.h26x_frames.specs.AccessUnit.{UnitDepacketization, IsNoneOpen, follows, after_all_rtp, after_unit_skip, after_end, HaveUnitAnswers};
-ghost use Rattle.h26x_frames.specs.AnyUnits.{SentPackets, AreSentApart, IsAnyStream, any_mask, any_units_left};
+ghost use Rattle.h26x_assembler.specs.AccessUnit.{Assembly, IsNoneOpen, follows, after_all_rtp, after_unit_skip, after_finishing, HaveAssemblyAnswers};
+ghost use Rattle.h26x_assembler.specs.AnyUnits.{SentPackets, AreSentApart, IsAnyStream, any_mask, any_units_left};
 ghost use Rattle.h26x_reorder.specs.BufferSteps.{BufferStep, AreInTurn, AreNumbered, after_steps, steps_held, steps_out};
-ghost use Rattle.h26x_frames.specs.Network.{IsNetwork, released_packets};
+ghost use Rattle.h26x_assembler.specs.Network.{IsNetwork, released_packets};
 ghost use Rattle.h26x_reorder.specs.ReorderBuffer.{BufferState, fresh_buffer, next_packet, packet_at, ready_packets, reordered, without_first};
 ghost use Rattle.h26x_reorder.specs.Reordering.{IsReordered, in_order};
 ghost use Rattle.h26x_reorder.specs.Rtp.{RtpBody};
-ghost use Rattle.h26x_frames.specs.StampedCalls.{StampedCall, AreStreamed, AreApart, AreUnitsWithin, AreUnitsGiven, brought_mask, IsBroughtStream, IsStream, IsSentIfWhole, access_unit_packets, packets_len, sent_bodies, sent_unit, sent_units, unit_left, units_left};
+ghost use Rattle.h26x_assembler.specs.StampedCalls.{StampedCall, AreStreamed, AreApart, AreUnitsWithin, AreUnitsGiven, brought_mask, IsBroughtStream, IsStream, IsSentIfWhole, access_unit_packets, packets_len, sent_bodies, sent_unit, sent_units, unit_left, units_left};
 
 use h26x_codec::formats::formats_meet_the_facts;
 
@@ -234,72 +234,72 @@ pub fn units_through_a_network()
         answers).at_work.extra }
 {
     formats_meet_the_facts();
-    h26x_frames::laws::units_come_through_a_network();
+    h26x_assembler::laws::units_come_through_a_network();
 }
 
 /// Access units come that are a stream's, where the number of the first packet isn't known; where none
 /// is past the limit they are exactly those.
 pub fn access_units_of_a_stream()
-    ensures { (codec : Codec) (has_donl : Bool) (most limit : ℕ) (w : UnitDepacketization)
+    ensures { (codec : Codec) (has_donl : Bool) (most limit : ℕ) (w : Assembly)
         (s : PacketizerState) (calls : List StampedCall) (first : ℕ) (places : List ℕ)
         (packets : List (ℕ × RtpBody)) (answers : List (Result Received PacketError)) →
         w.state.format ≡ codec_format codec has_donl → s.format ≡ codec_format codec has_donl →
         IsNoneOpen w.unit w.is_gap → w.expected ≡ None →
-        HaveUnitAnswers most limit w packets answers → NoneIsRefused answers →
+        HaveAssemblyAnswers most limit w packets answers → NoneIsRefused answers →
         IsStream s calls first false places packets →
         AreApart None s calls (mask_of_places places (length (sent_bodies s calls))) →
         AreUnitsWithin limit (units_left most s w.state.is_avc false w.closed calls
         (mask_of_places places (length (sent_bodies s calls)))) →
-        (after_end (after_all_rtp most limit w packets answers)).ended
+        (after_finishing (after_all_rtp most limit w packets answers)).ended
         ≡ w.ended ++ units_left most s w.state.is_avc false w.closed calls
         (mask_of_places places (length (sent_bodies s calls))) }
 {
     formats_meet_the_facts();
-    h26x_frames::laws::access_units_are_those_left();
-    h26x_frames::laws::access_units_within_the_limit_stay();
+    h26x_assembler::laws::access_units_are_those_left();
+    h26x_assembler::laws::access_units_within_the_limit_stay();
 }
 
 /// So they do through a network and a buffer, where all packets that this gives out are taken; one past
 /// the limit is its own loss.
 pub fn access_units_through_a_network()
-    ensures { (codec : Codec) (has_donl : Bool) (most limit : ℕ) (w : UnitDepacketization)
+    ensures { (codec : Codec) (has_donl : Bool) (most limit : ℕ) (w : Assembly)
         (s : PacketizerState) (calls : List StampedCall) (first : ℕ) (places : List ℕ)
         (packets : List (ℕ × RtpBody)) (answers : List (Result Received PacketError)) →
         w.state.format ≡ codec_format codec has_donl → s.format ≡ codec_format codec has_donl →
         IsNoneOpen w.unit w.is_gap → w.expected ≡ None →
-        HaveUnitAnswers most limit w (reordered 64 packets) answers →
+        HaveAssemblyAnswers most limit w (reordered 64 packets) answers →
         AllByRecursion (λ answer. is_taken answer ≡ true) answers →
         IsBroughtStream 64 s calls first false places packets →
         AreApart None s calls (brought_mask s calls places answers) →
         AreUnitsGiven limit w.ended
-        (after_end (after_all_rtp most limit w (reordered 64 packets) answers)).ended
+        (after_finishing (after_all_rtp most limit w (reordered 64 packets) answers)).ended
         (units_left most s w.state.is_avc false w.closed calls
         (brought_mask s calls places answers)) }
 {
     formats_meet_the_facts();
-    h26x_frames::laws::access_units_come_through_a_network();
-    h26x_frames::laws::places_that_come_are_near();
+    h26x_assembler::laws::access_units_come_through_a_network();
+    h26x_assembler::laws::places_that_come_are_near();
 }
 
 /// So do those of any sender, whatever its packets are.
 pub fn access_units_of_any_sender()
-    ensures { (codec : Codec) (has_donl : Bool) (most limit : ℕ) (w : UnitDepacketization)
+    ensures { (codec : Codec) (has_donl : Bool) (most limit : ℕ) (w : Assembly)
         (sent : List SentPackets) (first : ℕ) (places : List ℕ) (packets : List (ℕ × RtpBody))
         (answers : List (Result Received PacketError)) →
         w.state.format ≡ codec_format codec has_donl →
         IsNoneOpen w.unit w.is_gap → w.expected ≡ None →
-        HaveUnitAnswers most limit w (reordered 64 packets) answers →
+        HaveAssemblyAnswers most limit w (reordered 64 packets) answers →
         AllByRecursion (λ answer. is_taken answer ≡ true) answers →
         IsAnyStream 64 sent first places packets →
         AreSentApart None sent (any_mask sent places answers) →
         AreUnitsGiven limit w.ended
-        (after_end (after_all_rtp most limit w (reordered 64 packets) answers)).ended
+        (after_finishing (after_all_rtp most limit w (reordered 64 packets) answers)).ended
         (any_units_left most w.state.format w.state.is_avc false w.closed sent
         (any_mask sent places answers)) }
 {
     formats_meet_the_facts();
-    h26x_frames::laws::any_access_units_come_through_a_network();
-    h26x_frames::laws::places_that_come_are_near();
+    h26x_assembler::laws::any_access_units_come_through_a_network();
+    h26x_assembler::laws::places_that_come_are_near();
 }
 
 /// What a buffer gave out and holds are the packets that it held, in turn.
@@ -322,14 +322,14 @@ pub fn skipped_numbers()
     ensures next { (s : SequencedDepacketization) (number : ℕ) → number < 2 ^ 16 →
         is_expected s.expected number ≡ true →
         is_expected (after_skip s number).expected (next_sequence_number number) ≡ true }
-    ensures unit { (s : UnitDepacketization) (number : ℕ) → number < 2 ^ 16 →
+    ensures unit { (s : Assembly) (number : ℕ) → number < 2 ^ 16 →
         is_expected s.expected number ≡ true → (after_unit_skip s number).unit ≡ s.unit }
-    ensures follows { (s : UnitDepacketization) (number : ℕ) (body : RtpBody) → number < 2 ^ 16 →
+    ensures follows { (s : Assembly) (number : ℕ) (body : RtpBody) → number < 2 ^ 16 →
         is_expected s.expected number ≡ true → s.is_gap ≡ false → s.closed ≡ None →
         follows (after_unit_skip s number) (next_sequence_number number, body) ≡ true }
 {
     h26x_receiver::laws::skipping_in_order_changes_only_the_number();
-    h26x_frames::laws::skipping_in_order_changes_only_the_number();
+    h26x_assembler::laws::skipping_in_order_changes_only_the_number();
 }
 
 /// An access unit that is told to be whole was sent, and one of which each packet came, and the
@@ -349,6 +349,6 @@ pub fn whole_access_units()
         unit_left most s avc true c mask ≡ sent_unit s avc c ∷ [] }
 {
     formats_meet_the_facts();
-    h26x_frames::laws::whole_access_units_are_those_sent();
-    h26x_frames::laws::access_units_that_came_are_whole();
+    h26x_assembler::laws::whole_access_units_are_those_sent();
+    h26x_assembler::laws::access_units_that_came_are_whole();
 }

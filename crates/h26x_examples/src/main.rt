@@ -9,7 +9,7 @@
 mod access_units;
 mod annex_b;
 #[cfg(test)]
-mod any_end;
+mod any_endpoint;
 #[cfg(test)]
 mod cutting;
 #[cfg(test)]
@@ -33,13 +33,13 @@ mod own_depacketizer;
 #[cfg(test)]
 mod profiles;
 #[cfg(test)]
-mod runs;
-#[cfg(test)]
 mod sdp;
 #[cfg(test)]
 mod sequenced;
 #[cfg(test)]
 mod stand_ins;
+#[cfg(test)]
+mod transmissions;
 
 use annex_b::{count, print, read_stream};
 use anyhow::{Context, Result};

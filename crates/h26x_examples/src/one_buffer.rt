@@ -47,7 +47,7 @@ fn a_frame_in_one_buffer(rt: HostRuntime) -> Result<(), PacketError> {
         0x80, 0xe0, 0, 0, 1, 2, 3, 4, 0, 0, 0, 1, 0x61, 2, 3, // the last
     ];
     assert!(rt;
-        (next, packets.bytes(), packets.ends()) == (1, want.as_slice(), [14, 29].as_slice())
+        (next, packets.bytes(), packets.packet_ends()) == (1, want.as_slice(), [14, 29].as_slice())
     );
     Ok(())
 }

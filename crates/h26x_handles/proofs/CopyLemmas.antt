@@ -5,7 +5,7 @@ use Rattle.std.proofs.lemmas.Bool.{cases_lt}
 use Rattle.std.proofs.lemmas.List.{append-nil, drop-drop, drop_all, drop_at, length-drop, length-take-le, take-append-drop, take_all}
 use Rattle.std.proofs.lemmas.List.Folds.{concat-append}
 use Rattle.std.specs.List.{concat}
-use Rattle.h26x_packetizer.specs.Buffer.{ends_of, last_end, packets_from, HoldPackets}
+use Rattle.h26x_packetizer.specs.Buffer.{packet_ends, last_end, packets_from, HoldPackets}
 use Rattle.h26x_handles.specs.Copies.{with_front, end_offsets, Fits, AreMost}
 
 -- one packet more
@@ -94,24 +94,24 @@ ends_copied packets n room now within fits holds =
     copied_there front room now (omega (arith, same, fits)) (holds ∙ ap (λ k. front ++ drop k room) (sym same))
 
 -- packets without headroom end where they do one behind the other
-same_ends : (place : ℕ) (packets : List (List ℕ)) → ends_of 0 place packets ≡ end_offsets place packets
+same_ends : (place : ℕ) (packets : List (List ℕ)) → packet_ends 0 place packets ≡ end_offsets place packets
 same_ends place [] = refl
 same_ends place (packet ∷ packets) =
     let here : place + 0 ≡ place = omega arith in
-    ap (λ p. (p + length packet) ∷ ends_of 0 (p + length packet) packets) here ∙ ap (λ (r : List ℕ). (place + length packet) ∷ r) (same_ends (place + length packet) packets)
+    ap (λ p. (p + length packet) ∷ packet_ends 0 (p + length packet) packets) here ∙ ap (λ (r : List ℕ). (place + length packet) ∷ r) (same_ends (place + length packet) packets)
 
-pub ends_without_headroom : (headroom : ℕ) (packets : List (List ℕ)) (ends : List ℕ) → headroom ≡ 0 → ends ≡ ends_of headroom 0 packets → ends ≡ end_offsets 0 packets
-ends_without_headroom headroom packets ends none are = are ∙ ap (λ h. ends_of h 0 packets) none ∙ same_ends 0 packets
+pub ends_without_headroom : (headroom : ℕ) (packets : List (List ℕ)) (ends : List ℕ) → headroom ≡ 0 → ends ≡ packet_ends headroom 0 packets → ends ≡ end_offsets 0 packets
+ends_without_headroom headroom packets ends none are = are ∙ ap (λ h. packet_ends h 0 packets) none ∙ same_ends 0 packets
 
 -- bytes that hold packets without headroom from a place on are these joined
-joined_behind : (place : ℕ) (bytes : List ℕ) (packets : List (List ℕ)) → packets_from 0 place bytes (ends_of 0 place packets) ≡ packets →
-    last_end place (ends_of 0 place packets) ≡ length bytes → drop place bytes ≡ concat packets
+joined_behind : (place : ℕ) (bytes : List ℕ) (packets : List (List ℕ)) → packets_from 0 place bytes (packet_ends 0 place packets) ≡ packets →
+    last_end place (packet_ends 0 place packets) ≡ length bytes → drop place bytes ≡ concat packets
 joined_behind place bytes [] there all = drop_all place bytes (omega (arith, all))
 joined_behind place bytes (packet ∷ packets) there all =
     let here : place + 0 ≡ place = omega arith in
     let end = place + 0 + length packet in
     let first : take (end - (place + 0)) (drop (place + 0) bytes) ≡ packet = ap (λ (l : List (List ℕ)). get_or l 0 []) there in
-    let others : packets_from 0 end bytes (ends_of 0 end packets) ≡ packets = ap (λ (l : List (List ℕ)). drop 1 l) there in
+    let others : packets_from 0 end bytes (packet_ends 0 end packets) ≡ packets = ap (λ (l : List (List ℕ)). drop 1 l) there in
     let rest : drop (end - (place + 0)) (drop (place + 0) bytes) ≡ concat packets =
     drop-drop (end - (place + 0)) (place + 0) bytes ∙ ap (λ k. drop k bytes) (omega (arith, here)) ∙ joined_behind end bytes packets others all in
     ap (λ k. drop k bytes) (sym here) ∙ sym (take-append-drop (end - (place + 0)) (drop (place + 0) bytes))

@@ -4,7 +4,7 @@ use Rattle.std.specs.Prelude.{Bool, Option, Some, min}
 use Rattle.std.specs.List.{between, concat}
 use Rattle.std.proofs.lemmas.List.{drop-drop, drop_at, length-drop, length-take-le, take-append-drop, take_at}
 use borrow.Rule.Slice.PartMut.{put_mid}
-use Rattle.h26x_packetizer.specs.Buffer.{PacketBufferView, ends_of, last_end, packets_from, headrooms_from, AreEnds, HoldPackets, HoldHeadrooms}
+use Rattle.h26x_packetizer.specs.Buffer.{PacketBufferView, packet_ends, last_end, packets_from, headrooms_from, ArePacketEnds, HoldPackets, HoldHeadrooms}
 use Rattle.h26x_packetizer.specs.BufferLoan.{packets_under, headrooms_under, buffer_under, part_under}
 use Rattle.h26x_packetizer.specs.Placement.{laid_size, packets_over, ArePlaced, HaveNoRoom, IsSizeOf, IsPlacement}
 use Rattle.h26x_packetizer.specs.declared.placement.PacketsSize.{PacketsSize}
@@ -78,19 +78,19 @@ alike_count (p ∷ ps) [] never = absurd never
 alike_count [] (q ∷ qs) never = absurd never
 alike_count (p ∷ ps) (q ∷ qs) (same, alike) = ap suc (alike_count ps qs alike)
 
-pub alike_ends : (h s : ℕ) (ps qs : List (List ℕ)) → AreAlike ps qs → ends_of h s ps ≡ ends_of h s qs
+pub alike_ends : (h s : ℕ) (ps qs : List (List ℕ)) → AreAlike ps qs → packet_ends h s ps ≡ packet_ends h s qs
 alike_ends h s [] [] alike = refl
 alike_ends h s (p ∷ ps) [] never = absurd never
 alike_ends h s [] (q ∷ qs) never = absurd never
 alike_ends h s (p ∷ ps) (q ∷ qs) (same, alike) =
-    ap (λ k. (s + h + k) ∷ ends_of h (s + h + k) ps) same ∙ ap (λ (l : List ℕ). (s + h + length q) ∷ l) (alike_ends h (s + h + length q) ps qs alike)
+    ap (λ k. (s + h + k) ∷ packet_ends h (s + h + k) ps) same ∙ ap (λ (l : List ℕ). (s + h + length q) ∷ l) (alike_ends h (s + h + length q) ps qs alike)
 
 -- packets end in order, each behind its headroom
-pub ends_are : (h s : ℕ) (ps : List (List ℕ)) → AreEnds h s (ends_of h s ps)
+pub ends_are : (h s : ℕ) (ps : List (List ℕ)) → ArePacketEnds h s (packet_ends h s ps)
 ends_are h s [] = tt
 ends_are h s (p ∷ ps) = (omega arith, ends_are h (s + h + length p) ps)
 
-pub ends_last : (h s : ℕ) (ps : List (List ℕ)) → last_end s (ends_of h s ps) ≡ s + laid_size h ps
+pub ends_last : (h s : ℕ) (ps : List (List ℕ)) → last_end s (packet_ends h s ps) ≡ s + laid_size h ps
 ends_last h s [] = omega arith
 ends_last h s (p ∷ ps) = let others = ends_last h (s + h + length p) ps in omega (arith, others)
 
@@ -142,7 +142,7 @@ over_at h (p ∷ ps) (suc n) a k memory within room is long =
     ∙ over_at h ps n (laid_size h (take n ps) + h) k behind (omega arith) (omega (arith, rest, room)) refl long
 
 -- memory has its own packets laid over it
-pub over_held : (h s : ℕ) (bytes ends : List ℕ) → AreEnds h s ends → last_end s ends ≤ length bytes → drop s bytes ≡ packets_over h (packets_from h s bytes ends) (drop s bytes)
+pub over_held : (h s : ℕ) (bytes ends : List ℕ) → ArePacketEnds h s ends → last_end s ends ≤ length bytes → drop s bytes ≡ packets_over h (packets_from h s bytes ends) (drop s bytes)
 over_held h s bytes [] are le = refl
 over_held h s bytes (e ∷ ends) (here, are) le =
     let last = start_le_last h e ends are in
@@ -158,7 +158,7 @@ over_held h s bytes (e ∷ ends) (here, are) le =
     (drop-drop h s bytes ∙ sym (take-append-drop (e - (s + h)) (drop (s + h) bytes)) ∙ ap (λ (l : List ℕ). p ++ l) (behind ∙ others ∙ ap (packets_over h (packets_from h e bytes ends)) (sym next)))
 
 -- packets laid over memory are those that stand there
-pub over_from : (h s : ℕ) (ps : List (List ℕ)) (memory bytes : List ℕ) → laid_size h ps ≤ length memory → drop s bytes ≡ packets_over h ps memory → packets_from h s bytes (ends_of h s ps) ≡ ps
+pub over_from : (h s : ℕ) (ps : List (List ℕ)) (memory bytes : List ℕ) → laid_size h ps ≤ length memory → drop s bytes ≡ packets_over h ps memory → packets_from h s bytes (packet_ends h s ps) ≡ ps
 over_from h s [] memory bytes room are = refl
 over_from h s (p ∷ ps) memory bytes room are =
     let e = s + h + length p in
@@ -171,7 +171,7 @@ over_from h s (p ∷ ps) memory bytes room are =
     let packet : between (s + h) e bytes ≡ p = ap (λ k. take k (drop (s + h) bytes)) (omega arith) ∙ ap (take (length p)) here ∙ take_at p (packets_over h ps behind) (length p) refl in
     let next : drop e bytes ≡ packets_over h ps behind =
     sym (drop-drop (length p) (s + h) bytes) ∙ ap (drop (length p)) here ∙ drop_at p (packets_over h ps behind) (length p) refl in
-    ap (λ (l : List ℕ). l ∷ packets_from h e bytes (ends_of h e ps)) packet ∙ ap (λ (l : List (List ℕ)). p ∷ l) (over_from h e ps behind bytes (omega (arith, rest, room)) next)
+    ap (λ (l : List ℕ). l ∷ packets_from h e bytes (packet_ends h e ps)) packet ∙ ap (λ (l : List (List ℕ)). p ∷ l) (over_from h e ps behind bytes (omega (arith, rest, room)) next)
 
 -- packets laid over their likes
 pub over_over : (h : ℕ) (ps qs : List (List ℕ)) (memory : List ℕ) → AreAlike ps qs → laid_size h ps ≤ length memory → packets_over h qs (packets_over h ps memory) ≡ packets_over h qs memory
@@ -210,13 +210,13 @@ under_over h s (p ∷ ps) (q ∷ qs) memory bytes (same, alike) room are =
     ∙ ap (λ (l : List (List ℕ)). q ∷ l) (under_over h (s + h + length p) ps qs behind bytes alike (omega (arith, rest, room)) next)
 
 -- headrooms of no bytes stay
-pub rooms_under : (h s t : ℕ) (ps : List (List ℕ)) (was bytes : List ℕ) → h ≡ 0 → headrooms_under h s bytes ps (headrooms_from h t was (ends_of h t ps)) ≡ headrooms_from h t was (ends_of h t ps)
+pub rooms_under : (h s t : ℕ) (ps : List (List ℕ)) (was bytes : List ℕ) → h ≡ 0 → headrooms_under h s bytes ps (headrooms_from h t was (packet_ends h t ps)) ≡ headrooms_from h t was (packet_ends h t ps)
 rooms_under h s t [] was bytes none = refl
 rooms_under h s t (p ∷ ps) was bytes none =
     let nothing : t + h - t ≡ 0 = omega (arith, none) in
     let empty : between t (t + h) was ≡ [] = ap (λ k. take k (drop t was)) nothing in
-    ap (λ (r : List ℕ). part_under r (drop s bytes) ∷ headrooms_under h (s + h + length p) bytes ps (headrooms_from h (t + h + length p) was (ends_of h (t + h + length p) ps))) empty
-    ∙ ap (λ (r : List ℕ). r ∷ headrooms_under h (s + h + length p) bytes ps (headrooms_from h (t + h + length p) was (ends_of h (t + h + length p) ps))) (sym empty)
+    ap (λ (r : List ℕ). part_under r (drop s bytes) ∷ headrooms_under h (s + h + length p) bytes ps (headrooms_from h (t + h + length p) was (packet_ends h (t + h + length p) ps))) empty
+    ∙ ap (λ (r : List ℕ). r ∷ headrooms_under h (s + h + length p) bytes ps (headrooms_from h (t + h + length p) was (packet_ends h (t + h + length p) ps))) (sym empty)
     ∙ ap (λ (l : List (List ℕ)). between t (t + h) was ∷ l) (rooms_under h (s + h + length p) (t + h + length p) ps was bytes none)
 
 -- where a packet without headroom stands
@@ -243,7 +243,7 @@ held : (h : ℕ) (ps : List (List ℕ)) (bytes : List ℕ) → HoldPackets h ps 
 held h ps bytes hold =
     let last = ends_last h 0 ps in
     let all = hold.to_the_end in
-    (over_held h 0 bytes (ends_of h 0 ps) (ends_are h 0 ps) (omega (arith, all)) ∙ ap (λ (l : List (List ℕ)). packets_over h l bytes) hold.there, omega (arith, last, all))
+    (over_held h 0 bytes (packet_ends h 0 ps) (ends_are h 0 ps) (omega (arith, all)) ∙ ap (λ (l : List (List ℕ)). packets_over h l bytes) hold.there, omega (arith, last, all))
 
 -- the packet at a place, written anew
 written : (write : List ℕ → List ℕ) → ((p : List ℕ) → length (write p) ≡ length p) → (h n a b : ℕ) (ps : List (List ℕ)) (memory now : List ℕ) → n < length ps → laid_size h ps ≤ length memory →
@@ -285,7 +285,7 @@ buffer_set write long v n start ends bytes now none within begins are hold rooms
     let laid : now ≡ packets_over h qs bytes = is ∙ written write long h n start (get_or ends n 0) ps bytes bytes within fits lies.0 at.0 at.1.0 in
     let alike = alike_set ps n x (long (get_or ps n [])) in
     let size = alike_size h ps qs alike in
-    let told : headrooms_from h 0 bytes (ends_of h 0 ps) ≡ v.headrooms = rooms in
+    let told : headrooms_from h 0 bytes (packet_ends h 0 ps) ≡ v.headrooms = rooms in
     ap (λ (l : List (List ℕ)). record v { packets = l; headrooms = headrooms_under h 0 now ps v.headrooms }) (under_over h 0 ps qs bytes now alike (omega (arith, size, fits)) laid)
     ∙ ap (λ (l : List (List ℕ)). record v { packets = qs; headrooms = l })
     (ap (λ (l : List (List ℕ)). headrooms_under h 0 now ps l) (sym told) ∙ rooms_under h 0 0 ps bytes now none ∙ told)
@@ -324,7 +324,7 @@ alike_take (suc n) [] (q ∷ qs) never = absurd never
 alike_take (suc n) (p ∷ ps) (q ∷ qs) (same, alike) = (same, alike_take n ps qs alike)
 
 -- what the first packets that end at places take
-first_size : (h s n : ℕ) (memory ends : List ℕ) → AreEnds h s ends → last_end s ends ≤ length memory → last_end s (take n ends) ≡ s + laid_size h (take n (packets_from h s memory ends))
+first_size : (h s n : ℕ) (memory ends : List ℕ) → ArePacketEnds h s ends → last_end s ends ≤ length memory → last_end s (take n ends) ≡ s + laid_size h (take n (packets_from h s memory ends))
 first_size h s zero memory ends are le = omega arith
 first_size h s (suc n) memory [] are le = omega arith
 first_size h s (suc n) memory (e ∷ ends) (here, are) le =
@@ -333,7 +333,7 @@ first_size h s (suc n) memory (e ∷ ends) (here, are) le =
     let others = first_size h e n memory ends are le in
     omega (arith, here, long, others)
 
-from_size : (h s : ℕ) (memory ends : List ℕ) → AreEnds h s ends → last_end s ends ≤ length memory → last_end s ends ≡ s + laid_size h (packets_from h s memory ends)
+from_size : (h s : ℕ) (memory ends : List ℕ) → ArePacketEnds h s ends → last_end s ends ≤ length memory → last_end s ends ≡ s + laid_size h (packets_from h s memory ends)
 from_size h s memory [] are le = omega arith
 from_size h s memory (e ∷ ends) (here, are) le =
     let last = start_le_last h e ends are in
@@ -353,7 +353,7 @@ over_long h (p ∷ ps) memory room =
     length-append (take h memory) (p ++ packets_over h ps rest) ∙ omega (arith, first, long, others, both, room)
 
 -- the next packet in memory
-module _ (write : List ℕ → List ℕ) (long : (p : List ℕ) → length (write p) ≡ length p) (h n begin : ℕ) (ends memory now : List ℕ) (are : AreEnds h 0 ends) (room : last_end 0 ends ≤ length memory)
+module _ (write : List ℕ → List ℕ) (long : (p : List ℕ) → length (write p) ≡ length p) (h n begin : ℕ) (ends memory now : List ℕ) (are : ArePacketEnds h 0 ends) (room : last_end 0 ends ≤ length memory)
     (begins : begin ≡ last_end 0 (take n ends)) (is : now ≡ packets_over h (anew write n (packets_from h 0 memory ends)) memory) where
   same_size : laid_size h (anew write n (packets_from h 0 memory ends)) ≤ length memory
   same_size =
@@ -395,7 +395,7 @@ module _ (write : List ℕ → List ℕ) (long : (p : List ℕ) → length (writ
       is ∙ ap (λ (l : List (List ℕ)). packets_over h l memory) (anew_all write n (packets_from h 0 memory ends) (omega (arith, all, count)))
 
 -- at first none is written
-pub memory_first : (h : ℕ) (ends memory : List ℕ) → AreEnds h 0 ends → last_end 0 ends ≤ length memory → memory ≡ packets_over h (packets_from h 0 memory ends) memory
+pub memory_first : (h : ℕ) (ends memory : List ℕ) → ArePacketEnds h 0 ends → last_end 0 ends ≤ length memory → memory ≡ packets_over h (packets_from h 0 memory ends) memory
 memory_first h ends memory are room = over_held h 0 memory ends are room
 
 -- where the next one begins
@@ -403,23 +403,23 @@ pub begin_next : (n : ℕ) (ends : List ℕ) → n < length ends → get_or ends
 begin_next n ends within = sym (ap (λ k. last_end 0 (take k ends)) (add-one n) ∙ last_at 0 ends n within)
 
 -- packets that were placed end as told
-ends_count : (h s : ℕ) (ps : List (List ℕ)) → length (ends_of h s ps) ≡ length ps
+ends_count : (h s : ℕ) (ps : List (List ℕ)) → length (packet_ends h s ps) ≡ length ps
 ends_count h s [] = refl
 ends_count h s (p ∷ ps) = ap suc (ends_count h (s + h + length p) ps)
 
-placed_ends : (h : ℕ) (ps : List (List ℕ)) (memory to before ends : List ℕ) (size : PacketsSize) → ArePlaced h ps memory to before ends → IsSizeOf h ps size → take size.packets ends ≡ ends_of h 0 ps
+placed_ends : (h : ℕ) (ps : List (List ℕ)) (memory to before ends : List ℕ) (size : PacketsSize) → ArePlaced h ps memory to before ends → IsSizeOf h ps size → take size.packets ends ≡ packet_ends h 0 ps
 placed_ends h ps memory to before ends size placed sized =
     let count = sized.packets in
     ap (λ (l : List ℕ). take size.packets l) placed.told
-    ∙ take_at (ends_of h 0 ps) (drop (length ps) before) size.packets (let counts = ends_count h 0 ps in let same : length (ends_of h 0 ps) ≡ size.packets = omega (arith, counts, count) in same)
+    ∙ take_at (packet_ends h 0 ps) (drop (length ps) before) size.packets (let counts = ends_count h 0 ps in let same : length (packet_ends h 0 ps) ≡ size.packets = omega (arith, counts, count) in same)
 
 pub placed_bounds : (h : ℕ) (ps : List (List ℕ)) (memory to before ends : List ℕ) (size : PacketsSize) → ArePlaced h ps memory to before ends → IsSizeOf h ps size →
-    (size.packets ≤ length ends) × (AreEnds h 0 (take size.packets ends) × (last_end 0 (take size.packets ends) ≤ length to))
+    (size.packets ≤ length ends) × (ArePacketEnds h 0 (take size.packets ends) × (last_end 0 (take size.packets ends) ≤ length to))
 placed_bounds h ps memory to before ends size placed sized =
     let same = placed_ends h ps memory to before ends size placed sized in
     let count = sized.packets in
     let counts = ends_count h 0 ps in
-    let both = ap length placed.told ∙ length-append (ends_of h 0 ps) (drop (length ps) before) in
+    let both = ap length placed.told ∙ length-append (packet_ends h 0 ps) (drop (length ps) before) in
     let fit = placed.fit in
     let len = ap length placed.laid ∙ over_long h ps memory fit in
     let last = ap (last_end 0) same ∙ ends_last h 0 ps in
@@ -457,7 +457,7 @@ placed_anew write long h ps memory to before ends size placed sized =
         ends_fit = omega (arith, counts, ends_fit);
         laid = ap (λ (l : List (List ℕ)). packets_over h (map write l) to) there ∙ ap (packets_over h (map write ps)) placed.laid ∙ over_over h ps (map write ps) memory alike fit;
         told = placed.told ∙ ap (λ (l : List ℕ). l ++ drop (length ps) before) (alike_ends h 0 ps (map write ps) alike)
-            ∙ ap (λ k. ends_of h 0 (map write ps) ++ drop k before) counts;
+            ∙ ap (λ k. packet_ends h 0 (map write ps) ++ drop k before) counts;
       },
       sized_anew write long h ps size sized,
     )

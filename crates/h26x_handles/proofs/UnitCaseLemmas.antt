@@ -3,7 +3,7 @@ use Rattle.std.proofs.Common.{◌≡◌, ◌∙◌, ◌⊎◌, refl, ap, sym, su
 use Rattle.std.specs.Prelude.{◌&&◌, nat_le, MatchOption}
 use Rattle.std.proofs.lemmas.Bool.Decides.{nat_tests}
 use Rattle.h26x_access_units.specs.JitterBuffer.{due_packet}
-use Rattle.h26x_access_units.specs.ReceivedUnit.{ReceivedUnitValue}
+use Rattle.h26x_access_units.specs.ReceivedAccessUnit.{ReceivedAccessUnitValue}
 use Rattle.h26x_access_units.specs.Reception.{Reception, has_no_unit, IsDrained, none, more, ended_if_anew, IsNext}
 use Rattle.h26x_handles.specs.UnitsState.{UnitsState, units_state, unit_told, unit_without_room, buffer_with_unit, next_answer, IsNextGiven}
 use Rattle.h26x_handles.specs.declared.access_units.NextAnswer.{NextAnswer}
@@ -11,25 +11,25 @@ use Rattle.h26x_handles.specs.declared.access_units.NextAnswer.TheVariants as an
 use Rattle.h26x_handles.specs.declared.access_units.UnitTold.{UnitTold}
 
 -- the answer for an access unit, by whether it fits
-abbrev answer_of : Bool → ReceivedUnitValue → NextAnswer
+abbrev answer_of : Bool → ReceivedAccessUnitValue → NextAnswer
 answer_of fits unit = if fits then answers.Written (unit_told unit) else answers.NoRoom (unit_told unit)
 
-fits_there : (fits : Bool) (unit : ReceivedUnitValue) (told : UnitTold) → answers.Written told ≡ answer_of fits unit → (fits ≡ true) × (told ≡ unit_told unit)
+fits_there : (fits : Bool) (unit : ReceivedAccessUnitValue) (told : UnitTold) → answers.Written told ≡ answer_of fits unit → (fits ≡ true) × (told ≡ unit_told unit)
 fits_there true unit told is = let same : answers.Written told ≡ answers.Written (unit_told unit) = is in (refl, cc)
 fits_there false unit told is = absurd (let bad : answers.Written told ≡ answers.NoRoom (unit_told unit) = is in cc)
 
-lacks_there : (fits : Bool) (unit : ReceivedUnitValue) (told : UnitTold) → answers.NoRoom told ≡ answer_of fits unit → (fits ≡ false) × (told ≡ unit_told unit)
+lacks_there : (fits : Bool) (unit : ReceivedAccessUnitValue) (told : UnitTold) → answers.NoRoom told ≡ answer_of fits unit → (fits ≡ false) × (told ≡ unit_told unit)
 lacks_there true unit told is = absurd (let bad : answers.NoRoom told ≡ answers.Written (unit_told unit) = is in cc)
 lacks_there false unit told is = let same : answers.NoRoom told ≡ answers.NoRoom (unit_told unit) = is in (refl, cc)
 
-is_there : (fits : Bool) (unit : ReceivedUnitValue) → answers.NothingYet ≡ answer_of fits unit → ⊥
+is_there : (fits : Bool) (unit : ReceivedAccessUnitValue) → answers.NothingYet ≡ answer_of fits unit → ⊥
 is_there true unit is = let bad : answers.NothingYet ≡ answers.Written (unit_told unit) = is in cc
 is_there false unit is = let bad : answers.NothingYet ≡ answers.NoRoom (unit_told unit) = is in cc
 
 -- of one that was written
-pub written_of : (now : ℕ) (it new : UnitsState) (to new_to : List ℕ) (told : UnitTold) (unit : Option ReceivedUnitValue) → IsNextGiven now it new.reception unit →
+pub written_of : (now : ℕ) (it new : UnitsState) (to new_to : List ℕ) (told : UnitTold) (unit : Option ReceivedAccessUnitValue) → IsNextGiven now it new.reception unit →
     new ≡ units_state it.codec new.reception (unit_without_room unit to) → new_to ≡ buffer_with_unit unit to → answers.Written told ≡ next_answer unit to →
-    (u : ReceivedUnitValue) × IsNextGiven now it new.reception (Some u) × (told ≡ unit_told u) × (length u.bytes ≤ length to) × (new_to ≡ u.bytes ++ drop (length u.bytes) to) × (new ≡ units_state it.codec new.reception None)
+    (u : ReceivedAccessUnitValue) × IsNextGiven now it new.reception (Some u) × (told ≡ unit_told u) × (length u.bytes ≤ length to) × (new_to ≡ u.bytes ++ drop (length u.bytes) to) × (new ≡ units_state it.codec new.reception None)
 written_of now it new to new_to told None next stands put is = absurd (let bad : answers.Written told ≡ answers.NothingYet = is in cc)
 written_of now it new to new_to told (Some u) next stands put is =
     let (fits, same) = fits_there (nat_le (length u.bytes) (length to)) u told is in (
@@ -42,9 +42,9 @@ written_of now it new to new_to told (Some u) next stands put is =
     )
 
 -- of one that had no room
-pub left_of : (now : ℕ) (it new : UnitsState) (to new_to : List ℕ) (told : UnitTold) (unit : Option ReceivedUnitValue) → IsNextGiven now it new.reception unit →
+pub left_of : (now : ℕ) (it new : UnitsState) (to new_to : List ℕ) (told : UnitTold) (unit : Option ReceivedAccessUnitValue) → IsNextGiven now it new.reception unit →
     new ≡ units_state it.codec new.reception (unit_without_room unit to) → new_to ≡ buffer_with_unit unit to → answers.NoRoom told ≡ next_answer unit to →
-    (u : ReceivedUnitValue) × IsNextGiven now it new.reception (Some u) × (told ≡ unit_told u) × (length to < length u.bytes) × (new_to ≡ to) × (new ≡ units_state it.codec new.reception (Some u))
+    (u : ReceivedAccessUnitValue) × IsNextGiven now it new.reception (Some u) × (told ≡ unit_told u) × (length to < length u.bytes) × (new_to ≡ to) × (new ≡ units_state it.codec new.reception (Some u))
 left_of now it new to new_to told None next stands put is = absurd (let bad : answers.NoRoom told ≡ answers.NothingYet = is in cc)
 left_of now it new to new_to told (Some u) next stands put is =
     let (lacks, same) = lacks_there (nat_le (length u.bytes) (length to)) u told is in (
@@ -57,7 +57,7 @@ left_of now it new to new_to told (Some u) next stands put is =
     )
 
 -- of none
-pub none_of : (now : ℕ) (it new : UnitsState) (to new_to : List ℕ) (unit : Option ReceivedUnitValue) → IsNextGiven now it new.reception unit →
+pub none_of : (now : ℕ) (it new : UnitsState) (to new_to : List ℕ) (unit : Option ReceivedAccessUnitValue) → IsNextGiven now it new.reception unit →
     new ≡ units_state it.codec new.reception (unit_without_room unit to) → new_to ≡ buffer_with_unit unit to → answers.NothingYet ≡ next_answer unit to →
     IsNextGiven now it new.reception None × (new_to ≡ to) × (new ≡ units_state it.codec new.reception None)
 none_of now it new to new_to None next stands put is = (next, put, stands)
@@ -83,14 +83,14 @@ not_both false c r s is = refl
 pub not_changed : (now : ℕ) (it new : UnitsState) → new ≡ units_state it.codec new.reception it.left → (new.reception ≡ it.reception) ⊎ IsDrained now (ended_if_anew it.reception) new.reception →
     it.reception.is_anew ≡ false → due_packet now it.reception.waiting ≡ None → new ≡ it
 not_changed now it new stands taken begun idle =
-    let same : ended_if_anew it.reception ≡ it.reception = not_both (has_no_unit it.reception.frames.ended) it.reception.is_anew _ it.reception begun in
+    let same : ended_if_anew it.reception ≡ it.reception = not_both (has_no_unit it.reception.assembler.ended) it.reception.is_anew _ it.reception begun in
     let idle_too : due_packet now (ended_if_anew it.reception).waiting ≡ None = ap (λ (r : Reception). due_packet now r.waiting) same ∙ idle in
     let stays : new.reception ≡ it.reception = ⊎_elim (λ e. e) (λ drained. none_taken now (ended_if_anew it.reception) new.reception drained idle_too ∙ same) taken in
     stands ∙ ap (λ (r : Reception). units_state it.codec r it.left) stays
 
 -- where no access unit waits for room, the next one is the receiver's
-pub next_of : (now : ℕ) (it : UnitsState) (new : Reception) (unit : Option ReceivedUnitValue) → it.left ≡ None → IsNextGiven now it new unit → IsNext now it.reception new unit
-next_of now it new unit left next = subst (λ (l : Option ReceivedUnitValue). MatchOption l (IsNext now it.reception new unit) (λ (k : ReceivedUnitValue). (unit ≡ Some k) × (new ≡ it.reception))) left next
+pub next_of : (now : ℕ) (it : UnitsState) (new : Reception) (unit : Option ReceivedAccessUnitValue) → it.left ≡ None → IsNextGiven now it new unit → IsNext now it.reception new unit
+next_of now it new unit left next = subst (λ (l : Option ReceivedAccessUnitValue). MatchOption l (IsNext now it.reception new unit) (λ (k : ReceivedAccessUnitValue). (unit ≡ Some k) × (new ≡ it.reception))) left next
 
-pub given_of : (now : ℕ) (it : UnitsState) (new : Reception) (unit : Option ReceivedUnitValue) → it.left ≡ None → IsNext now it.reception new unit → IsNextGiven now it new unit
-given_of now it new unit left next = subst (λ (l : Option ReceivedUnitValue). MatchOption l (IsNext now it.reception new unit) (λ (k : ReceivedUnitValue). (unit ≡ Some k) × (new ≡ it.reception))) (sym left) next
+pub given_of : (now : ℕ) (it : UnitsState) (new : Reception) (unit : Option ReceivedAccessUnitValue) → it.left ≡ None → IsNext now it.reception new unit → IsNextGiven now it new unit
+given_of now it new unit left next = subst (λ (l : Option ReceivedAccessUnitValue). MatchOption l (IsNext now it.reception new unit) (λ (k : ReceivedAccessUnitValue). (unit ≡ Some k) × (new ≡ it.reception))) (sym left) next

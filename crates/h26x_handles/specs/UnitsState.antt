@@ -6,7 +6,7 @@ use Rattle.h26x_access_units.specs.declared.pushed.Pushed.{Pushed}
 use Rattle.h26x_access_units.specs.declared.pushed.Pushed.TheVariants as pushes
 use Rattle.h26x_access_units.specs.Arrival.{deadline_of}
 use Rattle.h26x_access_units.specs.Missing.{missing_numbers}
-use Rattle.h26x_access_units.specs.ReceivedUnit.{ReceivedUnitValue}
+use Rattle.h26x_access_units.specs.ReceivedAccessUnit.{ReceivedAccessUnitValue}
 use Rattle.h26x_access_units.specs.Reception.{Reception, fresh_reception, reception_answer, restarted, ended_if_anew, IsPushed, IsDrained, IsNext}
 use Rattle.h26x_codec.specs.Codec.{codec_format}
 use Rattle.h26x_codec.specs.declared.codec.Codec.{Codec}
@@ -22,10 +22,10 @@ use Rattle.h26x_handles.specs.declared.access_units.UnitTold.{UnitTold}
 pub record UnitsState : Type 0 where
   pub codec : Codec
   pub reception : Reception
-  pub left : Option ReceivedUnitValue
+  pub left : Option ReceivedAccessUnitValue
 
 -- these three
-abbrev pub units_state : Codec → Reception → Option ReceivedUnitValue → UnitsState
+abbrev pub units_state : Codec → Reception → Option ReceivedAccessUnitValue → UnitsState
 units_state codec reception left = record { codec = codec; reception = reception; left = left }
 
 -- the codec of one that is to be made, or the code that says why there is none: as of a depacketizer,
@@ -71,7 +71,7 @@ pushed_numbers pushes.Stray = (4, 0)
 pushed_numbers pushes.Anew = (5, 0)
 
 -- what is told of an access unit
-abbrev pub unit_told : ReceivedUnitValue → UnitTold
+abbrev pub unit_told : ReceivedAccessUnitValue → UnitTold
 unit_told unit = record {
   len = length unit.bytes;
   timestamp = unit.timestamp;
@@ -85,31 +85,32 @@ unit_told unit = record {
 }
 
 -- what is answered where this access unit, or none, is the next: whether a buffer has room for it
-abbrev pub next_answer : Option ReceivedUnitValue → List ℕ → NextAnswer
+abbrev pub next_answer : Option ReceivedAccessUnitValue → List ℕ → NextAnswer
 next_answer None to = answers.NothingYet
 next_answer (Some unit) to = if nat_le (length unit.bytes) (length to)
     then answers.Written (unit_told unit) else answers.NoRoom (unit_told unit)
 
 -- that buffer then
-abbrev pub buffer_with_unit : Option ReceivedUnitValue → List ℕ → List ℕ
+abbrev pub buffer_with_unit : Option ReceivedAccessUnitValue → List ℕ → List ℕ
 buffer_with_unit None to = to
 buffer_with_unit (Some unit) to = with_front unit.bytes to
 
 -- what has no room there
-abbrev pub unit_without_room : Option ReceivedUnitValue → List ℕ → Option ReceivedUnitValue
+abbrev pub unit_without_room : Option ReceivedAccessUnitValue → List ℕ →
+    Option ReceivedAccessUnitValue
 unit_without_room None to = None
 unit_without_room (Some unit) to =
     if nat_le (length unit.bytes) (length to) then None else Some unit
 
 -- an access unit, or none, is the next: the one that had no room before, or what the receiver gives out
-abbrev pub IsNextGiven : ℕ → UnitsState → Reception → Option ReceivedUnitValue → Type 0
+abbrev pub IsNextGiven : ℕ → UnitsState → Reception → Option ReceivedAccessUnitValue → Type 0
 IsNextGiven now it reception unit = MatchOption it.left (IsNext now it.reception reception unit)
     (λ kept. (unit ≡ Some kept) × (reception ≡ it.reception))
 
 -- The next access unit goes to a buffer where it has room there, and else stays for the next call.
 pub record IsUnitGiven (now : ℕ) (it new : UnitsState) (to new_to : List ℕ)
     (answer : NextAnswer) : Type 0 where
-  pub unit : Option ReceivedUnitValue
+  pub unit : Option ReceivedAccessUnitValue
   pub is_next : IsNextGiven now it new.reception unit
   pub stands : new ≡ record it { reception = new.reception; left = unit_without_room unit to }
   pub put : new_to ≡ buffer_with_unit unit to

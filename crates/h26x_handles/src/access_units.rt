@@ -2,7 +2,7 @@
 //! room where it was to be written.
 
 ghost use Rattle.std.specs.Prelude.{◌≡◌, ◌<◌, ◌≤◌, ◌^◌, [], false, None, Err, IfOk, OnErr, length};
-ghost use Rattle.h26x_access_units.specs.ReceivedUnit.{received_unit_value};
+ghost use Rattle.h26x_access_units.specs.ReceivedAccessUnit.{received_unit_value};
 ghost use Rattle.h26x_reorder.specs.Rtp.{rtp_body};
 ghost use Rattle.h26x_handles.specs.UnitsState.{units_codec_or_code, fresh_access_units, pushed_numbers, unit_told, next_answer, buffer_with_unit, unit_without_room, units_push_answer, IsUnitsPushed, IsUnitGiven, IsOutOfMemory, next_numbers, units_deadline, units_missing, units_finished, units_restarted};
 ghost use Rattle.h26x_handles.specs.Copies.{with_first};
@@ -10,7 +10,7 @@ ghost use Rattle.h26x_handles.specs.Copies.{with_first};
 use crate::code::{NO_ROOM, NOTHING_YET, OK, OUT_OF_RANGE, codec_wanted, number_of};
 use crate::copy::{copy_first, copy_where_room};
 use h26x_access_units::{
-    AccessUnitConfig, AccessUnitReceiver, Counts, Pushed, ReceivedUnit, Receives,
+    AccessUnitConfig, AccessUnitReceiver, Counts, Pushed, ReceivedAccessUnit, Receives,
 };
 use h26x_codec::{AnyPayloadDepacketizer, Codec};
 use h26x_core::PacketError;
@@ -86,7 +86,7 @@ pub fn code_of_next(answer: NextAnswer, told: &mut UnitTold) -> u32
 }
 
 /// What is told of an access unit.
-fn told_of(unit: &ReceivedUnit) -> UnitTold
+fn told_of(unit: &ReceivedAccessUnit) -> UnitTold
     ensures { result ≡ unit_told (received_unit_value unit.now) }
 {
     UnitTold {
@@ -108,7 +108,7 @@ fn told_of(unit: &ReceivedUnit) -> UnitTold
 pub struct AccessUnitEndpoint {
     codec: Codec,
     receiver: AccessUnitReceiver<AnyPayloadDepacketizer>,
-    left: Option<ReceivedUnit>,
+    left: Option<ReceivedAccessUnit>,
 }
 
 /// What such an endpoint is to contracts.
@@ -124,7 +124,7 @@ pub trait GivesUnits: Drop {
 
 impl GivesUnits for AccessUnitEndpoint {
     ghost use Rattle.std.specs.Option.{option_map};
-    ghost use Rattle.h26x_access_units.specs.ReceivedUnit.{received_unit_value};
+    ghost use Rattle.h26x_access_units.specs.ReceivedAccessUnit.{received_unit_value};
     ghost use Rattle.h26x_handles.specs.UnitsState.{units_state};
 
     ghost units = { λ it. units_state it.codec
@@ -208,7 +208,7 @@ impl AccessUnitEndpoint {
     }
 
     /// Gives out an access unit where there is room for it, and takes its memory back; else keeps it.
-    fn give(&mut self, unit: ReceivedUnit, to: &mut [u8]) -> NextAnswer
+    fn give(&mut self, unit: ReceivedAccessUnit, to: &mut [u8]) -> NextAnswer
         requires { (units_state_of self.old).left ≡ None }
         ensures answer { result ≡ next_answer (Some (received_unit_value unit)) to.old }
         ensures put { to.new ≡ buffer_with_unit (Some (received_unit_value unit)) to.old }

@@ -7,7 +7,7 @@ ghost use Rattle.h26x_codec.specs.declared.codec.Codec.{Codec};
 ghost use Rattle.h26x_codec.specs.declared.codec.Codec.TheVariants as codecs;
 ghost use Rattle.h26x_access_units.specs.declared.config.AccessUnitConfig.{AccessUnitConfig};
 ghost use Rattle.h26x_access_units.specs.JitterBuffer.{due_packet};
-ghost use Rattle.h26x_access_units.specs.ReceivedUnit.{ReceivedUnitValue};
+ghost use Rattle.h26x_access_units.specs.ReceivedAccessUnit.{ReceivedAccessUnitValue};
 ghost use Rattle.h26x_access_units.specs.Reception.{Reception, IsNext, after_reception, ended_if_anew};
 ghost use Rattle.h26x_access_units.specs.declared.pushed.Pushed.TheVariants as pushes;
 ghost use Rattle.h26x_reorder.specs.Rtp.{RtpBody};
@@ -70,37 +70,38 @@ pub fn receivers_by_code()
 /// it is as before; or it has no room, and is kept; or there is none.
 pub fn next_by_answer()
     ensures written { (now : ℕ) (it new : UnitsState) (to new_to : List ℕ) (told : UnitTold) →
-        IsUnitGiven now it new to new_to (answers.Written told) → (unit : ReceivedUnitValue)
+        IsUnitGiven now it new to new_to (answers.Written told) → (unit : ReceivedAccessUnitValue)
         × IsNextGiven now it new.reception (Some unit) × (told ≡ unit_told unit)
         × (length unit.bytes ≤ length to) × (new_to ≡ unit.bytes ++ drop (length unit.bytes) to)
         × (new ≡ units_state it.codec new.reception None) }
     ensures no_room { (now : ℕ) (it new : UnitsState) (to new_to : List ℕ) (told : UnitTold) →
-        IsUnitGiven now it new to new_to (answers.NoRoom told) → (unit : ReceivedUnitValue)
+        IsUnitGiven now it new to new_to (answers.NoRoom told) → (unit : ReceivedAccessUnitValue)
         × IsNextGiven now it new.reception (Some unit) × (told ≡ unit_told unit)
         × (length to < length unit.bytes) × (new_to ≡ to)
         × (new ≡ units_state it.codec new.reception (Some unit)) }
     ensures none { (now : ℕ) (it new : UnitsState) (to new_to : List ℕ) →
         IsUnitGiven now it new to new_to answers.NothingYet → IsNextGiven now it new.reception None
         × (new_to ≡ to) × (new ≡ units_state it.codec new.reception None) }
-    ensures kept { (now : ℕ) (codec : Codec) (r new : Reception) (unit kept : ReceivedUnitValue) →
-        IsNextGiven now (units_state codec r (Some kept)) new (Some unit) →
-        (unit ≡ kept) × (new ≡ r) }
-    ensures received { (now : ℕ) (codec : Codec) (r new : Reception) (unit : ReceivedUnitValue) →
-        IsNextGiven now (units_state codec r None) new (Some unit) → IsNext now r new (Some unit) }
+    ensures kept { (now : ℕ) (codec : Codec) (r new : Reception)
+        (unit kept : ReceivedAccessUnitValue) → IsNextGiven now (units_state codec r
+        (Some kept)) new (Some unit) → (unit ≡ kept) × (new ≡ r) }
+    ensures received { (now : ℕ) (codec : Codec) (r new : Reception)
+        (unit : ReceivedAccessUnitValue) → IsNextGiven now (units_state codec r None) new
+        (Some unit) → IsNext now r new (Some unit) }
 {}
 
 /// An access unit of two bytes, which had no room before, in three bytes, in two and in one; and a
 /// receiver before any packet.
 pub fn units_given()
-    ensures room { (now : ℕ) (codec : Codec) (r : Reception) (other : ReceivedUnitValue) →
+    ensures room { (now : ℕ) (codec : Codec) (r : Reception) (other : ReceivedAccessUnitValue) →
         let unit = record other { bytes = 1 ∷ 2 ∷ [] } in
         IsUnitGiven now (units_state codec r (Some unit)) (units_state codec r None)
         (9 ∷ 9 ∷ 9 ∷ []) (1 ∷ 2 ∷ 9 ∷ []) (answers.Written (unit_told unit)) }
-    ensures fits { (now : ℕ) (codec : Codec) (r : Reception) (other : ReceivedUnitValue) →
+    ensures fits { (now : ℕ) (codec : Codec) (r : Reception) (other : ReceivedAccessUnitValue) →
         let unit = record other { bytes = 1 ∷ 2 ∷ [] } in
         IsUnitGiven now (units_state codec r (Some unit)) (units_state codec r None)
         (9 ∷ 9 ∷ []) (1 ∷ 2 ∷ []) (answers.Written (unit_told unit)) }
-    ensures no_room { (now : ℕ) (codec : Codec) (r : Reception) (other : ReceivedUnitValue) →
+    ensures no_room { (now : ℕ) (codec : Codec) (r : Reception) (other : ReceivedAccessUnitValue) →
         let unit = record other { bytes = 1 ∷ 2 ∷ [] } in
         IsUnitGiven now (units_state codec r (Some unit)) (units_state codec r (Some unit))
         (9 ∷ []) (9 ∷ []) (answers.NoRoom (unit_told unit)) }
@@ -126,10 +127,10 @@ pub fn units_without_memory()
 /// A packet that is held: whether it waits or was taken at once, the same is given out next.
 pub fn next_behind_a_packet()
     ensures { (now later : ℕ) (it pushed : UnitsState) (p : ℕ × RtpBody) (new : Reception)
-        (unit : Option ReceivedUnitValue) → p.0 < 2 ^ 16 → units_push_answer it p ≡ pushes.Held →
-        IsUnitsPushed now p it pushed → it.left ≡ None → IsNextGiven later pushed new unit →
-        IsNextGiven later (units_with_reception (after_reception now it.reception p pushes.Held) it)
-        new unit }
+        (unit : Option ReceivedAccessUnitValue) → p.0 < 2 ^ 16 → units_push_answer it p
+        ≡ pushes.Held → IsUnitsPushed now p it pushed → it.left ≡ None → IsNextGiven later pushed
+        new unit → IsNextGiven later (units_with_reception (after_reception now it.reception p
+        pushes.Held) it) new unit }
 {
     units_laws::packets_taken_at_once_are_as_those_that_wait();
 }

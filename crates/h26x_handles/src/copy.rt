@@ -46,12 +46,12 @@ pub fn copy_first<T: Copy>(entries: &[T], to: &mut [T]) -> usize
 }
 
 /// Where packets end that have no headroom.
-pub fn ends_of(packets: &PacketBuffer) -> &[usize]
+pub fn packet_ends(packets: &PacketBuffer) -> &[usize]
     requires { packets.now.headroom ≡ 0 }
     ensures ends { result.now ≡ end_offsets 0 packets.now.packets }
     ensures count { length result.now ≡ length packets.now.packets }
 {
-    packets.ends()
+    packets.packet_ends()
 }
 
 /// Where the packet at a place begins.
@@ -63,7 +63,7 @@ pub fn start_of(packets: &PacketBuffer, place: usize) -> usize
     if place == 0 {
         return 0;
     }
-    ends_of(packets)[place - 1]
+    packet_ends(packets)[place - 1]
 }
 
 /// The bytes of packets from a first one on, one behind the other.
@@ -91,7 +91,7 @@ fn copy_ends(
         (drop first packets.now.packets))) ends.old }
 {
     let start = start_of(packets, first);
-    let from = &ends_of(packets)[first..];
+    let from = &packet_ends(packets)[first..];
     let mut count = 0;
     let mut place = 0;
     while count < from.len() && count < ends.len() {

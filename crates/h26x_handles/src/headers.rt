@@ -2,12 +2,12 @@
 
 ghost use Rattle.std.specs.Prelude.{◌≡◌, ◌≤◌, ◌<◌, ◌++◌, ℕ, List, [], length, take, drop, get_or, slice_set};
 ghost use Rattle.std.specs.List.{between};
-ghost use Rattle.h26x_packetizer.specs.Buffer.{packets_from, last_end, AreEnds};
+ghost use Rattle.h26x_packetizer.specs.Buffer.{packets_from, last_end, ArePacketEnds};
 ghost use Rattle.h26x_packetizer.specs.Placement.{packets_over, IsPlacement};
 ghost use Rattle.h265_payload.specs.LowestHeader.{with_lowest_header, with_lowest_headers};
 ghost use Rattle.h26x_handles.specs.Headers.{headers_wanted, under_headers, IsPlaced};
 
-use crate::copy::{ends_of, start_of};
+use crate::copy::{packet_ends, start_of};
 use h26x_codec::Codec;
 use h26x_packetizer::{PacketBuffer, Placement};
 use h265_payload::set_lowest_header;
@@ -42,7 +42,7 @@ fn set_at(has_donl: bool, packets: &mut PacketBuffer, place: usize)
     } }
 {
     let start = start_of(packets, place);
-    let end = ends_of(packets)[place];
+    let end = packet_ends(packets)[place];
     let bytes = packets.bytes_mut();
     set_between(has_donl, bytes, start, end);
 }
@@ -63,7 +63,7 @@ fn set_all(has_donl: bool, packets: &mut PacketBuffer)
 
 /// Gives packets in memory that header, which end at these places, each behind so many bytes.
 fn set_in_memory(has_donl: bool, headroom: usize, to: &mut [u8], ends: &[usize])
-    requires ends { AreEnds headroom 0 ends.now }
+    requires ends { ArePacketEnds headroom 0 ends.now }
     requires room { last_end 0 ends.now ≤ length to.old }
     ensures { to.new ≡ packets_over headroom
         (with_lowest_headers has_donl (packets_from headroom 0 to.old ends.now)) to.old }

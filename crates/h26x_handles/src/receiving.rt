@@ -143,8 +143,8 @@ fn take<W: UnitSink>(
     ensures kept_extra { OnErr result (extra.new ≡ extra.old) }
 {
     let setting = it.is_avc();
-    it.with_avc(is_avc);
+    it.set_avc(is_avc);
     let outcome = it.depacketize_into(packet, out, extra);
-    it.with_avc(setting);
+    it.set_avc(setting);
     outcome
 }

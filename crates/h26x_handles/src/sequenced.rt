@@ -45,7 +45,7 @@ impl SequencedEndpoint {
     {
         let mut depacketizer = AnyDepacketizer::new(alloc, codec);
         depacketizer.with_donl(has_donl);
-        depacketizer.with_avc(is_avc);
+        depacketizer.set_avc(is_avc);
         SequencedEndpoint {
             receiver: SequencedDepacketizer::new(alloc, depacketizer, run_limit),
             written: Vec::new(alloc),
@@ -153,12 +153,12 @@ impl SequencedEndpoint {
     }
 
     /// Sets whether units are written behind lengths or behind start codes.
-    pub fn with_avc(&mut self, is_avc: bool)
+    pub fn set_avc(&mut self, is_avc: bool)
         ensures { self.new ≡ record self.old {
           depacketizer = any_depacketizer_with_avc is_avc self.old.depacketizer;
         } }
     {
-        self.receiver.depacketizer.with_avc(is_avc);
+        self.receiver.depacketizer.set_avc(is_avc);
     }
 
     /// How many bytes the open run holds; none where none is open.

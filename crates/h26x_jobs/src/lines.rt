@@ -9,7 +9,7 @@ use crate::stream::{Picture, STAMP, pictures};
 use anyhow::Result;
 use h26x_codec::Codec;
 use h26x_core::PacketError;
-use h26x_session::run as run_session;
+use h26x_lines::answer_all;
 use std::alloc::Global;
 use std::io::{self, Write};
 
@@ -131,7 +131,7 @@ pub fn run(alloc: Global, work: Work) -> Result<Digest> {
             let answers = Answers {
                 digest: &mut digest,
             };
-            run_session(alloc, session.text.as_slice(), answers)?;
+            answer_all(alloc, session.text.as_slice(), answers)?;
         }
     }
     Ok(digest)

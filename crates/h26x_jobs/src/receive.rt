@@ -9,9 +9,9 @@ use crate::draws::Draws;
 use crate::network::arrivals;
 use crate::packets::{Packet, drawn_packets};
 use crate::setting::{SETTINGS, Setting};
+use h26x_assembler::{AccessUnit, AccessUnitAssembler, assemble_all};
 use h26x_codec::AnyDepacketizer;
 use h26x_core::{CodecExtra, PacketError};
-use h26x_frames::{AccessUnit, FrameReceiver, receive_frames};
 use h26x_receiver::{Received, SequencedDepacketizer};
 use h26x_reorder::{ReorderBuffer, RtpPacket};
 use std::alloc::Global;
@@ -103,7 +103,7 @@ fn receive_each(
     requires half { window ≤ 2 ^ 14 }
 {
     let sequenced = SequencedDepacketizer::new(alloc, depacketizer_of(alloc, setting), RUN_LIMIT);
-    let mut receiver = FrameReceiver::new(alloc, sequenced, UNIT_LIMIT);
+    let mut receiver = AccessUnitAssembler::new(alloc, sequenced, UNIT_LIMIT);
     let mut buffer = ReorderBuffer::new(alloc, window);
     let mut units = Vec::new(alloc);
     for place in order {
@@ -118,7 +118,7 @@ fn receive_each(
     while let Some(held) = buffer.pop_first() {
         add_received(digest, receiver.receive(&held.packet(), &mut units));
     }
-    receiver.end(&mut units)?;
+    receiver.finish(&mut units)?;
     add_units(digest, &mut units);
     Ok(())
 }
@@ -136,7 +136,7 @@ fn receive_list(
     requires half { window ≤ 2 ^ 14 }
 {
     let sequenced = SequencedDepacketizer::new(alloc, depacketizer_of(alloc, setting), RUN_LIMIT);
-    let mut receiver = FrameReceiver::new(alloc, sequenced, UNIT_LIMIT);
+    let mut receiver = AccessUnitAssembler::new(alloc, sequenced, UNIT_LIMIT);
     let mut came = Vec::new(alloc);
     for place in order {
         if let Some(packet) = packets.get(*place) {
@@ -149,7 +149,7 @@ fn receive_list(
         }
     }
     let mut units = Vec::new(alloc);
-    for received in receive_frames(alloc, &mut receiver, window, &came, &mut units)? {
+    for received in assemble_all(alloc, &mut receiver, window, &came, &mut units)? {
         add_received(digest, received);
     }
     add_units(digest, &mut units);

@@ -10,10 +10,10 @@ use crate::network::arrivals;
 use crate::packets::{Packet, drawn_packets};
 use crate::receive::{First, RUN_LIMIT, UNIT_LIMIT, add_received, numbered};
 use crate::setting::{SETTINGS, Setting};
+use h26x_assembler::{AccessUnit, AccessUnitAssembler};
 use h26x_codec::Codec;
 use h26x_core::PacketError;
 use h26x_depacketizer::{PayloadDepacketizer, RunDepacketizer};
-use h26x_frames::{AccessUnit, FrameReceiver};
 use h26x_receiver::SequencedDepacketizer;
 use h26x_reorder::{HeldPacket, NotHeld, NotHeldReason, ReorderBuffer, RtpPacket};
 use h264_payload::H264;
@@ -52,7 +52,7 @@ fn add_not_held(digest: &mut Digest, not_held: &NotHeld) {
 #[inline]
 fn give_back<D: RunDepacketizer>(
     digest: &mut Digest,
-    receiver: &mut FrameReceiver<D>,
+    receiver: &mut AccessUnitAssembler<D>,
     units: &mut Vec<AccessUnit>,
 ) {
     for unit in units.drain(..) {
@@ -77,7 +77,7 @@ fn receive_each<D: RunDepacketizer>(
     requires half { window ≤ 2 ^ 14 }
 {
     let sequenced = SequencedDepacketizer::new(alloc, depacketizer, RUN_LIMIT);
-    let mut receiver = FrameReceiver::new(alloc, sequenced, UNIT_LIMIT);
+    let mut receiver = AccessUnitAssembler::new(alloc, sequenced, UNIT_LIMIT);
     let mut buffer = ReorderBuffer::new(alloc, window);
     let mut units = Vec::new(alloc);
     for place in order {
@@ -98,7 +98,7 @@ fn receive_each<D: RunDepacketizer>(
         add_received(digest, receiver.receive(&held.packet(), &mut units));
         memories.push(held.into_payload())?;
     }
-    receiver.end(&mut units)?;
+    receiver.finish(&mut units)?;
     give_back(digest, &mut receiver, &mut units);
     Ok(())
 }

@@ -7,7 +7,7 @@ use Rattle.std.proofs.lemmas.Bool.Decides.{nat_tests}
 use Rattle.h26x_model.specs.Payload.Format.{Format, donl_len, fragment_header_len}
 use Rattle.h26x_model.specs.Send.Calls.{Call, AreCalls, all_entries}
 use Rattle.h26x_model.specs.Send.Plan.{fits_one_packet, is_dropped}
-use Rattle.h26x_model.specs.Send.Packets.{fragment_room, fragmented_bytes, fragment_count, fragment_part, fragment}
+use Rattle.h26x_model.specs.Send.Packets.{fragment_room, fragmented_bytes, fragment_count, fragment_body, fragment}
 use Rattle.h26x_model.specs.Send.Fragments.{AreFragments, IsLong, GoesInFragments, HasRoomFrom}
 use Rattle.h26x_model.specs.Payload.Don.{DonsInOrder}
 use Rattle.h26x_model.specs.Carry.Detection.{AreDetected}
@@ -47,7 +47,7 @@ long_full : (f : Format) → IsPayloadFormat f → (n limit : ℕ) (unit : List 
 long_full f ok n limit unit h j more =
     let last = j + 1 == fragment_count f limit unit in
     let full = (long_fragments f n limit unit h).full j more in
-    let whole = length-append (f.fragment_header unit (j == 0) last) (fragment_part f n limit unit j) in
+    let whole = length-append (f.fragment_header unit (j == 0) last) (fragment_body f n limit unit j) in
     let large = h.room in
     omega (arith, whole, full, ok.whole unit (j == 0) last (long_header f limit unit h))
 
@@ -56,7 +56,7 @@ long_within : (f : Format) → IsPayloadFormat f → (n limit : ℕ) (unit : Lis
 long_within f ok n limit unit h j =
     let last = j + 1 == fragment_count f limit unit in
     let part = length-take (fragment_room f limit) (drop (j * fragment_room f limit) (fragmented_bytes f n unit)) in
-    let whole = length-append (f.fragment_header unit (j == 0) last) (fragment_part f n limit unit j) in
+    let whole = length-append (f.fragment_header unit (j == 0) last) (fragment_body f n limit unit j) in
     let large = h.room in
     omega (arith, whole, part, ok.limits.header unit (j == 0) last)
 

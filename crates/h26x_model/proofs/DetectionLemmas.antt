@@ -6,7 +6,7 @@ use Rattle.std.proofs.lemmas.List.FromFn.{length-map-range_with_len}
 use Rattle.std.proofs.lemmas.Bool.Decides.{nat_tests}
 use Rattle.h26x_model.specs.Payload.Format.{Format}
 use Rattle.h26x_model.specs.Send.Plan.{Item, Alone, Together, fits_one_packet, item_units}
-use Rattle.h26x_model.specs.Send.Packets.{single_packet, fragment, fragments, fragment_count, fragment_part}
+use Rattle.h26x_model.specs.Send.Packets.{single_packet, fragment, fragments, fragment_count, fragment_body}
 use Rattle.h26x_model.specs.Payload.Facts.{ReadsWhatItWrites, KnowsKeyUnits, IsPlanned}
 use Rattle.h26x_model.specs.Carry.Detection.{IsDetected, AreDetected}
 use Rattle.h26x_model.proofs.ReadBackLemmas.{bounds}
@@ -18,7 +18,7 @@ later_undetected f n limit unit j zero knows carried pos = refl
 later_undetected f n limit unit j (suc m) knows carried pos =
     let not_first : eqb j 0 ≡ false = grind (arith, nat_tests) in
     let here : f.detects (fragment f n limit unit j) ≡ false =
-    knows.fragment unit (fragment_part f n limit unit j) (eqb j 0) (eqb (j + 1) (fragment_count f limit unit)) carried ∙ ap (λ (first : Bool). first && f.is_key unit) not_first in
+    knows.fragment unit (fragment_body f n limit unit j) (eqb j 0) (eqb (j + 1) (fragment_count f limit unit)) carried ∙ ap (λ (first : Bool). first && f.is_key unit) not_first in
     ap (λ (x : Bool). x ∷ map f.detects (map (fragment f n limit unit) (range_with_len (j + 1) m))) here
     ∙ ap (λ (x : List Bool). false ∷ x) (later_undetected f n limit unit (j + 1) m knows carried (omega arith))
 
@@ -30,7 +30,7 @@ fragments_detected f n limit unit m knows carried count =
     let others : m ≡ length (fragments f n limit unit) - 1 = omega (arith, long) in
     ap (λ k. map f.detects (map (fragment f n limit unit) (range_with_len 0 k))) (sym count)
     ∙ ap (λ (x : Bool). x ∷ map f.detects (map (fragment f n limit unit) (range_with_len 1 m)))
-    (knows.fragment unit (fragment_part f n limit unit 0) true (eqb (0 + 1) (fragment_count f limit unit)) carried)
+    (knows.fragment unit (fragment_body f n limit unit 0) true (eqb (0 + 1) (fragment_count f limit unit)) carried)
     ∙ ap (λ (x : List Bool). f.is_key unit ∷ x) (later_undetected f n limit unit 1 m knows carried (omega arith) ∙ ap (λ k. replicate k false) others)
 
 -- an item's packets tell of its key unit

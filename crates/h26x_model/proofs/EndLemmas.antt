@@ -12,7 +12,7 @@ use Rattle.h26x_model.specs.Payload.Format.{Format}
 use Rattle.h26x_model.specs.Send.Group.{Entry}
 use Rattle.h26x_model.specs.Send.Calls.{Call, AreCalls, call_limit, call_entries, all_entries}
 use Rattle.h26x_model.specs.Send.Plan.{Item, Alone, Together, fits_one_packet, is_dropped, item_units, unit_items, entry_items, sets_items}
-use Rattle.h26x_model.specs.Send.WaitingSets.{WaitingSets, sets_waiting, sets_are_due, waiting_after_unit, due_items, plan_with_waiting, waiting_after, entries_with_limit}
+use Rattle.h26x_model.specs.Send.WaitingSets.{WaitingSets, sets_waiting, sets_are_sent, waiting_after_unit, outgoing_items, plan_with_waiting, waiting_after, entries_with_limit}
 use Rattle.h26x_model.specs.Send.Packets.{item_packets, plan_packets}
 use Rattle.h26x_model.specs.Send.Limit.{AreWithinLimit, ItemIsWithinLimit, item_limit}
 use Rattle.h26x_model.specs.Payload.Reading.{Reading, Single, Aggregate, Fragment, Paci, Refused, IsRead}
@@ -49,7 +49,7 @@ skipped_units f w limit (unit ∷ units) all =
     let p = and_parts (is_skipped (f.kind unit)) (list_all (λ u. is_skipped (f.kind u)) units) all in
     let is = skipped_is (f.kind unit) p.0 in
     let later = skipped_units f w limit units p.1 in
-    let now : due_items f w (record { unit = unit; limit = limit }) ≡ [] = rw is refl in
+    let now : outgoing_items f w (record { unit = unit; limit = limit }) ≡ [] = rw is refl in
     let wait : waiting_after_unit f w unit ≡ w = rw is refl in (
       ap (λ (x : List Item). x ++ plan_with_waiting f (waiting_after_unit f w unit) (entries_with_limit limit units)) now ∙ ap (λ v. plan_with_waiting f v (entries_with_limit limit units)) wait ∙ later.0,
       ap (λ v. waiting_after f v (entries_with_limit limit units)) wait ∙ later.1,
@@ -101,11 +101,11 @@ entry_limit f e = elim (is_other (f.kind e.unit)) as (λ b. HaveLimit e.limit (c
 ]
 
 -- what goes when an entry comes
-now_limit : (f : Format) (w : WaitingSets) (e : Entry) → HaveLimit e.limit (due_items f w e)
+now_limit : (f : Format) (w : WaitingSets) (e : Entry) → HaveLimit e.limit (outgoing_items f w e)
 now_limit f w e =
     let sets = sets_items f e.limit (sets_waiting w) e.unit in
-    all_both (λ item. item_limit item ≡ e.limit) (cond (sets_are_due (f.kind e.unit) w) sets []) (entry_items f e)
-    (elim (sets_are_due (f.kind e.unit) w) as (λ b. HaveLimit e.limit (cond b sets [])) [ true ↦ sets_limit f e.limit (sets_waiting w) e.unit | false ↦ tt ])
+    all_both (λ item. item_limit item ≡ e.limit) (cond (sets_are_sent (f.kind e.unit) w) sets []) (entry_items f e)
+    (elim (sets_are_sent (f.kind e.unit) w) as (λ b. HaveLimit e.limit (cond b sets [])) [ true ↦ sets_limit f e.limit (sets_waiting w) e.unit | false ↦ tt ])
     (entry_limit f e)
 
 -- what goes for units at one limit
@@ -113,7 +113,7 @@ units_limit : (f : Format) (w : WaitingSets) (limit : ℕ) (units : List (List �
 units_limit f w limit [] = tt
 units_limit f w limit (unit ∷ units) =
     let e : Entry = record { unit = unit; limit = limit } in
-    all_both (λ item. item_limit item ≡ limit) (due_items f w e) (plan_with_waiting f (waiting_after_unit f w unit) (entries_with_limit limit units))
+    all_both (λ item. item_limit item ≡ limit) (outgoing_items f w e) (plan_with_waiting f (waiting_after_unit f w unit) (entries_with_limit limit units))
     (now_limit f w e) (units_limit f (waiting_after_unit f w unit) limit units)
 
 -- what goes for a call

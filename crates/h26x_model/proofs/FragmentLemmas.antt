@@ -9,7 +9,7 @@ use Rattle.std.proofs.lemmas.Bool.Decides.{nat_tests}
 use Rattle.h26x_model.specs.Payload.Reading.{Fragment}
 use Rattle.h26x_model.specs.Payload.Format.{Format, donl, donl_len}
 use Rattle.h26x_model.specs.Send.Plan.{fits_one_packet, is_dropped}
-use Rattle.h26x_model.specs.Send.Packets.{fragment_count, fragmented_bytes, fragment_part, fragment_room}
+use Rattle.h26x_model.specs.Send.Packets.{fragment_count, fragmented_bytes, fragment_body, fragment_room}
 use Rattle.h26x_model.specs.Payload.Don.{don_sent}
 use Rattle.h26x_model.specs.Payload.Facts.{ReadsWhatItWrites, MarksFragments}
 use Rattle.h26x_model.specs.Send.Fragments.{fragment_data, AreFragments, ReadsFragments, AreMarked}
@@ -29,29 +29,29 @@ pieces_join c j (suc m) xs =
     ∙ take-append-drop c (drop (j * c) xs)
 
 -- a later fragment has its data and nothing before them
-later_part : (f : Format) (n limit : ℕ) (unit : List ℕ) (j : ℕ) → donl_len f ≤ fragment_room f limit → 0 < j → fragment_part f n limit unit j ≡ fragment_data f limit unit j
+later_part : (f : Format) (n limit : ℕ) (unit : List ℕ) (j : ℕ) → donl_len f ≤ fragment_room f limit → 0 < j → fragment_body f n limit unit j ≡ fragment_data f limit unit j
 later_part f n limit unit j large pos =
     let not_first : eqb j 0 ≡ false = grind (arith, nat_tests) in
     let place : j ≡ j - 1 + 1 = omega arith in
-    rw not_first (ap (fragment_part f n limit unit) place ∙ (part_by_place f n limit (j - 1) unit large).1)
+    rw not_first (ap (fragment_body f n limit unit) place ∙ (part_by_place f n limit (j - 1) unit large).1)
 
 -- the data of later fragments are all that stands behind their headers
 later_joined : (f : Format) (n limit : ℕ) (unit : List ℕ) (j m : ℕ) → donl_len f ≤ fragment_room f limit → 0 < j →
-    flat_map (fragment_part f n limit unit) (range_with_len j m) ≡ flat_map (fragment_data f limit unit) (range_with_len j m)
+    flat_map (fragment_body f n limit unit) (range_with_len j m) ≡ flat_map (fragment_data f limit unit) (range_with_len j m)
 later_joined f n limit unit j zero large pos = refl
 later_joined f n limit unit j (suc m) large pos =
-    ap (λ (x : List ℕ). x ++ flat_map (fragment_part f n limit unit) (range_with_len (j + 1) m)) (later_part f n limit unit j large pos)
+    ap (λ (x : List ℕ). x ++ flat_map (fragment_body f n limit unit) (range_with_len (j + 1) m)) (later_part f n limit unit j large pos)
     ∙ ap (λ (x : List ℕ). fragment_data f limit unit j ++ x) (later_joined f n limit unit (j + 1) m large (omega arith))
 
 -- what stands behind the headers of all fragments is the number and the unit without its header
 parts_joined : (f : Format) (n limit : ℕ) (unit : List ℕ) → Bounds f n limit unit →
-    flat_map (fragment_part f n limit unit) (range_with_len 0 (fragment_count f limit unit)) ≡ fragmented_bytes f n unit
+    flat_map (fragment_body f n limit unit) (range_with_len 0 (fragment_count f limit unit)) ≡ fragmented_bytes f n unit
 parts_joined f n limit unit b =
     let k = fragment_count f limit unit in
     let all : (0 + k) * fragment_room f limit ≡ k * fragment_room f limit = omega arith in
     let behind : drop ((0 + k) * fragment_room f limit) (fragmented_bytes f n unit) ≡ [] = drop_of_length-le (fragmented_bytes f n unit) (omega (arith, b.upper, all)) in
-    sym (append-nil (flat_map (fragment_part f n limit unit) (range_with_len 0 k)))
-    ∙ ap (λ (x : List ℕ). flat_map (fragment_part f n limit unit) (range_with_len 0 k) ++ x) (sym behind)
+    sym (append-nil (flat_map (fragment_body f n limit unit) (range_with_len 0 k)))
+    ∙ ap (λ (x : List ℕ). flat_map (fragment_body f n limit unit) (range_with_len 0 k) ++ x) (sym behind)
     ∙ pieces_join (fragment_room f limit) 0 k (fragmented_bytes f n unit)
     ∙ (let e : 0 * fragment_room f limit ≡ 0 = omega arith in ap (λ i. drop i (fragmented_bytes f n unit)) e)
 
@@ -63,19 +63,19 @@ data_joined f n limit unit m b count =
     let joined : donl f n ++ flat_map (fragment_data f limit unit) (range_with_len 0 (suc m)) ≡ fragmented_bytes f n unit =
     sym (append_assoc (donl f n) (fragment_data f limit unit 0) (flat_map (fragment_data f limit unit) (range_with_len 1 m)))
     ∙ ap (λ (x : List ℕ). x ++ flat_map (fragment_data f limit unit) (range_with_len 1 m)) (sym (part_by_place f n limit 0 unit large).0)
-    ∙ ap (λ (x : List ℕ). fragment_part f n limit unit 0 ++ x) (sym (later_joined f n limit unit 1 m large (omega arith)))
-    ∙ ap (λ k. flat_map (fragment_part f n limit unit) (range_with_len 0 k)) count
+    ∙ ap (λ (x : List ℕ). fragment_body f n limit unit 0 ++ x) (sym (later_joined f n limit unit 1 m large (omega arith)))
+    ∙ ap (λ k. flat_map (fragment_body f n limit unit) (range_with_len 0 k)) count
     ∙ parts_joined f n limit unit b in
     sym (drop_at (donl f n) (flat_map (fragment_data f limit unit) (range_with_len 0 (suc m))) (length (donl f n)) refl)
     ∙ ap (drop (length (donl f n))) joined
     ∙ drop_at (donl f n) (drop f.header_len unit) (length (donl f n)) refl
 
 -- a fragment takes what is left behind its place, as far as it has room
-part_length : (f : Format) (n limit : ℕ) (unit : List ℕ) (j : ℕ) → length (fragment_part f n limit unit j) ≡ min (fragment_room f limit) (length (fragmented_bytes f n unit) - j * fragment_room f limit)
+part_length : (f : Format) (n limit : ℕ) (unit : List ℕ) (j : ℕ) → length (fragment_body f n limit unit j) ≡ min (fragment_room f limit) (length (fragmented_bytes f n unit) - j * fragment_room f limit)
 part_length f n limit unit j = length-take (fragment_room f limit) (drop (j * fragment_room f limit) (fragmented_bytes f n unit)) ∙ ap (min (fragment_room f limit)) (length-drop (j * fragment_room f limit) (fragmented_bytes f n unit))
 
 -- each fragment but the last is full
-part_full : (f : Format) (n limit : ℕ) (unit : List ℕ) (j : ℕ) → Bounds f n limit unit → j + 1 < fragment_count f limit unit → length (fragment_part f n limit unit j) ≡ fragment_room f limit
+part_full : (f : Format) (n limit : ℕ) (unit : List ℕ) (j : ℕ) → Bounds f n limit unit → j + 1 < fragment_count f limit unit → length (fragment_body f n limit unit j) ≡ fragment_room f limit
 part_full f n limit unit j b h =
     let next : (j + 1) * fragment_room f limit ≡ j * fragment_room f limit + fragment_room f limit = omega arith in
     let at = place_below (j + 1) (fragment_count f limit unit) (fragment_room f limit) (length (fragmented_bytes f n unit)) (omega arith) b.lower in
@@ -92,7 +92,7 @@ data_some f n limit unit (suc j) unfit kept b h =
     let at = place_below (suc j) (fragment_count f limit unit) (fragment_room f limit) (length (fragmented_bytes f n unit)) (omega arith) b.lower in
     let long = part_length f n limit unit (suc j) in
     let large = b.large in
-    let some : 0 < length (fragment_part f n limit unit (suc j)) = omega (arith, at, long) in
+    let some : 0 < length (fragment_body f n limit unit (suc j)) = omega (arith, at, long) in
     subst (λ (x : List ℕ). 0 < length x) (later_part f n limit unit (suc j) (omega arith) (omega arith)) some
 
 -- the fragments of a unit are as they are told place by place
@@ -138,7 +138,7 @@ pub are_marked : (f : Format) → MarksFragments f → (n limit : ℕ) (unit : L
 are_marked f marks n limit unit unfit kept header =
     let count = fragment_count f limit unit in
     let two = (are_fragments f n limit unit unfit kept header).two in
-    let here = λ (j : ℕ). marks unit (fragment_part f n limit unit j) (eqb j 0) (eqb (j + 1) count) header in
+    let here = λ (j : ℕ). marks unit (fragment_body f n limit unit j) (eqb j 0) (eqb (j + 1) count) header in
     record {
       two = two;
       start = λ j h. (here j).0;

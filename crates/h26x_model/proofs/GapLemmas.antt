@@ -11,7 +11,7 @@ use Rattle.h26x_model.specs.Payload.Reading.{Reading, Single, Aggregate, Fragmen
 use Rattle.h26x_model.specs.Payload.Format.{Format, donl_len}
 use Rattle.h26x_model.specs.Send.Calls.{Call, AreCalls, all_entries}
 use Rattle.h26x_model.specs.Send.Plan.{Item, Alone, Together, fits_one_packet, item_units}
-use Rattle.h26x_model.specs.Send.Packets.{single_packet, fragment, fragment_part, fragments, fragment_count, fragmented_bytes, fragment_room, item_packets, plan_packets}
+use Rattle.h26x_model.specs.Send.Packets.{single_packet, fragment, fragment_body, fragments, fragment_count, fragmented_bytes, fragment_room, item_packets, plan_packets}
 use Rattle.h26x_core.specs.ByteStream.{unit_prefix, byte_stream}
 use Rattle.h26x_model.specs.Payload.Extra.{extra_after}
 use Rattle.h26x_model.specs.Receive.Received.{extended_run, run_after, reading_units}
@@ -99,7 +99,7 @@ none_over f most n limit unit j (suc m) (true ∷ mask) sound carried b pos is =
     let at = place_below j (fragment_count f limit unit) (fragment_room f limit) (length (fragmented_bytes f n unit)) (omega arith) b.lower in
     let last = eqb (j + 1) (fragment_count f limit unit) in
     rw (later_read f n limit unit j sound carried pos (omega arith) at)
-    (startless most last (take f.header_len unit) (fragment_part f n limit unit j) mask (map f.read (fragments_at f n limit unit (j + 1) m))
+    (startless most last (take f.header_len unit) (fragment_body f n limit unit j) mask (map f.read (fragments_at f n limit unit (j + 1) m))
     ∙ none_over f most n limit unit (j + 1) m mask sound carried b (omega arith) (omega arith))
 
 -- a run that is not too long stays, and one that is too long is given up
@@ -182,7 +182,7 @@ rest_over f most n limit unit j (suc m) (true ∷ mask) sound carried b short po
     let at = place_below j (fragment_count f limit unit) c (length (fragmented_bytes f n unit)) (omega arith) b.lower in
     let at_next = place_below (j + 1) (fragment_count f limit unit) c (length (fragmented_bytes f n unit)) (omega arith) b.lower in
     let grown = places_grow j c pos in
-    let next : data_before f n limit unit j ++ fragment_part f n limit unit j ≡ data_before f n limit unit (j + 1) =
+    let next : data_before f n limit unit j ++ fragment_body f n limit unit j ≡ data_before f n limit unit (j + 1) =
     parts (donl_len f) c (j * c) (fragmented_bytes f n unit) (omega (arith, grown, b.large)) (omega (arith, b.some))
     ∙ ap (λ k. drop (donl_len f) (take k (fragmented_bytes f n unit))) (sym (next_place j c)) in
     let size = data_long f n limit unit (j + 1) at_next in

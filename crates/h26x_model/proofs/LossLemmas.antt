@@ -8,7 +8,7 @@ use Rattle.std.proofs.lemmas.Bool.Decides.{nat_tests}
 use Rattle.h26x_model.specs.Payload.Reading.{Reading, Fragment, body_of}
 use Rattle.h26x_model.specs.Payload.Format.{Format, donl_len}
 use Rattle.h26x_model.specs.Send.Plan.{Item, Alone, Together, fits_one_packet, is_dropped, item_units}
-use Rattle.h26x_model.specs.Send.Packets.{single_packet, fragment, fragment_part, fragments, fragment_count, fragmented_bytes, fragment_room, item_packets}
+use Rattle.h26x_model.specs.Send.Packets.{single_packet, fragment, fragment_body, fragments, fragment_count, fragmented_bytes, fragment_room, item_packets}
 use Rattle.h26x_model.specs.Payload.Don.{don_sent, with_dons}
 use Rattle.h26x_model.specs.Receive.Received.{extended_run, open_run, run_units, brought_after, units_after}
 use Rattle.h26x_model.specs.Payload.Facts.{ReadsWhatItWrites, CanSend}
@@ -56,7 +56,7 @@ later_left f n limit unit earlier j zero (true ∷ []) sound carried b pos count
     let last : eqb (j + 1) (fragment_count f limit unit) ≡ true = eq-eqb (j + 1) (fragment_count f limit unit) (omega arith) in
     let at = place_below j (fragment_count f limit unit) (fragment_room f limit) (length (fragmented_bytes f n unit)) (omega arith) b.lower in
     let head = take f.header_len unit in
-    let body = fragment_part f n limit unit j in
+    let body = fragment_body f n limit unit j in
     let run = extended_run false (open_run earlier) body in
     rw (later_read f n limit unit j sound carried pos (omega arith) at, last) (
     append-nil (run_units head run)
@@ -70,7 +70,7 @@ later_left f n limit unit earlier j (suc m) (true ∷ y ∷ mask) sound carried 
     let more : eqb (j + 1) (fragment_count f limit unit) ≡ false = grind (arith, nat_tests) in
     let at = place_below j (fragment_count f limit unit) (fragment_room f limit) (length (fragmented_bytes f n unit)) (omega arith) b.lower in
     let head = take f.header_len unit in
-    let body = fragment_part f n limit unit j in
+    let body = fragment_body f n limit unit j in
     let here = Fragment false false head None body in
     let behind = carried_by f (keep (y ∷ mask) (fragments_at f n limit unit (j + 1) (suc m))) in
     let next = later_left f n limit unit (here ∷ earlier) (j + 1) m (y ∷ mask) sound carried b (omega arith) (omega arith) (omega arith) in

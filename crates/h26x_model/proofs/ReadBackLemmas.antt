@@ -12,7 +12,7 @@ use Rattle.std.proofs.Math.Seq.{take-add, take-append-add, drop-append-add}
 use Rattle.h26x_model.specs.Payload.Reading.{Reading, Fragment}
 use Rattle.h26x_model.specs.Payload.Format.{Format, donl, donl_len}
 use Rattle.h26x_model.specs.Send.Plan.{fits_one_packet, is_dropped}
-use Rattle.h26x_model.specs.Send.Packets.{fragment, fragments, fragment_count, fragmented_bytes, fragment_room, pieces_needed, fragment_part}
+use Rattle.h26x_model.specs.Send.Packets.{fragment, fragments, fragment_count, fragmented_bytes, fragment_room, pieces_needed, fragment_body}
 use Rattle.h26x_model.specs.Payload.Don.{don_sent}
 use Rattle.h26x_model.specs.Receive.Received.{open_run, units_after}
 use Rattle.h26x_model.specs.Payload.Facts.{ReadsWhatItWrites}
@@ -37,10 +37,10 @@ front_is f n unit c h =
 pub later_read : (f : Format) (n limit : ℕ) (unit : List ℕ) (j : ℕ) → ReadsWhatItWrites f → IsTrue (f.carries unit) →
     0 < j → 0 < fragment_room f limit → j * fragment_room f limit < length (fragmented_bytes f n unit) →
     f.read (fragment f n limit unit j)
-    ≡ Fragment false (eqb (j + 1) (fragment_count f limit unit)) (take f.header_len unit) None (fragment_part f n limit unit j)
+    ≡ Fragment false (eqb (j + 1) (fragment_count f limit unit)) (take f.header_len unit) None (fragment_body f n limit unit j)
 later_read f n limit unit j sound carried pos large within =
     let none : eqb j 0 ≡ false = grind (arith, nat_tests) in
-    let body = fragment_part f n limit unit j in
+    let body = fragment_body f n limit unit j in
     let some : 0 < length body = rw (length-take, length-drop) (omega arith) in
     rw none (sound.fragment n unit body false (eqb (j + 1) (fragment_count f limit unit)) carried some)
 
@@ -55,7 +55,7 @@ first_read f n limit unit sound carried large within =
     let body = drop (donl_len f) (take (fragment_room f limit) (fragmented_bytes f n unit)) in
     let some : 0 < length body = rw (length-drop, length-take) (omega arith) in
     let start : 0 * fragment_room f limit ≡ 0 = omega arith in
-    let whole : fragment_part f n limit unit 0 ≡ donl f n ++ body =
+    let whole : fragment_body f n limit unit 0 ≡ donl f n ++ body =
     ap (λ k. take (fragment_room f limit) (drop k (fragmented_bytes f n unit))) start ∙ front_is f n unit (fragment_room f limit) (omega arith) in
     ap (λ (x : List ℕ). f.read (f.fragment_header unit true last ++ x)) whole
     ∙ sound.fragment n unit body true last carried some
@@ -85,7 +85,7 @@ data_before f n limit unit j = drop (donl_len f) (take (j * fragment_room f limi
 
 -- the header, the data before the last fragment and those of the last are the unit
 pub whole_unit : (f : Format) (n limit : ℕ) (unit : List ℕ) (j : ℕ) → Bounds f n limit unit → IsTrue (f.carries unit) → 0 < j →
-    j + 1 ≡ fragment_count f limit unit → take f.header_len unit ++ (data_before f n limit unit j ++ fragment_part f n limit unit j) ≡ unit
+    j + 1 ≡ fragment_count f limit unit → take f.header_len unit ++ (data_before f n limit unit j ++ fragment_body f n limit unit j) ≡ unit
 whole_unit f n limit unit j b carried pos count =
     let c = fragment_room f limit in
     let grown = places_grow j c pos in
@@ -110,7 +110,7 @@ rest_read f n limit unit earlier j (suc m) sound carried b pos count run =
     let more : eqb (j + 1) (fragment_count f limit unit) ≡ false = grind (arith, nat_tests) in
     let at = place_below j (fragment_count f limit unit) c (length (fragmented_bytes f n unit)) (omega arith) b.lower in
     let grown = places_grow j c pos in
-    let here = Fragment false false (take f.header_len unit) None (fragment_part f n limit unit j) in
+    let here = Fragment false false (take f.header_len unit) None (fragment_body f n limit unit j) in
     let carried_on : open_run (here ∷ earlier) ≡ Some (data_before f n limit unit (j + 1)) =
     rw run (ap Some (parts (donl_len f) c (j * c) (fragmented_bytes f n unit) (omega (arith, grown, b.large)) (omega (arith, b.some))
     ∙ ap (λ k. drop (donl_len f) (take k (fragmented_bytes f n unit))) (sym (next_place j c)))) in
@@ -175,8 +175,8 @@ bounds f n limit unit unfit kept header =
 
 -- the first fragment has the number and as much data as it leaves room for, each later one the data behind those before it
 pub part_by_place : (f : Format) (n limit j : ℕ) (unit : List ℕ) → donl_len f ≤ fragment_room f limit →
-    (fragment_part f n limit unit 0 ≡ donl f n ++ take (fragment_room f limit - donl_len f) (drop f.header_len unit))
-    × (fragment_part f n limit unit (j + 1) ≡ take (fragment_room f limit) (drop ((fragment_room f limit - donl_len f) + j * fragment_room f limit) (drop f.header_len unit)))
+    (fragment_body f n limit unit 0 ≡ donl f n ++ take (fragment_room f limit - donl_len f) (drop f.header_len unit))
+    × (fragment_body f n limit unit (j + 1) ≡ take (fragment_room f limit) (drop ((fragment_room f limit - donl_len f) + j * fragment_room f limit) (drop f.header_len unit)))
 part_by_place f n limit j unit large =
     let c = fragment_room f limit in
     let behind = drop f.header_len unit in

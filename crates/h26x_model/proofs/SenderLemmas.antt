@@ -9,7 +9,7 @@ use Rattle.h26x_core.specs.Word.{word}
 use Rattle.h26x_model.specs.Payload.Format.{Format, donl}
 use Rattle.h26x_model.specs.Send.Group.{Entry}
 use Rattle.h26x_model.specs.Send.Plan.{Item, Alone, Together, fits_one_packet, item_units, plan}
-use Rattle.h26x_model.specs.Send.WaitingSets.{WaitingSets, due_items, waiting_after_unit, plan_with_waiting, waiting_after, entries_with_limit, sets_waiting}
+use Rattle.h26x_model.specs.Send.WaitingSets.{WaitingSets, outgoing_items, waiting_after_unit, plan_with_waiting, waiting_after, entries_with_limit, sets_waiting}
 use Rattle.h26x_model.specs.Send.Packets.{fragment_room, fragment_count, item_packets, plan_packets}
 use Rattle.h26x_model.specs.Send.Limit.{ItemIsWithinLimit}
 use Rattle.h26x_model.specs.Payload.Facts.{DonlHasTwoBytes, AreCarried, IsPlanned, FitsLimits, SetsLeaveRoom, KeyUnitsAreOther}
@@ -58,8 +58,8 @@ no_numbers f facts none n m items = numbered_alike f (λ a b. Unit {0})
 pub plan_with-append : (f : Format) (w : WaitingSets) (a b : List Entry) → plan_with_waiting f w (a ++ b) ≡ plan_with_waiting f w a ++ plan_with_waiting f (waiting_after f w a) b
 plan_with-append f w [] b = refl
 plan_with-append f w (e ∷ a) b =
-    ap (λ (x : List Item). due_items f w e ++ x) (plan_with-append f (waiting_after_unit f w e.unit) a b)
-    ∙ sym (append_assoc (due_items f w e) (plan_with_waiting f (waiting_after_unit f w e.unit) a) (plan_with_waiting f (waiting_after f (waiting_after_unit f w e.unit) a) b))
+    ap (λ (x : List Item). outgoing_items f w e ++ x) (plan_with-append f (waiting_after_unit f w e.unit) a b)
+    ∙ sym (append_assoc (outgoing_items f w e) (plan_with_waiting f (waiting_after_unit f w e.unit) a) (plan_with_waiting f (waiting_after f (waiting_after_unit f w e.unit) a) b))
 
 -- what waits after both
 pub waits_after_all-append : (f : Format) (w : WaitingSets) (a b : List Entry) → waiting_after f w (a ++ b) ≡ waiting_after f (waiting_after f w a) b

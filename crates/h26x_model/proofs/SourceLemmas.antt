@@ -10,7 +10,7 @@ use Rattle.h26x_core.specs.ByteStream.{annex_b}
 use Rattle.h26x_model.specs.Send.Group.{Entry}
 use Rattle.h26x_model.specs.Send.Calls.{Call, call_limit, call_entries, all_entries, all_packets}
 use Rattle.h26x_model.specs.Send.Plan.{Item, Alone, Together, fits_one_packet, is_dropped, item_units, unit_items, entry_items, sets_items, units_sent}
-use Rattle.h26x_model.specs.Send.WaitingSets.{WaitingSets, no_waiting_sets, sets_waiting, sets_are_due, waiting_after_unit, due_items, plan_with_waiting, entries_with_limit}
+use Rattle.h26x_model.specs.Send.WaitingSets.{WaitingSets, no_waiting_sets, sets_waiting, sets_are_sent, waiting_after_unit, outgoing_items, plan_with_waiting, entries_with_limit}
 use Rattle.h26x_model.specs.Send.Again.{NothingDropped}
 use Rattle.h26x_model.specs.Send.PacketizerState.{PacketizerState, state_units}
 use Rattle.h26x_model.specs.Carry.Laws.{calls_like}
@@ -46,7 +46,7 @@ newer P false unit old here h = h
 still_hold : (f : Format) (P : List ℕ → Type 0) (w : WaitingSets) (unit : List ℕ) → P unit → HoldOf P w → HoldOf P (waiting_after_unit f w unit)
 still_hold f P w unit here h =
     let k = f.kind unit in
-    elim (sets_are_due k w) as (λ b. HoldOf P (cond b no_waiting_sets (record {
+    elim (sets_are_sent k w) as (λ b. HoldOf P (cond b no_waiting_sets (record {
       vps = cond (is_vps k) (unit ∷ []) w.vps;
       sps = cond (is_sps k) (unit ∷ []) w.sps;
       pps = cond (is_pps k) (unit ∷ []) w.pps;
@@ -69,8 +69,8 @@ each_alone P limit goes (set ∷ sets) (here, later) = elim (goes set) as (λ b.
 ]
 
 -- of sets that are due
-due_sets : (f : Format) (P : List ℕ → Type 0) (limit : ℕ) (sets : List (List ℕ)) (unit : List ℕ) → AllByRecursion P sets → OfItems P (sets_items f limit sets unit)
-due_sets f P limit sets unit h = elim (f.sets_fit limit sets) as (λ b.
+outgoing_sets : (f : Format) (P : List ℕ → Type 0) (limit : ℕ) (sets : List (List ℕ)) (unit : List ℕ) → AllByRecursion P sets → OfItems P (sets_items f limit sets unit)
+outgoing_sets f P limit sets unit h = elim (f.sets_fit limit sets) as (λ b.
     OfItems P (cond b (Together limit sets unit ∷ []) (map (Alone limit) (filter (fits_one_packet f limit) sets)))) [
       | true ↦ (h, tt)
       | false ↦ each_alone P limit (fits_one_packet f limit) sets h
@@ -84,18 +84,18 @@ of_entry f P e here = elim (is_other (f.kind e.unit)) as (λ b. OfItems P (cond 
 ]
 
 -- of what goes when an entry comes
-of_now : (f : Format) (P : List ℕ → Type 0) (w : WaitingSets) (e : Entry) → HoldOf P w → P e.unit → OfItems P (due_items f w e)
+of_now : (f : Format) (P : List ℕ → Type 0) (w : WaitingSets) (e : Entry) → HoldOf P w → P e.unit → OfItems P (outgoing_items f w e)
 of_now f P w e h here =
     let sets = sets_items f e.limit (sets_waiting w) e.unit in
-    all_both (λ item. AllByRecursion P (item_units item)) (cond (sets_are_due (f.kind e.unit) w) sets []) (entry_items f e)
-    (elim (sets_are_due (f.kind e.unit) w) as (λ b. OfItems P (cond b sets [])) [ true ↦ due_sets f P e.limit (sets_waiting w) e.unit (of_sets P w h) | false ↦ tt ])
+    all_both (λ item. AllByRecursion P (item_units item)) (cond (sets_are_sent (f.kind e.unit) w) sets []) (entry_items f e)
+    (elim (sets_are_sent (f.kind e.unit) w) as (λ b. OfItems P (cond b sets [])) [ true ↦ outgoing_sets f P e.limit (sets_waiting w) e.unit (of_sets P w h) | false ↦ tt ])
     (of_entry f P e here)
 
 -- of what goes of entries
 of_plan : (f : Format) (P : List ℕ → Type 0) (w : WaitingSets) (entries : List Entry) → HoldOf P w → AllByRecursion (λ e. P e.unit) entries → OfItems P (plan_with_waiting f w entries)
 of_plan f P w [] h all = tt
 of_plan f P w (e ∷ entries) h (here, later) =
-    all_both (λ item. AllByRecursion P (item_units item)) (due_items f w e) (plan_with_waiting f (waiting_after_unit f w e.unit) entries)
+    all_both (λ item. AllByRecursion P (item_units item)) (outgoing_items f w e) (plan_with_waiting f (waiting_after_unit f w e.unit) entries)
     (of_now f P w e h here) (of_plan f P (waiting_after_unit f w e.unit) entries (still_hold f P w e.unit here h) later)
 
 -- of the units of items

@@ -7,7 +7,7 @@ use Rattle.h26x_core.specs.ByteStream.{is_not_empty}
 use Rattle.h26x_model.specs.Payload.Format.{Format}
 use Rattle.h26x_model.specs.Send.Group.{Entry, completes_group, split_from, with_group, split, latest_of_kind, latest_sets}
 use Rattle.h26x_model.specs.Send.Plan.{entry_items, sets_items, plan}
-use Rattle.h26x_model.specs.Send.WaitingSets.{WaitingSets, no_waiting_sets, sets_waiting, sets_are_due, waiting_after_unit, due_items, plan_with_waiting, waiting_after, entries_with_limit, IsOneSet, NoSet, OneSet, AreWaitingSets}
+use Rattle.h26x_model.specs.Send.WaitingSets.{WaitingSets, no_waiting_sets, sets_waiting, sets_are_sent, waiting_after_unit, outgoing_items, plan_with_waiting, waiting_after, entries_with_limit, IsOneSet, NoSet, OneSet, AreWaitingSets}
 use Rattle.h26x_model.proofs.PlanLemmas.{tail, plan-tail, any-latest, latest-push}
 use Rattle.h26x_model.proofs.AgainLemmas.{vps_is, sps_is, pps_is}
 
@@ -16,7 +16,7 @@ abbrev pub waiting_in : Format → List Entry → WaitingSets
 waiting_in f front = record { vps = latest_of_kind is_vps f front; sps = latest_of_kind is_sps f front; pps = latest_of_kind is_pps f front }
 
 -- an entry completes a group where the sets that wait are due
-completes-is : (f : Format) (front : List Entry) (e : Entry) → completes_group f front e ≡ sets_are_due (f.kind e.unit) (waiting_in f front)
+completes-is : (f : Format) (front : List Entry) (e : Entry) → completes_group f front e ≡ sets_are_sent (f.kind e.unit) (waiting_in f front)
 completes-is f front e = rw (any-latest is_sps f front, any-latest is_pps f front) refl
 
 -- what waits after a front and an entry that completes no group: a set takes the place of an earlier one
@@ -40,7 +40,7 @@ tail-with f front (e ∷ entries) =
     let here = entry_items f e in
     let next = front ++ e ∷ [] in
     ap (λ b. cond b (sets ++ (here ++ tail f [] entries)) (here ++ tail f next entries)) (completes-is f front e)
-    ∙ elim (sets_are_due (f.kind e.unit) (waiting_in f front)) as (λ b.
+    ∙ elim (sets_are_sent (f.kind e.unit) (waiting_in f front)) as (λ b.
     cond b (sets ++ (here ++ tail f [] entries)) (here ++ tail f next entries)
     ≡ (cond b sets [] ++ here) ++ plan_with_waiting f (cond b no_waiting_sets (waiting_next f front e)) entries) [
       | true ↦ ap (λ x. sets ++ (here ++ x)) (tail-with f [] entries) ∙ sym (append_assoc sets here (plan_with_waiting f no_waiting_sets entries))
@@ -59,7 +59,7 @@ rest-with f front (e ∷ entries) =
     let done = with_group (record { front = front; last = e }) (split_from f [] entries) in
     let next = split_from f (front ++ e ∷ []) entries in
     ap (λ b. waiting_in f (cond b done next).rest) (completes-is f front e)
-    ∙ elim (sets_are_due (f.kind e.unit) (waiting_in f front)) as (λ b.
+    ∙ elim (sets_are_sent (f.kind e.unit) (waiting_in f front)) as (λ b.
     waiting_in f (cond b done next).rest ≡ waiting_after f (cond b no_waiting_sets (waiting_next f front e)) entries) [
       | true ↦ rest-with f [] entries
       | false ↦ rest-with f (front ++ e ∷ []) entries ∙ ap (λ w. waiting_after f w entries) (push f front e)
@@ -71,7 +71,7 @@ waits-with f entries = rest-with f [] entries
 
 -- when this entry comes nothing is sent, and then these sets wait
 pub record SetComes (f : Format) (w later : WaitingSets) (e : Entry) : Type 0 where
-  pub now : due_items f w e ≡ []
+  pub now : outgoing_items f w e ≡ []
   pub then_ : waiting_after_unit f w e.unit ≡ later
 
 -- a VPS is not sent when it comes: it waits, in place of an earlier one

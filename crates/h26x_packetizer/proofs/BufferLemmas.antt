@@ -4,10 +4,10 @@ use Rattle.std.specs.List.{between}
 use Rattle.std.proofs.lemmas.List.{length-drop, map-append, take-take, length-take-le, take-append-drop, take-append-le, drop-append-le, drop_at, take_all}
 use borrow.Rule.Slice.PartMut.{put_mid}
 use Rattle.std.proofs.lemmas.Slice.{drop-put_mid, take-put_mid, take-put_mid_below, between_is}
-use Rattle.h26x_packetizer.specs.Buffer.{packets_from, headrooms_from, last_end, ends_of, AreEnds, IsBuffer, HoldPackets, HoldHeadrooms, PacketBufferView, with_packets, headed, headed_at}
+use Rattle.h26x_packetizer.specs.Buffer.{packets_from, headrooms_from, last_end, packet_ends, ArePacketEnds, IsBuffer, HoldPackets, HoldHeadrooms, PacketBufferView, with_packets, headed, headed_at}
 
 -- ends are in order
-pub start_le_last : (h s : ℕ) (ends : List ℕ) → AreEnds h s ends → s ≤ last_end s ends
+pub start_le_last : (h s : ℕ) (ends : List ℕ) → ArePacketEnds h s ends → s ≤ last_end s ends
 start_le_last h s [] are = omega arith
 start_le_last h s (e ∷ ends) (here, more) = let a = start_le_last h e ends more in omega (arith, a, here)
 
@@ -16,14 +16,14 @@ between_kept : (i j : ℕ) (bytes more : List ℕ) → j ≤ length bytes → be
 between_kept i j bytes more le = between_is (bytes ++ more) i j ∙ ap (drop i) (take-append-le j bytes more le) ∙ sym (between_is bytes i j)
 
 -- the packets of before stay where more bytes come
-pub packets_kept : (h s : ℕ) (bytes more ends : List ℕ) → AreEnds h s ends → last_end s ends ≤ length bytes → packets_from h s (bytes ++ more) ends ≡ packets_from h s bytes ends
+pub packets_kept : (h s : ℕ) (bytes more ends : List ℕ) → ArePacketEnds h s ends → last_end s ends ≤ length bytes → packets_from h s (bytes ++ more) ends ≡ packets_from h s bytes ends
 packets_kept h s bytes more [] are le = refl
 packets_kept h s bytes more (e ∷ ends) (here, are) le =
     let a = start_le_last h e ends are in
     rw (between_kept (s + h) e bytes more (omega (arith, a, le)), packets_kept h e bytes more ends are le) refl
 
 -- so do their headrooms
-headrooms_kept : (h s : ℕ) (bytes more ends : List ℕ) → AreEnds h s ends → last_end s ends ≤ length bytes → headrooms_from h s (bytes ++ more) ends ≡ headrooms_from h s bytes ends
+headrooms_kept : (h s : ℕ) (bytes more ends : List ℕ) → ArePacketEnds h s ends → last_end s ends ≤ length bytes → headrooms_from h s (bytes ++ more) ends ≡ headrooms_from h s bytes ends
 headrooms_kept h s bytes more [] are le = refl
 headrooms_kept h s bytes more (e ∷ ends) (here, are) le =
     let a = start_le_last h e ends are in
@@ -42,7 +42,7 @@ last_push : (s : ℕ) (ends : List ℕ) (e : ℕ) → last_end s (ends ++ e ∷ 
 last_push s [] e = refl
 last_push s (x ∷ ends) e = last_push x ends e
 
-ends_push : (h s : ℕ) (ends : List ℕ) (e : ℕ) → AreEnds h s ends → last_end s ends + h ≤ e → AreEnds h s (ends ++ e ∷ [])
+ends_push : (h s : ℕ) (ends : List ℕ) (e : ℕ) → ArePacketEnds h s ends → last_end s ends + h ≤ e → ArePacketEnds h s (ends ++ e ∷ [])
 ends_push h s [] e are le = (le, tt)
 ends_push h s (x ∷ ends) e (here, are) le = (here, ends_push h x ends e are le)
 
@@ -87,12 +87,12 @@ headrooms_take h s bytes ends zero = refl
 headrooms_take h s bytes [] (suc n) = refl
 headrooms_take h s bytes (e ∷ ends) (suc n) = ap (λ (l : List (List ℕ)). between s (s + h) bytes ∷ l) (headrooms_take h e bytes ends n)
 
-ends_take : (h s : ℕ) (ends : List ℕ) (n : ℕ) → AreEnds h s ends → AreEnds h s (take n ends)
+ends_take : (h s : ℕ) (ends : List ℕ) (n : ℕ) → ArePacketEnds h s ends → ArePacketEnds h s (take n ends)
 ends_take h s ends zero are = tt
 ends_take h s [] (suc n) are = tt
 ends_take h s (e ∷ ends) (suc n) (here, are) = (here, ends_take h e ends n are)
 
-last_take : (h s : ℕ) (ends : List ℕ) (n : ℕ) → AreEnds h s ends → last_end s (take n ends) ≤ last_end s ends
+last_take : (h s : ℕ) (ends : List ℕ) (n : ℕ) → ArePacketEnds h s ends → last_end s (take n ends) ≤ last_end s ends
 last_take h s ends zero are = start_le_last h s ends are
 last_take h s [] (suc n) are = omega arith
 last_take h s (e ∷ ends) (suc n) (here, are) = last_take h e ends n are
@@ -142,7 +142,7 @@ headroom_at h s bytes (e ∷ ends) zero lt = refl
 headroom_at h s bytes (e ∷ ends) (suc i) lt = headroom_at h e bytes ends i (omega arith)
 
 -- its place lies within the bytes
-pub packet_within : (h s : ℕ) (ends : List ℕ) (i : ℕ) → AreEnds h s ends → i < length ends → (last_end s (take i ends) + h ≤ get_or ends i 0) × (get_or ends i 0 ≤ last_end s ends)
+pub packet_within : (h s : ℕ) (ends : List ℕ) (i : ℕ) → ArePacketEnds h s ends → i < length ends → (last_end s (take i ends) + h ≤ get_or ends i 0) × (get_or ends i 0 ≤ last_end s ends)
 packet_within h s [] i are lt = absurd (omega arith)
 packet_within h s (e ∷ ends) zero (here, are) lt = (here, start_le_last h e ends are)
 packet_within h s (e ∷ ends) (suc i) (here, are) lt = packet_within h e ends i are (omega arith)
@@ -157,13 +157,13 @@ with_more b packets packet =
     ∙ ap (λ (l : List (List ℕ)). record b { packets = b.packets ++ (packets ++ packet ∷ []); headrooms = l }) rooms
 
 -- what is written below a place leaves the packets that begin behind it
-packets_behind : (h s : ℕ) (bytes ends ys : List ℕ) (a k : ℕ) → AreEnds h s ends → a + k ≤ s → length ys ≡ k → a ≤ length bytes → packets_from h s (put_mid a k bytes ys) ends ≡ packets_from h s bytes ends
+packets_behind : (h s : ℕ) (bytes ends ys : List ℕ) (a k : ℕ) → ArePacketEnds h s ends → a + k ≤ s → length ys ≡ k → a ≤ length bytes → packets_from h s (put_mid a k bytes ys) ends ≡ packets_from h s bytes ends
 packets_behind h s bytes [] ys a k are le long within = refl
 packets_behind h s bytes (e ∷ ends) ys a k (here, are) le long within =
     rw (drop-put_mid a k bytes ys (s + h) (omega (arith, le)) within long, packets_behind h e bytes ends ys a k are (omega (arith, le, here)) long within) refl
 
 -- what is written into the headroom of a packet leaves every packet
-pub packets_headed : (h s : ℕ) (bytes ends ys : List ℕ) (a k i : ℕ) → AreEnds h s ends → i < length ends → last_end s (take i ends) ≤ a → a + k ≤ last_end s (take i ends) + h → length ys ≡ k →
+pub packets_headed : (h s : ℕ) (bytes ends ys : List ℕ) (a k i : ℕ) → ArePacketEnds h s ends → i < length ends → last_end s (take i ends) ≤ a → a + k ≤ last_end s (take i ends) + h → length ys ≡ k →
     a ≤ length bytes → packets_from h s (put_mid a k bytes ys) ends ≡ packets_from h s bytes ends
 packets_headed h s bytes [] ys a k i are lt low high long within = refl
 packets_headed h s bytes (e ∷ ends) ys a k zero (here, are) lt low high long within =
@@ -183,7 +183,7 @@ front_of_between : (s a j m : ℕ) (bytes : List ℕ) → m ≡ a - s → a ≤ 
 front_of_between s a j m bytes is le = take-take m (j - s) (drop s bytes) (omega (arith, is, le)) ∙ ap (λ n. take n (drop s bytes)) is
 
 -- what is written below a place leaves the headrooms that begin behind it
-headrooms_behind : (h s : ℕ) (bytes ends ys : List ℕ) (a k : ℕ) → AreEnds h s ends → a + k ≤ s → length ys ≡ k → a ≤ length bytes → headrooms_from h s (put_mid a k bytes ys) ends ≡ headrooms_from h s bytes ends
+headrooms_behind : (h s : ℕ) (bytes ends ys : List ℕ) (a k : ℕ) → ArePacketEnds h s ends → a + k ≤ s → length ys ≡ k → a ≤ length bytes → headrooms_from h s (put_mid a k bytes ys) ends ≡ headrooms_from h s bytes ends
 headrooms_behind h s bytes [] ys a k are le long within = refl
 headrooms_behind h s bytes (e ∷ ends) ys a k (here, are) le long within =
     rw (drop-put_mid a k bytes ys s le within long, headrooms_behind h e bytes ends ys a k are (omega (arith, le, here)) long within) refl
@@ -199,7 +199,7 @@ room_headed s a k h bytes ys at room long within =
     ∙ ap (λ (l : List ℕ). l ++ ys) (sym (front_of_between s a (s + h) (length (between s (s + h) bytes) - length ys) bytes (omega (arith, all, long, at, room)) (omega (arith, at))))
 
 -- what is written at the end of a headroom is its header, and leaves every other headroom
-pub headrooms_headed : (h s : ℕ) (bytes ends ys : List ℕ) (a k i : ℕ) → AreEnds h s ends → i < length ends → a + k ≡ last_end s (take i ends) + h → k ≤ h → length ys ≡ k →
+pub headrooms_headed : (h s : ℕ) (bytes ends ys : List ℕ) (a k i : ℕ) → ArePacketEnds h s ends → i < length ends → a + k ≡ last_end s (take i ends) + h → k ≤ h → length ys ≡ k →
     last_end s ends ≤ length bytes → headrooms_from h s (put_mid a k bytes ys) ends ≡ headed_at i ys (headrooms_from h s bytes ends)
 headrooms_headed h s bytes [] ys a k i are lt at room long within = refl
 headrooms_headed h s bytes (e ∷ ends) ys a k zero (here, are) lt at room long within =
@@ -225,7 +225,7 @@ length_put a k xs ys long le =
     length-append (take a xs) (ys ++ drop k (drop a xs)) ∙ omega (arith, two, three, four, five, long, le)
 
 -- packets tell where they end
-ends_told : (h s : ℕ) (bytes ends : List ℕ) → AreEnds h s ends → last_end s ends ≤ length bytes → ends_of h s (packets_from h s bytes ends) ≡ ends
+ends_told : (h s : ℕ) (bytes ends : List ℕ) → ArePacketEnds h s ends → last_end s ends ≤ length bytes → packet_ends h s (packets_from h s bytes ends) ≡ ends
 ends_told h s bytes [] are le = refl
 ends_told h s bytes (e ∷ ends) (here, are) le =
     let a = start_le_last h e ends are in
@@ -234,7 +234,7 @@ ends_told h s bytes (e ∷ ends) (here, are) le =
     rw end (ap (λ (l : List ℕ). e ∷ l) (ends_told h e bytes ends are le))
 
 -- so do those of a buffer, and its bytes hold them
-pub buffer_ends : (h : ℕ) (bytes ends : List ℕ) → IsBuffer h bytes ends → ends ≡ ends_of h 0 (packets_from h 0 bytes ends)
+pub buffer_ends : (h : ℕ) (bytes ends : List ℕ) → IsBuffer h bytes ends → ends ≡ packet_ends h 0 (packets_from h 0 bytes ends)
 buffer_ends h bytes ends is = let all = is.to_the_end in sym (ends_told h 0 bytes ends is.in_order (omega (arith, all)))
 
 pub buffer_holds : (h : ℕ) (bytes ends : List ℕ) → IsBuffer h bytes ends → HoldPackets h (packets_from h 0 bytes ends) bytes

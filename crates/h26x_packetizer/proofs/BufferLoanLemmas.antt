@@ -3,7 +3,7 @@ use Rattle.std.proofs.Common.{◌≡◌, ℕ, zero, suc, ◌+◌, ◌≤◌, Lis
 use Rattle.std.specs.List.{between}
 use Rattle.std.proofs.lemmas.List.{length-take-le, take_all, take-take}
 use Rattle.std.proofs.lemmas.Slice.{between_is}
-use Rattle.h26x_packetizer.specs.Buffer.{packets_from, headrooms_from, last_end, AreEnds, IsBuffer}
+use Rattle.h26x_packetizer.specs.Buffer.{packets_from, headrooms_from, last_end, ArePacketEnds, IsBuffer}
 use Rattle.h26x_packetizer.specs.BufferLoan.{part_under, packets_under, headrooms_under}
 use Rattle.h26x_packetizer.proofs.BufferLemmas.{start_le_last, between_long}
 
@@ -23,7 +23,7 @@ middle_under (suc i) (suc j) [] (b ∷ bytes) order le = sym (take_all (length (
 middle_under (suc i) (suc j) (x ∷ w) (b ∷ bytes) order le = middle_under i j w bytes (omega (arith, order)) (omega (arith, le))
 
 -- packets under bytes that were written over all
-packets_lent : (h s n : ℕ) (bytes w ends : List ℕ) → n ≡ length bytes → AreEnds h s ends → last_end s ends ≤ n →
+packets_lent : (h s n : ℕ) (bytes w ends : List ℕ) → n ≡ length bytes → ArePacketEnds h s ends → last_end s ends ≤ n →
     packets_from h s (take n (w ++ drop (length w) bytes)) ends ≡ packets_under h s w (packets_from h s bytes ends)
 packets_lent h s n bytes w [] is are le = refl
 packets_lent h s n bytes w (e ∷ ends) is (here, are) le =
@@ -36,7 +36,7 @@ packets_lent h s n bytes w (e ∷ ends) is (here, are) le =
     rw (first, end) (ap (λ (l : List (List ℕ)). part_under (between (s + h) e bytes) (drop (s + h) w) ∷ l) (packets_lent h e n bytes w ends is are le))
 
 -- so are their headrooms
-headrooms_lent : (h s n : ℕ) (bytes w ends : List ℕ) → n ≡ length bytes → AreEnds h s ends → last_end s ends ≤ n →
+headrooms_lent : (h s n : ℕ) (bytes w ends : List ℕ) → n ≡ length bytes → ArePacketEnds h s ends → last_end s ends ≤ n →
     headrooms_from h s (take n (w ++ drop (length w) bytes)) ends ≡ headrooms_under h s w (packets_from h s bytes ends) (headrooms_from h s bytes ends)
 headrooms_lent h s n bytes w [] is are le = refl
 headrooms_lent h s n bytes w (e ∷ ends) is (here, are) le =

@@ -3,7 +3,7 @@ use Rattle.std.proofs.Common.{◌≡◌, ℕ, zero, suc, ◌+◌, ◌<◌, ◌�
 use Rattle.std.proofs.Math.Seq.{take-suc, set-append_seam}
 use Rattle.std.proofs.lemmas.List.{length-drop, drop-drop, length-take-le}
 use borrow.Rule.Slice.PartMut.{put_mid}
-use Rattle.h26x_packetizer.specs.Buffer.{ends_of}
+use Rattle.h26x_packetizer.specs.Buffer.{packet_ends}
 use Rattle.h26x_packetizer.specs.Placement.{laid_size, packets_over}
 
 -- one packet more takes its bytes more
@@ -73,14 +73,14 @@ laid_next h packets n memory now place within room is laid =
     )
 
 -- a packet's end behind those before it
-ends_more : (h start : ℕ) (ps : List (List ℕ)) (p : List ℕ) → ends_of h start (ps ++ p ∷ []) ≡ ends_of h start ps ++ (start + laid_size h ps + h + length p) ∷ []
+ends_more : (h start : ℕ) (ps : List (List ℕ)) (p : List ℕ) → packet_ends h start (ps ++ p ∷ []) ≡ packet_ends h start ps ++ (start + laid_size h ps + h + length p) ∷ []
 ends_more h start [] p = ap (λ e. e ∷ []) (let end : start + h + length p ≡ start + 0 + h + length p = omega arith in end)
 ends_more h start (q ∷ ps) p =
     let end : start + h + length q + laid_size h ps + h + length p ≡ start + (h + length q + laid_size h ps) + h + length p = omega arith in
-    ap (λ (l : List ℕ). (start + h + length q) ∷ l) (ends_more h (start + h + length q) ps p ∙ ap (λ e. ends_of h (start + h + length q) ps ++ e ∷ []) end)
+    ap (λ (l : List ℕ). (start + h + length q) ∷ l) (ends_more h (start + h + length q) ps p ∙ ap (λ e. packet_ends h (start + h + length q) ps ++ e ∷ []) end)
 
 -- there are as many ends as packets
-length_ends : (h start : ℕ) (ps : List (List ℕ)) → length (ends_of h start ps) ≡ length ps
+length_ends : (h start : ℕ) (ps : List (List ℕ)) → length (packet_ends h start ps) ≡ length ps
 length_ends h start [] = refl
 length_ends h start (p ∷ ps) = ap suc (length_ends h (start + h + length p) ps)
 
@@ -92,12 +92,12 @@ number_behind front room n x same within =
     ∙ set-append_seam front (get_or room n 0) rest x ∙ simp append_assoc)
 
 -- the next packet's end, written behind those before it
-pub end_next : (h : ℕ) (packets : List (List ℕ)) (n : ℕ) (room now : List ℕ) (end : ℕ) → n < length packets → n < length room → now ≡ ends_of h 0 (take n packets) ++ drop n room →
-    end ≡ laid_size h (take n packets) + h + length (get_or packets n []) → set now n end ≡ ends_of h 0 (take (n + 1) packets) ++ drop (n + 1) room
+pub end_next : (h : ℕ) (packets : List (List ℕ)) (n : ℕ) (room now : List ℕ) (end : ℕ) → n < length packets → n < length room → now ≡ packet_ends h 0 (take n packets) ++ drop n room →
+    end ≡ laid_size h (take n packets) + h + length (get_or packets n []) → set now n end ≡ packet_ends h 0 (take (n + 1) packets) ++ drop (n + 1) room
 end_next h packets n room now end within there holds is =
-    let front = ends_of h 0 (take n packets) in
+    let front = packet_ends h 0 (take n packets) in
     let same : 0 + laid_size h (take n packets) + h + length (get_or packets n []) ≡ end = omega (arith, is) in
-    let more : ends_of h 0 (take (n + 1) packets) ≡ front ++ end ∷ [] = ap (λ k. ends_of h 0 (take k packets)) (add-one n) ∙ ap (ends_of h 0) (take-suc packets n [] within)
+    let more : packet_ends h 0 (take (n + 1) packets) ≡ front ++ end ∷ [] = ap (λ k. packet_ends h 0 (take k packets)) (add-one n) ∙ ap (packet_ends h 0) (take-suc packets n [] within)
     ∙ ends_more h 0 (take n packets) (get_or packets n []) ∙ ap (λ e. front ++ e ∷ []) same in
     ap (λ (l : List ℕ). set l n end) holds ∙ number_behind front room n end (length_ends h 0 (take n packets) ∙ length-take-le n packets (omega (arith, within))) there
     ∙ ap (λ (l : List ℕ). l ++ drop (n + 1) room) (sym more)

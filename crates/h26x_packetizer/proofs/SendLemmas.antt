@@ -9,10 +9,10 @@ use Rattle.h26x_model.specs.Send.Plan.{Item, item_units}
 use Rattle.h26x_model.specs.Send.Packets.{plan_packets}
 use Rattle.h26x_model.proofs.PacketLemmas.{packets-append}
 use Rattle.h26x_cut.specs.declared.ZeroRule.{ZeroRule}
-use Rattle.h26x_cut.specs.Cutting.{AreUnits, units_of, units_of_pieces}
+use Rattle.h26x_cut.specs.Cutting.{AreUnits, units_of, units_of_segments}
 use Rattle.h26x_cut.proofs.CuttingLemmas.{cutting_is}
 use Rattle.h26x_core.specs.Pieces.{piece}
-use Rattle.h26x_model.specs.Send.WaitingSets.{WaitingSets, waiting_after_unit, due_items, plan_with_waiting, waiting_after, entries_with_limit}
+use Rattle.h26x_model.specs.Send.WaitingSets.{WaitingSets, waiting_after_unit, outgoing_items, plan_with_waiting, waiting_after, entries_with_limit}
 use Rattle.h26x_payload.specs.Sets.{sets_behind_lengths}
 use Rattle.h26x_packetizer.specs.Sending.{ArePushed, unit_count}
 use Rattle.h26x_model.specs.Send.PacketizerState.{is_skipped, are_skipped}
@@ -46,13 +46,13 @@ sends_ok f bytes n m a b all x y z (Ok k) is first second = rw is (sends_then f 
 sends_ok f bytes n m a b all x y z (Err e) is first second = tt
 
 -- one unit is sent, and then those behind it
-pub sends_unit : (f : Format) → CountsByTwoBytes f → (w later : WaitingSets) (limit n m k : ℕ) (unit : List ℕ) (rest units : List (List ℕ)) (due : List Item) (x y z : List (List ℕ)) → rest ≡ unit ∷ units →
-    due ≡ due_items f w (record { unit = unit; limit = limit }) → later ≡ waiting_after_unit f w unit → ArePushed f n due x y m →
+pub sends_unit : (f : Format) → CountsByTwoBytes f → (w later : WaitingSets) (limit n m k : ℕ) (unit : List ℕ) (rest units : List (List ℕ)) (outgoing : List Item) (x y z : List (List ℕ)) → rest ≡ unit ∷ units →
+    outgoing ≡ outgoing_items f w (record { unit = unit; limit = limit }) → later ≡ waiting_after_unit f w unit → ArePushed f n outgoing x y m →
     ArePushed f m (plan_with_waiting f later (entries_with_limit limit units)) y z k → ArePushed f n (plan_with_waiting f w (entries_with_limit limit rest)) x z k
-sends_unit f bytes w later limit n m k unit rest units due x y z is now then_ here behind =
-    let all : plan_with_waiting f w (entries_with_limit limit rest) ≡ due ++ plan_with_waiting f later (entries_with_limit limit units) =
+sends_unit f bytes w later limit n m k unit rest units outgoing x y z is now then_ here behind =
+    let all : plan_with_waiting f w (entries_with_limit limit rest) ≡ outgoing ++ plan_with_waiting f later (entries_with_limit limit units) =
     ap (λ (r : List (List ℕ)). plan_with_waiting f w (entries_with_limit limit r)) is ∙ rw (now, then_) refl in
-    rw all (sends_then f bytes n m k due (plan_with_waiting f later (entries_with_limit limit units)) x y z here behind)
+    rw all (sends_then f bytes n m k outgoing (plan_with_waiting f later (entries_with_limit limit units)) x y z here behind)
 
 -- no unit is left
 pub sends_end : (f : Format) (w : WaitingSets) (limit n : ℕ) (rest x : List (List ℕ)) → n < 65536 → rest ≡ [] → ArePushed f n (plan_with_waiting f w (entries_with_limit limit rest)) x x n
@@ -69,7 +69,7 @@ skipped_more f unit rest units is all = and_parts (is_skipped (f.kind unit)) (ar
 
 -- a payload's units are those that are computed
 pub units_are : (rule : ZeroRule) (payload : List ℕ) (units : List (List ℕ)) → AreUnits rule payload units → units ≡ units_of rule payload
-units_are rule payload units (pieces, cut, same) = same ∙ ap units_of_pieces (cutting_is rule payload pieces cut)
+units_are rule payload units (segments, cut, same) = same ∙ ap units_of_segments (cutting_is rule payload segments cut)
 
 -- sets with nothing more between them are the sets behind their lengths
 pub no_gap : (sets : List (List ℕ)) → sets_behind_lengths [] sets ≡ flat_map piece sets

@@ -34,30 +34,31 @@ last_end start [] = start
 last_end start (end ∷ ends) = last_end end ends
 
 -- each packet ends behind its headroom
-abbrev pub AreEnds : ℕ → ℕ → List ℕ → Type 0
-AreEnds headroom start [] = Unit {0}
-AreEnds headroom start (end ∷ ends) = (start + headroom ≤ end) × AreEnds headroom end ends
+abbrev pub ArePacketEnds : ℕ → ℕ → List ℕ → Type 0
+ArePacketEnds headroom start [] = Unit {0}
+ArePacketEnds headroom start (end ∷ ends) = (start + headroom ≤ end) × ArePacketEnds headroom end
+    ends
 
 -- the bytes of packets that end at these places, and no others
 pub record IsBuffer (headroom : ℕ) (bytes ends : List ℕ) : Type 0 where
-  pub in_order : AreEnds headroom 0 ends
+  pub in_order : ArePacketEnds headroom 0 ends
   pub to_the_end : last_end 0 ends ≡ length bytes
 
 -- where packets end that stand behind each other from this place on, each behind its headroom
-abbrev pub ends_of : ℕ → ℕ → List (List ℕ) → List ℕ
-ends_of headroom start [] = []
-ends_of headroom start (packet ∷ packets) = (start + headroom + length packet)
-    ∷ ends_of headroom (start + headroom + length packet) packets
+abbrev pub packet_ends : ℕ → ℕ → List (List ℕ) → List ℕ
+packet_ends headroom start [] = []
+packet_ends headroom start (packet ∷ packets) = (start + headroom + length packet)
+    ∷ packet_ends headroom (start + headroom + length packet) packets
 
 -- bytes in which these headrooms stand, each before one of these packets
 abbrev pub HoldHeadrooms : ℕ → List (List ℕ) → List (List ℕ) → List ℕ → Type 0
 HoldHeadrooms headroom packets headrooms bytes =
-    headrooms_from headroom 0 bytes (ends_of headroom 0 packets) ≡ headrooms
+    headrooms_from headroom 0 bytes (packet_ends headroom 0 packets) ≡ headrooms
 
 -- bytes in which these packets stand behind each other, each behind its headroom, and nothing else
 pub record HoldPackets (headroom : ℕ) (packets : List (List ℕ)) (bytes : List ℕ) : Type 0 where
-  pub there : packets_from headroom 0 bytes (ends_of headroom 0 packets) ≡ packets
-  pub to_the_end : last_end 0 (ends_of headroom 0 packets) ≡ length bytes
+  pub there : packets_from headroom 0 bytes (packet_ends headroom 0 packets) ≡ packets
+  pub to_the_end : last_end 0 (packet_ends headroom 0 packets) ≡ length bytes
 
 -- a buffer to which packets are appended: as it was before, and the packets since
 pub record AppendedView : Type 0 where

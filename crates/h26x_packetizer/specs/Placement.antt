@@ -1,6 +1,6 @@
 -- Packets in memory of the caller.
 use Rattle.std.specs.Prelude.{◌≡◌, ℕ, ◌+◌, ◌-◌, ◌^◌, ◌<◌, ◌≤◌, ◌⊎◌, Bool, true, false, min, List, [], ◌∷◌, ◌++◌, length, take, drop}
-use Rattle.h26x_packetizer.specs.Buffer.{ends_of}
+use Rattle.h26x_packetizer.specs.Buffer.{packet_ends}
 use Rattle.h26x_packetizer.specs.declared.placement.PacketsSize.{PacketsSize}
 use Rattle.h26x_packetizer.specs.declared.placement.Placement.{Placement}
 use Rattle.h26x_packetizer.specs.declared.placement.Placement.TheVariants as p
@@ -27,7 +27,7 @@ pub record ArePlaced (headroom : ℕ) (packets : List (List ℕ)) (to new_to end
   pub fit : laid_size headroom packets ≤ length to
   pub ends_fit : length packets ≤ length ends
   pub laid : new_to ≡ packets_over headroom packets to
-  pub told : new_ends ≡ ends_of headroom 0 packets ++ drop (length packets) ends
+  pub told : new_ends ≡ packet_ends headroom 0 packets ++ drop (length packets) ends
 
 -- packets or their ends don't fit, and nothing was written
 pub record HaveNoRoom (headroom : ℕ) (packets : List (List ℕ)) (to new_to ends new_ends : List ℕ) : Type

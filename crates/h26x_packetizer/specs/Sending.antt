@@ -10,8 +10,8 @@ use Rattle.h26x_packetizer.specs.declared.body.Body.{Body}
 use Rattle.h26x_packetizer.specs.declared.body.Body.TheVariants as b
 use Rattle.h26x_packetizer.specs.declared.packetizer.Brought.{Brought}
 use Rattle.h26x_payload.specs.declared.sets.Sets.{Sets}
-use Rattle.h26x_packetizer.specs.declared.units.Due.{Due}
-use Rattle.h26x_packetizer.specs.declared.units.Due.TheVariants as d
+use Rattle.h26x_packetizer.specs.declared.units.Outgoing.{Outgoing}
+use Rattle.h26x_packetizer.specs.declared.units.Outgoing.TheVariants as d
 use Rattle.h26x_packetizer.specs.declared.update.Update.{Update}
 use Rattle.h26x_payload.specs.Sets.{set_list, lent_set, sets_list, sets_behind_lengths}
 
@@ -29,23 +29,23 @@ waiting_sets vps sps pps = record { vps = set_list vps; sps = set_list sps; pps 
 
 -- the latest set, where those from before may have been sent
 abbrev pub latest_set : List (List ℕ) → Bool → List (List ℕ) → List (List ℕ)
-latest_set old taken [] = if taken then [] else old
-latest_set old taken (set ∷ sets) = set ∷ []
+latest_set old are_sent [] = if are_sent then [] else old
+latest_set old are_sent (set ∷ sets) = set ∷ []
 
 -- the sets that wait, by those from before and what a payload brought
 abbrev pub waiting_with_brought : WaitingSets → Brought → WaitingSets
 waiting_with_brought w b = record {
-  vps = latest_set w.vps b.taken (lent_set b.vps);
-  sps = latest_set w.sps b.taken (lent_set b.sps);
-  pps = latest_set w.pps b.taken (lent_set b.pps);
+  vps = latest_set w.vps b.are_sent (lent_set b.vps);
+  sps = latest_set w.sps b.are_sent (lent_set b.sps);
+  pps = latest_set w.pps b.are_sent (lent_set b.pps);
 }
 
 -- the sets that wait once a call is carried out
 abbrev pub waiting_with_update : WaitingSets → Update → WaitingSets
 waiting_with_update w u = record {
-  vps = latest_set w.vps u.taken (kept_set u.vps);
-  sps = latest_set w.sps u.taken (kept_set u.sps);
-  pps = latest_set w.pps u.taken (kept_set u.pps);
+  vps = latest_set w.vps u.are_sent (kept_set u.vps);
+  sps = latest_set w.sps u.are_sent (kept_set u.sps);
+  pps = latest_set w.pps u.are_sent (kept_set u.pps);
 }
 
 -- the bytes of what stands behind a packet's header and its number
@@ -62,15 +62,15 @@ abbrev pub packet_len : List ℕ → List ℕ → Body → ℕ
 packet_len header donl body = length header + (length donl + length (body_bytes body))
 
 -- whether nothing goes
-abbrev pub is_nothing : Due → Bool
+abbrev pub is_nothing : Outgoing → Bool
 is_nothing d.Nothing = true
-is_nothing due = false
+is_nothing outgoing = false
 
 -- what goes when this unit comes
-abbrev pub due_to_items : Format → ℕ → List ℕ → Due → List Item
-due_to_items f limit unit d.Nothing = []
-due_to_items f limit unit d.Unit = unit_items f limit unit
-due_to_items f limit unit (d.SetsAndUnit sets) = sets_items f limit (sets_list sets) unit
+abbrev pub outgoing_to_items : Format → ℕ → List ℕ → Outgoing → List Item
+outgoing_to_items f limit unit d.Nothing = []
+outgoing_to_items f limit unit d.Unit = unit_items f limit unit
+outgoing_to_items f limit unit (d.SetsAndUnit sets) = sets_items f limit (sets_list sets) unit
     ++ unit_items f limit unit
 
 -- how many units items send

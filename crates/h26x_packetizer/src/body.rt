@@ -53,14 +53,14 @@ impl<'a> Body<'a> {
 
 /// Writes bytes, where there is room for them.
 #[inline(always)]
-fn put_part(part: &[u8], bytes: &mut Vec<u8>)
-    requires room { vec_len bytes.old + length part.now ≤ vec_capacity bytes.old }
-    ensures written { bytes.new.items ≡ bytes.old.items ++ part.now }
-    ensures len { vec_len bytes.new ≡ vec_len bytes.old + length part.now }
+fn put_bytes(from: &[u8], bytes: &mut Vec<u8>)
+    requires room { vec_len bytes.old + length from.now ≤ vec_capacity bytes.old }
+    ensures written { bytes.new.items ≡ bytes.old.items ++ from.now }
+    ensures len { vec_len bytes.new ≡ vec_len bytes.old + length from.now }
     ensures capacity { vec_capacity bytes.old ≤ vec_capacity bytes.new }
 {
-    if !part.is_empty() {
-        bytes.extend_from_slice(part).unwrap();
+    if !from.is_empty() {
+        bytes.extend_from_slice(from).unwrap();
     }
 }
 
@@ -81,7 +81,7 @@ pub(crate) fn put_packet(
     if headroom > 0 {
         bytes.resize(bytes.len() + headroom, 0).unwrap();
     }
-    put_part(header, bytes);
-    put_part(donl, bytes);
+    put_bytes(header, bytes);
+    put_bytes(donl, bytes);
     body.put(bytes);
 }

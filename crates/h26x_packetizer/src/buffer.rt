@@ -2,7 +2,7 @@
 
 ghost use Rattle.std.specs.Prelude.{◌≡◌, ◌≤◌, ◌<◌, ◌+◌, ◌-◌, ◌++◌, nat_eq, replicate, vec_len, vec_capacity, ◌∷◌, [], take, length, get_or, OnOk, OnErr};
 ghost use Rattle.std.specs.List.{between};
-ghost use Rattle.h26x_packetizer.specs.Buffer.{IsBuffer, HoldPackets, HoldHeadrooms, ends_of, last_end, packets_from, headrooms_from, first_packets, with_packets, headed_at};
+ghost use Rattle.h26x_packetizer.specs.Buffer.{IsBuffer, HoldPackets, HoldHeadrooms, packet_ends, last_end, packets_from, headrooms_from, first_packets, with_packets, headed_at};
 ghost use Rattle.h26x_packetizer.specs.Sending.{packet_bytes, contents};
 
 mod cases;
@@ -134,8 +134,8 @@ impl PacketBuffer {
 
     /// The places of [`bytes`](PacketBuffer::bytes) where packets end. Each begins where the one
     /// before it ends, with its headroom.
-    pub fn ends(&self) -> &[usize]
-        ensures { result.now ≡ ends_of self.now.headroom 0 self.now.packets }
+    pub fn packet_ends(&self) -> &[usize]
+        ensures { result.now ≡ packet_ends self.now.headroom 0 self.now.packets }
     {
         &self.ends
     }
@@ -244,8 +244,8 @@ impl Model for Appending {
 }
 
 impl Appending {
-    /// The buffer, taken out of its place, with nothing appended yet; an empty one stands there.
-    pub(crate) fn take(alloc: Global, into: &mut PacketBuffer) -> Self
+    /// The buffer, removed from its place, with nothing appended yet; an empty one stands there.
+    pub(crate) fn from_buffer(alloc: Global, into: &mut PacketBuffer) -> Self
         ensures before { result.before ≡ into.old }
         ensures after { result.after ≡ [] }
     {

@@ -2,7 +2,7 @@
 
 ghost use Rattle.std.specs.Prelude.{◌≡◌, ◌+◌, ◌<◌, ◌≤◌, get_or, length};
 ghost use Rattle.std.specs.Iterator.{YieldsFirstBy, item_count};
-ghost use Rattle.h26x_packetizer.specs.Buffer.{AreEnds, last_end, packets_from};
+ghost use Rattle.h26x_packetizer.specs.Buffer.{ArePacketEnds, last_end, packets_from};
 
 use std::marker::Model;
 
@@ -19,20 +19,20 @@ pub struct BufferPackets<'a> {
 
 impl<'a> Model for BufferPackets<'a> {
     ghost use Rattle.std.specs.Prelude.{◌≤◌, List, ℕ, length};
-    ghost use Rattle.h26x_packetizer.specs.Buffer.{AreEnds, last_end, packets_from};
+    ghost use Rattle.h26x_packetizer.specs.Buffer.{ArePacketEnds, last_end, packets_from};
 
     ghost Value = { List (List ℕ) };
 
     ghost view = { λ a. packets_from a.headroom a.start a.bytes.now a.ends.now };
 
-    ghost invariant = { λ a. AreEnds a.headroom a.start a.ends.now
+    ghost invariant = { λ a. ArePacketEnds a.headroom a.start a.ends.now
         × (last_end a.start a.ends.now ≤ length a.bytes.now) };
 }
 
 impl<'a> BufferPackets<'a> {
     /// The packets that end at these places of bytes, each behind its headroom.
     pub(crate) fn new(bytes: &'a [u8], ends: &'a [usize], headroom: usize) -> Self
-        requires order { AreEnds headroom 0 ends.now }
+        requires order { ArePacketEnds headroom 0 ends.now }
         requires within { last_end 0 ends.now ≤ length bytes.now }
         ensures { result ≡ packets_from headroom 0 bytes.now ends.now }
     {
@@ -47,7 +47,7 @@ impl<'a> BufferPackets<'a> {
 
 /// Where the next packet begins and ends.
 fn next_bounds(bytes: &[u8], ends: &[usize], start: usize, headroom: usize) -> (usize, usize)
-    requires order { AreEnds headroom start ends.now }
+    requires order { ArePacketEnds headroom start ends.now }
     requires within { last_end start ends.now ≤ length bytes.now }
     requires some { 0 < length ends.now }
     ensures start { result.0 ≡ start + headroom }

@@ -33,17 +33,17 @@ fn push_fragment<'a, C: PayloadFormat, S: PacketSink<'a>>(
     start: bool,
     end: bool,
     donl: &[u8],
-    part: &'a [u8],
+    data: &'a [u8],
     made: &mut S,
 ) -> Result<(), AllocError>
     requires whole { (C.format codec).header_len ≤ length unit.now }
     requires donl { length donl.now ≤ 2 }
     ensures pushed { OnOk result (S.packets made.new ≡ S.packets made.old
-        ++ ((C.format codec).fragment_header unit.now start end ++ (donl.now ++ part.now)) ∷ []) }
+        ++ ((C.format codec).fragment_header unit.now start end ++ (donl.now ++ data.now)) ∷ []) }
     ensures before { S.before made.new ≡ S.before made.old }
 {
     let header = codec.fragment_header(unit, start, end);
-    made.push(&header[..codec.header_len() + 1], donl, Body::Data(part))
+    made.push(&header[..codec.header_len() + 1], donl, Body::Data(data))
 }
 
 /// How many fragments a unit that doesn't fit goes in.
@@ -58,7 +58,7 @@ fn count_of_fragments<C: PayloadFormat>(codec: C, limit: usize, unit: &[u8]) -> 
 
 /// Appends the fragments of a unit, the first with these bytes of its number. Each but the last is
 /// of `limit` bytes.
-fn push_parts<'a, C: PayloadFormat, S: PacketSink<'a>>(
+fn push_data<'a, C: PayloadFormat, S: PacketSink<'a>>(
     codec: C,
     limit: usize,
     don: u16,
@@ -106,5 +106,5 @@ pub(crate) fn push_fragments<'a, C: PayloadFormat, S: PacketSink<'a>>(
     made.reserve(count_of_fragments(codec, limit, unit))?;
     let mut bytes = [0; 2];
     let donl = donl_bytes(codec.has_donl(), don, &mut bytes);
-    push_parts(codec, limit, don, unit, donl, made)
+    push_data(codec, limit, don, unit, donl, made)
 }

@@ -118,7 +118,7 @@ impl<C: PayloadFormat> PayloadPacketizer<C> {
             IsOk result }
     {
         self.one_unit_is_within(mtu, unit);
-        let mut made = Appending::take(self.alloc, into);
+        let mut made = Appending::from_buffer(self.alloc, into);
         match self.prepare_unit(mtu, unit, &mut made) {
             Ok(update) => {
                 self.commit(update);

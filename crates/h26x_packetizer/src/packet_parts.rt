@@ -5,7 +5,7 @@ ghost use Rattle.h26x_packetizer.specs.Sending.{packet_bytes};
 
 use crate::body::Body;
 use crate::sink::PacketSink;
-use h26x_payload::copy_part;
+use h26x_payload::copy_bytes;
 use std::alloc::AllocError;
 use std::marker::Model;
 
@@ -42,8 +42,8 @@ impl<'a> PacketParts<'a> {
         ensures { result ≡ packet_bytes header.now donl.now body.entry }
     {
         let mut bytes = [0; LONGEST_HEADER];
-        let behind = copy_part(header, 0, &mut bytes);
-        let header_len = copy_part(donl, behind, &mut bytes);
+        let behind = copy_bytes(header, 0, &mut bytes);
+        let header_len = copy_bytes(donl, behind, &mut bytes);
         PacketParts {
             header: bytes,
             header_len,

@@ -3,11 +3,11 @@
 ghost use Rattle.std.specs.Prelude.{◌≡◌, ◌≤◌, ◌++◌, ◌∷◌, ℕ, [], true, false, OnOk, OnErr, IfOk, IsOk, None, length, drop, Err};
 ghost use Rattle.std.specs.Option.{option_map};
 ghost use Rattle.h26x_model.specs.Send.Limit.{AreWithinLimit};
-ghost use Rattle.h26x_model.specs.Send.WaitingSets.{waiting_after_unit, due_items, no_waiting_sets};
+ghost use Rattle.h26x_model.specs.Send.WaitingSets.{waiting_after_unit, outgoing_items, no_waiting_sets};
 ghost use Rattle.h26x_model.specs.Send.PacketizerState.{is_skipped, are_skipped, next_packets, payload_has_no_effect};
 ghost use Rattle.h26x_model.specs.Where.{Where};
 ghost use Rattle.h26x_payload.specs.Sets.{lent_set};
-ghost use Rattle.h26x_packetizer.specs.Sending.{contents, ArePushed, latest_set, due_to_items, is_nothing, kept_set};
+ghost use Rattle.h26x_packetizer.specs.Sending.{contents, ArePushed, latest_set, outgoing_to_items, is_nothing, kept_set};
 ghost use Rattle.h26x_packetizer.specs.Buffer.{with_packets};
 ghost use Rattle.h26x_packetizer.specs.Placement.{IsPlacement, IsSizeOf, if_placed};
 ghost use Rattle.h26x_packetizer.specs.PacketizerView.{IsPacketizerView, IsViewSentAsPlanned, SendsAsPlanned, packetizer_of, fresh_packetizer, limit_of, view_after_call, view_with_update, held_sets, payload_plan, waiting_after_payload};
@@ -16,7 +16,7 @@ use crate::buffer::{Appending, PacketBuffer};
 use crate::packet_parts::PacketParts;
 use crate::placement::{PacketsSize, Placement, place, size_of};
 use crate::sink::PacketSink;
-use crate::units::{Due, push_due};
+use crate::units::{Outgoing, push_outgoing};
 use crate::update::Update;
 use h26x_core::{PacketError, Packetizer};
 use h26x_model::laws;
@@ -30,7 +30,7 @@ const FIRST_LARGEST: u16 = 1200;
 /// What a payload has brought so far: whether the sets from before were sent, and the sets since.
 #[derive(Clone, Copy)]
 pub struct Brought<'a> {
-    taken: bool,
+    are_sent: bool,
     vps: Option<&'a [u8]>,
     sps: Option<&'a [u8]>,
     pps: Option<&'a [u8]>,
@@ -69,15 +69,15 @@ impl<C: PayloadFormat> Model for PayloadPacketizer<C> {
 /// The latest set, if one waits.
 fn newest_of<'a>(
     old: &'a Option<Vec<u8>>,
-    taken: bool,
+    are_sent: bool,
     brought: Option<&'a [u8]>,
 ) -> Option<&'a [u8]>
-    ensures { lent_set result ≡ latest_set (kept_set old.now) taken (lent_set brought.entry) }
+    ensures { lent_set result ≡ latest_set (kept_set old.now) are_sent (lent_set brought.entry) }
 {
     match brought {
         Some(set) => Some(set),
         None => {
-            if taken {
+            if are_sent {
                 None
             } else {
                 match old {
@@ -103,10 +103,10 @@ fn copied(alloc: Global, set: Option<&[u8]>) -> Result<Option<Vec<u8>>, PacketEr
 }
 
 /// Puts the latest set in place.
-fn replace_set(set: &mut Option<Vec<u8>>, taken: bool, brought: Option<Vec<u8>>)
-    ensures { kept_set set.new ≡ latest_set (kept_set set.old) taken (kept_set brought) }
+fn replace_set(set: &mut Option<Vec<u8>>, are_sent: bool, brought: Option<Vec<u8>>)
+    ensures { kept_set set.new ≡ latest_set (kept_set set.old) are_sent (kept_set brought) }
 {
-    if taken || brought.is_some() {
+    if are_sent || brought.is_some() {
         *set = brought;
     }
 }
@@ -159,47 +159,47 @@ impl<C: PayloadFormat> PayloadPacketizer<C> {
         }
     }
 
-    /// Takes the next unit of a payload, and tells what goes.
-    fn take_unit<'a>(&'a self, unit: &'a [u8], brought: &mut Brought<'a>) -> Due<'a>
-        ensures sent { (limit : ℕ) → due_to_items (C.format self.now.codec) limit unit.now result
-            ≡ due_items (C.format self.now.codec) (held_sets self.now brought.old)
+    /// What goes out when this unit of a payload comes, with the sets that wait then.
+    fn next_outgoing<'a>(&'a self, unit: &'a [u8], brought: &mut Brought<'a>) -> Outgoing<'a>
+        ensures sent { (limit : ℕ) → outgoing_to_items (C.format self.now.codec) limit unit.now
+            result ≡ outgoing_items (C.format self.now.codec) (held_sets self.now brought.old)
             (record { unit = unit.now; limit = limit }) }
         ensures waits { held_sets self.now brought.new ≡ waiting_after_unit
             (C.format self.now.codec) (held_sets self.now brought.old) unit.now }
         ensures whole { is_nothing result ≡ false →
             (C.format self.now.codec).header_len ≤ length unit.now }
         ensures skipped { is_skipped ((C.format self.now.codec).kind unit.now) ≡ true →
-            (result ≡ Due.Nothing) × (brought.new ≡ brought.old) }
+            (result ≡ Outgoing.Nothing) × (brought.new ≡ brought.old) }
     {
         match self.codec.kind_of(unit) {
-            UnitKind::Skipped => Due::Nothing,
+            UnitKind::Skipped => Outgoing::Nothing,
             UnitKind::Vps => {
                 brought.vps = Some(unit);
-                Due::Nothing
+                Outgoing::Nothing
             }
             UnitKind::Sps => {
                 brought.sps = Some(unit);
-                Due::Nothing
+                Outgoing::Nothing
             }
             UnitKind::Pps => {
                 brought.pps = Some(unit);
-                Due::Nothing
+                Outgoing::Nothing
             }
             UnitKind::Other => {
-                let vps = newest_of(&self.vps, brought.taken, brought.vps);
-                let sps = newest_of(&self.sps, brought.taken, brought.sps);
-                let pps = newest_of(&self.pps, brought.taken, brought.pps);
+                let vps = newest_of(&self.vps, brought.are_sent, brought.vps);
+                let sps = newest_of(&self.sps, brought.are_sent, brought.sps);
+                let pps = newest_of(&self.pps, brought.are_sent, brought.pps);
                 match (sps, pps) {
                     (Some(sps), Some(pps)) => {
                         *brought = Brought {
-                            taken: true,
+                            are_sent: true,
                             vps: None,
                             sps: None,
                             pps: None,
                         };
-                        Due::SetsAndUnit(Sets { vps, sps, pps })
+                        Outgoing::SetsAndUnit(Sets { vps, sps, pps })
                     }
-                    _ => Due::Unit,
+                    _ => Outgoing::Unit,
                 }
             }
         }
@@ -224,7 +224,7 @@ impl<C: PayloadFormat> PayloadPacketizer<C> {
         ensures memory { OnErr result (result ≡ Err PacketError.OutOfMemory) }
     {
         let mut brought = Brought {
-            taken: false,
+            are_sent: false,
             vps: None,
             sps: None,
             pps: None,
@@ -232,8 +232,8 @@ impl<C: PayloadFormat> PayloadPacketizer<C> {
         laws::donl_has_two_bytes();
         let mut don = self.next_don;
         for unit in self.codec.units_in(b) {
-            let due = self.take_unit(unit, &mut brought);
-            don = push_due(self.codec, limit, don, unit, due, made)?;
+            let outgoing = self.next_outgoing(unit, &mut brought);
+            don = push_outgoing(self.codec, limit, don, unit, outgoing, made)?;
         }
         Ok((brought, don))
     }
@@ -284,7 +284,7 @@ impl<C: PayloadFormat> PayloadPacketizer<C> {
             self.next_don
         };
         Ok(Update {
-            taken: brought.taken,
+            are_sent: brought.are_sent,
             vps,
             sps,
             pps,
@@ -297,9 +297,9 @@ impl<C: PayloadFormat> PayloadPacketizer<C> {
         requires { IsPacketizerView C.format (view_with_update self.old update) }
         ensures { self.new ≡ view_with_update self.old update }
     {
-        replace_set(&mut self.vps, update.taken, update.vps);
-        replace_set(&mut self.sps, update.taken, update.sps);
-        replace_set(&mut self.pps, update.taken, update.pps);
+        replace_set(&mut self.vps, update.are_sent, update.vps);
+        replace_set(&mut self.sps, update.are_sent, update.sps);
+        replace_set(&mut self.pps, update.are_sent, update.pps);
         self.next_don = update.next_don;
     }
 
@@ -331,7 +331,7 @@ impl<C: PayloadFormat> PayloadPacketizer<C> {
             ≡ true → OnOk result ((into.new ≡ into.old) × (self.new ≡ self.old)) }
     {
         self.goes_as_planned(mtu, b);
-        let mut made = Appending::take(self.alloc, into);
+        let mut made = Appending::from_buffer(self.alloc, into);
         match self.prepare(mtu, b, &mut made) {
             Ok(update) => {
                 self.commit(update);

@@ -1,7 +1,7 @@
 //! Packets in memory of the caller.
 
 ghost use Rattle.std.specs.Prelude.{◌≡◌, ◌<◌, ◌≤◌, ◌-◌, ◌^◌, ◌++◌, drop, length};
-ghost use Rattle.h26x_packetizer.specs.Buffer.{ends_of};
+ghost use Rattle.h26x_packetizer.specs.Buffer.{packet_ends};
 ghost use Rattle.h26x_packetizer.specs.Placement.{laid_size, packets_over, IsPlacement, IsSizeOf};
 
 use crate::packet_parts::PacketParts;
@@ -45,7 +45,8 @@ fn lay(packets: &[PacketParts<'_>], headroom: usize, to: &mut [u8], ends: &mut [
     requires ends { length packets.now ≤ length ends.old }
     requires small { laid_size headroom packets.now < 2 ^ 64 - 1 }
     ensures laid { to.new ≡ packets_over headroom packets.now to.old }
-    ensures ends { ends.new ≡ ends_of headroom 0 packets.now ++ drop (length packets.now) ends.old }
+    ensures ends { ends.new ≡ packet_ends headroom 0 packets.now ++ drop
+        (length packets.now) ends.old }
 {
     let mut count = 0;
     let mut place = 0;

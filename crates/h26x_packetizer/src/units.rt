@@ -4,7 +4,7 @@ ghost use Rattle.std.specs.Prelude.{◌≡◌, ◌≤◌, ◌++◌, ◌∷◌, [
 ghost use Rattle.h26x_model.specs.Send.Plan.{Alone, fits_one_packet, unit_items, sets_items};
 ghost use Rattle.h26x_model.specs.Send.Packets.{single_packet};
 ghost use Rattle.h26x_payload.specs.Sets.{lent_set, sets_list};
-ghost use Rattle.h26x_packetizer.specs.Sending.{ArePushed, is_nothing, due_to_items};
+ghost use Rattle.h26x_packetizer.specs.Sending.{ArePushed, is_nothing, outgoing_to_items};
 
 use crate::body::Body;
 use crate::fragmentation::{donl_bytes, donl_len, push_fragments};
@@ -16,7 +16,7 @@ use std::alloc::AllocError;
 
 /// What goes when a unit comes.
 #[derive(Clone, Copy)]
-pub enum Due<'a> {
+pub enum Outgoing<'a> {
     Nothing,
     Unit,
     /// Sets, and then the unit.
@@ -150,30 +150,30 @@ fn push_sets<'a, C: PayloadFormat, S: PacketSink<'a>>(
 }
 
 /// Appends the packets of what goes when a unit comes.
-pub(crate) fn push_due<'a, C: PayloadFormat, S: PacketSink<'a>>(
+pub(crate) fn push_outgoing<'a, C: PayloadFormat, S: PacketSink<'a>>(
     codec: C,
     limit: usize,
     don: u16,
     unit: &'a [u8],
-    due: Due<'a>,
+    outgoing: Outgoing<'a>,
     made: &mut S,
 ) -> Result<u16, PacketError>
-    requires whole { is_nothing due ≡ false → (C.format codec).header_len ≤ length unit.now }
+    requires whole { is_nothing outgoing ≡ false → (C.format codec).header_len ≤ length unit.now }
     ensures sent { IfOk result (λ next. ArePushed (C.format codec) don
-        (due_to_items (C.format codec) limit unit.now due.entry) (S.packets made.old)
+        (outgoing_to_items (C.format codec) limit unit.now outgoing.entry) (S.packets made.old)
         (S.packets made.new) next) }
-    ensures nothing { due.entry ≡ Due.Nothing → IsOk result }
+    ensures nothing { outgoing.entry ≡ Outgoing.Nothing → IsOk result }
     ensures before { S.before made.new ≡ S.before made.old }
     ensures memory { OnErr result (result ≡ Err PacketError.OutOfMemory) }
 {
     laws::donl_has_two_bytes();
-    match due {
-        Due::Nothing => Ok(don),
-        Due::Unit => {
+    match outgoing {
+        Outgoing::Nothing => Ok(don),
+        Outgoing::Unit => {
             made.reserve(1)?;
             push_unit(codec, limit, don, unit, made)
         }
-        Due::SetsAndUnit(sets) => {
+        Outgoing::SetsAndUnit(sets) => {
             made.reserve(1)?;
             let next = push_sets(codec, limit, don, sets, unit, made)?;
             push_unit(codec, limit, next, unit, made)

@@ -7,7 +7,7 @@ ghost use Rattle.std.specs.Prelude.{◌≡◌, None, false};
 #[derive(Drop)]
 pub struct Update {
     /// Whether the sets from before were sent.
-    pub taken: bool,
+    pub are_sent: bool,
     /// The sets since.
     pub vps: Option<Vec<u8>>,
     pub sps: Option<Vec<u8>>,
@@ -19,7 +19,7 @@ impl Update {
     /// The next number alone changes.
     pub fn number(next_don: u16) -> Update
         ensures { result ≡ record {
-          taken = false;
+          are_sent = false;
           vps = None;
           sps = None;
           pps = None;
@@ -27,7 +27,7 @@ impl Update {
         } }
     {
         Update {
-            taken: false,
+            are_sent: false,
             vps: None,
             sps: None,
             pps: None,

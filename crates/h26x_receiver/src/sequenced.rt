@@ -12,7 +12,7 @@ ghost use Rattle.h26x_depacketizer.specs.RunDepacketizer.{IsSameBesideRun, RunSt
 
 use crate::received::Received;
 use h26x_core::{CodecExtra, PacketError};
-use h26x_depacketizer::{OpenText, RunDepacketizer, RunRule, UnitSink, take_run};
+use h26x_depacketizer::{OpenText, RunDepacketizer, RunRule, UnitSink, remove_run};
 use h26x_model::laws;
 use std::alloc::Global;
 
@@ -68,7 +68,7 @@ fn take_anew<D: RunDepacketizer, W: UnitSink>(
     ensures told_room { TellsRoom W.room W.lacks out.old out.new result
         (bytes_brought (runless (D.state depacketizer.old)) packet.now) }
 {
-    let mut run = take_run(alloc, depacketizer);
+    let mut run = remove_run(alloc, depacketizer);
     match depacketizer.take(packet, out, codec_extra) {
         Ok(()) => Ok(()),
         Err(error) => {

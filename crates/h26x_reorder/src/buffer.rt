@@ -121,7 +121,7 @@ pub struct NotHeld {
 /// let mut buffer = ReorderBuffer::new(alloc, 64);
 /// buffer.push(&packet)?;
 /// while let Some(held) = buffer.pop() {
-///     receiver.receive(&held.packet(), &mut units)?;
+///     assembler.receive(&held.packet(), &mut units)?;
 /// }
 /// ```
 ///
@@ -135,7 +135,7 @@ pub struct NotHeld {
 ///     memories.push(not_held.packet.into_payload())?;
 /// }
 /// while let Some(held) = buffer.pop() {
-///     receiver.receive(&held.packet(), &mut units)?;
+///     assembler.receive(&held.packet(), &mut units)?;
 ///     memories.push(held.into_payload())?;
 /// }
 /// ```

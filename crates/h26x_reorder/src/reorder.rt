@@ -25,7 +25,7 @@ fn push<'a, 'b>(
 
 /// Appends every packet that may go.
 #[inline]
-fn take_ready<'a, 'b>(order: &mut NumberOrder<&'a RtpPacket<'b>>, out: &mut Vec<&'a RtpPacket<'b>>)
+fn pop_ready<'a, 'b>(order: &mut NumberOrder<&'a RtpPacket<'b>>, out: &mut Vec<&'a RtpPacket<'b>>)
     requires { vec_len out.old + length order.old.held ≤ vec_capacity out.old }
     ensures packets { map (λ p. p.now) out.new.items ≡ map (λ p. p.now) out.old.items
         ++ ready_packets order.old.window order.old.due order.old.held }
@@ -39,7 +39,7 @@ fn take_ready<'a, 'b>(order: &mut NumberOrder<&'a RtpPacket<'b>>, out: &mut Vec<
 }
 
 /// Appends every packet that is held.
-fn take_all<'a, 'b>(order: &mut NumberOrder<&'a RtpPacket<'b>>, out: &mut Vec<&'a RtpPacket<'b>>)
+fn pop_all<'a, 'b>(order: &mut NumberOrder<&'a RtpPacket<'b>>, out: &mut Vec<&'a RtpPacket<'b>>)
     requires { vec_len out.old + length order.old.held ≤ vec_capacity out.old }
     ensures packets { map (λ p. p.now) out.new.items
         ≡ map (λ p. p.now) out.old.items ++ order.old.held }
@@ -63,9 +63,9 @@ pub fn ordered<'a, 'b>(
     let mut out = Vec::with_capacity(alloc, packets.len())?;
     for packet in packets {
         push(&mut order, packet)?;
-        take_ready(&mut order, &mut out);
+        pop_ready(&mut order, &mut out);
     }
-    take_all(&mut order, &mut out);
+    pop_all(&mut order, &mut out);
     Ok(out)
 }
 

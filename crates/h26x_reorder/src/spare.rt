@@ -6,7 +6,7 @@ use std::alloc::{AllocError, Global};
 use std::marker::Model;
 
 /// How many payloads' memory is kept.
-const KEPT: usize = 64;
+const KEPT_PAYLOADS: usize = 64;
 
 /// How many bytes of memory are kept of each at most: those of a datagram on an Ethernet, and more.
 const KEPT_BYTES: usize = 2048;
@@ -55,7 +55,7 @@ impl SparePayloads {
     /// Keeps the memory of a payload that went, where it is within the limits.
     #[inline]
     pub(crate) fn keep(&mut self, mut memory: Vec<u8>) {
-        if memory.capacity() <= KEPT_BYTES && self.memories.len() < KEPT {
+        if memory.capacity() <= KEPT_BYTES && self.memories.len() < KEPT_PAYLOADS {
             memory.clear();
             let _ = self.memories.push(memory);
         }

@@ -1,7 +1,7 @@
 //! Sessions: lines, and the answers to them.
 
 use crate::rows::same;
-use h26x_session::{RunError, run};
+use h26x_lines::{SessionError, answer_all};
 use std::alloc::Global;
 use std::process::Abort;
 use std::test::Fail;
@@ -18,9 +18,9 @@ mod texts;
 mod words;
 
 /// What a fresh session answers.
-fn answered(alloc: Global, input: &[u8]) -> Result<Vec<u8>, RunError> {
+fn answered(alloc: Global, input: &[u8]) -> Result<Vec<u8>, SessionError> {
     let mut output = Vec::new(alloc);
-    run(alloc, input, &mut output)?;
+    answer_all(alloc, input, &mut output)?;
     Ok(output)
 }
 

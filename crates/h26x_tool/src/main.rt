@@ -1,13 +1,13 @@
-//! The program: reads lines and prints the answers, as `h26x_session` does them. Its answers are
+//! The program: reads lines and prints the answers, as `h26x_lines` does them. Its answers are
 //! tested in `h26x_rows`.
 #![tactic(auto)]
 
-pub use h26x_session::run;
+pub use h26x_lines::answer_all;
 use std::io;
 use std::process::ExitCode;
 
 fn main(rt: HostRuntime) -> ExitCode {
-    match run(rt.alloc(), rt.reader(), io::writer(&rt)) {
+    match answer_all(rt.alloc(), rt.reader(), io::writer(&rt)) {
         Ok(()) => ExitCode::SUCCESS,
         Err(error) => {
             let _ = eprintln!(&rt; "{error}");

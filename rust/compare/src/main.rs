@@ -7,9 +7,9 @@
 //! It ends at the first case in which an answer differs, and prints it; at the end stands how many calls there were and a
 //! sum of the crate's answers, which a seed and a number of cases give on every machine. The status is 1 where an answer differs.
 
+mod assembler;
 #[cfg(feature = "library")]
 mod c;
-mod frames;
 mod log;
 mod making;
 mod network;

@@ -5,7 +5,7 @@
 use crate::c;
 use crate::log::{Log, Outcome, became, code, number, outcome, shows, told};
 use crate::making::Making;
-use crate::{frames, network};
+use crate::{assembler, network};
 use emupedestal::{
     Codec, CodecDepacketizer, CodecExtra, CodecPacketizer, Depacketizer, H264Depacketizer,
     H264Packetizer, H264ProfileLevel, H265Depacketizer, H265PACIPacket, H265Packetizer,
@@ -125,9 +125,9 @@ type Taken<'a> = (Outcome, &'a [u8], u8);
 pub fn all(seed: u64, case: u64) -> (Log, Log) {
     let (mut ours, mut theirs) = (Log::default(), Log::default());
     run(seed, case, &mut ours, &mut theirs);
-    frames::frames(seed, case, &mut ours, &mut theirs);
+    assembler::assembled(seed, case, &mut ours, &mut theirs);
     if case % 20 == 0 {
-        frames::reordered(seed, case, &mut ours, &mut theirs);
+        assembler::reordered(seed, case, &mut ours, &mut theirs);
     }
     network::access_units(seed, case, &mut ours, &mut theirs);
     network::formats(seed, case, &mut ours, &mut theirs);
@@ -351,7 +351,7 @@ fn run(seed: u64, case: u64, ours: &mut Log, theirs: &mut Log) {
             18 => {
                 avc = m.random.one_in(2);
                 receives.avc(avc);
-                sequenced.with_avc(avc);
+                sequenced.set_avc(avc);
                 ours.say("avc", sequenced.is_avc());
                 beside! {
                     c_sequenced.receive_avc(avc);

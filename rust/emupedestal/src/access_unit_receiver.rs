@@ -34,7 +34,7 @@ use alloc::vec::Vec;
 use core::fmt;
 
 pub use crate::proved::h26x_access_units::{
-    AccessUnitConfig, Counts, NotPushed, NotPushedReason, Pushed, ReceivedUnit,
+    AccessUnitConfig, Counts, NotPushed, NotPushedReason, Pushed, ReceivedAccessUnit,
 };
 
 /// A window of 512 packets and no limit on the time; a number 3000 or more away is a stray (RFC 3550,
@@ -69,7 +69,7 @@ impl core::error::Error for NotPushed {}
 
 /// A receiver of any codec that takes packets as a network brings them and gives out access units: a
 /// [`ReorderBuffer`](crate::ReorderBuffer) with a time and a limit on bytes, and a
-/// [`FrameReceiver`](crate::FrameReceiver) behind it.
+/// [`AccessUnitAssembler`](crate::AccessUnitAssembler) behind it.
 ///
 /// `now` is the caller's clock, in ticks of his own, which goes round at 2^32 and never goes back. Push what
 /// comes; take access units until there is none; and do so again when [`deadline`](Self::deadline) says.
@@ -143,7 +143,7 @@ impl AccessUnitReceiver {
     /// refused is passed over and counted.
     ///
     /// The error is `OutOfMemory` alone: the packet for which memory lacks is due still.
-    pub fn next_unit(&mut self, now: u32) -> Result<Option<ReceivedUnit>, PacketError> {
+    pub fn next_unit(&mut self, now: u32) -> Result<Option<ReceivedAccessUnit>, PacketError> {
         self.inner.next(now)
     }
 
@@ -178,7 +178,7 @@ impl AccessUnitReceiver {
 
     /// Takes an access unit's memory back, for a later one: of those that are given back the largest of at most
     /// `unit_limit` bytes is kept.
-    pub fn give_back(&mut self, unit: ReceivedUnit) {
+    pub fn give_back(&mut self, unit: ReceivedAccessUnit) {
         self.inner.give_back(unit);
     }
 }

@@ -36,8 +36,9 @@
 //! `sdp` the module `sdp` all parameters of a format.
 //!
 //! An [`AccessUnitReceiver`] takes packets as a network brings them and gives out pictures, each with what is
-//! known of it. It is a [`ReorderBuffer`], which puts packets in their order, and a [`FrameReceiver`] behind it. [`access_units`] cuts a stream in Annex B form, or behind lengths, into
-//! access units, also one that is read piece by piece.
+//! known of it. It is a [`ReorderBuffer`], which puts packets in their order, and an [`AccessUnitAssembler`] behind it.
+//! [`access_units`] cuts a stream in Annex B form, or behind lengths, into access units, also one that is read piece by
+//! piece.
 //!
 //! No call panics on bytes, whatever they are.
 //!
@@ -78,7 +79,7 @@
 //! # Memory
 //!
 //! Where there is none, [`Packetizer::packetize`], [`Depacketizer::depacketize`],
-//! [`SequencedDepacketizer::receive`], [`ReorderBuffer::push`] and [`FrameReceiver::receive`] answer
+//! [`SequencedDepacketizer::receive`], [`ReorderBuffer::push`] and [`AccessUnitAssembler::receive`] answer
 //! [`PacketError::OutOfMemory`] and change nothing; `clone` has no such answer and panics or aborts.
 //!
 //! # Features
@@ -111,10 +112,10 @@ extern crate alloc;
 
 pub mod access_unit_receiver;
 pub mod access_units;
+mod assembler;
 mod codec_depacketizer;
 mod codec_packetizer;
 mod depacketizer;
-mod frames;
 pub mod h265_types;
 pub mod h266_types;
 mod look;
@@ -142,10 +143,10 @@ mod take_all;
 mod tests;
 
 pub use access_unit_receiver::AccessUnitReceiver;
+pub use assembler::AccessUnitAssembler;
 pub use codec_depacketizer::CodecDepacketizer;
 pub use codec_packetizer::CodecPacketizer;
 pub use depacketizer::{H264Depacketizer, H265Depacketizer, H266Depacketizer};
-pub use frames::FrameReceiver;
 pub use look::{Units, units};
 pub use packet::{Depacketizer, Packetizer};
 pub use packetizer::{H264Packetizer, H265Packetizer, H266Packetizer};
@@ -154,6 +155,7 @@ pub use profile::{H264LevelIdc, H264Profile, H264ProfileIdc, H264ProfileLevel};
 pub use profile::{H265Level, H265Profile, H265ProfileTierLevel, H265Tier};
 pub use profile::{H266Level, H266Profile, H266ProfileTierLevel, H266Tier};
 pub use profile::{Numbered, ProfileTierLevel};
+pub use proved::h26x_assembler::AccessUnit;
 pub use proved::h26x_codec::Codec;
 pub use proved::h26x_core::{
     ANNEXB_NALUSTART_CODE, AUD_NALU_TYPE, FILLER_NALU_TYPE, FU_END_BITMASK, FU_START_BITMASK,
@@ -166,7 +168,6 @@ pub use proved::h26x_core::{
 };
 pub use proved::h26x_core::{H265FragmentationUnitHeader, H265NALUHeader, H265TSCI};
 pub use proved::h26x_core::{H266FragmentationUnitHeader, H266NALUHeader};
-pub use proved::h26x_frames::AccessUnit;
 pub use proved::h26x_receiver::Received;
 pub use proved::h26x_reorder::{
     HeldPacket, NotHeld, NotHeldReason, Pushed, ReorderBuffer, RtpPacket,

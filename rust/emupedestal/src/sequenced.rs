@@ -128,8 +128,8 @@ impl SequencedDepacketizer {
 
     /// Sets whether units are written behind lengths of four bytes. A unit has the form that is set
     /// when the packet comes that completes it.
-    pub fn with_avc(&mut self, value: bool) {
-        self.inner.depacketizer.with_avc(value);
+    pub fn set_avc(&mut self, value: bool) {
+        self.inner.depacketizer.set_avc(value);
     }
 
     /// Takes a packet with its sequence number, and appends the units that it completes to `out`, each

@@ -2,11 +2,11 @@
 
 mod access_unit_receiver;
 mod access_units;
+mod assembler;
 mod caveats;
 mod codecs;
 mod depacketizer;
 mod ends;
-mod frames;
 mod look;
 mod numbers;
 mod packetizer;

@@ -1,7 +1,9 @@
 //! How much memory a peer can make receivers hold, by packets that no packetizer sends: aggregates in which
 //! each unit is long once, of many units and of empty ones, and units that never end.
 
-use emupedestal::{AccessUnit, Codec, CodecExtra, FrameReceiver, RtpPacket, SequencedDepacketizer};
+use emupedestal::{
+    AccessUnit, AccessUnitAssembler, Codec, CodecExtra, RtpPacket, SequencedDepacketizer,
+};
 use std::alloc::{GlobalAlloc, Layout, System};
 use std::cell::Cell;
 
@@ -201,7 +203,7 @@ fn a_long_unit_leaves_no_long_buffer() {
     }
 }
 
-/// A receiver of access units shows no packet: once one was given out nothing is kept of its packets.
+/// An assembler of access units shows no packet: once one was given out nothing is kept of its packets.
 #[test]
 fn a_receiver_of_access_units_keeps_nothing_to_show() {
     for codec in [Codec::H264, Codec::H265, Codec::H266] {
@@ -213,7 +215,7 @@ fn a_receiver_of_access_units_keeps_nothing_to_show() {
         ];
         let mut units = Vec::with_capacity(2);
         let before = HELD.get();
-        let mut receiver = FrameReceiver::new(codec, RUN_LIMIT, usize::MAX);
+        let mut receiver = AccessUnitAssembler::new(codec, RUN_LIMIT, usize::MAX);
         for (sequence, payload) in (0..).zip(&packets) {
             let packet = RtpPacket {
                 sequence,
@@ -235,7 +237,7 @@ fn a_receiver_of_access_units_keeps_nothing_to_show() {
 fn one_access_unit_that_was_given_back_is_kept() {
     for codec in [Codec::H264, Codec::H265, Codec::H266] {
         let limit = 5000;
-        let mut receiver = FrameReceiver::new(codec, RUN_LIMIT, limit);
+        let mut receiver = AccessUnitAssembler::new(codec, RUN_LIMIT, limit);
         let before = HELD.get();
         for room in [100, limit, 4000, limit + 1, 200] {
             receiver.give_back(AccessUnit {
@@ -263,7 +265,7 @@ fn one_access_unit_that_was_given_back_is_kept() {
 #[test]
 fn a_run_that_is_too_long_leaves_the_text_in_place() {
     for codec in [Codec::H264, Codec::H265, Codec::H266] {
-        let mut receiver = FrameReceiver::new(codec, RUN_LIMIT, 1 << 20);
+        let mut receiver = AccessUnitAssembler::new(codec, RUN_LIMIT, 1 << 20);
         let mut units = Vec::new();
         let mut sequence = 0;
         let mut resized_by = |payload: &[u8]| {

@@ -7,7 +7,7 @@ use crate::report::seconds;
 use crate::tally::{Tally, is_keyframe};
 use crate::told::{Became, Fate};
 use emupedestal::Codec;
-use emupedestal::access_unit_receiver::ReceivedUnit;
+use emupedestal::access_unit_receiver::ReceivedAccessUnit;
 use serde_json::{Value, json};
 use std::io::{self, Write};
 
@@ -90,7 +90,7 @@ fn outcome(became: &Became) -> &'static str {
 }
 
 /// An access unit, and what the receiver tells of it.
-pub fn unit(to: &mut impl Write, unit: &ReceivedUnit) -> io::Result<()> {
+pub fn unit(to: &mut impl Write, unit: &ReceivedAccessUnit) -> io::Result<()> {
     print(
         to,
         &json!({

@@ -15,7 +15,7 @@ use crate::tally::Tally;
 use crate::told::{Became, Fate, Outcome, Tell, Told};
 use crate::waiting::{Kept, Waiting};
 use emupedestal::access_unit_receiver::{
-    AccessUnitConfig, AccessUnitReceiver, Counts, Pushed, ReceivedUnit,
+    AccessUnitConfig, AccessUnitReceiver, Counts, Pushed, ReceivedAccessUnit,
 };
 use emupedestal::{Codec, CodecExtra, PacketError, RtpPacket, SequencedDepacketizer};
 
@@ -43,7 +43,7 @@ struct Step {
     /// How many packets it has taken, refused or passed over.
     passed: u64,
     has_refused: bool,
-    unit: Option<ReceivedUnit>,
+    unit: Option<ReceivedAccessUnit>,
     /// Whether there may be another access unit.
     has_more: bool,
 }
@@ -247,7 +247,7 @@ impl Reception {
         tell: &mut Tell<'_>,
     ) -> Outcome {
         let sequence = packet.rtp.sequence;
-        let is_behind = |it: &mut ReceivedUnit| sequence.wrapping_sub(it.last) as i16 > 0;
+        let is_behind = |it: &mut ReceivedAccessUnit| sequence.wrapping_sub(it.last) as i16 > 0;
         if let Some(unit) = step.unit.take_if(is_behind) {
             self.end_unit(unit, tell)?;
         }
@@ -321,7 +321,7 @@ impl Reception {
         }
     }
 
-    fn end_unit(&mut self, unit: ReceivedUnit, tell: &mut Tell<'_>) -> Outcome {
+    fn end_unit(&mut self, unit: ReceivedAccessUnit, tell: &mut Tell<'_>) -> Outcome {
         self.unit_len = 0;
         self.numbers.end_access_unit();
         self.tally.unit(&unit);

@@ -11,7 +11,7 @@ use crate::streams::counted;
 use crate::tally::{Tally, is_keyframe};
 use crate::told::{Became, Fate, Told};
 use emupedestal::Codec;
-use emupedestal::access_unit_receiver::ReceivedUnit;
+use emupedestal::access_unit_receiver::ReceivedAccessUnit;
 use std::io::{self, BufWriter, StdoutLock, Write};
 
 const TITLES: &str = "  seq      seconds   timestamp M bytes  packet      units";
@@ -175,7 +175,7 @@ fn note_of(became: &Became) -> Option<String> {
 }
 
 /// What the receiver tells of an access unit.
-fn about_unit(unit: &ReceivedUnit) -> String {
+fn about_unit(unit: &ReceivedAccessUnit) -> String {
     let numbers = match unit.first == unit.last {
         true => format!("{}", unit.first),
         false => format!("{} to {}", unit.first, unit.last),

@@ -3,7 +3,7 @@
 use crate::packets::Captured;
 use crate::streams::counted;
 use emupedestal::CodecExtra;
-use emupedestal::access_unit_receiver::ReceivedUnit;
+use emupedestal::access_unit_receiver::ReceivedAccessUnit;
 
 /// How many losses, and how many kinds of refusals, are named.
 const NAMED: usize = 20;
@@ -49,7 +49,7 @@ impl Tally {
     }
 
     /// Counts an access unit.
-    pub fn unit(&mut self, unit: &ReceivedUnit) {
+    pub fn unit(&mut self, unit: &ReceivedAccessUnit) {
         self.access_units += 1;
         self.keyframes += u64::from(is_keyframe(unit.extra));
         self.whole += u64::from(unit.is_whole);

@@ -2,7 +2,7 @@
 
 use crate::errors::Failure;
 use crate::packets::Captured;
-use emupedestal::access_unit_receiver::ReceivedUnit;
+use emupedestal::access_unit_receiver::ReceivedAccessUnit;
 
 pub type Outcome = Result<(), Failure>;
 /// What takes what is told.
@@ -13,7 +13,7 @@ pub enum Told<'a> {
     /// A packet, once it was its turn.
     Packet(&'a Captured<'a>, Fate),
     /// An access unit, behind its last packet.
-    Unit(&'a ReceivedUnit),
+    Unit(&'a ReceivedAccessUnit),
     /// A packet that came twice while another was waited for.
     Twice(u16),
     /// A packet whose number is far from all others.

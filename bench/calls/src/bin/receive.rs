@@ -11,7 +11,7 @@
 #[path = "../network.rs"]
 mod network;
 
-use emupedestal::{AccessUnit, Codec, FrameReceiver, HeldPacket, ReorderBuffer};
+use emupedestal::{AccessUnit, AccessUnitAssembler, Codec, HeldPacket, ReorderBuffer};
 use network::{Network, Random, Sent, bound, each, median, packets_of};
 use std::env;
 use std::hint::black_box;
@@ -28,13 +28,13 @@ const NETWORK: Network = Network {
 
 fn by_reference(codec: Codec, came: &[&Sent]) -> f64 {
     let mut buffer = ReorderBuffer::new(WINDOW);
-    let mut receiver = FrameReceiver::new(codec, RUN_LIMIT, UNIT_LIMIT);
+    let mut assembler = AccessUnitAssembler::new(codec, RUN_LIMIT, UNIT_LIMIT);
     let mut units: Vec<AccessUnit> = Vec::new();
     let then = Instant::now();
     for packet in came {
         let _ = buffer.push(&packet.packet());
         while let Some(held) = buffer.pop() {
-            let _ = black_box(receiver.receive(&held.packet(), &mut units));
+            let _ = black_box(assembler.receive(&held.packet(), &mut units));
         }
         black_box(units.as_slice());
         units.clear();
@@ -45,7 +45,7 @@ fn by_reference(codec: Codec, came: &[&Sent]) -> f64 {
 #[cfg(not(feature = "by_reference_alone"))]
 fn by_value(codec: Codec, came: &[&Sent]) -> f64 {
     let mut buffer = ReorderBuffer::new(WINDOW);
-    let mut receiver = FrameReceiver::new(codec, RUN_LIMIT, UNIT_LIMIT);
+    let mut assembler = AccessUnitAssembler::new(codec, RUN_LIMIT, UNIT_LIMIT);
     let mut units: Vec<AccessUnit> = Vec::new();
     let mut memories = Vec::with_capacity(came.len());
     let owned: Vec<HeldPacket> = came
@@ -58,11 +58,11 @@ fn by_value(codec: Codec, came: &[&Sent]) -> f64 {
             memories.push(not_held.packet.into_payload());
         }
         while let Some(held) = buffer.pop() {
-            let _ = black_box(receiver.receive(&held.packet(), &mut units));
+            let _ = black_box(assembler.receive(&held.packet(), &mut units));
             memories.push(held.into_payload());
         }
         for unit in units.drain(..) {
-            receiver.give_back(black_box(unit));
+            assembler.give_back(black_box(unit));
         }
     }
     each(then, came.len())

@@ -1,4 +1,4 @@
--- The laws of the two ends, each as one record: what whole runs need of them.
+-- The laws of the two endpoints, each as one record: what whole transmissions need of them.
 use Rattle.std.specs.Prelude.{◌≡◌, ℕ, ◌≤◌, true, Bool, List, [], ◌∷◌, ◌++◌, length, map, None, ◌⊎◌}
 use Rattle.std.specs.List.{flat_map, AllByRecursion}
 use Rattle.h26x_core.specs.declared.error.PacketError.{PacketError}

@@ -4,7 +4,7 @@ use Rattle.std.specs.List.{flat_map, range_with_len}
 use Rattle.h26x_model.specs.Payload.Reading.{Fragment}
 use Rattle.h26x_model.specs.Payload.Format.{Format, donl, donl_len, fragment_header_len, has_s_bit, has_e_bit}
 use Rattle.h26x_model.specs.Send.Plan.{Alone, is_dropped}
-use Rattle.h26x_model.specs.Send.Packets.{fragment_room, fragment, fragments, fragment_count, fragment_part, item_packets}
+use Rattle.h26x_model.specs.Send.Packets.{fragment_room, fragment, fragments, fragment_count, fragment_body, item_packets}
 use Rattle.h26x_model.specs.Send.Rival.{IsRival}
 use Rattle.h26x_model.specs.Payload.Don.{don_sent}
 
@@ -21,9 +21,9 @@ fragment_data f limit unit j =
 -- unit without its header.
 pub record AreFragments (f : Format) (n limit : ℕ) (unit : List ℕ) : Type 0 where
   pub two : 2 ≤ fragment_count f limit unit
-  pub first : fragment_part f n limit unit 0 ≡ donl f n ++ fragment_data f limit unit 0
-  pub later : (j : ℕ) → 0 < j → fragment_part f n limit unit j ≡ fragment_data f limit unit j
-  pub full : (j : ℕ) → j + 1 < fragment_count f limit unit → length (fragment_part f n limit unit j)
+  pub first : fragment_body f n limit unit 0 ≡ donl f n ++ fragment_data f limit unit 0
+  pub later : (j : ℕ) → 0 < j → fragment_body f n limit unit j ≡ fragment_data f limit unit j
+  pub full : (j : ℕ) → j + 1 < fragment_count f limit unit → length (fragment_body f n limit unit j)
       ≡ fragment_room f limit
   pub some : (j : ℕ) → j < fragment_count f limit unit → 0 < length (fragment_data f limit unit j)
   pub joined : flat_map (fragment_data f limit unit)

@@ -26,15 +26,15 @@ fragment_count f limit unit = pieces_needed (fragment_room f limit)
     (donl_len f + (length unit - f.header_len))
 
 -- what stands behind the header of the fragment at place j
-abbrev pub fragment_part : Format → ℕ → ℕ → List ℕ → ℕ → List ℕ
-fragment_part f n limit unit j = take (fragment_room f limit)
+abbrev pub fragment_body : Format → ℕ → ℕ → List ℕ → ℕ → List ℕ
+fragment_body f n limit unit j = take (fragment_room f limit)
     (drop (j * fragment_room f limit) (fragmented_bytes f n unit))
 
 -- the fragment at place j: the first bears the start, the last the end
 abbrev pub fragment : Format → ℕ → ℕ → List ℕ → ℕ → List ℕ
 fragment f n limit unit j =
     f.fragment_header unit (j == 0) (j + 1 == fragment_count f limit unit)
-    ++ fragment_part f n limit unit j
+    ++ fragment_body f n limit unit j
 
 -- all fragments of a unit, in order
 abbrev pub fragments : Format → ℕ → ℕ → List ℕ → List (List ℕ)

@@ -21,13 +21,13 @@ abbrev pub sets_waiting : WaitingSets → List (List ℕ)
 sets_waiting w = w.vps ++ w.sps ++ w.pps
 
 -- the sets that wait are sent before a unit of this kind
-abbrev pub sets_are_due : Kind → WaitingSets → Bool
-sets_are_due kind w = is_other kind && is_not_empty w.sps && is_not_empty w.pps
+abbrev pub sets_are_sent : Kind → WaitingSets → Bool
+sets_are_sent kind w = is_other kind && is_not_empty w.sps && is_not_empty w.pps
 
 -- the sets that wait after a unit
 abbrev pub waiting_after_unit : Format → WaitingSets → List ℕ → WaitingSets
 waiting_after_unit f w unit =
-    if sets_are_due (f.kind unit) w then no_waiting_sets
+    if sets_are_sent (f.kind unit) w then no_waiting_sets
     else record {
       vps = if is_vps (f.kind unit) then unit ∷ [] else w.vps;
       sps = if is_sps (f.kind unit) then unit ∷ [] else w.sps;
@@ -35,14 +35,14 @@ waiting_after_unit f w unit =
     }
 
 -- what is sent when a unit comes
-abbrev pub due_items : Format → WaitingSets → Entry → List Item
-due_items f w e = (if sets_are_due (f.kind e.unit) w then sets_items f e.limit (sets_waiting w) e.unit
-    else []) ++ entry_items f e
+abbrev pub outgoing_items : Format → WaitingSets → Entry → List Item
+outgoing_items f w e = (if sets_are_sent (f.kind e.unit) w
+    then sets_items f e.limit (sets_waiting w) e.unit else []) ++ entry_items f e
 
 -- the same for entries, one after the other
 abbrev pub plan_with_waiting : Format → WaitingSets → List Entry → List Item
 plan_with_waiting f w [] = []
-plan_with_waiting f w (e ∷ entries) = due_items f w e
+plan_with_waiting f w (e ∷ entries) = outgoing_items f w e
     ++ plan_with_waiting f (waiting_after_unit f w e.unit) entries
 
 -- the sets that wait after entries, one after the other

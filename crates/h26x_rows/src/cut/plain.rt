@@ -48,17 +48,17 @@ fn zeros_at_end(bytes: &[u8]) -> usize
     zeros
 }
 
-/// A piece without the zeros that the start code behind it takes. Two of these are the code's own
+/// A segment without the zeros that the start code behind it takes. Two of these are the code's own
 /// in any case, so that one more is left where it takes three.
-fn without_code_zeros(piece: &[u8], rule: ZeroRule) -> &[u8]
-    ensures { result.now ≡ trimmed rule piece.now }
+fn without_code_zeros(segment: &[u8], rule: ZeroRule) -> &[u8]
+    ensures { result.now ≡ trimmed rule segment.now }
 {
-    let zeros = zeros_at_end(piece);
+    let zeros = zeros_at_end(segment);
     let taken = match rule {
         ZeroRule::All => zeros,
         ZeroRule::AtMostThree => zeros.min(1),
     };
-    &piece[..piece.len() - taken]
+    &segment[..segment.len() - taken]
 }
 
 /// The units of a payload, in order, as slices of it.

@@ -101,7 +101,7 @@ pub(crate) fn lie_well(alloc: Global, buffer: &PacketBuffer, packets: &[Vec<u8>]
         ends: Vec::new(alloc),
     };
     laid.push_all(buffer.headroom(), packets).ok()?;
-    let lie = (buffer.bytes(), buffer.ends(), buffer.is_empty());
+    let lie = (buffer.bytes(), buffer.packet_ends(), buffer.is_empty());
     let want = (
         laid.bytes.as_slice(),
         laid.ends.as_slice(),

@@ -1,12 +1,16 @@
 use crate::rows::same;
 use h26x_core::PacketError;
-use h26x_session::RunError;
-use h26x_session::answers::Answers;
+use h26x_lines::SessionError;
+use h26x_lines::answers::Answers;
 use std::alloc::{AllocError, Global};
 use std::test::Fail;
 
 /// What is answered to a packet that is taken or refused.
-fn answer(alloc: Global, taken: Result<(), PacketError>, out: &[u8]) -> Result<Vec<u8>, RunError> {
+fn answer(
+    alloc: Global,
+    taken: Result<(), PacketError>,
+    out: &[u8],
+) -> Result<Vec<u8>, SessionError> {
     let mut output = Vec::new(alloc);
     let mut answers = Answers::new(alloc, &mut output)?;
     answers.say_unpacked(taken, out)?;

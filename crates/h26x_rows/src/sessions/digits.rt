@@ -1,5 +1,5 @@
 use crate::rows::same;
-use h26x_session::digits::Digits;
+use h26x_lines::digits::Digits;
 use std::alloc::{AllocError, Global};
 use std::process::Abort;
 use std::test::Fail;

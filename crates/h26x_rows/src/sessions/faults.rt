@@ -1,6 +1,6 @@
 use crate::rows::same;
 use h26x_core::PacketError;
-use h26x_session::{RunError, run};
+use h26x_lines::{SessionError, answer_all};
 use std::alloc::Global;
 use std::io::{Read, Write};
 use std::process::Abort;
@@ -26,9 +26,9 @@ impl Read for BrokenReader {
 }
 
 /// How a read fails, and how the run then ends.
-const FAILED_READS: [(io::ErrorKind, RunError); 2] = [
-    (io::ErrorKind::BrokenPipe, RunError::Read),
-    (io::ErrorKind::OutOfMemory, RunError::OutOfMemory),
+const FAILED_READS: [(io::ErrorKind, SessionError); 2] = [
+    (io::ErrorKind::BrokenPipe, SessionError::Read),
+    (io::ErrorKind::OutOfMemory, SessionError::OutOfMemory),
 ];
 
 #[test]
@@ -38,7 +38,7 @@ fn a_read_that_fails(rt: HostRuntime) {
             has_given: false,
             kind: *kind,
         };
-        let ended = run(rt.alloc(), reader, Vec::new(rt.alloc()));
+        let ended = answer_all(rt.alloc(), reader, Vec::new(rt.alloc()));
         same(&rt, &ended, &Err(*want), "a failed read");
     }
 }
@@ -71,13 +71,13 @@ impl Write for BrokenWriter {
 }
 
 /// Runs a line again and again, so that more is answered than any buffer holds.
-fn run_often(alloc: Global, line: &str, writer: BrokenWriter) -> Result<(), RunError> {
+fn run_often(alloc: Global, line: &str, writer: BrokenWriter) -> Result<(), SessionError> {
     let mut input = Vec::new(alloc);
     for _ in 0..4000 {
         input.extend_from_slice(line.as_bytes())?;
         input.extend_from_slice(b"\n")?;
     }
-    run(alloc, input.as_slice(), writer)
+    answer_all(alloc, input.as_slice(), writer)
 }
 
 /// Lines that are answered in each way.
@@ -107,15 +107,15 @@ fn a_write_that_fails(rt: HostRuntime) {
             fails_to_flush: false,
         };
         let ended = run_often(rt.alloc(), line, writer);
-        same(&rt, &ended, &Err(RunError::Write), line);
+        same(&rt, &ended, &Err(SessionError::Write), line);
     }
 }
 
 /// Whether writing and flushing fail, and how the run then ends.
-const FAILED_WRITES: [(bool, bool, Result<(), RunError>); 3] = [
+const FAILED_WRITES: [(bool, bool, Result<(), SessionError>); 3] = [
     (false, false, Ok(())),
-    (true, false, Err(RunError::Write)),
-    (false, true, Err(RunError::Write)),
+    (true, false, Err(SessionError::Write)),
+    (false, true, Err(SessionError::Write)),
 ];
 
 #[test]
@@ -125,7 +125,7 @@ fn a_write_that_fails_at_the_end(rt: HostRuntime) {
             fails_to_write: *fails_to_write,
             fails_to_flush: *fails_to_flush,
         };
-        let ended = run(rt.alloc(), b"key\n".as_slice(), writer);
+        let ended = answer_all(rt.alloc(), b"key\n".as_slice(), writer);
         same(&rt, &ended, want, "the end");
     }
 }
@@ -161,10 +161,10 @@ const ERRORS: [(PacketError, &str); 8] = [
 ];
 
 /// Errors that end a run, and their texts.
-const ENDS: [(RunError, &str); 3] = [
-    (RunError::Read, "h26x: read failed"),
-    (RunError::Write, "h26x: write failed"),
-    (RunError::OutOfMemory, "h26x: no memory"),
+const ENDS: [(SessionError, &str); 3] = [
+    (SessionError::Read, "h26x-lines: read failed"),
+    (SessionError::Write, "h26x-lines: write failed"),
+    (SessionError::OutOfMemory, "h26x-lines: no memory"),
 ];
 
 fn say<E: fmt::Display>(rt: &impl Abort, alloc: Global, error: &E, want: &str) -> Result<(), Fail> {

@@ -1,8 +1,8 @@
 //! Lines of the program for which memory lacks.
 
 use h26x_core::PacketError;
-use h26x_session::answers::Answers;
-use h26x_session::{RunError, run};
+use h26x_lines::answers::Answers;
+use h26x_lines::{SessionError, answer_all};
 use std::alloc::Global;
 use std::process::Abort;
 use std::test::Fail;
@@ -46,7 +46,7 @@ fn written(page: &[u8]) -> &[u8] {
 
 /// Whether the answers are those of the lines, but that one call may be refused, or the run may
 /// end for want of memory.
-fn are_answers(session: &Session, mut rest: &[u8], ended: Result<(), RunError>) -> bool {
+fn are_answers(session: &Session, mut rest: &[u8], ended: Result<(), SessionError>) -> bool {
     let mut was_refused = false;
     for want in session.answers {
         if let Some(behind) = rest.strip_prefix(*want) {
@@ -57,7 +57,7 @@ fn are_answers(session: &Session, mut rest: &[u8], ended: Result<(), RunError>) 
             Some(behind) if !was_refused => rest = behind,
             _ => {
                 return !was_refused
-                    && ended == Err(RunError::OutOfMemory)
+                    && ended == Err(SessionError::OutOfMemory)
                     && want.starts_with(rest);
             }
         }
@@ -69,7 +69,7 @@ fn are_answers(session: &Session, mut rest: &[u8], ended: Result<(), RunError>) 
 /// Runs the lines; a call is refused, or the run ends.
 fn run_on(rt: &impl Abort, alloc: Global, session: &Session) {
     let mut page = [0; 300];
-    let ended = run(alloc, session.input, page.as_mut_slice());
+    let ended = answer_all(alloc, session.input, page.as_mut_slice());
     assert!(rt; are_answers(session, written(&page), ended), "{ended:?}");
 }
 
@@ -86,7 +86,7 @@ fn a_run_of_h265_ends_or_goes_on(rt: HostRuntime) {
 /// Runs the lines; each is answered.
 fn run_through(rt: &impl Abort, alloc: Global, session: &Session) -> Result<(), Fail> {
     let mut page = [0; 300];
-    run(alloc, session.input, page.as_mut_slice())?;
+    answer_all(alloc, session.input, page.as_mut_slice())?;
     let mut rest = written(&page);
     for want in session.answers {
         rest = rest.strip_prefix(*want).ok_or("another answer")?;

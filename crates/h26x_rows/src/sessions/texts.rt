@@ -4,8 +4,8 @@
 mod by_table;
 
 use by_table::TableDigits;
-use h26x_session::answers::Answers;
-use h26x_session::digits::Digits;
+use h26x_lines::answers::Answers;
+use h26x_lines::digits::Digits;
 use std::alloc::{AllocError, Global};
 use std::process::Abort;
 use std::test::Fail;

@@ -1,8 +1,8 @@
 //! The drawn calls of `compare` where a program can neither read nor print: `tools/check-rust-elsewhere` asks the module
 //! for their sum.
 
-#[path = "../../src/frames.rs"]
-mod frames;
+#[path = "../../src/assembler.rs"]
+mod assembler;
 #[allow(dead_code)]
 #[path = "../../src/log.rs"]
 mod log;

@@ -1,4 +1,4 @@
-//! The ends of the three codecs, by the same calls.
+//! The endpoints of the three codecs, by the same calls.
 
 use emupedestal::{
     Codec, Depacketizer, H264Depacketizer, H264Packetizer, H265Depacketizer, H265Packetizer,

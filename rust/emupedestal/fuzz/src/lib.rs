@@ -5,8 +5,8 @@
 //! call takes its own; bytes stand behind their length in two bytes. Where an input ends, numbers are 0 and bytes
 //! are none. The programs `bindings/c/fuzz_packets.c` and `fuzz_payloads.c` read the same inputs.
 
+pub mod assembler;
 pub mod ends;
-pub mod frames;
 pub mod held;
 pub mod input;
 pub mod packets;

@@ -4,8 +4,8 @@
 //! A byte of [`Settings`], whose further bits choose the limit on a run; a byte that chooses the window (bits 0 to
 //! 4) and the limit on an access unit; and then, for each packet, a byte of [`Step`] and the packet.
 
+use crate::assembler::Assemblers;
 use crate::ends::Taking;
-use crate::frames::Frames;
 use crate::input::{Input, Settings};
 use crate::receivers::Receiver;
 use crate::shown;
@@ -72,7 +72,7 @@ fn run_of<D: Taking>(settings: Settings, mut input: Input) {
     let (mut donl, mut avc) = (settings.donl, settings.avc);
     let mut plain = D::with_settings(donl, avc);
     let mut receiver = Receiver::<D>::new(donl, avc, run_limit);
-    let mut frames = Frames::new(settings, run_limit, windows);
+    let mut assemblers = Assemblers::new(settings, run_limit, windows);
     let (mut told, mut sequence, mut timestamp) = (CodecExtra::None, 65530_u16, 0_u32);
     while !input.is_empty() {
         let step = Step(input.byte());
@@ -86,13 +86,13 @@ fn run_of<D: Taking>(settings: Settings, mut input: Input) {
             donl = !donl;
             plain.set_donl(donl);
             receiver.set_donl(donl);
-            frames.set_donl(donl);
+            assemblers.set_donl(donl);
         }
         if step.restarts() {
             plain.give_up();
             assert_eq!(plain.run(), 0);
             receiver.restart();
-            frames.restart();
+            assemblers.restart();
         }
         sequence = step.sequence(sequence);
         if step.is_new_time() {
@@ -100,9 +100,9 @@ fn run_of<D: Taking>(settings: Settings, mut input: Input) {
         }
         take(&mut plain, donl, avc, packet, &mut told);
         receiver.receive(sequence, packet);
-        frames.receive(sequence, timestamp, step.has_marker(), packet);
+        assemblers.receive(sequence, timestamp, step.has_marker(), packet);
     }
-    frames.end();
+    assemblers.end();
 }
 
 /// Gives a packet to a depacketizer.

@@ -152,7 +152,7 @@ fn check_item<D: Taking>(settings: Settings, item: &Item, packets: &[Vec<u8>], n
 fn check_loss(settings: Settings, items: &[Item], sent: &[Sent], seed: usize) {
     let mut receiver = SequencedDepacketizer::new(settings.codec, usize::MAX);
     receiver.with_donl(settings.donl);
-    receiver.with_avc(settings.avc);
+    receiver.set_avc(settings.avc);
     let lost = if seed == usize::MAX || sent.is_empty() {
         None
     } else {

@@ -28,7 +28,7 @@ impl<D: Taking> Receiver<D> {
     pub fn new(donl: bool, avc: bool, run_limit: usize) -> Self {
         let mut receiver = SequencedDepacketizer::new(D::CODEC, run_limit);
         receiver.with_donl(donl);
-        receiver.with_avc(avc);
+        receiver.set_avc(avc);
         Receiver {
             receiver,
             told: CodecExtra::None,
@@ -40,7 +40,7 @@ impl<D: Taking> Receiver<D> {
     }
 
     pub fn set_avc(&mut self, value: bool) {
-        self.receiver.with_avc(value);
+        self.receiver.set_avc(value);
         self.beside.set_avc(value);
     }
 

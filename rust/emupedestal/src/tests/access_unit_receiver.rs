@@ -3,10 +3,10 @@
 
 use super::bytes;
 use crate::access_unit_receiver::{
-    AccessUnitConfig, AccessUnitReceiver, NotPushedReason, Pushed, ReceivedUnit,
+    AccessUnitConfig, AccessUnitReceiver, NotPushedReason, Pushed, ReceivedAccessUnit,
 };
 use crate::{
-    Codec, CodecExtra, FrameReceiver, H264CodecExtra, HeldPacket, PacketError, ReorderBuffer,
+    Codec, CodecExtra, AccessUnitAssembler, H264CodecExtra, HeldPacket, PacketError, ReorderBuffer,
     RtpPacket,
 };
 
@@ -44,13 +44,13 @@ fn push(
 }
 
 /// All access units that have ended at a tick.
-fn units(it: &mut AccessUnitReceiver, now: u32) -> Vec<ReceivedUnit> {
+fn units(it: &mut AccessUnitReceiver, now: u32) -> Vec<ReceivedAccessUnit> {
     core::iter::from_fn(|| it.next_unit(now).unwrap()).collect()
 }
 
 /// Of each its timestamp, numbers, how many are missing, and whether it is whole and clean.
-fn told(units: &[ReceivedUnit]) -> Vec<(u32, u16, u16, u32, bool, bool)> {
-    let of = |it: &ReceivedUnit| {
+fn told(units: &[ReceivedAccessUnit]) -> Vec<(u32, u16, u16, u32, bool, bool)> {
+    let of = |it: &ReceivedAccessUnit| {
         (
             it.timestamp,
             it.first,
@@ -297,9 +297,9 @@ fn drawn_packets_beside_a_buffer_and_a_receiver() {
             ..config(window, u32::MAX)
         };
         let mut it = AccessUnitReceiver::new(Codec::H264, limits);
-        let (mut buffer, mut frames) = (
+        let (mut buffer, mut assembler) = (
             ReorderBuffer::new(window),
-            FrameReceiver::new(Codec::H264, 1000, 1000),
+            AccessUnitAssembler::new(Codec::H264, 1000, 1000),
         );
         let (mut got, mut wanted) = (Vec::new(), Vec::new());
         for place in 0..60u16 {
@@ -327,15 +327,15 @@ fn drawn_packets_beside_a_buffer_and_a_receiver() {
             buffer.push(&packet).unwrap();
             got.extend(units(&mut it, 0));
             while let Some(held) = buffer.pop() {
-                let _ = frames.receive(&held.packet(), &mut wanted);
+                let _ = assembler.receive(&held.packet(), &mut wanted);
             }
         }
         it.finish();
         got.extend(units(&mut it, 0));
         while let Some(held) = buffer.pop_first() {
-            let _ = frames.receive(&held.packet(), &mut wanted);
+            let _ = assembler.receive(&held.packet(), &mut wanted);
         }
-        frames.end(&mut wanted).unwrap();
+        assembler.finish(&mut wanted).unwrap();
         let parts = |timestamp, bytes: &[u8], extra| (timestamp, bytes.to_vec(), extra);
         let got: Vec<_> = got
             .iter()

@@ -8,11 +8,11 @@ mod codec;
 mod network;
 mod packets;
 mod profiles;
-mod runs;
 #[cfg(feature = "sdp")]
 mod sdp;
 mod shown;
 mod take;
+mod transmissions;
 
 use super::bytes;
 use crate::proved::h26x_codec::{Codec, CodecDepacketizer};

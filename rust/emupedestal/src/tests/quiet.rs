@@ -59,7 +59,7 @@ const PACKETS: [(Codec, &[&str], &[&str], CodecExtra); 3] = [
 fn written(codec: Codec, packets: &[&str], donl: bool, avc: bool) -> (Vec<u8>, CodecExtra) {
     let mut shows = SequencedDepacketizer::new(AnyDepacketizer::new(codec), 100);
     shows.depacketizer.with_donl(donl);
-    shows.depacketizer.with_avc(avc);
+    shows.depacketizer.set_avc(avc);
     let mut quiet = SequencedDepacketizer::new(AnyPayloadDepacketizer::new(codec), 100);
     quiet.depacketizer.with_donl(donl);
     quiet.depacketizer.is_avc = avc;

@@ -184,11 +184,11 @@ fn units_behind_lengths() {
         let mut it = SequencedDepacketizer::new(codec, 100);
         assert_eq!((it.codec(), it.is_avc()), (codec, false));
         assert_eq!(it.run_limit(), 100);
-        it.with_avc(true);
+        it.set_avc(true);
         receives(&mut it, &[(1, start, IN_ORDER), (2, middle, IN_ORDER)], "");
         let mut copy = it.clone();
         assert!(copy.is_avc());
-        it.with_avc(false);
+        it.set_avc(false);
         receives(&mut it, &[(3, end, IN_ORDER)], &behind_codes(unit));
         let len = bytes(unit).len();
         receives(

@@ -18,7 +18,7 @@ fn all_types_may_be_shared_between_threads() {
     each!(H264Packetizer, H265Packetizer, H266Packetizer);
     each!(H264Depacketizer, H265Depacketizer, H266Depacketizer);
     each!(SequencedDepacketizer, Received, Packets, PacketIter, Units);
-    each!(FrameReceiver, ReorderBuffer, Pushed);
+    each!(AccessUnitAssembler, ReorderBuffer, Pushed);
     each!(AccessUnit, RtpPacket, HeldPacket);
     each!(Codec, CodecExtra, PacketError);
     each!(H264CodecExtra, H265CodecExtra, H266CodecExtra);

@@ -3,9 +3,9 @@
 
 use crate::PacketError;
 use crate::ends::{fragment, longer_fragment};
+use crate::proved::h26x_assembler::{AccessUnit, AccessUnitAssembler, assemble_all};
 use crate::proved::h26x_codec::{AnyPayloadDepacketizer, Codec};
 use crate::proved::h26x_core::CodecExtra;
-use crate::proved::h26x_frames::{AccessUnit, FrameReceiver, receive_frames};
 use crate::proved::h26x_receiver::{Received, SequencedDepacketizer};
 use crate::proved::h26x_reorder::RtpPacket;
 use crate::refusing::{insist, refused_at, some_refused, without_memory};
@@ -13,7 +13,7 @@ use crate::sequenced::{UNITS, Unit};
 
 /// A receiver, and the access units that it gave out.
 struct Receiver {
-    it: FrameReceiver<AnyPayloadDepacketizer>,
+    it: AccessUnitAssembler<AnyPayloadDepacketizer>,
     out: Vec<AccessUnit>,
 }
 
@@ -25,7 +25,7 @@ impl Receiver {
     fn new(codec: Codec) -> Self {
         let depacketizer = AnyPayloadDepacketizer::new(codec);
         Receiver {
-            it: FrameReceiver::new(SequencedDepacketizer::new(depacketizer, 1000), 1000),
+            it: AccessUnitAssembler::new(SequencedDepacketizer::new(depacketizer, 1000), 1000),
             out: Vec::new(),
         }
     }
@@ -58,7 +58,7 @@ impl Receiver {
         self.out.shrink_to_fit();
         let before = (self.it.unit.clone(), self.it.packets.expected);
         let kept = |it: &Self| it.it.unit == before.0 && it.it.packets.expected == before.1;
-        some_refused(|| assert_eq!(insist(self, |it| it.it.end(&mut it.out), kept), Ok(())));
+        some_refused(|| assert_eq!(insist(self, |it| it.it.finish(&mut it.out), kept), Ok(())));
         assert!(!self.it.unit.is_open() && self.it.packets.expected.is_none());
     }
 }
@@ -164,7 +164,7 @@ fn a_list() {
     for request in 0.. {
         let mut it = Receiver::new(Codec::H264);
         let (answers, was_refused) = refused_at(request, true, || {
-            receive_frames(&mut it.it, 4, &packets, &mut it.out)
+            assemble_all(&mut it.it, 4, &packets, &mut it.out)
         });
         let is_given = answers.is_ok();
         if !is_given {
@@ -177,7 +177,7 @@ fn a_list() {
                 it.it.restart();
                 it.out.clear();
             }
-            let answers = receive_frames(&mut it.it, 4, &packets, &mut it.out);
+            let answers = assemble_all(&mut it.it, 4, &packets, &mut it.out);
             assert!(!answers.expect("answers").contains(&lacks));
         }
         it.end();

@@ -254,7 +254,7 @@ fn append_nothing(run: &Run, payloads: &[(usize, &[u8])], units: &[(usize, &[u8]
     without_memory(|| {
         buffer.truncate(0);
         buffer.clear();
-        assert!(buffer.is_empty() && buffer.headroom() == 12 && buffer.ends().is_empty());
+        assert!(buffer.is_empty() && buffer.headroom() == 12 && buffer.packet_ends().is_empty());
     });
 }
 

@@ -1,4 +1,4 @@
-//! Both ends of any codec, and runs through them.
+//! Both endpoints of any codec, and transmissions through them.
 
 use crate::ends::{Answer, Receiver, SHORT, ask_depacketizer, ask_packetizer, send_nothing};
 use crate::proved::h26x_codec::{
@@ -99,7 +99,7 @@ const TEXT: [u8; 21] = [
     0, 0, 0, 1, 7, 0, 1, 0, 0, 0, 1, 8, 2, 3, 0, 0, 0, 1, 5, 4, 5,
 ];
 
-/// Carries the payloads through fresh ends. What is written goes behind `out`.
+/// Carries the payloads through fresh endpoints. What is written goes behind `out`.
 fn carry_payloads(calls: &[(usize, Vec<u8>)], out: &mut Vec<u8>) -> Result<Carried, PacketError> {
     let mut p = CodecPacketizer::new(Codec::H264);
     let mut d = CodecDepacketizer::new(Codec::H264);

@@ -3,8 +3,8 @@ use Rattle.h26x_model.specs.Send.Calls.{fresh_call}
 use Rattle.h264_payload.specs.H264.{h264}
 use Rattle.h26x_codec.specs.Codec.{fresh_packetizer_state}
 use Rattle.h26x_cases.proofs.CaseLemmas.{fresh_is_one}
-use Rattle.h26x_frames.specs.StampedCalls.{stamped_call}
-use Rattle.h26x_frames.proofs.PastLimitLemmas.{within_same}
+use Rattle.h26x_assembler.specs.StampedCalls.{stamped_call}
+use Rattle.h26x_assembler.proofs.PastLimitLemmas.{within_same}
 use Rattle.h26x_cases.proofs.access_units.a_stream_left.Goals as goal
 
 pub returns : goal.returns

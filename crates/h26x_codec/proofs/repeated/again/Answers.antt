@@ -3,7 +3,7 @@ use Rattle.h26x_model.specs.Send.Calls.{all_entries, all_packets}
 use Rattle.h26x_model.specs.Send.Plan.{units_sent}
 use Rattle.h26x_codec.specs.Codec.{codec_format, fresh_depacketizer_state}
 use Rattle.h26x_codec.specs.Repeating.{zero_rule, starting_packetizer, repeated_call, repeated_calls}
-use Rattle.h26x_codec.proofs.RunLemmas.{if_three}
+use Rattle.h26x_codec.proofs.TransmissionLemmas.{if_three}
 use Rattle.h26x_codec.proofs.AgainLemmas.{cuts_by_its_rule}
 use Rattle.h26x_codec.proofs.repeated.again.Goals as goal
 

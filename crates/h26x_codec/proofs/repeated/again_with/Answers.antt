@@ -12,7 +12,7 @@ use Rattle.h26x_model.specs.Send.PacketizerState.{state_units, state_packets, ne
 use Rattle.h26x_model.specs.Receive.DepacketizerState.{DepacketizerState, units_brought, depacketization}
 use Rattle.h26x_model.specs.Carry.Laws.{DepacketizerGoesOn, calls_like}
 use Rattle.h26x_codec.specs.Codec.{codec_depacketizer_state}
-use Rattle.h26x_codec.proofs.RunLemmas.{fresh_plan, fresh_packets}
+use Rattle.h26x_codec.proofs.TransmissionLemmas.{fresh_plan, fresh_packets}
 use Rattle.h26x_codec.proofs.AgainLemmas.{like_small, written_is, first_refused}
 use Rattle.h26x_codec.proofs.repeated.again_with.Goals as goal
 

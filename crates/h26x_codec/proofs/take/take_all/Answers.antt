@@ -9,7 +9,7 @@ use Rattle.h26x_model.specs.Receive.DepacketizerState.{units_brought, accepted_p
 use Rattle.h26x_model.specs.Receive.Received.{received}
 use Rattle.h26x_model.specs.Carry.Laws.{DepacketizerGoesOn}
 use Rattle.h26x_codec.specs.Codec.{codec_depacketizer_state}
-use Rattle.h26x_codec.proofs.RunLemmas.{work_parts, written_of}
+use Rattle.h26x_codec.proofs.TransmissionLemmas.{work_parts, written_of}
 use Rattle.h26x_codec.proofs.TakeLemmas.{left_by_refusal, taken_with, taken_to_end, kept_by_refusals, front_through}
 use Rattle.h26x_codec.proofs.take.take_all.Goals as goal
 

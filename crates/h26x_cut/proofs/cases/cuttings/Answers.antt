@@ -1,6 +1,6 @@
 use Rattle.std.proofs.Common.{ℕ, List, [], ◌∷◌, refl}
 use Rattle.h26x_cut.specs.declared.ZeroRule.TheVariants.{All, AtMostThree}
-use Rattle.h26x_cut.specs.Cutting.{cut_pieces}
+use Rattle.h26x_cut.specs.Cutting.{cut_segments}
 use Rattle.h26x_cut.proofs.CuttingLemmas.{has_cutting, nothing_held}
 use Rattle.h26x_cut.proofs.cases.cuttings.Goals as goal
 
@@ -16,7 +16,7 @@ returns-clause-one c = (refl, nothing_held)
 pub returns-clause-units : goal.returns-clause-units
 returns-clause-units c =
     let payload : List ℕ = 0xbb ∷ 0 ∷ 0 ∷ 1 ∷ 0xaa ∷ 0 ∷ 0 ∷ 0 ∷ 1 ∷ 0 ∷ 0 ∷ 1 ∷ 0xcc ∷ 0 ∷ [] in
-    (cut_pieces All payload, has_cutting All payload, refl)
+    (cut_segments All payload, has_cutting All payload, refl)
 
 pub returns-clause-place : goal.returns-clause-place
 returns-clause-place c = (0xaa ∷ 0 ∷ [], [], refl, refl)

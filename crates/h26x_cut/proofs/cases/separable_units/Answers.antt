@@ -1,6 +1,6 @@
 use Rattle.std.proofs.Common.{ℕ, List, [], ◌∷◌, refl}
 use Rattle.h26x_cut.specs.declared.ZeroRule.TheVariants.{All}
-use Rattle.h26x_cut.specs.Cutting.{cut_pieces, units_of}
+use Rattle.h26x_cut.specs.Cutting.{cut_segments, units_of}
 use Rattle.h26x_cut.proofs.CuttingLemmas.{has_cutting}
 use Rattle.h26x_cut.proofs.UnitLemmas.{units_whole}
 use Rattle.h26x_cut.proofs.cases.separable_units.Goals as goal
@@ -8,7 +8,7 @@ use Rattle.h26x_cut.proofs.cases.separable_units.Goals as goal
 pub returns-clause-units : goal.returns-clause-units
 returns-clause-units c =
     let payload : List ℕ = 0 ∷ 0 ∷ 1 ∷ 0xaa ∷ 0 ∷ 0 ∷ 1 ∷ 0 ∷ 0 ∷ [] in
-    units_whole All payload (units_of All payload) (cut_pieces All payload, has_cutting All payload, refl)
+    units_whole All payload (units_of All payload) (cut_segments All payload, has_cutting All payload, refl)
 
 pub returns-clause-all : goal.returns-clause-all
 returns-clause-all c =

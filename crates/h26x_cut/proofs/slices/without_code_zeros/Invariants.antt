@@ -4,8 +4,8 @@ use Rattle.h26x_cut.proofs.slices.without_code_zeros.Given as goal
 
 abbrev pub invariant-loop-end : goal.invariant-loop-end
 invariant-loop-end l = record {
-  within : l.end ≤ length l.piece;
-  same : without_zeros (take l.end l.piece) ≡ without_zeros l.piece;
+  within : l.end ≤ length l.segment;
+  same : without_zeros (take l.end l.segment) ≡ without_zeros l.segment;
 }
 
 abbrev pub decreases-loop-end : goal.decreases-loop-end

@@ -1,7 +1,7 @@
 use Rattle.std.proofs.Common.{◌∙◌, ap, sym, subst, ◌++◌, List}
 use Rattle.h26x_model.specs.Payload.Facts.{IsPayloadFormat}
 use Rattle.std.specs.Prelude.{false}
-use Rattle.h26x_frames.specs.AccessUnit.{AccessUnitValue}
+use Rattle.h26x_assembler.specs.AccessUnit.{AccessUnitValue}
 use Rattle.h26x_examples.proofs.laws_met.access_units_of_a_stream.Goals as goal
 
 pub returns : goal.returns

@@ -1,5 +1,5 @@
 use Rattle.std.proofs.Common.{◌∙◌, refl, ap, Option, inl, inr}
-use Rattle.h26x_access_units.specs.ReceivedUnit.{ReceivedUnitValue}
+use Rattle.h26x_access_units.specs.ReceivedAccessUnit.{ReceivedAccessUnitValue}
 use Rattle.h26x_access_units.specs.Reception.{none}
 use Rattle.h26x_handles.specs.UnitsState.{units_state}
 use Rattle.h26x_handles.proofs.UnitCaseLemmas.{not_changed}
@@ -10,7 +10,7 @@ returns-clause-none c = λ now it new lacks. lacks.none
 
 pub returns-clause-stays : goal.returns-clause-stays
 returns-clause-stays c = λ now it new lacks.
-    lacks.stands ∙ ap (λ (left : Option ReceivedUnitValue). units_state it.codec new.reception left) lacks.none
+    lacks.stands ∙ ap (λ (left : Option ReceivedAccessUnitValue). units_state it.codec new.reception left) lacks.none
 
 pub returns-clause-not_due : goal.returns-clause-not_due
 returns-clause-not_due c = λ now it new lacks. not_changed now it new lacks.stands lacks.taken

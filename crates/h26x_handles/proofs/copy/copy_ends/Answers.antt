@@ -9,9 +9,9 @@ overflow_sub-end c =
     let first = c.args.first in
     let n = c.loop-count.count in
     let long = length-drop first packets in
-    let count = c.ends_of.ensures.count in
+    let count = c.packet_ends.ensures.count in
     let within : n < length (drop first packets) = let some = c.loop-count-test.true in omega (arith, some, long, count) in
-    let end = end_from packets c.ends_of.result.now first n c.ends_of.ensures.ends c.requires.first within in
+    let end = end_from packets c.packet_ends.result.now first n c.packet_ends.ensures.ends c.requires.first within in
     let start = c.start_of-start.ensures in
     omega (arith, end, start)
 
@@ -21,9 +21,9 @@ loop-count-preserved c =
     let first = c.args.first in
     let n = c.loop-count.count in
     let long = length-drop first packets in
-    let count = c.ends_of.ensures.count in
+    let count = c.packet_ends.ensures.count in
     let within : n < length (drop first packets) = let some = c.loop-count-test.true in omega (arith, some, long, count) in
-    let end = end_from packets c.ends_of.result.now first n c.ends_of.ensures.ends c.requires.first within in
+    let end = end_from packets c.packet_ends.result.now first n c.packet_ends.ensures.ends c.requires.first within in
     let start = c.start_of-start.ensures in
     let room = c.if-end-room.false in
     let inside = c.loop-count.invariant in
@@ -44,6 +44,6 @@ returns-then-end-room-clause-most c =
     let over = c.if-end-room.true in
     are_most (drop first packets) c.args.room (length c.args.ends.now) n (record { there = inside.packets; fit = rw (← inside.place) inside.fits; ends_fit = inside.fit })
     (λ within room.
-    let end = end_from packets c.ends_of.result.now first n c.ends_of.ensures.ends c.requires.first within in
+    let end = end_from packets c.packet_ends.result.now first n c.packet_ends.ensures.ends c.requires.first within in
     let start = c.start_of-start.ensures in
     omega (arith, end, start, over))

@@ -10,4 +10,4 @@ returns c =
     let last = c.args.place - 1 in
     let same : suc last ≡ c.args.place = omega (arith, some) in
     let end = end_at 0 packets last (omega (arith, some, c.requires.place)) in
-    ap (λ (l : List ℕ). get_or l last 0) c.ends_of.ensures.ends ∙ omega (arith, end) ∙ ap (λ k. length (concat (take k packets))) same
+    ap (λ (l : List ℕ). get_or l last 0) c.packet_ends.ensures.ends ∙ omega (arith, end) ∙ ap (λ k. length (concat (take k packets))) same

@@ -5,15 +5,15 @@ use Rattle.h26x_handles.proofs.headers.set_at.Goals as goal
 
 pub set_between-requires-clause-order : goal.set_between-requires-clause-order
 set_between-requires-clause-order c =
-    (buffer_bounds c.args.packets.now c.args.place c.start_of-start.result c.ends_of.result.now c.bytes_mut-bytes.result.now c.requires.headroom c.requires.place c.start_of-start.ensures c.ends_of.ensures.ends
+    (buffer_bounds c.args.packets.now c.args.place c.start_of-start.result c.packet_ends.result.now c.bytes_mut-bytes.result.now c.requires.headroom c.requires.place c.start_of-start.ensures c.packet_ends.ensures.ends
     c.bytes_mut-bytes.ensures.bytes).0
 
 pub set_between-requires-clause-room : goal.set_between-requires-clause-room
 set_between-requires-clause-room c =
-    (buffer_bounds c.args.packets.now c.args.place c.start_of-start.result c.ends_of.result.now c.bytes_mut-bytes.result.now c.requires.headroom c.requires.place c.start_of-start.ensures c.ends_of.ensures.ends
+    (buffer_bounds c.args.packets.now c.args.place c.start_of-start.result c.packet_ends.result.now c.bytes_mut-bytes.result.now c.requires.headroom c.requires.place c.start_of-start.ensures c.packet_ends.ensures.ends
     c.bytes_mut-bytes.ensures.bytes).1
 
 pub returns : goal.returns
 returns c =
-    buffer_set (with_lowest_header c.args.has_donl) (λ p. (is_headed c.args.has_donl p).len) c.args.packets.now c.args.place c.start_of-start.result c.ends_of.result.now c.bytes_mut-bytes.result.now
-    c.set_between.new.bytes c.requires.headroom c.requires.place c.start_of-start.ensures c.ends_of.ensures.ends c.bytes_mut-bytes.ensures.bytes c.bytes_mut-bytes.ensures.headrooms c.set_between.ensures
+    buffer_set (with_lowest_header c.args.has_donl) (λ p. (is_headed c.args.has_donl p).len) c.args.packets.now c.args.place c.start_of-start.result c.packet_ends.result.now c.bytes_mut-bytes.result.now
+    c.set_between.new.bytes c.requires.headroom c.requires.place c.start_of-start.ensures c.packet_ends.ensures.ends c.bytes_mut-bytes.ensures.bytes c.bytes_mut-bytes.ensures.headrooms c.set_between.ensures

@@ -132,7 +132,7 @@ fn set_up(depacketizer: &mut AnyDepacketizer, alloc: Global, words: &[&str]) -> 
     let settings = Settings::of_words(words)?;
     *depacketizer = AnyDepacketizer::new(alloc, settings.codec);
     depacketizer.with_donl(settings.numbers);
-    depacketizer.with_avc(settings.avc);
+    depacketizer.set_avc(settings.avc);
     hand_rest(depacketizer, alloc, words)
 }
 

@@ -1,8 +1,8 @@
-//! How an end is made, and what stands behind that in a line.
+//! How an endpoint is made, and what stands behind that in a line.
 
 use h26x_codec::Codec;
 
-/// A codec, and the settings of an end.
+/// A codec, and the settings of an endpoint.
 #[derive(Clone, Copy)]
 pub(crate) struct Settings {
     pub codec: Codec,

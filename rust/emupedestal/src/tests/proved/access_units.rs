@@ -1,7 +1,7 @@
 //! A stream as a network brings it, step by step.
 
 use crate::proved::h26x_access_units::{
-    AccessUnitConfig, AccessUnitReceiver, Pushed, ReceivedUnit, Receives,
+    AccessUnitConfig, AccessUnitReceiver, Pushed, ReceivedAccessUnit, Receives,
 };
 use crate::proved::h26x_codec::{AnyDepacketizer, AnyPayloadDepacketizer, Codec};
 use crate::proved::h26x_depacketizer::RunDepacketizer;
@@ -42,7 +42,7 @@ enum Step<'a> {
 }
 
 /// Whether an access unit is the one that is wanted.
-fn is_wanted(unit: &ReceivedUnit, timestamp: u32, len: usize, told: [bool; 3]) -> bool {
+fn is_wanted(unit: &ReceivedAccessUnit, timestamp: u32, len: usize, told: [bool; 3]) -> bool {
     unit.timestamp == timestamp
         && unit.bytes.len() == len
         && unit.is_whole == told[0]

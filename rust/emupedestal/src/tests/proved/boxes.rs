@@ -1,4 +1,4 @@
-//! A caller's own ends in boxes: no box answers for the end that it holds.
+//! A caller's own endpoints in boxes: no box answers for the one that it holds.
 
 use super::{Answer, SHORT, list, told};
 use crate::proved::h26x_codec::{

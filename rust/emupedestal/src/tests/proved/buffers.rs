@@ -30,7 +30,10 @@ fn has(buffer: &PacketBuffer, packets: &str) {
         laid.extend_from_slice(packet);
         ends.push(laid.len());
     }
-    assert_eq!((buffer.bytes(), buffer.ends()), (&laid[..], &ends[..]));
+    assert_eq!(
+        (buffer.bytes(), buffer.packet_ends()),
+        (&laid[..], &ends[..])
+    );
     assert_eq!(
         (buffer.len(), buffer.is_empty()),
         (packets.len(), packets.is_empty())

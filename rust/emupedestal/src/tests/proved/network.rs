@@ -2,7 +2,7 @@
 //! what came of what was sent.
 
 use crate::proved::h26x_core::Packetizer;
-use crate::proved::h26x_frames::{AccessUnit, FrameReceiver, receive_frames};
+use crate::proved::h26x_assembler::{AccessUnit, AccessUnitAssembler, assemble_all};
 use crate::proved::h26x_depacketizer::RunDepacketizer;
 use crate::proved::h26x_receiver::SequencedDepacketizer;
 use crate::proved::h26x_reorder::RtpPacket;
@@ -133,11 +133,11 @@ fn receive<D: RunDepacketizer>(
         })
         .collect();
     let sequenced = SequencedDepacketizer::new(depacketizer, 4_000_000);
-    let mut receiver = FrameReceiver::new(sequenced, 8_000_000);
+    let mut receiver = AccessUnitAssembler::new(sequenced, 8_000_000);
     let mut given = Vec::new();
-    let answers = receive_frames(&mut receiver, 16, &packets, &mut given).expect("memory");
+    let answers = assemble_all(&mut receiver, 16, &packets, &mut given).expect("memory");
     assert!(answers.iter().all(|answer| answer.is_ok()));
-    receiver.end(&mut given).expect("memory");
+    receiver.finish(&mut given).expect("memory");
     given
 }
 

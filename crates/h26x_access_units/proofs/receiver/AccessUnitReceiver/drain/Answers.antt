@@ -1,5 +1,5 @@
 use Rattle.std.proofs.Common.{rules, ◌≡◌, false, map}
-use Rattle.h26x_frames.specs.AccessUnit.{access_unit_value}
+use Rattle.h26x_assembler.specs.AccessUnit.{access_unit_value}
 use Rattle.h26x_access_units.proofs.ReceptionLemmas.{none_more, one_more, none_ended, where_true}
 use Rattle.h26x_access_units.proofs.receiver.AccessUnitReceiver.drain.Goals as goal
 

@@ -1,7 +1,7 @@
 use Rattle.std.proofs.Common.{rules, ◌≡◌, true}
 use Rattle.std.specs.Option.{option_map}
 use Rattle.h26x_reorder.specs.ReorderBuffer.{numbered_packet}
-use Rattle.h26x_frames.specs.Receiver.{frames_at}
+use Rattle.h26x_assembler.specs.Assembler.{assembly_at}
 use Rattle.h26x_access_units.specs.Reception.{reception, is_idle}
 use Rattle.h26x_access_units.proofs.ReceptionLemmas.{idle_next}
 use Rattle.h26x_access_units.proofs.receiver.AccessUnitReceiver.next.Goals as goal
@@ -9,6 +9,6 @@ use Rattle.h26x_access_units.proofs.receiver.AccessUnitReceiver.next.Goals as go
 pub returns-then-is_idle-clause-next : goal.returns-then-is_idle-clause-next
 returns-then-is_idle-clause-next g c =
     let old = c.args.self.now in
-    let s = reception old.waiting (option_map numbered_packet old.stray) old.is_anew (frames_at g.D.RunDepacketizer.state old.frames old.ended.items) old.numbers old.is_clean old.counts old.frames.packets.run_limit old.frames.unit_limit in
+    let s = reception old.waiting (option_map numbered_packet old.stray) old.is_anew (assembly_at g.D.RunDepacketizer.state old.assembler old.ended.items) old.numbers old.is_clean old.counts old.assembler.packets.run_limit old.assembler.unit_limit in
     let idle : is_idle s ≡ true = search rules in
     idle_next c.args.now s idle

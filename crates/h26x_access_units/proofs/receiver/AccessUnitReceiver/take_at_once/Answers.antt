@@ -2,7 +2,7 @@ use Rattle.std.proofs.Common.{rules, ◌≡◌, ◌∙◌, ◌<◌, ap, sym, map
 use Rattle.std.specs.Option.{option_map}
 use Rattle.h26x_reorder.specs.ReorderBuffer.{numbered_packet}
 use Rattle.h26x_reorder.specs.Rtp.{RtpBody}
-use Rattle.h26x_frames.specs.AccessUnit.{access_unit_value, open_depacketization}
+use Rattle.h26x_assembler.specs.AccessUnit.{access_unit_value, open_assembly}
 use Rattle.h26x_access_units.specs.declared.pushed.Pushed.TheVariants as pushes
 use Rattle.h26x_access_units.specs.JitterBuffer.{with_packet, without_due}
 use Rattle.h26x_access_units.specs.Reception.{reception, lacks_memory, after_reception, is_taken_at_once}
@@ -15,7 +15,7 @@ returns-clause-taken g c = λ now.
     let state = g.D.RunDepacketizer.state in
     let it = c.take_noted-received in
     let p = c.args.packet.now in
-    let s = reception old.waiting (option_map numbered_packet old.stray) old.is_anew (open_depacketization (state old.frames.packets.depacketizer) old.frames.packets.expected old.frames.unit (map access_unit_value old.ended.items)) old.numbers old.is_clean old.counts old.frames.packets.run_limit old.frames.unit_limit in
+    let s = reception old.waiting (option_map numbered_packet old.stray) old.is_anew (open_assembly (state old.assembler.packets.depacketizer) old.assembler.packets.expected old.assembler.unit (map access_unit_value old.ended.items)) old.numbers old.is_clean old.counts old.assembler.packets.run_limit old.assembler.unit_limit in
     let lacks : lacks_memory it.result ≡ false = search rules in
     let small : p.0 < 65536 = search rules in
     let is : is_taken_at_once s p.0 ≡ true = search rules in
@@ -27,8 +27,8 @@ returns-clause-taken g c = λ now.
       room = λ bad. absurd (let both = sym (ap lacks_memory bad) ∙ lacks in cc);
       stands = due_stands (after_reception now s p pushes.Held)
           p it.result c.pass.new.self
-          (open_depacketization (state it.new.frames.packets.depacketizer) it.new.frames.packets.expected it.new.frames.unit (map access_unit_value it.new.ended.items))
-          it.new.numbers it.new.counts it.new.frames.packets.run_limit it.new.frames.unit_limit
+          (open_assembly (state it.new.assembler.packets.depacketizer) it.new.assembler.packets.expected it.new.assembler.unit (map access_unit_value it.new.ended.items))
+          it.new.numbers it.new.counts it.new.assembler.packets.run_limit it.new.assembler.unit_limit
           (c.pass.ensures now p.1 ∙ ap (λ (q : ℕ × RtpBody). without_due (with_packet now s.waiting (q.0, p.1))) c.packet.view_is)
           (it.ensures.after lacks) (it.ensures.numbers lacks) (it.ensures.counts lacks) it.ensures.limit it.ensures.unit_limit;
     }

@@ -2,7 +2,7 @@ use Rattle.std.proofs.Common.{rules, ◌≡◌, ◌∙◌, ap, sym, map, ℕ, fa
 use Rattle.std.specs.Option.{option_map}
 use Rattle.h26x_reorder.specs.ReorderBuffer.{numbered_packet}
 use Rattle.h26x_reorder.specs.Rtp.{RtpBody}
-use Rattle.h26x_frames.specs.AccessUnit.{access_unit_value, open_depacketization}
+use Rattle.h26x_assembler.specs.AccessUnit.{access_unit_value, open_assembly}
 use Rattle.h26x_access_units.specs.Reception.{reception, lacks_memory}
 use Rattle.h26x_access_units.proofs.ReceptionLemmas.{due_stands}
 use Rattle.h26x_access_units.proofs.receiver.AccessUnitReceiver.take_due.Goals as goal
@@ -20,9 +20,9 @@ returns-clause-taken g c =
       answered = it.ensures.answer;
       room = λ bad. absurd (let both = sym (ap lacks_memory bad) ∙ lacks in cc);
       stands = due_stands
-          (reception old.waiting (option_map numbered_packet old.stray) old.is_anew (open_depacketization (state old.frames.packets.depacketizer) old.frames.packets.expected old.frames.unit (map access_unit_value old.ended.items)) old.numbers old.is_clean old.counts old.frames.packets.run_limit old.frames.unit_limit)
+          (reception old.waiting (option_map numbered_packet old.stray) old.is_anew (open_assembly (state old.assembler.packets.depacketizer) old.assembler.packets.expected old.assembler.unit (map access_unit_value old.ended.items)) old.numbers old.is_clean old.counts old.assembler.packets.run_limit old.assembler.unit_limit)
           c.packet-packet.result it.result c.drop_first.new.self
-          (open_depacketization (state it.new.frames.packets.depacketizer) it.new.frames.packets.expected it.new.frames.unit (map access_unit_value it.new.ended.items))
-          it.new.numbers it.new.counts it.new.frames.packets.run_limit it.new.frames.unit_limit
+          (open_assembly (state it.new.assembler.packets.depacketizer) it.new.assembler.packets.expected it.new.assembler.unit (map access_unit_value it.new.ended.items))
+          it.new.numbers it.new.counts it.new.assembler.packets.run_limit it.new.assembler.unit_limit
           c.drop_first.ensures (it.ensures.after lacks) (it.ensures.numbers lacks) (it.ensures.counts lacks) it.ensures.limit it.ensures.unit_limit;
     }

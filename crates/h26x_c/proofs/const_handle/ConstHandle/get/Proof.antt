@@ -30,7 +30,7 @@ use types.Run.{addr, blocks, enter, exec, first, fld, load, of_opd, returns, sto
 use types.Tokens.{bor_fracture, bor_new}
 use Rattle.std.proofs.raw_atomic.Walks.{proved}
 use Rattle.h26x_c.proofs.LoanLemmas.{B, Words, handle_cuts, lends_again}
-use Rattle.h26x_c.specs.Owned.{end_lent}
+use Rattle.h26x_c.specs.Owned.{endpoint_lent}
 use Rattle.h26x_handles.specs.contracts.endpoint.Endpoint as held
 use Rattle.h26x_handles.proofs.endpoint.Endpoint.TheLaws as held_laws
 use Rattle.h26x_c.specs.contracts.const_handle.ConstHandle as handle
@@ -66,8 +66,8 @@ get_spec 𝓤 𝓛 𝓜 𝓡 wired =
     split ! $ split ! $ move ! (2 ∷ []) $ split ! $ keep ! (0 ∷ 2 ∷ []) $
     enter ! _ _ _ _ _ $ alloc_all ! (λ l. pass_all ! refl ((tt, tt), tt) $
     fsplit ! $ drop ! $ shr_open ! tt Φ (one Φ) (Opened-one 𝓛 Φ (Cuts-Halves 𝓛 Φ (handle_cuts 𝓛 h b o))) (λ share. move ! (1 ∷ []) $
-    use1 𝓛 (‵ (part_at Words share fields b o) ⊛ ‵ (end_lent h.life p x)) (part_out 𝓛 handle.the_type share h b o) $ split ! $ move ! (1 ∷ []) $
-    use1 𝓛 (‵ (end_lent h.life p x) ⊛ ‵ (end_lent h.life p x)) (lends_again 𝓛 h.life p x) $ split ! $
+    use1 𝓛 (‵ (part_at Words share fields b o) ⊛ ‵ (endpoint_lent h.life p x)) (part_out 𝓛 handle.the_type share h b o) $ split ! $ move ! (1 ∷ []) $
+    use1 𝓛 (‵ (endpoint_lent h.life p x) ⊛ ‵ (endpoint_lent h.life p x)) (lends_again 𝓛 h.life p x) $ split ! $
     -- what it holds, lent for the lifetime of the `&`
     fsplit ! $ fpick ! (λ part. bor_new ! tt κ $ bor_fracture ! tt (λ r. flft life r) part $ move ! (0 ∷ 2 ∷ []) $
     use2 𝓛 (‵ (Loan κ)) (moves_from 𝓛 Loan laws κ life life (meet_⊑_left life κ)) $

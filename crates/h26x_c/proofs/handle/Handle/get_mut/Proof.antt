@@ -31,7 +31,7 @@ use Rattle.std.specs.Borrow.{MutBor}
 use Rattle.std.proofs.raw_atomic.Walks.{proved}
 use Rattle.std_heap.specs.contracts.GlobalAllocator.TheImpl.{ghosts}
 use Rattle.h26x_c.specs.Lent.{handle_with}
-use Rattle.h26x_c.specs.Owned.{end_owned}
+use Rattle.h26x_c.specs.Owned.{endpoint_owned}
 use Rattle.h26x_handles.specs.contracts.endpoint.Endpoint as held
 use Rattle.h26x_c.specs.contracts.handle.Handle as handle
 use Rattle.h26x_c.specs.contracts.handle.Handle.get_mut as f
@@ -63,7 +63,7 @@ module _ {M : Type 1} {𝓤 : Ura M} (𝓛 : Logic 𝓤) (h : B.Denot) (us : Lis
   whole_again at_b x =
       qed 𝓛 (‵ (part_at R full_share x b o) ∷ ‵ (rest h us rb ro b o) ∷ []) ∵ move ! (1 ∷ []) $ fsplit ! $ move ! (1 ∷ []) $ fsplit ! $
       -- [the fields; the cell; the token; what the block holds]
-      move ! (3 ∷ 2 ∷ []) $ fjoin ! $ rewrite ! 0 (λ (p : Ptr). ‵ (end_owned h.alloc p x)) (sym at_b) refl $
+      move ! (3 ∷ 2 ∷ []) $ fjoin ! $ rewrite ! 0 (λ (p : Ptr). ‵ (endpoint_owned h.alloc p x)) (sym at_b) refl $
       move ! (1 ∷ 0 ∷ []) $ fjoin ! $ move ! (1 ∷ 0 ∷ []) $ fjoin ! $
       fpack ! (List Val) (λ ws. fsep (cell_at full_share B.mir ws rb ro) (B.own_val (handle_with h x) ws)) us $ done !
 
@@ -79,7 +79,7 @@ get_mut_spec 𝓤 𝓛 𝓜 𝓡 wired =
     split ! $ split ! $ move ! (2 ∷ []) $ split ! $ keep ! (0 ∷ 2 ∷ []) $
     enter ! _ _ _ _ _ $ alloc_all ! (λ l. pass_all ! refl ((tt, tt), tt) $
     fsplit3 ! $ drop ! $ opens ! tt B rb ro (λ us. move ! (1 ∷ []) $ peeks ! B _ (shows 𝓛 B) h us (λ is. fsplit ! $ move ! (1 ∷ []) $
-    in_a_block ! h.ptr (λ p. end_owned h.alloc p h.value) (fst∗ 𝓤 (never 𝓤) (sem 𝓛 (token h null_ptr))) (λ b o at_b. fsplit ! $
+    in_a_block ! h.ptr (λ p. endpoint_owned h.alloc p h.value) (fst∗ 𝓤 (never 𝓤) (sem 𝓛 (token h null_ptr))) (λ b o at_b. fsplit ! $
     -- [what the block holds; the token; the fields; the cell; the open borrow, in three entries]
     let Cell = λ (ws : List Val). ‵ (cell_at full_share B.mir ws rb ro) in
     let stored = lowers.val_is h us is ∙ ap (λ (p : Ptr). lowers.lowered (record h { ptr = p }) ∷ []) at_b in

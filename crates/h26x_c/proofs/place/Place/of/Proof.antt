@@ -63,16 +63,16 @@ abbrev B : RattleType
 B = box.the_row held.the_row heap.the_row ghosts
 
 -- an end has one
-abbrev drops_end : Dict
-drops_end = impl (#end ∷ []) tnil dnil
+abbrev drops_endpoint : Dict
+drops_endpoint = impl (#end ∷ []) tnil dnil
 
 abbrev stayed : Stays f.ended.signature.params f.ended.kept
 stayed = (stay_dropped (plain (λ _. B)) yes, tt)
 
 -- an end's drop, as a generic function takes it
-drops_it : {M : Type 1} (𝓤 : Ura M) (𝓛 : Logic 𝓤) (𝓜 : Model 𝓤 𝓛.H) (𝓡 : Running 𝓤 𝓛.H 𝓜) → Wired 𝓡.env dropping.code → glue.Met 𝓛 𝓜 𝓡 𝓡.env X drops_end
+drops_it : {M : Type 1} (𝓤 : Ura M) (𝓛 : Logic 𝓤) (𝓜 : Model 𝓤 𝓛.H) (𝓡 : Running 𝓤 𝓛.H 𝓜) → Wired 𝓡.env dropping.code → glue.Met 𝓛 𝓜 𝓡 𝓡.env X drops_endpoint
 drops_it 𝓤 𝓛 𝓜 𝓡 wired =
-    let k = method drops_end 0 no_args in let run = 𝓡.run (𝓡.env k) in let fm = run_framed 𝓤 𝓛.H 𝓜 𝓡 (𝓡.env k) in
+    let k = method drops_endpoint 0 no_args in let run = 𝓡.run (𝓡.env k) in let fm = run_framed 𝓤 𝓛.H 𝓜 𝓡 (𝓡.env k) in
     let c = drop_of.spec 𝓛 𝓜.mem 𝓡.returns in
     let said : Spec 𝓤 (glue.signature X) = λ κs a. record { ghost = Unit {0}; requires = λ _. sep 𝓤 (fact 𝓤 (κs.0 ⊑ X.lives)) (emp 𝓤); ensures = λ x r. (c tt a).ensures x r } in
     beside 𝓛 (glue.signature X) run fm said (glue.spent 𝓛 X) (λ κs a x. x) (λ κs a x. emp 𝓤)
@@ -85,8 +85,8 @@ pub of_spec : {M : Type 1} → statement M
 unfolding Rattle.h26x_c.proofs.Destruct++none.drop.Code.code
 of_spec {M} 𝓤 𝓛 𝓜 𝓡 wired =
     let c = f.clauses 𝓛 𝓜.mem 𝓡.returns in let W = walk_of 𝓛 f.ended stayed c in let 𝓣 = tables 𝓤 𝓛.H 𝓜 𝓡 𝓡.env in
-    let G = triple_of 𝓛 (g.signature X Z ghosts dict drops drops_end) (g.spec X Z ghosts dict drops drops_end 𝓛 𝓜.mem 𝓡.returns) in
-    let opens = met 𝓤 𝓛 𝓜 𝓡 (code.calls-std_alloc::boxed::Box::into_raw_with_allocator 𝓡.env wired) X Z X_laws Z_laws ghosts dict drops drops_end
+    let G = triple_of 𝓛 (g.signature X Z ghosts dict drops drops_endpoint) (g.spec X Z ghosts dict drops drops_endpoint 𝓛 𝓜.mem 𝓡.returns) in
+    let opens = met 𝓤 𝓛 𝓜 𝓡 (code.calls-std_alloc::boxed::Box::into_raw_with_allocator 𝓡.env wired) X Z X_laws Z_laws ghosts dict drops drops_endpoint
     (passed 𝓡.env (code.calls-std_heap::GlobalAllocator::allocate 𝓡.env wired) (code.calls-std_heap::GlobalAllocator::deallocate 𝓡.env wired) (code.calls-std_heap::GlobalAllocator::grow 𝓡.env wired) (code.calls-std_heap::GlobalAllocator::shrink 𝓡.env wired) M 𝓤 𝓛 𝓜 𝓡)
     (glues #none 𝓡.env (code.calls-h26x_c::Destruct++none::drop 𝓡.env wired) Z Z_laws M 𝓤 𝓛 𝓜 𝓡)
     (drops_it 𝓤 𝓛 𝓜 𝓡 (code.calls-h26x_c::h26x_handles++endpoint++Endpoint+Destruct::drop 𝓡.env wired)) in

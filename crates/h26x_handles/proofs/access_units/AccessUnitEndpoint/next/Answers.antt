@@ -1,6 +1,6 @@
 use Rattle.std.proofs.Common.{rules, ◌≡◌, Some, None}
 use Rattle.std.specs.Option.{option_map}
-use Rattle.h26x_access_units.specs.ReceivedUnit.{received_unit_value}
+use Rattle.h26x_access_units.specs.ReceivedAccessUnit.{received_unit_value}
 use Rattle.h26x_handles.proofs.AccessUnitLemmas.{kept_given, next_given}
 use Rattle.h26x_handles.proofs.access_units.AccessUnitEndpoint.next.Goals as goal
 

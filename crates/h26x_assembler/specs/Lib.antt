@@ -1,0 +1,5 @@
+pub mod Network
+pub mod AccessUnit
+pub mod StampedCalls
+pub mod AnyUnits
+pub mod Assembler

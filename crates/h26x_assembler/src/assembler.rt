@@ -1,0 +1,316 @@
+//! An assembler that gives out access units.
+
+ghost use Rattle.std.specs.Prelude.{◌≡◌, ◌+◌, ◌≤◌, ℕ, true, false, None, Ok, Err, OnOk, OnErr, vec_len, vec_capacity};
+ghost use Rattle.h26x_receiver.specs.Sequenced.{skip_answer, is_run_kept, IfTaken, UnlessTaken};
+ghost use Rattle.h26x_assembler.specs.declared.access_unit.AccessUnit.{AccessUnit};
+ghost use Rattle.h26x_assembler.specs.AccessUnit.{none_open, is_unit_at, IsAssemblyAnswer, after_taken_rtp, after_unit_skip, after_pass_over, after_finishing, unit_len, is_text_given_up, parts_at, IsTakenAnswerAt};
+ghost use Rattle.h26x_assembler.specs.Assembler.{assembly_at, after_receiving, gives_text_up, IsNumberPassed};
+ghost use Rattle.h26x_depacketizer.specs.RunDepacketizer.{RunStaysWithin};
+
+use crate::access_unit::{AccessUnit, AccessUnitSoFar, OpenAccessUnit};
+use crate::answers::{is_sound, was_taken};
+use crate::spare::SpareMemory;
+use h26x_core::{PacketError, is_next};
+use h26x_depacketizer::RunDepacketizer;
+use h26x_receiver::{Received, SequencedDepacketizer};
+use h26x_reorder::RtpPacket;
+use std::alloc::Global;
+
+/// Takes a packet into the access unit that was open.
+fn go_on<D: RunDepacketizer>(
+    packets: &mut SequencedDepacketizer<D>,
+    place: &mut OpenAccessUnit,
+    packet: &RtpPacket<'_>,
+    out: &mut Vec<AccessUnit>,
+) -> Result<Received, PacketError>
+    requires same { is_unit_at place.old.unit packet.now.1.timestamp ≡ true }
+    requires room { vec_len out.old + 2 ≤ vec_capacity out.old }
+    ensures answer { IsTakenAnswerAt D.state packets.old place.old out.old.items packet.now result }
+    ensures after { IfTaken result (parts_at D.state packets.new place.new out.new.items
+        ≡ after_taken_rtp packets.old.run_limit (parts_at D.state packets.old place.old
+        out.old.items) packet.now) }
+    ensures rest { IfTaken result (packets.new.depacketizer
+        ≡ D.having_taken packet.now.1.payload packets.old.depacketizer) }
+    ensures limit { packets.new.run_limit ≡ packets.old.run_limit }
+    ensures bounded { RunStaysWithin packets.old.run_limit place.old.run place.new.run }
+    ensures kept { UnlessTaken result ((packets.new ≡ packets.old)
+        × (place.new ≡ place.old) × (out.new.items ≡ out.old.items)) }
+{
+    if packet.marker {
+        place.go_on_to_end(packets, packet, out)
+    } else {
+        place.go_on(packets, packet)
+    }
+}
+
+/// Takes a packet as the first of an access unit: the one that is open ends.
+fn begin<D: RunDepacketizer>(
+    packets: &mut SequencedDepacketizer<D>,
+    place: &mut OpenAccessUnit,
+    spare: &mut SpareMemory,
+    packet: &RtpPacket<'_>,
+    out: &mut Vec<AccessUnit>,
+) -> Result<Received, PacketError>
+    requires other { is_unit_at place.old.unit packet.now.1.timestamp ≡ false }
+    requires room { vec_len out.old + 2 ≤ vec_capacity out.old }
+    ensures answer { IsTakenAnswerAt D.state packets.old place.old out.old.items packet.now result }
+    ensures after { IfTaken result (parts_at D.state packets.new place.new out.new.items
+        ≡ after_taken_rtp packets.old.run_limit (parts_at D.state packets.old place.old
+        out.old.items) packet.now) }
+    ensures rest { IfTaken result (packets.new.depacketizer
+        ≡ D.having_taken packet.now.1.payload packets.old.depacketizer) }
+    ensures limit { packets.new.run_limit ≡ packets.old.run_limit }
+    ensures bounded { RunStaysWithin packets.old.run_limit place.old.run place.new.run }
+    ensures kept { UnlessTaken result ((packets.new ≡ packets.old)
+        × (place.new ≡ place.old) × (out.new.items ≡ out.old.items)) }
+{
+    let follows = place.follows(packets.expected, packet);
+    let mut unit = AccessUnitSoFar::new(spare.remove(), packet.timestamp);
+    let len = unit.text.len();
+    let received = packets.receive_in_text(
+        packet.sequence,
+        packet.payload,
+        !packet.marker,
+        &mut unit.text,
+        &mut unit.extra,
+    );
+    if !was_taken(&received) {
+        spare.keep(unit.text.into_text(), usize::MAX);
+        return received;
+    }
+    let is_dropped = unit.is_dropped(len);
+    let is_sound = is_sound(follows, is_dropped, &received);
+    place.finish(follows, out);
+    place.put(unit, is_sound, packet.marker, out);
+    received
+}
+
+/// Takes a packet, and appends the access units that it ends.
+fn take<D: RunDepacketizer>(
+    packets: &mut SequencedDepacketizer<D>,
+    place: &mut OpenAccessUnit,
+    spare: &mut SpareMemory,
+    packet: &RtpPacket<'_>,
+    out: &mut Vec<AccessUnit>,
+) -> Result<Received, PacketError>
+    requires room { vec_len out.old + 2 ≤ vec_capacity out.old }
+    ensures answer { IsTakenAnswerAt D.state packets.old place.old out.old.items packet.now result }
+    ensures after { IfTaken result (parts_at D.state packets.new place.new out.new.items
+        ≡ after_taken_rtp packets.old.run_limit (parts_at D.state packets.old place.old
+        out.old.items) packet.now) }
+    ensures rest { IfTaken result (packets.new.depacketizer
+        ≡ D.having_taken packet.now.1.payload packets.old.depacketizer) }
+    ensures limit { packets.new.run_limit ≡ packets.old.run_limit }
+    ensures bounded { RunStaysWithin packets.old.run_limit place.old.run place.new.run }
+    ensures kept { UnlessTaken result ((packets.new ≡ packets.old)
+        × (place.new ≡ place.old) × (out.new.items ≡ out.old.items)) }
+{
+    if place.is_at(packet.timestamp) {
+        go_on(packets, place, packet, out)
+    } else {
+        begin(packets, place, spare, packet, out)
+    }
+}
+
+/// Gives out access units, by the timestamps and markers of RTP packets (RFC 3550, 5.1), over a
+/// [`SequencedDepacketizer`]: nothing of a unit of which a packet is missing, and of each access unit
+/// whether it is known to be whole.
+///
+/// ```rust
+/// let depacketizer = H264Depacketizer::new(alloc);
+/// let packets = SequencedDepacketizer::new(alloc, depacketizer, 4_000_000);
+/// let mut assembler = AccessUnitAssembler::new(alloc, packets, 8_000_000);
+/// let packet = RtpPacket { sequence, timestamp, marker, payload };
+/// assembler.receive(&packet, &mut units)?;
+/// for unit in units.drain(..) {
+///     decode(unit.timestamp, &unit.bytes, unit.is_whole);
+/// }
+/// ```
+#[derive(Debug, Drop)]
+pub struct AccessUnitAssembler<D: RunDepacketizer> {
+    /// The depacketizer, with the sequence number that is expected next and the limit on its open
+    /// run. Where the peer tells the number of its first packet, as in the RTP-Info of RTSP (RFC
+    /// 2326, 12.33), set `expected` to it: the first access unit can then be known to be whole too.
+    pub packets: SequencedDepacketizer<D>,
+    /// The access unit that is open, with the open run in its text.
+    pub unit: OpenAccessUnit,
+    /// How many bytes the text of an open access unit may hold from a packet to the next.
+    pub unit_limit: usize,
+    /// Whether the last packet that was taken left a text that was longer, which was given up.
+    pub is_text_given_up: bool,
+    spare: SpareMemory,
+}
+
+impl<D: RunDepacketizer> AccessUnitAssembler<D> {
+    /// An assembler for which no access unit is open; from a packet to the next the text of one
+    /// that is may hold `unit_limit` bytes. The open run stands in the access unit; one that is
+    /// open in the depacketizer itself stays there, and is not used. It takes no memory.
+    pub fn new(alloc: Global, packets: SequencedDepacketizer<D>, unit_limit: usize) -> Self
+        ensures packets { result.packets ≡ packets }
+        ensures unit { result.unit ≡ none_open }
+        ensures limit { result.unit_limit ≡ unit_limit }
+        ensures text { result.is_text_given_up ≡ false }
+    {
+        AccessUnitAssembler {
+            packets,
+            unit: OpenAccessUnit::none(alloc),
+            unit_limit,
+            is_text_given_up: false,
+            spare: SpareMemory::none(alloc),
+        }
+    }
+
+    /// Takes a packet, and appends the access units that it ends to `out`: another timestamp ends the
+    /// one that is open, and gives up the open run, and the marker ends that of the packet itself; so
+    /// there are two at most.
+    ///
+    /// The answer is that of [`SequencedDepacketizer::receive`]. A packet that is late, comes twice
+    /// or is refused changes nothing, nor `out`: it is as if it had not come, and one refused for
+    /// want of memory can be given again. The errors are those of the depacketizer.
+    ///
+    /// The open run is within its limit after each packet, and so is the text of the access unit that
+    /// is open: where it is longer, as where a peer sends neither a marker nor another timestamp, it
+    /// is given up (`is_text_given_up`), and what follows of that access unit is not told to be whole.
+    pub fn receive(
+        &mut self,
+        packet: &RtpPacket<'_>,
+        out: &mut Vec<AccessUnit>,
+    ) -> Result<Received, PacketError>
+        // What is answered, and what stands afterwards.
+        ensures answer { IsAssemblyAnswer self.old.packets.run_limit
+            (assembly_at D.state self.old out.old.items) packet.now result }
+        ensures after { assembly_at D.state self.new out.new.items
+            ≡ after_receiving D.state self.old out.old.items packet.now result }
+        ensures rest { IfTaken result (self.new.packets.depacketizer
+            ≡ D.having_taken packet.now.1.payload self.old.packets.depacketizer) }
+        ensures limit { self.new.packets.run_limit ≡ self.old.packets.run_limit }
+        ensures unit_limit { self.new.unit_limit ≡ self.old.unit_limit }
+
+        // The open run is within its limit, and the open access unit within its own.
+        ensures bounded { RunStaysWithin self.old.packets.run_limit self.old.unit.run
+            self.new.unit.run }
+        ensures bounded_unit { unit_len self.old.unit.unit ≤ self.old.unit_limit →
+            unit_len self.new.unit.unit ≤ self.old.unit_limit }
+
+        // Whether it wasn't, so that its text was given up.
+        ensures text { IfTaken result (self.new.is_text_given_up
+            ≡ gives_text_up D.state self.old out.old.items packet.now) }
+
+        // A late packet and a refusal leave everything.
+        ensures late { (n : ℕ) → result ≡ Ok (Received.Late n) → self.new ≡ self.old }
+        ensures late_out { (n : ℕ) → result ≡ Ok (Received.Late n) →
+            out.new.items ≡ out.old.items }
+        ensures kept { OnErr result (self.new ≡ self.old) }
+        ensures kept_out { OnErr result (out.new.items ≡ out.old.items) }
+    {
+        out.reserve(2)?;
+        let (packets, unit, spare) = (&mut self.packets, &mut self.unit, &mut self.spare);
+        let received = take(packets, unit, spare, packet, out);
+        if was_taken(&received) {
+            self.is_text_given_up = self.unit.limit(self.unit_limit);
+        }
+        received
+    }
+
+    /// Passes over a number that came and bears nothing of the stream, as
+    /// [`SequencedDepacketizer::skip`] does: in order the open run and access unit stay. Where others
+    /// before it are missing (`Gap`) the open run is given up, and neither the open access unit nor one
+    /// that the next packet begins is known to be whole. One that is late changes nothing. It takes no
+    /// memory.
+    pub fn skip(&mut self, sequence: u16) -> Received
+        ensures answer { result ≡ skip_answer self.old.packets.expected sequence }
+        ensures after { IsNumberPassed after_unit_skip D.state self.old sequence self.new }
+        ensures rest { self.new.packets.depacketizer ≡ self.old.packets.depacketizer }
+        ensures limit { self.new.packets.run_limit ≡ self.old.packets.run_limit }
+        ensures unit_limit { self.new.unit_limit ≡ self.old.unit_limit }
+        ensures text { self.new.is_text_given_up ≡ self.old.is_text_given_up }
+
+        // In order, or late, what is open stays.
+        ensures kept { is_run_kept self.old.packets.expected sequence ≡ true →
+            self.new.unit ≡ self.old.unit }
+    {
+        let is_next = is_next(self.packets.expected, sequence);
+        let received = self.packets.skip_in_text(sequence);
+        if received.is_taken() && !is_next {
+            self.unit.break_off();
+        }
+        received
+    }
+
+    /// Passes over a number whose packet was refused, so that it is expected no more: the open run is
+    /// given up, and neither the open access unit nor one that the next packet begins is known to be
+    /// whole. The answer says how many are missing before it; where it is late nothing changes. It
+    /// takes no memory.
+    pub fn pass_over(&mut self, sequence: u16) -> Received
+        ensures answer { result ≡ skip_answer self.old.packets.expected sequence }
+        ensures after { IsNumberPassed after_pass_over D.state self.old sequence self.new }
+        ensures rest { self.new.packets.depacketizer ≡ self.old.packets.depacketizer }
+        ensures limit { self.new.packets.run_limit ≡ self.old.packets.run_limit }
+        ensures unit_limit { self.new.unit_limit ≡ self.old.unit_limit }
+        ensures text { self.new.is_text_given_up ≡ self.old.is_text_given_up }
+    {
+        let received = self.packets.skip_in_text(sequence);
+        if received.is_taken() {
+            self.unit.break_off();
+        }
+        received
+    }
+
+    /// Forgets that a marker ended the last access unit, so that one of its timestamp that goes on
+    /// right behind it may be known to be whole too: for a caller who asks that of each part, as where
+    /// a sender sets the marker on each slice. It takes no memory.
+    #[inline]
+    pub fn forget_marker(&mut self)
+        ensures { self.new ≡ record self.old { unit = record self.old.unit { closed = None } } }
+    {
+        self.unit.forget_marker();
+    }
+
+    /// At the end of a stream: appends the access unit that is open, which isn't known to be whole,
+    /// and gives up the open run. Any sequence number may be the next.
+    ///
+    /// Without memory the error is `OutOfMemory`, and everything is left.
+    pub fn finish(&mut self, out: &mut Vec<AccessUnit>) -> Result<(), PacketError>
+        ensures after { OnOk result (assembly_at D.state self.new out.new.items ≡ after_finishing
+            (assembly_at D.state self.old out.old.items)) }
+        ensures rest { OnOk result (self.new.packets.depacketizer
+            ≡ D.with_run None self.old.packets.depacketizer) }
+        ensures limit { self.new.packets.run_limit ≡ self.old.packets.run_limit }
+        ensures unit_limit { self.new.unit_limit ≡ self.old.unit_limit }
+        ensures text { self.new.is_text_given_up ≡ self.old.is_text_given_up }
+        ensures memory { OnErr result (result ≡ Err PacketError.OutOfMemory) }
+        ensures kept { OnErr result (self.new ≡ self.old) }
+        ensures kept_out { OnErr result (out.new.items ≡ out.old.items) }
+    {
+        out.reserve(1)?;
+        self.unit.finish(false, out);
+        self.packets.restart();
+        Ok(())
+    }
+
+    /// Drops the access unit that is open, gives up the open run, and takes any sequence number as
+    /// the next: for a peer that begins anew, whose packets are late one after the other. It takes no
+    /// memory.
+    pub fn restart(&mut self)
+        ensures depacketizer { self.new.packets.depacketizer
+            ≡ D.with_run None self.old.packets.depacketizer }
+        ensures expected { self.new.packets.expected ≡ None }
+        ensures limit { self.new.packets.run_limit ≡ self.old.packets.run_limit }
+        ensures unit_limit { self.new.unit_limit ≡ self.old.unit_limit }
+        ensures unit { self.new.unit ≡ none_open }
+        ensures text { self.new.is_text_given_up ≡ self.old.is_text_given_up }
+    {
+        self.packets.restart();
+        let alloc = self.spare.allocator();
+        self.unit = OpenAccessUnit::none(alloc);
+    }
+
+    /// Takes back an access unit that was given out, for its memory: a later one is written there. Of
+    /// those that are given back the one with the most room is kept, until one begins; none with room
+    /// for more than `unit_limit` bytes.
+    pub fn give_back(&mut self, unit: AccessUnit)
+        ensures { self.new ≡ self.old }
+    {
+        self.spare.keep(unit.bytes, self.unit_limit);
+    }
+}

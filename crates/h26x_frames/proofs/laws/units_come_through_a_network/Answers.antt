@@ -1,5 +1,0 @@
-use Rattle.h26x_frames.proofs.NetworkLemmas.{come_through}
-use Rattle.h26x_frames.proofs.laws.units_come_through_a_network.Goals as goal
-
-pub returns : goal.returns
-returns c = λ window most w some half ok. come_through window most w some half ok c.those_that_came_are_written.ensures

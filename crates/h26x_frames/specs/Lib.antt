@@ -1,5 +1,0 @@
-pub mod Network
-pub mod AccessUnit
-pub mod StampedCalls
-pub mod AnyUnits
-pub mod Receiver

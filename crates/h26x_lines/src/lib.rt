@@ -1,0 +1,17 @@
+//! Lines that cut payloads of H.264, H.265 and H.266 into RTP payloads and put them together, and
+//! the answers to them. `src/line.rt` says what the lines are.
+#![tactic(auto)]
+
+pub mod answers;
+mod cases;
+pub mod digits;
+mod error;
+mod from_digits;
+pub mod laws;
+mod line;
+mod session;
+mod settings;
+mod to_digits;
+
+pub use error::SessionError;
+pub use session::answer_all;
