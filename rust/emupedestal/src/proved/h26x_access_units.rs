@@ -2,7 +2,7 @@
 
 //! RTP packets as they come from a network, in any order, some lost and some twice, and out of them
 //! access units of H.264, H.265 or H.266, one after the other: a jitter buffer with a window, a time
-//! and a limit on bytes before a receiver of access units.
+//! and a limit on bytes before an assembler.
 mod arrival;
 mod config;
 mod counts;
@@ -16,7 +16,7 @@ pub use arrival::Arrival;
 pub use config::AccessUnitConfig;
 pub use counts::Counts;
 pub use jitter::JitterBuffer;
-pub use numbers::UnitNumbers;
+pub use numbers::AccessUnitNumbers;
 pub use pushed::{NotPushed, NotPushedReason, Pushed};
 pub use receiver::{AccessUnitReceiver, Receives};
-pub use unit::ReceivedUnit;
+pub use unit::ReceivedAccessUnit;

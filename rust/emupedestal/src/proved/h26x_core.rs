@@ -8,6 +8,7 @@ mod h265_words;
 pub mod h266_types;
 mod h266_words;
 mod pieces;
+mod sequence;
 mod traits;
 
 pub use constants::{
@@ -21,4 +22,5 @@ pub use extra::{CodecExtra, H264CodecExtra, H265CodecExtra, H266CodecExtra};
 pub use h265_words::{H265FragmentationUnitHeader, H265NALUHeader, H265TSCI};
 pub use h266_words::{H266FragmentationUnitHeader, H266NALUHeader};
 pub(crate) use pieces::first_piece;
+pub use sequence::is_next;
 pub use traits::{Depacketizer, Packetizer};

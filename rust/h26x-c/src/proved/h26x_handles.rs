@@ -11,7 +11,6 @@ pub mod copy;
 pub mod endpoint;
 pub mod headers;
 pub mod kept_parameters;
-pub mod packetizer;
 pub mod receiving;
 pub mod sdp;
 pub mod sdp_code;

@@ -2,7 +2,7 @@
 
 //! NAL units from H.264 packets (RFC 6184, 5 and 7).
 
-use crate::proved::h26x_payload::PayloadDepacketizer;
+use crate::proved::h26x_depacketizer::PayloadDepacketizer;
 use crate::proved::h264_payload::codec::H264;
 
 /// Writes the units of packets (RFC 6184, 5 and 7), each behind a start code, or behind its length

@@ -6,7 +6,7 @@ use crate::proved::h26x_core::{
     FU_START_BITMASK, FUA_HEADER_SIZE, FUA_NALU_TYPE, IDR_NALU_TYPE, NALU_TYPE_BITMASK,
     STAPA_HEADER_SIZE, STAPA_NALU_TYPE,
 };
-use crate::proved::h26x_payload::Aggregate;
+use crate::proved::h26x_depacketizer::Aggregate;
 use crate::proved::h264_payload::codec::H264;
 
 /// The type of a unit (RFC 6184, 1.3); 0 where it is empty.

@@ -6,7 +6,7 @@ use crate::proved::h26x_core::{
     FU_START_BITMASK, FUA_HEADER_SIZE, FUA_NALU_TYPE, FUB_NALU_TYPE, NALU_TYPE_BITMASK,
     PacketError, STAPA_HEADER_SIZE, STAPA_NALU_TYPE,
 };
-use crate::proved::h26x_payload::{Fragment, PacketReader, Parts};
+use crate::proved::h26x_depacketizer::{Fragment, PacketReader, Parts};
 use crate::proved::h264_payload::codec::H264;
 use crate::proved::h264_payload::stap::check_stap;
 

@@ -9,7 +9,8 @@ use crate::proved::h26x_core::{
     STAPA_HEADER_SIZE,
 };
 use crate::proved::h26x_cut::{UnitSlices, ZeroRule};
-use crate::proved::h26x_payload::{PayloadFormat, PayloadPacketizer, Sets, UnitKind};
+use crate::proved::h26x_packetizer::PayloadPacketizer;
+use crate::proved::h26x_payload::{PayloadFormat, Sets, UnitKind};
 use crate::proved::h264_payload::codec::H264;
 
 /// Sends the NAL units of payloads (RFC 6184, packetization mode 1).

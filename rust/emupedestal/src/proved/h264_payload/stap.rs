@@ -3,7 +3,7 @@
 //! The units of a STAP-A (RFC 6184, 5.7.1).
 
 use crate::proved::h26x_core::{PacketError, STAPA_NALU_LENGTH_SIZE, first_piece};
-use crate::proved::h26x_payload::{Aggregate, PREFIX_SIZE};
+use crate::proved::h26x_depacketizer::{Aggregate, PREFIX_SIZE};
 use crate::proved::h264_payload::codec::H264;
 
 impl Aggregate for H264 {

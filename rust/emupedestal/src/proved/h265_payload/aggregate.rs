@@ -3,7 +3,7 @@
 //! The units of an aggregation packet, as slices of it (RFC 7798, 4.4.2).
 
 use crate::proved::h26x_core::{PacketError, first_piece};
-use crate::proved::h26x_payload::{Aggregate, written_size};
+use crate::proved::h26x_depacketizer::{Aggregate, written_size};
 use crate::proved::h265_payload::codec::H265;
 
 /// A unit behind its length, and with decoding order numbers behind DOND too.

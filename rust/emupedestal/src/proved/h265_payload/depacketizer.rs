@@ -3,10 +3,11 @@
 //! NAL units from H.265 packets (RFC 7798, 4.4 and 6).
 
 use crate::proved::h26x_core::{CodecExtra, Depacketizer, PacketError};
-use crate::proved::h26x_payload::{
-    DonlFormat, OpenRun, OpenText, PacketReader, PayloadFormat, RunRule, UnitSink, check_lengths,
-    out_size_hint, starts_run, take_in_text, take_packet,
+use crate::proved::h26x_depacketizer::{
+    OpenRun, OpenText, PacketReader, RunRule, UnitSink, check_lengths, out_size_hint, starts_run,
+    take_in_text, take_packet,
 };
+use crate::proved::h26x_payload::{DonlFormat, PayloadFormat};
 use crate::proved::h265_packets::H265Payload;
 use crate::proved::h265_payload::codec::H265;
 use crate::proved::h265_payload::show::{prepare, show};

@@ -3,7 +3,8 @@
 //! Whether a packet is known to hold a key unit, or to begin one (str0m's rule).
 
 use crate::proved::h26x_core::{H265FragmentationUnitHeader, H265NALUHeader};
-use crate::proved::h26x_payload::{PayloadFormat, holds_key};
+use crate::proved::h26x_depacketizer::holds_key;
+use crate::proved::h26x_payload::PayloadFormat;
 use crate::proved::h265_payload::codec::{H265, header_of};
 
 /// Whether what stands behind a fragment's header begins a key unit (RFC 7798, 4.4.3).

@@ -3,7 +3,7 @@
 //! The header of an aggregation packet by its units (RFC 7798, 4.4.2).
 
 use crate::proved::h26x_core::h265_types::AGGREGATION_PACKET;
-use crate::proved::h26x_payload::Aggregate;
+use crate::proved::h26x_depacketizer::Aggregate;
 use crate::proved::h265_payload::codec::{H265, header_of};
 
 /// What units have in common with the header of their aggregate: F where one has it, and the lowest

@@ -3,7 +3,7 @@
 //! What an H.265 packet is (RFC 7798, 4.4).
 
 use crate::proved::h26x_core::{H265FragmentationUnitHeader, H265NALUHeader, PacketError};
-use crate::proved::h26x_payload::{
+use crate::proved::h26x_depacketizer::{
     Fragment, PacketReader, Parts, ends_access_unit, may_begin_access_unit,
 };
 use crate::proved::h265_packets::header::{high_byte, paci_f, paci_size, paci_type};

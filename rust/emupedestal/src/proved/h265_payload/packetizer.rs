@@ -8,7 +8,8 @@ use crate::proved::h26x_core::h265_types::{
 };
 use crate::proved::h26x_core::{CodecExtra, H265CodecExtra, H265FragmentationUnitHeader};
 use crate::proved::h26x_cut::{UnitSlices, ZeroRule};
-use crate::proved::h26x_payload::{DonlFormat, PayloadFormat, PayloadPacketizer, Sets, UnitKind};
+use crate::proved::h26x_packetizer::PayloadPacketizer;
+use crate::proved::h26x_payload::{DonlFormat, PayloadFormat, Sets, UnitKind};
 use crate::proved::h265_packets::header::high_byte;
 use crate::proved::h265_payload::codec::{H265, header_of};
 

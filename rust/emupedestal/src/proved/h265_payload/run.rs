@@ -3,7 +3,7 @@
 //! A depacketizer of H.265, as a receiver of packets with their sequence numbers asks of it.
 
 use crate::proved::h26x_core::{CodecExtra, PacketError};
-use crate::proved::h26x_payload::{OpenRun, OpenText, RunDepacketizer, RunRule, UnitSink};
+use crate::proved::h26x_depacketizer::{OpenRun, OpenText, RunDepacketizer, RunRule, UnitSink};
 use crate::proved::h265_payload::depacketizer::H265Depacketizer;
 
 impl RunDepacketizer for H265Depacketizer {

@@ -3,7 +3,7 @@
 //! What `payload` shows of a packet.
 
 use crate::proved::h26x_core::{H265FragmentationUnitHeader, H265NALUHeader};
-use crate::proved::h26x_payload::Parts;
+use crate::proved::h26x_depacketizer::Parts;
 use crate::proved::h265_packets::{
     H265AggregationPacket, H265AggregationUnitFirst, H265FragmentationUnitPacket, H265PACIPacket,
     H265Payload, H265SingleNALUnitPacket,
@@ -119,8 +119,8 @@ fn show_aggregate(donl: Option<u16>, has_donl: bool, payload: &mut H265Payload, 
         spare.keep_others();
         return;
     }
-    let first = H265AggregationUnitFirst::of(donl, spare.take_data());
-    let shown = H265AggregationPacket::of(Some(first), spare.take_others(), has_donl);
+    let first = H265AggregationUnitFirst::of(donl, spare.remove_data());
+    let shown = H265AggregationPacket::of(Some(first), spare.remove_others(), has_donl);
     put(H265Payload::H265AggregationPacket(shown), payload, spare);
 }
 
@@ -152,7 +152,7 @@ fn show_single(
         it.set(header, donl, &mut spare.data, has_donl);
         return;
     }
-    let shown = H265SingleNALUnitPacket::of(header, donl, spare.take_data(), has_donl);
+    let shown = H265SingleNALUnitPacket::of(header, donl, spare.remove_data(), has_donl);
     put(H265Payload::H265SingleNALUnitPacket(shown), payload, spare);
 }
 
@@ -169,7 +169,7 @@ fn show_fragment(
         it.set(header, marks, donl, &mut spare.data, has_donl);
         return;
     }
-    let shown = H265FragmentationUnitPacket::of(header, marks, donl, spare.take_data(), has_donl);
+    let shown = H265FragmentationUnitPacket::of(header, marks, donl, spare.remove_data(), has_donl);
     put(
         H265Payload::H265FragmentationUnitPacket(shown),
         payload,
@@ -183,6 +183,6 @@ fn show_paci(header: H265NALUHeader, fields: u16, payload: &mut H265Payload, spa
         it.set(header, fields, &mut spare.data);
         return;
     }
-    let shown = H265PACIPacket::of(header, fields, spare.take_data());
+    let shown = H265PACIPacket::of(header, fields, spare.remove_data());
     put(H265Payload::H265PACIPacket(shown), payload, spare);
 }

@@ -84,8 +84,8 @@ impl Spare {
         self.data.try_extend_from_slice(data)
     }
 
-    /// Takes the data out.
-    pub fn take_data(&mut self) -> Vec<u8> {
+    /// Removes the data.
+    pub fn remove_data(&mut self) -> Vec<u8> {
         mem::take(&mut self.data)
     }
 
@@ -134,8 +134,8 @@ impl Spare {
         }
     }
 
-    /// Takes the further units out.
-    pub fn take_others(&mut self) -> Vec<H265AggregationUnit> {
+    /// Removes the further units.
+    pub fn remove_others(&mut self) -> Vec<H265AggregationUnit> {
         let second = mem::take(&mut self.second);
         mem::replace(&mut self.others, second)
     }

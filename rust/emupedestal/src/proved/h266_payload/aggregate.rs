@@ -3,7 +3,7 @@
 //! The units of an aggregation packet (RFC 9328, 4.3.2).
 
 use crate::proved::h26x_core::{PacketError, first_piece};
-use crate::proved::h26x_payload::{Aggregate, PREFIX_SIZE};
+use crate::proved::h26x_depacketizer::{Aggregate, PREFIX_SIZE};
 use crate::proved::h266_payload::codec::{H266, header_of};
 
 /// The bytes of a unit's length in an aggregate.

@@ -2,7 +2,7 @@
 
 //! NAL units from H.266 packets (RFC 9328, 4.3 and 6).
 
-use crate::proved::h26x_payload::PayloadDepacketizer;
+use crate::proved::h26x_depacketizer::PayloadDepacketizer;
 use crate::proved::h266_payload::codec::H266;
 
 /// Writes the units of packets (RFC 9328, 4.3 and 6), each behind a start code.

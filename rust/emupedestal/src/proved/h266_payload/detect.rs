@@ -3,7 +3,8 @@
 //! Whether a packet is known to hold a key unit, or to begin one (str0m's rule).
 
 use crate::proved::h26x_core::{H266FragmentationUnitHeader, H266NALUHeader};
-use crate::proved::h26x_payload::{PayloadFormat, holds_key};
+use crate::proved::h26x_depacketizer::holds_key;
+use crate::proved::h26x_payload::PayloadFormat;
 use crate::proved::h266_payload::codec::{H266, header_of};
 use crate::proved::h266_payload::packet::PACKET_HEADER_SIZE;
 

@@ -3,7 +3,7 @@
 //! What an H.266 packet is (RFC 9328, 4.3).
 
 use crate::proved::h26x_core::{H266FragmentationUnitHeader, PacketError};
-use crate::proved::h26x_payload::{
+use crate::proved::h26x_depacketizer::{
     Fragment, PacketReader, Parts, ends_access_unit, may_begin_access_unit,
 };
 use crate::proved::h266_payload::aggregate::check_aggregate;

@@ -8,7 +8,8 @@ use crate::proved::h26x_core::h266_types::{
 };
 use crate::proved::h26x_core::{CodecExtra, H266CodecExtra, H266FragmentationUnitHeader};
 use crate::proved::h26x_cut::{UnitSlices, ZeroRule};
-use crate::proved::h26x_payload::{DonlFormat, PayloadFormat, PayloadPacketizer, Sets, UnitKind};
+use crate::proved::h26x_packetizer::PayloadPacketizer;
+use crate::proved::h26x_payload::{DonlFormat, PayloadFormat, Sets, UnitKind};
 use crate::proved::h266_payload::codec::{H266, header_of, with_type};
 
 /// Sends the NAL units of payloads (RFC 9328).

@@ -4,8 +4,8 @@
 
 use crate::proved::h26x_access_units::numbers::missing_told;
 use crate::proved::h26x_access_units::pushed::{NotPushedReason, Pushed};
-use crate::proved::h26x_frames::RtpPacket;
 use crate::proved::h26x_receiver::Received;
+use crate::proved::h26x_reorder::RtpPacket;
 
 /// What a receiver has counted since it was made. Each count stays at 2^64 - 1.
 #[derive(Debug, Clone, Copy, PartialEq, Eq, Hash)]

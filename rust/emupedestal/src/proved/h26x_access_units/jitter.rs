@@ -5,7 +5,7 @@
 use crate::proved::h26x_access_units::arrival::{Arrival, from_at, let_go};
 use crate::proved::h26x_access_units::config::AccessUnitConfig;
 use crate::proved::h26x_access_units::pushed::{NotPushed, NotPushedReason, Pushed, as_not_pushed};
-use crate::proved::h26x_frames::{self, HeldPacket, ReorderBuffer, RtpPacket};
+use crate::proved::h26x_reorder::{self, HeldPacket, ReorderBuffer, RtpPacket};
 use crate::support::AllocError;
 use crate::support::TryVec;
 use alloc::collections::VecDeque;
@@ -119,7 +119,7 @@ impl JitterBuffer {
         };
         self.arrivals.try_reserve(1)?;
         match self.buffer.try_push(packet)? {
-            crate::proved::h26x_frames::Pushed::Held => {
+            crate::proved::h26x_reorder::Pushed::Held => {
                 self.bytes = bytes;
                 self.from = from_at(&self.arrivals, self.from, self.buffer.due());
                 self.arrivals.push_back(Arrival {
@@ -128,8 +128,8 @@ impl JitterBuffer {
                 });
                 Ok(Pushed::Held)
             }
-            crate::proved::h26x_frames::Pushed::Late(count) => Ok(Pushed::Late(count)),
-            crate::proved::h26x_frames::Pushed::Twice => Ok(Pushed::Twice),
+            crate::proved::h26x_reorder::Pushed::Late(count) => Ok(Pushed::Late(count)),
+            crate::proved::h26x_reorder::Pushed::Twice => Ok(Pushed::Twice),
         }
     }
 

@@ -2,12 +2,12 @@
 
 //! The sequence numbers of the packets of access units.
 
-use crate::proved::h26x_frames::RtpPacket;
 use crate::proved::h26x_receiver::Received;
+use crate::proved::h26x_reorder::RtpPacket;
 
 /// The sequence numbers of the packets of an access unit.
 #[derive(Debug, Clone, Copy, PartialEq, Eq)]
-pub struct UnitNumbers {
+pub struct AccessUnitNumbers {
     /// The timestamp of its packets.
     pub timestamp: u32,
     /// The number of the first packet that came of it.
@@ -20,9 +20,9 @@ pub struct UnitNumbers {
     pub continues: bool,
 }
 
-impl UnitNumbers {
+impl AccessUnitNumbers {
     /// Those of an access unit of which no packet came.
-    pub(crate) const NONE: Self = UnitNumbers {
+    pub(crate) const NONE: Self = AccessUnitNumbers {
         timestamp: 0,
         first: 0,
         last: 0,
@@ -35,15 +35,15 @@ impl UnitNumbers {
 #[derive(Debug, Clone, Copy, PartialEq, Eq)]
 pub(crate) struct NumbersSoFar {
     /// Those of the access unit that is open.
-    pub unit: Option<UnitNumbers>,
+    pub unit: Option<AccessUnitNumbers>,
     /// The timestamp of the access unit that the packet before ended by its marker.
     pub marked: Option<u32>,
     /// How many are missing since the last packet, before numbers that were skipped.
     pub skipped_gap: u32,
     /// Those of the access unit that another timestamp ended, until it is given out.
-    pub ended: Option<UnitNumbers>,
+    pub ended: Option<AccessUnitNumbers>,
     /// Those of the access unit that the marker ended, until it is given out.
-    pub ended_by_marker: Option<UnitNumbers>,
+    pub ended_by_marker: Option<AccessUnitNumbers>,
 }
 
 /// How many numbers are missing up to a packet that was refused, its own with them, by what is told of
@@ -86,7 +86,7 @@ impl NumbersSoFar {
             }
             _ => {
                 self.ended = self.unit;
-                self.unit = Some(UnitNumbers {
+                self.unit = Some(AccessUnitNumbers {
                     timestamp: packet.timestamp,
                     first: packet.sequence,
                     last: packet.sequence,
@@ -127,7 +127,7 @@ impl NumbersSoFar {
     }
 
     /// The stream has ended, and with it the access unit that is open.
-    pub(crate) fn end(&mut self) {
+    pub(crate) fn finish(&mut self) {
         *self = NumbersSoFar {
             unit: None,
             marked: None,
@@ -138,14 +138,14 @@ impl NumbersSoFar {
     }
 
     /// Those of the first access unit that ended, which is given out.
-    pub(crate) fn give(&mut self) -> UnitNumbers {
+    pub(crate) fn give(&mut self) -> AccessUnitNumbers {
         match self.ended {
             Some(numbers) => {
                 self.ended = None;
                 numbers
             }
             None => {
-                let numbers = self.ended_by_marker.unwrap_or(UnitNumbers::NONE);
+                let numbers = self.ended_by_marker.unwrap_or(AccessUnitNumbers::NONE);
                 self.ended_by_marker = None;
                 numbers
             }

@@ -2,7 +2,7 @@
 
 //! What became of a packet that was given to a receiver.
 
-use crate::proved::h26x_frames::{HeldPacket, NotHeldReason};
+use crate::proved::h26x_reorder::{HeldPacket, NotHeldReason};
 
 /// What became of a packet that was given to a receiver.
 #[derive(Debug, Clone, Copy, PartialEq, Eq, Hash)]

@@ -7,11 +7,12 @@ use crate::proved::h26x_access_units::counts::Counts;
 use crate::proved::h26x_access_units::jitter::JitterBuffer;
 use crate::proved::h26x_access_units::numbers::{NumbersSoFar, missing_with};
 use crate::proved::h26x_access_units::pushed::{NotPushed, NotPushedReason, Pushed};
-use crate::proved::h26x_access_units::unit::{ReceivedUnit, is_keyframe};
+use crate::proved::h26x_access_units::unit::{ReceivedAccessUnit, is_keyframe};
+use crate::proved::h26x_assembler::{AccessUnit, AccessUnitAssembler};
 use crate::proved::h26x_core::PacketError;
-use crate::proved::h26x_frames::{AccessUnit, FrameReceiver, HeldPacket, RtpPacket};
-use crate::proved::h26x_payload::RunDepacketizer;
+use crate::proved::h26x_depacketizer::RunDepacketizer;
 use crate::proved::h26x_receiver::{Received, SequencedDepacketizer};
+use crate::proved::h26x_reorder::{HeldPacket, RtpPacket};
 use crate::support::TryVec;
 use alloc::vec::Vec;
 
@@ -21,7 +22,7 @@ pub struct AccessUnitReceiver<D: RunDepacketizer> {
     waiting: JitterBuffer,
     stray: Option<HeldPacket>,
     is_anew: bool,
-    frames: FrameReceiver<D>,
+    assembler: AccessUnitAssembler<D>,
     ended: Vec<AccessUnit>,
     numbers: NumbersSoFar,
     is_clean: bool,
@@ -33,39 +34,39 @@ fn is_want_of_memory(received: &Result<Received, PacketError>) -> bool {
     matches!(received, Err(PacketError::OutOfMemory))
 }
 
-/// Gives a packet that is due to the receiver of access units; one without a payload is skipped.
+/// Gives a packet that is due to the assembler; one without a payload is skipped.
 fn take_packet<D: RunDepacketizer>(
-    frames: &mut FrameReceiver<D>,
+    assembler: &mut AccessUnitAssembler<D>,
     packet: &RtpPacket<'_>,
     ended: &mut Vec<AccessUnit>,
 ) -> Result<Received, PacketError> {
     if packet.payload.is_empty() {
-        Ok(frames.skip(packet.sequence))
+        Ok(assembler.skip(packet.sequence))
     } else {
-        frames.receive(packet, ended)
+        assembler.receive(packet, ended)
     }
 }
 
 /// Gives it a packet that is due, passes over one that it refuses, and notes what became of it. Without
 /// memory all stays as it was.
 fn take_noted<D: RunDepacketizer>(
-    frames: &mut FrameReceiver<D>,
+    assembler: &mut AccessUnitAssembler<D>,
     ended: &mut Vec<AccessUnit>,
     numbers: &mut NumbersSoFar,
     counts: &mut Counts,
     packet: &RtpPacket<'_>,
 ) -> Result<Received, PacketError> {
-    match take_packet(frames, packet, ended) {
+    match take_packet(assembler, packet, ended) {
         Ok(received) => {
-            frames.forget_marker();
+            assembler.forget_marker();
             numbers.note(packet, received);
-            counts.note(packet, received, frames.is_text_given_up);
+            counts.note(packet, received, assembler.is_text_given_up);
             Ok(received)
         }
         Err(PacketError::OutOfMemory) => Err(PacketError::OutOfMemory),
         Err(error) => {
-            let missing = missing_with(frames.pass_over(packet.sequence));
-            frames.forget_marker();
+            let missing = missing_with(assembler.pass_over(packet.sequence));
+            assembler.forget_marker();
             numbers.skip(missing);
             counts.refuse(missing);
             Err(error)
@@ -94,7 +95,7 @@ impl<D: RunDepacketizer> AccessUnitReceiver<D> {
             waiting: JitterBuffer::new(config),
             stray: None,
             is_anew: false,
-            frames: FrameReceiver::new(packets, config.unit_limit),
+            assembler: AccessUnitAssembler::new(packets, config.unit_limit),
             ended: Vec::new(),
             numbers: NumbersSoFar::none(),
             is_clean: false,
@@ -133,7 +134,7 @@ impl<D: RunDepacketizer> AccessUnitReceiver<D> {
     /// Takes a packet at once, which waits no more than one that is due.
     fn take_at_once(&mut self, packet: &RtpPacket<'_>) -> Result<(), PacketError> {
         let received = take_noted(
-            &mut self.frames,
+            &mut self.assembler,
             &mut self.ended,
             &mut self.numbers,
             &mut self.counts,
@@ -236,7 +237,7 @@ impl<D: RunDepacketizer> AccessUnitReceiver<D> {
             None => return Ok(false),
         };
         let received = take_noted(
-            &mut self.frames,
+            &mut self.assembler,
             &mut self.ended,
             &mut self.numbers,
             &mut self.counts,
@@ -252,8 +253,8 @@ impl<D: RunDepacketizer> AccessUnitReceiver<D> {
     /// Where the stream has begun anew, and no access unit that ended is left, ends the open one.
     fn end_if_anew(&mut self) -> Result<(), PacketError> {
         if self.ended.is_empty() && self.is_anew {
-            self.frames.end(&mut self.ended)?;
-            self.numbers.end();
+            self.assembler.finish(&mut self.ended)?;
+            self.numbers.finish();
             self.is_anew = false;
         }
         Ok(())
@@ -273,8 +274,8 @@ impl<D: RunDepacketizer> AccessUnitReceiver<D> {
     /// At the end of the stream, once no access unit that ended is left, ends the one that is open.
     fn end_if_over(&mut self) -> Result<(), PacketError> {
         if self.ended.is_empty() && self.waiting.is_over() {
-            self.frames.end(&mut self.ended)?;
-            self.numbers.end();
+            self.assembler.finish(&mut self.ended)?;
+            self.numbers.finish();
             self.waiting.restart();
             self.stray = None;
         }
@@ -282,7 +283,7 @@ impl<D: RunDepacketizer> AccessUnitReceiver<D> {
     }
 
     /// Gives out the first access unit that ended.
-    fn give(&mut self) -> Option<ReceivedUnit> {
+    fn give(&mut self) -> Option<ReceivedAccessUnit> {
         if self.ended.is_empty() {
             return None;
         }
@@ -292,7 +293,7 @@ impl<D: RunDepacketizer> AccessUnitReceiver<D> {
         let is_keyframe = is_keyframe(unit.extra) && !numbers.continues;
         self.is_clean = unit.is_whole && (is_keyframe || self.is_clean);
         self.counts.unit(is_whole);
-        Some(ReceivedUnit {
+        Some(ReceivedAccessUnit {
             timestamp: unit.timestamp,
             bytes: unit.bytes,
             extra: unit.extra,
@@ -310,7 +311,7 @@ impl<D: RunDepacketizer> AccessUnitReceiver<D> {
     ///
     /// Without memory the error is `OutOfMemory`: what was taken before stays taken, and the packet for
     /// which memory lacks is due still.
-    pub fn next(&mut self, now: u32) -> Result<Option<ReceivedUnit>, PacketError> {
+    pub fn next(&mut self, now: u32) -> Result<Option<ReceivedAccessUnit>, PacketError> {
         if self.is_idle() {
             return Ok(None);
         }
@@ -324,7 +325,7 @@ impl<D: RunDepacketizer> AccessUnitReceiver<D> {
     }
 
     /// What `next` does.
-    fn next_due(&mut self, now: u32) -> Result<Option<ReceivedUnit>, PacketError> {
+    fn next_due(&mut self, now: u32) -> Result<Option<ReceivedAccessUnit>, PacketError> {
         self.end_if_anew()?;
         self.drain(now)?;
         self.end_if_over()?;
@@ -343,15 +344,15 @@ impl<D: RunDepacketizer> AccessUnitReceiver<D> {
         self.waiting.restart();
         self.stray = None;
         self.is_anew = false;
-        self.frames.restart();
+        self.assembler.restart();
         self.ended.clear();
         self.numbers = NumbersSoFar::none();
         self.is_clean = false;
     }
 
     /// Takes back an access unit that was given out, for its memory: a later one is written there.
-    pub fn give_back(&mut self, unit: ReceivedUnit) {
-        self.frames.give_back(unit.into_access_unit());
+    pub fn give_back(&mut self, unit: ReceivedAccessUnit) {
+        self.assembler.give_back(unit.into_access_unit());
     }
 
     /// The numbers that are missing before packets that wait and still could come, in order: for a NACK

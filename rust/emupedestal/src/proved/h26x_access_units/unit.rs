@@ -2,13 +2,13 @@
 
 //! Access units as a receiver gives them out.
 
+use crate::proved::h26x_assembler::AccessUnit;
 use crate::proved::h26x_core::CodecExtra;
-use crate::proved::h26x_frames::AccessUnit;
 use alloc::vec::Vec;
 
 /// An access unit, and what is told of it.
 #[derive(Clone, PartialEq, Eq, Hash)]
-pub struct ReceivedUnit {
+pub struct ReceivedAccessUnit {
     /// The timestamp of its packets (RFC 3550, 5.1).
     pub timestamp: u32,
     /// The text of its NAL units, as the depacketizer writes it: nothing of a NAL unit of which a
@@ -34,10 +34,10 @@ pub struct ReceivedUnit {
 }
 
 /// Of bytes it tells how many there are.
-impl core::fmt::Debug for ReceivedUnit {
+impl core::fmt::Debug for ReceivedAccessUnit {
     fn fmt(&self, f: &mut core::fmt::Formatter<'_>) -> core::fmt::Result {
         use crate::support::Count;
-        f.debug_struct("ReceivedUnit")
+        f.debug_struct("ReceivedAccessUnit")
             .field("timestamp", &self.timestamp)
             .field("bytes", &Count(self.bytes.len()))
             .field("extra", &self.extra)
@@ -51,7 +51,7 @@ impl core::fmt::Debug for ReceivedUnit {
     }
 }
 
-impl ReceivedUnit {
+impl ReceivedAccessUnit {
     /// The access unit alone.
     pub(crate) fn into_access_unit(self) -> AccessUnit {
         AccessUnit {

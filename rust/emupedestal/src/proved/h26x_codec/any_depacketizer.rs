@@ -4,7 +4,7 @@
 
 use crate::proved::h26x_codec::codec::Codec;
 use crate::proved::h26x_core::{CodecExtra, Depacketizer, PacketError};
-use crate::proved::h26x_payload::{OpenRun, OpenText, RunDepacketizer, RunRule, UnitSink};
+use crate::proved::h26x_depacketizer::{OpenRun, OpenText, RunDepacketizer, RunRule, UnitSink};
 use crate::proved::h264_payload::H264Depacketizer;
 use crate::proved::h265_packets::H265Payload;
 use crate::proved::h265_payload::H265Depacketizer;
@@ -90,7 +90,7 @@ impl AnyDepacketizer {
     }
 
     /// Sets whether it writes units behind lengths or behind start codes.
-    pub fn with_avc(&mut self, is_avc: bool) {
+    pub fn set_avc(&mut self, is_avc: bool) {
         match self {
             AnyDepacketizer::H264(it) => it.is_avc = is_avc,
             AnyDepacketizer::H265(it) => it.is_avc = is_avc,

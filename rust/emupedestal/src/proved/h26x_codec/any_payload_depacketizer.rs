@@ -4,10 +4,11 @@
 
 use crate::proved::h26x_codec::codec::Codec;
 use crate::proved::h26x_core::{CodecExtra, Depacketizer, PacketError};
-use crate::proved::h26x_payload::{
-    DonlFormat, OpenRun, OpenText, PacketReader, PayloadFormat, RunDepacketizer, RunRule, UnitSink,
-    out_size_hint, starts_run, take_in_text, take_packet,
+use crate::proved::h26x_depacketizer::{
+    OpenRun, OpenText, PacketReader, RunDepacketizer, RunRule, UnitSink, out_size_hint, starts_run,
+    take_in_text, take_packet,
 };
+use crate::proved::h26x_payload::{DonlFormat, PayloadFormat};
 use crate::proved::h264_payload::H264;
 use crate::proved::h265_payload::H265;
 use crate::proved::h266_payload::H266;

@@ -1,6 +1,6 @@
 // Made from crates/h26x_codec/src/carried.rt by tools/to-rust.
 
-//! What a run has made: its packets, and which calls were made.
+//! What a transmission has made: its packets, and which calls were made.
 
 use alloc::vec::Vec;
 /// RTP payloads, in the order in which they are sent (RFC 6184, RFC 7798, RFC 9328).
@@ -26,7 +26,7 @@ impl Packets {
     }
 }
 
-/// Of each call of a run whether it was made.
+/// Of each call of a transmission whether it was made.
 #[derive(Debug)]
 pub struct Marks {
     marks: Vec<bool>,
@@ -49,7 +49,7 @@ impl Marks {
     }
 }
 
-/// What a run of calls made.
+/// What a transmission made.
 #[derive(Debug)]
 pub struct Carried {
     /// The packets of all calls, in order.

@@ -4,7 +4,7 @@
 
 use crate::proved::h26x_codec::codec::Codec;
 use crate::proved::h26x_core::{PacketError, Packetizer};
-use crate::proved::h26x_payload::PacketBuffer;
+use crate::proved::h26x_packetizer::PacketBuffer;
 use crate::proved::h264_payload::H264Packetizer;
 use crate::proved::h265_payload::H265Packetizer;
 use crate::proved::h266_payload::H266Packetizer;

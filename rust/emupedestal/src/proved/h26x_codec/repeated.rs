@@ -6,7 +6,7 @@ use crate::proved::h26x_codec::carried::Packets;
 use crate::proved::h26x_codec::codec::Codec;
 use crate::proved::h26x_codec::depacketizer::CodecDepacketizer;
 use crate::proved::h26x_codec::packetizer::CodecPacketizer;
-use crate::proved::h26x_codec::runs::deliver;
+use crate::proved::h26x_codec::transmissions::deliver;
 use crate::proved::h26x_core::{CodecExtra, PacketError, Packetizer};
 use crate::proved::h264_payload::{H264Depacketizer, H264Packetizer};
 use crate::proved::h265_payload::{H265Depacketizer, H265Packetizer};

@@ -29,22 +29,22 @@ impl<'a> core::fmt::Debug for UnitSlices<'a> {
     }
 }
 
-/// A piece without the zeros that the start code behind it takes.
-fn without_code_zeros(piece: &[u8], rule: ZeroRule) -> &[u8] {
+/// A segment without the zeros that the start code behind it takes.
+fn without_code_zeros(segment: &[u8], rule: ZeroRule) -> &[u8] {
     match rule {
         ZeroRule::All => {
-            let mut end = piece.len();
-            while end > 0 && piece[end - 1] == 0 {
+            let mut end = segment.len();
+            while end > 0 && segment[end - 1] == 0 {
                 end -= 1;
             }
-            &piece[..end]
+            &segment[..end]
         }
         ZeroRule::AtMostThree => {
-            let len = piece.len();
-            if len > 0 && piece[len - 1] == 0 {
-                &piece[..len - 1]
+            let len = segment.len();
+            if len > 0 && segment[len - 1] == 0 {
+                &segment[..len - 1]
             } else {
-                piece
+                segment
             }
         }
     }

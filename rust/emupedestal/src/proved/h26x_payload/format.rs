@@ -4,7 +4,7 @@
 
 use crate::proved::h26x_core::CodecExtra;
 use crate::proved::h26x_cut::UnitSlices;
-use crate::proved::h26x_payload::send::sets::Sets;
+use crate::proved::h26x_payload::sets::Sets;
 use core::fmt;
 
 /// What a unit is to a packetizer, by its type (RFC 6184, 1.3; RFC 7798, 1.1.4; RFC 9328, 1.1.4).

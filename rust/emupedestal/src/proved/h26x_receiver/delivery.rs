@@ -3,7 +3,7 @@
 //! Packets with their sequence numbers, any whatever, through a receiver.
 
 use crate::proved::h26x_core::{CodecExtra, PacketError};
-use crate::proved::h26x_payload::RunDepacketizer;
+use crate::proved::h26x_depacketizer::RunDepacketizer;
 use crate::proved::h26x_receiver::received::Received;
 use crate::proved::h26x_receiver::sequenced::SequencedDepacketizer;
 use crate::support::TryVec;

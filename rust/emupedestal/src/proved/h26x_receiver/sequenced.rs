@@ -3,7 +3,7 @@
 //! A depacketizer that is given packets with their sequence numbers.
 
 use crate::proved::h26x_core::{CodecExtra, PacketError};
-use crate::proved::h26x_payload::{OpenText, RunDepacketizer, RunRule, UnitSink, take_run};
+use crate::proved::h26x_depacketizer::{OpenText, RunDepacketizer, RunRule, UnitSink, remove_run};
 use crate::proved::h26x_receiver::received::Received;
 
 /// How far ahead of the expected number a number is taken as behind it: half of the circle (RFC
@@ -35,7 +35,7 @@ fn take_anew<D: RunDepacketizer, W: UnitSink>(
     out: &mut W,
     codec_extra: &mut CodecExtra,
 ) -> Result<(), PacketError> {
-    let mut run = take_run(depacketizer);
+    let mut run = remove_run(depacketizer);
     match depacketizer.take(packet, out, codec_extra) {
         Ok(()) => Ok(()),
         Err(error) => {

@@ -1,6 +1,6 @@
 // Made from crates/h26x_c/src/const_handle.rt by tools/to-rust.
 
-//! What C holds of an end that a call only looks at.
+//! What C holds of an endpoint that a call only looks at.
 
 use crate::proved::h26x_handles::endpoint::Endpoint;
 

@@ -1,6 +1,6 @@
 // Made from crates/h26x_c/src/handle.rt by tools/to-rust.
 
-//! What C holds of an end: the pointer of a box.
+//! What C holds of an endpoint: the pointer of a box.
 
 mod lends;
 
@@ -16,7 +16,7 @@ pub struct Handle {
 /// What may go to another thread.
 trait GoesToAnotherThread: Send {}
 
-// An end may, and so may its handle.
+// An endpoint may, and so may its handle.
 impl GoesToAnotherThread for Endpoint {}
 
 unsafe impl Send for Handle {}

@@ -5,6 +5,7 @@
 use crate::proved::h26x_c::const_handle::ConstHandle;
 use crate::proved::h26x_c::handle::Handle;
 use crate::proved::h26x_c::place::{Place, put};
+use crate::proved::h26x_depacketizer::RunDepacketizer;
 use crate::proved::h26x_handles::code::{
     NOT_OF_THIS_CODEC, OK, OUT_OF_MEMORY, Refusal, WRONG_END, code_of, codec_wanted, extra_of,
     may_have_donl, number_of,
@@ -12,7 +13,6 @@ use crate::proved::h26x_handles::code::{
 use crate::proved::h26x_handles::copy::copy_where_room;
 use crate::proved::h26x_handles::endpoint::Endpoint;
 use crate::proved::h26x_handles::receiving::ReceivingEndpoint;
-use crate::proved::h26x_payload::RunDepacketizer;
 use core::mem::MaybeUninit;
 
 /// Makes a depacketizer with no run open.

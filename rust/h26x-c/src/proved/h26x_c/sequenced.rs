@@ -65,7 +65,7 @@ pub fn h26x_receiver_set_numbers(r: &mut Handle, numbers: bool) -> u32 {
 pub fn h26x_receiver_set_avc(r: &mut Handle, is_avc: bool) -> u32 {
     match r.get_mut() {
         Endpoint::Sequenced(it) => {
-            it.with_avc(is_avc);
+            it.set_avc(is_avc);
             OK
         }
         _ => WRONG_END,

@@ -4,15 +4,15 @@
 //! room where it was to be written.
 
 use crate::proved::h26x_access_units::{
-    AccessUnitConfig, AccessUnitReceiver, Counts, Pushed, ReceivedUnit, Receives,
+    AccessUnitConfig, AccessUnitReceiver, Counts, Pushed, ReceivedAccessUnit, Receives,
 };
 use crate::proved::h26x_codec::{AnyPayloadDepacketizer, Codec};
 use crate::proved::h26x_core::PacketError;
-use crate::proved::h26x_frames::RtpPacket;
 use crate::proved::h26x_handles::code::{
     NO_ROOM, NOTHING_YET, OK, OUT_OF_RANGE, codec_wanted, number_of,
 };
 use crate::proved::h26x_handles::copy::{copy_first, copy_where_room};
+use crate::proved::h26x_reorder::RtpPacket;
 use core::mem::MaybeUninit;
 
 /// What is told of an access unit.
@@ -78,7 +78,7 @@ pub fn code_of_next(answer: NextAnswer, told: &mut MaybeUninit<UnitTold>) -> u32
 }
 
 /// What is told of an access unit.
-fn told_of(unit: &ReceivedUnit) -> UnitTold {
+fn told_of(unit: &ReceivedAccessUnit) -> UnitTold {
     UnitTold {
         len: unit.bytes.len(),
         timestamp: unit.timestamp,
@@ -97,7 +97,7 @@ fn told_of(unit: &ReceivedUnit) -> UnitTold {
 pub struct AccessUnitEndpoint {
     codec: Codec,
     receiver: AccessUnitReceiver<AnyPayloadDepacketizer>,
-    left: Option<ReceivedUnit>,
+    left: Option<ReceivedAccessUnit>,
 }
 
 /// What such an endpoint is to contracts.
@@ -155,7 +155,7 @@ impl AccessUnitEndpoint {
     }
 
     /// Gives out an access unit where there is room for it, and takes its memory back; else keeps it.
-    fn give(&mut self, unit: ReceivedUnit, to: &mut [u8]) -> NextAnswer {
+    fn give(&mut self, unit: ReceivedAccessUnit, to: &mut [u8]) -> NextAnswer {
         let told = told_of(&unit);
         if copy_where_room(&unit.bytes, to) > to.len() {
             self.left = Some(unit);

@@ -6,7 +6,7 @@ use crate::proved::h26x_codec::Codec;
 use crate::proved::h26x_core::{
     CodecExtra, H264CodecExtra, H265CodecExtra, H266CodecExtra, PacketError,
 };
-use crate::proved::h26x_payload::{PacketsSize, Placement};
+use crate::proved::h26x_packetizer::{PacketsSize, Placement};
 use crate::proved::h26x_receiver::Received;
 use core::mem::MaybeUninit;
 

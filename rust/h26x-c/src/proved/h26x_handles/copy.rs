@@ -2,7 +2,7 @@
 
 //! Copies into a caller's buffer.
 
-use crate::proved::h26x_payload::PacketBuffer;
+use crate::proved::h26x_packetizer::PacketBuffer;
 use alloc::vec::Vec;
 use core::{cmp, mem};
 
@@ -35,8 +35,8 @@ pub fn copy_first<T: Copy>(entries: &[T], to: &mut [T]) -> usize {
 }
 
 /// Where packets end that have no headroom.
-pub(crate) fn ends_of(packets: &PacketBuffer) -> &[usize] {
-    packets.ends()
+pub(crate) fn packet_ends(packets: &PacketBuffer) -> &[usize] {
+    packets.packet_ends()
 }
 
 /// Where the packet at a place begins.
@@ -44,7 +44,7 @@ pub(crate) fn start_of(packets: &PacketBuffer, place: usize) -> usize {
     if place == 0 {
         return 0;
     }
-    ends_of(packets)[place - 1]
+    packet_ends(packets)[place - 1]
 }
 
 /// The bytes of packets from a first one on, one behind the other.
@@ -61,7 +61,7 @@ fn copy_ends(
     ends: &mut [usize],
 ) -> (usize, usize) {
     let start = start_of(packets, first);
-    let from = &ends_of(packets)[first..];
+    let from = &packet_ends(packets)[first..];
     let mut count = 0;
     let mut place = 0;
     while count < from.len() && count < ends.len() {

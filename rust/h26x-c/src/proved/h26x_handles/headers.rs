@@ -3,8 +3,8 @@
 //! Aggregation packets of H.265 with the header of their units (RFC 7798, 4.4.2), where they stand.
 
 use crate::proved::h26x_codec::Codec;
-use crate::proved::h26x_handles::copy::{ends_of, start_of};
-use crate::proved::h26x_payload::{PacketBuffer, Placement};
+use crate::proved::h26x_handles::copy::{packet_ends, start_of};
+use crate::proved::h26x_packetizer::{PacketBuffer, Placement};
 use crate::proved::h265_payload::set_lowest_header;
 
 /// Whether packets bear decoding order numbers, where that header is asked for and they are of H.265.
@@ -29,7 +29,7 @@ fn set_between(has_donl: bool, bytes: &mut [u8], start: usize, end: usize) {
 /// Gives the packet at a place that header.
 fn set_at(has_donl: bool, packets: &mut PacketBuffer, place: usize) {
     let start = start_of(packets, place);
-    let end = ends_of(packets)[place];
+    let end = packet_ends(packets)[place];
     let bytes = packets.bytes_mut();
     set_between(has_donl, bytes, start, end);
 }

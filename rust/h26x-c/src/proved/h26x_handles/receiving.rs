@@ -4,8 +4,8 @@
 
 use crate::proved::h26x_codec::{AnyDepacketizer, Codec};
 use crate::proved::h26x_core::{CodecExtra, PacketError};
+use crate::proved::h26x_depacketizer::{MemorySink, UnitSink};
 use crate::proved::h26x_handles::copy::put_or_keep;
-use crate::proved::h26x_payload::{MemorySink, UnitSink};
 use alloc::vec::Vec;
 use core::mem::MaybeUninit;
 
@@ -88,8 +88,8 @@ fn take<W: UnitSink>(
     extra: &mut CodecExtra,
 ) -> Result<(), PacketError> {
     let setting = it.is_avc();
-    it.with_avc(is_avc);
+    it.set_avc(is_avc);
     let outcome = it.depacketize_into(packet, out, extra);
-    it.with_avc(setting);
+    it.set_avc(setting);
     outcome
 }

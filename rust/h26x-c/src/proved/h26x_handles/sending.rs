@@ -2,13 +2,12 @@
 
 //! A packetizer, and the packets of its last call.
 
-use crate::proved::h26x_codec::Codec;
+use crate::proved::h26x_codec::{AnyPacketizer, Codec};
 use crate::proved::h26x_core::PacketError;
 use crate::proved::h26x_handles::code::may_have_donl;
 use crate::proved::h26x_handles::copy::{bytes_from, copy_packets};
 use crate::proved::h26x_handles::headers::{headers_wanted, set_headers, set_placed_headers};
-use crate::proved::h26x_handles::packetizer::AnyPacketizer;
-use crate::proved::h26x_payload::{PacketBuffer, Placement};
+use crate::proved::h26x_packetizer::{PacketBuffer, Placement};
 use core::mem;
 
 /// A packetizer of a codec, the packets of its last call, and whether aggregates of H.265 get the

@@ -5,8 +5,8 @@
 
 use crate::proved::h26x_codec::{AnyDepacketizer, Codec};
 use crate::proved::h26x_core::{CodecExtra, PacketError};
+use crate::proved::h26x_depacketizer::{MemorySink, RunDepacketizer};
 use crate::proved::h26x_handles::copy::put_or_keep;
-use crate::proved::h26x_payload::{MemorySink, RunDepacketizer};
 use crate::proved::h26x_receiver::{Received, SequencedDepacketizer};
 use alloc::vec::Vec;
 use core::mem::MaybeUninit;
@@ -25,7 +25,7 @@ impl SequencedEndpoint {
     pub fn new(codec: Codec, has_donl: bool, is_avc: bool, run_limit: usize) -> Self {
         let mut depacketizer = AnyDepacketizer::new(codec);
         depacketizer.with_donl(has_donl);
-        depacketizer.with_avc(is_avc);
+        depacketizer.set_avc(is_avc);
         SequencedEndpoint {
             receiver: SequencedDepacketizer::new(depacketizer, run_limit),
             written: Vec::new(),
@@ -94,8 +94,8 @@ impl SequencedEndpoint {
     }
 
     /// Sets whether units are written behind lengths or behind start codes.
-    pub fn with_avc(&mut self, is_avc: bool) {
-        self.receiver.depacketizer.with_avc(is_avc);
+    pub fn set_avc(&mut self, is_avc: bool) {
+        self.receiver.depacketizer.set_avc(is_avc);
     }
 
     /// How many bytes the open run holds; none where none is open.

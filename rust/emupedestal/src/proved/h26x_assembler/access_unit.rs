@@ -1,0 +1,299 @@
+// Made from crates/h26x_assembler/src/access_unit.rt by tools/to-rust.
+
+//! Access units, and the one that is open.
+
+use crate::proved::h26x_assembler::answers::{is_following, is_sound, was_taken};
+use crate::proved::h26x_core::{CodecExtra, PacketError};
+use crate::proved::h26x_depacketizer::{OpenRun, OpenText, RunDepacketizer};
+use crate::proved::h26x_receiver::{Received, SequencedDepacketizer};
+use crate::proved::h26x_reorder::RtpPacket;
+use alloc::vec::Vec;
+
+/// An access unit, the units of one picture: its packets bear one timestamp, and the last of them
+/// bears the marker (RFC 6184, 5.1; RFC 7798, 4.1; RFC 9328, 4.1).
+#[derive(Clone, PartialEq, Eq, Hash)]
+pub struct AccessUnit {
+    /// The timestamp of its packets (RFC 3550, 5.1).
+    pub timestamp: u32,
+    /// The text of its units, as the depacketizer writes it: nothing of a unit of which a packet is
+    /// missing, and nothing of what was given up since it was longer than the assembler's limit.
+    pub bytes: Vec<u8>,
+    /// What is told of these units; `CodecExtra::None` where there is none.
+    pub extra: CodecExtra,
+    /// Whether it is known that nothing of it is missing: its packets followed each other, its first
+    /// the packet before it, and its last bore the marker or was followed by another timestamp; no
+    /// unit of it lacks its start or its end; and no run of it was too long, nor its text. Where the
+    /// packet before it is missing it isn't known, since that may have been its first; nor where the
+    /// marker ended one of its timestamp right before it, with which it goes on.
+    pub is_whole: bool,
+}
+
+/// Of bytes it tells how many there are.
+impl core::fmt::Debug for AccessUnit {
+    fn fmt(&self, f: &mut core::fmt::Formatter<'_>) -> core::fmt::Result {
+        use crate::support::Count;
+        f.debug_struct("AccessUnit")
+            .field("timestamp", &self.timestamp)
+            .field("bytes", &Count(self.bytes.len()))
+            .field("extra", &self.extra)
+            .field("is_whole", &self.is_whole)
+            .finish()
+    }
+}
+
+/// An access unit of which packets came. The open run stands in its text.
+#[derive(Debug, Clone, PartialEq, Eq)]
+pub(crate) struct AccessUnitSoFar {
+    pub timestamp: u32,
+    pub text: OpenText,
+    pub extra: CodecExtra,
+    pub is_whole: bool,
+}
+
+impl AccessUnitSoFar {
+    /// One to which no packet came yet, in memory that was another's.
+    #[inline]
+    pub(crate) fn new(memory: Vec<u8>, timestamp: u32) -> Self {
+        AccessUnitSoFar {
+            timestamp,
+            text: OpenText::new(memory),
+            extra: CodecExtra::None,
+            is_whole: true,
+        }
+    }
+
+    /// Takes a packet with its timestamp. A marker does not end it yet.
+    #[inline]
+    fn take<D: RunDepacketizer>(
+        &mut self,
+        packets: &mut SequencedDepacketizer<D>,
+        packet: &RtpPacket<'_>,
+        is_gap: bool,
+        closed: Option<u32>,
+        may_be_inside: bool,
+    ) -> Result<Received, PacketError> {
+        let follows = is_following(is_gap, closed, packets.expected, packet);
+        let len = self.text.len();
+        let had_run = self.text.met_run_len(true).is_some();
+        let received = packets.receive_in_text(
+            packet.sequence,
+            packet.payload,
+            may_be_inside,
+            &mut self.text,
+            &mut self.extra,
+        );
+        if was_taken(&received) {
+            let is_broken = self.is_broken(&packets.depacketizer, packet.payload, had_run, len);
+            let is_sound = is_sound(follows, is_broken, &received);
+            self.is_whole = self.is_whole && is_sound;
+        }
+        received
+    }
+
+    /// Whether a unit lacks its end or its start by a packet that was taken, before which a run was
+    /// open or not and the text had so many bytes. A run that is longer than the packet isn't its own.
+    #[inline]
+    fn is_broken<D: RunDepacketizer>(
+        &self,
+        depacketizer: &D,
+        payload: &[u8],
+        had_run: bool,
+        len: usize,
+    ) -> bool {
+        let may_be_given_up = had_run && self.text.run_len() <= payload.len();
+        may_be_given_up && depacketizer.starts_run(payload) || self.is_dropped(len)
+    }
+
+    /// Whether no byte stands of a packet before which the text had so many: neither there nor in a
+    /// run.
+    #[inline]
+    pub(crate) fn is_dropped(&self, len: usize) -> bool {
+        len == self.text.len() && self.text.run_len() == 0
+    }
+
+    /// Packets are missing: gives up the run, and it isn't known to be whole.
+    fn break_off(&mut self) {
+        self.text.give_up_run();
+        self.is_whole = false;
+    }
+
+    /// The access unit, known to be whole only if this holds too. A run that is open goes.
+    #[inline]
+    fn finish(self, holds: bool) -> AccessUnit {
+        AccessUnit {
+            timestamp: self.timestamp,
+            bytes: self.text.into_text(),
+            extra: self.extra,
+            is_whole: self.is_whole && holds,
+        }
+    }
+}
+
+/// The access unit that is open, if one is: the next packet may belong to it. And the run that is
+/// open, in its text, or left by the last one; whether packets are missing right before the numbers
+/// that were skipped last; and the timestamp of the one that the marker of the last packet ended.
+#[derive(Debug, Clone, PartialEq, Eq)]
+pub struct OpenAccessUnit {
+    unit: Option<AccessUnitSoFar>,
+    left: OpenRun,
+    is_gap: bool,
+    closed: Option<u32>,
+}
+
+impl OpenAccessUnit {
+    /// None is open.
+    pub(crate) fn none() -> Self {
+        OpenAccessUnit {
+            unit: None,
+            left: OpenRun::none(),
+            is_gap: false,
+            closed: None,
+        }
+    }
+
+    /// Whether one is open.
+    pub fn is_open(&self) -> bool {
+        self.unit.is_some()
+    }
+
+    /// How many bytes of whole units it holds; none where none is open.
+    pub fn bytes_len(&self) -> usize {
+        match &self.unit {
+            Some(unit) => unit.text.len(),
+            None => 0,
+        }
+    }
+
+    /// How many bytes the run holds that is open; none where none is.
+    pub fn run_len(&self) -> usize {
+        match &self.unit {
+            Some(unit) => unit.text.run_len(),
+            None => self.left.len(),
+        }
+    }
+
+    /// Gives up its text where that has more bytes than this, with what it tells; it isn't whole then.
+    /// A run that is open stays. The memory goes back where the run doesn't stand in it. The answer is
+    /// whether it had more.
+    #[inline]
+    pub(crate) fn limit(&mut self, most: usize) -> bool {
+        if let Some(unit) = &mut self.unit {
+            if unit.text.len() > most {
+                unit.text.give_up_text();
+                unit.extra = CodecExtra::None;
+                unit.is_whole = false;
+                return true;
+            }
+        }
+        false
+    }
+
+    /// Forgets that a marker ended the last one.
+    #[inline]
+    pub(crate) fn forget_marker(&mut self) {
+        self.closed = None;
+    }
+
+    /// Whether it is known that nothing of its access unit is missing before a packet.
+    #[inline]
+    pub(crate) fn follows(&self, expected: Option<u16>, packet: &RtpPacket<'_>) -> bool {
+        is_following(self.is_gap, self.closed, expected, packet)
+    }
+
+    /// Packets are missing, and a number behind them is skipped: gives up the run, and neither what is
+    /// open nor what the next packet begins is known to be whole.
+    pub(crate) fn break_off(&mut self) {
+        self.is_gap = true;
+        match &mut self.unit {
+            Some(unit) => unit.break_off(),
+            None => self.left.close(),
+        }
+    }
+
+    /// Whether one is open that has this timestamp.
+    #[inline]
+    pub(crate) fn is_at(&self, timestamp: u32) -> bool {
+        match &self.unit {
+            Some(unit) => unit.timestamp == timestamp,
+            None => false,
+        }
+    }
+
+    /// Takes a packet without a marker into the one that is open, where it stands.
+    #[inline]
+    pub(crate) fn go_on<D: RunDepacketizer>(
+        &mut self,
+        packets: &mut SequencedDepacketizer<D>,
+        packet: &RtpPacket<'_>,
+    ) -> Result<Received, PacketError> {
+        match &mut self.unit {
+            Some(unit) => {
+                let received = unit.take(packets, packet, self.is_gap, self.closed, true);
+                if was_taken(&received) {
+                    self.is_gap = false;
+                    self.closed = None;
+                }
+                received
+            }
+            None => unreachable!(),
+        }
+    }
+
+    /// Takes a packet with a marker into the one that is open, and appends that.
+    pub(crate) fn go_on_to_end<D: RunDepacketizer>(
+        &mut self,
+        packets: &mut SequencedDepacketizer<D>,
+        packet: &RtpPacket<'_>,
+        out: &mut Vec<AccessUnit>,
+    ) -> Result<Received, PacketError> {
+        match self.unit.take() {
+            Some(mut unit) => {
+                let received = unit.take(packets, packet, self.is_gap, self.closed, false);
+                if !was_taken(&received) {
+                    self.unit = Some(unit);
+                    return received;
+                }
+                self.is_gap = false;
+                self.closed = Some(unit.timestamp);
+                let is_closed = unit.text.run_len() == 0;
+                unit.text.move_run(&mut self.left);
+                out.push(unit.finish(is_closed));
+                received
+            }
+            None => unreachable!(),
+        }
+    }
+
+    /// Puts one in its place, where none is open, or appends it where it has ended: then its run stands
+    /// aside.
+    #[inline]
+    pub(crate) fn put(
+        &mut self,
+        mut unit: AccessUnitSoFar,
+        is_sound: bool,
+        is_over: bool,
+        out: &mut Vec<AccessUnit>,
+    ) {
+        unit.is_whole = unit.is_whole && is_sound;
+        if is_over {
+            self.closed = Some(unit.timestamp);
+            let is_closed = unit.text.run_len() == 0;
+            unit.text.move_run(&mut self.left);
+            out.push(unit.finish(is_closed));
+        } else {
+            self.unit = Some(unit);
+        }
+    }
+
+    /// Appends it, if one is open, and gives up the run.
+    #[inline]
+    pub(crate) fn finish(&mut self, follows: bool, out: &mut Vec<AccessUnit>) {
+        self.is_gap = false;
+        self.closed = None;
+        self.left.close();
+        if let Some(unit) = self.unit.take() {
+            let is_closed = unit.text.run_len() == 0;
+            out.push(unit.finish(follows && is_closed));
+        }
+    }
+}

@@ -1,0 +1,103 @@
+// Made from crates/h26x_depacketizer/src/byte_stream.rt by tools/to-rust.
+
+//! Units as they are written: behind start codes (Annex B of H.264, H.265 and H.266), or behind their
+//! lengths (ISO/IEC 14496-15).
+
+use crate::proved::h26x_core::{ANNEXB_NALUSTART_CODE, PacketError};
+use crate::proved::h26x_depacketizer::sink::UnitSink;
+
+/// The bytes before a unit that is written: a start code (Annex B of H.264, H.265 and H.266), or its
+/// length (ISO/IEC 14496-15).
+pub const PREFIX_SIZE: usize = 4;
+
+/// What stands before a unit of this length.
+#[inline(always)]
+pub(crate) fn prefix_of(is_avc: bool, len: usize) -> [u8; 4] {
+    if is_avc {
+        (len as u32).to_be_bytes()
+    } else {
+        ANNEXB_NALUSTART_CODE
+    }
+}
+
+/// Writes what stands before a unit of this length, where there is room for it.
+#[inline(always)]
+fn put_prefix<W: UnitSink>(is_avc: bool, len: usize, out: &mut W) {
+    out.put(&prefix_of(is_avc, len));
+}
+
+/// Whether four bytes don't hold a unit's length.
+#[inline]
+pub(crate) fn is_too_long(len: usize) -> bool {
+    len > u32::MAX as usize
+}
+
+/// Writes a whole unit, where there is room for it.
+#[inline(always)]
+pub(crate) fn put_unit<W: UnitSink>(is_avc: bool, unit: &[u8], out: &mut W) {
+    put_prefix(is_avc, unit.len(), out);
+    out.put(unit);
+}
+
+/// Writes a whole unit behind its length (ISO/IEC 14496-15).
+#[inline(always)]
+fn write_behind_length<W: UnitSink>(unit: &[u8], out: &mut W) -> Result<(), PacketError> {
+    if is_too_long(unit.len()) {
+        return Err(PacketError::AvcUnitTooLong);
+    }
+    out.try_reserve(unit.len().saturating_add(PREFIX_SIZE))?;
+    put_unit(true, unit, out);
+    Ok(())
+}
+
+/// Writes a whole unit behind a start code (Annex B of H.264, H.265 and H.266).
+#[inline(always)]
+fn write_behind_start_code<W: UnitSink>(unit: &[u8], out: &mut W) -> Result<(), PacketError> {
+    out.try_reserve(unit.len().saturating_add(PREFIX_SIZE))?;
+    put_unit(false, unit, out);
+    Ok(())
+}
+
+/// Writes a whole unit, behind a start code or behind its length. A unit over `u32::MAX` bytes has no
+/// length of four bytes; else memory may lack.
+///
+/// Each form is a copy of its own, so that small units are written without a branch in between.
+#[inline(always)]
+pub fn write_unit<W: UnitSink>(is_avc: bool, unit: &[u8], out: &mut W) -> Result<(), PacketError> {
+    if is_avc {
+        write_behind_length(unit, out)
+    } else {
+        write_behind_start_code(unit, out)
+    }
+}
+
+/// Writes a unit of these parts, where there is room for it.
+fn put_parts<W: UnitSink>(is_avc: bool, head: &[u8], run: &[u8], body: &[u8], out: &mut W) {
+    put_prefix(is_avc, head.len() + run.len() + body.len(), out);
+    out.put(head);
+    if !run.is_empty() {
+        out.put(run);
+    }
+    out.put(body);
+}
+
+/// Writes a unit of these parts, as `write_unit` does: its header, the data of its run, and the last
+/// of its data (RFC 6184, 5.8; RFC 7798, 4.4.3; RFC 9328, 4.3.3).
+pub fn write_parts<W: UnitSink>(
+    is_avc: bool,
+    head: &[u8],
+    run: &[u8],
+    body: &[u8],
+    out: &mut W,
+) -> Result<(), PacketError> {
+    let len = head
+        .len()
+        .saturating_add(run.len())
+        .saturating_add(body.len());
+    if is_avc && is_too_long(len) {
+        return Err(PacketError::AvcUnitTooLong);
+    }
+    out.try_reserve(len.saturating_add(PREFIX_SIZE))?;
+    put_parts(is_avc, head, run, body, out);
+    Ok(())
+}

@@ -1,0 +1,202 @@
+// Made from crates/h26x_packetizer/src/buffer.rt by tools/to-rust.
+
+//! Packets behind each other in one buffer.
+
+mod loan;
+
+use crate::proved::h26x_packetizer::body::{Body, put_packet};
+use crate::proved::h26x_packetizer::buffer_packets::BufferPackets;
+use crate::proved::h26x_packetizer::sink::PacketSink;
+use crate::support::AllocError;
+use alloc::vec::Vec;
+use core::mem;
+
+/// Packets behind each other in one buffer, and before each so many bytes that are free for the
+/// headers of the layers below (as of RTP, RFC 3550, 5.1). A buffer that is cleared keeps its
+/// memory.
+pub struct PacketBuffer {
+    bytes: Vec<u8>,
+    ends: Vec<usize>,
+    headroom: usize,
+}
+
+/// Of bytes it tells how many there are.
+impl core::fmt::Debug for PacketBuffer {
+    fn fmt(&self, f: &mut core::fmt::Formatter<'_>) -> core::fmt::Result {
+        use crate::support::Count;
+        f.debug_struct("PacketBuffer")
+            .field("bytes", &Count(self.bytes.len()))
+            .field("ends", &self.ends)
+            .field("headroom", &self.headroom)
+            .finish()
+    }
+}
+
+/// Where the first so many packets end.
+fn end_of_first(ends: &[usize], count: usize) -> usize {
+    if count == 0 { 0 } else { ends[count - 1] }
+}
+
+/// Where the packet at a place begins and ends.
+fn bounds_of(headroom: usize, _bytes: &[u8], ends: &[usize], place: usize) -> (usize, usize) {
+    let end = ends[place];
+    let start = end_of_first(ends, place) + headroom;
+    (start, end)
+}
+
+impl PacketBuffer {
+    /// A buffer without packets, with so many free bytes before each.
+    pub fn new(headroom: usize) -> Self {
+        PacketBuffer {
+            bytes: Vec::new(),
+            ends: Vec::new(),
+            headroom,
+        }
+    }
+
+    /// Whether it holds none.
+    pub fn is_empty(&self) -> bool {
+        self.ends.is_empty()
+    }
+
+    /// How many packets it holds.
+    pub fn len(&self) -> usize {
+        self.ends.len()
+    }
+
+    /// The bytes that are free before each packet.
+    pub fn headroom(&self) -> usize {
+        self.headroom
+    }
+
+    /// The packet at a place.
+    pub(crate) fn packet(&self, place: usize) -> &[u8] {
+        let (start, end) = bounds_of(self.headroom, &self.bytes, &self.ends, place);
+        &self.bytes[start..end]
+    }
+
+    /// The packet at a place behind its headroom.
+    pub(crate) fn with_headroom(&self, place: usize) -> &[u8] {
+        let (start, end) = bounds_of(self.headroom, &self.bytes, &self.ends, place);
+        &self.bytes[start - self.headroom..end]
+    }
+
+    /// The packets, in order.
+    pub fn iter(&self) -> BufferPackets<'_> {
+        BufferPackets::new(&self.bytes, &self.ends, self.headroom)
+    }
+
+    /// All bytes as they lie: the packets behind each other, each behind its headroom.
+    pub fn bytes(&self) -> &[u8] {
+        &self.bytes
+    }
+
+    /// The places of [`bytes`](PacketBuffer::bytes) where packets end. Each begins where the one
+    /// before it ends, with its headroom.
+    pub fn packet_ends(&self) -> &[usize] {
+        &self.ends
+    }
+
+    /// Writes a header right before the packet at a place, over the last bytes of its headroom; all
+    /// else stays, and the headrooms of the other packets.
+    pub(crate) fn write_header(&mut self, place: usize, header: &[u8]) {
+        let (start, _) = bounds_of(self.headroom, &self.bytes, &self.ends, place);
+        self.bytes[start - header.len()..start].copy_from_slice(header);
+    }
+
+    /// Keeps the first so many packets with their headrooms, in the same memory.
+    pub fn truncate(&mut self, count: usize) {
+        if count < self.ends.len() {
+            self.bytes.truncate(end_of_first(&self.ends, count));
+            self.ends.truncate(count);
+        }
+    }
+
+    /// Drops every packet, and keeps the memory.
+    pub fn clear(&mut self) {
+        self.bytes.clear();
+        self.ends.clear();
+    }
+
+    /// Appends a packet of these parts, one behind the other, behind a headroom of zeros.
+    #[inline(always)]
+    pub(crate) fn push_parts(
+        &mut self,
+        header: &[u8],
+        donl: &[u8],
+        body: Body<'_>,
+    ) -> Result<(), AllocError> {
+        let len = header
+            .len()
+            .saturating_add(donl.len())
+            .saturating_add(body.len());
+        self.ends.try_reserve(1)?;
+        self.bytes.try_reserve(self.headroom.saturating_add(len))?;
+        put_packet(self.headroom, header, donl, body, &mut self.bytes);
+        self.ends.push(self.bytes.len());
+        Ok(())
+    }
+
+    /// Appends a packet behind its headroom, which is of zeros. Only want of memory refuses it, and
+    /// leaves everything.
+    pub(crate) fn try_push(&mut self, packet: &[u8]) -> Result<(), AllocError> {
+        self.push_parts(&[], &[], Body::Data(packet))
+    }
+
+    /// Appends packets, each behind its headroom of zeros: all of them, or none where memory lacks.
+    pub(crate) fn push_all(&mut self, packets: &[Vec<u8>]) -> Result<(), AllocError> {
+        let before = self.len();
+        for packet in packets {
+            if let Err(e) = self.try_push(packet) {
+                self.truncate(before);
+                return Err(e);
+            }
+        }
+        Ok(())
+    }
+
+    /// Reserves room for so many packets more, but none for their bytes.
+    pub(crate) fn try_reserve(&mut self, count: usize) -> Result<(), AllocError> {
+        Ok(self.ends.try_reserve(count)?)
+    }
+}
+
+/// A buffer to which packets are appended, and how many it had before.
+pub(crate) struct Appending {
+    buffer: PacketBuffer,
+    first: usize,
+}
+
+impl Appending {
+    /// The buffer, removed from its place, with nothing appended yet; an empty one stands there.
+    pub(crate) fn from_buffer(into: &mut PacketBuffer) -> Self {
+        let headroom = into.headroom();
+        let buffer = mem::replace(into, PacketBuffer::new(headroom));
+        let first = buffer.len();
+        Appending { buffer, first }
+    }
+
+    /// The buffer with what was appended.
+    pub(crate) fn finish(self) -> PacketBuffer {
+        self.buffer
+    }
+
+    /// The buffer as it was.
+    pub(crate) fn give_up(self) -> PacketBuffer {
+        let mut buffer = self.buffer;
+        buffer.truncate(self.first);
+        buffer
+    }
+}
+
+impl<'a> PacketSink<'a> for Appending {
+    #[inline(always)]
+    fn try_push(&mut self, header: &[u8], donl: &[u8], body: Body<'a>) -> Result<(), AllocError> {
+        self.buffer.push_parts(header, donl, body)
+    }
+
+    #[inline(always)]
+    fn try_reserve(&mut self, count: usize) -> Result<(), AllocError> {
+        self.buffer.try_reserve(count)
+    }
+}

@@ -1,0 +1,65 @@
+// Made from crates/h26x_packetizer/src/packet_parts.rt by tools/to-rust.
+
+//! Packets as the parts that they are made of, before they are copied anywhere.
+
+use crate::proved::h26x_packetizer::body::Body;
+use crate::proved::h26x_packetizer::sink::PacketSink;
+use crate::proved::h26x_payload::copy_bytes;
+use crate::support::AllocError;
+use crate::support::TryVec;
+use alloc::vec::Vec;
+
+/// How many bytes a packet's header and number have at most: those of a fragment with both.
+const LONGEST_HEADER: usize = 5;
+
+/// How many packets a list of parts takes room for at first.
+const FIRST_PARTS: usize = 8;
+
+/// A packet as its parts: its header and number, and what stands behind these, which is borrowed.
+pub struct PacketParts<'a> {
+    header: [u8; 5],
+    header_len: usize,
+    body: Body<'a>,
+}
+
+impl<'a> PacketParts<'a> {
+    /// A packet of these parts, one behind the other.
+    #[inline(always)]
+    fn new(header: &[u8], donl: &[u8], body: Body<'a>) -> Self {
+        let mut bytes = [0; LONGEST_HEADER];
+        let behind = copy_bytes(header, 0, &mut bytes);
+        let header_len = copy_bytes(donl, behind, &mut bytes);
+        PacketParts {
+            header: bytes,
+            header_len,
+            body,
+        }
+    }
+
+    /// How many bytes it has; the greatest number where they are more.
+    pub(crate) fn len(&self) -> usize {
+        self.body.len().saturating_add(self.header_len)
+    }
+
+    /// Copies it to memory of its length.
+    pub(crate) fn copy_to(&self, to: &mut [u8]) {
+        if self.header_len > 0 {
+            to[..self.header_len].copy_from_slice(&self.header[..self.header_len]);
+        }
+        self.body.copy_to(&mut to[self.header_len..]);
+    }
+}
+
+impl<'a> PacketSink<'a> for Vec<PacketParts<'a>> {
+    #[inline(always)]
+    fn try_push(&mut self, header: &[u8], donl: &[u8], body: Body<'a>) -> Result<(), AllocError> {
+        TryVec::try_push(self, PacketParts::new(header, donl, body))?;
+        Ok(())
+    }
+
+    #[inline(always)]
+    fn try_reserve(&mut self, count: usize) -> Result<(), AllocError> {
+        let least = if self.is_empty() { FIRST_PARTS } else { 0 };
+        Ok(Vec::try_reserve(self, count.max(least))?)
+    }
+}
