@@ -89,9 +89,9 @@ type AccessUnitConfig struct {
 type AccessUnit struct {
 	// Timestamp is that of its packets.
 	Timestamp uint32
-	// Data is its units, each behind 00 00 00 01 or behind its length: none of which a packet is missing.
-	Data []byte
-	Told Told
+	// Bytes is its units, each behind 00 00 00 01 or behind its length: none of which a packet is missing.
+	Bytes []byte
+	Extra CodecExtra
 	// IsWhole: it is known that nothing of it is missing.
 	IsWhole bool
 	// IsClean: nor is anything since a keyframe of which nothing is: a decoder that began there goes on. Where it is
@@ -259,8 +259,8 @@ func (r *AccessUnitReceiver) Next(now uint32) (*AccessUnit, error) {
 	return unit, nil
 }
 
-// NextInto writes the next access unit, if one has ended at this tick, to unit, whose Data's memory it uses again where
-// there is room in that, and answers whether one had; else unit stays. What stands at Next holds here too.
+// NextInto writes the next access unit, if one has ended at this tick, to unit, whose Bytes' memory it uses again
+// where there is room in that, and answers whether one had; else unit stays. What stands at Next holds here too.
 func (r *AccessUnitReceiver) NextInto(now uint32, unit *AccessUnit) (bool, error) {
 	r.mu.Lock()
 	defer r.mu.Unlock()
@@ -268,7 +268,7 @@ func (r *AccessUnitReceiver) NextInto(now uint32, unit *AccessUnit) (bool, error
 	if call == nil {
 		return false, ErrClosed
 	}
-	room := unit.Data[:cap(unit.Data)]
+	room := unit.Bytes[:cap(unit.Bytes)]
 	code := call.next(now, room)
 	if code == C.H26X_NO_ROOM {
 		room = make([]byte, larger(int(call.unit.len), 2*len(room)))
@@ -290,11 +290,11 @@ func (call *receivingUnits) next(now uint32, room []byte) C.uint32_t {
 }
 
 // told is what the last call told of an access unit, with its bytes.
-func (call *receivingUnits) told(data []byte) AccessUnit {
+func (call *receivingUnits) told(bytes []byte) AccessUnit {
 	return AccessUnit{
 		Timestamp: uint32(call.unit.timestamp),
-		Data:      data,
-		Told:      Told(call.unit.extra),
+		Bytes:     bytes,
+		Extra:     CodecExtra(call.unit.extra),
 		IsWhole:   bool(call.unit.is_whole),
 		IsClean:   bool(call.unit.is_clean),
 		Continues: bool(call.unit.continues),

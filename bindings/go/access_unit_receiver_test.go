@@ -101,7 +101,7 @@ func one(codec h26x.Codec, timestamp uint32, sequence uint16, unit []byte) h26x.
 	if isKey(codec, unit) {
 		told = h26x.Keyframe
 	}
-	return h26x.AccessUnit{Timestamp: timestamp, Data: annexB(unit), Told: told, First: sequence, Last: sequence}
+	return h26x.AccessUnit{Timestamp: timestamp, Bytes: annexB(unit), Extra: told, First: sequence, Last: sequence}
 }
 
 func whole(unit h26x.AccessUnit) h26x.AccessUnit {
@@ -180,16 +180,16 @@ func TestMarkersOfPeers(t *testing.T) {
 		// The run that is open at the marker goes with it, and the last fragment is left alone.
 		pushes(t, r, 0, 13, 6000, false, f.start, h26x.Held)
 		pushes(t, r, 0, 14, 6000, true, f.middle, h26x.Held)
-		gives(t, r, 0, h26x.AccessUnit{Timestamp: 6000, Data: []byte{}, First: 13, Last: 14})
+		gives(t, r, 0, h26x.AccessUnit{Timestamp: 6000, Bytes: []byte{}, First: 13, Last: 14})
 		pushes(t, r, 0, 15, 6000, true, f.end, h26x.Held)
-		gives(t, r, 0, h26x.AccessUnit{Timestamp: 6000, Data: []byte{}, First: 15, Last: 15, Continues: true})
+		gives(t, r, 0, h26x.AccessUnit{Timestamp: 6000, Bytes: []byte{}, First: 15, Last: 15, Continues: true})
 		// Without a marker the next timestamp is the end.
 		pushes(t, r, 0, 16, 9000, false, slice, h26x.Held)
 		pushes(t, r, 0, 17, 9000, false, slice, h26x.Held)
 		gives(t, r, 0)
 		pushes(t, r, 0, 18, 12000, true, key, h26x.Held)
 		two := whole(one(codec, 9000, 16, slice))
-		two.Data, two.Last = append(annexB(slice), annexB(slice)...), 17
+		two.Bytes, two.Last = append(annexB(slice), annexB(slice)...), 17
 		gives(t, r, 0, two, clean(one(codec, 12000, 18, key)))
 		counts(t, r, h26x.Counts{Taken: 9, Units: 7, Whole: 3})
 	}
@@ -271,7 +271,7 @@ func TestLimitsOfWhatWaits(t *testing.T) {
 		gives(t, r, 0)
 		pushes(t, r, 0, 12, 0, true, long, h26x.Held)
 		unit := one(codec, 0, 10, slice)
-		unit.Data, unit.Last = bytes.Repeat(annexB(long), 3), 12
+		unit.Bytes, unit.Last = bytes.Repeat(annexB(long), 3), 12
 		gives(t, r, 0, unit)
 	}
 }
@@ -386,7 +386,7 @@ func TestDefaultsOfSettings(t *testing.T) {
 	pushes(t, r, 0, 1001, 3000, false, slice, h26x.Held)
 	gives(t, r, 0)
 	pushes(t, r, 0, 1002, 3000, true, f.start, h26x.Held)
-	gives(t, r, 0, h26x.AccessUnit{Timestamp: 3000, Data: []byte{}, First: 1001, Last: 1002})
+	gives(t, r, 0, h26x.AccessUnit{Timestamp: 3000, Bytes: []byte{}, First: 1001, Last: 1002})
 	counts(t, r, h26x.Counts{Taken: 3, Units: 2, UnitsGivenUp: 1, TextsGivenUp: 1})
 
 	// Without a setting 8,000,000 bytes may wait, and a packet.
@@ -408,8 +408,8 @@ func TestDefaultLimitsOfWhatIsOpen(t *testing.T) {
 		done(t, err)
 		counted, err := r.Counts()
 		done(t, err)
-		if wanted := (1 - more) * (4 + 1 + 4_000_000 + 1); len(unit.Data) != wanted || counted.UnitsGivenUp != uint64(more) {
-			t.Errorf("%d bytes more: got %d, and %d given up", more, len(unit.Data), counted.UnitsGivenUp)
+		if wanted := (1 - more) * (4 + 1 + 4_000_000 + 1); len(unit.Bytes) != wanted || counted.UnitsGivenUp != uint64(more) {
+			t.Errorf("%d bytes more: got %d, and %d given up", more, len(unit.Bytes), counted.UnitsGivenUp)
 		}
 		r = newAccessUnitReceiver(t, h26x.H264, h26x.AccessUnitConfig{Window: 1})
 		pushes(t, r, 0, 1, 0, false, append(some("61"), make([]byte, 8_000_000-4-1+more)...), h26x.Held)
@@ -418,8 +418,8 @@ func TestDefaultLimitsOfWhatIsOpen(t *testing.T) {
 		done(t, err)
 		counted, err = r.Counts()
 		done(t, err)
-		if len(unit.Data) != (1-more)*8_000_000 || counted.TextsGivenUp != uint64(more) {
-			t.Errorf("%d bytes more: got %d, and %d given up", more, len(unit.Data), counted.TextsGivenUp)
+		if len(unit.Bytes) != (1-more)*8_000_000 || counted.TextsGivenUp != uint64(more) {
+			t.Errorf("%d bytes more: got %d, and %d given up", more, len(unit.Bytes), counted.TextsGivenUp)
 		}
 	}
 }
@@ -455,7 +455,7 @@ func TestFormsOfUnits(t *testing.T) {
 		pushes(t, r, 0, 1, 0, true, some(packet), h26x.Held)
 		unit := append(some(packet)[:2:2], 0xaa)
 		wanted := one(codec, 0, 1, unit)
-		wanted.Data = append([]byte{0, 0, 0, 3}, unit...)
+		wanted.Bytes = append([]byte{0, 0, 0, 3}, unit...)
 		gives(t, r, 0, wanted)
 	}
 }
@@ -473,17 +473,17 @@ func TestMemoryOfAccessUnits(t *testing.T) {
 		if !ended {
 			t.Fatal("none has ended")
 		}
-		same(t, unit.Data, annexB(wanted))
+		same(t, unit.Bytes, annexB(wanted))
 	}
 	long := append([]byte{0x61}, bytes.Repeat([]byte{7}, 60000)...)
 	pushes(t, r, 0, 1, 0, true, some("6501"), h26x.Held)
 	next(some("6501"))
 	pushes(t, r, 0, 2, 3000, true, long, h26x.Held)
 	next(long)
-	at := &unit.Data[0]
+	at := &unit.Bytes[0]
 	pushes(t, r, 0, 3, 6000, true, some("6103"), h26x.Held)
 	next(some("6103"))
-	if &unit.Data[0] != at || cap(unit.Data) < len(long)+4 {
+	if &unit.Bytes[0] != at || cap(unit.Bytes) < len(long)+4 {
 		t.Error("the memory isn't used again")
 	}
 	// None stays what was there before.
@@ -497,8 +497,8 @@ func TestMemoryOfAccessUnits(t *testing.T) {
 	done(t, err)
 	second, err := r.Next(0)
 	done(t, err)
-	same(t, first.Data, annexB(long))
-	same(t, second.Data, annexB(bytes.Repeat([]byte{0x61}, 60001)))
+	same(t, first.Bytes, annexB(long))
+	same(t, second.Bytes, annexB(bytes.Repeat([]byte{0x61}, 60001)))
 	// Nor is the payload kept.
 	payload := some("6109")
 	pushes(t, r, 0, 6, 15000, true, payload, h26x.Held)

@@ -72,8 +72,8 @@ func left(codec h26x.Codec, all []sentUnit, came map[int]bool, numberOf func(int
 			Timestamp: timestampOf(i), First: numberOf(first), Last: numberOf(last), Missing: uint32(last - before - count),
 			IsWhole: count == one.last-one.first+1 && came[one.first-1],
 		}
-		unit.Data, unit.Told = textThatCame(codec, one, came)
-		isClean = unit.IsWhole && (unit.Told == h26x.Keyframe || isClean)
+		unit.Bytes, unit.Extra = textThatCame(codec, one, came)
+		isClean = unit.IsWhole && (unit.Extra == h26x.Keyframe || isClean)
 		unit.IsClean = isClean
 		units, before = append(units, unit), last
 	}
@@ -83,7 +83,7 @@ func left(codec h26x.Codec, all []sentUnit, came map[int]bool, numberOf func(int
 // timestampOf is that of an access unit: they go round in the middle of a stream.
 func timestampOf(unit int) uint32 { return 0xffff_0000 + uint32(unit)*3000 }
 
-func textThatCame(codec h26x.Codec, one sentUnit, came map[int]bool) (data []byte, told h26x.Told) {
+func textThatCame(codec h26x.Codec, one sentUnit, came map[int]bool) (data []byte, told h26x.CodecExtra) {
 	data = []byte{}
 	for _, unit := range one.units {
 		if !isWhole(unit, came) {

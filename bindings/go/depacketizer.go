@@ -11,20 +11,30 @@ import (
 // beforeUnit is how many bytes stand before a unit: a start code, or its length.
 const beforeUnit = 4
 
-// Told is what is told of the units that a packet completed, or of those of an access unit.
-type Told uint8
+// A CodecExtra is what is told of the units that a packet completed, or of those of an access unit.
+type CodecExtra uint8
 
 // What is told.
 const (
 	// NoUnits: there are none.
-	NoUnits Told = 0
+	NoUnits CodecExtra = 0
 	// NoKeyframe: there are units, none of them of a keyframe.
-	NoKeyframe Told = 1
+	NoKeyframe CodecExtra = 1
 	// Keyframe: a unit of a keyframe is among them: of an IDR picture (H.264), an IRAP picture (H.265), an
 	// IDR or a CRA picture (H.266). A recovery point without one (intra refresh, gradual decoding refresh)
 	// is none.
-	Keyframe Told = 2
+	Keyframe CodecExtra = 2
 )
+
+// IsKeyframe tells whether a unit of a keyframe is among them.
+func (e CodecExtra) IsKeyframe() bool { return e == Keyframe }
+
+// Depacketized is what a packet completed.
+type Depacketized struct {
+	// Bytes is the units, each behind 00 00 00 01 or behind its length.
+	Bytes []byte
+	Extra CodecExtra
+}
 
 // A Depacketizer writes the units of RTP payloads (RFC 6184, 5; RFC 7798, 4.4; RFC 9328, 4.3). It has the
 // methods of Pion's rtp.Depacketizer.
@@ -122,21 +132,27 @@ func (d *Depacketizer) SetAVC(avc bool) error {
 	return nil
 }
 
-// Unmarshal takes a packet, and answers the units that it completes in memory that is the caller's: nil
-// where it completes none. What stands at Append holds here too.
-func (d *Depacketizer) Unmarshal(packet []byte) ([]byte, error) {
+// Depacketize takes a packet, and answers the units that it completes, in memory that is the caller's. What
+// stands at DepacketizeInto holds here too.
+func (d *Depacketizer) Depacketize(packet []byte) (Depacketized, error) {
 	d.mu.Lock()
 	defer d.mu.Unlock()
-	written, _, err := d.append(d.kept[:0], packet)
+	written, extra, err := d.depacketizeInto(d.kept[:0], packet)
 	if err != nil {
-		return nil, err
+		return Depacketized{}, err
 	}
 	d.kept = written
-	return append([]byte(nil), written...), nil
+	return Depacketized{append([]byte(nil), written...), extra}, nil
 }
 
-// Append takes a packet, and appends the units that it completes to dst, each behind 00 00 00 01 or behind
-// its length.
+// Unmarshal is Depacketize for Pion: it answers the bytes alone, nil where the packet completes no unit.
+func (d *Depacketizer) Unmarshal(packet []byte) ([]byte, error) {
+	got, err := d.Depacketize(packet)
+	return got.Bytes, err
+}
+
+// DepacketizeInto takes a packet, and appends the units that it completes to dst, each behind 00 00 00 01 or
+// behind its length.
 //
 // Its errors are of the packet (see [IsPacketError]), ErrOutOfMemory and ErrClosed; each leaves dst and the
 // depacketizer as they are, so pass the packet over and go on with the next. One refused for want of memory
@@ -144,13 +160,13 @@ func (d *Depacketizer) Unmarshal(packet []byte) ([]byte, error) {
 //
 // A peer that never ends a unit makes the open unit as long as all that it sends: a Receiver has a limit;
 // else add up the lengths of the fragments since one had its S bit, and call GiveUpRun.
-func (d *Depacketizer) Append(dst, packet []byte) ([]byte, Told, error) {
+func (d *Depacketizer) DepacketizeInto(dst, packet []byte) ([]byte, CodecExtra, error) {
 	d.mu.Lock()
 	defer d.mu.Unlock()
-	return d.append(dst, packet)
+	return d.depacketizeInto(dst, packet)
 }
 
-func (d *Depacketizer) append(dst, packet []byte) ([]byte, Told, error) {
+func (d *Depacketizer) depacketizeInto(dst, packet []byte) ([]byte, CodecExtra, error) {
 	call := d.call
 	if call == nil {
 		return dst, NoUnits, ErrClosed
@@ -164,7 +180,7 @@ func (d *Depacketizer) append(dst, packet []byte) ([]byte, Told, error) {
 	if code != C.H26X_OK {
 		return dst, NoUnits, refused(code, call.why)
 	}
-	return withWritten(out, &call.handle, int(call.written)), Told(call.extra), nil
+	return withWritten(out, &call.handle, int(call.written)), CodecExtra(call.extra), nil
 }
 
 // withWritten is out with the bytes that a call wrote behind it, or had no room for.

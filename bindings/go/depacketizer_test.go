@@ -8,7 +8,7 @@ import (
 )
 
 // takes gives a packet, and compares what it completes, behind what stood there.
-func takes(t *testing.T, d *h26x.Depacketizer, packet, units string, told h26x.Told) {
+func takes(t *testing.T, d *h26x.Depacketizer, packet, units string, told h26x.CodecExtra) {
 	t.Helper()
 	clone, err := d.Clone()
 	done(t, err)
@@ -16,18 +16,24 @@ func takes(t *testing.T, d *h26x.Depacketizer, packet, units string, told h26x.T
 	out, err := clone.Unmarshal(some(packet))
 	done(t, err)
 	same(t, out, some(units))
-	out, got, err := d.Append([]byte("before"), some(packet))
+	another, err := d.Clone()
+	done(t, err)
+	defer another.Close()
+	completed, err := another.Depacketize(some(packet))
+	done(t, err)
+	same(t, completed.Bytes, some(units))
+	out, got, err := d.DepacketizeInto([]byte("before"), some(packet))
 	done(t, err)
 	same(t, out, append([]byte("before"), some(units)...))
-	if got != told {
-		t.Fatalf("told %d, wanted %d", got, told)
+	if got != told || completed.Extra != told || got.IsKeyframe() != (told == h26x.Keyframe) {
+		t.Fatalf("told %d and %d, wanted %d", got, completed.Extra, told)
 	}
 }
 
 // refusesPacket gives a packet that is refused, which leaves all.
 func refusesPacket(t *testing.T, d *h26x.Depacketizer, packet string, code h26x.Code, numbers ...uint) {
 	t.Helper()
-	out, told, err := d.Append([]byte("before"), some(packet))
+	out, told, err := d.DepacketizeInto([]byte("before"), some(packet))
 	refuses(t, err, code, numbers...)
 	same(t, out, []byte("before"))
 	if told != h26x.NoUnits {
@@ -36,6 +42,11 @@ func refusesPacket(t *testing.T, d *h26x.Depacketizer, packet string, code h26x.
 	out, err = d.Unmarshal(some(packet))
 	refuses(t, err, code, numbers...)
 	same(t, out, nil)
+	completed, err := d.Depacketize(some(packet))
+	refuses(t, err, code, numbers...)
+	if completed.Bytes != nil || completed.Extra != h26x.NoUnits {
+		t.Fatalf("got %+v", completed)
+	}
 }
 
 func TestUnitsOfH264(t *testing.T) {
@@ -147,7 +158,7 @@ func TestLongUnit(t *testing.T) {
 	done(t, err)
 	wanted := append(append(some("00000001"), unit...), 9)
 	same(t, long, wanted)
-	out, _, err := clone.Append(make([]byte, 3, 20), some("7c4509"))
+	out, _, err := clone.DepacketizeInto(make([]byte, 3, 20), some("7c4509"))
 	done(t, err)
 	same(t, out, append(make([]byte, 3), wanted...))
 }
@@ -156,7 +167,7 @@ func TestLongUnit(t *testing.T) {
 func TestPacketInTheSameMemory(t *testing.T) {
 	memory := make([]byte, 64)
 	packet := memory[2 : 2+copy(memory[2:], some("78 0003 070001 0003 080203"))]
-	out, _, err := newDepacketizer(t, h26x.H264, false, false).Append(memory[:0], packet)
+	out, _, err := newDepacketizer(t, h26x.H264, false, false).DepacketizeInto(memory[:0], packet)
 	done(t, err)
 	same(t, out, some("00000001 070001 00000001 080203"))
 	if &out[0] != &memory[0] {
@@ -176,13 +187,13 @@ func TestShown(t *testing.T) {
 			t.Fatalf("got %+v", got)
 		}
 		for i, part := range parts {
-			same(t, got.Parts[i].Data, part.Data)
+			same(t, got.Parts[i].Bytes, part.Bytes)
 			if got.Parts[i].Number != part.Number {
 				t.Fatalf("got %+v", got)
 			}
 		}
 	}
-	part := func(data string, number int) h26x.Part { return h26x.Part{Data: some(data), Number: number} }
+	part := func(data string, number int) h26x.Part { return h26x.Part{Bytes: some(data), Number: number} }
 	shows("0201 ffff aa", h26x.Single, 0x0201, 0, part("aa", 0xffff))
 	shows("620193 0102 aa", h26x.Fragment, 0x6201, 0x93, part("aa", 0x0102))
 	shows("620153 0304", h26x.Fragment, 0x6201, 0x53, part("0304", -1))

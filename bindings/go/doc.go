@@ -23,8 +23,8 @@
 // library. Close frees it; what isn't closed is freed some time after it can't be reached. Every other call
 // that answers errors answers [ErrClosed] behind Close, and so it does of a value that no call made.
 // Goroutines may share an object: by a lock a call that changes it runs alone, and those that only look at
-// it (Clone, Shown, RunLen, Deadline, Missing, Counts, and all of FormatParameters but Close) run at once.
-// It must not be copied.
+// it (Clone, Equal, PacketsSize, Shown, RunLen, Deadline, Missing, Counts, and all of FormatParameters but
+// Close) run at once. It must not be copied.
 //
 // # Bytes
 //

@@ -28,8 +28,8 @@ const (
 	ErrSTAPATooLong Code = C.H26X_STAP_A_TOO_LONG
 	// ErrH265Corrupted: the packet's forbidden bit is set (RFC 7798, 1.1.4).
 	ErrH265Corrupted Code = C.H26X_H265_CORRUPTED
-	// ErrPACIExtensionTooLong: an extension of a PACI packet has at most 31 bytes (RFC 7798, 4.4.4).
-	ErrPACIExtensionTooLong Code = C.H26X_H265_PACI_PHES_TOO_LONG
+	// ErrH265PACIPHESTooLong: an extension of a PACI packet has at most 31 bytes (RFC 7798, 4.4.4).
+	ErrH265PACIPHESTooLong Code = C.H26X_H265_PACI_PHES_TOO_LONG
 	// ErrH266Corrupted: the packet's forbidden bit is set, or an aggregate holds an aggregate or a
 	// fragment (RFC 9328, 1.1.4 and 4.3.2).
 	ErrH266Corrupted Code = C.H26X_H266_CORRUPTED

@@ -29,7 +29,7 @@ func Example() {
 			continue // that packet's alone: pass it over
 		}
 		fmt.Printf("%d: %x, %v\n", sequence, packet, got.Outcome)
-		out = append(out, got.Data...)
+		out = append(out, got.Bytes...)
 		sequence++
 	}
 	fmt.Println(bytes.Equal(out, frame))
@@ -121,7 +121,7 @@ func ExampleAccessUnitReceiver() {
 			} else if unit == nil {
 				break
 			}
-			fmt.Printf("%d: %x, %d missing, known to be whole: %v\n", unit.Timestamp, unit.Data, unit.Missing, unit.IsWhole)
+			fmt.Printf("%d: %x, %d missing, known to be whole: %v\n", unit.Timestamp, unit.Bytes, unit.Missing, unit.IsWhole)
 		}
 	}
 	// Output:
@@ -247,7 +247,7 @@ func sendAndReceive(stream []byte, each int) (pictures, gaps int) {
 			if got.Outcome == h26x.Gap {
 				gaps++
 			}
-			for back := h26x.UnitsOf(h26x.H264, got.Data); back.Next(); {
+			for back := h26x.UnitsOf(h26x.H264, got.Bytes); back.Next(); {
 				if kind := back.Unit()[0] & 31; kind == 1 || kind == 5 {
 					pictures++
 				}

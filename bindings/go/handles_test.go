@@ -26,15 +26,17 @@ func closedCalls(p *h26x.Packetizer, d *h26x.Depacketizer, r *h26x.Receiver, u *
 		"SetMaxPacketSize":  func() error { return p.SetMaxPacketSize(9) },
 		"SetLowestHeader":   func() error { return p.SetLowestHeader(true) },
 		"Clone":             func() error { _, err := p.Clone(); return err },
+		"PacketsSize":       func() error { _, _, err := p.PacketsSize(99, unit, 0); return err },
 		"Unmarshal":         func() error { _, err := d.Unmarshal(unit); return err },
-		"Append":            func() error { _, _, err := d.Append(nil, unit); return err },
+		"Depacketize":       func() error { _, err := d.Depacketize(unit); return err },
+		"DepacketizeInto":   func() error { _, _, err := d.DepacketizeInto(nil, unit); return err },
 		"d.SetDONL":         func() error { return d.SetDONL(true) },
 		"d.SetAVC":          func() error { return d.SetAVC(true) },
 		"GiveUpRun":         func() error { return d.GiveUpRun() },
 		"d.Clone":           func() error { _, err := d.Clone(); return err },
 		"d.Shown":           func() error { _, err := d.Shown(); return err },
 		"Receive":           func() error { _, err := r.Receive(1, unit); return err },
-		"r.Append":          func() error { _, _, err := r.Append(nil, 1, unit); return err },
+		"ReceiveInto":       func() error { _, _, err := r.ReceiveInto(nil, 1, unit); return err },
 		"r.SetDONL":         func() error { return r.SetDONL(true) },
 		"r.SetAVC":          func() error { return r.SetAVC(true) },
 		"Restart":           func() error { return r.Restart() },
@@ -101,7 +103,7 @@ func TestMemoryIsGivenBack(t *testing.T) {
 	for n := 0; n < 400; n++ {
 		d, err := h26x.NewDepacketizer(h26x.H264)
 		done(t, err)
-		_, _, err = d.Append(nil, packet)
+		_, _, err = d.DepacketizeInto(nil, packet)
 		done(t, err)
 		if n%2 == 0 {
 			d.Close()
@@ -163,7 +165,7 @@ func TestGoroutines(t *testing.T) {
 					t.Error("a unit of another call")
 				}
 				got, err := r.Receive(uint16(i), unit)
-				if err != nil || got.Outcome != h26x.Late && !bytes.Equal(got.Data[4:], unit) {
+				if err != nil || got.Outcome != h26x.Late && !bytes.Equal(got.Bytes[4:], unit) {
 					t.Error("a unit of another packet")
 				}
 			}
@@ -222,7 +224,7 @@ func TestGoroutinesOfAccessUnits(t *testing.T) {
 			if unit == nil {
 				return
 			}
-			if unit.First != unit.Last || !bytes.Equal(unit.Data[5:], bytes.Repeat([]byte{byte(unit.First)}, 1000)) {
+			if unit.First != unit.Last || !bytes.Equal(unit.Bytes[5:], bytes.Repeat([]byte{byte(unit.First)}, 1000)) {
 				t.Error("bytes of another access unit")
 			}
 			mu.Lock()
@@ -294,7 +296,7 @@ func TestNoMemoryForEachPacket(t *testing.T) {
 		rest := out
 		for i := 0; i < into.Len(); i++ {
 			var err error
-			if rest, _, err = r.Append(rest, sequence, into.Packet(i)); err != nil {
+			if rest, _, err = r.ReceiveInto(rest, sequence, into.Packet(i)); err != nil {
 				t.Fatal(err)
 			}
 			sequence++
@@ -319,7 +321,7 @@ func TestNoMemoryForEachAccessUnit(t *testing.T) {
 			t.Fatal(err)
 		}
 		sequence++
-		if ended, err := u.NextInto(0, &unit); !ended || err != nil || !bytes.Equal(unit.Data[4:], packet) {
+		if ended, err := u.NextInto(0, &unit); !ended || err != nil || !bytes.Equal(unit.Bytes[4:], packet) {
 			t.Fatal("another access unit", err)
 		}
 	}
@@ -355,7 +357,7 @@ func BenchmarkReceive(b *testing.B) {
 	b.SetBytes(int64(len(packet)))
 	b.ReportAllocs()
 	for i := 0; i < b.N; i++ {
-		if _, _, err := r.Append(out, uint16(i), packet); err != nil {
+		if _, _, err := r.ReceiveInto(out, uint16(i), packet); err != nil {
 			b.Fatal(err)
 		}
 	}

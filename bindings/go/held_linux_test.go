@@ -53,7 +53,7 @@ func TestWhatAPeerMakesAReceiverHold(t *testing.T) {
 	for _, r := range receivers {
 		for _, packet := range packets {
 			for i := 0; i < 2; i++ {
-				_, _, err := r.Append(out, sequence, packet)
+				_, _, err := r.ReceiveInto(out, sequence, packet)
 				done(t, err)
 				sequence++
 			}
@@ -89,7 +89,7 @@ func TestWhatAPeerMakesAnAccessUnitReceiverHold(t *testing.T) {
 			Window: 1 << 14, Far: 20000, HeldLimit: smallHeldLimit, RunLimit: smallRunLimit, UnitLimit: smallUnitLimit,
 		})
 	}
-	unit := h26x.AccessUnit{Data: make([]byte, 0, 4*longestPacket)}
+	unit := h26x.AccessUnit{Bytes: make([]byte, 0, 4*longestPacket)}
 	before := resident(t)
 	for _, u := range receivers {
 		peer := hostilePeer{t: t, to: u}

@@ -30,6 +30,13 @@ func DetectH264NALU(packet []byte, naluType uint8) bool {
 	return bool(C.h26x_detect_h264_nalu(at(packet), C.size_t(len(packet)), C.uint8_t(naluType)))
 }
 
+// SetLowestHeader gives an aggregation packet of H.265 the header that RFC 7798, 4.4.2 asks for: the lowest layer and
+// the lowest temporal id of the units in it, and F where one has it. donl tells whether packets bear decoding order
+// numbers. Every other packet stays, and those of H.264 and H.266 and of an unknown codec.
+func SetLowestHeader(codec Codec, donl bool, packet []byte) {
+	C.h26x_set_lowest_header(C.uint32_t(codec), C.bool(donl), at(packet), C.size_t(len(packet)))
+}
+
 // OutSizeHint is about how many bytes the units of packets of this many bytes take when they are written. It
 // is no bound, since each unit of a short packet has four bytes before it: 50 units of 100 bytes take 5200,
 // and the hint is 5020.

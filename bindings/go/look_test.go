@@ -146,6 +146,30 @@ func TestUnitInAUnit(t *testing.T) {
 	}
 }
 
+// RFC 7798, 4.4.2: the layer and the temporal id are the lowest of the units, and F is set where one has it.
+func TestLowestHeaders(t *testing.T) {
+	const sets, numbered = "600b 0002 4001 0002 4201 0002 4401", "6000 0009 0002 430b 00 0002 c512"
+	for _, one := range []struct {
+		codec          h26x.Codec
+		donl           bool
+		packet, wanted string
+	}{
+		{h26x.H265, false, sets, "6001 0002 4001 0002 4201 0002 4401"},
+		{h26x.H265, true, numbered, "e10a 0009 0002 430b 00 0002 c512"},
+		{h26x.H265, true, sets, sets},
+		{h26x.H265, false, "600b 0002 4001 00", "600b 0002 4001 00"},
+		{h26x.H265, false, "020b 0002 4001 0002 4201", "020b 0002 4001 0002 4201"},
+		{h26x.H265, false, "", ""},
+		{h26x.H264, false, sets, sets},
+		{h26x.H266, false, sets, sets},
+		{7, false, sets, sets},
+	} {
+		packet := some(one.packet)
+		h26x.SetLowestHeader(one.codec, one.donl, packet)
+		same(t, packet, some(one.wanted))
+	}
+}
+
 func TestHints(t *testing.T) {
 	for size, hint := range map[uint]uint{0: 4, 1199: 1203, 1200: 1208, 5000: 5020, ^uint(0): ^uint(0)} {
 		if got := h26x.OutSizeHint(size); got != hint {
@@ -166,7 +190,7 @@ func TestPACIPackets(t *testing.T) {
 		same(t, packet, some(one[2]))
 	}
 	_, err := h26x.PACIPacket(some("0201"), make([]byte, 32))
-	refuses(t, err, h26x.ErrPACIExtensionTooLong)
+	refuses(t, err, h26x.ErrH265PACIPHESTooLong)
 	_, err = h26x.PACIPacket(some("02"), make([]byte, 32))
 	refuses(t, err, h26x.ErrShortPacket)
 	packet, err := h26x.PACIPacket(some("0201aabb"), make([]byte, 31))
@@ -184,7 +208,7 @@ func TestProfiles(t *testing.T) {
 		0xff64001f: {h26x.H264ProfileHigh, h26x.H264Level3_1},
 		0x640c34:   {h26x.H264ProfileConstrainedHigh, h26x.H264Level5_2},
 		0x2c1015:   {h26x.H264ProfileCAVLC444Intra, h26x.H264Level2_1},
-		0x42100b:   {h26x.H264ProfileBaseline, h26x.H264Level1b},
+		0x42100b:   {h26x.H264ProfileBaseline, h26x.H264Level1B},
 	} {
 		if got, ok := h26x.ParseH264ProfileLevel(id); !ok || got != wanted {
 			t.Errorf("%x: got %+v", id, got)
@@ -214,6 +238,117 @@ func TestProfiles(t *testing.T) {
 	}
 	if profiles != [2]int{11, 8} || tiers != [2]int{2, 2} || levels != [2]int{13, 15} {
 		t.Errorf("known: %v profiles, %v tiers, %v levels", profiles, tiers, levels)
+	}
+}
+
+// RFC 6184, 8.1 with table 5; RFC 7798, 7.1; RFC 9328, 7.2.
+func TestProfilesOfParameters(t *testing.T) {
+	for id, wanted := range map[string]h26x.H264ProfileLevel{
+		"42e01f": {h26x.H264ProfileConstrainedBaseline, h26x.H264Level3_1},
+		"640C1F": {h26x.H264ProfileConstrainedHigh, h26x.H264Level3_1},
+		"42100b": {h26x.H264ProfileBaseline, h26x.H264Level1B},
+	} {
+		got, ok := h26x.H264ProfileLevelFromFmtp(map[string]string{"packetization-mode": "1", "profile-level-id": id})
+		if !ok || got != wanted {
+			t.Errorf("%s: got %+v", id, got)
+		}
+	}
+	for _, id := range []string{"", "42e01", "0042e01f", "42e01g", " 42e01f", "63001f", "640063"} {
+		if got, ok := h26x.H264ProfileLevelFromFmtp(map[string]string{"profile-level-id": id}); ok || got != (h26x.H264ProfileLevel{}) {
+			t.Errorf("%q: got %+v", id, got)
+		}
+	}
+	if _, ok := h26x.H264ProfileLevelFromFmtp(nil); ok {
+		t.Error("a profile of no parameters")
+	}
+	main265 := h26x.H265ProfileTierLevel{Profile: h26x.H265ProfileMain, Tier: h26x.H265TierMain, Level: h26x.H265Level3_1}
+	high265 := h26x.H265ProfileTierLevel{Profile: h26x.H265ProfileMain10, Tier: h26x.H265TierHigh, Level: h26x.H265Level6_2}
+	main266 := h26x.H266ProfileTierLevel{Profile: h26x.H266ProfileMain10, Tier: h26x.H266TierMain, Level: h26x.H266Level3_1}
+	high266 := h26x.H266ProfileTierLevel{
+		Profile: h26x.H266ProfileMain10_444, Tier: h26x.H266TierHigh, Level: h26x.H266Level15_5,
+	}
+	none265, none266 := h26x.H265ProfileTierLevel{}, h26x.H266ProfileTierLevel{}
+	for _, one := range []struct {
+		profileID, tierFlag, levelID string
+		h265                         h26x.H265ProfileTierLevel
+		h266                         h26x.H266ProfileTierLevel
+	}{
+		{"1", "0", "93", main265, none266},
+		{"2", "1", "186", high265, none266},
+		{"1", "0", "51", none265, main266},
+		{"+33", "01", "255", none265, high266},
+		{"99", "0", "93", none265, none266},
+		{"1", "5", "93", none265, none266},
+		{"1", "0", "256", none265, none266},
+		{"257", "0", "93", none265, none266},
+		{"1", "", "93", none265, none266},
+		{"1", "-0", "93", none265, none266},
+		{" 1", "0", "93", none265, none266},
+		{"++1", "0", "93", none265, none266},
+		{"1_0", "0", "93", none265, none266},
+	} {
+		params := map[string]string{"profile-id": one.profileID, "tier-flag": one.tierFlag, "level-id": one.levelID, "x": "1"}
+		h265, ok265 := h26x.H265ProfileTierLevelFromFmtp(params)
+		h266, ok266 := h26x.H266ProfileTierLevelFromFmtp(params)
+		if h265 != one.h265 || ok265 != (one.h265 != none265) || h266 != one.h266 || ok266 != (one.h266 != none266) {
+			t.Errorf("%v: got %+v and %+v", params, h265, h266)
+		}
+		for name := range params {
+			without := map[string]string{}
+			for other, value := range params {
+				if other != name {
+					without[other] = value
+				}
+			}
+			if _, ok := h26x.H265ProfileTierLevelFromFmtp(without); ok && name != "x" {
+				t.Errorf("one without %s", name)
+			}
+			if _, ok := h26x.H266ProfileTierLevelFromFmtp(without); ok && name != "x" {
+				t.Errorf("one without %s", name)
+			}
+		}
+	}
+	if got, ok := h26x.NewH265ProfileTierLevel(2, 1, 186); !ok || got != high265 {
+		t.Errorf("got %+v", got)
+	}
+	if got, ok := h26x.NewH266ProfileTierLevel(33, 1, 255); !ok || got != high266 {
+		t.Errorf("got %+v", got)
+	}
+	_, ok265 := h26x.NewH265ProfileTierLevel(1, 0, 51)
+	_, ok266 := h26x.NewH266ProfileTierLevel(1, 0, 93)
+	if ok265 || ok266 {
+		t.Error("a level of the other codec")
+	}
+}
+
+// From the lowest to the highest (Annex A of each standard). Level 1b is between 1 and 1.1.
+func TestOrderOfLevels(t *testing.T) {
+	h264 := []h26x.H264Level{h26x.H264Level1, h26x.H264Level1B, h26x.H264Level1_1, h26x.H264Level1_2, h26x.H264Level1_3,
+		h26x.H264Level2, h26x.H264Level2_1, h26x.H264Level2_2, h26x.H264Level3, h26x.H264Level3_1, h26x.H264Level3_2,
+		h26x.H264Level4, h26x.H264Level4_1, h26x.H264Level4_2, h26x.H264Level5, h26x.H264Level5_1, h26x.H264Level5_2}
+	for i := 1; i < len(h264); i++ {
+		if !(h264[i-1] < h264[i]) {
+			t.Errorf("level %d of H.264", i)
+		}
+	}
+	h265 := []h26x.H265Level{h26x.H265Level1, h26x.H265Level2, h26x.H265Level2_1, h26x.H265Level3, h26x.H265Level3_1,
+		h26x.H265Level4, h26x.H265Level4_1, h26x.H265Level5, h26x.H265Level5_1, h26x.H265Level5_2, h26x.H265Level6,
+		h26x.H265Level6_1, h26x.H265Level6_2}
+	for i := 1; i < len(h265); i++ {
+		if !(h265[i-1] < h265[i]) {
+			t.Errorf("level %d of H.265", i)
+		}
+	}
+	h266 := []h26x.H266Level{h26x.H266Level1, h26x.H266Level2, h26x.H266Level2_1, h26x.H266Level3, h26x.H266Level3_1,
+		h26x.H266Level4, h26x.H266Level4_1, h26x.H266Level5, h26x.H266Level5_1, h26x.H266Level5_2, h26x.H266Level6,
+		h26x.H266Level6_1, h26x.H266Level6_2, h26x.H266Level6_3, h26x.H266Level15_5}
+	for i := 1; i < len(h266); i++ {
+		if !(h266[i-1] < h266[i]) {
+			t.Errorf("level %d of H.266", i)
+		}
+	}
+	if len(h264) != 17 || len(h265) != 13 || len(h266) != 15 {
+		t.Error("other levels")
 	}
 }
 
@@ -262,16 +397,13 @@ func TestEachCallIsMade(t *testing.T) {
 		t.Skip("the header lies beside the package in its repository")
 	}
 	leftOut := map[string]string{
-		"h26x_packetize":         "packets come straight into memory of Go's",
-		"h26x_packetize_unit":    "the same",
-		"h26x_packet_count":      "the same",
-		"h26x_packet_len":        "the same",
-		"h26x_packets_len":       "the same",
-		"h26x_packet_copy":       "the same",
-		"h26x_packets_copy":      "the same",
-		"h26x_packets_size":      "Packets grow",
-		"h26x_set_lowest_header": "a packetizer's setting does it",
-		"h26x_depacketizer_same": "it would lock two at once",
+		"h26x_packetize":      "packets come straight into memory of Go's",
+		"h26x_packetize_unit": "the same",
+		"h26x_packet_count":   "the same",
+		"h26x_packet_len":     "the same",
+		"h26x_packets_len":    "the same",
+		"h26x_packet_copy":    "the same",
+		"h26x_packets_copy":   "the same",
 	}
 	files, err := os.ReadDir(".")
 	done(t, err)

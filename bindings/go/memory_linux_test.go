@@ -47,16 +47,16 @@ func TestWantOfMemory(t *testing.T) {
 	}
 	d, packet := newDepacketizer(t, h26x.H264, false, false), append(some("7c85"), make([]byte, 60000)...)
 	out := make([]byte, 0, 2*len(packet))
-	_, _, err := d.Append(out, packet)
+	_, _, err := d.DepacketizeInto(out, packet)
 	done(t, err)
 	littleMemory(t)
 	packet[1] = 0x05
 	for n := 0; err == nil && n < 5000; n++ {
-		_, _, err = d.Append(out, packet)
+		_, _, err = d.DepacketizeInto(out, packet)
 	}
 	refuses(t, err, h26x.ErrOutOfMemory)
 	// The same packet is refused again, until there is memory.
-	_, _, err = d.Append(out, packet)
+	_, _, err = d.DepacketizeInto(out, packet)
 	refuses(t, err, h26x.ErrOutOfMemory)
 	done(t, d.GiveUpRun())
 	takes(t, d, "7c8501", "", h26x.NoUnits)
@@ -92,7 +92,7 @@ func TestWantOfMemoryForWhatWaits(t *testing.T) {
 	done(t, u.Finish())
 	unit, err := u.Next(0)
 	done(t, err)
-	same(t, unit.Data, annexB(packet))
+	same(t, unit.Bytes, annexB(packet))
 	counts(t, u, h26x.Counts{Taken: 1, Units: 1})
 }
 
@@ -124,7 +124,7 @@ func TestWantOfMemoryForFormatParameters(t *testing.T) {
 	payload, held := annexB(set), make([]*h26x.FormatParameters, 0, 5000)
 	text := "profile-level-id=42C01F;sprop-parameter-sets=" + base64.StdEncoding.EncodeToString(set)
 	another := func() error {
-		f, err := h26x.FormatParametersOf(h26x.H264, payload)
+		f, err := h26x.FormatParametersOfPayload(h26x.H264, payload)
 		if err == nil {
 			held = append(held, f)
 		}

@@ -179,6 +179,22 @@ func (p *Packetizer) PacketizeUnitInto(mtu uint16, unit []byte, into *Packets) e
 	return p.makes(true, mtu, unit, into)
 }
 
+// PacketsSize tells how many packets PacketizeInto would make of a payload, and how many bytes they take with
+// so much headroom before each. The packetizer is left as it is. It panics where NewPackets does; its errors are
+// those of Packetize.
+func (p *Packetizer) PacketsSize(mtu uint16, payload []byte, headroom int) (count, size int, err error) {
+	checkHeadroom(headroom)
+	p.mu.RLock()
+	defer p.mu.RUnlock()
+	if p.call == nil {
+		return 0, 0, ErrClosed
+	}
+	told := new([2]C.size_t)
+	code := C.h26x_packets_size(&p.call.handle, C.size_t(mtu), at(payload), C.size_t(len(payload)),
+		C.size_t(headroom), &told[0], &told[1])
+	return int(told[0]), int(told[1]), refusedBy(code)
+}
+
 // copies makes packets in memory of their own.
 func (p *Packetizer) copies(isUnit bool, mtu uint16, bytes []byte) ([][]byte, error) {
 	p.mu.Lock()

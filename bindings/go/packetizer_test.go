@@ -205,16 +205,47 @@ func TestPayloadInTheSameMemory(t *testing.T) {
 }
 
 func TestHeadroomOutOfRange(t *testing.T) {
+	p := newPacketizer(t, h26x.H264, false)
 	for _, headroom := range []int{-1, 65536} {
-		func() {
-			defer func() {
-				if recover() == nil {
-					t.Errorf("headroom of %d is taken", headroom)
-				}
+		for _, call := range []func(){
+			func() { h26x.NewPackets(headroom) },
+			func() { p.PacketsSize(1500, some("65"), headroom) },
+		} {
+			func() {
+				defer func() {
+					if recover() == nil {
+						t.Errorf("headroom of %d is taken", headroom)
+					}
+				}()
+				call()
 			}()
-			h26x.NewPackets(headroom)
-		}()
+		}
 	}
+}
+
+// By hand: an FU-A has two bytes before its data, a STAP-A three and two for each further set (RFC 6184, 5.7 and 5.8).
+func TestHowMuchMemoryPacketsTake(t *testing.T) {
+	p := newPacketizer(t, h26x.H264, false)
+	for _, one := range []struct {
+		mtu                   uint16
+		payload               string
+		headroom, count, size int
+	}{
+		{4, "6501020304", 0, 2, 8},
+		{4, "6501020304", 2, 2, 12},
+		{4, "6501020304", 65535, 2, 2 * 65539},
+		{1500, "000001 0799 000001 0899 000001 05", 1, 2, 1 + 9 + 1 + 1},
+		{1500, "000001 0799", 1, 0, 0},
+		{1500, "", 1, 0, 0},
+	} {
+		count, size, err := p.PacketsSize(one.mtu, some(one.payload), one.headroom)
+		done(t, err)
+		if count != one.count || size != one.size {
+			t.Errorf("%+v: got %d packets of %d bytes", one, count, size)
+		}
+	}
+	// It left the packetizer: no set waits.
+	sends(t, p, 1500, "05", "05")
 }
 
 // Sets of layer 0 and temporal id 1 before a slice of layer 1 and temporal id 3 (RFC 7798, 4.4.2).

@@ -22,10 +22,14 @@ type Packets struct {
 // NewPackets has no packets yet, and leaves so many bytes before each of those that come. It panics where
 // headroom is negative or over 65535, which no headers of a packet are.
 func NewPackets(headroom int) *Packets {
+	checkHeadroom(headroom)
+	return &Packets{headroom: headroom}
+}
+
+func checkHeadroom(headroom int) {
 	if headroom < 0 || headroom > 65535 {
 		panic("h26x: headroom is " + strconv.Itoa(headroom))
 	}
-	return &Packets{headroom: headroom}
 }
 
 // Headroom is how many bytes are before each packet.

@@ -3,6 +3,12 @@ package h26x
 // #include <h26x.h>
 import "C"
 
+import (
+	"encoding/hex"
+	"strconv"
+	"strings"
+)
+
 // An H264Profile is a profile of H.264 (RFC 6184, 8.1).
 type H264Profile uint8
 
@@ -29,7 +35,7 @@ type H264Level uint8
 // The levels of H.264.
 const (
 	H264Level1   H264Level = C.H26X_H264_LEVEL_1
-	H264Level1b  H264Level = C.H26X_H264_LEVEL_1B
+	H264Level1B  H264Level = C.H26X_H264_LEVEL_1B
 	H264Level1_1 H264Level = C.H26X_H264_LEVEL_1_1
 	H264Level1_2 H264Level = C.H26X_H264_LEVEL_1_2
 	H264Level1_3 H264Level = C.H26X_H264_LEVEL_1_3
@@ -65,6 +71,15 @@ const (
 	H265ProfileHighThroughputScreenContentCoding H265Profile = C.H26X_H265_HIGH_THROUGHPUT_SCREEN_CONTENT_CODING
 )
 
+// An H265Tier is tier-flag of H.265 (RFC 7798, 7.1).
+type H265Tier uint8
+
+// The tiers of H.265.
+const (
+	H265TierMain H265Tier = 0
+	H265TierHigh H265Tier = 1
+)
+
 // An H265Level is level-id of H.265, so that < compares levels.
 type H265Level uint8
 
@@ -98,6 +113,15 @@ const (
 	H266ProfileMultilayerMain10StillPicture     H266Profile = C.H26X_H266_MULTILAYER_MAIN_10_STILL_PICTURE
 	H266ProfileMain10_444StillPicture           H266Profile = C.H26X_H266_MAIN_10_444_STILL_PICTURE
 	H266ProfileMultilayerMain10_444StillPicture H266Profile = C.H26X_H266_MULTILAYER_MAIN_10_444_STILL_PICTURE
+)
+
+// An H266Tier is tier-flag of H.266 (RFC 9328, 7.2).
+type H266Tier uint8
+
+// The tiers of H.266.
+const (
+	H266TierMain H266Tier = 0
+	H266TierHigh H266Tier = 1
 )
 
 // An H266Level is level-id of H.266, so that < compares levels.
@@ -138,6 +162,16 @@ func ParseH264ProfileLevel(profileLevelID uint32) (H264ProfileLevel, bool) {
 	return H264ProfileLevel{H264Profile(numbers[0]), H264Level(numbers[1])}, true
 }
 
+// H264ProfileLevelFromFmtp is what the parameter profile-level-id of a format says, by six hexadecimal digits.
+// False where it isn't there, is another text, or names nothing.
+func H264ProfileLevelFromFmtp(params map[string]string) (H264ProfileLevel, bool) {
+	id, err := hex.DecodeString(params["profile-level-id"])
+	if err != nil || len(id) != 3 {
+		return H264ProfileLevel{}, false
+	}
+	return ParseH264ProfileLevel(uint32(id[0])<<16 | uint32(id[1])<<8 | uint32(id[2]))
+}
+
 // H265IsKnown tells whether profile-id, tier-flag (0 Main, 1 High) and level-id of H.265 are all known (RFC
 // 7798, 7.1). Where a format says nothing they are H265ProfileMain, 0 and H265Level3_1.
 func H265IsKnown(profile H265Profile, tierFlag uint8, level H265Level) bool {
@@ -148,4 +182,68 @@ func H265IsKnown(profile H265Profile, tierFlag uint8, level H265Level) bool {
 // 9328, 7.2). Where a format says nothing they are H266ProfileMain10, 0 and H266Level3_1.
 func H266IsKnown(profile H266Profile, tierFlag uint8, level H266Level) bool {
 	return bool(C.h26x_h266_is_known(C.uint8_t(profile), C.uint8_t(tierFlag), C.uint8_t(level)))
+}
+
+// An H265ProfileTierLevel is a profile, a tier and a level of H.265.
+type H265ProfileTierLevel struct {
+	Profile H265Profile
+	Tier    H265Tier
+	Level   H265Level
+}
+
+// NewH265ProfileTierLevel is that of profile-id, tier-flag and level-id. False where H265IsKnown is.
+func NewH265ProfileTierLevel(profileID, tierFlag, levelID uint8) (H265ProfileTierLevel, bool) {
+	it := H265ProfileTierLevel{H265Profile(profileID), H265Tier(tierFlag), H265Level(levelID)}
+	if !H265IsKnown(it.Profile, tierFlag, it.Level) {
+		return H265ProfileTierLevel{}, false
+	}
+	return it, true
+}
+
+// H265ProfileTierLevelFromFmtp is what the parameters profile-id, tier-flag and level-id of a format say. False where
+// one of them isn't there, is no number, or isn't known.
+func H265ProfileTierLevelFromFmtp(params map[string]string) (H265ProfileTierLevel, bool) {
+	numbers, ok := numbersIn(params)
+	if !ok {
+		return H265ProfileTierLevel{}, false
+	}
+	return NewH265ProfileTierLevel(numbers[0], numbers[1], numbers[2])
+}
+
+// An H266ProfileTierLevel is a profile, a tier and a level of H.266.
+type H266ProfileTierLevel struct {
+	Profile H266Profile
+	Tier    H266Tier
+	Level   H266Level
+}
+
+// NewH266ProfileTierLevel is that of profile-id, tier-flag and level-id. False where H266IsKnown is.
+func NewH266ProfileTierLevel(profileID, tierFlag, levelID uint8) (H266ProfileTierLevel, bool) {
+	it := H266ProfileTierLevel{H266Profile(profileID), H266Tier(tierFlag), H266Level(levelID)}
+	if !H266IsKnown(it.Profile, tierFlag, it.Level) {
+		return H266ProfileTierLevel{}, false
+	}
+	return it, true
+}
+
+// H266ProfileTierLevelFromFmtp is what the parameters profile-id, tier-flag and level-id of a format say. False where
+// one of them isn't there, is no number, or isn't known.
+func H266ProfileTierLevelFromFmtp(params map[string]string) (H266ProfileTierLevel, bool) {
+	numbers, ok := numbersIn(params)
+	if !ok {
+		return H266ProfileTierLevel{}, false
+	}
+	return NewH266ProfileTierLevel(numbers[0], numbers[1], numbers[2])
+}
+
+// numbersIn is profile-id, tier-flag and level-id, each in decimal digits, behind a + if there is one.
+func numbersIn(params map[string]string) (numbers [3]uint8, ok bool) {
+	for i, name := range [3]string{"profile-id", "tier-flag", "level-id"} {
+		number, err := strconv.ParseUint(strings.TrimPrefix(params[name], "+"), 10, 8)
+		if err != nil {
+			return numbers, false
+		}
+		numbers[i] = uint8(number)
+	}
+	return numbers, true
 }

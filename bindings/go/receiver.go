@@ -48,9 +48,9 @@ type Received struct {
 	Outcome Outcome
 	// Distance is how many packets are missing before it, or how far it is behind: see Outcome.
 	Distance uint16
-	Told     Told
-	// Data is the units, each behind 00 00 00 01 or behind its length.
-	Data []byte
+	Extra    CodecExtra
+	// Bytes is the units, each behind 00 00 00 01 or behind its length.
+	Bytes []byte
 }
 
 // A Receiver writes the units of RTP payloads that come with their sequence numbers.
@@ -155,21 +155,21 @@ func (r *Receiver) SetAVC(avc bool) error {
 }
 
 // Receive takes a packet with its sequence number, and answers what became of it and the units that it
-// completes, in memory that is the caller's. What stands at Append holds here too.
+// completes, in memory that is the caller's. What stands at ReceiveInto holds here too.
 func (r *Receiver) Receive(sequence uint16, packet []byte) (Received, error) {
 	r.mu.Lock()
 	defer r.mu.Unlock()
-	written, received, err := r.append(r.kept[:0], sequence, packet)
+	written, received, err := r.receiveInto(r.kept[:0], sequence, packet)
 	if err != nil {
 		return Received{}, err
 	}
 	r.kept = written
-	received.Data = append([]byte(nil), written...)
+	received.Bytes = append([]byte(nil), written...)
 	return received, nil
 }
 
-// Append takes a packet with its sequence number, and appends the units that it completes to dst; Data is
-// these, behind what stood in dst.
+// ReceiveInto takes a packet with its sequence number, and appends the units that it completes to dst; Bytes
+// is these, behind what stood in dst.
 //
 // Its errors are of the packet (see [IsPacketError]), ErrOutOfMemory and ErrClosed; each leaves all as it
 // is, as if the packet had not come: pass it over, and go on with the next, which is behind a gap then. One
@@ -178,13 +178,13 @@ func (r *Receiver) Receive(sequence uint16, packet []byte) (Received, error) {
 // A gap tells of packets that are missing, and nothing of what they held: ask the peer for a keyframe where
 // decoding can't go on. A number 32768 or more ahead of the one expected is late, so where a peer's numbers
 // jump all its packets are late, one after the other: call Restart.
-func (r *Receiver) Append(dst []byte, sequence uint16, packet []byte) ([]byte, Received, error) {
+func (r *Receiver) ReceiveInto(dst []byte, sequence uint16, packet []byte) ([]byte, Received, error) {
 	r.mu.Lock()
 	defer r.mu.Unlock()
-	return r.append(dst, sequence, packet)
+	return r.receiveInto(dst, sequence, packet)
 }
 
-func (r *Receiver) append(dst []byte, sequence uint16, packet []byte) ([]byte, Received, error) {
+func (r *Receiver) receiveInto(dst []byte, sequence uint16, packet []byte) ([]byte, Received, error) {
 	call := r.call
 	if call == nil {
 		return dst, Received{}, ErrClosed
@@ -199,8 +199,8 @@ func (r *Receiver) append(dst []byte, sequence uint16, packet []byte) ([]byte, R
 		return dst, Received{}, refused(code, call.why)
 	}
 	out = withWritten(out, &call.handle.at, int(call.written))
-	data := out[len(dst):len(out):len(out)]
-	return out, Received{Outcome(call.outcome), uint16(call.distance), Told(call.extra), data}, nil
+	units := out[len(dst):len(out):len(out)]
+	return out, Received{Outcome(call.outcome), uint16(call.distance), CodecExtra(call.extra), units}, nil
 }
 
 // Skip passes over a number that came and bears nothing of the stream, as that of padding alone, of forward

@@ -21,14 +21,14 @@ func receives(t *testing.T, r *h26x.Receiver, steps ...step) {
 	for i, s := range steps {
 		clone, err := r.Clone()
 		done(t, err)
-		out, appended, err := clone.Append([]byte("before"), s.sequence, s.packet)
+		out, appended, err := clone.ReceiveInto([]byte("before"), s.sequence, s.packet)
 		done(t, err)
 		same(t, out, append([]byte("before"), s.data...))
-		same(t, appended.Data, s.data)
+		same(t, appended.Bytes, s.data)
 		clone.Close()
 		got, err := r.Receive(s.sequence, s.packet)
 		done(t, err)
-		same(t, got.Data, s.data)
+		same(t, got.Bytes, s.data)
 		if got.Outcome != s.outcome || got.Distance != s.distance || r.RunLen() != s.runLen {
 			t.Fatalf("step %d: got %v of %d, and %d bytes open", i, got.Outcome, got.Distance, r.RunLen())
 		}
@@ -36,8 +36,8 @@ func receives(t *testing.T, r *h26x.Receiver, steps ...step) {
 		if len(s.data) > 0 {
 			told = h26x.Keyframe
 		}
-		if got.Told != told || appended.Told != told || appended.Outcome != s.outcome {
-			t.Fatalf("step %d: told %d", i, got.Told)
+		if got.Extra != told || appended.Extra != told || appended.Outcome != s.outcome {
+			t.Fatalf("step %d: told %d", i, got.Extra)
 		}
 	}
 }
@@ -163,6 +163,6 @@ func TestAnswersAreTheCallers(t *testing.T) {
 		_, err = r.Receive(uint16(2*i+1), some("6199999999"))
 		done(t, err)
 		same(t, unmarshalled, annexB(some(first)))
-		same(t, received.Data, annexB(some(first)))
+		same(t, received.Bytes, annexB(some(first)))
 	}
 }

@@ -9,7 +9,6 @@ import (
 	"runtime"
 	"strings"
 	"sync"
-	"unsafe"
 )
 
 // FormatParameters are what an a=fmtp line says behind the payload type (RFC 6184, 8.1; RFC 7798, 7.1; RFC 9328, 7.2).
@@ -40,11 +39,11 @@ func ReadFormatParameters(codec Codec, text string) (*FormatParameters, error) {
 	return call.made(refused(code, *why))
 }
 
-// FormatParametersOf is what a sender says of its stream, of the bytes that it begins with (Annex B): profile, tier and
-// level of the first SPS, and the sets before the first slice.
+// FormatParametersOfPayload is what a sender says of its stream, of the bytes that it begins with (Annex B): profile,
+// tier and level of the first SPS, and the sets before the first slice.
 //
 // Its errors are ErrSDPNoSet, ErrSDPShortSet, ErrSDPNoProfile, ErrUnknownCodec and ErrOutOfMemory.
-func FormatParametersOf(codec Codec, payload []byte) (*FormatParameters, error) {
+func FormatParametersOfPayload(codec Codec, payload []byte) (*FormatParameters, error) {
 	call := new(format)
 	code := C.h26x_sdp_of_payload(C.uint32_t(codec), at(payload), C.size_t(len(payload)), &call.handle)
 	return call.made(refusedBy(code))
@@ -82,29 +81,12 @@ func (f *FormatParameters) Codec() Codec { return f.codec }
 // first that is made is the answer, with the payload type of the offered format (RFC 3264, 6.1). It is for both
 // directions, and for unicast (RFC 6184, 8.2.2; RFC 7798, 7.2.2; RFC 9328, 7.3.2).
 func (f *FormatParameters) Answer(ours *FormatParameters) (*FormatParameters, error) {
-	defer lockBoth(f, ours)()
+	defer lockBoth(&f.mu, &ours.mu)()
 	if f.call == nil || ours.call == nil {
 		return nil, ErrClosed
 	}
 	call := new(format)
 	return call.made(refusedBy(C.h26x_sdp_answer(&f.call.handle, &ours.call.handle, &call.handle)))
-}
-
-// lockBoth locks two that are only looked at, in the order of their addresses, so that no two calls wait for each
-// other. It answers what unlocks them.
-func lockBoth(a, b *FormatParameters) (unlock func()) {
-	if uintptr(unsafe.Pointer(b)) < uintptr(unsafe.Pointer(a)) {
-		a, b = b, a
-	}
-	a.mu.RLock()
-	if a == b {
-		return a.mu.RUnlock
-	}
-	b.mu.RLock()
-	return func() {
-		b.mu.RUnlock()
-		a.mu.RUnlock()
-	}
 }
 
 // Text is what stands behind the payload type in an a=fmtp line: the parameters of the RFC in its order, and the others
@@ -203,39 +185,38 @@ func (f *FormatParameters) Units(name string) ([][]byte, error) {
 	return units, nil
 }
 
-// LevelParameterSets are the parameter sets of a level of H.264 (RFC 6184, 8.1).
-type LevelParameterSets struct {
+// LevelSets are the parameter sets of a level of H.264 (RFC 6184, 8.1).
+type LevelSets struct {
 	ProfileLevelID [3]byte // profile_idc, profile_iop and level_idc, as in profile-level-id
 	Sets           [][]byte
 }
 
-// LevelParameterSets are those of sprop-level-parameter-sets, the sets of other levels: ErrSDPAbsent where it isn't
-// given.
+// LevelSets are those of sprop-level-parameter-sets, the sets of other levels: ErrSDPAbsent where it isn't given.
 //
-// What is no level is told with its place, as a LevelError.
-func (f *FormatParameters) LevelParameterSets() ([]LevelParameterSets, error) {
+// What is no level is told with its place, as a LevelSetsError.
+func (f *FormatParameters) LevelSets() ([]LevelSets, error) {
 	value, err := f.Value("sprop-level-parameter-sets")
 	if err != nil {
 		return nil, err
 	}
 	texts := strings.Split(value, ":")
-	var levels []LevelParameterSets
+	var levels []LevelSets
 	for ; len(texts) > 1; texts = texts[2:] {
 		level, err := levelOf(texts[0], texts[1])
 		if err != nil {
-			return nil, &LevelError{len(levels), err}
+			return nil, &LevelSetsError{len(levels), err}
 		}
 		levels = append(levels, level)
 	}
 	if len(texts) == 1 {
-		return nil, &LevelError{len(levels), ErrSDPAbsent}
+		return nil, &LevelSetsError{len(levels), ErrSDPAbsent}
 	}
 	return levels, nil
 }
 
 // levelOf is a level of its two texts, each of which is read as what it is outside.
-func levelOf(id, sets string) (LevelParameterSets, error) {
-	var level LevelParameterSets
+func levelOf(id, sets string) (LevelSets, error) {
+	var level LevelSets
 	one, err := ReadFormatParameters(H264, "profile-level-id="+id+";sprop-parameter-sets="+sets)
 	if err != nil {
 		return level, err
@@ -248,16 +229,16 @@ func levelOf(id, sets string) (LevelParameterSets, error) {
 	return level, err
 }
 
-// A LevelError says which level, from 0, of sprop-level-parameter-sets is none, and why.
-type LevelError struct {
-	Level int
+// A LevelSetsError says which level, by its place from 0, of sprop-level-parameter-sets is none, and why.
+type LevelSetsError struct {
+	Place int
 	Err   error
 }
 
-func (e *LevelError) Error() string { return fmt.Sprintf("h26x: level %d: %v", e.Level, e.Err) }
+func (e *LevelSetsError) Error() string { return fmt.Sprintf("h26x: level %d: %v", e.Place, e.Err) }
 
 // Unwrap is why.
-func (e *LevelError) Unwrap() error { return e.Err }
+func (e *LevelSetsError) Unwrap() error { return e.Err }
 
 // A FormatParameter is a name and a value.
 type FormatParameter struct {
@@ -355,11 +336,22 @@ func (f *FormatParameters) InteropConstraints() (Constraints, error) {
 	}, nil
 }
 
+// A ParallelTool is how pictures are coded for parallel decoding.
+type ParallelTool uint8
+
+// The tools.
+const (
+	// NoWavefronts: by tiles or slices (t).
+	NoWavefronts ParallelTool = C.H26X_NO_WAVEFRONTS
+	// Wavefronts: by wavefronts (w).
+	Wavefronts ParallelTool = C.H26X_WAVEFRONTS
+)
+
 // A CapabilityPoint is what a decoder of H.265 can do where a stream is coded for parallel decoding, beyond what it can
 // do with any (RFC 7798, 7.1).
 type CapabilityPoint struct {
-	// Wavefronts: the stream is coded by them (w); else by tiles or slices (t).
-	Wavefronts bool
+	// Tool is the one that the stream uses.
+	Tool ParallelTool
 	// SpatialSegmentation is the least min_spatial_segmentation_idc of the stream, from 1 to 4095.
 	SpatialSegmentation uint64
 	// TierFlag is 0 for the Main tier, 1 for High; LevelID the highest level, as in level-id; MaxLSR the most luma
@@ -416,7 +408,7 @@ func (f *FormatParameters) points(orDefault bool) ([]CapabilityPoint, error) {
 func pointOf(it *C.h26x_capability_point) CapabilityPoint {
 	limit := func(number C.uint64_t, isThere C.uint8_t) Limit { return Limit{uint64(number), isThere != 0} }
 	return CapabilityPoint{
-		Wavefronts:          it.tool == C.H26X_WAVEFRONTS,
+		Tool:                ParallelTool(it.tool),
 		SpatialSegmentation: uint64(it.spatial_segmentation),
 		TierFlag:            limit(it.tier_flag, it.has_tier_flag),
 		LevelID:             limit(it.level_id, it.has_level_id),

@@ -243,7 +243,7 @@ func TestManyUnits(t *testing.T) {
 
 func TestSetsOfLevels(t *testing.T) {
 	const name = "sprop-level-parameter-sets="
-	levels, err := formatOf(t, h26x.H264, name+"42E00B:Z0LgCw==,aMs=:4de00b:aMs=").LevelParameterSets()
+	levels, err := formatOf(t, h26x.H264, name+"42E00B:Z0LgCw==,aMs=:4de00b:aMs=").LevelSets()
 	done(t, err)
 	if len(levels) != 2 || levels[0].ProfileLevelID != [3]byte{0x42, 0xe0, 0x0b} ||
 		levels[1].ProfileLevelID != [3]byte{0x4d, 0xe0, 0x0b} {
@@ -251,7 +251,7 @@ func TestSetsOfLevels(t *testing.T) {
 	}
 	sameAll(t, levels[0].Sets, many("6742e00b|68cb"))
 	sameAll(t, levels[1].Sets, many("68cb"))
-	if _, err := formatOf(t, h26x.H264, "").LevelParameterSets(); !errors.Is(err, h26x.ErrSDPAbsent) {
+	if _, err := formatOf(t, h26x.H264, "").LevelSets(); !errors.Is(err, h26x.ErrSDPAbsent) {
 		t.Errorf("none: %v", err)
 	}
 	for _, one := range []struct {
@@ -266,9 +266,9 @@ func TestSetsOfLevels(t *testing.T) {
 		{"42e00b:Zw==,Zw", 0, h26x.ErrSDPNotBase64},
 		{"42e00b:aMs=:42e00c:aMs=,ZQ==", 1, h26x.ErrSDPOtherType},
 	} {
-		levels, err := formatOf(t, h26x.H264, name+one.value).LevelParameterSets()
-		var fault *h26x.LevelError
-		if levels != nil || !errors.As(err, &fault) || fault.Level != one.level || !errors.Is(err, one.code) {
+		levels, err := formatOf(t, h26x.H264, name+one.value).LevelSets()
+		var fault *h26x.LevelSetsError
+		if levels != nil || !errors.As(err, &fault) || fault.Place != one.level || !errors.Is(err, one.code) {
 			t.Errorf("%q: %v and %v", one.value, levels, err)
 		}
 	}
@@ -371,7 +371,7 @@ func TestWhatAStreamSays(t *testing.T) {
 			"profile-id=1;tier-flag=0;interop-constraints=oIAAAAAAAAAAAX4=;level-id=51;sprop-sps=AHkADQIzoIAAAAMAAAMAAAMAAX7/", 0},
 		{267, "6742c01f", "", h26x.ErrUnknownCodec},
 	} {
-		f, err := h26x.FormatParametersOf(one.codec, some(one.payload))
+		f, err := h26x.FormatParametersOfPayload(one.codec, some(one.payload))
 		if one.code != 0 {
 			refuses(t, err, one.code)
 			continue
@@ -452,17 +452,17 @@ func TestCapabilityPoints(t *testing.T) {
 		given, orDefault []h26x.CapabilityPoint
 	}{
 		{"dec-parallel-cap={w:8;level-id=93,t:4;level-id=90}; level-id=120",
-			[]h26x.CapabilityPoint{{Wavefronts: true, SpatialSegmentation: 8, LevelID: is(93)},
+			[]h26x.CapabilityPoint{{Tool: h26x.Wavefronts, SpatialSegmentation: 8, LevelID: is(93)},
 				{SpatialSegmentation: 4, LevelID: is(90)}},
-			[]h26x.CapabilityPoint{{Wavefronts: true, SpatialSegmentation: 8, TierFlag: is(0), LevelID: is(93)},
+			[]h26x.CapabilityPoint{{Tool: h26x.Wavefronts, SpatialSegmentation: 8, TierFlag: is(0), LevelID: is(93)},
 				{SpatialSegmentation: 4, TierFlag: is(0), LevelID: is(90)}}},
 		{"max-recv-level-id=150;level-id=120;max-br=8;dec-parallel-cap={t:4095;tier-flag=1;max-lps=0}",
 			[]h26x.CapabilityPoint{{SpatialSegmentation: 4095, TierFlag: is(1), MaxLPS: is(0)}},
 			[]h26x.CapabilityPoint{{SpatialSegmentation: 4095, TierFlag: is(1), LevelID: is(150), MaxLPS: is(0),
 				MaxBR: is(8)}}},
 		{"tier-flag=1;max-lsr=9;max-lps=7;dec-parallel-cap={w:1;max-lsr=18446744073709551615}",
-			[]h26x.CapabilityPoint{{Wavefronts: true, SpatialSegmentation: 1, MaxLSR: is(math.MaxUint64)}},
-			[]h26x.CapabilityPoint{{Wavefronts: true, SpatialSegmentation: 1, TierFlag: is(1), LevelID: is(93),
+			[]h26x.CapabilityPoint{{Tool: h26x.Wavefronts, SpatialSegmentation: 1, MaxLSR: is(math.MaxUint64)}},
+			[]h26x.CapabilityPoint{{Tool: h26x.Wavefronts, SpatialSegmentation: 1, TierFlag: is(1), LevelID: is(93),
 				MaxLSR: is(math.MaxUint64), MaxLPS: is(7)}}},
 	} {
 		f := formatOf(t, h26x.H265, one.line)

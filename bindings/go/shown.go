@@ -31,7 +31,7 @@ type ShownPacket struct {
 
 // A Part is a part of a packet.
 type Part struct {
-	Data []byte
+	Bytes []byte
 	// Number is what stands before it: DONL, or DOND of a unit behind the first. It is -1 without one.
 	Number int
 }
@@ -60,7 +60,7 @@ func part(handle *C.h26x_depacketizer, i C.size_t) Part {
 
 // PACIPacket is a PACI packet of a unit of H.265, its header first, with an extension of the header (RFC
 // 7798, 4.4.4). F0 is set where the extension has three bytes or more. Its errors are ErrShortPacket where
-// the unit has under two bytes; else ErrPACIExtensionTooLong where the extension has over 31; else
+// the unit has under two bytes; else ErrH265PACIPHESTooLong where the extension has over 31; else
 // ErrOutOfMemory.
 func PACIPacket(unit, extension []byte) ([]byte, error) {
 	// The word of the packet, of two bytes, is all that stands in it besides.

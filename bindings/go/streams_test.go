@@ -27,7 +27,7 @@ func TestStreamsThereAndBack(t *testing.T) {
 		for _, mtu := range mtus {
 			packets := newPacketizer(t, codec, false).Payload(mtu, stream(t, codec))
 			units := [][]byte(nil)
-			wanted := map[int]h26x.Told{}
+			wanted := map[int]h26x.CodecExtra{}
 			for _, one := range placedIn(t, codec, packets) {
 				units = append(units, one.unit)
 				if isKey(codec, one.unit) {
@@ -47,8 +47,8 @@ func TestStreamsThereAndBack(t *testing.T) {
 					out, err := d.Unmarshal(packet)
 					done(t, err)
 					back = append(back, out...)
-					var told h26x.Told
-					appended, told, err = again.Append(appended, packet)
+					var told h26x.CodecExtra
+					appended, told, err = again.DepacketizeInto(appended, packet)
 					done(t, err)
 					if told != wanted[n] {
 						t.Fatalf("packet %d: told %d, wanted %d", n, told, wanted[n])
@@ -69,7 +69,7 @@ func TestStreamsWithDecodingOrderNumbers(t *testing.T) {
 			for n, packet := range p.Payload(mtu, stream(t, codec)) {
 				got, err := r.Receive(uint16(n), packet)
 				done(t, err)
-				back = append(back, got.Data...)
+				back = append(back, got.Bytes...)
 			}
 			same(t, back, text(false, sent(t, codec)...))
 		}
@@ -84,7 +84,7 @@ func TestStreamsUnitByUnit(t *testing.T) {
 		for _, unit := range sent(t, codec) {
 			done(t, p.PacketizeUnitInto(40, unit, into))
 			for i := 0; i < into.Len(); i++ {
-				out, got, err := r.Append(back, sequence, into.Packet(i))
+				out, got, err := r.ReceiveInto(back, sequence, into.Packet(i))
 				done(t, err)
 				if got.Outcome != h26x.InOrder || len(into.Datagram(i)) > 52 {
 					t.Fatalf("%v, %d bytes", got.Outcome, len(into.Datagram(i)))
@@ -163,7 +163,7 @@ func outcome(units []placed, coming []int) []h26x.Received {
 		upTo = n + 1
 		for _, one := range units {
 			if one.last == n && isWhole(one, taken) {
-				answer.Data = append(answer.Data, text(false, one.unit)...)
+				answer.Bytes = append(answer.Bytes, text(false, one.unit)...)
 			}
 		}
 		answers = append(answers, answer)
@@ -210,11 +210,11 @@ func throughLosses(t *testing.T, codec h26x.Codec, packets [][]byte, units []pla
 	for i, wanted := range outcome(units, coming) {
 		got, err := r.Receive(uint16(first+coming[i]), packets[coming[i]])
 		done(t, err)
-		if got.Outcome != wanted.Outcome || got.Distance != wanted.Distance || !bytes.Equal(got.Data, wanted.Data) {
+		if got.Outcome != wanted.Outcome || got.Distance != wanted.Distance || !bytes.Equal(got.Bytes, wanted.Bytes) {
 			t.Fatalf("packet %d: got %v of %d, wanted %v of %d", coming[i], got.Outcome, got.Distance,
 				wanted.Outcome, wanted.Distance)
 		}
-		whole -= len(got.Data)
+		whole -= len(got.Bytes)
 	}
 	return whole
 }

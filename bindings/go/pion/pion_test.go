@@ -240,7 +240,7 @@ func TestPeersAndPadding(t *testing.T) {
 			}
 			return
 		}
-		to, got, err := receiver.Append(out, packet.SequenceNumber, packet.Payload)
+		to, got, err := receiver.ReceiveInto(out, packet.SequenceNumber, packet.Payload)
 		if err != nil {
 			refused++
 		} else if got.Outcome == h26x.Gap {
@@ -298,11 +298,11 @@ func TestPeersAndPaddingInAccessUnits(t *testing.T) {
 	}
 	hasBegun := false
 	for i, unit := range got {
-		if !bytes.Equal(unitsOf(h26x.H264, unit.Data), unitsOf(h26x.H264, wanted[i])) {
+		if !bytes.Equal(unitsOf(h26x.H264, unit.Bytes), unitsOf(h26x.H264, wanted[i])) {
 			t.Errorf("access unit %d is another one", i)
 		}
 		// Of the first nobody knows whether one was sent before it, so the second keyframe is where a recorder begins.
-		if unit.Missing > 0 || unit.IsWhole != (i > 0) || unit.IsClean != (hasBegun || unit.IsWhole && unit.Told == h26x.Keyframe) {
+		if unit.Missing > 0 || unit.IsWhole != (i > 0) || unit.IsClean != (hasBegun || unit.IsWhole && unit.Extra == h26x.Keyframe) {
 			t.Errorf("access unit %d: %d missing, whole %v, clean %v", i, unit.Missing, unit.IsWhole, unit.IsClean)
 		}
 		hasBegun = hasBegun || unit.IsClean

@@ -59,7 +59,7 @@ def pushes(
 def gives(receiver: AccessUnitReceiver, now: int, *wanted: AccessUnit) -> None:
     """Compares all access units that have ended at a tick."""
     assert list(receiver.units(now)) == list(wanted)
-    assert receiver.next_unit(now) is None
+    assert receiver.next(now) is None
 
 
 def one(codec: Codec, timestamp: int, sequence: int, unit: bytes, **told: Any) -> AccessUnit:
@@ -67,7 +67,7 @@ def one(codec: Codec, timestamp: int, sequence: int, unit: bytes, **told: Any) -
     there = AccessUnit(
         timestamp=timestamp,
         data=annex_b([unit]),
-        keyframe=is_key(codec, unit),
+        is_keyframe=is_key(codec, unit),
         is_whole=False,
         is_clean=False,
         continues=False,
@@ -130,7 +130,7 @@ def test_markers_of_peers(codec: Codec) -> None:
     # Nothing is missing, but nobody knows whether the picture goes on again.
     gives(receiver, 0, one(codec, 3000, 12, slice_, continues=True, is_clean=True))
     # The run that is open at the marker goes with it, and the last fragment is left alone.
-    nothing = one(codec, 6000, 13, slice_, data=b"", keyframe=None)
+    nothing = one(codec, 6000, 13, slice_, data=b"", is_keyframe=None)
     pushes(receiver, 0, (13, 6000, False, start))
     pushes(receiver, 0, (14, 6000, True, middle))
     gives(receiver, 0, replace(nothing, last=14))
@@ -317,7 +317,7 @@ def test_settings_of_nothing() -> None:
     pushes(receiver, 0, (1001, 3000, False, slice_))
     gives(receiver, 0)
     pushes(receiver, 0, (1002, 3000, True, FRAGMENTS[Codec.H264].start))
-    gives(receiver, 0, one(Codec.H264, 3000, 1001, key, data=b"", keyframe=None, last=1002))
+    gives(receiver, 0, one(Codec.H264, 3000, 1001, key, data=b"", is_keyframe=None, last=1002))
     assert receiver.counts() == Counts(taken=3, units=2, units_given_up=1, texts_given_up=1)
 
 
@@ -364,7 +364,7 @@ def test_numbers_that_are_none(name: str, now: int, packet: Tuple[int, int, bool
             receiver.skip(now, packet[0])
     if name == "now":
         with pytest.raises(ValueError, match=name):
-            receiver.next_unit(now)
+            receiver.next(now)
     gives(receiver, 0)
     assert receiver.counts() == Counts()
 

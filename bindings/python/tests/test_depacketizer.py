@@ -154,9 +154,9 @@ def test_copies(codec: Codec) -> None:
     depacketizer.depacketize(fragments.start)
     depacketizer.depacketize(fragments.middle)
     copy = depacketizer.copy()
-    assert copy.same(depacketizer) and depacketizer.same(copy) and copy.same(copy)
+    assert copy == depacketizer and not copy != depacketizer
     depacketizer.give_up_run()
-    assert not copy.same(depacketizer) and not depacketizer.same(copy)
+    assert copy != depacketizer and not copy == depacketizer
     assert depacketizer.depacketize(fragments.end).data == b""
     assert copy.depacketize(fragments.end).data == behind_lengths([fragments.unit])
     # A copy keeps the settings.
@@ -169,14 +169,28 @@ def test_settings_of_a_copy() -> None:
     takes(copy, "00390002dd", "00000001 0039dd", True)
 
 
-def test_what_is_the_same() -> None:
+def test_what_is_equal() -> None:
     first, second = Depacketizer(Codec.H265), Depacketizer(Codec.H265, donl=True)
-    assert not first.same(second)
+    assert first != second
     second.donl = False
-    assert first.same(second)
+    assert first == second
+    second.avc = True
+    assert first != second
+    second.avc = False
     takes(second, "0201aa", "00000001 0201aa", False)
-    assert not first.same(second)
-    assert not first.same(Depacketizer(Codec.H266))
+    assert first != second
+    assert first != Depacketizer(Codec.H266) and first != 0 and first is not None
+    with pytest.raises(TypeError):
+        hash(first)
+
+
+def test_what_is_closed_equals_itself_alone(codec: Codec) -> None:
+    first, second = Depacketizer(codec), Depacketizer(codec)
+    assert first == second
+    second.close()
+    assert first != second and second == second
+    first.close()
+    assert first != second
 
 
 def test_refused_settings() -> None:

@@ -17,7 +17,7 @@ CODES = {
     2: h26x.NaluTypeNotHandled,
     3: h26x.StapATooLong,
     4: h26x.H265Corrupted,
-    5: h26x.PaciExtensionTooLong,
+    5: h26x.H265PaciPhesTooLong,
     6: h26x.H266Corrupted,
     7: h26x.AvcUnitTooLong,
     8: h26x.OutOfMemory,
@@ -114,7 +114,5 @@ def test_codes_are_those_of_the_header() -> None:
     assert found is not None
     names = {int(n): name for name, n in re.findall(r"H26X_(\w+) = (\d+)", found[1])}
     assert names.pop(0) == "OK" and names.keys() == CODES.keys()
-    same = {"PaciExtensionTooLong": "H265_PACI_PHES_TOO_LONG"}
     for code, error in CODES.items():
-        words = re.sub(r"(?<=[a-z5])(?=[A-Z])|(?<=A)(?=Too)", "_", error.__name__).upper()
-        assert same.get(error.__name__, words).replace("_", "") == names[code].replace("_", "")
+        assert error.__name__.upper() == names[code].replace("_", "")

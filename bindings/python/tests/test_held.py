@@ -115,7 +115,7 @@ class Peer:
             self.sends(7, packet)
             self.sequence += 1
             if takes:
-                assert self.to.next_unit(0) is None
+                assert self.to.next(0) is None
 
 
 def test_no_packets_make_a_receiver_of_access_units_hold_more() -> None:

@@ -14,6 +14,7 @@ from h26x import (
     is_partition_tail,
     is_plain_unit,
     out_size_hint,
+    set_lowest_header,
     units,
 )
 
@@ -75,6 +76,45 @@ def test_types_of_h264() -> None:
         detect_h264_nalu(packet, 256 + 7)
 
 
+SETS = "600b 0002 4001 0002 4201 0002 4401"
+
+
+@pytest.mark.parametrize(
+    "codec, donl, packet, wanted",
+    [
+        # RFC 7798, 4.4.2: the layer and the temporal id are the lowest of the units, and F is set where one
+        # has it.
+        (H265, False, SETS, "6001 0002 4001 0002 4201 0002 4401"),
+        (H265, True, "6000 0009 0002 430b 00 0002 c512", "e10a 0009 0002 430b 00 0002 c512"),
+        # What is no aggregate of H.265 stays.
+        (H265, True, SETS, SETS),
+        (H265, False, "600b 0002 4001 00", "600b 0002 4001 00"),
+        (H265, False, "020b 0002 4001 0002 4201", "020b 0002 4001 0002 4201"),
+        (H265, False, "", ""),
+        (H264, False, SETS, SETS),
+        (H266, False, SETS, SETS),
+    ],
+)
+def test_lowest_headers(codec: Codec, donl: bool, packet: str, wanted: str) -> None:
+    memory = bytearray(some("ee") + some(packet) + some("ee"))
+    with memoryview(memory) as view:
+        set_lowest_header(codec, view[1:-1], donl=donl)
+    assert memory == some("ee") + some(wanted) + some("ee")
+    # It is the caller's again, and can be made larger.
+    alone = bytearray(some(packet))
+    set_lowest_header(codec, alone, donl=donl)
+    alone.extend(b"\xee")
+    assert alone == some(wanted) + b"\xee"
+
+
+@pytest.mark.parametrize("packet", [some(SETS), memoryview(some(SETS)), memoryview(bytearray(28))[::2]])
+def test_a_header_that_cant_be_written(packet: bytearray) -> None:
+    before = bytes(packet)
+    with pytest.raises(TypeError):
+        set_lowest_header(H265, packet)
+    assert bytes(packet) == before
+
+
 @pytest.mark.parametrize(
     "codec, payload, found",
     [
@@ -132,6 +172,7 @@ def test_unknown_codecs() -> None:
         lambda: detect_keyframe(2**32 + 264, b"\x65"),
         lambda: units(1, b"\x65"),
         lambda: is_plain_unit(0, b"\x65"),
+        lambda: set_lowest_header(7, bytearray(some(SETS))),
     ]
     for call in calls:
         with pytest.raises(UnknownCodec):

@@ -156,9 +156,6 @@ def closed_calls() -> List[Callable[[], Any]]:
         packetizer.copy,
         lambda: depacketizer.depacketize(b"\2\1\3"),
         lambda: setattr(depacketizer, "donl", True),
-        lambda: depacketizer.same(depacketizer),
-        lambda: depacketizer.same(Depacketizer(Codec.H265)),
-        lambda: Depacketizer(Codec.H265).same(depacketizer),
         depacketizer.give_up_run,
         depacketizer.shown,
         depacketizer.copy,
@@ -173,7 +170,7 @@ def closed_calls() -> List[Callable[[], Any]]:
         lambda: receiver.skip(1),
         lambda: access_units.push(0, RtpPacket(1, 0, True, b"\2\1\3")),
         lambda: access_units.skip(0, 1),
-        lambda: access_units.next_unit(0),
+        lambda: access_units.next(0),
         lambda: list(access_units.units(0)),
         access_units.deadline,
         access_units.missing,
@@ -181,6 +178,7 @@ def closed_calls() -> List[Callable[[], Any]]:
         access_units.restart,
         access_units.counts,
         lambda: str(format),
+        lambda: hash(format),
         lambda: format.value("tx-mode"),
         lambda: format.number("level-id"),
         lambda: format.units("sprop-vps"),
@@ -282,7 +280,7 @@ while sequence < 5000 and refused < 3:
 receiver.restart()
 receiver.push(0, h26x.RtpPacket(sequence, 0, False, payload))
 receiver.finish()
-assert receiver.next_unit(0).data == bytes(3) + b"\\1" + payload
+assert receiver.next(0).data == bytes(3) + b"\\1" + payload
 print(refused, receiver.counts() == h26x.Counts(taken=1, units=1))
 """
 

@@ -18,7 +18,7 @@ from h26x import (
     Constraints,
     Error,
     FormatParameters,
-    LevelError,
+    LevelSetsError,
     NotOfThisCodec,
     ParallelTool,
     RtpMap,
@@ -140,6 +140,31 @@ def test_lines(codec: Codec, line: str, wanted: str) -> None:
     for text in (line, wanted):
         with read(codec, text) as it:
             assert it.codec is codec and str(it) == wanted
+
+
+@pytest.mark.parametrize(
+    "codec, a, b, is_equal",
+    [
+        (
+            H264,
+            "level-asymmetry-allowed=1;packetization-mode=1;profile-level-id=42e01f",
+            "packetization-mode=1; profile-level-id=42e01f;;Level-Asymmetry-Allowed=1",
+            True,
+        ),
+        (H264, "profile-level-id=42e01f", "profile-level-id=42E01F", False),
+        (H264, "", "packetization-mode=0", False),
+        (H265, "x=1;level-id=93;y=2", "level-id=93;x=1;y=2", True),
+        (H265, "x=1;y=2", "x=1;level-id=93;y=2", False),
+        (H266, "x=1;y=2", "y=2;x=1", False),
+    ],
+)
+def test_what_is_equal(codec: Codec, a: str, b: str, is_equal: bool) -> None:
+    one, other = read(codec, a), read(codec, b)
+    assert (one == other) is is_equal and (one != other) is not is_equal
+    assert len({one, other, read(codec, a)}) == 2 - is_equal
+    assert one != FormatParameters(H265 if codec is H266 else H266) and one != a
+    other.close()
+    assert one != other and other == other
 
 
 def test_without_parameters(codec: Codec) -> None:
@@ -279,10 +304,10 @@ def test_units_of_any_length() -> None:
 
 def test_sets_of_levels() -> None:
     text = "sprop-level-parameter-sets=42E00B:Z0LgCw==,aMs=:4de00b:aMs="
-    first, second = read(H264, text).level_parameter_sets()
+    first, second = read(H264, text).level_sets()
     assert first == (some("42e00b"), many("6742e00b|68cb"))
     assert (second.profile_level_id, second.sets) == (some("4de00b"), many("68cb"))
-    assert read(H264, "").level_parameter_sets() == []
+    assert read(H264, "").level_sets() == []
 
 
 @pytest.mark.parametrize(
@@ -297,9 +322,9 @@ def test_sets_of_levels() -> None:
     ],
 )
 def test_what_is_no_level(value: str, level: int, fault: Type[Error]) -> None:
-    with pytest.raises(LevelError) as told:
-        read(H264, "sprop-level-parameter-sets=" + value).level_parameter_sets()
-    assert told.value.level == level and type(told.value.__cause__) is fault
+    with pytest.raises(LevelSetsError) as told:
+        read(H264, "sprop-level-parameter-sets=" + value).level_sets()
+    assert told.value.place == level and type(told.value.__cause__) is fault
 
 
 @pytest.mark.parametrize(

@@ -7,9 +7,9 @@ from digits import some
 from h26x import (
     Codec,
     Depacketizer,
+    H265PaciPhesTooLong,
     Kind,
     NotOfThisCodec,
-    PaciExtensionTooLong,
     Receiver,
     ShortPacket,
     ShownPacket,
@@ -94,7 +94,7 @@ def test_paci_packets() -> None:
     ):
         assert paci_packet(some(unit), some(extension)) == some(packet)
     assert len(paci_packet(some("0201aabb"), bytes(31))) == 37
-    with pytest.raises(PaciExtensionTooLong):
+    with pytest.raises(H265PaciPhesTooLong):
         paci_packet(some("0201"), bytes(32))
     with pytest.raises(ShortPacket):
         paci_packet(some("02"), bytes(32))

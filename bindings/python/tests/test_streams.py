@@ -69,7 +69,7 @@ def test_there_and_back(codec: Codec, mtu: int, avc: bool) -> None:
         packets = packetizer.packetize(mtu, stream(codec))
         taken = [depacketizer.depacketize(packet) for packet in packets]
     assert b"".join(one.data for one in taken) == form(sent(codec))
-    told = [one.keyframe for one in taken]
+    told = [one.is_keyframe for one in taken]
     wanted = {one.last: False for one in placed(codec, packets)}
     for one in placed(codec, packets):
         wanted[one.last] |= is_key(codec, one.unit)
@@ -239,7 +239,7 @@ def left(codec: Codec, found: Sequence[SentUnit], came: Set[int], first: int) ->
             AccessUnit(
                 timestamp=timestamp_of(n),
                 data=annex_b(units_),
-                keyframe=is_keyframe if units_ else None,
+                is_keyframe=is_keyframe if units_ else None,
                 is_whole=is_whole,
                 is_clean=is_clean,
                 continues=False,

@@ -111,7 +111,7 @@ def test_comparing_while_another_thread_does() -> None:
     def compares(first: Depacketizer, second: Depacketizer) -> Callable[[], None]:
         def run() -> None:
             for _ in range(2000):
-                assert first.same(second)
+                assert first == second
 
         return run
 

@@ -117,6 +117,23 @@ impl End {
         unsafe { h26x_receiver_run_len(&self.raw) }
     }
 
+    /// How many packets there would be of a payload, and how many bytes with headroom.
+    pub fn packets_size(&self, mtu: usize, b: &[u8], headroom: usize) -> (u32, usize, usize) {
+        let (mut count, mut size) = (0, 0);
+        let code = unsafe {
+            h26x_packets_size(
+                &self.raw,
+                mtu,
+                b.as_ptr(),
+                b.len(),
+                headroom,
+                &mut count,
+                &mut size,
+            )
+        };
+        (code, count, size)
+    }
+
     /// The code, the packets of a payload or of one unit, and where each ends behind headroom.
     pub fn packets(
         &mut self,
@@ -327,8 +344,8 @@ impl End {
         unsafe { h26x_access_units_restart(&mut self.raw) };
     }
 
-    pub fn counts(&self) -> [u64; 11] {
-        let mut counts = [0; 11];
+    pub fn counts(&self) -> [u64; 12] {
+        let mut counts = [0; 12];
         unsafe { h26x_access_units_count(&self.raw, &mut counts) };
         counts
     }

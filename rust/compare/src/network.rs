@@ -87,7 +87,7 @@ pub fn access_units(seed: u64, case: u64, ours: &mut Log, theirs: &mut Log) {
         if m.random.one_in(3) {
             continue;
         }
-        while let Some(unit) = receiver.next_unit(now).expect("memory") {
+        while let Some(unit) = receiver.next(now).expect("memory") {
             let is = (
                 unit.is_whole,
                 unit.is_clean,
@@ -117,15 +117,16 @@ pub fn access_units(seed: u64, case: u64, ours: &mut Log, theirs: &mut Log) {
         let gone = [
             it.taken, it.lost, it.late, it.twice, it.stray, it.refused, it.skipped, it.anew,
         ];
-        ours.say("counts", (gone, it.units, it.whole, it.units_given_up));
+        let given_up = [it.units_given_up, it.texts_given_up];
+        ours.say("counts", (gone, it.units, it.whole, given_up));
         beside! {
             while let Some((unit, bytes)) = c_receiver.next_unit(now) {
                 let is = (unit.is_whole, unit.is_clean, unit.continues, unit.extra);
                 theirs.say("unit", (unit.timestamp, unit.missing, unit.first, unit.last, is, bytes));
             }
             theirs.say("waits", (c_receiver.deadline(), c_receiver.missing()));
-            let [gone @ .., units, whole, given_up] = c_receiver.counts();
-            theirs.say("counts", (gone, units, whole, given_up));
+            let [gone @ .., units, whole, of_units, of_texts] = c_receiver.counts();
+            theirs.say("counts", (gone, units, whole, [of_units, of_texts]));
         }
     }
     let _ = theirs;

@@ -10,8 +10,9 @@ use emupedestal::{
     Codec, CodecDepacketizer, CodecExtra, CodecPacketizer, Depacketizer, H264Depacketizer,
     H264Packetizer, H264ProfileLevel, H265Depacketizer, H265PACIPacket, H265Packetizer,
     H265Payload, H265ProfileTierLevel, H266Depacketizer, H266Packetizer, H266ProfileTierLevel,
-    PacketError, Packetizer, Packets, SequencedDepacketizer, detect_h264_keyframe,
-    detect_h264_nalu, detect_h265_keyframe, detect_h266_keyframe, take_all, units,
+    PacketError, Packetizer, Packets, PacketsSize, SequencedDepacketizer, detect_h264_keyframe,
+    detect_h264_nalu, detect_h265_keyframe, detect_h266_keyframe, set_lowest_header, take_all,
+    units,
 };
 
 /// What the other side does, where there is one: without it the crate's answers are summed alone.
@@ -30,6 +31,8 @@ type Made = Result<Vec<Vec<u8>>, PacketError>;
 /// What all packetizers can do, and all depacketizers.
 trait Sends: Packetizer {
     fn make_into(&mut self, mtu: usize, b: &[u8], to: &mut Packets) -> Result<(), PacketError>;
+    /// The code, how many packets there would be, and how many bytes.
+    fn size(&self, mtu: usize, b: &[u8], headroom: usize) -> (u32, usize, usize);
     fn unit(&mut self, mtu: usize, b: &[u8]) -> Made;
     fn unit_into(&mut self, mtu: usize, b: &[u8], to: &mut Packets) -> Result<(), PacketError>;
     fn donl(&mut self, on: bool);
@@ -54,6 +57,12 @@ macro_rules! ends {
         impl Sends for $sends {
             fn make_into(&mut self, mtu: usize, b: &[u8], to: &mut Packets) -> Result<(), PacketError> {
                 self.packetize_into(mtu, b, to)
+            }
+            fn size(&self, mtu: usize, b: &[u8], headroom: usize) -> (u32, usize, usize) {
+                match self.packets_size(mtu, b, headroom) {
+                    Ok(PacketsSize { packets, bytes }) => (0, packets, bytes),
+                    Err(error) => (code(error).0, 0, 0),
+                }
             }
             fn unit(&mut self, mtu: usize, b: &[u8]) -> Made {
                 self.packetize_unit(mtu, b)
@@ -206,9 +215,11 @@ fn run(seed: u64, case: u64, ours: &mut Log, theirs: &mut Log) {
             }
             6 | 7 => {
                 let (limit, payload) = m.payload();
+                ours.say("size", sends.size(limit, &payload, headroom));
                 let made = sends.make_into(limit, &payload, &mut packets);
                 ours.say("into", listed(made, &packets));
                 beside! {
+                    theirs.say("size", c_sends.packets_size(limit, &payload, headroom));
                     let (code, made, ends) = c_sends.packets(false, limit, &payload, headroom);
                     let (code, made) = in_vecs((code, made, Vec::new()), id, has_donl, lowest);
                     theirs.say("into", (code, made, ends));
@@ -246,6 +257,9 @@ fn run(seed: u64, case: u64, ours: &mut Log, theirs: &mut Log) {
                         receives.is_partition_head(&packet),
                         receives.is_partition_tail(marker, &packet),
                     );
+                    let mut lowered = packet.clone();
+                    set_lowest_header(codec, has_donl, &mut lowered);
+                    ours.say("lowest", lowered);
                     let keys = [
                         detect_h264_keyframe(&packet),
                         detect_h265_keyframe(&packet),
@@ -261,6 +275,7 @@ fn run(seed: u64, case: u64, ours: &mut Log, theirs: &mut Log) {
                         if is_shown {
                             theirs.say("shown", c_receives.shown());
                         }
+                        theirs.say("lowest", c::with_lowest_header(id, has_donl, packet.clone()));
                         let keys = [264, 265, 266].map(|id| c::detect(id, &packet));
                         let (head, tail) = (c::is_head(id, &packet), c::is_tail(id, marker, &packet));
                         theirs.say("look", (head, tail, keys, c::detect_type(&packet, target)));
@@ -281,7 +296,7 @@ fn run(seed: u64, case: u64, ours: &mut Log, theirs: &mut Log) {
                     );
                     let (is_shown, is_anew) = (m.random.one_in(4), m.random.one_in(40));
                     if is_shown {
-                        ours.say("shown", sequenced.payload().map(shows));
+                        ours.say("shown", sequenced.shown().map(shows));
                     }
                     if is_anew {
                         sequenced.restart();

@@ -85,7 +85,7 @@ impl Recorder {
 
     /// Writes what a decoder can decode, and asks for a keyframe where it couldn't (PLI: RFC 4585, 6.3.1).
     fn write_units(&mut self) -> Outcome {
-        while let Some(unit) = self.receiver.next_unit(self.now())? {
+        while let Some(unit) = self.receiver.next(self.now())? {
             if unit.is_clean {
                 self.file.write_all(&unit.bytes)?;
             } else if self.now() >= self.retry.1 {

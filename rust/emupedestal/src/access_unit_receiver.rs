@@ -17,11 +17,11 @@
 //!     receiver.push(0, &RtpPacket { sequence, timestamp, marker, payload })?;
 //! }
 //! // Packets before the first may still come, so it is waited for these.
-//! assert!(receiver.next_unit(0)?.is_none());
+//! assert!(receiver.next(0)?.is_none());
 //! assert_eq!(receiver.deadline(), Some(100));
-//! let first = receiver.next_unit(100)?.unwrap();
+//! let first = receiver.next(100)?.unwrap();
 //! assert_eq!(first.bytes, [0, 0, 0, 1, 0x65, 1, 2]);
-//! let second = receiver.next_unit(100)?.unwrap();
+//! let second = receiver.next(100)?.unwrap();
 //! assert_eq!((second.timestamp, second.first, second.is_whole), (6000, 9, true));
 //! # Ok::<(), emupedestal::PacketError>(())
 //! ```
@@ -143,7 +143,7 @@ impl AccessUnitReceiver {
     /// refused is passed over and counted.
     ///
     /// The error is `OutOfMemory` alone: the packet for which memory lacks is due still.
-    pub fn next_unit(&mut self, now: u32) -> Result<Option<ReceivedAccessUnit>, PacketError> {
+    pub fn next(&mut self, now: u32) -> Result<Option<ReceivedAccessUnit>, PacketError> {
         self.inner.next(now)
     }
 
@@ -153,14 +153,14 @@ impl AccessUnitReceiver {
         self.inner.missing()
     }
 
-    /// When to call [`next_unit`](Self::next_unit) again at the latest, if packets wait and there is a
+    /// When to call [`next`](Self::next) again at the latest, if packets wait and there is a
     /// `max_wait`.
     pub fn deadline(&self) -> Option<u32> {
         self.inner.deadline()
     }
 
     /// At the end of a stream: all that waits is due, and once it was taken the open access unit ends, not known
-    /// to be whole. [`next_unit`](Self::next_unit) gives all of it, and then any number is the next.
+    /// to be whole. [`next`](Self::next) gives all of it, and then any number is the next.
     pub fn finish(&mut self) {
         self.inner.finish();
     }

@@ -1,7 +1,7 @@
 //! A depacketizer of any codec, or a caller's own.
 
 use crate::{Codec, CodecExtra, Depacketizer, PacketError};
-use crate::{H264Depacketizer, H265Depacketizer, H266Depacketizer};
+use crate::{H264Depacketizer, H265Depacketizer, H265Payload, H266Depacketizer};
 use alloc::boxed::Box;
 use alloc::vec::Vec;
 use core::panic::UnwindSafe;
@@ -9,15 +9,11 @@ use core::panic::UnwindSafe;
 /// A depacketizer of one of the codecs, or a caller's own in a box. Every call goes to the
 /// depacketizer that it holds.
 ///
-/// A setting of a codec's is set on the one within.
-///
 /// ```
 /// use emupedestal::{Codec, CodecDepacketizer, CodecExtra, Depacketizer};
 ///
 /// let mut depacketizer = CodecDepacketizer::new(Codec::H266);
-/// if let CodecDepacketizer::H266(it) = &mut depacketizer {
-///     it.with_donl(true);
-/// }
+/// depacketizer.with_donl(true);
 /// let (mut out, mut extra) = (Vec::new(), CodecExtra::None);
 /// depacketizer.depacketize(&[0x00, 0x39, 0x00, 0x02, 0xdd], &mut out, &mut extra)?;
 /// assert_eq!(out, [0, 0, 0, 1, 0x00, 0x39, 0xdd]);
@@ -55,6 +51,36 @@ impl CodecDepacketizer {
             Codec::H264 => CodecDepacketizer::H264(H264Depacketizer::default()),
             Codec::H265 => CodecDepacketizer::H265(H265Depacketizer::default()),
             Codec::H266 => CodecDepacketizer::H266(H266Depacketizer::default()),
+        }
+    }
+
+    /// Sets whether packets of H.265 and H.266 bear decoding order numbers, as
+    /// [`H265Depacketizer::with_donl`] tells. For H.264 and one in a box it changes nothing.
+    pub fn with_donl(&mut self, value: bool) {
+        match self {
+            CodecDepacketizer::H265(it) => it.with_donl(value),
+            CodecDepacketizer::H266(it) => it.with_donl(value),
+            CodecDepacketizer::H264(_) | CodecDepacketizer::Boxed(_) => {}
+        }
+    }
+
+    /// Sets whether units are written behind lengths of four bytes: [`H264Depacketizer::is_avc`] and its
+    /// like. For one in a box it changes nothing.
+    pub fn set_avc(&mut self, value: bool) {
+        match self {
+            CodecDepacketizer::H264(it) => it.is_avc = value,
+            CodecDepacketizer::H265(it) => it.is_avc = value,
+            CodecDepacketizer::H266(it) => it.is_avc = value,
+            CodecDepacketizer::Boxed(_) => {}
+        }
+    }
+
+    /// The packet that was accepted last, of H.265, as [`H265Depacketizer::payload`] tells. `None` of the
+    /// other codecs and of one in a box.
+    pub fn shown(&self) -> Option<&H265Payload> {
+        match self {
+            CodecDepacketizer::H265(it) => Some(it.payload()),
+            _ => None,
         }
     }
 

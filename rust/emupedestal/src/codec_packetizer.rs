@@ -1,6 +1,6 @@
 //! A packetizer of any codec, or a caller's own.
 
-use crate::{Codec, PacketError, Packetizer, Packets};
+use crate::{Codec, PacketError, Packetizer, Packets, PacketsSize};
 use crate::{H264Packetizer, H265Packetizer, H266Packetizer};
 use alloc::boxed::Box;
 use alloc::vec::Vec;
@@ -8,8 +8,6 @@ use core::panic::UnwindSafe;
 
 /// A packetizer of one of the codecs, or a caller's own in a box. Every call goes to the packetizer
 /// that it holds.
-///
-///
 ///
 /// ```
 /// use emupedestal::{Codec, CodecPacketizer, Packetizer};
@@ -63,12 +61,17 @@ impl CodecPacketizer {
     /// parameter sets that wait stay. `None` and 0 change nothing, and neither does any value for H.264
     /// or a packetizer in a box.
     pub fn configure_for(&mut self, sprop_max_don_diff: Option<u32>) {
-        if sprop_max_don_diff.unwrap_or(0) == 0 {
-            return;
+        if sprop_max_don_diff.unwrap_or(0) > 0 {
+            self.with_donl(true);
         }
+    }
+
+    /// Turns decoding order numbers of H.265 and H.266 on, from 0, or off, as
+    /// [`H265Packetizer::with_donl`] tells. For H.264 and a packetizer in a box it changes nothing.
+    pub fn with_donl(&mut self, has_donl: bool) {
         match self {
-            CodecPacketizer::H265(it) => it.with_donl(true),
-            CodecPacketizer::H266(it) => it.with_donl(true),
+            CodecPacketizer::H265(it) => it.with_donl(has_donl),
+            CodecPacketizer::H266(it) => it.with_donl(has_donl),
             CodecPacketizer::H264(_) | CodecPacketizer::Boxed(_) => {}
         }
     }
@@ -115,6 +118,23 @@ impl CodecPacketizer {
                 packets.replace(&it.packetize(mtu, b)?);
                 Ok(())
             }
+        }
+    }
+
+    /// How many packets [`packetize_into`](Self::packetize_into) would make of `b`, and how many bytes
+    /// they take with `headroom` bytes before each; `None` of one in a box, which has to make them for
+    /// that. Nothing changes. `OutOfMemory` is the only error.
+    pub fn packets_size(
+        &self,
+        mtu: usize,
+        b: &[u8],
+        headroom: usize,
+    ) -> Result<Option<PacketsSize>, PacketError> {
+        match self {
+            CodecPacketizer::H264(it) => it.packets_size(mtu, b, headroom).map(Some),
+            CodecPacketizer::H265(it) => it.packets_size(mtu, b, headroom).map(Some),
+            CodecPacketizer::H266(it) => it.packets_size(mtu, b, headroom).map(Some),
+            CodecPacketizer::Boxed(_) => Ok(None),
         }
     }
 

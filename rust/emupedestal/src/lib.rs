@@ -113,6 +113,7 @@ extern crate alloc;
 pub mod access_unit_receiver;
 pub mod access_units;
 mod assembler;
+mod codec;
 mod codec_depacketizer;
 mod codec_packetizer;
 mod depacketizer;
@@ -147,7 +148,7 @@ pub use assembler::AccessUnitAssembler;
 pub use codec_depacketizer::CodecDepacketizer;
 pub use codec_packetizer::CodecPacketizer;
 pub use depacketizer::{H264Depacketizer, H265Depacketizer, H266Depacketizer};
-pub use look::{Units, units};
+pub use look::{Units, detect_keyframe, set_lowest_header, units};
 pub use packet::{Depacketizer, Packetizer};
 pub use packetizer::{H264Packetizer, H265Packetizer, H266Packetizer};
 pub use packets::{PacketIter, Packets};
@@ -168,6 +169,7 @@ pub use proved::h26x_core::{
 };
 pub use proved::h26x_core::{H265FragmentationUnitHeader, H265NALUHeader, H265TSCI};
 pub use proved::h26x_core::{H266FragmentationUnitHeader, H266NALUHeader};
+pub use proved::h26x_packetizer::PacketsSize;
 pub use proved::h26x_receiver::Received;
 pub use proved::h26x_reorder::{
     HeldPacket, NotHeld, NotHeldReason, Pushed, ReorderBuffer, RtpPacket,

@@ -104,6 +104,18 @@ macro_rules! packetizer {
                 Ok(())
             }
 
+            /// How many packets [`packetize_into`](Self::packetize_into) would make of `b`, and how many
+            /// bytes they take with `headroom` bytes before each. Nothing changes. `OutOfMemory` is the
+            /// only error.
+            pub fn packets_size(
+                &self,
+                mtu: usize,
+                b: &[u8],
+                headroom: usize,
+            ) -> Result<PacketsSize, PacketError> {
+                self.inner.packets_size(mtu, b, headroom)
+            }
+
             /// The RTP payloads of one NAL unit as it is: no start code is looked for in it, and
             /// whatever its kind it is sent now, itself or in fragments.
             ///

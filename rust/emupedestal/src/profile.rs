@@ -1,5 +1,10 @@
 //! Profiles and levels out of SDP: the proved types, with their numbers by Rust's own traits too.
 
+#[cfg(feature = "std")]
+use alloc::string::String;
+#[cfg(feature = "std")]
+use std::collections::HashMap;
+
 pub use crate::proved::h26x_profile::{H264LevelIdc, H264Profile, H264ProfileIdc};
 pub use crate::proved::h26x_profile::{H265Level, H265Profile, H265Tier};
 pub use crate::proved::h26x_profile::{H266Level, H266Profile, H266Tier};
@@ -15,6 +20,19 @@ pub use crate::proved::h26x_profile::{Numbered, ProfileTierLevel};
 /// # Ok::<(), ()>(())
 /// ```
 pub use crate::proved::h26x_profile::H264ProfileLevel;
+
+#[cfg(feature = "std")]
+impl H264ProfileLevel {
+    /// What the parameter `profile-level-id` of a format says, by six hexadecimal digits (RFC 6184, 8.1).
+    /// `None` where it isn't there, is another text, or names nothing.
+    pub fn from_fmtp(params: &HashMap<String, String>) -> Option<Self> {
+        let digits = params.get("profile-level-id")?;
+        if digits.len() != 6 || !digits.bytes().all(|digit| digit.is_ascii_hexdigit()) {
+            return None;
+        }
+        Self::try_from(u32::from_str_radix(digits, 16).ok()?).ok()
+    }
+}
 
 /// The profile, tier and level of an H.265 format in SDP (RFC 7798, 7.1).
 ///

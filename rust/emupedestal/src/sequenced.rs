@@ -18,7 +18,7 @@ use alloc::vec::Vec;
 ///
 /// - The data of an open unit: up to `run_limit` bytes from a packet to the next, and while a packet
 ///   is taken that packet's too, so that no peer makes it hold more.
-/// - Of H.265 what [`payload`](Self::payload) shows.
+/// - Of H.265 what is [`shown`](Self::shown).
 ///
 /// All of it is freed with the depacketizer.
 ///
@@ -181,7 +181,7 @@ impl SequencedDepacketizer {
     /// with a header of 0 and no bytes. `None` of the other codecs.
     ///
     /// What it costs stands at [`H265Depacketizer::payload`](crate::H265Depacketizer::payload).
-    pub fn payload(&self) -> Option<&H265Payload> {
+    pub fn shown(&self) -> Option<&H265Payload> {
         self.inner.depacketizer.shown()
     }
 }

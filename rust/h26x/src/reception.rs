@@ -225,7 +225,7 @@ impl Reception {
 
     /// Has the receiver take packets until an access unit has ended, or none is due.
     fn step(&mut self) -> Result<Step, Failure> {
-        let unit = self.receiver.next_unit(self.now()).map_err(no_memory)?;
+        let unit = self.receiver.next(self.now()).map_err(no_memory)?;
         let counts = self.receiver.counts();
         let passed = |it: &Counts| it.taken + it.refused + it.skipped;
         let before = std::mem::replace(&mut self.counts, counts);

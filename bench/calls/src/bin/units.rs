@@ -76,7 +76,7 @@ fn by_reference(case: &Case, came: &[&Sent]) -> f64 {
     let then = Instant::now();
     for packet in came {
         let _ = black_box(receiver.push(0, &packet.packet()));
-        while let Ok(Some(unit)) = receiver.next_unit(0) {
+        while let Ok(Some(unit)) = receiver.next(0) {
             receiver.give_back(black_box(unit));
         }
     }
@@ -92,7 +92,7 @@ fn by_value(case: &Case, came: &[&Sent]) -> f64 {
     let then = Instant::now();
     for packet in owned {
         let _ = black_box(receiver.push_held(0, packet));
-        while let Ok(Some(unit)) = receiver.next_unit(0) {
+        while let Ok(Some(unit)) = receiver.next(0) {
             receiver.give_back(black_box(unit));
         }
     }

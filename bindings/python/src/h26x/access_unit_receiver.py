@@ -76,8 +76,9 @@ class AccessUnit:
     timestamp: int
     #: Its units, each behind 00 00 00 01 or behind its length: none of which a packet is missing.
     data: bytes
-    #: Whether a unit of a keyframe is among them; None where there is no unit. See `Units.keyframe`.
-    keyframe: Optional[bool]
+    #: Whether a unit of a keyframe is among them; None where there is no unit. See
+    #: `Depacketized.is_keyframe`.
+    is_keyframe: Optional[bool]
     #: It is known that nothing of it is missing.
     is_whole: bool
     #: Nor is anything since a keyframe of which nothing is: a decoder that began there goes on. Where it
@@ -139,7 +140,7 @@ class AccessUnitReceiver(Owner):
     ...     RtpPacket(9, 6000, True, b"a\\x09"),
     ... ):
     ...     outcome, _ = receiver.push(0, packet)
-    >>> receiver.next_unit(0)  # packets before the first may still come
+    >>> receiver.next(0)  # packets before the first may still come
     >>> receiver.deadline()
     100
     >>> [(unit.timestamp, unit.data.hex(), unit.is_whole) for unit in receiver.units(100)]
@@ -210,7 +211,7 @@ class AccessUnitReceiver(Owner):
         check(self._with_handle(call, *arguments, byref(pushed), byref(behind)))
         return Pushed(pushed.value), behind.value
 
-    def next_unit(self, now: int) -> Optional[AccessUnit]:
+    def next(self, now: int) -> Optional[AccessUnit]:
         """The next access unit, if one has ended at this tick; else None. Call it until there is none.
         Packets that are refused are passed over, and counted.
 
@@ -241,7 +242,7 @@ class AccessUnitReceiver(Owner):
         return AccessUnit(
             timestamp=unit.timestamp,
             data=self._room.copy(0, unit.len),
-            keyframe=KEYFRAME[unit.extra],
+            is_keyframe=KEYFRAME[unit.extra],
             is_whole=unit.is_whole,
             is_clean=unit.is_clean,
             continues=unit.continues,
@@ -251,8 +252,8 @@ class AccessUnitReceiver(Owner):
         )
 
     def units(self, now: int) -> Iterator[AccessUnit]:
-        """All access units that have ended at this tick: `next_unit` until there is none."""
-        while (unit := self.next_unit(now)) is not None:
+        """All access units that have ended at this tick: `next` until there is none."""
+        while (unit := self.next(now)) is not None:
             yield unit
 
     def deadline(self) -> Optional[int]:

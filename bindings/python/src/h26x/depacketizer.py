@@ -19,7 +19,7 @@ _BEFORE_UNIT = 4
 KEYFRAME = {0: None, 1: False, 2: True}
 
 
-class Units(NamedTuple):
+class Depacketized(NamedTuple):
     """What a packet completed."""
 
     #: The units, each behind 00 00 00 01, or behind its length in four bytes.
@@ -27,7 +27,7 @@ class Units(NamedTuple):
     #: Whether a unit of a keyframe is among them; None where the packet completed no unit. It tells of
     #: IDR pictures (H.264), IRAP pictures (H.265), IDR and CRA pictures (H.266), and not of a recovery
     #: point without one (intra refresh, gradual decoding refresh).
-    keyframe: Optional[bool]
+    is_keyframe: Optional[bool]
 
 
 class Taking(Owner):
@@ -78,7 +78,7 @@ class Taking(Owner):
         with self._lock:
             return shown_of(self._live())
 
-    def _take(self, call: Any, *arguments: Any) -> Units:
+    def _take(self, call: Any, *arguments: Any) -> Depacketized:
         """Has a call take a packet, for who has the lock. `arguments` end with the packet."""
         *before, packet = arguments
         self._room.grow(len(packet) + _BEFORE_UNIT)
@@ -97,7 +97,7 @@ class Taking(Owner):
         )
         if code != 0:
             raise error_of(code, self._why.first, self._why.second)
-        return Units(self._data(), KEYFRAME[self._extra.value])
+        return Depacketized(self._data(), KEYFRAME[self._extra.value])
 
     def _more(self) -> Any:
         """What more a call tells."""
@@ -124,8 +124,8 @@ class Depacketizer(Taking):
     >>> with Depacketizer(Codec.H264) as depacketizer:
     ...     for packet in b"|\\x85\\x01\\x02\\x03", b"|E\\x04\\x05\\x06":
     ...         depacketizer.depacketize(packet)
-    Units(data=b'', keyframe=None)
-    Units(data=b'\\x00\\x00\\x00\\x01e\\x01\\x02\\x03\\x04\\x05\\x06', keyframe=True)
+    Depacketized(data=b'', is_keyframe=None)
+    Depacketized(data=b'\\x00\\x00\\x00\\x01e\\x01\\x02\\x03\\x04\\x05\\x06', is_keyframe=True)
     """
 
     _CLONE = library.h26x_depacketizer_clone
@@ -145,7 +145,7 @@ class Depacketizer(Taking):
         check(library.h26x_depacketizer_new(known, donl, byref(made)))
         self._set_up(made, known, donl, avc)
 
-    def depacketize(self, packet: Buffer) -> Units:
+    def depacketize(self, packet: Buffer) -> Depacketized:
         """Takes a packet, and answers the units that it completes.
 
         Raises a PacketError or OutOfMemory, which changes nothing: pass the packet over, and go on with
@@ -164,16 +164,19 @@ class Depacketizer(Taking):
         has grown too long. What follows of that unit is accepted and completes nothing."""
         check(self._with_handle(library.h26x_give_up_run))
 
-    def same(self, other: Depacketizer) -> bool:
-        """Whether both are of one codec and have the same settings but for `avc`, and the same open
-        unit; of H.265 they must have accepted the same packet last as well."""
+    def __eq__(self, other: object) -> bool:
+        """Whether both are of one codec and have the same settings and the same open unit; of H.265 they
+        must have accepted the same packet last as well. What is closed equals itself alone. There is no
+        hash, since it changes."""
+        if not isinstance(other, Depacketizer):
+            return NotImplemented
         if other is self:
-            with self._lock:
-                self._live()
             return True
         # In one order, so that two threads that compare the same two don't wait for each other.
         first, second = sorted((self, other), key=id)
         with first._lock, second._lock:
+            if first.closed or second.closed or first._avc != second._avc:
+                return False
             return bool(library.h26x_depacketizer_same(first._live(), second._live()))
 
     def copy(self) -> Depacketizer:

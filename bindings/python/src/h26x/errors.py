@@ -80,7 +80,7 @@ class H265Corrupted(PacketError):
     code = 4
 
 
-class PaciExtensionTooLong(PacketError):
+class H265PaciPhesTooLong(PacketError):
     """H.265: an extension of a PACI packet has at most 31 bytes (RFC 7798, 4.4.4)."""
 
     code = 5
@@ -397,7 +397,7 @@ _ERRORS: Dict[int, Type[Error]] = {
         NaluTypeNotHandled,
         StapATooLong,
         H265Corrupted,
-        PaciExtensionTooLong,
+        H265PaciPhesTooLong,
         H266Corrupted,
         AvcUnitTooLong,
         OutOfMemory,

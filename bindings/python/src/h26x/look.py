@@ -2,11 +2,11 @@
 
 from __future__ import annotations
 
-from ctypes import byref, c_size_t
-from typing import Iterator
+from ctypes import POINTER, byref, c_size_t, c_uint8, cast
+from typing import Iterator, Union
 
 from ._library import library
-from ._memory import Buffer, as_bytes, number
+from ._memory import Buffer, Target, as_bytes, number
 from .codec import Codec, codec_of
 
 
@@ -41,6 +41,27 @@ def detect_h264_nalu(packet: Buffer, nalu_type: int) -> bool:
     data = as_bytes(packet)
     wanted = number("nalu_type", nalu_type, 255)
     return bool(library.h26x_detect_h264_nalu(data, len(data), wanted))
+
+
+def set_lowest_header(
+    codec: int, packet: Union[bytearray, memoryview], *, donl: bool = False
+) -> None:
+    """Gives an aggregation packet of H.265 the header that RFC 7798, 4.4.2 asks for, where it stands: the
+    lowest layer and the lowest temporal id of the units in it, and F where one has it. `donl`: whether
+    packets bear decoding order numbers. Every other packet stays, and those of H.264 and H.266. Raises
+    UnknownCodec.
+
+    >>> packet = bytearray.fromhex("600b 0002 4001 0002 4201 0002 4401")  # sets of TID 1, before a slice of 3
+    >>> set_lowest_header(Codec.H265, packet)
+    >>> packet[:2].hex()
+    '6001'
+    """
+    known, target = codec_of(codec), Target(packet)
+    try:
+        address = cast(target.address, POINTER(c_uint8))
+        library.h26x_set_lowest_header(known, donl, address, target.size)
+    finally:
+        target.release()
 
 
 def units(codec: int, payload: Buffer) -> Iterator[bytes]:

@@ -2,10 +2,11 @@
 
 from __future__ import annotations
 
+import re
 from ctypes import byref, c_uint8
 from enum import IntEnum
 from operator import index
-from typing import Any, NamedTuple, Optional
+from typing import Any, List, Mapping, NamedTuple, Optional
 
 from ._library import library
 from ._memory import number
@@ -68,6 +69,13 @@ class H265Profile(IntEnum):
     HIGH_THROUGHPUT_SCREEN_CONTENT_CODING = 11
 
 
+class H265Tier(IntEnum):
+    """`tier-flag` of H.265 (RFC 7798, 7.1)."""
+
+    MAIN = 0
+    HIGH = 1
+
+
 class H265Level(IntEnum):
     """`level-id` of H.265, so that `<` compares levels."""
 
@@ -99,6 +107,13 @@ class H266Profile(IntEnum):
     MULTILAYER_MAIN_10_444_STILL_PICTURE = 113
 
 
+class H266Tier(IntEnum):
+    """`tier-flag` of H.266 (RFC 9328, 7.2)."""
+
+    MAIN = 0
+    HIGH = 1
+
+
 class H266Level(IntEnum):
     """`level-id` of H.266, so that `<` compares levels."""
 
@@ -125,12 +140,82 @@ class H264ProfileLevel(NamedTuple):
     profile: H264Profile
     level: H264Level
 
+    @classmethod
+    def from_fmtp(cls, params: Mapping[str, str]) -> Optional[H264ProfileLevel]:
+        """What the parameter `profile-level-id` of a format says, by six hexadecimal digits; None where it
+        isn't there, is another text, or names nothing (RFC 6184, 8.1)."""
+        digits = params.get("profile-level-id", "")
+        if re.fullmatch("[0-9A-Fa-f]{6}", digits) is None:
+            return None
+        return h264_profile_level(int(digits, 16))
 
-def profile_level(profile_level_id: int) -> Optional[H264ProfileLevel]:
+
+class H265ProfileTierLevel(NamedTuple):
+    """A profile, a tier and a level of H.265.
+
+    >>> params = {"profile-id": "1", "tier-flag": "0", "level-id": "93"}
+    >>> main = H265ProfileTierLevel.from_fmtp(params)
+    >>> main.profile, main.level < H265Level.LEVEL_4
+    (<H265Profile.MAIN: 1>, True)
+    """
+
+    profile: H265Profile
+    tier: H265Tier
+    level: H265Level
+
+    @classmethod
+    def new(cls, profile_id: int, tier_flag: int, level_id: int) -> Optional[H265ProfileTierLevel]:
+        """That of the three numbers; None where `h265_is_known` says no."""
+        if not h265_is_known(profile_id, tier_flag, level_id):
+            return None
+        return cls(H265Profile(profile_id), H265Tier(tier_flag), H265Level(level_id))
+
+    @classmethod
+    def from_fmtp(cls, params: Mapping[str, str]) -> Optional[H265ProfileTierLevel]:
+        """What the parameters `profile-id`, `tier-flag` and `level-id` of a format say; None where one of
+        them isn't there, is no number, or isn't known (RFC 7798, 7.1)."""
+        numbers = _numbers_in(params)
+        return None if numbers is None else cls.new(*numbers)
+
+
+class H266ProfileTierLevel(NamedTuple):
+    """A profile, a tier and a level of H.266."""
+
+    profile: H266Profile
+    tier: H266Tier
+    level: H266Level
+
+    @classmethod
+    def new(cls, profile_id: int, tier_flag: int, level_id: int) -> Optional[H266ProfileTierLevel]:
+        """That of the three numbers; None where `h266_is_known` says no."""
+        if not h266_is_known(profile_id, tier_flag, level_id):
+            return None
+        return cls(H266Profile(profile_id), H266Tier(tier_flag), H266Level(level_id))
+
+    @classmethod
+    def from_fmtp(cls, params: Mapping[str, str]) -> Optional[H266ProfileTierLevel]:
+        """What the parameters `profile-id`, `tier-flag` and `level-id` of a format say; None where one of
+        them isn't there, is no number, or isn't known (RFC 9328, 7.2)."""
+        numbers = _numbers_in(params)
+        return None if numbers is None else cls.new(*numbers)
+
+
+def _numbers_in(params: Mapping[str, str]) -> Optional[List[int]]:
+    """`profile-id`, `tier-flag` and `level-id`, each in decimal digits, behind a + if there is one."""
+    numbers = []
+    for name in ("profile-id", "tier-flag", "level-id"):
+        found = re.fullmatch(r"\+?0*([0-9]{1,3})", params.get(name, ""))
+        if found is None:
+            return None
+        numbers.append(int(found[1]))
+    return numbers
+
+
+def h264_profile_level(profile_level_id: int) -> Optional[H264ProfileLevel]:
     """What the three bytes of a `profile-level-id` of H.264 name, the lower ones of the number (RFC
     6184, 8.1); None where they name nothing.
 
-    >>> profile_level(int("64001f", 16))
+    >>> h264_profile_level(int("64001f", 16))
     H264ProfileLevel(profile=<H264Profile.HIGH: 4>, level=<H264Level.LEVEL_3_1: 9>)
     """
     asked = number("profile_level_id", profile_level_id, 0xFFFFFFFF)

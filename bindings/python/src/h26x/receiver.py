@@ -37,8 +37,9 @@ class Received(NamedTuple):
     distance: int
     #: The units, each behind 00 00 00 01, or behind its length in four bytes.
     data: bytes
-    #: Whether a unit of a keyframe is among them; None where there is no unit. See `Units.keyframe`.
-    keyframe: Optional[bool]
+    #: Whether a unit of a keyframe is among them; None where there is no unit. See
+    #: `Depacketized.is_keyframe`.
+    is_keyframe: Optional[bool]
 
 
 class Receiver(Taking):

@@ -16,19 +16,19 @@ from .codec import Codec, codec_of
 from .errors import NoRoom, OutOfMemory, SdpAbsent, SdpNoAnswer, check, error_of
 
 
-class LevelParameterSets(NamedTuple):
+class LevelSets(NamedTuple):
     """The parameter sets of a level of H.264 (RFC 6184, 8.1)."""
 
     profile_level_id: bytes  # profile_idc, profile_iop and level_idc
     sets: List[bytes]
 
 
-class LevelError(ValueError):
+class LevelSetsError(ValueError):
     """A level of sprop-level-parameter-sets is none; its cause says why."""
 
-    def __init__(self, level: int) -> None:
-        super().__init__(f"level {level} is none")
-        self.level = level  # its place, from 0
+    def __init__(self, place: int) -> None:
+        super().__init__(f"level {place} is none")
+        self.place = place  # from 0
 
 
 #: How many bytes constraints of H.266 are at most: of 89 bits and 255 additional ones (Rec. ITU-T H.266,
@@ -150,6 +150,22 @@ class FormatParameters(Owner):
         with self._lock:
             return self._written(library.h26x_sdp_write).decode()
 
+    def __eq__(self, other: object) -> bool:
+        """Whether both are of one codec and have the same values as texts, `42e01f` being another than
+        `42E01F`, and the same others in the same order. What is closed equals itself alone. Raises
+        OutOfMemory."""
+        if not isinstance(other, FormatParameters):
+            return NotImplemented
+        if other is self:
+            return True
+        if self.closed or other.closed:
+            return False
+        return self._codec == other._codec and str(self) == str(other)
+
+    def __hash__(self) -> int:
+        """That of the codec and the text. Raises OutOfMemory."""
+        return hash((self._codec, str(self)))
+
     def value(self, name: str, or_default: bool = False) -> Optional[str]:
         """The value of a parameter, as it came. Where it is absent: with `or_default` what the RFC takes
         for it, if it says what; else None."""
@@ -188,14 +204,14 @@ class FormatParameters(Owner):
             call = library.h26x_sdp_unit
             return [self._written(call, *given, i, more=(byref(why),)) for i in range(count.value)]
 
-    def level_parameter_sets(self) -> List[LevelParameterSets]:
+    def level_sets(self) -> List[LevelSets]:
         """The parameter sets of other levels of H.264, those of sprop-level-parameter-sets; none where it is
-        absent. Raises a LevelError, which says what is wrong with the first level that is none; or
+        absent. Raises a LevelSetsError, which says what is wrong with the first level that is none; or
         OutOfMemory.
 
         >>> line = "sprop-level-parameter-sets=42e00b:Z0LgCw==,aMs=:4de00b:aMs="
-        >>> FormatParameters.read(Codec.H264, line).level_parameter_sets()[1]
-        LevelParameterSets(profile_level_id=b'M\\xe0\\x0b', sets=[b'h\\xcb'])
+        >>> FormatParameters.read(Codec.H264, line).level_sets()[1]
+        LevelSets(profile_level_id=b'M\\xe0\\x0b', sets=[b'h\\xcb'])
         """
         value = self.value("sprop-level-parameter-sets")
         if value is None:
@@ -207,7 +223,7 @@ class FormatParameters(Owner):
             except OutOfMemory:
                 raise
             except ValueError as fault:
-                raise LevelError(n) from fault
+                raise LevelSetsError(n) from fault
         return levels
 
     def _written(self, call: Any, *arguments: Any, more: Tuple[Any, ...] = ()) -> bytes:
@@ -312,7 +328,7 @@ class FormatParameters(Owner):
         """Has the answer made by one of ours."""
         with ExitStack() as locks:
             # In one order, so that two threads that answer by the same two don't wait for each other.
-            for one in sorted({self, ours}, key=id):
+            for one in [self] if ours is self else sorted((self, ours), key=id):
                 locks.enter_context(one._lock)
             code = library.h26x_sdp_answer(self._live(), ours._live(), byref(made))
         return int(code)
@@ -375,11 +391,11 @@ def _point_of(told: PointNumbers) -> CapabilityPoint:
     return CapabilityPoint(_TOOLS[told.tool], told.spatial_segmentation, *limits)
 
 
-def _level_of(digits: str, sets: str = "") -> LevelParameterSets:
+def _level_of(digits: str, sets: str = "") -> LevelSets:
     """A level of its two texts, each of which is read as what it is outside."""
     text = f"profile-level-id={digits};sprop-parameter-sets={sets}"
     with FormatParameters.read(Codec.H264, text) as level:
-        return LevelParameterSets(bytes.fromhex(digits), level.units("sprop-parameter-sets"))
+        return LevelSets(bytes.fromhex(digits), level.units("sprop-parameter-sets"))
 
 
 def _read(codec: Codec, text: str) -> Handle:

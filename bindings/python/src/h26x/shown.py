@@ -71,7 +71,7 @@ def paci_packet(unit: Buffer, extension: Buffer = b"") -> bytes:
     """A PACI packet of a unit of H.265, its header first, with an extension of the header (RFC 7798,
     4.4.4). F0 is set where the extension has three bytes or more.
 
-    Raises ShortPacket where the unit has under two bytes; else PaciExtensionTooLong where the extension
+    Raises ShortPacket where the unit has under two bytes; else H265PaciPhesTooLong where the extension
     has over 31; else OutOfMemory.
     """
     one, more = as_bytes(unit), as_bytes(extension)

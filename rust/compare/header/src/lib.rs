@@ -109,6 +109,15 @@ unsafe extern "C" {
         count: *mut usize,
         size: *mut usize,
     ) -> u32;
+    pub fn h26x_packets_size(
+        p: *const Raw,
+        mtu: usize,
+        payload: *const u8,
+        payload_len: usize,
+        headroom: usize,
+        count: *mut usize,
+        size: *mut usize,
+    ) -> u32;
     pub fn h26x_packet_len(p: *const Raw, i: usize) -> usize;
     pub fn h26x_packet_copy(p: *const Raw, i: usize, to: *mut u8, room: usize) -> usize;
     pub fn h26x_depacketizer_new(codec: u32, numbers: bool, made: *mut Raw) -> u32;
@@ -197,7 +206,7 @@ unsafe extern "C" {
     ) -> u32;
     pub fn h26x_access_units_finish(u: *mut Raw) -> u32;
     pub fn h26x_access_units_restart(u: *mut Raw) -> u32;
-    pub fn h26x_access_units_count(u: *const Raw, counts: *mut [u64; 11]) -> u32;
+    pub fn h26x_access_units_count(u: *const Raw, counts: *mut [u64; 12]) -> u32;
     pub fn h26x_h265_shown(d: *const Raw, shown: *mut Shown) -> u32;
     pub fn h26x_h265_part_copy(
         d: *const Raw,

@@ -119,7 +119,7 @@ impl<D: Taking> Receiver<D> {
         assert_eq!(answer, Ok(wanted));
         assert_eq!((out, self.told), (&text[..], told));
         assert_eq!(self.receiver.run_len(), beside.run());
-        assert_eq!(self.receiver.payload(), beside.shown());
+        assert_eq!(self.receiver.shown(), beside.shown());
         self.beside = beside;
         self.expected = Some(sequence.wrapping_add(1));
     }

@@ -46,6 +46,21 @@ impl CodecParameters<H265Parameter> {
         Ok(self.of.capability_points()?.unwrap_or_default())
     }
 
+    /// The same, each with the limits that it leaves out, as [`inferred`](Self::inferred) has them.
+    ///
+    /// # Errors
+    ///
+    /// Those of [`capability_points`](Self::capability_points).
+    pub fn capability_points_or_default(
+        &self,
+    ) -> Result<Vec<CapabilityPoint>, CapabilityPointsError> {
+        let mut points = self.capability_points()?;
+        for point in &mut points {
+            *point = self.inferred(*point);
+        }
+        Ok(points)
+    }
+
     /// A capability point with the limits that it leaves out: `tier-flag`, `max-recv-level-id`, `max-lsr`, `max-lps`
     /// and `max-br` of these parameters.
     ///

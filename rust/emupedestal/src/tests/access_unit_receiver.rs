@@ -45,7 +45,7 @@ fn push(
 
 /// All access units that have ended at a tick.
 fn units(it: &mut AccessUnitReceiver, now: u32) -> Vec<ReceivedAccessUnit> {
-    core::iter::from_fn(|| it.next_unit(now).unwrap()).collect()
+    core::iter::from_fn(|| it.next(now).unwrap()).collect()
 }
 
 /// Of each its timestamp, numbers, how many are missing, and whether it is whole and clean.

@@ -297,7 +297,7 @@ fn payloads_are_not_printed() {
         format!("{:?}", packet(1, 2, true, &secret)),
         format!("{:?}", unit(1, "65d3d4d5", true, true)),
         format!("{assembler:?}"),
-        format!("{:?}", shows.payload()),
+        format!("{:?}", shows.shown()),
         format!("{packets:?} {:?}", packets.iter()),
         format!("{sends:?}"),
         format!("{:?}", crate::units(Codec::H264, &secret)),

@@ -2,8 +2,8 @@
 
 use super::{bytes, payload, refuses, sends, writes};
 use crate::{
-    Codec, CodecDepacketizer, CodecExtra, CodecPacketizer, Depacketizer, PacketError, Packetizer,
-    Packets,
+    Codec, CodecDepacketizer, CodecExtra, CodecPacketizer, Depacketizer, H264CodecExtra,
+    H265CodecExtra, H265Payload, H266CodecExtra, PacketError, Packetizer, Packets, PacketsSize,
 };
 
 const CODECS: [Codec; 3] = [Codec::H264, Codec::H265, Codec::H266];
@@ -82,6 +82,75 @@ fn numbers_by_the_session_description() {
             sends(&mut end, 100, &bytes("0201aa"), &[packet]);
         }
     }
+}
+
+/// They begin at 0 each time that they are turned on (RFC 7798, 4.6; RFC 9328, 4.4).
+#[test]
+fn numbers_on_and_off() {
+    const ONE: &str = "02010000aa";
+    for codec in CODECS {
+        let has_numbers = codec != Codec::H264;
+        let (numbered, second) = match has_numbers {
+            true => (ONE, "02010001aa"),
+            false => ("0201aa", "0201aa"),
+        };
+        let mut end = CodecPacketizer::new(codec);
+        end.with_donl(true);
+        sends(&mut end, 100, &bytes("0201aa"), &[numbered]);
+        sends(&mut end, 100, &bytes("0201aa"), &[second]);
+        end.with_donl(true);
+        sends(&mut end, 100, &bytes("0201aa"), &[numbered]);
+        end.with_donl(false);
+        sends(&mut end, 100, &bytes("0201aa"), &["0201aa"]);
+
+        let mut end = CodecDepacketizer::new(codec);
+        end.with_donl(true);
+        let kept = if has_numbers { "" } else { "0000" };
+        writes(&mut end, &[ONE], &format!("00000001 0201{kept}aa"));
+        end.with_donl(false);
+        writes(&mut end, &[ONE], "00000001 02010000aa");
+    }
+}
+
+/// A STAP-A has a byte before its sets, and an aggregate of the others two, with two before each set (RFC
+/// 6184, 5.7.1; RFC 7798, 4.4.2; RFC 9328, 4.3.2).
+#[test]
+fn sizes_before_a_call() {
+    for (codec, units, sets) in [
+        (Codec::H264, &["6701", "6802", "6503"][..], 1 + 2 * (2 + 2)),
+        (
+            Codec::H265,
+            &["40010c", "420101", "4401c1", "2601af"],
+            2 + 3 * (2 + 3),
+        ),
+        (
+            Codec::H266,
+            &["0079bb", "0081cc", "0039dd"],
+            2 + 2 * (2 + 3),
+        ),
+    ] {
+        let (end, payload) = (CodecPacketizer::new(codec), payload(units));
+        let picture = bytes(units.last().unwrap()).len();
+        for headroom in [0, 12] {
+            let size = PacketsSize {
+                packets: 2,
+                bytes: 2 * headroom + sets + picture,
+            };
+            // Nothing waits after the first time either.
+            for _ in 0..2 {
+                assert_eq!(end.packets_size(1200, &payload, headroom), Ok(Some(size)));
+            }
+        }
+        let none = PacketsSize {
+            packets: 0,
+            bytes: 0,
+        };
+        assert_eq!(end.packets_size(1200, &[], 12), Ok(Some(none)));
+        let much = end.packets_size(1200, &payload, usize::MAX).unwrap();
+        assert_eq!(much.unwrap().bytes, usize::MAX);
+    }
+    let end = CodecPacketizer::Boxed(Box::new(Plain));
+    assert_eq!(end.packets_size(4, &[1, 2], 0), Ok(None));
 }
 
 /// Packets as they are wanted, by both calls of one payload or one unit.
@@ -192,6 +261,7 @@ fn a_largest_packet_size_without_room_for_data() {
 fn a_packetizer_in_a_box() {
     let mut end = CodecPacketizer::Boxed(Box::new(Plain));
     end.configure_for(Some(1));
+    end.with_donl(true);
     end.with_max_packet_size(3);
     makes(&mut end, false, 3, &bytes("0201aabb"), &["0201aa", "bb"]);
     makes(&mut end, true, 4, &bytes("000001aa"), &["000001aa"]);
@@ -253,8 +323,69 @@ fn settings_of_the_one_within() {
 }
 
 #[test]
+fn lengths_and_start_codes() {
+    for (codec, packet) in [
+        (Codec::H264, "65aa"),
+        (Codec::H265, "2601aa"),
+        (Codec::H266, "0039aa"),
+    ] {
+        let mut end = CodecDepacketizer::new(codec);
+        end.set_avc(true);
+        let length = format!("{:08x}", bytes(packet).len());
+        writes(&mut end, &[packet], &(length + packet));
+        end.set_avc(false);
+        writes(&mut end, &[packet], &format!("00000001 {packet}"));
+    }
+}
+
+#[test]
+fn what_is_shown() {
+    let mut end = CodecDepacketizer::new(Codec::H265);
+    writes(&mut end, &["620193aa"], "");
+    let Some(H265Payload::H265FragmentationUnitPacket(shown)) = end.shown() else {
+        panic!("a fragment");
+    };
+    assert_eq!(
+        (shown.fu_header().fu_type(), shown.payload()),
+        (19, &[0xaa][..])
+    );
+    for end in [
+        CodecDepacketizer::new(Codec::H264),
+        CodecDepacketizer::new(Codec::H266),
+        CodecDepacketizer::Boxed(Box::new(Plain)),
+    ] {
+        assert_eq!(end.shown(), None);
+    }
+}
+
+#[test]
+fn names_of_codecs() {
+    assert_eq!(
+        CODECS.map(|codec| codec.to_string()),
+        ["H264", "H265", "H266"]
+    );
+    assert_eq!(format!("{:>6}", Codec::H265), "  H265");
+}
+
+#[test]
+fn keyframes_that_are_told_of() {
+    assert!(!CodecExtra::None.is_keyframe());
+    for is_keyframe in [false, true] {
+        for extra in [
+            CodecExtra::H264(H264CodecExtra { is_keyframe }),
+            CodecExtra::H265(H265CodecExtra { is_keyframe }),
+            CodecExtra::H266(H266CodecExtra { is_keyframe }),
+        ] {
+            assert_eq!(extra.is_keyframe(), is_keyframe);
+        }
+    }
+}
+
+#[test]
 fn a_depacketizer_in_a_box() {
     let mut end = CodecDepacketizer::Boxed(Box::new(Plain));
+    end.with_donl(true);
+    end.set_avc(true);
     writes(&mut end, &["7c8501", "aa"], "7c8501aa");
     end.give_up_run();
     refuses(&mut end, "", PacketError::ErrShortPacket);

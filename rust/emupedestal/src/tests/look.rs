@@ -3,7 +3,8 @@
 use super::bytes;
 use crate::{
     Codec, Depacketizer, H264Depacketizer, H265Depacketizer, H266Depacketizer,
-    detect_h264_keyframe, detect_h264_nalu, detect_h265_keyframe, detect_h266_keyframe, units,
+    detect_h264_keyframe, detect_h264_nalu, detect_h265_keyframe, detect_h266_keyframe,
+    detect_keyframe, set_lowest_header, units,
 };
 
 #[track_caller]
@@ -76,6 +77,56 @@ fn h266_keyframes_are_detected() {
         "00e1 0001 00 0003 0039bb",
     ];
     all(detect_h266_keyframe, false, &other);
+}
+
+#[test]
+fn keyframes_of_each_codec() {
+    for (codec, key, other) in [
+        (Codec::H264, ["650000", "7c850000"], ["410000", "7c050000"]),
+        (Codec::H265, ["2a01aa", "620193aa"], ["2c01aa", "620113aa"]),
+        (Codec::H266, ["0049aa", "00e987aa"], ["0051aa", "00e907aa"]),
+    ] {
+        all(|p| detect_keyframe(codec, p), true, &key);
+        all(|p| detect_keyframe(codec, p), false, &other);
+        all(|p| detect_keyframe(codec, p), false, &[""]);
+    }
+}
+
+/// RFC 7798, 4.4.2: the layer and the temporal id are the lowest of the units, and F is set where one has it.
+#[test]
+fn lowest_headers() {
+    let sets = "600b 0002 4001 0002 4201 0002 4401";
+    let numbered = "6000 0009 0002 430b 00 0002 c512";
+    for (codec, has_donl, packet, wanted) in [
+        (
+            Codec::H265,
+            false,
+            sets,
+            "6001 0002 4001 0002 4201 0002 4401",
+        ),
+        (
+            Codec::H265,
+            true,
+            numbered,
+            "e10a 0009 0002 430b 00 0002 c512",
+        ),
+        // What is no aggregate of H.265 stays.
+        (Codec::H265, true, sets, sets),
+        (Codec::H265, false, "600b 0002 4001 00", "600b 0002 4001 00"),
+        (
+            Codec::H265,
+            false,
+            "020b 0002 4001 0002 4201",
+            "020b 0002 4001 0002 4201",
+        ),
+        (Codec::H265, false, "", ""),
+        (Codec::H264, false, sets, sets),
+        (Codec::H266, false, sets, sets),
+    ] {
+        let mut packet = bytes(packet);
+        set_lowest_header(codec, has_donl, &mut packet);
+        assert_eq!(packet, bytes(wanted));
+    }
 }
 
 #[test]

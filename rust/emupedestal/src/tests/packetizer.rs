@@ -2,7 +2,7 @@
 //! 4.3).
 
 use super::{bytes, payload, sends};
-use crate::{Codec, CodecPacketizer, Packets};
+use crate::{Codec, CodecPacketizer, PacketError, Packets, PacketsSize};
 use crate::{H264Packetizer, H265Packetizer, H266Packetizer, Packetizer};
 
 /// A unit of this header and so many bytes `aa` behind it.
@@ -112,6 +112,36 @@ fn h265_sets_go_in_an_aggregate_or_alone() {
     let end = &mut H265Packetizer::default();
     sends(end, 17, &units, &[aggregate, "2601af"]);
     sends(end, 16, &units, &["40010c", "420101", "4401c1", "2601af"]);
+}
+
+/// By hand: an FU-A has two bytes before its data, and fragments of the others three (RFC 6184, 5.8; RFC 7798,
+/// 4.4.3; RFC 9328, 4.3.3); with numbers the first has two more.
+#[test]
+fn sizes_of_fragments() {
+    fn size(made: Result<PacketsSize, PacketError>) -> (usize, usize) {
+        let PacketsSize { packets, bytes } = made.unwrap();
+        (packets, bytes)
+    }
+    let h264 = H264Packetizer::default();
+    let unit = bytes("6501020304");
+    assert_eq!(size(h264.packets_size(4, &unit, 0)), (2, 2 * (2 + 2)));
+    assert_eq!(size(h264.packets_size(4, &unit, 2)), (2, 2 * (2 + 2 + 2)));
+    assert_eq!(size(h264.packets_size(2, &unit, 2)), (0, 0));
+    let mut h265 = H265Packetizer::default();
+    let unit = bytes("2601aabbcc");
+    assert_eq!(size(h265.packets_size(4, &unit, 1)), (3, 3 * (1 + 3 + 1)));
+    h265.with_donl(true);
+    h265.with_lowest_header(true);
+    assert_eq!(size(h265.packets_size(6, &unit, 0)), (2, 3 + 2 + 1 + 3 + 2));
+    let mut h266 = H266Packetizer::default();
+    let unit = [&bytes("0039")[..], &[0xaa; 1199]].concat();
+    assert_eq!(size(h266.packets_size(5000, &unit, 0)), (2, 1200 + 5));
+    h266.with_max_packet_size(1201);
+    assert_eq!(size(h266.packets_size(5000, &unit, 0)), (1, 1201));
+    // Sets that came in such a call don't wait.
+    let sets = payload(&["0079bb", "0081cc"]);
+    assert_eq!(size(h266.packets_size(1200, &sets, 0)), (0, 0));
+    sends(&mut h266, 1200, &bytes("0039dd"), &["0039dd"]);
 }
 
 /// Sets of layer 0 and temporal id 1 before a slice of layer 1 and temporal id 3 (RFC 7798, 4.4.2).

@@ -272,6 +272,36 @@ fn parameters_of_a_format() {
     }
 }
 
+/// Six digits in either case (RFC 6184, 8.1).
+#[test]
+fn the_profile_level_id_of_a_format() {
+    let said = |id: &str| H264ProfileLevel::from_fmtp(&params(&["packetization-mode=1", id]));
+    for (id, number) in [
+        ("profile-level-id=42e01f", 0x42e01f),
+        ("profile-level-id=640C1F", 0x640c1f),
+        ("profile-level-id=42100b", 0x42100b),
+    ] {
+        assert_eq!(said(id), H264ProfileLevel::try_from(number).ok(), "{id}");
+    }
+    assert_eq!(
+        told(0x640c1f),
+        Some((H264Profile::ConstrainedHigh, H264LevelIdc::Level3_1))
+    );
+    for id in [
+        "profile-level-id=",
+        "profile-level-id=42e01",
+        "profile-level-id=0042e01f",
+        "profile-level-id=42e01g",
+        "profile-level-id= 42e01",
+        "profile-level-id=+42e01",
+        "profile-level-id=63001f",
+        "profile-level-id=640063",
+        "Profile-Level-ID=42e01f",
+    ] {
+        assert_eq!(said(id), None, "{id}");
+    }
+}
+
 /// A number is one of the three's just where a value has it, which gives it back.
 #[test]
 fn known_numbers() {

@@ -132,6 +132,21 @@ fn capability_points() {
         (inferred.level_id, inferred.tier_flag, inferred.max_br),
         (Some(93), Some(0), Some(7))
     );
+    let [first, second] = format.capability_points_or_default().unwrap()[..] else {
+        panic!("two points");
+    };
+    assert_eq!(first, inferred);
+    assert_eq!(
+        (
+            second.level_id,
+            second.tier_flag,
+            second.max_br,
+            second.max_lsr
+        ),
+        (Some(120), Some(0), Some(7), None)
+    );
+    let none = H265Parameters::default().capability_points_or_default();
+    assert_eq!(none, Ok(vec![]));
     let text = "{w:8;max-lsr=62668800;max-lps=2088960,t:8;level-id=120}";
     assert_eq!(write_capability_points(&points).as_deref(), Ok(text));
     assert_eq!(read_capability_points(text), Ok(points));
@@ -161,6 +176,11 @@ fn capability_points() {
     ] {
         assert_eq!(read_capability_points(text), Err(wanted), "{text}");
     }
+    let format: H265Parameters = "dec-parallel-cap={t:8}".parse().unwrap();
+    assert_eq!(
+        format.capability_points_or_default(),
+        Err(CapabilityPointsError::NoLimit { place: 0 })
+    );
     let format: H265Parameters = "interop-constraints=9000000000aB".parse().unwrap();
     assert_eq!(format.interop_constraints(), 0x9000_0000_00ab);
     assert_eq!(

@@ -206,12 +206,12 @@ fn decoding_order_numbers() {
     let told = receives(&mut h264, &[(1, "6501", IN_ORDER)], "00000001 6501");
     let keyframe = H264CodecExtra { is_keyframe: true };
     assert_eq!(told, CodecExtra::H264(keyframe));
-    assert_eq!(h264.payload(), None);
+    assert_eq!(h264.shown(), None);
 
     let mut h265 = SequencedDepacketizer::new(Codec::H265, 100);
     h265.with_donl(true);
     receives(&mut h265, &[(1, "02010005aa", IN_ORDER)], "00000001 0201aa");
-    let Some(H265Payload::H265SingleNALUnitPacket(shown)) = h265.payload() else {
+    let Some(H265Payload::H265SingleNALUnitPacket(shown)) = h265.shown() else {
         panic!("a single NAL unit packet");
     };
     assert_eq!(
@@ -219,24 +219,24 @@ fn decoding_order_numbers() {
         (Some(5), [0xaa].as_slice())
     );
     // A late packet and a refused one aren't shown.
-    let before = h265.payload().cloned();
+    let before = h265.shown().cloned();
     let (late, short) = (Ok(Received::Late(1)), Err(PacketError::ErrShortPacket));
     receives(&mut h265, &[(1, "0201ffffbb", late), (2, "02", short)], "");
-    assert_eq!(h265.payload(), before.as_ref());
+    assert_eq!(h265.shown(), before.as_ref());
     // The packet has the mark of the setting, though it bears no number itself.
     let mut other = H265Depacketizer::default();
     other.with_donl(true);
     writes(&mut other, &["620113aa"], "");
     receives(&mut h265, &[(2, "620113aa", IN_ORDER)], "");
-    assert_eq!(h265.payload(), Some(other.payload()));
+    assert_eq!(h265.shown(), Some(other.payload()));
     h265.with_donl(false);
     receives(&mut h265, &[(3, "0201bb", IN_ORDER)], "00000001 0201bb");
-    assert_ne!(h265.payload(), before.as_ref());
+    assert_ne!(h265.shown(), before.as_ref());
 
     let mut h266 = SequencedDepacketizer::new(Codec::H266, 100);
     h266.with_donl(true);
     receives(&mut h266, &[(1, "00390002dd", IN_ORDER)], "00000001 0039dd");
-    assert_eq!(h266.payload(), None);
+    assert_eq!(h266.shown(), None);
 }
 
 /// Empty units of an aggregate take two bytes each in the packet, and four behind a start code: more
