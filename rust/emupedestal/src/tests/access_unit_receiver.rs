@@ -6,7 +6,7 @@ use crate::access_unit_receiver::{
     AccessUnitConfig, AccessUnitReceiver, NotPushedReason, Pushed, ReceivedAccessUnit,
 };
 use crate::{
-    Codec, CodecExtra, AccessUnitAssembler, H264CodecExtra, HeldPacket, PacketError, ReorderBuffer,
+    AccessUnitAssembler, Codec, CodecExtra, H264CodecExtra, HeldPacket, PacketError, ReorderBuffer,
     RtpPacket,
 };
 

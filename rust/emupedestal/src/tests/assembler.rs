@@ -3,7 +3,7 @@
 
 use super::bytes;
 use crate::{
-    AccessUnit, Codec, CodecExtra, AccessUnitAssembler, H264CodecExtra, HeldPacket, NotHeldReason,
+    AccessUnit, AccessUnitAssembler, Codec, CodecExtra, H264CodecExtra, HeldPacket, NotHeldReason,
     PacketError, Pushed, Received, ReorderBuffer, RtpPacket, SequencedDepacketizer,
 };
 

@@ -1,8 +1,8 @@
 //! Access units through a network that loses, repeats and reorders packets: by a small generator of numbers, against
 //! what came of what was sent.
 
-use crate::proved::h26x_core::Packetizer;
 use crate::proved::h26x_assembler::{AccessUnit, AccessUnitAssembler, assemble_all};
+use crate::proved::h26x_core::Packetizer;
 use crate::proved::h26x_depacketizer::RunDepacketizer;
 use crate::proved::h26x_receiver::SequencedDepacketizer;
 use crate::proved::h26x_reorder::RtpPacket;
