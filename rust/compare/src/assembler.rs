@@ -110,7 +110,7 @@ pub fn assembled(seed: u64, case: u64, ours: &mut Log, theirs: &mut Log) {
         }
         if m.random.one_in(8) {
             let copy = assembler.clone();
-            ours.say("same", copy == receiver);
+            ours.say("same", copy == assembler);
             theirs.say("same", true);
             assembler = copy;
         }
