@@ -2,7 +2,7 @@
 use Rattle.std.proofs.Common.{◌≡◌, ◌⊎◌, inl, inr, ap, ◌∙◌, subst, ℕ, List, Some, Ok, Err, Option, Result}
 use Rattle.std.specs.Option.{unwrap_or}
 use Rattle.h26x_cut.specs.Cutting.{AreUnits}
-use Rattle.h26x_codec.specs.Repeating.{zero_rule}
+use Rattle.h26x_codec.specs.Codec.{zero_rule}
 use Rattle.h26x_codec.specs.declared.codec.Codec.{Codec}
 use Rattle.h26x_handles.specs.Codes.{out_of_memory}
 use Rattle.h26x_handles.specs.Sdp.{sdp_of_units}

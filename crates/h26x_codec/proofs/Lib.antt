@@ -1,6 +1,3 @@
-pub mod AgainLemmas
-pub mod TransmissionLemmas
-pub mod StateLemmas
-pub mod TakeLemmas
 pub mod PlainLemmas
 pub mod PlacementLemmas
+pub mod RuleLemmas

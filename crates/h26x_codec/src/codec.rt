@@ -2,8 +2,7 @@
 
 ghost use Rattle.std.specs.Prelude.{◌≡◌, Bool};
 ghost use Rattle.h26x_cut.specs.Cutting.{units_of};
-ghost use Rattle.h26x_codec.specs.Codec.{codec_format};
-ghost use Rattle.h26x_codec.specs.Repeating.{zero_rule};
+ghost use Rattle.h26x_codec.specs.Codec.{codec_format, zero_rule};
 
 use h26x_cut::ZeroRule;
 

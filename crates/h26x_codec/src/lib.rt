@@ -1,43 +1,23 @@
-//! The packetizers and depacketizers of all codecs behind one type each, with a caller's own, and
-//! whole transmissions through them: calls through both endpoints ([`carry`]), packets of any peer
-//! ([`take_all`]), and payloads sent, written and sent again ([`again`]).
+//! Which codecs there are, and the packetizers and depacketizers of a codec that is chosen when they
+//! are made, one type for all codecs.
 //!
 //! ```rust
-//! let mut packetizer = CodecPacketizer::new(alloc, Codec::H266);
-//! let packets = packetizer.packetize(1200, frame)?;
-//!
-//! let mut out = Vec::new(alloc);
-//! let mut depacketizer = CodecDepacketizer::new(alloc, Codec::H266);
-//! let mut extra = CodecExtra::None;
-//! for packet in &packets {
-//!     depacketizer.depacketize(packet, &mut out, &mut extra)?;
-//! }
+//! let mut depacketizer = AnyDepacketizer::new(alloc, Codec::H266);
+//! depacketizer.depacketize(packet, &mut out, &mut extra)?;
 //! ```
 #![tactic(auto)]
 
 mod any_depacketizer;
 mod any_packetizer;
 mod any_payload_depacketizer;
-mod carried;
 mod cases;
 mod codec;
-mod depacketizer;
 pub mod formats;
 pub mod laws;
-mod packetizer;
 mod plain;
-mod repeated;
-mod take;
-mod transmissions;
 
 pub use any_depacketizer::AnyDepacketizer;
 pub use any_packetizer::AnyPacketizer;
 pub use any_payload_depacketizer::AnyPayloadDepacketizer;
-pub use carried::{Carried, Marks, Packets};
 pub use codec::Codec;
-pub use depacketizer::CodecDepacketizer;
 pub use h26x_packetizer::{BufferPackets, PacketBuffer};
-pub use packetizer::CodecPacketizer;
-pub use repeated::{Repeated, again};
-pub use take::take_all;
-pub use transmissions::carry;

@@ -2,9 +2,10 @@
 
 ghost use Rattle.std.specs.Prelude.{◌≡◌, ◌≢◌, Ok, Err};
 
-use h26x_codec::{Codec, CodecDepacketizer, CodecPacketizer};
+use h26x_codec::Codec;
 use h26x_core::{CodecExtra, Depacketizer, PacketError, Packetizer};
 use h26x_cut::{ZeroRule, units};
+use h26x_transmission::{CodecDepacketizer, CodecPacketizer};
 use std::alloc::Global;
 use std::fs;
 use std::io::{self, Read};

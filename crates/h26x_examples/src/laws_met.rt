@@ -169,8 +169,8 @@ pub fn what_calls_send()
         (units_sent (codec_format codec has_donl) (entries_with_limit limit units)))
         ≡ units_sent (codec_format codec has_donl) (entries_with_limit limit units) }
 {
-    h26x_codec::laws::key_units_are_detected();
-    h26x_codec::laws::what_was_sent_is_sent_again();
+    h26x_transmission::laws::key_units_are_detected();
+    h26x_transmission::laws::what_was_sent_is_sent_again();
 }
 
 /// Of packets that a network brings of a codec's calls, a caller's own loop over `receive` writes

@@ -2,8 +2,9 @@
 //! transmissions through both.
 
 use crate::stand_ins::send;
-use h26x_codec::{Codec, CodecDepacketizer, CodecPacketizer, Repeated, again, carry, take_all};
+use h26x_codec::Codec;
 use h26x_core::{CodecExtra, Depacketizer, PacketError, Packetizer};
+use h26x_transmission::{CodecDepacketizer, CodecPacketizer, Repeated, again, carry, take_all};
 use std::alloc::Global;
 
 /// Cuts a frame into packets, and puts its units together again.

@@ -5,7 +5,7 @@ use Rattle.std.specs.Result.{result_map_both}
 use Rattle.std.specs.Borrow.{Bor}
 use Rattle.std.specs.declared.alloc.Global.{Global}
 use Rattle.h26x_cut.specs.Cutting.{AreUnits}
-use Rattle.h26x_codec.specs.Repeating.{zero_rule}
+use Rattle.h26x_codec.specs.Codec.{zero_rule}
 use Rattle.h26x_codec.specs.declared.codec.Codec.{Codec}
 use Rattle.h26x_codec.specs.declared.codec.Codec.TheVariants as c
 use Rattle.h26x_sdp.specs.declared.kind.Kind.{Kind}

@@ -3,8 +3,8 @@
 use crate::draws::Draws;
 use crate::setting::Setting;
 use crate::stream::{Picture, STAMP, pictures, small_pictures, stamp_at};
-use h26x_codec::CodecPacketizer;
 use h26x_core::{PacketError, Packetizer};
+use h26x_transmission::CodecPacketizer;
 use std::alloc::Global;
 
 /// The longest packet, in bytes.

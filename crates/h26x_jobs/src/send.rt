@@ -5,9 +5,9 @@ use crate::digest::Digest;
 use crate::draws::Draws;
 use crate::setting::{SETTINGS, Setting};
 use crate::stream::{Picture, pictures};
-use h26x_codec::CodecPacketizer;
 use h26x_core::{PacketError, Packetizer};
 use h26x_packetizer::PacketBuffer;
+use h26x_transmission::CodecPacketizer;
 use std::alloc::Global;
 
 /// The bytes of RTP's header.

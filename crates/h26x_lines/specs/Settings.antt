@@ -4,10 +4,10 @@ use Rattle.h265_payload.specs.Setting as h265_setting
 use Rattle.h266_payload.specs.Setting as h266_setting
 use Rattle.h26x_codec.specs.declared.codec.Codec.{Codec}
 use Rattle.h26x_codec.specs.declared.codec.Codec.TheVariants as c
-use Rattle.h26x_codec.specs.declared.packetizer.CodecPacketizer.{CodecPacketizer}
-use Rattle.h26x_codec.specs.declared.packetizer.CodecPacketizer.TheVariants as p
-use Rattle.h26x_codec.specs.declared.depacketizer.CodecDepacketizer.{CodecDepacketizer}
-use Rattle.h26x_codec.specs.declared.depacketizer.CodecDepacketizer.TheVariants as d
+use Rattle.h26x_transmission.specs.declared.packetizer.CodecPacketizer.{CodecPacketizer}
+use Rattle.h26x_transmission.specs.declared.packetizer.CodecPacketizer.TheVariants as p
+use Rattle.h26x_transmission.specs.declared.depacketizer.CodecDepacketizer.{CodecDepacketizer}
+use Rattle.h26x_transmission.specs.declared.depacketizer.CodecDepacketizer.TheVariants as d
 
 -- whether a line sets decoding order numbers: both are of one codec, H.265 or H.266
 abbrev pub may_set_numbers : Option Codec → Option Codec → Bool

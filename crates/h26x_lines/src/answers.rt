@@ -6,8 +6,8 @@ ghost use Rattle.hex.specs.Hex.{encode_lower};
 
 use crate::error::SessionError;
 use crate::to_digits::write_lower;
-use h26x_codec::Carried;
 use h26x_core::{CodecExtra, PacketError};
+use h26x_transmission::Carried;
 use std::alloc::Global;
 use std::io::{BufWriter, Write};
 use std::marker::Model;

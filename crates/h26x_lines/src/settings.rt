@@ -2,10 +2,10 @@
 //! whether it is one of theirs is answered, and where it isn't nothing changes.
 
 ghost use Rattle.std.specs.Prelude.{◌≡◌, if◌then◌else◌};
-ghost use Rattle.h26x_codec.specs.Codec.{packetizer_codec, depacketizer_codec, with_max_packet_size};
+ghost use Rattle.h26x_transmission.specs.CodecStates.{packetizer_codec, depacketizer_codec, with_max_packet_size};
 ghost use Rattle.h26x_lines.specs.Settings.{may_set_numbers, packetizer_with_numbers, depacketizer_with_numbers, may_set_avc, depacketizer_with_avc, may_set_size};
 
-use h26x_codec::{CodecDepacketizer, CodecPacketizer};
+use h26x_transmission::{CodecDepacketizer, CodecPacketizer};
 
 /// Turns decoding order numbers on or off. H.265 and H.266 have them.
 pub fn set_numbers(

@@ -17,3 +17,4 @@ pub mod h26x_receiver;
 pub mod h26x_reorder;
 #[cfg(feature = "sdp")]
 pub mod h26x_sdp;
+pub mod h26x_transmission;

@@ -19,6 +19,7 @@ mod shared {
     pub mod h26x_receiver;
     pub mod h26x_reorder;
     pub mod h26x_sdp;
+    pub mod h26x_transmission;
 }
 
 pub use shared::*;

@@ -1,8 +1,8 @@
 use super::*;
 use crate::rows::lines::sending::{Sender, Way};
 use crate::rows::lines::walk;
-use h26x_codec::{CodecDepacketizer, CodecPacketizer};
 use h26x_core::H265CodecExtra;
+use h26x_transmission::{CodecDepacketizer, CodecPacketizer};
 use std::process::Abort;
 use std::test::Fail;
 

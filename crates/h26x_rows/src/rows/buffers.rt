@@ -1,8 +1,8 @@
 //! Packets in one buffer, and units that are sent as they are.
 
-use h26x_codec::CodecPacketizer;
 use h26x_core::PacketError;
 use h26x_packetizer::PacketBuffer;
+use h26x_transmission::CodecPacketizer;
 use std::alloc::{AllocError, Global};
 
 /// How bytes are sent.

@@ -15,7 +15,8 @@ mod take;
 mod transmissions;
 
 use super::bytes;
-use crate::proved::h26x_codec::{Codec, CodecDepacketizer};
+use crate::proved::h26x_codec::Codec;
+use crate::proved::h26x_transmission::CodecDepacketizer;
 use crate::proved::h26x_core::{
     CodecExtra, Depacketizer, H264CodecExtra, H265CodecExtra, H266CodecExtra, PacketError,
 };

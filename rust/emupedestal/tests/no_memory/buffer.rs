@@ -1,7 +1,8 @@
 //! Packets that are appended to one buffer, and units that are sent as they are.
 
 use crate::PacketError;
-use crate::proved::h26x_codec::{Codec, CodecPacketizer, PacketBuffer};
+use crate::proved::h26x_codec::{Codec, PacketBuffer};
+use crate::proved::h26x_transmission::CodecPacketizer;
 use crate::proved::h264_payload::H264Packetizer;
 use crate::refusing::{insist, some_refused, without_memory};
 use crate::{h264, h265, h266};

@@ -1,7 +1,8 @@
 //! Drawn packets, and what plain models say becomes of them. Each model is the slow thing that is plainly right.
 
 use crate::PacketError;
-use crate::proved::h26x_codec::{AnyDepacketizer, Codec, CodecDepacketizer, CodecPacketizer, carry, take_all};
+use crate::proved::h26x_codec::{AnyDepacketizer, Codec};
+use crate::proved::h26x_transmission::{CodecDepacketizer, CodecPacketizer, carry, take_all};
 use crate::proved::h26x_core::{CodecExtra, H264CodecExtra, H265CodecExtra, H266CodecExtra};
 use crate::proved::h26x_reorder::{HeldPacket, Pushed, ReorderBuffer, RtpPacket};
 use crate::proved::h26x_receiver::{Received, SequencedDepacketizer};

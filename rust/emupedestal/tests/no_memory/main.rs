@@ -42,6 +42,7 @@ mod proved {
     pub mod h26x_profile;
     pub mod h26x_receiver;
     pub mod h26x_reorder;
+    pub mod h26x_transmission;
     #[cfg(feature = "sdp")]
     pub mod h26x_sdp;
 }

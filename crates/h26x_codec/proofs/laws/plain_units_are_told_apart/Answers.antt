@@ -1,7 +1,7 @@
 use Rattle.std.proofs.Common.{false, sym, ◌∙◌}
 use Rattle.h26x_core.specs.ByteStream.{byte_stream}
-use Rattle.h26x_codec.specs.Repeating.{zero_rule}
-use Rattle.h26x_codec.proofs.AgainLemmas.{cuts_by_its_rule}
+use Rattle.h26x_codec.specs.Codec.{zero_rule}
+use Rattle.h26x_codec.proofs.RuleLemmas.{cuts_by_its_rule}
 use Rattle.h26x_codec.proofs.PlainLemmas.{are_separable, are_units, ends_behind}
 use Rattle.h26x_codec.proofs.laws.plain_units_are_told_apart.Goals as goal
 

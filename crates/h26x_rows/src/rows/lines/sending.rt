@@ -4,9 +4,10 @@ use super::Answers;
 use super::settings::Settings;
 use super::text::{bytes_of, number, push_is_so, push_number, push_packets, push_word};
 use crate::rows::buffers::{How, append, copy_behind, keep, lie_well};
-use h26x_codec::{Codec, CodecPacketizer};
+use h26x_codec::Codec;
 use h26x_core::{PacketError, Packetizer};
 use h26x_packetizer::PacketBuffer;
+use h26x_transmission::CodecPacketizer;
 use std::alloc::Global;
 use std::mem;
 

@@ -1,9 +1,8 @@
 //! A caller's own endpoints in boxes: no box answers for the one that it holds.
 
 use super::{Answer, SHORT, list, told};
-use crate::proved::h26x_codec::{
-    Codec, CodecDepacketizer, CodecPacketizer, PacketBuffer, carry, take_all,
-};
+use crate::proved::h26x_codec::{Codec, PacketBuffer};
+use crate::proved::h26x_transmission::{CodecDepacketizer, CodecPacketizer, carry, take_all};
 use crate::proved::h26x_core::{CodecExtra, Depacketizer, PacketError, Packetizer};
 use crate::tests::bytes;
 

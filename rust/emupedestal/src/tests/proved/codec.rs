@@ -1,7 +1,8 @@
 //! Packetizers and depacketizers of any codec.
 
 use super::{SHORT, take, told, writes};
-use crate::proved::h26x_codec::{Codec, CodecDepacketizer, CodecPacketizer};
+use crate::proved::h26x_codec::Codec;
+use crate::proved::h26x_transmission::{CodecDepacketizer, CodecPacketizer};
 use crate::proved::h26x_core::{CodecExtra, Depacketizer};
 use crate::tests::bytes;
 

@@ -1,7 +1,8 @@
 //! The packet that a depacketizer of H.265 has accepted last.
 
 use super::{refuses, take};
-use crate::proved::h26x_codec::{Codec, CodecDepacketizer};
+use crate::proved::h26x_codec::Codec;
+use crate::proved::h26x_transmission::CodecDepacketizer;
 use crate::proved::h26x_core::{H265TSCI, PacketError};
 use crate::proved::h265_packets::{H265AggregationPacket, H265Payload};
 use crate::proved::h265_payload::H265Depacketizer;

@@ -1,7 +1,8 @@
 //! Packets lost, cut and refused.
 
 use super::{Answer, SHORT, fresh, list, refuses, told, writes};
-use crate::proved::h26x_codec::{Codec, take_all};
+use crate::proved::h26x_codec::Codec;
+use crate::proved::h26x_transmission::take_all;
 use crate::proved::h26x_core::{CodecExtra, Depacketizer, PacketError};
 use crate::tests::bytes;
 

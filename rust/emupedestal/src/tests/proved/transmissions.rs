@@ -1,7 +1,8 @@
 //! Calls through both endpoints.
 
 use super::{list, told};
-use crate::proved::h26x_codec::{Carried, Codec, CodecDepacketizer, CodecPacketizer, again, carry};
+use crate::proved::h26x_codec::Codec;
+use crate::proved::h26x_transmission::{Carried, CodecDepacketizer, CodecPacketizer, again, carry};
 use crate::proved::h26x_core::{CodecExtra, PacketError};
 use crate::proved::h264_payload::H264Depacketizer;
 use crate::tests::bytes;

@@ -1,0 +1,4 @@
+pub mod AgainLemmas
+pub mod TransmissionLemmas
+pub mod StateLemmas
+pub mod TakeLemmas

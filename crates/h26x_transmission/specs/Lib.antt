@@ -1,0 +1,4 @@
+pub mod CodecStates
+pub mod Transmissions
+pub mod Taking
+pub mod Repeating

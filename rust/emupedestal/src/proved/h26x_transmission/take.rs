@@ -1,0 +1,27 @@
+// Made from crates/h26x_transmission/src/take.rt by tools/to-rust.
+
+//! Packets, any whatever, through a depacketizer.
+
+use crate::proved::h26x_core::{CodecExtra, Depacketizer, PacketError};
+use crate::proved::h26x_transmission::depacketizer::CodecDepacketizer;
+use crate::support::TryVec;
+use alloc::vec::Vec;
+
+/// Gives every packet to a depacketizer, in order, and answers what became of each. One that is
+/// refused is passed over.
+///
+/// Room for the outcomes is taken first; where there is none the error is `OutOfMemory`, and nothing
+/// was taken. `out` and `extra` are what the accepted packets brought.
+pub fn take_all(
+    d: &mut CodecDepacketizer,
+    packets: &[Vec<u8>],
+    out: &mut Vec<u8>,
+    extra: &mut CodecExtra,
+) -> Result<Vec<Result<(), PacketError>>, PacketError> {
+    let mut outcomes = Vec::try_with_room(packets.len())?;
+    for packet in packets {
+        let outcome = d.depacketize(packet, out, extra);
+        outcomes.push(outcome);
+    }
+    Ok(outcomes)
+}
