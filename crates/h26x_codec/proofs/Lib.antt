@@ -1,3 +1,4 @@
 pub mod PlainLemmas
 pub mod PlacementLemmas
 pub mod RuleLemmas
+pub mod StateLemmas

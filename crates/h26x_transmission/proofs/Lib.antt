@@ -1,4 +1,3 @@
 pub mod AgainLemmas
 pub mod TransmissionLemmas
-pub mod StateLemmas
 pub mod TakeLemmas

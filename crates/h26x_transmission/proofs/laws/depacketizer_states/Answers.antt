@@ -5,7 +5,7 @@ use Rattle.h265_payload.specs.DepacketizerView as h265_view
 use Rattle.h26x_depacketizer.specs.DepacketizerView.{depacketizer_state}
 use Rattle.h266_payload.specs.Setting as h266_setting
 use Rattle.h26x_transmission.specs.CodecStates.{codec_depacketizer_state}
-use Rattle.h26x_transmission.proofs.StateLemmas.{of_state}
+use Rattle.h26x_codec.proofs.StateLemmas.{of_state}
 use Rattle.h26x_transmission.proofs.laws.depacketizer_states.Goals as goal
 
 pub returns-in-H265 : goal.returns-in-H265

@@ -5,7 +5,7 @@ use Rattle.h265_payload.specs.Setting as h265_setting
 use Rattle.h266_payload.specs.Setting as h266_setting
 use Rattle.h26x_packetizer.specs.PacketizerView.{packetizer_state}
 use Rattle.h26x_transmission.specs.CodecStates.{codec_packetizer_state}
-use Rattle.h26x_transmission.proofs.StateLemmas.{of_state}
+use Rattle.h26x_codec.proofs.StateLemmas.{of_state}
 use Rattle.h26x_transmission.proofs.laws.packetizer_states.Goals as goal
 
 pub returns-in-H265-clause-format : goal.returns-in-H265-clause-format

@@ -1,3 +1,7 @@
+use Rattle.h26x_packetizer.specs.PacketizerView.{packetizer_state}
+use Rattle.h265_payload.specs.Setting as h265_setting
+use Rattle.h266_payload.specs.Setting as h266_setting
+use Rattle.h26x_codec.proofs.StateLemmas.{then_mapped}
 use Rattle.h26x_codec.proofs.any_packetizer.AnyPacketizer.packetize_into.Goals as goal
 
 pub returns-in-H265-clause-packets : goal.returns-in-H265-clause-packets
@@ -5,3 +9,9 @@ returns-in-H265-clause-packets c = rw c.in-H265.is c.packetize_into-in-H265.ensu
 
 pub returns-in-H266-clause-packets : goal.returns-in-H266-clause-packets
 returns-in-H266-clause-packets c = rw c.in-H266.is c.packetize_into-in-H266.ensures.packets
+
+pub returns-in-H265-clause-after : goal.returns-in-H265-clause-after
+returns-in-H265-clause-after c = rw c.in-H265.is (then_mapped (λ v. packetizer_state (h265_setting.setting_format v.codec) v) _ _ c.packetize_into-in-H265.result c.packetize_into-in-H265.ensures.after)
+
+pub returns-in-H266-clause-after : goal.returns-in-H266-clause-after
+returns-in-H266-clause-after c = rw c.in-H266.is (then_mapped (λ v. packetizer_state (h266_setting.setting_format v.codec) v) _ _ c.packetize_into-in-H266.result c.packetize_into-in-H266.ensures.after)

@@ -5,7 +5,7 @@ use Rattle.h265_payload.specs.DepacketizerView as h265_view
 use Rattle.h26x_depacketizer.specs.DepacketizerView.{view_depacketization}
 use Rattle.h266_payload.specs.Setting as h266_setting
 use Rattle.h26x_transmission.specs.CodecStates.{codec_depacketization}
-use Rattle.h26x_transmission.proofs.StateLemmas.{of_state, then_mapped}
+use Rattle.h26x_codec.proofs.StateLemmas.{of_state, then_mapped}
 use Rattle.h26x_transmission.proofs.depacketizer.CodecDepacketizerDepacketizer.depacketize.Goals as goal
 
 pub returns-in-H265-clause-outcome : goal.returns-in-H265-clause-outcome

@@ -7,7 +7,7 @@ use Rattle.h266_payload.specs.Setting as h266_setting
 use Rattle.h26x_packetizer.specs.Buffer.{with_packets}
 use Rattle.h26x_packetizer.specs.PacketizerView.{packetizer_state}
 use Rattle.h26x_transmission.specs.CodecStates.{codec_packetizer_state}
-use Rattle.h26x_transmission.proofs.StateLemmas.{of_state}
+use Rattle.h26x_codec.proofs.StateLemmas.{of_state}
 use Rattle.h26x_transmission.proofs.packetizer.CodecPacketizer.packetize_into.Goals as goal
 
 pub returns-in-H265-clause-packets : goal.returns-in-H265-clause-packets

@@ -9,7 +9,7 @@ use Rattle.h26x_packetizer.specs.Sending.{contents}
 use Rattle.h26x_packetizer.specs.PacketizerView.{packetizer_state}
 use Rattle.h26x_codec.specs.declared.codec.Codec.TheVariants as codec
 use Rattle.h26x_transmission.specs.CodecStates.{codec_packetizer_state}
-use Rattle.h26x_transmission.proofs.StateLemmas.{of_state, of_states, then_mapped}
+use Rattle.h26x_codec.proofs.StateLemmas.{of_state, of_states, then_mapped}
 use Rattle.h26x_transmission.proofs.packetizer.CodecPacketizerPacketizer.packetize.Goals as goal
 
 pub returns-in-H265-clause-packets : goal.returns-in-H265-clause-packets
