@@ -253,7 +253,7 @@ func TestProfilesOfParameters(t *testing.T) {
 			t.Errorf("%s: got %+v", id, got)
 		}
 	}
-	for _, id := range []string{"", "42e01", "0042e01f", "42e01g", " 42e01f", "63001f", "640063"} {
+	for _, id := range []string{"", "42e01", "0042e01f", "42e01f00", "42e01g", " 42e01f", "63001f", "640063"} {
 		if got, ok := h26x.H264ProfileLevelFromFmtp(map[string]string{"profile-level-id": id}); ok || got != (h26x.H264ProfileLevel{}) {
 			t.Errorf("%q: got %+v", id, got)
 		}
@@ -279,6 +279,7 @@ func TestProfilesOfParameters(t *testing.T) {
 		{"+33", "01", "255", none265, high266},
 		{"99", "0", "93", none265, none266},
 		{"1", "5", "93", none265, none266},
+		{"1", "2", "51", none265, none266},
 		{"1", "0", "256", none265, none266},
 		{"257", "0", "93", none265, none266},
 		{"1", "", "93", none265, none266},
