@@ -1,3 +1,4 @@
 pub mod AgainLemmas
 pub mod TransmissionLemmas
 pub mod TakeLemmas
+pub mod AnswerLemmas
