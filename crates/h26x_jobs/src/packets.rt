@@ -1,8 +1,7 @@
 //! Packets of pictures, as a sender makes them.
 
-use crate::draws::Draws;
 use crate::setting::Setting;
-use crate::stream::{Picture, STAMP, pictures, small_pictures, stamp_at};
+use crate::stream::{Picture, STAMP, stamp_at};
 use h26x_core::{PacketError, Packetizer};
 use h26x_transmission::CodecPacketizer;
 use std::alloc::Global;
@@ -43,22 +42,6 @@ pub fn packets_of(
         }
     }
     Ok(packets)
-}
-
-/// The packets of so many pictures, or of 40 times as many small ones.
-pub fn drawn_packets(
-    alloc: Global,
-    draws: &mut Draws,
-    setting: Setting,
-    count: u32,
-    are_small: bool,
-) -> Result<Vec<Packet>, PacketError> {
-    let stream = if are_small {
-        small_pictures(alloc, draws, setting, count.saturating_mul(40))?
-    } else {
-        pictures(alloc, draws, setting, count)?
-    };
-    packets_of(alloc, setting, &stream)
 }
 
 /// How many bytes a packet has at least into which a round writes: more than its headers and the

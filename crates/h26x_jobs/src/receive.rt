@@ -7,8 +7,9 @@ use crate::Work;
 use crate::digest::Digest;
 use crate::draws::Draws;
 use crate::network::arrivals;
-use crate::packets::{Packet, drawn_packets};
+use crate::packets::{Packet, packets_of};
 use crate::setting::{SETTINGS, Setting};
+use crate::stream::{pictures, small_pictures};
 use h26x_assembler::{AccessUnit, AccessUnitAssembler, assemble_all};
 use h26x_codec::AnyDepacketizer;
 use h26x_core::{CodecExtra, PacketError};
@@ -232,17 +233,27 @@ pub fn run(alloc: Global, work: Work) -> Result<Digest, PacketError> {
     let mut draws = Draws::new(work.seed);
     let mut digest = Digest::new();
     for setting in &SETTINGS {
-        for are_small in &[false, true] {
-            let packets = drawn_packets(alloc, &mut draws, *setting, work.pictures, *are_small)?;
-            receive_setting(
-                alloc,
-                work.rounds,
-                *setting,
-                &packets,
-                &mut draws,
-                &mut digest,
-            )?;
-        }
+        let stream = pictures(alloc, &mut draws, *setting, work.pictures)?;
+        let packets = packets_of(alloc, *setting, &stream)?;
+        receive_setting(
+            alloc,
+            work.rounds,
+            *setting,
+            &packets,
+            &mut draws,
+            &mut digest,
+        )?;
+        let count = work.pictures.saturating_mul(40);
+        let stream = small_pictures(alloc, &mut draws, *setting, count)?;
+        let packets = packets_of(alloc, *setting, &stream)?;
+        receive_setting(
+            alloc,
+            work.rounds,
+            *setting,
+            &packets,
+            &mut draws,
+            &mut digest,
+        )?;
     }
     Ok(digest)
 }
