@@ -5,6 +5,5 @@ pub mod Shown
 pub mod Spare
 pub mod Packet
 pub mod Setting
-pub mod DepacketizerView
 pub mod LowestHeader
 pub mod ShownParts

@@ -105,10 +105,10 @@ shown has_donl (high ∷ low ∷ rest) =
     else shown_single has_donl (high * 256 + low) rest
 shown has_donl packet = p.H265SingleNALUnitPacket empty_single
 
--- the units that an aggregate shows; none of another packet
-abbrev pub units_of_aggregate : H265Payload → List (List ℕ)
-units_of_aggregate (p.H265AggregationPacket packet) = units_shown packet
-units_of_aggregate payload = []
+-- the units of an aggregate that is shown
+abbrev pub shown_units : H265Payload → Option (List (List ℕ))
+shown_units (p.H265AggregationPacket packet) = Some (units_shown packet)
+shown_units payload = None
 
 -- the number behind this one, by its difference (DOND, 4.4.2)
 abbrev pub don_behind : ℕ → Option ℕ → Option ℕ
@@ -131,11 +131,6 @@ units_numbered packet = option_map_or (λ first. (first.nal_unit, first.donl) �
 -- where packets bear numbers
 abbrev pub units_in : Bool → List ℕ → List (List ℕ)
 units_in has_donl bytes = map (λ other. other.nal_unit) (others_of has_donl bytes)
-
--- whether it is an aggregate
-abbrev pub is_aggregate : H265Payload → Bool
-is_aggregate (p.H265AggregationPacket packet) = true
-is_aggregate payload = false
 
 -- What is shown of a packet that is read, by its header's bytes: the kind of its reading, and the
 -- reading's number and bytes; of an aggregate all units with their numbers; the byte behind a

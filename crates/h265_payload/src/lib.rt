@@ -24,8 +24,8 @@ pub mod laws;
 mod lowest_header;
 mod packet;
 mod packetizer;
-mod run;
 mod show;
+mod shows;
 mod spare;
 
 pub use codec::H265;

@@ -80,16 +80,6 @@ impl Spare {
         *self.data.allocator()
     }
 
-    /// Frees all of it.
-    pub fn free(&mut self)
-        ensures data { vec_capacity self.new.data ≡ 0 }
-        ensures others { vec_capacity self.new.others ≡ 0 }
-        ensures second { vec_capacity self.new.second ≡ 0 }
-        ensures surplus { vec_capacity self.new.surplus ≡ 0 }
-    {
-        *self = Spare::new(self.allocator());
-    }
-
     /// Puts the next packet's data in place.
     pub fn put_data(&mut self, data: &[u8]) -> Result<(), AllocError>
         ensures data { OnOk result (self.new.data.items ≡ data.now) }

@@ -7,10 +7,10 @@ use Rattle.h26x_core.specs.declared.extra.CodecExtra.{CodecExtra}
 use Rattle.h26x_model.specs.Receive.DepacketizerState.{DepacketizerState, Depacketization, depacketization, depacketizer_meaning}
 use Rattle.h26x_depacketizer.specs.DepacketizerView.{depacketizer_state}
 use Rattle.h264_payload.specs.H264.{h264}
+use Rattle.h265_packets.specs.Equality.{payload_eq}
 use Rattle.h265_packets.specs.Payload.{empty_single}
 use Rattle.h265_packets.specs.declared.payload.H265Payload.{H265Payload}
 use Rattle.h265_packets.specs.declared.payload.H265Payload.TheVariants as p
-use Rattle.h265_payload.specs.DepacketizerView as h265_view
 use Rattle.h265_payload.specs.Setting as h265_setting
 use Rattle.h265_payload.specs.Shown.{shown}
 use Rattle.h266_payload.specs.Setting as h266_setting
@@ -22,7 +22,7 @@ use Rattle.h26x_codec.specs.declared.any_depacketizer.AnyDepacketizer.TheVariant
 -- what it is to the definitions
 abbrev pub any_depacketizer_state : AnyDepacketizer → DepacketizerState
 any_depacketizer_state (a.H264 it) = depacketizer_state h264 it
-any_depacketizer_state (a.H265 it) = h265_view.h265_state it
+any_depacketizer_state (a.H265 it) = depacketizer_state (h265_setting.setting_format it.codec) it
 any_depacketizer_state (a.H266 it) = depacketizer_state (h266_setting.setting_format it.codec) it
 
 -- the same, what was written so far, and what is told
@@ -68,7 +68,7 @@ any_depacketizer_with_donl has_donl (a.H266 it) =
 -- a new one, which reads numbers where its codec has them
 abbrev pub fresh_any_depacketizer : Codec → Bool → AnyDepacketizer
 fresh_any_depacketizer c.H264 has_donl = a.H264
-    (record { codec = record {}; is_avc = false; run = None })
+    (record { codec = record {}; is_avc = false; run = None; payload = record {} })
 fresh_any_depacketizer c.H265 has_donl = a.H265 (record {
   codec = h265_setting.setting has_donl;
   is_avc = false;
@@ -79,6 +79,7 @@ fresh_any_depacketizer c.H266 has_donl = a.H266 (record {
   codec = h266_setting.setting has_donl;
   is_avc = false;
   run = None;
+  payload = record {};
 })
 
 -- what it shows: that of H.265 the packet accepted last
@@ -98,7 +99,9 @@ any_depacketizer_showing packet (a.H266 it) = a.H266 it
 abbrev pub are_same_depacketizers : AnyDepacketizer → AnyDepacketizer → Bool
 are_same_depacketizers (a.H264 x) (a.H264 y) =
     beq x.is_avc y.is_avc && option_eq (pointwise nat_eq) x.run y.run
-are_same_depacketizers (a.H265 x) (a.H265 y) = h265_view.depacketizer_eq x y
+are_same_depacketizers (a.H265 x) (a.H265 y) =
+    beq x.codec.has_donl y.codec.has_donl && (beq x.is_avc y.is_avc
+    && (option_eq (pointwise nat_eq) x.run y.run && payload_eq x.payload y.payload))
 are_same_depacketizers (a.H266 x) (a.H266 y) =
     beq x.codec.has_donl y.codec.has_donl && (beq x.is_avc y.is_avc
     && option_eq (pointwise nat_eq) x.run y.run)

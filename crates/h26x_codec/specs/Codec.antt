@@ -9,9 +9,12 @@ use Rattle.h26x_model.specs.Receive.Outcome.{is_startless}
 use Rattle.h26x_model.specs.Receive.DepacketizerState.{DepacketizerState}
 use Rattle.h26x_depacketizer.specs.AccessUnit.{may_begin, is_last}
 use Rattle.h26x_depacketizer.specs.DepacketizerView.{DepacketizerView}
+use Rattle.h26x_depacketizer.specs.declared.shows.Nothing.{Nothing}
 use Rattle.h264_payload.specs.H264.{h264}
 use Rattle.h264_payload.specs.declared.codec.H264.{H264}
+use Rattle.h265_packets.specs.declared.payload.H265Payload.{H265Payload}
 use Rattle.h265_payload.specs.H265.{h265, h265_header}
+use Rattle.h265_payload.specs.declared.codec.H265.{H265}
 use Rattle.h266_payload.specs.H266.{h266, h266_header}
 use Rattle.h266_payload.specs.declared.codec.H266.{H266}
 use Rattle.h266_payload.specs.Setting as h266_setting
@@ -49,12 +52,22 @@ fresh_packetizer_state f = record {
 abbrev pub limit_at : PacketizerState → ℕ → ℕ
 limit_at s mtu = packet_limit s.format s.max_packet_size mtu
 
+-- a depacketizer of each codec: that of H.265 shows packets
+abbrev pub H264View : Type 0
+H264View = DepacketizerView H264 Nothing
+
+abbrev pub H265View : Type 0
+H265View = DepacketizerView H265 H265Payload
+
+abbrev pub H266View : Type 0
+H266View = DepacketizerView H266 Nothing
+
 -- whether a packet is a fragment without a start to one of H.264 that has no run open (RFC 6184, 5.8)
-abbrev pub is_startless_h264 : DepacketizerView H264 → List ℕ → Bool
+abbrev pub is_startless_h264 : H264View → List ℕ → Bool
 is_startless_h264 it packet = is_startless it.run (h264.read packet)
 
 -- so to one of H.266 (RFC 9328, 4.3.3)
-abbrev pub is_startless_h266 : DepacketizerView H266 → List ℕ → Bool
+abbrev pub is_startless_h266 : H266View → List ℕ → Bool
 is_startless_h266 it packet = is_startless it.run ((h266_setting.setting_format it.codec).read packet)
 
 -- whether a packet of H.265 may be the first of an access unit (RFC 7798, 4.4.3; str0m's rule)

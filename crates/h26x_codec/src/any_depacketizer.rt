@@ -7,14 +7,10 @@ ghost use Rattle.h26x_core.specs.H264AccessUnit.{may_begin_h264};
 ghost use Rattle.h26x_core.specs.Hint.{size_hint};
 ghost use Rattle.h26x_model.specs.Receive.DepacketizerState.{after_packets, IsPacketOutcome};
 ghost use Rattle.h26x_model.specs.Receive.RunLimit.{run_len};
-ghost use Rattle.h26x_depacketizer.specs.DepacketizerView.{DepacketizerView};
 ghost use Rattle.h26x_depacketizer.specs.Run.{run_memory};
 ghost use Rattle.h26x_depacketizer.specs.UnitSink.{bytes_brought, grown_to, TellsRoom};
-ghost use Rattle.h264_payload.specs.declared.codec.H264.{H264};
 ghost use Rattle.h264_payload.specs.H264.{h264};
-ghost use Rattle.h265_payload.specs.DepacketizerView.{H265DepacketizerView};
-ghost use Rattle.h266_payload.specs.declared.codec.H266.{H266};
-ghost use Rattle.h26x_codec.specs.Codec.{default_format, fresh_depacketizer_state, is_startless_h264, is_startless_h266, may_begin_h265, may_begin_h266, is_last_h265, is_last_h266};
+ghost use Rattle.h26x_codec.specs.Codec.{H264View, H265View, H266View, default_format, fresh_depacketizer_state, is_startless_h264, is_startless_h266, may_begin_h265, may_begin_h266, is_last_h265, is_last_h266};
 ghost use Rattle.h26x_codec.specs.AnyDepacketizer.{any_depacketizer_state, any_depacketization, any_depacketizer_with_run, any_depacketizer_meaning, any_depacketizer_codec, any_depacketizer_avc, any_depacketizer_with_avc, any_depacketizer_with_donl, fresh_any_depacketizer, any_depacketizer_shown, any_depacketizer_showing, are_same_depacketizers};
 ghost use Rattle.h26x_codec.specs.declared.any_depacketizer.AnyDepacketizer.TheVariants as a;
 ghost use Rattle.h26x_depacketizer.specs.RunDepacketizer.{IsSameBesideRun};
@@ -171,9 +167,9 @@ impl AnyDepacketizer {
         ensures accepted { OnOk result (IsFrontOf (W.sink out.old).bytes (W.sink out.new).bytes) }
         ensures rest { OnOk result (IsSameBesideRun any_depacketizer_with_run self.new
             (any_depacketizer_showing packet.now self.old)) }
-        ensures startless_h264 { (it : DepacketizerView H264) → self.old ≡ a.H264 it →
+        ensures startless_h264 { (it : H264View) → self.old ≡ a.H264 it →
             is_startless_h264 it packet.now ≡ true → IsOk result }
-        ensures startless_h266 { (it : DepacketizerView H266) → self.old ≡ a.H266 it →
+        ensures startless_h266 { (it : H266View) → self.old ≡ a.H266 it →
             is_startless_h266 it packet.now ≡ true → IsOk result }
         ensures kept { OnErr result (self.new ≡ self.old) }
         ensures kept_sink { OnErr result (W.sink out.new ≡ W.sink out.old) }
@@ -218,9 +214,9 @@ impl Depacketizer for AnyDepacketizer {
             codec_extra.old) (packet.now ∷ [])) }
         ensures rest { OnOk result (IsSameBesideRun any_depacketizer_with_run self.new
             (any_depacketizer_showing packet.now self.old)) }
-        ensures startless_h264 { (it : DepacketizerView H264) → self.old ≡ a.H264 it →
+        ensures startless_h264 { (it : H264View) → self.old ≡ a.H264 it →
             is_startless_h264 it packet.now ≡ true → IsOk result }
-        ensures startless_h266 { (it : DepacketizerView H266) → self.old ≡ a.H266 it →
+        ensures startless_h266 { (it : H266View) → self.old ≡ a.H266 it →
             is_startless_h266 it packet.now ≡ true → IsOk result }
         ensures kept { OnErr result (self.new ≡ self.old) }
         ensures accepted { OnOk result (IsFrontOf out.old.items out.new.items) }
@@ -234,11 +230,11 @@ impl Depacketizer for AnyDepacketizer {
 
     /// Whether `packet` may be the first of an access unit, as the depacketizer that it holds says.
     fn is_partition_head(&self, packet: &[u8]) -> bool
-        ensures h264 { (it : DepacketizerView H264) → self.now ≡ a.H264 it →
+        ensures h264 { (it : H264View) → self.now ≡ a.H264 it →
             result ≡ may_begin_h264 packet.now }
-        ensures h265 { (it : H265DepacketizerView) → self.now ≡ a.H265 it →
+        ensures h265 { (it : H265View) → self.now ≡ a.H265 it →
             result ≡ may_begin_h265 packet.now }
-        ensures h266 { (it : DepacketizerView H266) → self.now ≡ a.H266 it →
+        ensures h266 { (it : H266View) → self.now ≡ a.H266 it →
             result ≡ may_begin_h266 packet.now }
     {
         match self {
@@ -250,10 +246,10 @@ impl Depacketizer for AnyDepacketizer {
 
     /// Whether `packet` is the last of an access unit, as the depacketizer that it holds says.
     fn is_partition_tail(&self, marker: bool, packet: &[u8]) -> bool
-        ensures h264 { (it : DepacketizerView H264) → self.now ≡ a.H264 it → result ≡ marker }
-        ensures h265 { (it : H265DepacketizerView) → self.now ≡ a.H265 it →
+        ensures h264 { (it : H264View) → self.now ≡ a.H264 it → result ≡ marker }
+        ensures h265 { (it : H265View) → self.now ≡ a.H265 it →
             result ≡ is_last_h265 marker packet.now }
-        ensures h266 { (it : DepacketizerView H266) → self.now ≡ a.H266 it →
+        ensures h266 { (it : H266View) → self.now ≡ a.H266 it →
             result ≡ is_last_h266 marker packet.now }
     {
         match self {

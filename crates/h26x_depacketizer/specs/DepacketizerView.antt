@@ -43,30 +43,32 @@ pub record IsReadAs (f : Format) (units : List ℕ → List (List ℕ)) (packet 
   pub reading : taken_as (f.read packet) ≡ parts_reading f units packet parts
   pub checked : AreChecked f units packet parts
 
--- a depacketizer: its setting, whether it writes lengths, and the data of its open run
-pub record DepacketizerView (C : Type 0) : Type 0 where
+-- a depacketizer: its setting, whether it writes lengths, the data of its open run, and what it shows
+-- of the packet that it accepted last
+pub record DepacketizerView (C S : Type 0) : Type 0 where
   pub codec : C
   pub is_avc : Bool
   pub run : Option (List ℕ)
+  pub payload : S
 
 -- the same as a depacketizer of a format
-abbrev pub depacketizer_state : {C : Type 0} → Format → DepacketizerView C → DepacketizerState
+abbrev pub depacketizer_state : {C S : Type 0} → Format → DepacketizerView C S → DepacketizerState
 depacketizer_state f it = record { format = f; is_avc = it.is_avc; run = it.run }
 
 -- the same by its setting, where each setting has a format
-abbrev pub depacketizer_of : {C : Type 0} → (C → Format) → DepacketizerView C → DepacketizerState
+abbrev pub depacketizer_of : {C S : Type 0} → (C → Format) → DepacketizerView C S → DepacketizerState
 depacketizer_of format it = depacketizer_state (format it.codec) it
 
 -- the bytes that a packet brings to it
-abbrev pub brought_to : {C : Type 0} → (C → Format) → DepacketizerView C → List ℕ → List ℕ
+abbrev pub brought_to : {C S : Type 0} → (C → Format) → DepacketizerView C S → List ℕ → List ℕ
 brought_to format it packet = bytes_brought (depacketizer_of format it) packet
 
 -- a depacketizer, what was written so far, and what is told
-abbrev pub view_depacketization : {C : Type 0} → Format → DepacketizerView C → List ℕ → CodecExtra →
+abbrev pub view_depacketization : {C S : Type 0} → Format → DepacketizerView C S → List ℕ → CodecExtra →
     Depacketization
 view_depacketization f it out extra = depacketization (depacketizer_state f it) out extra
 
 -- the same by its setting
-abbrev pub depacketization_of : {C : Type 0} → (C → Format) → DepacketizerView C → List ℕ →
+abbrev pub depacketization_of : {C S : Type 0} → (C → Format) → DepacketizerView C S → List ℕ →
     CodecExtra → Depacketization
 depacketization_of format it out extra = view_depacketization (format it.codec) it out extra

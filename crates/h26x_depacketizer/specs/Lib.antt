@@ -4,3 +4,4 @@ pub mod OpenText
 pub mod Run
 pub mod RunDepacketizer
 pub mod UnitSink
+pub mod Shows

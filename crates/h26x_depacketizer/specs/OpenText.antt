@@ -59,11 +59,11 @@ met_depacketization is_next r text extra = depacketization
     (state_with_run r (run_if is_next text.run)) text.text extra
 
 -- these two of a depacketizer by its setting
-abbrev pub view_in_text : {C : Type 0} → (C → Format) → DepacketizerView C → OpenTextView →
+abbrev pub view_in_text : {C S : Type 0} → (C → Format) → DepacketizerView C S → OpenTextView →
     CodecExtra → Depacketization
 view_in_text format it text extra = text_depacketization (depacketizer_of format it) text extra
 
-abbrev pub view_met_in_text : {C : Type 0} → Bool → (C → Format) → DepacketizerView C →
+abbrev pub view_met_in_text : {C S : Type 0} → Bool → (C → Format) → DepacketizerView C S →
     OpenTextView → CodecExtra → Depacketization
 view_met_in_text is_next format it text extra =
     met_depacketization is_next (depacketizer_of format it) text extra

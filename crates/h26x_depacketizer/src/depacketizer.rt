@@ -1,11 +1,11 @@
 //! NAL units from packets, for every codec.
 
-ghost use Rattle.std.specs.Prelude.{◌≡◌, ◌≤◌, true, false, [], ◌∷◌, Some, None, Err, IfOk, OnOk, OnErr, IsOk};
+ghost use Rattle.std.specs.Prelude.{◌≡◌, ◌≤◌, true, false, [], ◌∷◌, Some, None, Err, IfOk, IfSome, OnOk, OnErr, IsOk};
 ghost use Rattle.h26x_core.specs.Front.{IsFrontOf};
 ghost use Rattle.h26x_core.specs.Hint.{size_hint};
 ghost use Rattle.h26x_model.specs.Payload.Reading.{is_start};
 ghost use Rattle.h26x_model.specs.Receive.Outcome.{is_startless};
-ghost use Rattle.h26x_model.specs.Receive.DepacketizerState.{after_packets, IsPacketOutcome};
+ghost use Rattle.h26x_model.specs.Receive.DepacketizerState.{after_packets, IsPacketOutcome, AreWritten};
 ghost use Rattle.h26x_model.specs.Receive.RunLimit.{run_len};
 ghost use Rattle.h26x_model.specs.Where.{Where};
 ghost use Rattle.h26x_depacketizer.specs.DepacketizerView.{brought_to, depacketization_of};
@@ -18,6 +18,7 @@ use crate::in_text::{RunRule, take_in_text};
 use crate::open_text::OpenText;
 use crate::reader::{PacketReader, starts_run};
 use crate::run::OpenRun;
+use crate::shows::{Nothing, Shows};
 use crate::sink::UnitSink;
 use crate::take::take_packet;
 use h26x_core::{CodecExtra, Depacketizer, PacketError};
@@ -27,37 +28,51 @@ use std::marker::Model;
 use std::mem;
 
 /// Writes the units of packets (RFC 6184, 5 and 7; RFC 7798, 4.4 and 6; RFC 9328, 4.3 and 6), each
-/// behind a start code, or behind its length where `is_avc` is set.
+/// behind a start code, or behind its length where `is_avc` is set, and shows the packet that it
+/// accepted last, or nothing.
 ///
 /// It keeps the data of the fragments since the latest start, until an end completes their unit.
 #[derive(Debug, Drop)]
-pub struct PayloadDepacketizer<C: PacketReader> {
+pub struct PayloadDepacketizer<C: PacketReader, S: Shows<C> = Nothing> {
     codec: C,
     /// Whether units are written behind lengths of four bytes, as MP4 files have them (ISO/IEC
     /// 14496-15: `avc1`, `hvc1`, `vvc1`), and not behind start codes. False at first.
     pub is_avc: bool,
     run: OpenRun,
+    payload: S,
+    /// What the next packet is shown by goes here first, and changes places with what is shown when
+    /// nothing can fail any more.
+    spare: S::Spare,
 }
 
-impl<C: PacketReader> Model for PayloadDepacketizer<C> {
+impl<C: PacketReader, S: Shows<C>> Model for PayloadDepacketizer<C, S> {
     ghost use Rattle.h26x_depacketizer.specs.DepacketizerView.{DepacketizerView};
 
-    ghost Value = { DepacketizerView C };
+    ghost Value = { DepacketizerView C S };
 
-    ghost view = { λ a. record { codec = a.codec; is_avc = a.is_avc; run = a.run } };
+    ghost view = { λ a. record {
+      codec = a.codec;
+      is_avc = a.is_avc;
+      run = a.run;
+      payload = a.payload;
+    } };
 }
 
-impl<C: PacketReader> PayloadDepacketizer<C> {
-    /// A depacketizer with the setting of a new one, which writes start codes and has no run open.
+impl<C: PacketReader, S: Shows<C>> PayloadDepacketizer<C, S> {
+    /// A depacketizer with the setting of a new one, which writes start codes, has no run open and
+    /// shows no packet yet.
     pub fn new(alloc: Global) -> Self
         ensures codec { result.codec ≡ C.fresh }
         ensures avc { result.is_avc ≡ false }
         ensures run { result.run ≡ None }
+        ensures payload { result.payload ≡ S.fresh }
     {
         PayloadDepacketizer {
             codec: C::new(),
             is_avc: false,
             run: OpenRun::none(alloc),
+            payload: S::new(alloc),
+            spare: S::new_spare(alloc),
         }
     }
 
@@ -68,8 +83,8 @@ impl<C: PacketReader> PayloadDepacketizer<C> {
         self.run.len()
     }
 
-    /// How many bytes of memory it keeps for runs: twice the open run at most, or 2^20 bytes. It keeps
-    /// no other memory.
+    /// How many bytes of memory it keeps for runs: twice the open run at most, or 2^20 bytes. What
+    /// `payload` shows, and will show, is not counted.
     pub fn run_memory(&self) -> usize
         ensures { result ≤ run_memory (run_len self.now.run) }
     {
@@ -84,7 +99,8 @@ impl<C: PacketReader> PayloadDepacketizer<C> {
         mem::swap(&mut self.run, run);
     }
 
-    /// Gives up the open run, if there is one, and gives its buffer back. It takes no memory.
+    /// Gives up the open run, if there is one, and gives its buffer back, and the memory that is kept
+    /// for what `payload` will show. It takes no memory.
     ///
     /// A run grows by every fragment until one ends it: a caller that will not hold so much asks
     /// `run_len` and calls this. Fragments that follow without a start are accepted and complete
@@ -93,24 +109,35 @@ impl<C: PacketReader> PayloadDepacketizer<C> {
         ensures { self.new ≡ record self.old { run = None } }
     {
         self.run.give_up();
+        self.spare = S::new_spare(self.run.allocator());
     }
 
-    /// The same depacketizer again, with its setting and its open run. `OutOfMemory` is its only
-    /// error, and with no run open it takes no memory.
+    /// The packet that was accepted last, as it is shown; before any, what a new one shows.
+    pub fn payload(&self) -> &S
+        ensures { result.now ≡ self.now.payload }
+    {
+        &self.payload
+    }
+
+    /// The same depacketizer again, with its setting, its open run and what it shows. `OutOfMemory` is
+    /// its only error; with no run open, and nothing shown, it takes no memory.
     pub fn clone(&self) -> Result<Self, PacketError>
         ensures same { IfOk result (λ it. it ≡ self.now) }
         ensures memory { OnErr result (result ≡ Err PacketError.OutOfMemory) }
-        ensures free { self.now.run ≡ None → IsOk result }
+        ensures free { S.is_free ≡ true → self.now.run ≡ None → IsOk result }
     {
+        let alloc = self.run.allocator();
         Ok(PayloadDepacketizer {
             codec: self.codec,
             is_avc: self.is_avc,
             run: self.run.clone()?,
+            payload: self.payload.clone(alloc)?,
+            spare: S::new_spare(alloc),
         })
     }
 }
 
-impl<C: PacketReader> PayloadDepacketizer<C> {
+impl<C: PacketReader, S: Shows<C>> PayloadDepacketizer<C, S> {
     /// Takes a packet as `depacketize` does, and writes the units that it completes to a list of
     /// bytes or to memory of a caller. Where that has no room for them the error is `OutOfMemory`;
     /// a refusal leaves everything, the memory too.
@@ -130,25 +157,36 @@ impl<C: PacketReader> PayloadDepacketizer<C> {
         ensures behind { OnOk result (W.sink out.new
             ≡ grown_to (W.sink out.new).bytes (W.sink out.old)) }
         ensures accepted { OnOk result (IsFrontOf (W.sink out.old).bytes (W.sink out.new).bytes) }
-        ensures setting { self.new ≡ record self.old { run = self.new.run } }
-        ensures startless { is_startless self.old.run
+        ensures setting { self.new ≡ record self.old {
+          run = self.new.run;
+          payload = self.new.payload;
+        } }
+        ensures shows { OnOk result (self.new.payload ≡ S.shown self.old.codec packet.now) }
+
+        // The units of an aggregate are those that are shown.
+        ensures aggregate { OnOk result (IfSome (S.units self.new.payload) (λ units.
+            AreWritten (depacketization_of C.format self.old (W.sink out.old).bytes
+            codec_extra.old) units (W.sink out.new).bytes codec_extra.new)) }
+
+        ensures startless { S.is_free ≡ true → is_startless self.old.run
             ((C.format self.old.codec).read packet.now) ≡ true → IsOk result }
         ensures kept { OnErr result (self.new ≡ self.old) }
         ensures kept_sink { OnErr result (W.sink out.new ≡ W.sink out.old) }
         ensures kept_extra { OnErr result (codec_extra.new ≡ codec_extra.old) }
 
-        // A sink that tells that room lacks tells it only where it does; and where a packet brings
-        // bytes, want of memory is want of room.
+        // A sink that tells that room lacks tells it only where it does; and where a packet that is
+        // not shown brings bytes, want of memory is want of room.
         ensures told_room { TellsRoom W.room W.lacks out.old out.new result
             (brought_to C.format self.old packet.now) }
-        ensures lacks { WantsRoom result (brought_to C.format self.old packet.now)
-            (W.lacks out.new) }
+        ensures lacks { S.is_free ≡ true → WantsRoom result
+            (brought_to C.format self.old packet.now) (W.lacks out.new) }
     {
-        let codec = self.codec;
-        let parts = codec.read(packet)?;
-        let is_avc = self.is_avc;
+        let (codec, is_avc, spare) = (self.codec, self.is_avc, &mut self.spare);
+        let parts = S::prepare(codec, is_avc, packet, self.run.open_len(), spare)?;
         let run = &mut self.run;
-        take_packet(codec, is_avc, packet, parts, run, out, codec_extra)
+        take_packet(codec, is_avc, packet, parts, run, out, codec_extra)?;
+        self.payload.show(codec, packet, parts, &mut self.spare);
+        Ok(())
     }
 
     /// Takes a packet as `depacketize_into` does, where the run that is open stands in the text that
@@ -156,31 +194,30 @@ impl<C: PacketReader> PayloadDepacketizer<C> {
     /// goes on with that run, or has it given up. A refusal leaves everything.
     #[inline]
     pub fn depacketize_in_text(
-        &self,
+        &mut self,
         rule: RunRule,
         packet: &[u8],
         text: &mut OpenText,
         codec_extra: &mut CodecExtra,
     ) -> Result<(), PacketError>
-        ensures outcome { IsPacketOutcome (view_met_in_text rule.is_next C.format self.now
+        ensures outcome { IsPacketOutcome (view_met_in_text rule.is_next C.format self.old
             text.old codec_extra.old) packet.now result }
-        ensures taken { OnOk result (view_in_text C.format self.now text.new codec_extra.new
-            ≡ after_packets (view_met_in_text rule.is_next C.format self.now text.old
+        ensures taken { OnOk result (view_in_text C.format self.new text.new codec_extra.new
+            ≡ after_packets (view_met_in_text rule.is_next C.format self.old text.old
             codec_extra.old) (packet.now ∷ [])) }
+        ensures setting { self.new ≡ record self.old { payload = self.new.payload } }
+        ensures shows { OnOk result (self.new.payload ≡ S.shown self.old.codec packet.now) }
         ensures aside { rule.may_be_inside ≡ false → OnOk result (text.new.inside ≡ None) }
-        ensures kept { OnErr result (IsSameText text.new text.old) }
+        ensures kept { OnErr result (self.new ≡ self.old) }
+        ensures kept_text { OnErr result (IsSameText text.new text.old) }
         ensures kept_extra { OnErr result (codec_extra.new ≡ codec_extra.old) }
     {
-        let parts = self.codec.read(packet)?;
-        take_in_text(
-            self.codec,
-            self.is_avc,
-            rule,
-            packet,
-            parts,
-            text,
-            codec_extra,
-        )
+        let (codec, is_avc, spare) = (self.codec, self.is_avc, &mut self.spare);
+        let run_len = text.met_run_len(rule.is_next);
+        let parts = S::prepare(codec, is_avc, packet, run_len, spare)?;
+        take_in_text(codec, is_avc, rule, packet, parts, text, codec_extra)?;
+        self.payload.show(codec, packet, parts, &mut self.spare);
+        Ok(())
     }
 
     /// Whether a packet is a fragment that starts, which gives up a run that is open.
@@ -191,9 +228,9 @@ impl<C: PacketReader> PayloadDepacketizer<C> {
     }
 }
 
-impl<C: PacketReader + DonlFormat> PayloadDepacketizer<C> {
+impl<C: PacketReader + DonlFormat, S: Shows<C>> PayloadDepacketizer<C, S> {
     /// Sets whether packets bear decoding order numbers (RFC 7798, 4.4; RFC 9328, 4.3). An open run
-    /// stays open.
+    /// stays open, and what `payload` shows stays.
     pub fn with_donl(&mut self, value: bool)
         ensures { self.new ≡ record self.old {
           codec = C.with_donl_of self.old.codec value;
@@ -203,7 +240,7 @@ impl<C: PacketReader + DonlFormat> PayloadDepacketizer<C> {
     }
 }
 
-impl<C: PacketReader + Eq> PartialEq for PayloadDepacketizer<C> {
+impl<C: PacketReader + Eq, S: Shows<C>> PartialEq for PayloadDepacketizer<C, S> {
     ghost use Rattle.std.specs.Prelude.{nat_eq};
     ghost use Rattle.std.specs.Bool.{beq};
     ghost use Rattle.std.specs.Ordering.{eq_of_both, on};
@@ -214,23 +251,27 @@ impl<C: PacketReader + Eq> PartialEq for PayloadDepacketizer<C> {
     ghost use Rattle.std.proofs.Common.{rules};
 
     ghost eq = { eq_of_both (on (λ it. it.codec) C.eq) (eq_of_both (on (λ it. it.is_avc) beq)
-        (on (λ it. it.run) (option_eq (pointwise nat_eq)))) };
+        (eq_of_both (on (λ it. it.run) (option_eq (pointwise nat_eq)))
+        (on (λ it. it.payload) S.eq))) };
 
     ghost laws = { partial_equiv_from_equiv (Prim.search (comparing, rules) depth 9) };
 
     fn eq(&self, other: &Self) -> bool {
-        self.codec == other.codec && self.is_avc == other.is_avc && self.run == other.run
+        self.codec == other.codec
+            && self.is_avc == other.is_avc
+            && self.run == other.run
+            && self.payload == other.payload
     }
 }
 
-impl<C: PacketReader + Eq> Eq for PayloadDepacketizer<C> {
+impl<C: PacketReader + Eq, S: Shows<C>> Eq for PayloadDepacketizer<C, S> {
     ghost use Rattle.std.specs.Cmp.Rules.{comparing};
     ghost use Rattle.std.proofs.Common.{rules};
 
     ghost laws = { Prim.search (comparing, rules) depth 9 };
 }
 
-impl<C: PacketReader> Depacketizer for PayloadDepacketizer<C> {
+impl<C: PacketReader, S: Shows<C>> Depacketizer for PayloadDepacketizer<C, S> {
     ghost use Rattle.h26x_model.specs.Receive.DepacketizerState.{depacketizer_meaning};
     ghost use Rattle.h26x_depacketizer.specs.DepacketizerView.{depacketizer_state};
 
@@ -248,16 +289,17 @@ impl<C: PacketReader> Depacketizer for PayloadDepacketizer<C> {
     /// Appends the units that `packet` completes to `out`, each behind `00 00 00 01`, or where
     /// `is_avc` is set behind its length in four bytes, and without decoding order numbers.
     /// `codec_extra` then tells whether one of them, or one told of before, is of a keyframe; what
-    /// another codec told is replaced. A packet that completes none leaves it.
+    /// another codec told is replaced. A packet that completes none leaves it. `payload` shows the
+    /// packet from then on, where packets are shown.
     ///
     /// A start of fragments gives up a unit that was open, and a fragment without a start before it
-    /// is accepted, completes nothing and takes no memory. That fragments between were lost is not
-    /// noticed here: their unit is written without their data. `h26x_receiver` notices it, by the
-    /// sequence numbers of packets.
+    /// is accepted and completes nothing; where no packet is shown it takes no memory. That fragments
+    /// between were lost is not noticed here: their unit is written without their data.
+    /// `h26x_receiver` notices it, by the sequence numbers of packets.
     ///
     /// The codec says which packets are refused; behind lengths a unit over `u32::MAX` bytes is too
-    /// (`AvcUnitTooLong`); else memory may lack. A refusal leaves `out`, `codec_extra` and the open
-    /// unit.
+    /// (`AvcUnitTooLong`); else memory may lack. A refusal leaves `out`, `codec_extra`, the open unit
+    /// and `payload`.
     fn depacketize(
         &mut self,
         packet: &[u8],
@@ -270,11 +312,21 @@ impl<C: PacketReader> Depacketizer for PayloadDepacketizer<C> {
             (depacketization_of C.format self.new out.new.items codec_extra.new
             ≡ after_packets (depacketization_of C.format self.old out.old.items codec_extra.old)
             (packet.now ∷ [])) }
-        ensures setting { self.new ≡ record self.old { run = self.new.run } }
+        ensures setting { self.new ≡ record self.old {
+          run = self.new.run;
+          payload = self.new.payload;
+        } }
+        ensures shows { OnOk result (self.new.payload ≡ S.shown self.old.codec packet.now) }
         ensures kept { OnErr result
             (depacketization_of C.format self.new out.new.items codec_extra.new
             ≡ depacketization_of C.format self.old out.old.items codec_extra.old) }
-        ensures startless { is_startless self.old.run
+
+        // The units of an aggregate are those that are shown.
+        ensures aggregate { OnOk result (IfSome (S.units self.new.payload) (λ units.
+            AreWritten (depacketization_of C.format self.old out.old.items codec_extra.old)
+            units out.new.items codec_extra.new)) }
+
+        ensures startless { S.is_free ≡ true → is_startless self.old.run
             ((C.format self.old.codec).read packet.now) ≡ true → IsOk result }
 
         ensures accepted { OnOk result (IsFrontOf out.old.items out.new.items) }

@@ -15,6 +15,7 @@ mod reader;
 mod reassembly;
 mod run;
 mod run_depacketizer;
+mod shows;
 mod sink;
 mod take;
 
@@ -31,5 +32,6 @@ pub use reader::{PacketReader, starts_run};
 pub use reassembly::Fragment;
 pub use run::OpenRun;
 pub use run_depacketizer::{RunDepacketizer, remove_run};
+pub use shows::{Nothing, Shows};
 pub use sink::UnitSink;
 pub use take::{check_lengths, take_packet};

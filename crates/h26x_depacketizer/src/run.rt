@@ -127,6 +127,11 @@ impl OpenRun {
         Ok(())
     }
 
+    /// Where its memory comes from.
+    pub(crate) fn allocator(&self) -> Global {
+        *self.bytes.allocator()
+    }
+
     /// Whether a run is open.
     pub fn is_open(&self) -> bool
         ensures { result ≡ is_some self.now }

@@ -15,6 +15,7 @@ use crate::in_text::RunRule;
 use crate::open_text::OpenText;
 use crate::reader::PacketReader;
 use crate::run::OpenRun;
+use crate::shows::Shows;
 use crate::sink::UnitSink;
 use h26x_core::{CodecExtra, Depacketizer, PacketError};
 use std::alloc::Global;
@@ -127,12 +128,12 @@ pub fn remove_run<D: RunDepacketizer>(alloc: Global, depacketizer: &mut D) -> Op
     run
 }
 
-impl<C: PacketReader> RunDepacketizer for PayloadDepacketizer<C> {
+impl<C: PacketReader, S: Shows<C>> RunDepacketizer for PayloadDepacketizer<C, S> {
     ghost state = { λ it. depacketizer_state (C.format it.codec) it };
 
     ghost with_run = { λ run it. record it { run = run } };
 
-    ghost having_taken = { λ packet it. it };
+    ghost having_taken = { λ packet it. record it { payload = S.shown it.codec packet } };
 
     ghost other_run = { λ run it. refl };
 

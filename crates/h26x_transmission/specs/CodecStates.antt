@@ -7,16 +7,14 @@ use Rattle.h26x_model.specs.Send.PacketizerState.{PacketizerState}
 use Rattle.h26x_model.specs.Receive.DepacketizerState.{DepacketizerState, Depacketization, depacketization}
 use Rattle.h26x_model.specs.Where.{Where, WhereBoth}
 use Rattle.h26x_packetizer.specs.PacketizerView.{packetizer_state}
-use Rattle.h26x_depacketizer.specs.DepacketizerView.{DepacketizerView, depacketizer_state}
+use Rattle.h26x_depacketizer.specs.DepacketizerView.{depacketizer_state}
 use Rattle.h264_payload.specs.H264.{h264}
-use Rattle.h264_payload.specs.declared.codec.H264.{H264}
 use Rattle.h265_payload.specs.Setting as h265_setting
-use Rattle.h265_payload.specs.DepacketizerView as h265_view
 use Rattle.h265_packets.specs.Payload.{empty_single}
 use Rattle.h265_packets.specs.declared.payload.H265Payload.{H265Payload}
 use Rattle.h265_packets.specs.declared.payload.H265Payload.TheVariants as shows
-use Rattle.h266_payload.specs.declared.codec.H266.{H266}
 use Rattle.h266_payload.specs.Setting as h266_setting
+use Rattle.h26x_codec.specs.Codec.{H264View, H265View, H266View}
 use Rattle.h26x_codec.specs.declared.codec.Codec.{Codec}
 use Rattle.h26x_codec.specs.declared.codec.Codec.TheVariants as c
 use Rattle.h26x_transmission.specs.declared.packetizer.CodecPacketizer.{CodecPacketizer}
@@ -68,7 +66,8 @@ with_max_packet_size n (p.Boxed it) = p.Boxed it
 abbrev pub codec_depacketizer_state : {X : Type 0} {P : X → Type 0} → CodecDepacketizer X P →
     Option DepacketizerState
 codec_depacketizer_state (d.H264 it) = Some (depacketizer_state h264 it)
-codec_depacketizer_state (d.H265 it) = Some (h265_view.h265_state it)
+codec_depacketizer_state (d.H265 it) = Some (depacketizer_state
+    (h265_setting.setting_format it.codec) it)
 codec_depacketizer_state (d.H266 it) = Some (depacketizer_state
     (h266_setting.setting_format it.codec) it)
 codec_depacketizer_state (d.Boxed it) = None
@@ -86,19 +85,18 @@ OfBoth p d holds = WhereBoth (codec_packetizer_state p) (codec_depacketizer_stat
 
 -- what holds of a depacketizer of H.264
 abbrev pub OfH264 : {X : Type 0} {P : X → Type 0} → CodecDepacketizer X P →
-    (DepacketizerView H264 → Type 0) → Type 0
-OfH264 depacketizer holds = (it : DepacketizerView H264) → depacketizer ≡ d.H264 it → holds it
+    (H264View → Type 0) → Type 0
+OfH264 depacketizer holds = (it : H264View) → depacketizer ≡ d.H264 it → holds it
 
 -- of one of H.265
 abbrev pub OfH265 : {X : Type 0} {P : X → Type 0} → CodecDepacketizer X P →
-    (h265_view.H265DepacketizerView → Type 0) → Type 0
-OfH265 depacketizer holds = (it : h265_view.H265DepacketizerView) → depacketizer ≡ d.H265 it →
-    holds it
+    (H265View → Type 0) → Type 0
+OfH265 depacketizer holds = (it : H265View) → depacketizer ≡ d.H265 it → holds it
 
 -- of one of H.266
 abbrev pub OfH266 : {X : Type 0} {P : X → Type 0} → CodecDepacketizer X P →
-    (DepacketizerView H266 → Type 0) → Type 0
-OfH266 depacketizer holds = (it : DepacketizerView H266) → depacketizer ≡ d.H266 it → holds it
+    (H266View → Type 0) → Type 0
+OfH266 depacketizer holds = (it : H266View) → depacketizer ≡ d.H266 it → holds it
 
 -- the codec of a depacketizer
 abbrev pub depacketizer_codec : {X : Type 0} {P : X → Type 0} → CodecDepacketizer X P → Option Codec

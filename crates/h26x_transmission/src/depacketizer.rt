@@ -6,7 +6,7 @@ ghost use Rattle.h26x_core.specs.Hint.{size_hint};
 ghost use Rattle.h26x_model.specs.Receive.DepacketizerState.{after_packets, IsPacketOutcome, depacketizer_meaning};
 ghost use Rattle.h264_payload.specs.declared.codec.H264.{H264};
 ghost use Rattle.h264_payload.specs.H264.{h264};
-ghost use Rattle.h265_payload.specs.DepacketizerView as h265_view;
+ghost use Rattle.h265_payload.specs.Setting as h265_setting;
 ghost use Rattle.h265_payload.specs.Shown.{shown};
 ghost use Rattle.h26x_depacketizer.specs.DepacketizerView.{depacketizer_state};
 ghost use Rattle.h266_payload.specs.declared.codec.H266.{H266};
@@ -99,7 +99,7 @@ impl Depacketizer for CodecDepacketizer {
     // What the later answers of the depacketizer that it holds depend on.
     ghost meaning = { elim [
       | d.H264 it ↦ depacketizer_meaning (depacketizer_state h264 it)
-      | d.H265 it ↦ h265_view.meaning_of it
+      | d.H265 it ↦ depacketizer_meaning (depacketizer_state (h265_setting.setting_format it.codec) it)
       | d.H266 it ↦ depacketizer_meaning (depacketizer_state (h266_setting.setting_format it.codec) it)
       | d.Boxed it ↦ (Depacketizer-box it).Depacketizer.meaning it.value
     ] };
