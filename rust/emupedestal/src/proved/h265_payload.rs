@@ -10,8 +10,8 @@ mod detect;
 mod lowest_header;
 mod packet;
 mod packetizer;
-mod run;
 mod show;
+mod shows;
 mod spare;
 
 pub use crate::proved::h26x_core::ANNEXB_NALUSTART_CODE;

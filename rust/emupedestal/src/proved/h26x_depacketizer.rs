@@ -15,6 +15,7 @@ mod reader;
 mod reassembly;
 mod run;
 mod run_depacketizer;
+mod shows;
 mod sink;
 mod take;
 
@@ -32,5 +33,7 @@ pub use reader::{PacketReader, starts_run};
 pub use reassembly::Fragment;
 pub use run::OpenRun;
 pub use run_depacketizer::{RunDepacketizer, remove_run};
+pub use shows::Nothing;
+pub(crate) use shows::Shows;
 pub(crate) use sink::UnitSink;
 pub(crate) use take::{check_lengths, take_packet};

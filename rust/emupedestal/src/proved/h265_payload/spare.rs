@@ -73,11 +73,6 @@ impl Spare {
         }
     }
 
-    /// Frees all of it.
-    pub fn free(&mut self) {
-        *self = Spare::new();
-    }
-
     /// Puts the next packet's data in place.
     pub(crate) fn put_data(&mut self, data: &[u8]) -> Result<(), AllocError> {
         self.data.clear();

@@ -8,6 +8,7 @@ use crate::proved::h26x_depacketizer::in_text::RunRule;
 use crate::proved::h26x_depacketizer::open_text::OpenText;
 use crate::proved::h26x_depacketizer::reader::PacketReader;
 use crate::proved::h26x_depacketizer::run::OpenRun;
+use crate::proved::h26x_depacketizer::shows::Shows;
 use crate::proved::h26x_depacketizer::sink::UnitSink;
 
 /// A depacketizer whose open run may be measured, exchanged and given up: those of the codecs, and a
@@ -59,7 +60,7 @@ pub fn remove_run<D: RunDepacketizer>(depacketizer: &mut D) -> OpenRun {
     run
 }
 
-impl<C: PacketReader> RunDepacketizer for PayloadDepacketizer<C> {
+impl<C: PacketReader, S: Shows<C>> RunDepacketizer for PayloadDepacketizer<C, S> {
     fn run_len(&self) -> usize {
         self.run_len()
     }
