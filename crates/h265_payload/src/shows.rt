@@ -3,7 +3,7 @@
 ghost use Rattle.std.specs.Prelude.{false};
 ghost use Rattle.h265_packets.specs.Payload.{empty_single};
 ghost use Rattle.h265_packets.specs.declared.payload.H265Payload.TheVariants.{H265SingleNALUnitPacket};
-ghost use Rattle.h265_payload.specs.Packet.{IsReady};
+ghost use Rattle.h265_payload.specs.Packet.{IsReady, IsShownBy};
 ghost use Rattle.h265_payload.specs.Shown.{shown, shown_units};
 
 use crate::codec::H265;
@@ -25,6 +25,8 @@ impl Shows<H265> for H265Payload {
 
     ghost is_free = { false };
 
+    ghost is_shown_by = { λ codec packet parts. IsShownBy codec.has_donl packet parts };
+
     ghost is_ready = { λ codec packet parts spare. IsReady codec.has_donl packet parts
         spare.data.items spare.others.items };
 
@@ -41,17 +43,22 @@ impl Shows<H265> for H265Payload {
     }
 
     #[inline(always)]
-    fn prepare<'a>(
+    fn read<'a>(codec: H265, packet: &'a [u8]) -> Result<Parts<'a>, PacketError> {
+        codec.read(packet)
+    }
+
+    #[inline(always)]
+    fn prepare(
         codec: H265,
         is_avc: bool,
-        packet: &'a [u8],
+        packet: &[u8],
+        parts: Parts<'_>,
         run_len: Option<usize>,
         spare: &mut Self::Spare,
-    ) -> Result<Parts<'a>, PacketError> {
-        let parts = codec.read(packet)?;
+    ) -> Result<(), PacketError> {
         check_lengths(codec, is_avc, packet, parts, run_len)?;
         prepare(codec.has_donl, packet, parts, spare)?;
-        Ok(parts)
+        Ok(())
     }
 
     fn show(&mut self, codec: H265, packet: &[u8], parts: Parts<'_>, spare: &mut Self::Spare) {

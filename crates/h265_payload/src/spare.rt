@@ -81,11 +81,11 @@ impl Spare {
     }
 
     /// Puts the next packet's data in place.
-    pub fn put_data(&mut self, data: &[u8]) -> Result<(), AllocError>
-        ensures data { OnOk result (self.new.data.items ≡ data.now) }
+    pub fn put_data(&mut self, bytes: &[u8]) -> Result<(), AllocError>
+        ensures data { OnOk result (self.new.data.items ≡ bytes.now) }
     {
         self.data.clear();
-        self.data.extend_from_slice(data)
+        self.data.extend_from_slice(bytes)
     }
 
     /// Removes the data.

@@ -1,6 +1,6 @@
 //! What a depacketizer shows of the packet that it accepted last.
 
-ghost use Rattle.std.specs.Prelude.{◌≡◌, ℕ, Bool, true, List, Option, None, Err, IfOk, IfErr, IsOk, OnErr};
+ghost use Rattle.std.specs.Prelude.{◌≡◌, ℕ, Bool, true, List, Option, None, Err, IfOk, IfErr, IsOk, OnOk, OnErr};
 ghost use Rattle.h26x_model.specs.Payload.Reading.{Refused};
 ghost use Rattle.h26x_model.specs.Receive.Outcome.{IsReadingOutcome};
 ghost use Rattle.h26x_depacketizer.specs.DepacketizerView.{IsReadAs};
@@ -33,6 +33,9 @@ pub trait Shows<C: PacketReader>: Sized + fmt::Debug + Drop + Eq {
     // Whether that takes no memory.
     ghost is_free: { Bool };
 
+    // A packet that was read as these parts can be shown by them.
+    ghost is_shown_by: { C → List ℕ → Parts → Type 0 };
+
     // All that a packet is shown by is in this memory.
     ghost is_ready: { C → List ℕ → Parts → Self.Spare → Type 0 };
 
@@ -49,24 +52,31 @@ pub trait Shows<C: PacketReader>: Sized + fmt::Debug + Drop + Eq {
         ensures memory { OnErr result (result ≡ Err PacketError.OutOfMemory) }
         ensures free { is_free ≡ true → IsOk result };
 
-    /// Reads a packet, and gets ready all that it is shown by. Where that takes memory, a packet that
-    /// completes a unit too long for its length is refused before.
-    fn prepare<'a>(
-        codec: C,
-        is_avc: bool,
-        packet: &'a [u8],
-        run_len: Option<usize>,
-        spare: &mut Self::Spare,
-    ) -> Result<Parts<'a>, PacketError>
+    /// Reads a packet, as its codec does.
+    fn read<'a>(codec: C, packet: &'a [u8]) -> Result<Parts<'a>, PacketError>
         ensures accepted { IfOk result (λ parts. IsReadAs (C.format codec) (C.units codec)
             packet.now parts) }
-        ensures ready { IfOk result (λ parts. is_ready codec packet.now parts spare.new) }
-        ensures units { IfOk result (λ parts. AreUnitsOf ((C.format codec).read packet.now)
-            (units (shown codec packet.now))) }
-        ensures refused { ForEachRun run_len (λ run. IfErr result (λ e. IsReadingOutcome is_avc run
-            ((C.format codec).read packet.now) (Err e))) }
-        ensures free { is_free ≡ true →
-            IfErr result (λ e. (C.format codec).read packet.now ≡ Refused e) };
+        ensures shows { IfOk result (λ parts. is_shown_by codec packet.now parts) }
+        ensures refused { IfErr result (λ e. (C.format codec).read packet.now ≡ Refused e) };
+
+    /// Gets ready all that a packet is shown by. Where that takes memory, a packet that completes a
+    /// unit too long for its length is refused before.
+    fn prepare(
+        codec: C,
+        is_avc: bool,
+        packet: &[u8],
+        parts: Parts<'_>,
+        run_len: Option<usize>,
+        spare: &mut Self::Spare,
+    ) -> Result<(), PacketError>
+        requires read { IsReadAs (C.format codec) (C.units codec) packet.now parts }
+        requires shows { is_shown_by codec packet.now parts }
+        ensures ready { OnOk result (is_ready codec packet.now parts.entry spare.new) }
+        ensures units { AreUnitsOf ((C.format codec).read packet.now)
+            (units (shown codec packet.now)) }
+        ensures refused { ForEachRun run_len (λ run. OnErr result (IsReadingOutcome is_avc run
+            ((C.format codec).read packet.now) result)) }
+        ensures free { is_free ≡ true → IsOk result };
 
     /// Shows a packet for which all is ready.
     fn show(&mut self, codec: C, packet: &[u8], parts: Parts<'_>, spare: &mut Self::Spare)
@@ -89,6 +99,8 @@ impl<C: PacketReader> Shows<C> for Nothing {
 
     ghost is_free = { true };
 
+    ghost is_shown_by = { λ codec packet parts. Unit {0} };
+
     ghost is_ready = { λ codec packet parts spare. Unit {0} };
 
     fn new(alloc: Global) -> Self {
@@ -104,14 +116,20 @@ impl<C: PacketReader> Shows<C> for Nothing {
     }
 
     #[inline(always)]
-    fn prepare<'a>(
-        codec: C,
+    fn read<'a>(codec: C, packet: &'a [u8]) -> Result<Parts<'a>, PacketError> {
+        codec.read(packet)
+    }
+
+    #[inline(always)]
+    fn prepare(
+        _codec: C,
         _is_avc: bool,
-        packet: &'a [u8],
+        _packet: &[u8],
+        _parts: Parts<'_>,
         _run_len: Option<usize>,
         _spare: &mut Self::Spare,
-    ) -> Result<Parts<'a>, PacketError> {
-        codec.read(packet)
+    ) -> Result<(), PacketError> {
+        Ok(())
     }
 
     #[inline(always)]

@@ -40,6 +40,7 @@ impl<'a> Body<'a> {
     }
 
     /// Copies it to memory of its length.
+    #[inline(always)]
     pub(crate) fn copy_to(self, to: &mut [u8])
         requires { length to.old ≡ length (body_bytes self) }
         ensures { to.new ≡ body_bytes self.entry }

@@ -59,6 +59,7 @@ impl<'a> PacketParts<'a> {
     }
 
     /// Copies it to memory of its length.
+    #[inline(always)]
     pub(crate) fn copy_to(&self, to: &mut [u8])
         requires { length to.old ≡ length self.now }
         ensures { to.new ≡ self.now }
