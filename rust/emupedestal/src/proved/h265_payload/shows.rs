@@ -24,17 +24,22 @@ impl Shows<H265> for H265Payload {
         self.try_clone()
     }
 
-    fn prepare<'a>(
+    #[inline(always)]
+    fn read<'a>(codec: H265, packet: &'a [u8]) -> Result<Parts<'a>, PacketError> {
+        codec.read(packet)
+    }
+
+    fn prepare(
         codec: H265,
         is_avc: bool,
-        packet: &'a [u8],
+        packet: &[u8],
+        parts: Parts<'_>,
         run_len: Option<usize>,
         spare: &mut Self::Spare,
-    ) -> Result<Parts<'a>, PacketError> {
-        let parts = codec.read(packet)?;
+    ) -> Result<(), PacketError> {
         check_lengths(codec, is_avc, packet, parts, run_len)?;
         prepare(codec.has_donl, packet, parts, spare)?;
-        Ok(parts)
+        Ok(())
     }
 
     fn show(&mut self, codec: H265, packet: &[u8], parts: Parts<'_>, spare: &mut Self::Spare) {

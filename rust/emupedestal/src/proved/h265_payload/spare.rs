@@ -74,9 +74,9 @@ impl Spare {
     }
 
     /// Puts the next packet's data in place.
-    pub(crate) fn put_data(&mut self, data: &[u8]) -> Result<(), AllocError> {
+    pub(crate) fn put_data(&mut self, bytes: &[u8]) -> Result<(), AllocError> {
         self.data.clear();
-        self.data.try_extend_from_slice(data)
+        self.data.try_extend_from_slice(bytes)
     }
 
     /// Removes the data.

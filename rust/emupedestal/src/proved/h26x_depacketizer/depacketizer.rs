@@ -102,8 +102,10 @@ impl<C: PacketReader, S: Shows<C>> PayloadDepacketizer<C, S> {
         out: &mut W,
         codec_extra: &mut CodecExtra,
     ) -> Result<(), PacketError> {
-        let (codec, is_avc, spare) = (self.codec, self.is_avc, &mut self.spare);
-        let parts = S::prepare(codec, is_avc, packet, self.run.open_len(), spare)?;
+        let (codec, is_avc) = (self.codec, self.is_avc);
+        let parts = S::read(codec, packet)?;
+        let run_len = self.run.open_len();
+        S::prepare(codec, is_avc, packet, parts, run_len, &mut self.spare)?;
         let run = &mut self.run;
         take_packet(codec, is_avc, packet, parts, run, out, codec_extra)?;
         self.payload.show(codec, packet, parts, &mut self.spare);
@@ -123,7 +125,8 @@ impl<C: PacketReader, S: Shows<C>> PayloadDepacketizer<C, S> {
     ) -> Result<(), PacketError> {
         let (codec, is_avc, spare) = (self.codec, self.is_avc, &mut self.spare);
         let run_len = text.met_run_len(rule.is_next);
-        let parts = S::prepare(codec, is_avc, packet, run_len, spare)?;
+        let parts = S::read(codec, packet)?;
+        S::prepare(codec, is_avc, packet, parts, run_len, spare)?;
         take_in_text(codec, is_avc, rule, packet, parts, text, codec_extra)?;
         self.payload.show(codec, packet, parts, &mut self.spare);
         Ok(())

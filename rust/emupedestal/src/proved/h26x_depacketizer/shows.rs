@@ -24,15 +24,19 @@ pub(crate) trait Shows<C: PacketReader>: Sized + fmt::Debug + Eq {
     /// The same again.
     fn try_clone(&self) -> Result<Self, PacketError>;
 
-    /// Reads a packet, and gets ready all that it is shown by. Where that takes memory, a packet that
-    /// completes a unit too long for its length is refused before.
-    fn prepare<'a>(
+    /// Reads a packet, as its codec does.
+    fn read<'a>(codec: C, packet: &'a [u8]) -> Result<Parts<'a>, PacketError>;
+
+    /// Gets ready all that a packet is shown by. Where that takes memory, a packet that completes a
+    /// unit too long for its length is refused before.
+    fn prepare(
         codec: C,
         is_avc: bool,
-        packet: &'a [u8],
+        packet: &[u8],
+        parts: Parts<'_>,
         run_len: Option<usize>,
         spare: &mut Self::Spare,
-    ) -> Result<Parts<'a>, PacketError>;
+    ) -> Result<(), PacketError>;
 
     /// Shows a packet for which all is ready.
     fn show(&mut self, codec: C, packet: &[u8], parts: Parts<'_>, spare: &mut Self::Spare);
@@ -58,14 +62,20 @@ impl<C: PacketReader> Shows<C> for Nothing {
     }
 
     #[inline(always)]
-    fn prepare<'a>(
-        codec: C,
+    fn read<'a>(codec: C, packet: &'a [u8]) -> Result<Parts<'a>, PacketError> {
+        codec.read(packet)
+    }
+
+    #[inline(always)]
+    fn prepare(
+        _codec: C,
         _is_avc: bool,
-        packet: &'a [u8],
+        _packet: &[u8],
+        _parts: Parts<'_>,
         _run_len: Option<usize>,
         _spare: &mut Self::Spare,
-    ) -> Result<Parts<'a>, PacketError> {
-        codec.read(packet)
+    ) -> Result<(), PacketError> {
+        Ok(())
     }
 
     #[inline(always)]

@@ -35,6 +35,7 @@ impl<'a> Body<'a> {
     }
 
     /// Copies it to memory of its length.
+    #[inline(always)]
     pub(crate) fn copy_to(self, to: &mut [u8]) {
         match self {
             Body::Data(data) => to.copy_from_slice(data),

@@ -18,7 +18,7 @@ pub(crate) fn donl_bytes<'a>(has_donl: bool, don: u16, bytes: &'a mut [u8; 2]) -
     if has_donl { bytes.as_slice() } else { &[] }
 }
 
-/// Appends a fragment of this data, behind these bytes of a number.
+/// Appends a fragment of this part of a unit's data, behind these bytes of a number.
 #[inline(always)]
 fn push_fragment<'a, C: PayloadFormat, S: PacketSink<'a>>(
     codec: C,
@@ -26,11 +26,11 @@ fn push_fragment<'a, C: PayloadFormat, S: PacketSink<'a>>(
     start: bool,
     end: bool,
     donl: &[u8],
-    data: &'a [u8],
+    part: &'a [u8],
     made: &mut S,
 ) -> Result<(), AllocError> {
     let header = codec.fragment_header(unit, start, end);
-    made.try_push(&header[..codec.header_len() + 1], donl, Body::Data(data))
+    made.try_push(&header[..codec.header_len() + 1], donl, Body::Data(part))
 }
 
 /// How many fragments a unit that doesn't fit goes in.

@@ -42,6 +42,7 @@ impl<'a> PacketParts<'a> {
     }
 
     /// Copies it to memory of its length.
+    #[inline(always)]
     pub(crate) fn copy_to(&self, to: &mut [u8]) {
         if self.header_len > 0 {
             to[..self.header_len].copy_from_slice(&self.header[..self.header_len]);
