@@ -7,7 +7,7 @@ from .tree import after, at, deep, functions, is_group, is_sign, is_word, parse,
 
 
 # Crates that stand behind a feature of the package.
-FEATURES = {"h26x_sdp": "sdp"}
+FEATURES = dict.fromkeys(["h26x_fmtp", "h26x_sdp", "h26x_answers", "h26x_stream_parameters"], "sdp")
 
 
 class Crate:

@@ -3,10 +3,10 @@ use Rattle.std.specs.Prelude.{◌≡◌, ◌⊎◌, ℕ, Bool, true, false, nat_
 use Rattle.std.specs.Option.{ok_or}
 use Rattle.std.specs.Result.{result_map_both}
 use Rattle.std.specs.List.{slice_get}
-use Rattle.h26x_sdp.specs.Pairs.{Pair}
-use Rattle.h26x_sdp.specs.RtpMaps.{rtp_map_text}
-use Rattle.h26x_sdp.specs.declared.rtp_map.RtpMap.{RtpMap}
-use Rattle.h26x_sdp.specs.declared.rtp_map.RtpMapError.{RtpMapError}
+use Rattle.h26x_fmtp.specs.Pairs.{Pair}
+use Rattle.h26x_fmtp.specs.RtpMaps.{rtp_map_text}
+use Rattle.h26x_fmtp.specs.declared.rtp_map.RtpMap.{RtpMap}
+use Rattle.h26x_fmtp.specs.declared.rtp_map.RtpMapError.{RtpMapError}
 use Rattle.h26x_handles.specs.Codes.{codec_with_number, ok, out_of_memory, unknown_codec, wrong_end, no_room}
 use Rattle.h26x_handles.specs.Copies.{with_front, with_first}
 use Rattle.h26x_handles.specs.SdpCodes.{absent, no_payload_type, refused_with, point_refused_with, rtp_map_code, codec_number, encoding_codec, codec_encoding}

@@ -3,7 +3,7 @@
 ghost use Rattle.std.specs.Prelude.{◌≡◌, ◌≢◌, ◌⊎◌, ◌&&◌, ℕ, List, false, Some, None, Ok, Err, length};
 ghost use Rattle.h26x_model.specs.Where.{Where};
 ghost use Rattle.h26x_codec.specs.declared.codec.Codec.{Codec};
-ghost use Rattle.h26x_sdp.specs.Pairs.{Pair};
+ghost use Rattle.h26x_fmtp.specs.Pairs.{Pair};
 ghost use Rattle.h26x_handles.specs.declared.sdp_code.PointRefused.{PointRefused};
 ghost use Rattle.h26x_handles.specs.declared.sdp_code.Refused.{Refused};
 ghost use Rattle.h26x_handles.specs.Codes.{codec_with_number, ok, out_of_memory, unknown_codec, wrong_end};

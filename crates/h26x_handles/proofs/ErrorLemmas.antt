@@ -3,16 +3,16 @@ use Rattle.std.proofs.Common.{◌≡◌, ◌⊎◌, inl, inr, refl, sym, ap, ◌
 use Rattle.std.specs.Prelude.{Option, Result, Ok, Err}
 use Rattle.std.specs.Result.{result_map_both}
 use Rattle.h26x_codec.specs.declared.codec.Codec.{Codec}
-use Rattle.h26x_sdp.specs.declared.error.ParametersError.{ParametersError}
-use Rattle.h26x_sdp.specs.declared.error.ParametersError.TheVariants as p
-use Rattle.h26x_sdp.specs.declared.error.UnitsError.{UnitsError}
-use Rattle.h26x_sdp.specs.declared.error.UnitsError.TheVariants as u
-use Rattle.h26x_sdp.specs.declared.error.StreamError.{StreamError}
-use Rattle.h26x_sdp.specs.declared.error.StreamError.TheVariants as s
-use Rattle.h26x_sdp.specs.Reading.{FormatParameters, read_of}
-use Rattle.h26x_sdp.specs.ParametersViews.{Fails}
-use Rattle.h26x_sdp.specs.UnitsViews.{SaysUnitsIfGiven}
-use Rattle.h26x_sdp.specs.FromStreamViews.{FailsStream}
+use Rattle.h26x_fmtp.specs.declared.error.ParametersError.{ParametersError}
+use Rattle.h26x_fmtp.specs.declared.error.ParametersError.TheVariants as p
+use Rattle.h26x_fmtp.specs.declared.error.UnitsError.{UnitsError}
+use Rattle.h26x_fmtp.specs.declared.error.UnitsError.TheVariants as u
+use Rattle.h26x_stream_parameters.specs.declared.error.StreamError.{StreamError}
+use Rattle.h26x_stream_parameters.specs.declared.error.StreamError.TheVariants as s
+use Rattle.h26x_fmtp.specs.Reading.{FormatParameters, read_of}
+use Rattle.h26x_fmtp.specs.ParametersViews.{Fails}
+use Rattle.h26x_fmtp.specs.UnitsViews.{SaysUnitsIfGiven}
+use Rattle.h26x_stream_parameters.specs.FromStreamViews.{FailsStream}
 use Rattle.h26x_handles.specs.declared.sdp_code.Refused.{Refused}
 use Rattle.h26x_handles.specs.declared.sdp.SdpEndpoint.{SdpEndpoint}
 use Rattle.h26x_handles.specs.Codes.{out_of_memory}

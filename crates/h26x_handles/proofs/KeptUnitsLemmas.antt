@@ -4,11 +4,11 @@ use Rattle.std.specs.List.{range_with_len}
 use Rattle.std.specs.declared.alloc.Global.{Global}
 use Rattle.std.proofs.lemmas.List.{length-map, get_or-map}
 use Rattle.std.proofs.lemmas.List.FromFn.{length-range_with_len, get_or-range_with_len}
-use Rattle.h26x_sdp.specs.declared.kind.Kind.{Kind}
-use Rattle.h26x_sdp.specs.declared.error.UnitsError.{UnitsError}
-use Rattle.h26x_sdp.specs.Tables.{ParameterRow, row_of}
-use Rattle.h26x_sdp.specs.Reading.{FormatParameters}
-use Rattle.h26x_sdp.specs.Units.{sprop_units_at}
+use Rattle.h26x_fmtp.specs.declared.kind.Kind.{Kind}
+use Rattle.h26x_fmtp.specs.declared.error.UnitsError.{UnitsError}
+use Rattle.h26x_fmtp.specs.Tables.{ParameterRow, row_of}
+use Rattle.h26x_fmtp.specs.Reading.{FormatParameters}
+use Rattle.h26x_fmtp.specs.Units.{sprop_units_at}
 use Rattle.h26x_handles.specs.KeptUnits.{kept_view}
 use Rattle.h26x_handles.specs.SdpCodes.{unknown_name, other_kind, refused_with}
 use Rattle.h26x_handles.specs.Sdp.{is_units, units_or_refused, named_units}

@@ -1,8 +1,8 @@
 -- The units of parameters as they are kept.
 use Rattle.std.specs.Prelude.{ℕ, List, Option, Some, None, Result, Ok, Err, Vec}
 use Rattle.std.specs.declared.alloc.Global.{Global}
-use Rattle.h26x_sdp.specs.declared.error.UnitsError.{UnitsError}
-use Rattle.h26x_sdp.specs.UnitsViews.{units_view}
+use Rattle.h26x_fmtp.specs.declared.error.UnitsError.{UnitsError}
+use Rattle.h26x_fmtp.specs.UnitsViews.{units_view}
 
 abbrev pub kept_view : Option (Result (Vec (Vec ℕ Global) Global) UnitsError) →
     Option (Result (List (List ℕ)) UnitsError)

@@ -8,27 +8,27 @@ use Rattle.h26x_cut.specs.Cutting.{AreUnits}
 use Rattle.h26x_codec.specs.Codec.{zero_rule}
 use Rattle.h26x_codec.specs.declared.codec.Codec.{Codec}
 use Rattle.h26x_codec.specs.declared.codec.Codec.TheVariants as c
-use Rattle.h26x_sdp.specs.declared.kind.Kind.{Kind}
-use Rattle.h26x_sdp.specs.declared.kind.Kind.TheVariants as k
-use Rattle.h26x_sdp.specs.declared.error.UnitsError.{UnitsError}
-use Rattle.h26x_sdp.specs.declared.error.StreamError.{StreamError}
+use Rattle.h26x_fmtp.specs.declared.kind.Kind.{Kind}
+use Rattle.h26x_fmtp.specs.declared.kind.Kind.TheVariants as k
+use Rattle.h26x_fmtp.specs.declared.error.UnitsError.{UnitsError}
+use Rattle.h26x_stream_parameters.specs.declared.error.StreamError.{StreamError}
 use Rattle.h26x_sdp.specs.declared.h265.H265Parameter.TheVariants as h265_parameter
 use Rattle.h26x_sdp.specs.declared.h266.H266Parameter.TheVariants as h266_parameter
-use Rattle.h26x_sdp.specs.Pairs.{Pair}
-use Rattle.h26x_sdp.specs.Tables.{ParameterRow, row_of}
-use Rattle.h26x_sdp.specs.Reading.{FormatParameters, read_of, all_of, value_at, number_at, value_or_default, number_or_default, number_of_32_bits}
-use Rattle.h26x_sdp.specs.Kinds.{unit_types}
-use Rattle.h26x_sdp.specs.Written.{written}
-use Rattle.h26x_sdp.specs.Units.{sprop_units_at}
-use Rattle.h26x_sdp.specs.UnitsViews.{units_view}
-use Rattle.h26x_sdp.specs.Answers.{Rules, answer_by}
-use Rattle.h26x_sdp.specs.AnswersH264 as h264_answers
-use Rattle.h26x_sdp.specs.AnswersH265 as h265_answers
-use Rattle.h26x_sdp.specs.AnswersH266 as h266_answers
+use Rattle.h26x_fmtp.specs.Pairs.{Pair}
+use Rattle.h26x_fmtp.specs.Tables.{ParameterRow, row_of}
+use Rattle.h26x_fmtp.specs.Reading.{FormatParameters, read_of, all_of, value_at, number_at, value_or_default, number_or_default, number_of_32_bits}
+use Rattle.h26x_fmtp.specs.Kinds.{unit_types}
+use Rattle.h26x_fmtp.specs.Written.{written}
+use Rattle.h26x_fmtp.specs.Units.{sprop_units_at}
+use Rattle.h26x_fmtp.specs.UnitsViews.{units_view}
+use Rattle.h26x_answers.specs.Answers.{Rules, answer_by}
+use Rattle.h26x_answers.specs.AnswersH264 as h264_answers
+use Rattle.h26x_answers.specs.AnswersH265 as h265_answers
+use Rattle.h26x_answers.specs.AnswersH266 as h266_answers
 use Rattle.h26x_sdp.specs.H264Rows as h264
 use Rattle.h26x_sdp.specs.H265Rows as h265
 use Rattle.h26x_sdp.specs.H266Rows as h266
-use Rattle.h26x_sdp.specs.FromStream.{h264_of_units, h265_of_units, h266_of_units}
+use Rattle.h26x_stream_parameters.specs.FromStream.{h264_of_units, h265_of_units, h266_of_units}
 use Rattle.h26x_handles.specs.declared.sdp_code.Refused.{Refused}
 use Rattle.h26x_handles.specs.declared.sdp.SdpEndpoint.{SdpEndpoint}
 use Rattle.h26x_handles.specs.declared.sdp.SdpEndpoint.TheVariants as s

@@ -2,22 +2,22 @@
 use Rattle.std.specs.Prelude.{ℕ}
 use Rattle.h26x_codec.specs.declared.codec.Codec.{Codec}
 use Rattle.h26x_codec.specs.declared.codec.Codec.TheVariants as c
-use Rattle.h26x_sdp.specs.declared.rtp_map.Encoding.{Encoding}
-use Rattle.h26x_sdp.specs.declared.rtp_map.Encoding.TheVariants as n
-use Rattle.h26x_sdp.specs.declared.error.Fault.{Fault}
-use Rattle.h26x_sdp.specs.declared.error.Fault.TheVariants as f
-use Rattle.h26x_sdp.specs.declared.error.ParametersError.{ParametersError}
-use Rattle.h26x_sdp.specs.declared.error.ParametersError.TheVariants as p
-use Rattle.h26x_sdp.specs.declared.error.UnitsError.{UnitsError}
-use Rattle.h26x_sdp.specs.declared.error.UnitsError.TheVariants as u
-use Rattle.h26x_sdp.specs.declared.error.StreamError.{StreamError}
-use Rattle.h26x_sdp.specs.declared.error.StreamError.TheVariants as s
+use Rattle.h26x_fmtp.specs.declared.rtp_map.Encoding.{Encoding}
+use Rattle.h26x_fmtp.specs.declared.rtp_map.Encoding.TheVariants as n
+use Rattle.h26x_fmtp.specs.declared.error.Fault.{Fault}
+use Rattle.h26x_fmtp.specs.declared.error.Fault.TheVariants as f
+use Rattle.h26x_fmtp.specs.declared.error.ParametersError.{ParametersError}
+use Rattle.h26x_fmtp.specs.declared.error.ParametersError.TheVariants as p
+use Rattle.h26x_fmtp.specs.declared.error.UnitsError.{UnitsError}
+use Rattle.h26x_fmtp.specs.declared.error.UnitsError.TheVariants as u
+use Rattle.h26x_stream_parameters.specs.declared.error.StreamError.{StreamError}
+use Rattle.h26x_stream_parameters.specs.declared.error.StreamError.TheVariants as s
 use Rattle.h26x_sdp.specs.declared.error.CapabilityPointsError.{CapabilityPointsError}
 use Rattle.h26x_sdp.specs.declared.error.CapabilityPointsError.TheVariants as b
 use Rattle.h26x_sdp.specs.declared.error.ConstraintsError.{ConstraintsError}
 use Rattle.h26x_sdp.specs.declared.error.ConstraintsError.TheVariants as t
-use Rattle.h26x_sdp.specs.declared.rtp_map.RtpMapError.{RtpMapError}
-use Rattle.h26x_sdp.specs.declared.rtp_map.RtpMapError.TheVariants as m
+use Rattle.h26x_fmtp.specs.declared.rtp_map.RtpMapError.{RtpMapError}
+use Rattle.h26x_fmtp.specs.declared.rtp_map.RtpMapError.TheVariants as m
 use Rattle.h26x_handles.specs.declared.sdp_code.Refused.{Refused}
 use Rattle.h26x_handles.specs.declared.sdp_code.PointRefused.{PointRefused}
 use Rattle.h26x_handles.specs.Codes.{out_of_memory}

@@ -13,7 +13,7 @@ use Rattle.h26x_sdp.specs.declared.h265.H265Parameter.TheVariants.{DecParallelCa
 use Rattle.h26x_sdp.specs.CapabilityPoints.{capability_points_in, inferred}
 use Rattle.h26x_sdp.specs.Constraints.{constraints_byte, constraints_of, constraint_flags, has_general}
 use Rattle.h26x_sdp.specs.H265Rows as h265
-use Rattle.h26x_sdp.specs.Reading.{FormatParameters, value_at}
+use Rattle.h26x_fmtp.specs.Reading.{FormatParameters, value_at}
 use Rattle.h26x_handles.specs.declared.sdp_code.PointRefused.{PointRefused}
 use Rattle.h26x_handles.specs.declared.sdp.SdpEndpoint.{SdpEndpoint}
 use Rattle.h26x_handles.specs.declared.sdp.SdpEndpoint.TheVariants as s

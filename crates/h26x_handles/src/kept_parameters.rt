@@ -2,9 +2,9 @@
 
 ghost use Rattle.std.specs.Prelude.{◌≡◌, ◌<◌, Ok, MatchResult, map, length, slice_index_or};
 ghost use Rattle.std.specs.List.{range_with_len};
-ghost use Rattle.h26x_sdp.specs.Reading.{read_of};
-ghost use Rattle.h26x_sdp.specs.ParametersViews.{Fails};
-ghost use Rattle.h26x_sdp.specs.Units.{sprop_units_at};
+ghost use Rattle.h26x_fmtp.specs.Reading.{read_of};
+ghost use Rattle.h26x_fmtp.specs.ParametersViews.{Fails};
+ghost use Rattle.h26x_fmtp.specs.Units.{sprop_units_at};
 ghost use Rattle.h26x_handles.specs.KeptUnits.{kept_view};
 ghost use Rattle.h26x_handles.specs.Sdp as spec;
 ghost use Rattle.h26x_handles.specs.Sdp.{named_units};
@@ -12,7 +12,8 @@ ghost use Rattle.h26x_handles.specs.Sdp.{named_units};
 use crate::code::OUT_OF_MEMORY;
 use crate::sdp_code::{ABSENT, OTHER_KIND, Refused, UNKNOWN_NAME, of_units, refused_with};
 use crate::sdp_parameter::ListedParameter;
-use h26x_sdp::{CodecParameters, Kind, ParametersError, UnitsError, row_of};
+use h26x_fmtp::{Kind, ParametersError, UnitsError, row_of};
+use h26x_sdp::CodecParameters;
 use std::alloc::Global;
 use std::marker::Model;
 
@@ -30,8 +31,8 @@ pub struct KeptParameters<P: ListedParameter> {
 impl<P: ListedParameter> Model for KeptParameters<P> {
     ghost use Rattle.std.specs.Prelude.{◌≡◌, map, length};
     ghost use Rattle.std.specs.List.{range_with_len};
-    ghost use Rattle.h26x_sdp.specs.Reading.{FormatParameters};
-    ghost use Rattle.h26x_sdp.specs.Units.{sprop_units_at};
+    ghost use Rattle.h26x_fmtp.specs.Reading.{FormatParameters};
+    ghost use Rattle.h26x_fmtp.specs.Units.{sprop_units_at};
     ghost use Rattle.h26x_handles.specs.KeptUnits.{kept_view};
 
     ghost Value = { FormatParameters };

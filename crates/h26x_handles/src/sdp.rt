@@ -1,8 +1,8 @@
 //! Format parameters of SDP, with their codec.
 
 ghost use Rattle.std.specs.Prelude.{◌≡◌, ◌⊎◌, Ok, Err, Some, None, IfOk, map};
-ghost use Rattle.h26x_sdp.specs.Answers.{answer_by, rules_of};
-ghost use Rattle.h26x_sdp.specs.ParametersViews.{other_view};
+ghost use Rattle.h26x_answers.specs.Answers.{answer_by, rules_of};
+ghost use Rattle.h26x_fmtp.specs.ParametersViews.{other_view};
 ghost use Rattle.h26x_handles.specs.Codes as codes;
 ghost use Rattle.h26x_handles.specs.SdpCodes.{no_answer};
 ghost use Rattle.h26x_handles.specs.SdpCodes as code;
@@ -14,11 +14,11 @@ use crate::sdp_code::{
     ABSENT, NO_ANSWER, OTHER_KIND, Refused, UNKNOWN_NAME, of_parameters, of_stream,
 };
 use crate::sdp_parameter::{ListedParameter, parameter_of};
+use h26x_answers::answer_format;
 use h26x_codec::Codec;
-use h26x_sdp::{
-    CodecParameters, H264Parameter, H265Parameter, H266Parameter, Kind, OtherParameter,
-    h264_of_payload, h265_of_payload, h266_of_payload,
-};
+use h26x_fmtp::{Kind, OtherParameter};
+use h26x_sdp::{CodecParameters, H264Parameter, H265Parameter, H266Parameter};
+use h26x_stream_parameters::{h264_of_payload, h265_of_payload, h266_of_payload};
 use std::alloc::{AllocError, Global};
 use std::slice;
 
@@ -91,10 +91,11 @@ fn answer_of<P: ListedParameter>(
     ensures { spec.IsOrOutOfMemory result
         (spec.answer_or_code (rules_of P.rows P.roles P.terms) offered.now ours.now) }
 {
-    match offered
-        .parameters()
-        .answer(alloc, slice::from_ref(ours.parameters()))
-    {
+    match answer_format(
+        alloc,
+        offered.parameters(),
+        slice::from_ref(ours.parameters()),
+    ) {
         Ok(Some(answer)) => KeptParameters::of(alloc, answer),
         Ok(None) => Err(NO_ANSWER),
         Err(_) => Err(OUT_OF_MEMORY),

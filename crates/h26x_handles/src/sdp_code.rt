@@ -5,10 +5,9 @@ ghost use Rattle.h26x_handles.specs.SdpCodes as spec;
 
 use crate::code::OUT_OF_MEMORY;
 use h26x_codec::Codec;
-use h26x_sdp::{
-    CapabilityPointsError, ConstraintsError, Encoding, Fault, ParametersError, RtpMapError,
-    StreamError, UnitsError,
-};
+use h26x_fmtp::{Encoding, Fault, ParametersError, RtpMapError, UnitsError};
+use h26x_sdp::{CapabilityPointsError, ConstraintsError};
+use h26x_stream_parameters::StreamError;
 
 /// A brace of the text isn't closed.
 pub const OPEN_BRACE: u32 = 20;

@@ -3,9 +3,11 @@
 ghost use Rattle.std.specs.Prelude.{◌≡◌, length, map};
 ghost use Rattle.std.specs.List.{range_with_len};
 ghost use Rattle.std.specs.Option.{option_map};
-ghost use Rattle.h26x_sdp.specs.Tables as tables;
+ghost use Rattle.h26x_fmtp.specs.Tables as tables;
 
-use h26x_sdp::{CodecRules, H264Parameter, H265Parameter, H266Parameter, Kind, row_of};
+use h26x_answers::CodecRules;
+use h26x_fmtp::{Kind, row_of};
+use h26x_sdp::{H264Parameter, H265Parameter, H266Parameter};
 
 /// A format parameter of a codec, all of which can be listed.
 pub trait ListedParameter: CodecRules + 'static {

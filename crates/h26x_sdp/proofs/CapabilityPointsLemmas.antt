@@ -1,11 +1,11 @@
 -- Capability points and their text.
-use Rattle.std.proofs.Common.{◌≡◌, ℕ, zero, suc, ◌+◌, ◌-◌, ◌<◌, ◌≤◌, ◌^◌, Bool, true, false, not, ◌&&◌, cond, List, [], ◌∷◌, ◌++◌, length, take, drop, get_or, map, Option, Some, None, Result, Ok, Err, refl, sym, ap, subst, ◌∙◌, arith}
+use Rattle.std.proofs.Common.{◌≡◌, ℕ, zero, suc, ◌+◌, ◌-◌, ◌<◌, ◌≤◌, ◌^◌, Bool, true, not, ◌&&◌, cond, List, [], ◌∷◌, ◌++◌, length, take, drop, get_or, map, Option, Some, None, Result, Ok, Err, refl, sym, ap, subst, ◌∙◌, arith}
 use Rattle.std.specs.Prelude.{◌==◌, nat_lt, nat_le, codes, decimal}
 use Rattle.std.specs.List.{list_all, position_or_len, before_first, after_first, join_with_byte, AllByRecursion}
 use Rattle.std.specs.Option.{option_map, option_and_then}
 use Rattle.std.specs.Result.{result_ok}
 use Rattle.std.specs.Char.{digit_value, is_ascii_whitespace}
-use Rattle.std.specs.Str.Parse.{AllDigits, IsNumeral, digits_value}
+use Rattle.std.specs.Str.Parse.{AllDigits, digits_value}
 use Rattle.std.proofs.lemmas.Bool.{and_parts, and_from}
 use Rattle.std.proofs.lemmas.Bool.Decides.{nat_tests}
 use Rattle.std.proofs.lemmas.List.{append_assoc, length-append}
@@ -13,32 +13,32 @@ use Rattle.std.proofs.lemmas.List.Folds.{list_all-append}
 use Rattle.std.proofs.Math.Seq.{take-append_seam, drop-append-add, get_or-append_seam}
 use Rattle.std.proofs.lemmas.Str.Parse.{digit_from_value}
 use Rattle.std.proofs.lemmas.Fmt.{decimal_is_IsNumeral}
-use Rattle.h26x_sdp.specs.declared.kind.Kind.TheVariants.{Number}
-use Rattle.h26x_sdp.specs.declared.error.Fault.{Fault}
-use Rattle.h26x_sdp.specs.declared.error.Fault.TheVariants.{NotANumber, OutOfRange}
-use Rattle.h26x_sdp.specs.declared.error.ParametersError.{ParametersError}
+use Rattle.h26x_fmtp.specs.declared.kind.Kind.TheVariants.{Number}
+use Rattle.h26x_fmtp.specs.declared.error.Fault.{Fault}
+use Rattle.h26x_fmtp.specs.declared.error.Fault.TheVariants.{NotANumber, OutOfRange}
+use Rattle.h26x_fmtp.specs.declared.error.ParametersError.{ParametersError}
 use Rattle.h26x_sdp.specs.declared.error.CapabilityPointsError.{CapabilityPointsError}
 use Rattle.h26x_sdp.specs.declared.error.CapabilityPointsError.TheVariants.{NoBraces, NoTool, Segmentation, Limits, NoLimit, OutOfMemory}
 use Rattle.h26x_sdp.specs.declared.capability_points.ParallelTool.{ParallelTool}
 use Rattle.h26x_sdp.specs.declared.capability_points.ParallelTool.TheVariants.{Wavefronts, NoWavefronts}
 use Rattle.h26x_sdp.specs.declared.capability_points.CapabilityPoint.{CapabilityPoint}
-use Rattle.h26x_sdp.specs.Kinds.{are_digits_of, number_in, range_fault, number_of}
-use Rattle.h26x_sdp.specs.Pairs.{Pair, trim_ascii}
-use Rattle.h26x_sdp.specs.Written.{text_of, written, IsTrimmed}
-use Rattle.h26x_sdp.specs.Tables.{ParameterRow, row_at}
-use Rattle.h26x_sdp.specs.Parameters.{is_mark, IsTable, IsValue, IsValueIfGiven, AreValues, AreParameters}
-use Rattle.h26x_sdp.specs.Reading.{FormatParameters, value_at, number_at, given_pairs, all_of, read_of}
-use Rattle.h26x_sdp.specs.Units.{is_mark_of, pieces_at, pieces}
+use Rattle.h26x_fmtp.specs.Kinds.{are_digits_of, number_in, range_fault, number_of}
+use Rattle.h26x_fmtp.specs.Pairs.{Pair, trim_ascii}
+use Rattle.h26x_fmtp.specs.Written.{text_of, IsTrimmed}
+use Rattle.h26x_fmtp.specs.Tables.{ParameterRow, row_at}
+use Rattle.h26x_fmtp.specs.Parameters.{is_mark, IsTable, IsValue, IsValueIfGiven, AreValues, AreParameters}
+use Rattle.h26x_fmtp.specs.Reading.{FormatParameters, value_at, number_at, given_pairs, all_of, read_of}
+use Rattle.h26x_fmtp.specs.Units.{is_mark_of, pieces}
 use Rattle.h26x_sdp.specs.CapabilityPoints.{limit_rows, tool_name, tool_of, segmentation_of, segmentation_in, has_limit, limited, with_limits, with_segmentation, with_tool, before_limits, point_in, point_before, points_from, in_braces, points_of, capability_points_in, limit_parameters, limits_text, point_text, points_text, capability_points_text, IsAtMost, IsPoint, AreCapabilityPoints}
 use Rattle.h26x_sdp.specs.CapabilityPointsViews.{FailsPoints}
-use Rattle.h26x_sdp.proofs.PartLemmas.{by_test}
-use Rattle.h26x_sdp.proofs.TrimLemmas.{trimmed_same}
-use Rattle.h26x_sdp.proofs.NumberLemmas.{number_fits}
-use Rattle.h26x_sdp.proofs.AgainLemmas.{read_again}
-use Rattle.h26x_sdp.proofs.FixedLemmas.{read_are}
-use Rattle.h26x_sdp.proofs.UnitsLemmas.{no_mark, joined_pieces}
+use Rattle.h26x_fmtp.proofs.PartLemmas.{by_test}
+use Rattle.h26x_fmtp.proofs.TrimLemmas.{trimmed_same}
+use Rattle.h26x_fmtp.proofs.NumberLemmas.{number_fits}
+use Rattle.h26x_fmtp.proofs.AgainLemmas.{read_again}
+use Rattle.h26x_fmtp.proofs.FixedLemmas.{read_are}
+use Rattle.h26x_fmtp.proofs.UnitsLemmas.{no_mark, joined_pieces}
 use Rattle.h26x_sdp.proofs.LevelSetsLemmas.{some_piece}
-use Rattle.h26x_sdp.proofs.KeptLemmas.{all_at, not_true, one_part_without_marks, all_below, below_at}
+use Rattle.h26x_fmtp.proofs.TestLemmas.{all_at, not_true, one_part_without_marks, all_below, below_at}
 
 -- points that are read one by one: those before, and those of the pieces that are left
 abbrev pub behind_points : List CapabilityPoint → Result (List CapabilityPoint) CapabilityPointsError → Result (List CapabilityPoint) CapabilityPointsError

@@ -10,14 +10,14 @@ use Rattle.base64.specs.GeneralPurpose.{encode_of, IsBytes}
 use Rattle.hex.specs.Hex.{encode_lower, decode_sized}
 use Rattle.hex.specs.declared.error.FromHexError.{FromHexError}
 use Rattle.hex.proofs.HexLemmas.{decode_of-ok, decode_sized-twice, decode_sized-ok, decode_sized-encode_lower}
-use Rattle.h26x_sdp.specs.declared.error.UnitsError.{UnitsError}
+use Rattle.h26x_fmtp.specs.declared.error.UnitsError.{UnitsError}
 use Rattle.h26x_sdp.specs.declared.error.LevelSetsError.{LevelSetsError}
-use Rattle.h26x_sdp.specs.Units.{is_mark_of, pieces_at, units_text, sprop_units}
-use Rattle.h26x_sdp.specs.UnitTypes.{of_types, unless_fault, fault_from, h264_sets}
+use Rattle.h26x_fmtp.specs.Units.{is_mark_of, pieces_at, units_text, sprop_units}
+use Rattle.h26x_fmtp.specs.UnitTypes.{of_types, unless_fault, fault_from, h264_sets}
 use Rattle.h26x_sdp.specs.LevelSets.{LevelSets, level_of_parts, level_in, level_before, levels_from, level_sets_in, level_texts, level_sets_text, IsLevel, AreLevelSets}
-use Rattle.h26x_sdp.proofs.PartLemmas.{by_test}
-use Rattle.h26x_sdp.proofs.UnitsLemmas.{no_mark, colon, plain_encoding, joined_pieces, bytes_pieces, units_written, units_read}
-use Rattle.h26x_sdp.proofs.KeptH264Lemmas.{encoded_all}
+use Rattle.h26x_fmtp.proofs.PartLemmas.{by_test}
+use Rattle.h26x_fmtp.proofs.UnitsLemmas.{no_mark, colon, plain_encoding, joined_pieces, bytes_pieces, units_written, units_read}
+use Rattle.h26x_sdp.proofs.DigitLemmas.{encoded_all}
 
 -- levels that are read one by one: those before, and those of the texts that are left
 abbrev pub behind_levels : List LevelSets → Result (List LevelSets) LevelSetsError → Result (List LevelSets) LevelSetsError

@@ -1,6 +1,6 @@
 -- The tables of the codecs are tables.
 use Rattle.std.proofs.Common.{refl}
-use Rattle.h26x_sdp.specs.Parameters.{IsTable}
+use Rattle.h26x_fmtp.specs.Parameters.{IsTable}
 use Rattle.h26x_sdp.specs.H264Rows as h264
 use Rattle.h26x_sdp.specs.H265Rows as h265
 use Rattle.h26x_sdp.specs.H266Rows as h266

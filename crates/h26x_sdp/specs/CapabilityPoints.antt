@@ -1,13 +1,13 @@
 -- What a decoder of H.265 can do where pictures are coded for parallel decoding, `dec-parallel-cap`
 -- (RFC 7798, section 7.1): points in braces with `,` between them, each a tool, `:`, a number, and
 -- limits with `;` before each.
-use Rattle.std.specs.Prelude.{◌≡◌, ℕ, ◌+◌, ◌-◌, ◌<◌, ◌≤◌, ◌^◌, ◌==◌, ◌&&◌, ◌||◌, Bool, true, if◌then◌else◌, List, [], ◌∷◌, ◌++◌, codes, decimal, length, map, take, drop, nat_le, nat_lt, slice_index_or, Option, Some, None, is_some, Result, Ok, Err}
+use Rattle.std.specs.Prelude.{◌≡◌, ℕ, ◌+◌, ◌-◌, ◌<◌, ◌≤◌, ◌==◌, ◌&&◌, ◌||◌, Bool, true, if◌then◌else◌, List, [], ◌∷◌, ◌++◌, codes, decimal, length, map, take, drop, nat_le, nat_lt, slice_index_or, Option, Some, None, is_some, Result, Ok, Err}
 use Rattle.std.specs.List.{before_first, after_first, join_with_byte, AllByRecursion}
 use Rattle.std.specs.Option.{option_map, option_or}
-use Rattle.h26x_sdp.specs.declared.kind.Kind.TheVariants.{Number}
-use Rattle.h26x_sdp.specs.declared.error.Fault.{Fault}
-use Rattle.h26x_sdp.specs.declared.error.Fault.TheVariants.{OutOfRange}
-use Rattle.h26x_sdp.specs.declared.error.ParametersError.{ParametersError}
+use Rattle.h26x_fmtp.specs.declared.kind.Kind.TheVariants.{Number}
+use Rattle.h26x_fmtp.specs.declared.error.Fault.{Fault}
+use Rattle.h26x_fmtp.specs.declared.error.Fault.TheVariants.{OutOfRange}
+use Rattle.h26x_fmtp.specs.declared.error.ParametersError.{ParametersError}
 use Rattle.h26x_sdp.specs.declared.error.CapabilityPointsError.{CapabilityPointsError}
 use Rattle.h26x_sdp.specs.declared.error.CapabilityPointsError.TheVariants.{NoBraces, NoTool, Segmentation, Limits, NoLimit}
 use Rattle.h26x_sdp.specs.declared.capability_points.ParallelTool.{ParallelTool}
@@ -17,12 +17,12 @@ use Rattle.h26x_sdp.specs.declared.capability_points.Limit.{Limit}
 use Rattle.h26x_sdp.specs.declared.capability_points.Limit.TheVariants as limit
 use Rattle.h26x_sdp.specs.declared.h265.H265Parameter.TheVariants as p
 use Rattle.h26x_sdp.specs.H265Rows as h265
-use Rattle.h26x_sdp.specs.Kinds.{number_in}
-use Rattle.h26x_sdp.specs.Pairs.{trim_ascii}
-use Rattle.h26x_sdp.specs.Tables.{ParameterRow, same_name}
-use Rattle.h26x_sdp.specs.Reading.{FormatParameters, read_of, all_of, number_at, number_or_default}
-use Rattle.h26x_sdp.specs.Units.{pieces}
-use Rattle.h26x_sdp.specs.Written.{written}
+use Rattle.h26x_fmtp.specs.Kinds.{number_in}
+use Rattle.h26x_fmtp.specs.Pairs.{trim_ascii}
+use Rattle.h26x_fmtp.specs.Tables.{ParameterRow, same_name}
+use Rattle.h26x_fmtp.specs.Reading.{FormatParameters, read_of, all_of, number_at, number_or_default}
+use Rattle.h26x_fmtp.specs.Units.{pieces}
+use Rattle.h26x_fmtp.specs.Written.{written}
 
 abbrev pub limit_place : Limit → ℕ
 limit_place limit.TierFlag = 0

@@ -13,7 +13,7 @@ use Rattle.base64.specs.declared.decode.DecodeError.{DecodeError}
 use Rattle.h26x_core.specs.Word.{field}
 use Rattle.h26x_sdp.specs.declared.h266.H266Parameter.TheVariants.{InteropConstraints}
 use Rattle.h26x_sdp.specs.H266Rows.{rows, row_place}
-use Rattle.h26x_sdp.specs.Reading.{FormatParameters, value_or_default}
+use Rattle.h26x_fmtp.specs.Reading.{FormatParameters, value_or_default}
 use Rattle.h26x_sdp.specs.declared.error.ConstraintsError.{ConstraintsError}
 use Rattle.h26x_sdp.specs.declared.error.ConstraintsError.TheVariants.{NotBase64, Short, Long}
 

@@ -1,10 +1,10 @@
 -- The format parameters of H.264 (RFC 6184, section 8.1).
 use Rattle.std.specs.Prelude.{ℕ, List, [], ◌∷◌, codes, Some, None}
-use Rattle.h26x_sdp.specs.declared.kind.Kind.TheVariants.{Number, Hexadecimal, Units, Text}
+use Rattle.h26x_fmtp.specs.declared.kind.Kind.TheVariants.{Number, Hexadecimal, Units, Text}
 use Rattle.h26x_sdp.specs.declared.h264.H264Parameter.{H264Parameter}
 use Rattle.h26x_sdp.specs.declared.h264.H264Parameter.TheVariants as p
-use Rattle.h26x_sdp.specs.Tables.{ParameterRow}
-use Rattle.h26x_sdp.specs.UnitTypes.{h264_sets}
+use Rattle.h26x_fmtp.specs.Tables.{ParameterRow}
+use Rattle.h26x_fmtp.specs.UnitTypes.{h264_sets}
 
 abbrev pub row_place : H264Parameter → ℕ
 row_place p.ProfileLevelId = 0

@@ -1,10 +1,10 @@
 -- The format parameters of H.265 (RFC 7798, section 7.1).
 use Rattle.std.specs.Prelude.{ℕ, List, [], ◌∷◌, codes, Some, None}
-use Rattle.h26x_sdp.specs.declared.kind.Kind.TheVariants.{Number, Hexadecimal, HexadecimalNumber, TxMode, Units, Text}
+use Rattle.h26x_fmtp.specs.declared.kind.Kind.TheVariants.{Number, Hexadecimal, HexadecimalNumber, TxMode, Units, Text}
 use Rattle.h26x_sdp.specs.declared.h265.H265Parameter.{H265Parameter}
 use Rattle.h26x_sdp.specs.declared.h265.H265Parameter.TheVariants as p
-use Rattle.h26x_sdp.specs.Tables.{ParameterRow}
-use Rattle.h26x_sdp.specs.UnitTypes.{h265_pps, h265_sei, h265_sps, h265_vps}
+use Rattle.h26x_fmtp.specs.Tables.{ParameterRow}
+use Rattle.h26x_fmtp.specs.UnitTypes.{h265_pps, h265_sei, h265_sps, h265_vps}
 
 abbrev pub row_place : H265Parameter → ℕ
 row_place p.ProfileSpace = 0

@@ -1,10 +1,10 @@
 -- The format parameters of H.266 (RFC 9328, sections 7.1 and 7.2).
 use Rattle.std.specs.Prelude.{ℕ, List, [], ◌∷◌, codes, Some, None}
-use Rattle.h26x_sdp.specs.declared.kind.Kind.TheVariants.{Number, Units, Text}
+use Rattle.h26x_fmtp.specs.declared.kind.Kind.TheVariants.{Number, Units, Text}
 use Rattle.h26x_sdp.specs.declared.h266.H266Parameter.{H266Parameter}
 use Rattle.h26x_sdp.specs.declared.h266.H266Parameter.TheVariants as p
-use Rattle.h26x_sdp.specs.Tables.{ParameterRow}
-use Rattle.h26x_sdp.specs.UnitTypes.{h266_dci, h266_pps, h266_sei, h266_sps, h266_vps}
+use Rattle.h26x_fmtp.specs.Tables.{ParameterRow}
+use Rattle.h26x_fmtp.specs.UnitTypes.{h266_dci, h266_pps, h266_sei, h266_sps, h266_vps}
 
 abbrev pub row_place : H266Parameter → ℕ
 row_place p.ProfileId = 0

@@ -4,11 +4,11 @@ use Rattle.std.specs.List.{join_with_byte, AllByRecursion}
 use Rattle.base64.specs.GeneralPurpose.{IsBytes}
 use Rattle.hex.specs.Hex.{encode_lower, decode_sized}
 use Rattle.hex.specs.declared.error.FromHexError.{FromHexError}
-use Rattle.h26x_sdp.specs.declared.error.UnitsError.{UnitsError}
+use Rattle.h26x_fmtp.specs.declared.error.UnitsError.{UnitsError}
 use Rattle.h26x_sdp.specs.declared.error.LevelSetsError.{LevelSetsError}
 use Rattle.h26x_sdp.specs.declared.error.LevelSetsError.TheVariants.{NotHexadecimal, NoSets, Sets}
-use Rattle.h26x_sdp.specs.Units.{pieces_at, units_text, sprop_units, AreSpropUnits}
-use Rattle.h26x_sdp.specs.UnitTypes.{of_types, fault_from, h264_sets}
+use Rattle.h26x_fmtp.specs.Units.{pieces_at, units_text, sprop_units, AreSpropUnits}
+use Rattle.h26x_fmtp.specs.UnitTypes.{of_types, fault_from, h264_sets}
 
 -- the three bytes of a profile and a level, and its parameter sets
 pub record LevelSets : Type 0 where

@@ -5,7 +5,7 @@ use Rattle.h26x_sdp.specs.declared.error.LevelSetsError.{LevelSetsError}
 use Rattle.h26x_sdp.specs.declared.error.LevelSetsError.TheVariants.{NotHexadecimal, NoSets, Sets, OutOfMemory}
 use Rattle.h26x_sdp.specs.declared.level_sets.LevelSets.{LevelSets}
 use Rattle.h26x_sdp.specs.LevelSets as text
-use Rattle.h26x_sdp.specs.UnitsViews.{units_view}
+use Rattle.h26x_fmtp.specs.UnitsViews.{units_view}
 
 abbrev pub level_view : LevelSets → text.LevelSets
 level_view it = record { profile_level_id = it.profile_level_id; sets = units_view it.sets.items }

@@ -5,19 +5,18 @@ ghost use Rattle.std.specs.Prelude.{◌≡◌, ◌++◌, ◌∷◌, Ok, IfOk, On
 ghost use Rattle.std.specs.Option.{option_map};
 ghost use Rattle.h26x_sdp.specs.CapabilityPoints as spec;
 ghost use Rattle.h26x_sdp.specs.CapabilityPointsViews.{SaysPoint, SaysPoints};
-ghost use Rattle.h26x_sdp.specs.ParametersViews.{value_view};
-ghost use Rattle.h26x_sdp.specs.Reading.{read_of, all_of};
-ghost use Rattle.h26x_sdp.specs.Written.{written};
-ghost use Rattle.h26x_sdp.specs.Units.{pieces};
+ghost use Rattle.h26x_fmtp.specs.ParametersViews.{value_view};
+ghost use Rattle.h26x_fmtp.specs.Reading.{read_of, all_of};
+ghost use Rattle.h26x_fmtp.specs.Written.{written};
+ghost use Rattle.h26x_fmtp.specs.Units.{pieces};
 
 use crate::codec::{CodecParameter, CodecParameters};
-use crate::error::{CapabilityPointsError, Fault, ParametersError};
-use crate::kind::{BITS_8, BITS_32, BITS_64, FLAG, number_in};
-use crate::pairs::{cut, trimmed};
-use crate::parameters;
-use crate::parameters::FormatParameters;
-use crate::table::{ParameterRow, same_name};
-use crate::units::split_piece;
+use crate::error::CapabilityPointsError;
+use h26x_fmtp::kind::{BITS_8, BITS_32, BITS_64, FLAG};
+use h26x_fmtp::{
+    Fault, FormatParameters, ParameterRow, ParametersError, cut, number_in, parameters, same_name,
+    split_piece, trimmed,
+};
 use std::alloc::{AllocError, Global};
 
 /// How pictures are coded for parallel decoding: whether wavefronts are used

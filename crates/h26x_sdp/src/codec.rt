@@ -1,19 +1,18 @@
 //! The format parameters of a codec, by the table of them that its RFC registers.
 
-ghost use Rattle.std.specs.Prelude.{◌≡◌, ◌<◌, ℕ, List, Ok, IfOk, MatchResult, length, map};
-ghost use Rattle.h26x_sdp.specs.Tables.{ParameterRow};
-ghost use Rattle.h26x_sdp.specs.TableViews.{row_view};
-ghost use Rattle.h26x_sdp.specs.Reading.{read_of, all_of, none_of, with_one, value_at, number_at, value_or_default, number_or_default};
-ghost use Rattle.h26x_sdp.specs.ParametersViews.{Fails, SaysValue, other_view};
-ghost use Rattle.h26x_sdp.specs.Written.{written};
-ghost use Rattle.h26x_sdp.specs.Units.{sprop_units_at};
-ghost use Rattle.h26x_sdp.specs.UnitsViews.{SaysUnitsIfGiven};
+ghost use Rattle.std.specs.Prelude.{◌≡◌, ◌<◌, ℕ, List, Ok, IfOk, MatchResult, length, map, vec_len};
+ghost use Rattle.h26x_fmtp.specs.Tables.{ParameterRow};
+ghost use Rattle.h26x_fmtp.specs.TableViews.{row_view};
+ghost use Rattle.h26x_fmtp.specs.Reading.{read_of, all_of, none_of, with_one, value_at, number_at, value_or_default, number_or_default};
+ghost use Rattle.h26x_fmtp.specs.ParametersViews.{Fails, SaysValue, other_view, view};
+ghost use Rattle.h26x_fmtp.specs.Written.{written};
+ghost use Rattle.h26x_fmtp.specs.Units.{sprop_units_at};
+ghost use Rattle.h26x_fmtp.specs.UnitsViews.{SaysUnitsIfGiven};
 
-use crate::error::{ParametersError, UnitsError};
-use crate::parameters;
-use crate::parameters::{FormatParameters, OtherParameter};
-use crate::table::ParameterRow;
-use crate::units::read_units;
+use h26x_fmtp::{
+    FormatParameters, OtherParameter, ParameterRow, ParametersError, UnitsError, parameters,
+    read_units,
+};
 use std::alloc::{AllocError, Global};
 use std::marker::{Model, PhantomData};
 
@@ -35,14 +34,14 @@ pub trait CodecParameter: Copy {
 /// The format parameters of a codec: what an `a=fmtp` line says behind the payload type.
 #[derive(Debug, Drop)]
 pub struct CodecParameters<P: CodecParameter> {
-    pub(crate) parameters: FormatParameters,
-    pub(crate) of: PhantomData<P>,
+    parameters: FormatParameters,
+    of: PhantomData<P>,
 }
 
 impl<P: CodecParameter> Model for CodecParameters<P> {
     ghost use Rattle.std.specs.Prelude.{◌≡◌, length, vec_len};
-    ghost use Rattle.h26x_sdp.specs.Reading as spec;
-    ghost use Rattle.h26x_sdp.specs.ParametersViews as values;
+    ghost use Rattle.h26x_fmtp.specs.Reading as spec;
+    ghost use Rattle.h26x_fmtp.specs.ParametersViews as values;
 
     ghost Value = { spec.FormatParameters };
 
@@ -70,8 +69,27 @@ impl<P: CodecParameter> CodecParameters<P> {
         })
     }
 
+    /// The parameters of these values, one for each of the table.
+    pub fn of_parameters(parameters: FormatParameters) -> Self
+        requires { vec_len parameters.values ≡ length P.rows }
+        ensures { result ≡ view parameters }
+    {
+        CodecParameters {
+            parameters,
+            of: PhantomData,
+        }
+    }
+
+    /// Their values, one for each of the table, and the others.
+    pub fn parameters(&self) -> &FormatParameters
+        ensures same { view result.now ≡ self.now }
+        ensures long { vec_len result.now.values ≡ length P.rows }
+    {
+        &self.parameters
+    }
+
     /// None of the parameters.
-    pub(crate) fn none(alloc: Global) -> Result<Self, AllocError>
+    pub fn none(alloc: Global) -> Result<Self, AllocError>
         ensures { IfOk result (λ it. it ≡ none_of (length P.rows)) }
     {
         let parameters = parameters::none_of(alloc, P::rows().len())?;
@@ -82,7 +100,7 @@ impl<P: CodecParameter> CodecParameters<P> {
     }
 
     /// Gives a parameter a value.
-    pub(crate) fn put(&mut self, parameter: P, value: Vec<u8>)
+    pub fn put(&mut self, parameter: P, value: Vec<u8>)
         requires { P.place parameter < length P.rows }
         ensures { self.new ≡ with_one (P.place parameter) value.items self.old }
     {

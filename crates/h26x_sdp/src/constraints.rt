@@ -19,7 +19,7 @@ fn byte_at(bytes: &[u8], place: usize) -> u8
 }
 
 /// Whether general constraints are among them: gci_present_flag.
-pub(crate) fn has_general(bytes: &[u8]) -> bool
+pub fn has_general(bytes: &[u8]) -> bool
     ensures { result ≡ spec.has_general bytes.now }
 {
     byte_at(bytes, 0) >> 5 & 0x01 == 1
@@ -27,7 +27,7 @@ pub(crate) fn has_general(bytes: &[u8]) -> bool
 
 /// How many bytes constraints are, of which as many as say so have to be there (Rec. ITU-T H.266,
 /// section 7.3.3.2).
-pub(crate) fn constraints_len(bytes: &[u8]) -> usize
+pub fn constraints_len(bytes: &[u8]) -> usize
     ensures { result ≡ spec.constraints_len bytes.now }
 {
     if !has_general(bytes) {

@@ -4,10 +4,10 @@ ghost use Rattle.std.specs.Prelude.{◌≡◌};
 
 use crate::codec::{CodecParameter, CodecParameters};
 use crate::error::LevelSetsError;
-use crate::kind::{BITS_15, BITS_32, BITS_64, FLAG, Kind};
 use crate::level_sets::{LevelSets, read_level_sets};
-use crate::table::ParameterRow;
-use crate::unit_types::H264_SETS;
+use h26x_fmtp::kind::{BITS_15, BITS_32, BITS_64, FLAG};
+use h26x_fmtp::unit_types::H264_SETS;
+use h26x_fmtp::{Kind, ParameterRow};
 use std::alloc::Global;
 
 /// A format parameter of H.264, in the order in which they are written (RFC 6184, section 8.1).
@@ -229,7 +229,7 @@ impl CodecParameter for H264Parameter {
 
 impl CodecParameters<H264Parameter> {
     ghost use Rattle.std.specs.Option.{option_map};
-    ghost use Rattle.h26x_sdp.specs.Reading.{value_at};
+    ghost use Rattle.h26x_fmtp.specs.Reading.{value_at};
     ghost use Rattle.h26x_sdp.specs.LevelSets.{level_sets_in};
     ghost use Rattle.h26x_sdp.specs.LevelSetsViews.{SaysLevelsIfGiven};
     ghost use Rattle.h26x_sdp.specs.H264Rows as spec;

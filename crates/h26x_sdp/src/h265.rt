@@ -5,9 +5,9 @@ ghost use Rattle.std.specs.Prelude.{◌≡◌};
 use crate::capability_points::{CapabilityPoint, read_capability_points};
 use crate::codec::{CodecParameter, CodecParameters};
 use crate::error::CapabilityPointsError;
-use crate::kind::{BITS_8, BITS_15, BITS_32, BITS_64, FLAG, Kind, SUB_LAYER};
-use crate::table::ParameterRow;
-use crate::unit_types::{H265_PPS, H265_SEI, H265_SPS, H265_VPS};
+use h26x_fmtp::kind::{BITS_8, BITS_15, BITS_32, BITS_64, FLAG, SUB_LAYER};
+use h26x_fmtp::unit_types::{H265_PPS, H265_SEI, H265_SPS, H265_VPS};
+use h26x_fmtp::{Kind, ParameterRow};
 use hex::FromHex;
 use std::alloc::Global;
 
@@ -273,7 +273,7 @@ impl CodecParameter for H265Parameter {
 
 impl CodecParameters<H265Parameter> {
     ghost use Rattle.std.specs.Option.{option_map};
-    ghost use Rattle.h26x_sdp.specs.Reading.{value_at, number_or_default, number_of_32_bits};
+    ghost use Rattle.h26x_fmtp.specs.Reading.{value_at, number_or_default, number_of_32_bits};
     ghost use Rattle.h26x_sdp.specs.Constraints.{constraint_flags};
     ghost use Rattle.h26x_sdp.specs.CapabilityPoints.{capability_points_in, inferred};
     ghost use Rattle.h26x_sdp.specs.CapabilityPointsViews.{SaysPointsIfGiven};

@@ -7,9 +7,9 @@ ghost use Rattle.h26x_sdp.specs.Constraints.{constraints_said};
 use crate::codec::{CodecParameter, CodecParameters};
 use crate::constraints::InteropConstraints;
 use crate::error::ConstraintsError;
-use crate::kind::{BITS_8, BITS_15, BITS_32, BITS_64, FLAG, Kind, SUB_LAYER};
-use crate::table::ParameterRow;
-use crate::unit_types::{H266_DCI, H266_PPS, H266_SEI, H266_SPS, H266_VPS};
+use h26x_fmtp::kind::{BITS_8, BITS_15, BITS_32, BITS_64, FLAG, SUB_LAYER};
+use h26x_fmtp::unit_types::{H266_DCI, H266_PPS, H266_SEI, H266_SPS, H266_VPS};
+use h26x_fmtp::{Kind, ParameterRow};
 use std::alloc::Global;
 
 /// A format parameter of H.266, in the order in which they are written (RFC 9328, sections 7.1
@@ -213,7 +213,7 @@ fn text_of(text: Option<&[u8]>) -> &[u8]
 }
 
 impl CodecParameters<H266Parameter> {
-    ghost use Rattle.h26x_sdp.specs.Reading.{number_or_default, number_of_32_bits};
+    ghost use Rattle.h26x_fmtp.specs.Reading.{number_or_default, number_of_32_bits};
     ghost use Rattle.h26x_sdp.specs.Constraints.{constraints_of};
     ghost use Rattle.h26x_sdp.specs.ConstraintsViews.{SaysConstraints};
     ghost use Rattle.h26x_sdp.specs.H266Rows as spec;

@@ -3,13 +3,13 @@
 ghost use Rattle.std.specs.Prelude.{◌≡◌, ◌++◌, IfOk, OnOk, map};
 ghost use Rattle.h26x_sdp.specs.LevelSets as spec;
 ghost use Rattle.h26x_sdp.specs.LevelSetsViews.{level_view, levels_view, SaysLevel, SaysLevels};
-ghost use Rattle.h26x_sdp.specs.Units.{sprop_units};
-ghost use Rattle.h26x_sdp.specs.UnitTypes.{of_types, h264_sets};
-ghost use Rattle.h26x_sdp.specs.UnitsViews.{SaysUnits};
+ghost use Rattle.h26x_fmtp.specs.Units.{sprop_units};
+ghost use Rattle.h26x_fmtp.specs.UnitTypes.{of_types, h264_sets};
+ghost use Rattle.h26x_fmtp.specs.UnitsViews.{SaysUnits};
 
-use crate::error::{LevelSetsError, UnitsError};
-use crate::unit_types::H264_SETS;
-use crate::units::{read_units, split_piece, write_units};
+use crate::error::LevelSetsError;
+use h26x_fmtp::unit_types::H264_SETS;
+use h26x_fmtp::{UnitsError, read_units, split_piece, write_units};
 use hex::FromHex;
 use std::alloc::{AllocError, Global};
 

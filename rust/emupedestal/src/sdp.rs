@@ -46,14 +46,13 @@ mod rtp_map;
 mod stored;
 mod typed;
 
-pub use crate::proved::h26x_sdp::fits_single_units;
+pub use crate::proved::h26x_fmtp::{Fault, ParametersError, RtpMapError, UnitsError};
 pub use crate::proved::h26x_sdp::{
     CapabilityPoint, CapabilityPointsError, H264Parameter, H265Parameter, H266Parameter, LevelSets,
     ParallelTool,
 };
-pub use crate::proved::h26x_sdp::{
-    ConstraintsError, Fault, LevelSetsError, ParametersError, RtpMapError, StreamError, UnitsError,
-};
+pub use crate::proved::h26x_sdp::{ConstraintsError, LevelSetsError};
+pub use crate::proved::h26x_stream_parameters::{StreamError, fits_single_units};
 pub use answer::{Format, OutOfMemory};
 pub use fault::SetError;
 pub use h264::H264Parameters;

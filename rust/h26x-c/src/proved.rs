@@ -8,17 +8,20 @@ mod shared {
     pub mod h265_payload;
     pub mod h266_payload;
     pub mod h26x_access_units;
+    pub mod h26x_answers;
     pub mod h26x_assembler;
     pub mod h26x_codec;
     pub mod h26x_core;
     pub mod h26x_cut;
     pub mod h26x_depacketizer;
+    pub mod h26x_fmtp;
     pub mod h26x_packetizer;
     pub mod h26x_payload;
     pub mod h26x_profile;
     pub mod h26x_receiver;
     pub mod h26x_reorder;
     pub mod h26x_sdp;
+    pub mod h26x_stream_parameters;
     pub mod h26x_transmission;
 }
 

@@ -1,6 +1,7 @@
 //! Answers to offers.
 
 use super::{CodecParameters, Parameter};
+use crate::proved::h26x_answers::answer_format;
 use crate::support::AllocError;
 use core::error::Error;
 use core::fmt;
@@ -57,7 +58,7 @@ impl<P: Parameter> CodecParameters<P> {
     /// Where memory lacks.
     pub fn answer(&self, ours: &[Self]) -> Result<Option<Self>, OutOfMemory> {
         for own in ours {
-            if let Some(of) = self.of.answer(slice::from_ref(&own.of))? {
+            if let Some(of) = answer_format(&self.of, slice::from_ref(&own.of))? {
                 return Ok(Some(CodecParameters { of }));
             }
         }

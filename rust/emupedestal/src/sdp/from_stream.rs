@@ -1,7 +1,7 @@
 //! What a stream says of itself.
 
 use super::{CodecParameters, H264Parameter, H265Parameter, H266Parameter, StreamError};
-use crate::proved::h26x_sdp as proved;
+use crate::proved::h26x_stream_parameters as proved;
 
 macro_rules! from_stream {
     ($parameter:ident, $of_units:ident, $of_payload:ident, $said:literal, $sections:literal, $example:literal) => {

@@ -2,7 +2,9 @@
 
 use super::{H264Parameter, H265Parameter, H266Parameter};
 use super::{ParametersError, SetError, UnitsError};
-use crate::proved::h26x_sdp as proved;
+use crate::proved::h26x_answers::CodecRules;
+use crate::proved::h26x_fmtp as proved;
+use crate::proved::h26x_sdp as codecs;
 use alloc::string::String;
 use alloc::vec::Vec;
 use core::fmt;
@@ -10,7 +12,7 @@ use core::hash::Hash;
 use core::str::{self, FromStr};
 
 /// A format parameter of one of the codecs: [`H264Parameter`], [`H265Parameter`] or [`H266Parameter`], and no other.
-pub trait Parameter: proved::CodecRules + fmt::Debug + Eq + Hash + 'static {
+pub trait Parameter: CodecRules + fmt::Debug + Eq + Hash + 'static {
     /// All of them, in the order in which they are written.
     fn all() -> &'static [Self];
 
@@ -57,7 +59,7 @@ parameters!(H264Parameter, H265Parameter, H266Parameter);
 #[derive(Clone, PartialEq, Eq, Hash)]
 pub struct CodecParameters<P: Parameter> {
     /// Read of a text, so that each slice of it is one.
-    pub(super) of: proved::CodecParameters<P>,
+    pub(super) of: codecs::CodecParameters<P>,
 }
 
 /// A slice of a text.
@@ -157,7 +159,7 @@ impl<P: Parameter> CodecParameters<P> {
             let (name, value) = (name.as_bytes(), value.as_bytes());
             proved::push_pair(&mut text, proved::Pair { name, value })?;
         }
-        self.of = proved::CodecParameters::read(&text).map_err(|error| match error {
+        self.of = codecs::CodecParameters::read(&text).map_err(|error| match error {
             ParametersError::Refused { fault, .. } => SetError::Fault(fault),
             ParametersError::OutOfMemory => SetError::OutOfMemory,
             ParametersError::OpenBrace => SetError::NotAValue,
@@ -178,7 +180,7 @@ impl<P: Parameter> FromStr for CodecParameters<P> {
     type Err = ParametersError;
 
     fn from_str(text: &str) -> Result<Self, ParametersError> {
-        let of = proved::CodecParameters::read(text.as_bytes())?;
+        let of = codecs::CodecParameters::read(text.as_bytes())?;
         Ok(CodecParameters { of })
     }
 }

@@ -2,7 +2,7 @@
 
 use super::RtpMapError;
 use crate::Codec;
-use crate::proved::h26x_sdp::{self as proved, Encoding};
+use crate::proved::h26x_fmtp::{self as proved, Encoding};
 use core::fmt;
 use core::str::{self, FromStr};
 

@@ -1,6 +1,6 @@
 //! What is told of a fault.
 
-use crate::proved::h26x_sdp::Fault;
+use crate::proved::h26x_fmtp::Fault;
 use core::error::Error;
 use core::fmt;
 

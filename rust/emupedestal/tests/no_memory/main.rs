@@ -44,7 +44,13 @@ mod proved {
     pub mod h26x_reorder;
     pub mod h26x_transmission;
     #[cfg(feature = "sdp")]
+    pub mod h26x_answers;
+    #[cfg(feature = "sdp")]
+    pub mod h26x_fmtp;
+    #[cfg(feature = "sdp")]
     pub mod h26x_sdp;
+    #[cfg(feature = "sdp")]
+    pub mod h26x_stream_parameters;
 }
 
 // What support is for parameters of SDP has no caller here.

@@ -1,6 +1,6 @@
 use Rattle.std.proofs.Common.{◌≡◌, ◌++◌, map, drop, length}
 use Rattle.std.specs.List.{range_with_len}
-use Rattle.h26x_sdp.specs.Units.{sprop_units_at}
+use Rattle.h26x_fmtp.specs.Units.{sprop_units_at}
 use Rattle.h26x_handles.specs.KeptUnits.{kept_view}
 use Rattle.h26x_handles.proofs.kept_parameters.all_units.Given as goal
 

@@ -1,7 +1,7 @@
 use Rattle.std.proofs.Common.{Some, ◌<◌, length, sym, ap, ◌∙◌, subst}
 use Rattle.std.proofs.lemmas.List.{length-map}
-use Rattle.h26x_sdp.specs.Tables.{row_of}
-use Rattle.h26x_sdp.specs.TableViews.{row_view}
+use Rattle.h26x_fmtp.specs.Tables.{row_of}
+use Rattle.h26x_fmtp.specs.TableViews.{row_view}
 use Rattle.h26x_handles.proofs.ParameterLemmas.{at_place}
 use Rattle.h26x_handles.proofs.sdp_parameter.parameter_of.Goals as goal
 

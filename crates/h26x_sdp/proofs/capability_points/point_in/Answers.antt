@@ -1,11 +1,11 @@
 use Rattle.std.proofs.Common.{◌≡◌, ◌∙◌, ℕ, List, Option, Some, Result, Ok, Err, ap, sym, subst}
 use Rattle.std.specs.Prelude.{◌==◌}
 use Rattle.std.specs.List.{before_first, after_first}
-use Rattle.h26x_sdp.specs.declared.error.Fault.{Fault}
+use Rattle.h26x_fmtp.specs.declared.error.Fault.{Fault}
 use Rattle.h26x_sdp.specs.declared.capability_points.ParallelTool.{ParallelTool}
-use Rattle.h26x_sdp.specs.Pairs.{trim_ascii}
-use Rattle.h26x_sdp.specs.Reading.{read_of}
-use Rattle.h26x_sdp.specs.CapabilityPoints.{limit_rows, tool_of, segmentation_in, with_limits, with_segmentation, with_tool, before_limits, point_in}
+use Rattle.h26x_fmtp.specs.Pairs.{trim_ascii}
+use Rattle.h26x_fmtp.specs.Reading.{read_of}
+use Rattle.h26x_sdp.specs.CapabilityPoints.{limit_rows, tool_of, segmentation_in, with_limits, with_segmentation, with_tool, before_limits}
 use Rattle.h26x_sdp.specs.CapabilityPointsViews.{SaysPoint}
 use Rattle.h26x_sdp.proofs.capability_points.point_in.Goals as goal
 

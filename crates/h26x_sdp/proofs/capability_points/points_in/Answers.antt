@@ -2,7 +2,7 @@ use Rattle.std.proofs.Common.{◌≡◌, ◌+◌, ◌∙◌, ◌++◌, ◌∷◌
 use Rattle.std.specs.Prelude.{vec_len}
 use Rattle.std.specs.Option.{option_map_or}
 use Rattle.std.proofs.lemmas.Result.{err_from_is_err_and}
-use Rattle.h26x_sdp.specs.Units.{pieces}
+use Rattle.h26x_fmtp.specs.Units.{pieces}
 use Rattle.h26x_sdp.specs.CapabilityPoints.{point_in, points_from}
 use Rattle.h26x_sdp.specs.CapabilityPointsViews.{FailsPoints}
 use Rattle.h26x_sdp.proofs.CapabilityPointsLemmas.{behind_points, point_more, point_stops}

@@ -1,7 +1,7 @@
 use Rattle.std.proofs.Common.{◌≡◌, ◌+◌, length, []}
 use Rattle.std.specs.Prelude.{vec_len}
 use Rattle.std.specs.Option.{option_map_or}
-use Rattle.h26x_sdp.specs.Units.{pieces}
+use Rattle.h26x_fmtp.specs.Units.{pieces}
 use Rattle.h26x_sdp.specs.CapabilityPoints.{points_from}
 use Rattle.h26x_sdp.proofs.CapabilityPointsLemmas.{behind_points}
 use Rattle.h26x_sdp.proofs.capability_points.points_in.Given as goal

@@ -1,7 +1,7 @@
 use Rattle.std.proofs.Common.{◌≡◌, ◌+◌, length, []}
 use Rattle.std.specs.Prelude.{vec_len}
 use Rattle.std.specs.Option.{option_map_or}
-use Rattle.h26x_sdp.specs.Units.{pieces_at}
+use Rattle.h26x_fmtp.specs.Units.{pieces_at}
 use Rattle.h26x_sdp.specs.LevelSets.{levels_from, level_sets_in}
 use Rattle.h26x_sdp.specs.LevelSetsViews.{levels_view}
 use Rattle.h26x_sdp.proofs.LevelSetsLemmas.{behind_levels}

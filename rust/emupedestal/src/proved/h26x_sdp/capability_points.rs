@@ -3,14 +3,13 @@
 //! What a decoder of H.265 can do where pictures are coded for parallel decoding: the value of
 //! `dec-parallel-cap`.
 
+use crate::proved::h26x_fmtp::kind::{BITS_8, BITS_32, BITS_64, FLAG};
+use crate::proved::h26x_fmtp::{
+    Fault, FormatParameters, ParameterRow, ParametersError, cut, number_in, parameters, same_name,
+    split_piece, trimmed,
+};
 use crate::proved::h26x_sdp::codec::{CodecParameter, CodecParameters};
-use crate::proved::h26x_sdp::error::{CapabilityPointsError, Fault, ParametersError};
-use crate::proved::h26x_sdp::kind::{BITS_8, BITS_32, BITS_64, FLAG, number_in};
-use crate::proved::h26x_sdp::pairs::{cut, trimmed};
-use crate::proved::h26x_sdp::parameters;
-use crate::proved::h26x_sdp::parameters::FormatParameters;
-use crate::proved::h26x_sdp::table::{ParameterRow, same_name};
-use crate::proved::h26x_sdp::units::split_piece;
+use crate::proved::h26x_sdp::error::CapabilityPointsError;
 use crate::support::AllocError;
 use crate::support::{AppendBytes, TryVec};
 use alloc::vec::Vec;

@@ -2,11 +2,10 @@
 
 //! The format parameters of a codec, by the table of them that its RFC registers.
 
-use crate::proved::h26x_sdp::error::{ParametersError, UnitsError};
-use crate::proved::h26x_sdp::parameters;
-use crate::proved::h26x_sdp::parameters::{FormatParameters, OtherParameter};
-use crate::proved::h26x_sdp::table::ParameterRow;
-use crate::proved::h26x_sdp::units::read_units;
+use crate::proved::h26x_fmtp::{
+    FormatParameters, OtherParameter, ParameterRow, ParametersError, UnitsError, parameters,
+    read_units,
+};
 use crate::support::AllocError;
 use alloc::vec::Vec;
 use core::marker::PhantomData;
@@ -23,8 +22,8 @@ pub trait CodecParameter: Copy {
 /// The format parameters of a codec: what an `a=fmtp` line says behind the payload type.
 #[derive(Debug, Clone, PartialEq, Eq, Hash)]
 pub struct CodecParameters<P: CodecParameter> {
-    pub(crate) parameters: FormatParameters,
-    pub(crate) of: PhantomData<P>,
+    parameters: FormatParameters,
+    of: PhantomData<P>,
 }
 
 impl<P: CodecParameter> CodecParameters<P> {
@@ -40,6 +39,19 @@ impl<P: CodecParameter> CodecParameters<P> {
             parameters,
             of: PhantomData,
         })
+    }
+
+    /// The parameters of these values, one for each of the table.
+    pub(crate) fn of_parameters(parameters: FormatParameters) -> Self {
+        CodecParameters {
+            parameters,
+            of: PhantomData,
+        }
+    }
+
+    /// Their values, one for each of the table, and the others.
+    pub fn parameters(&self) -> &FormatParameters {
+        &self.parameters
     }
 
     /// None of the parameters.

@@ -14,13 +14,13 @@ fn byte_at(bytes: &[u8], place: usize) -> u8 {
 }
 
 /// Whether general constraints are among them: gci_present_flag.
-pub(crate) fn has_general(bytes: &[u8]) -> bool {
+pub fn has_general(bytes: &[u8]) -> bool {
     byte_at(bytes, 0) >> 5 & 0x01 == 1
 }
 
 /// How many bytes constraints are, of which as many as say so have to be there (Rec. ITU-T H.266,
 /// section 7.3.3.2).
-pub(crate) fn constraints_len(bytes: &[u8]) -> usize {
+pub fn constraints_len(bytes: &[u8]) -> usize {
     if !has_general(bytes) {
         return 1;
     }

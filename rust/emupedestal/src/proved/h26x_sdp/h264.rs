@@ -2,12 +2,12 @@
 
 //! The format parameters of H.264 (RFC 6184, section 8.1).
 
+use crate::proved::h26x_fmtp::kind::{BITS_15, BITS_32, BITS_64, FLAG};
+use crate::proved::h26x_fmtp::unit_types::H264_SETS;
+use crate::proved::h26x_fmtp::{Kind, ParameterRow};
 use crate::proved::h26x_sdp::codec::{CodecParameter, CodecParameters};
 use crate::proved::h26x_sdp::error::LevelSetsError;
-use crate::proved::h26x_sdp::kind::{BITS_15, BITS_32, BITS_64, FLAG, Kind};
 use crate::proved::h26x_sdp::level_sets::{LevelSets, read_level_sets};
-use crate::proved::h26x_sdp::table::ParameterRow;
-use crate::proved::h26x_sdp::unit_types::H264_SETS;
 use alloc::vec::Vec;
 
 /// A format parameter of H.264, in the order in which they are written (RFC 6184, section 8.1).

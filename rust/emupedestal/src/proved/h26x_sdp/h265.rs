@@ -2,12 +2,12 @@
 
 //! The format parameters of H.265 (RFC 7798, section 7.1).
 
+use crate::proved::h26x_fmtp::kind::{BITS_8, BITS_15, BITS_32, BITS_64, FLAG, SUB_LAYER};
+use crate::proved::h26x_fmtp::unit_types::{H265_PPS, H265_SEI, H265_SPS, H265_VPS};
+use crate::proved::h26x_fmtp::{Kind, ParameterRow};
 use crate::proved::h26x_sdp::capability_points::{CapabilityPoint, read_capability_points};
 use crate::proved::h26x_sdp::codec::{CodecParameter, CodecParameters};
 use crate::proved::h26x_sdp::error::CapabilityPointsError;
-use crate::proved::h26x_sdp::kind::{BITS_8, BITS_15, BITS_32, BITS_64, FLAG, Kind, SUB_LAYER};
-use crate::proved::h26x_sdp::table::ParameterRow;
-use crate::proved::h26x_sdp::unit_types::{H265_PPS, H265_SEI, H265_SPS, H265_VPS};
 use crate::support::hex::FromHex;
 use alloc::vec::Vec;
 

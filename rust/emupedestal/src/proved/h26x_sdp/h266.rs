@@ -2,12 +2,12 @@
 
 //! The format parameters of H.266 (RFC 9328, sections 7.1 and 7.2).
 
+use crate::proved::h26x_fmtp::kind::{BITS_8, BITS_15, BITS_32, BITS_64, FLAG, SUB_LAYER};
+use crate::proved::h26x_fmtp::unit_types::{H266_DCI, H266_PPS, H266_SEI, H266_SPS, H266_VPS};
+use crate::proved::h26x_fmtp::{Kind, ParameterRow};
 use crate::proved::h26x_sdp::codec::{CodecParameter, CodecParameters};
 use crate::proved::h26x_sdp::constraints::InteropConstraints;
 use crate::proved::h26x_sdp::error::ConstraintsError;
-use crate::proved::h26x_sdp::kind::{BITS_8, BITS_15, BITS_32, BITS_64, FLAG, Kind, SUB_LAYER};
-use crate::proved::h26x_sdp::table::ParameterRow;
-use crate::proved::h26x_sdp::unit_types::{H266_DCI, H266_PPS, H266_SEI, H266_SPS, H266_VPS};
 
 /// A format parameter of H.266, in the order in which they are written (RFC 9328, sections 7.1
 /// and 7.2).

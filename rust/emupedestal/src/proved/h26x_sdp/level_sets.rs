@@ -2,9 +2,9 @@
 
 //! Parameter sets of levels: the value of `sprop-level-parameter-sets`.
 
-use crate::proved::h26x_sdp::error::{LevelSetsError, UnitsError};
-use crate::proved::h26x_sdp::unit_types::H264_SETS;
-use crate::proved::h26x_sdp::units::{read_units, split_piece, write_units};
+use crate::proved::h26x_fmtp::unit_types::H264_SETS;
+use crate::proved::h26x_fmtp::{UnitsError, read_units, split_piece, write_units};
+use crate::proved::h26x_sdp::error::LevelSetsError;
 use crate::support::AllocError;
 use crate::support::hex::FromHex;
 use crate::support::{AppendBytes, TryVec};

@@ -2,12 +2,13 @@
 
 //! Format parameters with the units that they have, read once.
 
+use crate::proved::h26x_fmtp::{Kind, ParametersError, UnitsError, row_of};
 use crate::proved::h26x_handles::code::OUT_OF_MEMORY;
 use crate::proved::h26x_handles::sdp_code::{
     ABSENT, OTHER_KIND, Refused, UNKNOWN_NAME, of_units, refused_with,
 };
 use crate::proved::h26x_handles::sdp_parameter::ListedParameter;
-use crate::proved::h26x_sdp::{CodecParameters, Kind, ParametersError, UnitsError, row_of};
+use crate::proved::h26x_sdp::CodecParameters;
 use crate::support::TryVec;
 use alloc::vec::Vec;
 

@@ -2,17 +2,17 @@
 
 //! Format parameters of SDP, with their codec.
 
+use crate::proved::h26x_answers::answer_format;
 use crate::proved::h26x_codec::Codec;
+use crate::proved::h26x_fmtp::{Kind, OtherParameter};
 use crate::proved::h26x_handles::code::{NOT_OF_THIS_CODEC, OUT_OF_MEMORY};
 use crate::proved::h26x_handles::kept_parameters::KeptParameters;
 use crate::proved::h26x_handles::sdp_code::{
     ABSENT, NO_ANSWER, OTHER_KIND, Refused, UNKNOWN_NAME, of_parameters, of_stream,
 };
 use crate::proved::h26x_handles::sdp_parameter::{ListedParameter, parameter_of};
-use crate::proved::h26x_sdp::{
-    CodecParameters, H264Parameter, H265Parameter, H266Parameter, Kind, OtherParameter,
-    h264_of_payload, h265_of_payload, h266_of_payload,
-};
+use crate::proved::h26x_sdp::{CodecParameters, H264Parameter, H265Parameter, H266Parameter};
+use crate::proved::h26x_stream_parameters::{h264_of_payload, h265_of_payload, h266_of_payload};
 use crate::support::AllocError;
 use alloc::vec::Vec;
 use core::slice;
@@ -74,10 +74,7 @@ fn answer_of<P: ListedParameter>(
     offered: &KeptParameters<P>,
     ours: &KeptParameters<P>,
 ) -> Result<KeptParameters<P>, u32> {
-    match offered
-        .parameters()
-        .answer(slice::from_ref(ours.parameters()))
-    {
+    match answer_format(offered.parameters(), slice::from_ref(ours.parameters())) {
         Ok(Some(answer)) => KeptParameters::of(answer),
         Ok(None) => Err(NO_ANSWER),
         Err(_) => Err(OUT_OF_MEMORY),

@@ -3,11 +3,10 @@
 //! What the calls on SDP answer, as numbers.
 
 use crate::proved::h26x_codec::Codec;
+use crate::proved::h26x_fmtp::{Encoding, Fault, ParametersError, RtpMapError, UnitsError};
 use crate::proved::h26x_handles::code::OUT_OF_MEMORY;
-use crate::proved::h26x_sdp::{
-    CapabilityPointsError, ConstraintsError, Encoding, Fault, ParametersError, RtpMapError,
-    StreamError, UnitsError,
-};
+use crate::proved::h26x_sdp::{CapabilityPointsError, ConstraintsError};
+use crate::proved::h26x_stream_parameters::StreamError;
 
 /// A brace of the text isn't closed.
 pub const OPEN_BRACE: u32 = 20;

@@ -2,9 +2,9 @@
 
 //! The format parameters of each codec, by their places in its table.
 
-use crate::proved::h26x_sdp::{
-    CodecRules, H264Parameter, H265Parameter, H266Parameter, Kind, row_of,
-};
+use crate::proved::h26x_answers::CodecRules;
+use crate::proved::h26x_fmtp::{Kind, row_of};
+use crate::proved::h26x_sdp::{H264Parameter, H265Parameter, H266Parameter};
 
 /// A format parameter of a codec, all of which can be listed.
 pub trait ListedParameter: CodecRules + 'static {

@@ -1,9 +1,9 @@
 use Rattle.std.proofs.Common.{◌≡◌, ◌<◌, ◌∙◌, ℕ, true, length, get_or, Option, Some, None, Ok, Err, sym, ap, subst, arith, rules}
 use Rattle.std.proofs.lemmas.List.{length-map}
-use Rattle.h26x_sdp.specs.Tables.{row_of}
-use Rattle.h26x_sdp.specs.TableViews.{row_view}
-use Rattle.h26x_sdp.specs.Units.{sprop_units_at}
-use Rattle.h26x_sdp.specs.UnitsViews.{units_view}
+use Rattle.h26x_fmtp.specs.Tables.{row_of}
+use Rattle.h26x_fmtp.specs.TableViews.{row_view}
+use Rattle.h26x_fmtp.specs.Units.{sprop_units_at}
+use Rattle.h26x_fmtp.specs.UnitsViews.{units_view}
 use Rattle.h26x_handles.specs.KeptUnits.{kept_view}
 use Rattle.h26x_handles.specs.Sdp.{is_units, named_units}
 use Rattle.h26x_handles.proofs.KeptUnitsLemmas.{kept_many, kept_here, named_at}

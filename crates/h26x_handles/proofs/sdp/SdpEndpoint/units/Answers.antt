@@ -1,5 +1,5 @@
 use Rattle.std.proofs.Common.{◌≡◌, Ok, Err, MatchResult, sym, subst}
-use Rattle.h26x_sdp.specs.UnitsViews.{units_view}
+use Rattle.h26x_fmtp.specs.UnitsViews.{units_view}
 use Rattle.h26x_handles.specs.Sdp.{sdp_units}
 use Rattle.h26x_handles.proofs.sdp.SdpEndpoint.units.Goals as goal
 

@@ -1,7 +1,7 @@
 use Rattle.std.proofs.Common.{subst}
 use Rattle.std.proofs.lemmas.Result.{err_from_is_err_and}
-use Rattle.h26x_sdp.specs.ParametersViews.{Fails}
-use Rattle.h26x_sdp.specs.Reading.{read_of}
+use Rattle.h26x_fmtp.specs.ParametersViews.{Fails}
+use Rattle.h26x_fmtp.specs.Reading.{read_of}
 use Rattle.h26x_sdp.proofs.codec.CodecParameters.read.Goals as goal
 
 pub returns-in_err-parameters : goal.returns-in_err-parameters

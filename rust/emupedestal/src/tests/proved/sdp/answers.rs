@@ -1,8 +1,7 @@
 //! Offers as ends make them and those of the RFCs, and what is answered.
 
-use crate::proved::h26x_sdp::{
-    CodecParameters, CodecRules, Format, H264Parameter, H265Parameter, H266Parameter, answer_to,
-};
+use crate::proved::h26x_answers::{CodecRules, Format, answer_to};
+use crate::proved::h26x_sdp::{CodecParameters, H264Parameter, H265Parameter, H266Parameter};
 
 /// An offer with its payload types, what we take, and the answer in the order of the table.
 struct Exchange {

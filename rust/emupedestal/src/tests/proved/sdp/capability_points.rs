@@ -1,8 +1,9 @@
 //! Capability points for parallel decoding (RFC 7798, section 7.1).
 
+use crate::proved::h26x_fmtp::{Fault, ParametersError};
 use crate::proved::h26x_sdp::{
-    CapabilityPoint, CapabilityPointsError, CodecParameters, Fault, H265Parameter, ParallelTool,
-    ParametersError, read_capability_points, write_capability_points,
+    CapabilityPoint, CapabilityPointsError, CodecParameters, H265Parameter, ParallelTool,
+    read_capability_points, write_capability_points,
 };
 
 /// A point of no limit.

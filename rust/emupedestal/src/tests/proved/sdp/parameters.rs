@@ -1,9 +1,12 @@
 //! Values of lines, their parameters as they are written, and what is wrong with values.
 
+use crate::proved::h26x_fmtp::{
+    Encoding, Fault, Kind, ParametersError, RtpMap, RtpMapError, UnitsError, closes, pairs_of,
+    push_pair, read_units, write_units,
+};
 use crate::proved::h26x_sdp::{
-    CodecParameter, CodecParameters, Encoding, Fault, H264Parameter, H264Parameters, H265Parameter,
-    H265Parameters, H266Parameter, H266Parameters, Kind, ParametersError, RtpMap, RtpMapError,
-    UnitsError, closes, pairs_of, push_pair, read_units, write_units,
+    CodecParameter, CodecParameters, H264Parameter, H264Parameters, H265Parameter, H265Parameters,
+    H266Parameter, H266Parameters,
 };
 
 /// Values as ends write them, and the same without white space and blank parts. The comments say whose

@@ -1,10 +1,13 @@
 //! What streams say of themselves: the sets of two real ones, and of one by hand.
 
+use crate::proved::h26x_fmtp::UnitsError;
 use crate::proved::h26x_sdp::{
     CodecParameter, CodecParameters, ConstraintsError, H264Parameter, H265Parameter, H266Parameter,
-    InteropConstraints, LevelSetsError, StreamError, UnitsError, fits_single_units,
-    h264_of_payload, h264_of_units, h265_of_payload, h265_of_units, h266_of_payload, h266_of_units,
-    read_level_sets, write_level_sets,
+    InteropConstraints, LevelSetsError, read_level_sets, write_level_sets,
+};
+use crate::proved::h26x_stream_parameters::{
+    StreamError, fits_single_units, h264_of_payload, h264_of_units, h265_of_payload, h265_of_units,
+    h266_of_payload, h266_of_units,
 };
 
 /// The sets of an H.264 stream of x264: Constrained Baseline, level 1, as ffprobe tells.

@@ -1,0 +1,127 @@
+-- Answers of formats, over any rules.
+use Rattle.std.proofs.Common.{◌≡◌, ℕ, zero, suc, ◌<◌, true, List, [], ◌∷◌, length, get_or, Option, Some, None, ◌⊎◌, inl, inr, refl, ap, ◌∙◌, arith}
+use Rattle.std.specs.Prelude.{is_some}
+use Rattle.std.specs.List.{Contains}
+use Rattle.std.specs.Option.{option_map, option_or}
+use Rattle.h26x_answers.specs.declared.answer.Role.{Role}
+use Rattle.h26x_answers.specs.declared.answer.Role.TheVariants as role
+use Rattle.h26x_fmtp.specs.Reading.{FormatParameters, value_at}
+use Rattle.h26x_answers.specs.Answers.{MediaFormat, Terms, Rules, answered_value, answered_values, answered, common_terms, answer_by, answer_of, format_answer, offer_answer}
+use Rattle.h26x_answers.specs.AnswerLaws.{HaveCommon, ComesFrom}
+
+-- each row of the answer is made of those of the offer and of ours
+pub answered_at : (terms : Terms) (roles : List Role) (offered own : List (Option (List ℕ))) (k : ℕ) → length offered ≡ length roles → length own ≡ length roles → k < length roles
+    → value_at (answered_values terms roles offered own) k ≡ answered_value (get_or roles k role.Own) terms (value_at offered k) (value_at own k)
+answered_at terms [] offered own k lo lu h = absurd (omega arith)
+answered_at terms (r ∷ roles) [] own k lo lu h = absurd (omega (arith, lo))
+answered_at terms (r ∷ roles) (o ∷ offered) [] k lo lu h = absurd (omega (arith, lu))
+answered_at terms (r ∷ roles) (o ∷ offered) (u ∷ own) zero lo lu h = refl
+answered_at terms (r ∷ roles) (o ∷ offered) (u ∷ own) (suc k) lo lu h =
+    answered_at terms roles offered own k (omega (arith, lo)) (omega (arith, lu)) (omega arith)
+
+-- the parts of an answer by one of ours
+pub answer_parts : (rules : Rules) (offered own answer : FormatParameters) (found : Option Terms) → option_map (answered rules offered own) found ≡ Some answer
+    → (terms : Terms) × (found ≡ Some terms) × (answer ≡ answered rules offered own terms)
+answer_parts rules offered own answer None h = cc h
+answer_parts rules offered own answer (Some terms) h = (terms, refl, cc h)
+
+-- one of the first or of the second
+pub either : {A : Type 0} (a b : Option A) (it : A) → option_or a b ≡ Some it → (a ≡ Some it) ⊎ (b ≡ Some it)
+either (Some x) b it h = inl h
+either None b it h = inr h
+
+-- what is behind the first is contained
+pub contains_more : {A : Type 0} (x : A) (xs : List A) (y : A) → Contains xs y → Contains (x ∷ xs) y
+contains_more x xs y (k, within, is) = (suc k, omega (arith, within), is)
+
+pub contains_first : {A : Type 0} (x : A) (xs : List A) → Contains (x ∷ xs) x
+contains_first x xs = (0, omega arith, refl)
+
+-- an answer by ours is by one of ours
+pub answer_from : (rules : Rules) (offered : FormatParameters) (ours : List FormatParameters) (answer : FormatParameters) → answer_of rules offered ours ≡ Some answer
+    → (own : FormatParameters) × (Contains ours own) × (answer_by rules offered own ≡ Some answer)
+answer_from rules offered [] answer h = cc h
+answer_from rules offered (own ∷ ours) answer h = elim (either (answer_by rules offered own) (answer_of rules offered ours) answer h) [
+  | inl here ↦ (own, contains_first own ours, here)
+  | inr behind ↦ let (it, within, is) = answer_from rules offered ours answer behind in (it, contains_more own ours it within, is)
+]
+
+-- what a payload type's answer is
+format_parts : (format : MediaFormat) (found : Option FormatParameters) (answer : MediaFormat) → option_map (λ it. record format { parameters = it }) found ≡ Some answer
+    → (it : FormatParameters) × (found ≡ Some it) × (answer ≡ record format { parameters = it })
+format_parts format None answer h = cc h
+format_parts format (Some it) answer h = (it, refl, cc h)
+
+have_more : (rules : Rules) (first : MediaFormat) (offer : List MediaFormat) (ours : List FormatParameters) (answer : MediaFormat) → ComesFrom rules offer ours answer → ComesFrom rules (first ∷ offer) ours answer
+have_more rules first offer ours answer from = record {
+  format = from.format;
+  own = from.own;
+  terms = from.terms;
+  have = record {
+    offered = contains_more first offer from.format from.have.offered;
+    taken = from.have.taken;
+    common = from.have.common;
+  };
+  is = from.is;
+}
+
+have_first : (rules : Rules) (format : MediaFormat) (offer : List MediaFormat) (ours : List FormatParameters) (answer : MediaFormat) → format_answer rules format ours ≡ Some answer → ComesFrom rules (format ∷ offer) ours answer
+have_first rules format offer ours answer h =
+    let (it, by, is) = format_parts format (answer_of rules format.parameters ours) answer h in
+    let (own, within, one) = answer_from rules format.parameters ours it by in
+    let (terms, common, made) = answer_parts rules format.parameters own it (common_terms rules format.parameters own) one in
+    record {
+      format = format;
+      own = own;
+      terms = terms;
+      have = record { offered = contains_first format offer; taken = within; common = common };
+      is = is ∙ ap (λ (p : FormatParameters). record format { parameters = p }) made;
+    }
+
+-- an answer comes from a format and one of ours that have a configuration in common
+pub comes_from : (rules : Rules) (offer : List MediaFormat) (ours : List FormatParameters) (answer : MediaFormat) → offer_answer rules offer ours ≡ Some answer → ComesFrom rules offer ours answer
+comes_from rules [] ours answer h = cc h
+comes_from rules (format ∷ offer) ours answer h = elim (either (format_answer rules format ours) (offer_answer rules offer ours) answer h) [
+  | inl here ↦ have_first rules format offer ours answer here
+  | inr behind ↦ have_more rules format offer ours answer (comes_from rules offer ours answer behind)
+]
+
+-- the first of two or the second is there, if one of them is
+first_there : {A : Type 0} (a b : Option A) → is_some a ≡ true → is_some (option_or a b) ≡ true
+first_there (Some x) b h = refl
+first_there None b h = cc h
+
+second_there : {A : Type 0} (a b : Option A) → is_some b ≡ true → is_some (option_or a b) ≡ true
+second_there (Some x) b h = refl
+second_there None b h = h
+
+map_there : {A B : Type 0} (f : A → B) (a : Option A) → is_some a ≡ true → is_some (option_map f a) ≡ true
+map_there f (Some x) h = refl
+map_there f None h = cc h
+
+-- one of ours that gives an answer is enough
+answer_there : (rules : Rules) (offered own : FormatParameters) (ours : List FormatParameters) (k : ℕ) → k < length ours → get_or ours k own ≡ own → is_some (answer_by rules offered own) ≡ true
+    → is_some (answer_of rules offered ours) ≡ true
+answer_there rules offered own [] k within is there = absurd (omega arith)
+answer_there rules offered own (u ∷ ours) zero within is there =
+    first_there (answer_by rules offered u) (answer_of rules offered ours) (ap (λ it. is_some (answer_by rules offered it)) is ∙ there)
+answer_there rules offered own (u ∷ ours) (suc k) within is there =
+    second_there (answer_by rules offered u) (answer_of rules offered ours) (answer_there rules offered own ours k (omega arith) is there)
+
+offer_there : (rules : Rules) (format : MediaFormat) (offer : List MediaFormat) (ours : List FormatParameters) (k : ℕ) → k < length offer → get_or offer k format ≡ format → is_some (format_answer rules format ours) ≡ true
+    → is_some (offer_answer rules offer ours) ≡ true
+offer_there rules format [] ours k within is there = absurd (omega arith)
+offer_there rules format (f ∷ offer) ours zero within is there =
+    first_there (format_answer rules f ours) (offer_answer rules offer ours) (ap (λ it. is_some (format_answer rules it ours)) is ∙ there)
+offer_there rules format (f ∷ offer) ours (suc k) within is there =
+    second_there (format_answer rules f ours) (offer_answer rules offer ours) (offer_there rules format offer ours k (omega arith) is there)
+
+-- of two ends with a configuration in common there is an answer
+pub found : (rules : Rules) (offer : List MediaFormat) (ours : List FormatParameters) (format : MediaFormat) (own : FormatParameters) (terms : Terms) → HaveCommon rules offer ours format own terms
+    → is_some (offer_answer rules offer ours) ≡ true
+found rules offer ours format own terms have =
+    let by : is_some (answer_by rules format.parameters own) ≡ true =
+    map_there (answered rules format.parameters own) (common_terms rules format.parameters own) (ap (λ (o : Option Terms). is_some o) have.common) in
+    let one = answer_there rules format.parameters own ours have.taken.0 have.taken.1 have.taken.2 by in
+    offer_there rules format offer ours have.offered.0 have.offered.1 have.offered.2
+    (map_there (λ (it : FormatParameters). record format { parameters = it }) (answer_of rules format.parameters ours) one)

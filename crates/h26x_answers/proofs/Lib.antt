@@ -1,0 +1,9 @@
+pub mod AnswerLemmas
+pub mod AnswersLemmas
+pub mod IdLemmas
+pub mod AnswersH264Lemmas
+pub mod KeptLemmas
+pub mod KeptH264Lemmas
+pub mod ByLevelLemmas
+pub mod TieredLemmas
+pub mod TieredAgainLemmas

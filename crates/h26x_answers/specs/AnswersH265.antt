@@ -1,0 +1,68 @@
+-- Answers to offers of H.265 (RFC 7798, section 7.2.2).
+use Rattle.std.specs.Prelude.{ℕ, ◌+◌, ◌-◌, ◌*◌, ◌^◌, if◌then◌else◌, List, [], ◌∷◌, Option, Some, None, Result, Ok}
+use Rattle.std.specs.Option.{option_map}
+use Rattle.hex.specs.Hex.{decode_sized}
+use Rattle.hex.specs.declared.error.FromHexError.{FromHexError}
+use Rattle.h26x_answers.specs.declared.answer.Role.{Role}
+use Rattle.h26x_answers.specs.declared.answer.Role.TheVariants as role
+use Rattle.h26x_sdp.specs.declared.h265.H265Parameter.TheVariants as p
+use Rattle.h26x_fmtp.specs.Reading.{FormatParameters, value_at, number_or_default}
+use Rattle.h26x_sdp.specs.H265Rows.{rows, row_place}
+use Rattle.h26x_answers.specs.Answers.{Terms, Rules, same_number}
+use Rattle.h26x_answers.specs.AnswersByLevel.{LevelRows, terms_by_level}
+
+-- what each parameter is in an offer and its answer (table 1), in the order of the table
+abbrev pub roles : List Role
+roles =
+    -- profile-space, profile-id and tier-flag
+    role.Configuration ∷ role.Configuration ∷ role.Configuration ∷
+    -- level-id
+    role.Level ∷
+    -- interop-constraints and profile-compatibility-indicator
+    role.Configuration ∷ role.Inferred ∷
+    -- sprop-sub-layer-id and recv-sub-layer-id
+    role.Own ∷ role.OperationPoint ∷
+    -- max-recv-level-id and tx-mode
+    role.HighestLevel ∷ role.Configuration ∷
+    -- sprop-vps, sprop-sps, sprop-pps and sprop-sei
+    role.Sets ∷ role.Sets ∷ role.Sets ∷ role.Own ∷
+    -- max-lsr, max-lps, max-cpb, max-dpb, max-br, max-tr, max-tc and max-fps
+    role.Own ∷ role.Own ∷ role.Own ∷ role.Own ∷ role.Own ∷ role.Own ∷ role.Own ∷ role.Own ∷
+    -- sprop-max-don-diff, sprop-depack-buf-nalus, sprop-depack-buf-bytes and depack-buf-cap
+    role.Own ∷ role.Own ∷ role.Own ∷ role.Own ∷
+    -- sprop-segmentation-id, sprop-spatial-segmentation-idc, dec-parallel-cap and include-dph
+    role.Own ∷ role.Own ∷ role.Own ∷ role.Own ∷ []
+
+abbrev pub by : LevelRows
+by = record {
+  level = row_place p.LevelId;
+  highest = row_place p.MaxRecvLevelId;
+  difference = row_place p.SpropMaxDonDiff;
+  units = row_place p.SpropDepackBufNalus;
+  need = row_place p.SpropDepackBufBytes;
+  room = row_place p.DepackBufCap;
+}
+
+-- four bytes as a number, the first of them the highest
+abbrev pub four_bytes : Result (List ℕ) FromHexError → Option ℕ
+four_bytes (Ok (a ∷ b ∷ c ∷ d ∷ [])) = Some (((a * 256 + b) * 256 + c) * 256 + d)
+four_bytes other = None
+
+-- the flags of compatible profiles, of which the first is the highest bit; where they are absent, that
+-- of the profile alone
+abbrev pub flags_or_profile : Option ℕ → Option (List ℕ) → Option ℕ
+flags_or_profile profile None = option_map (λ id. 2 ^ (31 - id)) profile
+flags_or_profile profile (Some text) = four_bytes (decode_sized text 4)
+
+abbrev pub compatible_profiles : FormatParameters → Option ℕ
+compatible_profiles it = flags_or_profile (number_or_default rows it (row_place p.ProfileId))
+    (value_at it.values (row_place p.ProfileCompatibilityIndicator))
+
+-- the terms of two formats of one configuration, if they have the same flags
+abbrev pub terms : FormatParameters → FormatParameters → Option Terms
+terms offered own =
+    if same_number (compatible_profiles offered) (compatible_profiles own) then
+    terms_by_level rows by offered own else None
+
+abbrev pub rules : Rules
+rules = record { rows = rows; roles = roles; terms = terms }

@@ -1,0 +1,10 @@
+pub mod Answers
+pub mod AnswersViews
+pub mod AnswersH264
+pub mod AnswerLaws
+pub mod AllowedH264
+pub mod AnsweredAgain
+pub mod AnswersByLevel
+pub mod AnswersH265
+pub mod AnswersH266
+pub mod AllowedByLevel

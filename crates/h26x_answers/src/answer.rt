@@ -1,0 +1,398 @@
+//! Answers to offers of formats (RFC 3264, section 6; RFC 6184, section 8.2.2; RFC 7798, section 7.2.2;
+//! RFC 9328, section 7.3.2).
+
+pub(crate) mod by_level;
+pub(crate) mod h264;
+pub(crate) mod h265;
+pub(crate) mod h266;
+
+ghost use Rattle.std.specs.Prelude.{◌≡◌, List, Option, IfOk, length, map, vec_len};
+ghost use Rattle.std.specs.Option.{option_map, option_or};
+ghost use Rattle.h26x_answers.specs.Answers as spec;
+ghost use Rattle.h26x_answers.specs.AnswersViews.{terms_view};
+ghost use Rattle.h26x_fmtp.specs.Reading as reading;
+ghost use Rattle.h26x_fmtp.specs.ParametersViews.{view, value_view, slice_view, values_view, other_view, others_view};
+ghost use Rattle.h26x_fmtp.specs.TableViews.{row_view};
+
+use h26x_fmtp::{FormatParameters, Kind, OtherParameter, ParameterRow, same_name};
+use h26x_sdp::{CodecParameter, CodecParameters};
+use std::alloc::{AllocError, Global};
+use std::marker::Model;
+
+/// What a parameter is in an offer and its answer (RFC 6184, section 8.2.2, table 6; RFC 7798, section
+/// 7.2.2, table 1; RFC 9328, section 7.3.2.3, figure 11).
+#[derive(Debug, Clone, Copy, PartialEq, Eq)]
+pub enum Role {
+    /// Configuration of both directions: the answer has the offer's value, and ours says the same.
+    Configuration,
+    /// The same, where another parameter says what it is if it's absent.
+    Inferred,
+    /// The profile and level, or the level: the answer's depends on both.
+    Level,
+    /// The highest level that is received, where the answer's depends on both.
+    HighestLevel,
+    /// Whether each direction may have a level of its own: our own, where both ends allow it.
+    Asymmetry,
+    /// Of a stream whose units are sent in another order than decoded: our own, of such a stream alone.
+    Reordering,
+    /// Parameter sets: our own, where they are of the answer's level.
+    Sets,
+    /// Parameter sets of other levels: our own, where such a level is to be used.
+    LevelSets,
+    /// What an end receives or sends: our own.
+    Own,
+    /// The choice of an operation point: none.
+    OperationPoint,
+}
+
+/// The rules by which formats of a codec are answered: what each parameter is, and what two formats
+/// agree on.
+pub trait CodecRules: CodecParameter {
+    ghost use Rattle.h26x_answers.specs.declared.answer.Role.{Role};
+
+    ghost roles: { List Role };
+
+    ghost terms: { reading.FormatParameters → reading.FormatParameters → Option spec.Terms };
+
+    /// What each parameter is, in the order of the table.
+    fn roles() -> &'static [Role]
+        ensures roles { result.now ≡ roles }
+        ensures long { length result.now ≡ length Self.rows };
+
+    /// The terms of an offered format and one of ours, whose configuration is one; `None` where they
+    /// have none.
+    fn terms(
+        alloc: Global,
+        offered: &CodecParameters<Self>,
+        own: &CodecParameters<Self>,
+    ) -> Result<Option<Terms>, AllocError>
+        ensures { IfOk result (λ it. option_map terms_view it ≡ terms offered.now own.now) };
+}
+
+/// What two formats of one configuration agree on.
+#[derive(Debug, Drop)]
+pub struct Terms {
+    /// The value of the level's parameter in the answer.
+    pub level: Option<Vec<u8>>,
+    /// That of the highest level's, where it depends on both ends.
+    pub highest: Option<Vec<u8>>,
+    /// Whether each direction has a level of its own.
+    pub asymmetric: bool,
+    /// Whether units are sent in another order than decoded.
+    pub reorders: bool,
+    /// Whether our own parameter sets are of the answer's level, and are looked at.
+    pub sets: bool,
+    /// The same of those of other levels.
+    pub level_sets: bool,
+}
+
+/// Whether two numbers are there and the same.
+pub(crate) fn same_number(a: Option<u64>, b: Option<u64>) -> bool
+    ensures { result ≡ spec.same_number a b }
+{
+    match (a, b) {
+        (Some(a), Some(b)) => a == b,
+        _ => false,
+    }
+}
+
+/// Whether a buffer holds what is needed, where both are told.
+pub(crate) fn holds(need: Option<u64>, room: Option<u64>) -> bool
+    ensures { result ≡ spec.holds need room }
+{
+    match (need, room) {
+        (Some(need), Some(room)) => need <= room,
+        _ => false,
+    }
+}
+
+/// Whether two values of a kind are one.
+fn same_value(kind: Kind, a: &[u8], b: &[u8]) -> bool
+    ensures { result ≡ spec.same_value kind a.now b.now }
+{
+    match kind {
+        Kind::Number { .. } | Kind::HexadecimalNumber { .. } => {
+            same_number(kind.number_of(a), kind.number_of(b))
+        }
+        Kind::Hexadecimal { .. } => same_name(a, b),
+        Kind::TxMode | Kind::Units(_) | Kind::Text => a == b,
+    }
+}
+
+/// The same of values that may be absent.
+pub(crate) fn same_if_given(kind: Kind, a: Option<&[u8]>, b: Option<&[u8]>) -> bool
+    ensures { result ≡ spec.same_if_given kind (slice_view a.entry)
+        (slice_view b.entry) }
+{
+    match (a, b) {
+        (None, None) => true,
+        (Some(a), Some(b)) => same_value(kind, a, b),
+        _ => false,
+    }
+}
+
+/// The bytes of a value, if it's given.
+fn bytes_of(value: &Option<Vec<u8>>) -> Option<&[u8]>
+    ensures { slice_view result ≡ value_view value.now }
+{
+    match value {
+        Some(value) => Some(value.as_slice()),
+        None => None,
+    }
+}
+
+/// The bytes of a value, or the default of its row.
+fn bytes_or_default<'a>(row: &'a ParameterRow, value: &'a Option<Vec<u8>>) -> Option<&'a [u8]>
+    ensures { slice_view result
+        ≡ option_or (value_view value.now) (row_view row.now).default }
+{
+    match value {
+        Some(value) => Some(value.as_slice()),
+        None => row.default,
+    }
+}
+
+/// Whether a row of two formats is symmetric, if it has to be.
+fn is_symmetric_at(
+    role: Role,
+    row: &ParameterRow,
+    offered: &Option<Vec<u8>>,
+    own: &Option<Vec<u8>>,
+) -> bool
+    ensures { result ≡ spec.is_symmetric_at role (row_view row.now) (value_view offered.now)
+        (value_view own.now) }
+{
+    match role {
+        Role::Configuration => same_if_given(
+            row.kind,
+            bytes_or_default(row, offered),
+            bytes_or_default(row, own),
+        ),
+        _ => true,
+    }
+}
+
+/// Whether the configuration of two formats is one.
+fn are_symmetric(
+    roles: &[Role],
+    rows: &[ParameterRow],
+    offered: &FormatParameters,
+    own: &FormatParameters,
+) -> bool
+    requires rows { length rows.now ≡ length roles.now }
+    requires offered { vec_len offered.now.values ≡ length roles.now }
+    requires own { vec_len own.now.values ≡ length roles.now }
+    ensures { result ≡ spec.are_symmetric roles.now (map row_view rows.now)
+        (view offered.now).values (view own.now).values }
+{
+    for place in 0..roles.len() {
+        let (o, u) = (&offered.values[place], &own.values[place]);
+        if !is_symmetric_at(roles[place], &rows[place], o, u) {
+            return false;
+        }
+    }
+    true
+}
+
+/// A value, where it belongs into the answer.
+pub(crate) fn only_if(belongs: bool, value: &Option<Vec<u8>>) -> Option<&[u8]>
+    ensures { slice_view result ≡ spec.only_if belongs (value_view value.now) }
+{
+    if belongs { bytes_of(value) } else { None }
+}
+
+/// The value of a parameter in the answer, of the offer's and our own.
+fn answered_value<'a>(
+    role: Role,
+    terms: &'a Terms,
+    offered: &'a Option<Vec<u8>>,
+    own: &'a Option<Vec<u8>>,
+) -> Option<&'a [u8]>
+    ensures { slice_view result ≡ spec.answered_value role (terms_view terms.now)
+        (value_view offered.now) (value_view own.now) }
+{
+    match role {
+        Role::Configuration | Role::Inferred => bytes_of(offered),
+        Role::Level => bytes_of(&terms.level),
+        Role::HighestLevel => bytes_of(&terms.highest),
+        Role::Asymmetry => only_if(terms.asymmetric, own),
+        Role::Reordering => only_if(terms.reorders, own),
+        Role::Sets => only_if(terms.sets, own),
+        Role::LevelSets => only_if(terms.level_sets, own),
+        Role::Own => bytes_of(own),
+        Role::OperationPoint => None,
+    }
+}
+
+/// A copy of a value, if it's given.
+pub(crate) fn copy_of(alloc: Global, value: Option<&[u8]>) -> Result<Option<Vec<u8>>, AllocError>
+    ensures { IfOk result (λ it. value_view it ≡ slice_view value.entry) }
+{
+    match value {
+        Some(value) => Ok(Some(Vec::from_slice(alloc, value)?)),
+        None => Ok(None),
+    }
+}
+
+/// A copy of what a table doesn't have.
+fn copy_of_other(alloc: Global, other: &OtherParameter) -> Result<OtherParameter, AllocError>
+    ensures { IfOk result (λ it. other_view it ≡ other_view other.now) }
+{
+    let name = Vec::from_slice(alloc, other.name.as_slice())?;
+    let value = Vec::from_slice(alloc, other.value.as_slice())?;
+    Ok(OtherParameter { name, value })
+}
+
+/// A copy of those that a table doesn't have.
+fn copy_of_others(
+    alloc: Global,
+    others: &[OtherParameter],
+) -> Result<Vec<OtherParameter>, AllocError>
+    ensures { IfOk result (λ it. others_view it ≡ map other_view others.now) }
+{
+    let mut copies = Vec::new(alloc);
+    for other in others {
+        copies.push(copy_of_other(alloc, other)?)?;
+    }
+    Ok(copies)
+}
+
+/// The values of the answer, on terms.
+fn answered_values(
+    alloc: Global,
+    roles: &[Role],
+    terms: &Terms,
+    offered: &FormatParameters,
+    own: &FormatParameters,
+) -> Result<Vec<Option<Vec<u8>>>, AllocError>
+    requires offered { vec_len offered.now.values ≡ length roles.now }
+    requires own { vec_len own.now.values ≡ length roles.now }
+    ensures values { IfOk result (λ it. values_view it ≡ spec.answered_values (terms_view terms.now)
+        roles.now (view offered.now).values (view own.now).values) }
+    ensures long { IfOk result (λ it. vec_len it ≡ length roles.now) }
+{
+    let mut values = Vec::new(alloc);
+    for place in 0..roles.len() {
+        let (o, u) = (&offered.values[place], &own.values[place]);
+        values.push(copy_of(alloc, answered_value(roles[place], terms, o, u))?)?;
+    }
+    Ok(values)
+}
+
+/// A payload type and the parameters of its format.
+#[derive(Debug, Drop)]
+pub struct Format<P: CodecParameter> {
+    /// The payload type.
+    pub payload_type: u8,
+    /// What an `a=fmtp` line says of it.
+    pub parameters: CodecParameters<P>,
+}
+
+impl<P: CodecParameter> Model for Format<P> {
+    ghost use Rattle.h26x_answers.specs.Answers as spec;
+
+    ghost Value = { spec.MediaFormat };
+
+    ghost view = { λ it. record { payload_type = it.payload_type; parameters = it.parameters } };
+}
+
+/// The parameters of the answer, on terms.
+fn answered<P: CodecRules>(
+    alloc: Global,
+    offered: &CodecParameters<P>,
+    own: &CodecParameters<P>,
+    terms: &Terms,
+) -> Result<CodecParameters<P>, AllocError>
+    ensures { IfOk result (λ it. it ≡ spec.answered (spec.rules_of P.rows P.roles P.terms)
+        offered.now own.now (terms_view terms.now)) }
+{
+    let (o, u) = (offered.parameters(), own.parameters());
+    let parameters = FormatParameters {
+        values: answered_values(alloc, P::roles(), terms, o, u)?,
+        others: copy_of_others(alloc, u.others.as_slice())?,
+    };
+    Ok(CodecParameters::of_parameters(parameters))
+}
+
+/// The terms of two formats, if they are of one configuration.
+fn common_terms<P: CodecRules>(
+    alloc: Global,
+    offered: &CodecParameters<P>,
+    own: &CodecParameters<P>,
+) -> Result<Option<Terms>, AllocError>
+    ensures { IfOk result (λ it. option_map terms_view it ≡ spec.common_terms
+        (spec.rules_of P.rows P.roles P.terms) offered.now own.now) }
+{
+    if !are_symmetric(
+        P::roles(),
+        P::rows(),
+        offered.parameters(),
+        own.parameters(),
+    ) {
+        return Ok(None);
+    }
+    P::terms(alloc, offered, own)
+}
+
+/// The answer to an offered format by one of ours.
+fn answer_by<P: CodecRules>(
+    alloc: Global,
+    offered: &CodecParameters<P>,
+    own: &CodecParameters<P>,
+) -> Result<Option<CodecParameters<P>>, AllocError>
+    ensures { IfOk result (λ it. it ≡ spec.answer_by (spec.rules_of P.rows P.roles P.terms)
+        offered.now own.now) }
+{
+    match common_terms(alloc, offered, own)? {
+        Some(terms) => Ok(Some(answered(alloc, offered, own, &terms)?)),
+        None => Ok(None),
+    }
+}
+
+/// The answer to the parameters of an offered format, by the first of ours that gives one; `None` where
+/// none does. It is for both directions, and for unicast (RFC 6184, section 8.2.2; RFC 7798, section
+/// 7.2.2; RFC 9328, section 7.3.2).
+pub fn answer_format<P: CodecRules>(
+    alloc: Global,
+    offered: &CodecParameters<P>,
+    ours: &[CodecParameters<P>],
+) -> Result<Option<CodecParameters<P>>, AllocError>
+    ensures { IfOk result (λ it. it ≡ spec.answer_of (spec.rules_of P.rows P.roles P.terms)
+        offered.now ours.now) }
+{
+    for own in ours {
+        if let Some(answer) = answer_by(alloc, offered, own)? {
+            return Ok(Some(answer));
+        }
+    }
+    Ok(None)
+}
+
+/// The answer to an offer: of its formats, in its order of preference, the first that one of ours
+/// answers, with its payload type; `None` where no two have a configuration in common (RFC 3264,
+/// section 6.1). To take more than one format, ask each for its answer.
+///
+/// ```rust
+/// let parameters = H264Parameters::read(alloc, b"profile-level-id=42e01f;packetization-mode=1")?;
+/// let offer = [Format { payload_type: 106, parameters }];
+/// let ours = [H264Parameters::read(alloc, b"profile-level-id=42e00b;packetization-mode=1")?];
+/// let answer = answer_to(alloc, &offer, &ours)?;
+/// ```
+pub fn answer_to<P: CodecRules>(
+    alloc: Global,
+    offer: &[Format<P>],
+    ours: &[CodecParameters<P>],
+) -> Result<Option<Format<P>>, AllocError>
+    ensures { IfOk result (λ it. it ≡ spec.offer_answer (spec.rules_of P.rows P.roles P.terms)
+        offer.now ours.now) }
+{
+    for format in offer {
+        if let Some(parameters) = answer_format(alloc, &format.parameters, ours)? {
+            return Ok(Some(Format {
+                payload_type: format.payload_type,
+                parameters,
+            }));
+        }
+    }
+    Ok(None)
+}

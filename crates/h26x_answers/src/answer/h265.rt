@@ -1,0 +1,129 @@
+//! Answers to offers of H.265 (RFC 7798, section 7.2.2).
+
+ghost use Rattle.std.specs.Prelude.{◌≡◌, IfOk, None};
+ghost use Rattle.std.specs.Option.{option_map};
+ghost use Rattle.hex.specs.Hex.{decode_sized};
+ghost use Rattle.h26x_answers.specs.AnswersH265 as spec;
+ghost use Rattle.h26x_answers.specs.AnswersViews.{terms_view};
+
+use crate::answer::by_level::{LevelParameters, terms_by_level};
+use crate::answer::{CodecRules, Role, Terms, same_number};
+use h26x_sdp::{H265Parameter, H265Parameters};
+use hex::FromHex;
+use std::alloc::{AllocError, Global};
+
+/// What each parameter is, in the order of the table.
+static ROLES: [Role; 30] = [
+    // profile-space, profile-id and tier-flag
+    Role::Configuration,
+    Role::Configuration,
+    Role::Configuration,
+    // level-id
+    Role::Level,
+    // interop-constraints and profile-compatibility-indicator
+    Role::Configuration,
+    Role::Inferred,
+    // sprop-sub-layer-id and recv-sub-layer-id
+    Role::Own,
+    Role::OperationPoint,
+    // max-recv-level-id and tx-mode
+    Role::HighestLevel,
+    Role::Configuration,
+    // sprop-vps, sprop-sps, sprop-pps and sprop-sei
+    Role::Sets,
+    Role::Sets,
+    Role::Sets,
+    Role::Own,
+    // max-lsr, max-lps, max-cpb, max-dpb, max-br, max-tr, max-tc and max-fps
+    Role::Own,
+    Role::Own,
+    Role::Own,
+    Role::Own,
+    Role::Own,
+    Role::Own,
+    Role::Own,
+    Role::Own,
+    // sprop-max-don-diff, sprop-depack-buf-nalus, sprop-depack-buf-bytes and depack-buf-cap
+    Role::Own,
+    Role::Own,
+    Role::Own,
+    Role::Own,
+    // sprop-segmentation-id, sprop-spatial-segmentation-idc, dec-parallel-cap and include-dph
+    Role::Own,
+    Role::Own,
+    Role::Own,
+    Role::Own,
+];
+
+/// By which parameters levels and buffers are told.
+const BY: LevelParameters<H265Parameter> = LevelParameters {
+    level: H265Parameter::LevelId,
+    highest: H265Parameter::MaxRecvLevelId,
+    difference: H265Parameter::SpropMaxDonDiff,
+    units: H265Parameter::SpropDepackBufNalus,
+    need: H265Parameter::SpropDepackBufBytes,
+    room: H265Parameter::DepackBufCap,
+};
+
+/// The number that eight digits say.
+fn four_bytes(text: &[u8]) -> Option<u64>
+    ensures { result ≡ spec.four_bytes (decode_sized text.now 4) }
+{
+    let bytes = <[u8; 4] as FromHex>::from_hex(text).ok()?;
+    let high = u64::from(bytes[0]) * 256 + u64::from(bytes[1]);
+    Some((high * 256 + u64::from(bytes[2])) * 256 + u64::from(bytes[3]))
+}
+
+/// The flags of compatible profiles; where they are absent, that of the profile alone.
+fn compatible_profiles(it: &H265Parameters) -> Option<u64>
+    ensures { result ≡ spec.compatible_profiles it.now }
+{
+    match it.value(H265Parameter::ProfileCompatibilityIndicator) {
+        Some(text) => four_bytes(text),
+        None => flag_of(it.number_or_default(H265Parameter::ProfileId)),
+    }
+}
+
+/// The flag of a profile, if there's one.
+fn flag_of(profile: Option<u64>) -> Option<u64>
+    ensures { result ≡ spec.flags_or_profile profile None }
+{
+    match profile {
+        Some(id) => Some(1 << 31u64.saturating_sub(id)),
+        None => None,
+    }
+}
+
+/// The terms of two formats of one configuration, if they have the same flags.
+fn terms(
+    alloc: Global,
+    offered: &H265Parameters,
+    own: &H265Parameters,
+) -> Result<Option<Terms>, AllocError>
+    ensures { IfOk result (λ it. option_map terms_view it ≡ spec.terms offered.now own.now) }
+{
+    if !same_number(compatible_profiles(offered), compatible_profiles(own)) {
+        return Ok(None);
+    }
+    terms_by_level(alloc, &BY, offered, own)
+}
+
+impl CodecRules for H265Parameter {
+    ghost use Rattle.h26x_answers.specs.AnswersH265 as spec;
+
+    ghost roles = { spec.roles };
+
+    ghost terms = { spec.terms };
+
+    fn roles() -> &'static [Role] {
+        &ROLES
+    }
+
+    fn terms(
+        alloc: Global,
+        offered: &H265Parameters,
+        own: &H265Parameters,
+    ) -> Result<Option<Terms>, AllocError> {
+        terms(alloc, offered, own)
+    }
+}

@@ -1,0 +1,116 @@
+//! Answers to offers of H.266 (RFC 9328, section 7.3.2).
+
+ghost use Rattle.std.specs.Prelude.{◌≡◌, IfOk};
+ghost use Rattle.std.specs.Option.{option_map};
+ghost use Rattle.h26x_answers.specs.AnswersH266 as spec;
+ghost use Rattle.h26x_answers.specs.AnswersViews.{terms_view};
+
+use crate::answer::by_level::{LevelParameters, terms_by_level};
+use crate::answer::{CodecRules, Role, Terms, same_if_given, same_number};
+use h26x_fmtp::Kind;
+use h26x_fmtp::unit_types::H266_VPS;
+use h26x_sdp::{H266Parameter, H266Parameters};
+use std::alloc::{AllocError, Global};
+
+/// What each parameter is, in the order of the table.
+static ROLES: [Role; 20] = [
+    // profile-id, tier-flag, sub-profile-id and interop-constraints
+    Role::Configuration,
+    Role::Configuration,
+    Role::Configuration,
+    Role::Configuration,
+    // level-id
+    Role::Level,
+    // sprop-sublayer-id, sprop-ols-id, recv-sublayer-id and recv-ols-id
+    Role::Own,
+    Role::Own,
+    Role::OperationPoint,
+    Role::OperationPoint,
+    // max-recv-level-id
+    Role::HighestLevel,
+    // sprop-dci, sprop-vps, sprop-sps, sprop-pps and sprop-sei
+    Role::Sets,
+    Role::Sets,
+    Role::Sets,
+    Role::Sets,
+    Role::Own,
+    // max-lsr and max-fps
+    Role::Own,
+    Role::Own,
+    // sprop-max-don-diff, sprop-depack-buf-bytes and depack-buf-cap
+    Role::Own,
+    Role::Own,
+    Role::Own,
+];
+
+/// By which parameters levels and buffers are told: no parameter says how many units are to be held, so
+/// that of the bytes stands for it.
+const BY: LevelParameters<H266Parameter> = LevelParameters {
+    level: H266Parameter::LevelId,
+    highest: H266Parameter::MaxRecvLevelId,
+    difference: H266Parameter::SpropMaxDonDiff,
+    units: H266Parameter::SpropDepackBufBytes,
+    need: H266Parameter::SpropDepackBufBytes,
+    room: H266Parameter::DepackBufCap,
+};
+
+/// Whether the profile has layers.
+fn has_layers(it: &H266Parameters) -> bool
+    ensures { result ≡ spec.has_layers it.now }
+{
+    let profile = it.number_or_default(H266Parameter::ProfileId);
+    (same_number(profile, Some(17)) || same_number(profile, Some(49)))
+        || (same_number(profile, Some(81)) || same_number(profile, Some(113)))
+}
+
+/// Whether the answer has the offer's `sprop-vps`, where it's configuration too: of a profile with
+/// layers.
+fn keeps_vps(offered: &H266Parameters, own: &H266Parameters, terms: &Terms) -> bool
+    ensures { result ≡ spec.keeps_vps offered.now own.now (terms_view terms.now) }
+{
+    let ours = if terms.sets {
+        own.value(H266Parameter::SpropVps)
+    } else {
+        None
+    };
+    !has_layers(offered)
+        || same_if_given(
+            Kind::Units(H266_VPS),
+            offered.value(H266Parameter::SpropVps),
+            ours,
+        )
+}
+
+/// The terms of two formats of one configuration.
+fn terms(
+    alloc: Global,
+    offered: &H266Parameters,
+    own: &H266Parameters,
+) -> Result<Option<Terms>, AllocError>
+    ensures { IfOk result (λ it. option_map terms_view it ≡ spec.terms offered.now own.now) }
+{
+    match terms_by_level(alloc, &BY, offered, own)? {
+        Some(terms) if keeps_vps(offered, own, &terms) => Ok(Some(terms)),
+        _ => Ok(None),
+    }
+}
+
+impl CodecRules for H266Parameter {
+    ghost use Rattle.h26x_answers.specs.AnswersH266 as spec;
+
+    ghost roles = { spec.roles };
+
+    ghost terms = { spec.terms };
+
+    fn roles() -> &'static [Role] {
+        &ROLES
+    }
+
+    fn terms(
+        alloc: Global,
+        offered: &H266Parameters,
+        own: &H266Parameters,
+    ) -> Result<Option<Terms>, AllocError> {
+        terms(alloc, offered, own)
+    }
+}

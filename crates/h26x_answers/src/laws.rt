@@ -1,0 +1,83 @@
+//! Laws of answers. Each is the contract of a function without a result.
+
+ghost use Rattle.std.specs.Prelude.{◌≡◌, true, false, List};
+ghost use Rattle.h26x_fmtp.specs.Parameters.{AreParameters, IsReadAgain};
+ghost use Rattle.h26x_fmtp.specs.Reading.{FormatParameters};
+ghost use Rattle.h26x_answers.specs.Answers.{MediaFormat, Rules};
+ghost use Rattle.h26x_answers.specs.AnswerLaws.{IsCommonAnswered, IsAnswerCommon, OfEachAnswer};
+ghost use Rattle.h26x_answers.specs.AnswersH264 as h264_answers;
+ghost use Rattle.h26x_answers.specs.AllowedH264.{IsH264Answer, MaySend, CanDeinterleaveOwn, is_sets_row};
+ghost use Rattle.h26x_answers.specs.AnsweredAgain.{AreAnsweredAgain};
+ghost use Rattle.h26x_answers.specs.AllowedByLevel.{IsAnswerByLevel, OfEachAllowed, MaySendByLevel};
+ghost use Rattle.h26x_answers.specs.AnswersByLevel.{can_hold};
+ghost use Rattle.h26x_answers.specs.AnswersH265 as h265_answers;
+ghost use Rattle.h26x_answers.specs.AnswersH266 as h266_answers;
+ghost use Rattle.h26x_sdp.specs.H264Rows as h264;
+ghost use Rattle.h26x_sdp.specs.H265Rows as h265;
+ghost use Rattle.h26x_sdp.specs.H266Rows as h266;
+
+/// Of two ends with a configuration in common there is an answer, and each answer is of such a one and
+/// keeps its payload type.
+pub fn whom_both_understand_is_found()
+    ensures found { (rules : Rules) (offer : List MediaFormat) (ours : List FormatParameters) →
+        IsCommonAnswered rules offer ours }
+    ensures none { (rules : Rules) (offer : List MediaFormat) (ours : List FormatParameters) →
+        IsAnswerCommon rules offer ours }
+{}
+
+/// An answer of H.264 is one that RFC 6184, section 8.2.2, allows of the offered format, and of an
+/// allowed answer what each end sends is what the other said that it receives.
+pub fn h264_answers_are_allowed()
+    ensures allowed { OfEachAnswer h264_answers.rules
+        (λ offered own answer. IsH264Answer offered answer) }
+    ensures forth { (offered answer : FormatParameters) (it : IsH264Answer offered answer) →
+        MaySend offered answer it.theirs it.ours }
+    ensures back { (offered answer : FormatParameters) (it : IsH264Answer offered answer) →
+        MaySend answer offered it.ours it.theirs }
+{}
+
+/// An answer of H.264 is parameters of H.264, and once it's written it is read as the same.
+pub fn h264_answers_are_read()
+    ensures parameters { OfEachAnswer h264_answers.rules
+        (λ offered own answer. AreParameters h264.rows answer) }
+    ensures read { OfEachAnswer h264_answers.rules
+        (λ offered own answer. IsReadAgain h264.rows answer) }
+{}
+
+/// An answer of H.264 is answered with itself, but for parameter sets, which depend on what the other
+/// end says of them; in interleaved mode where we could put in order what we send.
+pub fn h264_answers_are_answered_with_themselves()
+    ensures { AreAnsweredAgain h264_answers.rules is_sets_row
+        (λ own answer. CanDeinterleaveOwn own answer) }
+{}
+
+/// An answer of H.265 is one that RFC 7798, section 7.2.2, allows of the offered format, and one of
+/// H.266 one that RFC 9328, section 7.3.2, allows; and of an allowed answer what each end sends is what
+/// the other said that it receives.
+pub fn answers_by_level_are_allowed()
+    ensures h265 { OfEachAnswer h265_answers.rules
+        (λ offered _ answer. IsAnswerByLevel h265_answers.rules h265_answers.by offered answer) }
+    ensures h266 { OfEachAnswer h266_answers.rules
+        (λ offered _ answer. IsAnswerByLevel h266_answers.rules h266_answers.by offered answer) }
+    ensures forth { OfEachAllowed (λ rules by offered answer it.
+        MaySendByLevel rules by offered answer it.ours.level it.ours) }
+    ensures back { OfEachAllowed (λ rules by offered answer it.
+        MaySendByLevel rules by answer offered it.ours.highest it.theirs) }
+{}
+
+/// An answer of H.265 or of H.266 is parameters of that codec, and once it's written it is read as the
+/// same.
+pub fn answers_by_level_are_read()
+    ensures h265 { OfEachAnswer h265_answers.rules
+        (λ offered own answer. IsReadAgain h265.rows answer) }
+    ensures h266 { OfEachAnswer h266_answers.rules
+        (λ offered own answer. IsReadAgain h266.rows answer) }
+{}
+
+/// An answer of H.265 or of H.266 is answered with itself, where we could put in order what we send.
+pub fn answers_by_level_are_answered_with_themselves()
+    ensures h265 { AreAnsweredAgain h265_answers.rules (λ _. false)
+        (λ own _. can_hold h265.rows h265_answers.by own own ≡ true) }
+    ensures h266 { AreAnsweredAgain h266_answers.rules (λ _. false)
+        (λ own _. can_hold h266.rows h266_answers.by own own ≡ true) }
+{}

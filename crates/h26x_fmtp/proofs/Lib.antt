@@ -1,0 +1,11 @@
+pub mod PartLemmas
+pub mod TrimLemmas
+pub mod WrittenLemmas
+pub mod NumberLemmas
+pub mod NameLemmas
+pub mod ReadingLemmas
+pub mod AgainLemmas
+pub mod FixedLemmas
+pub mod UnitsLemmas
+pub mod RtpMapLemmas
+pub mod TestLemmas

@@ -1,0 +1,13 @@
+pub mod Pairs
+pub mod PairViews
+pub mod Written
+pub mod Kinds
+pub mod Tables
+pub mod TableViews
+pub mod Reading
+pub mod ParametersViews
+pub mod Parameters
+pub mod UnitTypes
+pub mod Units
+pub mod UnitsViews
+pub mod RtpMaps

@@ -1,6 +1,0 @@
-use Rattle.std.proofs.Common.{◌≡◌, drop}
-use Rattle.h26x_sdp.specs.Answers.{rules_of, offer_answer}
-use Rattle.h26x_sdp.proofs.answer.answer_to.Given as goal
-
-abbrev pub invariant-loop-format : goal.invariant-loop-format
-invariant-loop-format g l = offer_answer (rules_of g.P.CodecParameter.rows g.P.CodecRules.roles g.P.CodecRules.terms) (drop l.format-index l.offer) l.ours ≡ offer_answer (rules_of g.P.CodecParameter.rows g.P.CodecRules.roles g.P.CodecRules.terms) l.offer l.ours

@@ -1,8 +1,0 @@
-use Rattle.std.proofs.Common.{◌≡◌, ◌++◌, drop}
-use Rattle.h26x_sdp.specs.FromStream.{first_sets}
-use Rattle.h26x_sdp.specs.FromStreamViews.{slices_view}
-use Rattle.h26x_sdp.specs.UnitsViews.{units_view}
-use Rattle.h26x_sdp.proofs.from_stream.first_sets.Given as goal
-
-abbrev pub invariant-loop-unit : goal.invariant-loop-unit
-invariant-loop-unit l = units_view l.sets.items ++ first_sets l.types (slices_view (drop l.unit-index l.units)) ≡ first_sets l.types (slices_view l.units)

@@ -1,6 +1,0 @@
-use Rattle.std.proofs.Common.{false}
-use Rattle.h26x_sdp.proofs.WrittenLemmas.{parts_joined}
-use Rattle.h26x_sdp.proofs.laws.parts_are_the_text.Goals as goal
-
-pub returns : goal.returns
-returns c = parts_joined false

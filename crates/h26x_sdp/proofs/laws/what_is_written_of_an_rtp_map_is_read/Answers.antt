@@ -1,5 +1,0 @@
-use Rattle.h26x_sdp.proofs.RtpMapLemmas.{map_back}
-use Rattle.h26x_sdp.proofs.laws.what_is_written_of_an_rtp_map_is_read.Goals as goal
-
-pub returns : goal.returns
-returns c = map_back

@@ -1,5 +1,0 @@
-use Rattle.h26x_sdp.proofs.AnswersLemmas.{found, comes_from}
-use Rattle.h26x_sdp.proofs.laws.whom_both_understand_is_found.Goals as goal
-
-pub returns : goal.returns
-returns c = record { found = found; none = comes_from }

@@ -1,0 +1,2 @@
+pub mod FromStream
+pub mod FromStreamViews

@@ -1,0 +1,10 @@
+// Made from crates/h26x_answers/src/lib.rt by tools/to-rust.
+
+//! Answers to offers of formats of H.264, H.265 and H.266 (RFC 3264, section 6; RFC 6184, section
+//! 8.2.2; RFC 7798, section 7.2.2; RFC 9328, section 7.3.2).
+//!
+//! The definitions that contracts cite stand in `specs/`.
+mod answer;
+
+pub use answer::{CodecRules, Format, Role, Terms};
+pub(crate) use answer::{answer_format, answer_to};

@@ -1,0 +1,318 @@
+// Made from crates/h26x_answers/src/answer.rt by tools/to-rust.
+
+//! Answers to offers of formats (RFC 3264, section 6; RFC 6184, section 8.2.2; RFC 7798, section 7.2.2;
+//! RFC 9328, section 7.3.2).
+
+pub(crate) mod by_level;
+pub(crate) mod h264;
+pub(crate) mod h265;
+pub(crate) mod h266;
+
+use crate::proved::h26x_fmtp::{FormatParameters, Kind, OtherParameter, ParameterRow, same_name};
+use crate::proved::h26x_sdp::{CodecParameter, CodecParameters};
+use crate::support::AllocError;
+use crate::support::TryVec;
+use alloc::vec::Vec;
+
+/// What a parameter is in an offer and its answer (RFC 6184, section 8.2.2, table 6; RFC 7798, section
+/// 7.2.2, table 1; RFC 9328, section 7.3.2.3, figure 11).
+#[derive(Debug, Clone, Copy, PartialEq, Eq)]
+pub enum Role {
+    /// Configuration of both directions: the answer has the offer's value, and ours says the same.
+    Configuration,
+    /// The same, where another parameter says what it is if it's absent.
+    Inferred,
+    /// The profile and level, or the level: the answer's depends on both.
+    Level,
+    /// The highest level that is received, where the answer's depends on both.
+    HighestLevel,
+    /// Whether each direction may have a level of its own: our own, where both ends allow it.
+    Asymmetry,
+    /// Of a stream whose units are sent in another order than decoded: our own, of such a stream alone.
+    Reordering,
+    /// Parameter sets: our own, where they are of the answer's level.
+    Sets,
+    /// Parameter sets of other levels: our own, where such a level is to be used.
+    LevelSets,
+    /// What an end receives or sends: our own.
+    Own,
+    /// The choice of an operation point: none.
+    OperationPoint,
+}
+
+/// The rules by which formats of a codec are answered: what each parameter is, and what two formats
+/// agree on.
+pub trait CodecRules: CodecParameter {
+    /// What each parameter is, in the order of the table.
+    fn roles() -> &'static [Role];
+
+    /// The terms of an offered format and one of ours, whose configuration is one; `None` where they
+    /// have none.
+    fn terms(
+        offered: &CodecParameters<Self>,
+        own: &CodecParameters<Self>,
+    ) -> Result<Option<Terms>, AllocError>;
+}
+
+/// What two formats of one configuration agree on.
+pub struct Terms {
+    /// The value of the level's parameter in the answer.
+    pub level: Option<Vec<u8>>,
+    /// That of the highest level's, where it depends on both ends.
+    pub highest: Option<Vec<u8>>,
+    /// Whether each direction has a level of its own.
+    pub asymmetric: bool,
+    /// Whether units are sent in another order than decoded.
+    pub reorders: bool,
+    /// Whether our own parameter sets are of the answer's level, and are looked at.
+    pub sets: bool,
+    /// The same of those of other levels.
+    pub level_sets: bool,
+}
+
+/// Of bytes it tells how many there are.
+impl core::fmt::Debug for Terms {
+    fn fmt(&self, f: &mut core::fmt::Formatter<'_>) -> core::fmt::Result {
+        use crate::support::Count;
+        f.debug_struct("Terms")
+            .field("level", &self.level.as_ref().map(|it| Count(it.len())))
+            .field("highest", &self.highest.as_ref().map(|it| Count(it.len())))
+            .field("asymmetric", &self.asymmetric)
+            .field("reorders", &self.reorders)
+            .field("sets", &self.sets)
+            .field("level_sets", &self.level_sets)
+            .finish()
+    }
+}
+
+/// Whether two numbers are there and the same.
+pub(crate) fn same_number(a: Option<u64>, b: Option<u64>) -> bool {
+    match (a, b) {
+        (Some(a), Some(b)) => a == b,
+        _ => false,
+    }
+}
+
+/// Whether a buffer holds what is needed, where both are told.
+pub(crate) fn holds(need: Option<u64>, room: Option<u64>) -> bool {
+    match (need, room) {
+        (Some(need), Some(room)) => need <= room,
+        _ => false,
+    }
+}
+
+/// Whether two values of a kind are one.
+fn same_value(kind: Kind, a: &[u8], b: &[u8]) -> bool {
+    match kind {
+        Kind::Number { .. } | Kind::HexadecimalNumber { .. } => {
+            same_number(kind.number_of(a), kind.number_of(b))
+        }
+        Kind::Hexadecimal { .. } => same_name(a, b),
+        Kind::TxMode | Kind::Units(_) | Kind::Text => a == b,
+    }
+}
+
+/// The same of values that may be absent.
+pub(crate) fn same_if_given(kind: Kind, a: Option<&[u8]>, b: Option<&[u8]>) -> bool {
+    match (a, b) {
+        (None, None) => true,
+        (Some(a), Some(b)) => same_value(kind, a, b),
+        _ => false,
+    }
+}
+
+/// The bytes of a value, if it's given.
+fn bytes_of(value: &Option<Vec<u8>>) -> Option<&[u8]> {
+    match value {
+        Some(value) => Some(value.as_slice()),
+        None => None,
+    }
+}
+
+/// The bytes of a value, or the default of its row.
+fn bytes_or_default<'a>(row: &'a ParameterRow, value: &'a Option<Vec<u8>>) -> Option<&'a [u8]> {
+    match value {
+        Some(value) => Some(value.as_slice()),
+        None => row.default,
+    }
+}
+
+/// Whether a row of two formats is symmetric, if it has to be.
+fn is_symmetric_at(
+    role: Role,
+    row: &ParameterRow,
+    offered: &Option<Vec<u8>>,
+    own: &Option<Vec<u8>>,
+) -> bool {
+    match role {
+        Role::Configuration => same_if_given(
+            row.kind,
+            bytes_or_default(row, offered),
+            bytes_or_default(row, own),
+        ),
+        _ => true,
+    }
+}
+
+/// Whether the configuration of two formats is one.
+fn are_symmetric(
+    roles: &[Role],
+    rows: &[ParameterRow],
+    offered: &FormatParameters,
+    own: &FormatParameters,
+) -> bool {
+    for place in 0..roles.len() {
+        let (o, u) = (&offered.values[place], &own.values[place]);
+        if !is_symmetric_at(roles[place], &rows[place], o, u) {
+            return false;
+        }
+    }
+    true
+}
+
+/// A value, where it belongs into the answer.
+pub(crate) fn only_if(belongs: bool, value: &Option<Vec<u8>>) -> Option<&[u8]> {
+    if belongs { bytes_of(value) } else { None }
+}
+
+/// The value of a parameter in the answer, of the offer's and our own.
+fn answered_value<'a>(
+    role: Role,
+    terms: &'a Terms,
+    offered: &'a Option<Vec<u8>>,
+    own: &'a Option<Vec<u8>>,
+) -> Option<&'a [u8]> {
+    match role {
+        Role::Configuration | Role::Inferred => bytes_of(offered),
+        Role::Level => bytes_of(&terms.level),
+        Role::HighestLevel => bytes_of(&terms.highest),
+        Role::Asymmetry => only_if(terms.asymmetric, own),
+        Role::Reordering => only_if(terms.reorders, own),
+        Role::Sets => only_if(terms.sets, own),
+        Role::LevelSets => only_if(terms.level_sets, own),
+        Role::Own => bytes_of(own),
+        Role::OperationPoint => None,
+    }
+}
+
+/// A copy of a value, if it's given.
+pub(crate) fn copy_of(value: Option<&[u8]>) -> Result<Option<Vec<u8>>, AllocError> {
+    match value {
+        Some(value) => Ok(Some(Vec::try_from_slice(value)?)),
+        None => Ok(None),
+    }
+}
+
+/// A copy of what a table doesn't have.
+fn copy_of_other(other: &OtherParameter) -> Result<OtherParameter, AllocError> {
+    let name = Vec::try_from_slice(other.name.as_slice())?;
+    let value = Vec::try_from_slice(other.value.as_slice())?;
+    Ok(OtherParameter { name, value })
+}
+
+/// A copy of those that a table doesn't have.
+fn copy_of_others(others: &[OtherParameter]) -> Result<Vec<OtherParameter>, AllocError> {
+    let mut copies = Vec::new();
+    for other in others {
+        copies.try_push(copy_of_other(other)?)?;
+    }
+    Ok(copies)
+}
+
+/// The values of the answer, on terms.
+fn answered_values(
+    roles: &[Role],
+    terms: &Terms,
+    offered: &FormatParameters,
+    own: &FormatParameters,
+) -> Result<Vec<Option<Vec<u8>>>, AllocError> {
+    let mut values = Vec::new();
+    for place in 0..roles.len() {
+        let (o, u) = (&offered.values[place], &own.values[place]);
+        values.try_push(copy_of(answered_value(roles[place], terms, o, u))?)?;
+    }
+    Ok(values)
+}
+
+/// A payload type and the parameters of its format.
+#[derive(Debug)]
+pub struct Format<P: CodecParameter> {
+    /// The payload type.
+    pub payload_type: u8,
+    /// What an `a=fmtp` line says of it.
+    pub parameters: CodecParameters<P>,
+}
+
+/// The parameters of the answer, on terms.
+fn answered<P: CodecRules>(
+    offered: &CodecParameters<P>,
+    own: &CodecParameters<P>,
+    terms: &Terms,
+) -> Result<CodecParameters<P>, AllocError> {
+    let (o, u) = (offered.parameters(), own.parameters());
+    let parameters = FormatParameters {
+        values: answered_values(P::roles(), terms, o, u)?,
+        others: copy_of_others(u.others.as_slice())?,
+    };
+    Ok(CodecParameters::of_parameters(parameters))
+}
+
+/// The terms of two formats, if they are of one configuration.
+fn common_terms<P: CodecRules>(
+    offered: &CodecParameters<P>,
+    own: &CodecParameters<P>,
+) -> Result<Option<Terms>, AllocError> {
+    if !are_symmetric(
+        P::roles(),
+        P::rows(),
+        offered.parameters(),
+        own.parameters(),
+    ) {
+        return Ok(None);
+    }
+    P::terms(offered, own)
+}
+
+/// The answer to an offered format by one of ours.
+fn answer_by<P: CodecRules>(
+    offered: &CodecParameters<P>,
+    own: &CodecParameters<P>,
+) -> Result<Option<CodecParameters<P>>, AllocError> {
+    match common_terms(offered, own)? {
+        Some(terms) => Ok(Some(answered(offered, own, &terms)?)),
+        None => Ok(None),
+    }
+}
+
+/// The answer to the parameters of an offered format, by the first of ours that gives one; `None` where
+/// none does. It is for both directions, and for unicast (RFC 6184, section 8.2.2; RFC 7798, section
+/// 7.2.2; RFC 9328, section 7.3.2).
+pub(crate) fn answer_format<P: CodecRules>(
+    offered: &CodecParameters<P>,
+    ours: &[CodecParameters<P>],
+) -> Result<Option<CodecParameters<P>>, AllocError> {
+    for own in ours {
+        if let Some(answer) = answer_by(offered, own)? {
+            return Ok(Some(answer));
+        }
+    }
+    Ok(None)
+}
+
+/// The answer to an offer: of its formats, in its order of preference, the first that one of ours
+/// answers, with its payload type; `None` where no two have a configuration in common (RFC 3264,
+/// section 6.1). To take more than one format, ask each for its answer.
+pub(crate) fn answer_to<P: CodecRules>(
+    offer: &[Format<P>],
+    ours: &[CodecParameters<P>],
+) -> Result<Option<Format<P>>, AllocError> {
+    for format in offer {
+        if let Some(parameters) = answer_format(&format.parameters, ours)? {
+            return Ok(Some(Format {
+                payload_type: format.payload_type,
+                parameters,
+            }));
+        }
+    }
+    Ok(None)
+}

@@ -1,0 +1,26 @@
+// Made from crates/h26x_fmtp/src/lib.rt by tools/to-rust.
+
+//! The grammar of an `a=fmtp` value of SDP that H.264, H.265 and H.266 share (RFC 6184, section 8;
+//! RFC 7798, section 7; RFC 9328, section 7): parameters, read and written by a table of them, the
+//! kinds of their values, NAL units in base64, and what stands in an `a=rtpmap` line.
+//!
+//! The definitions that contracts cite stand in `specs/`.
+mod error;
+pub mod kind;
+mod pairs;
+pub mod parameters;
+mod rtp_map;
+mod table;
+pub mod unit_types;
+mod units;
+
+pub use error::{Fault, ParametersError, UnitsError};
+pub use kind::{Kind, number_in};
+pub(crate) use pairs::push_pair;
+pub use pairs::{Pair, Pairs, closes, cut, pairs_of, trimmed};
+pub use parameters::{FormatParameters, OtherParameter};
+pub use rtp_map::{Encoding, RtpMap, RtpMapError};
+pub use table::{ParameterRow, row_of, same_name};
+pub use unit_types::UnitTypes;
+pub(crate) use units::write_units;
+pub use units::{read_units, split_piece};
