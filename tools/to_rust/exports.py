@@ -23,7 +23,7 @@ from .tree import (Function, Group, Refused, add_use, after, at, bare, before, c
                    is_group, is_sign, is_word, parse, words_of, written)
 
 # The crates whose outputs are C's, and of those the one that has pointers.
-REACHED = {"h26x_handles", "h26x_c"}
+REACHED = {"h26x_codes", "h26x_sdp_handles", "h26x_handles", "h26x_endpoint", "h26x_c"}
 UNSAFE = {"h26x_c"}
 NUMBERS = {"u8", "u16", "u32", "u64", "usize"}
 # What a call writes for C. `Place` is where a handle is written.
@@ -194,9 +194,9 @@ class Exports:
         kinds = {"ConstHandle": "const_handle", "Handle": "handle", "Place": "place", "Shown": "shown",
                  "Config": "access_units", "Counts": "access_units"}
         uses += [f"pub use super::{file}::{kind};" for kind, file in kinds.items() if re.search(rf"\b{kind}\b", used)]
-        below = {"Refusal": "code", "UnitTold": "access_units", "ConstraintNumbers": "sdp_values",
-                 "PointNumbers": "sdp_values"}
-        uses += [f"pub use crate::proved::h26x_handles::{file}::{kind};" for kind, file in below.items() if kind in used]
+        below = {"Refusal": "h26x_codes::code", "UnitTold": "h26x_handles::access_units",
+                 "ConstraintNumbers": "h26x_sdp_handles::sdp_values", "PointNumbers": "h26x_sdp_handles::sdp_values"}
+        uses += [f"pub use crate::proved::{file}::{kind};" for kind, file in below.items() if kind in used]
         return "\n".join([HEAD, *uses, "", *calls])
 
     def call(self, place, function):

@@ -25,8 +25,8 @@ use denote.Struct.Owning.{shape, to}
 use denote.Struct.OwningLaws.{part_in, part_out}
 use denote.Struct.Struct.{Struct}
 use Rattle.h26x_c.specs.Owned.{endpoint_lent}
-use Rattle.h26x_handles.specs.contracts.endpoint.Endpoint as held
-use Rattle.h26x_handles.proofs.endpoint.Endpoint.TheLaws as held_laws
+use Rattle.h26x_endpoint.specs.contracts.endpoint.Endpoint as held
+use Rattle.h26x_endpoint.proofs.endpoint.Endpoint.TheLaws as held_laws
 use Rattle.h26x_c.specs.contracts.const_handle.ConstHandle as handle
 
 abbrev pub B : RattleType

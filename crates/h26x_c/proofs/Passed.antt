@@ -11,8 +11,8 @@ use Rattle.std_alloc.proofs.BoxSteps.Form.{Bx}
 use Rattle.std_heap.specs.contracts.Global as heap
 use Rattle.std_heap.proofs.Global.TheLaws as heap_laws
 use Rattle.std_heap.specs.contracts.GlobalAllocator.TheImpl.{dict, ghosts}
-use Rattle.h26x_handles.specs.contracts.endpoint.Endpoint as held
-use Rattle.h26x_handles.proofs.endpoint.Endpoint.TheLaws as held_laws
+use Rattle.h26x_endpoint.specs.contracts.endpoint.Endpoint as held
+use Rattle.h26x_endpoint.proofs.endpoint.Endpoint.TheLaws as held_laws
 use Rattle.h26x_c.proofs.Destruct++none.drop.Symbol.{symbol as #none}
 
 abbrev pub X : RattleType

@@ -4,10 +4,10 @@ use Rattle.std.specs.Option.{unwrap_or}
 use Rattle.h26x_cut.specs.Cutting.{AreUnits}
 use Rattle.h26x_codec.specs.Codec.{zero_rule}
 use Rattle.h26x_codec.specs.declared.codec.Codec.{Codec}
-use Rattle.h26x_handles.specs.Codes.{out_of_memory}
-use Rattle.h26x_handles.specs.Sdp.{sdp_of_units}
-use Rattle.h26x_handles.specs.declared.sdp.SdpEndpoint.{SdpEndpoint}
-use Rattle.h26x_handles.specs.declared.endpoint.Endpoint.{Endpoint}
+use Rattle.h26x_codes.specs.Codes.{out_of_memory}
+use Rattle.h26x_sdp_handles.specs.Sdp.{sdp_of_units}
+use Rattle.h26x_sdp_handles.specs.declared.sdp.SdpEndpoint.{SdpEndpoint}
+use Rattle.h26x_endpoint.specs.declared.endpoint.Endpoint.{Endpoint}
 use Rattle.h26x_c.specs.Sdp.{IsMade}
 
 -- a code that is that of what should be answered, or want of memory

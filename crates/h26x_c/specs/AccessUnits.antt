@@ -7,12 +7,12 @@ use Rattle.h26x_c.specs.declared.access_units.Config.{Config}
 use Rattle.h26x_c.specs.declared.access_units.Counts.{Counts}
 use Rattle.h26x_codec.specs.declared.codec.Codec.{Codec}
 use Rattle.h26x_model.specs.Where.{Where}
-use Rattle.h26x_handles.specs.AccessUnits.{endpoint_units}
-use Rattle.h26x_handles.specs.Codes.{ok, out_of_memory}
+use Rattle.h26x_endpoint.specs.EndpointStates.{endpoint_units}
+use Rattle.h26x_codes.specs.Codes.{ok, out_of_memory}
 use Rattle.h26x_handles.specs.UnitsState.{UnitsState, units_codec_or_code, fresh_access_units, next_numbers, pushed_numbers, units_push_answer, IsUnitsPushed, IsUnitGiven}
 use Rattle.h26x_handles.specs.declared.access_units.NextAnswer.{NextAnswer}
 use Rattle.h26x_handles.specs.declared.access_units.UnitTold.{UnitTold}
-use Rattle.h26x_handles.specs.declared.endpoint.Endpoint.{Endpoint}
+use Rattle.h26x_endpoint.specs.declared.endpoint.Endpoint.{Endpoint}
 
 -- the settings of a receiver
 abbrev pub units_config : Config → AccessUnitConfig

@@ -4,10 +4,10 @@ use Rattle.h26x_core.specs.declared.error.PacketError.{PacketError}
 use Rattle.h26x_model.specs.Receive.DepacketizerState.{Depacketization, IsPacketOutcome}
 use Rattle.h26x_receiver.specs.declared.received.Received.{Received}
 use Rattle.h26x_receiver.specs.Sequenced.{SequencedDepacketization, IsSequencedAnswer}
-use Rattle.h26x_handles.specs.Codes.{outcome_of, SaysAnswer}
+use Rattle.h26x_codes.specs.Codes.{outcome_of, SaysAnswer}
 use Rattle.h26x_handles.specs.Endpoint.{SequencedEndpoint}
-use Rattle.h26x_handles.specs.States.{endpoint_receiver, endpoint_at_work}
-use Rattle.h26x_handles.specs.declared.endpoint.Endpoint.{Endpoint}
+use Rattle.h26x_endpoint.specs.EndpointStates.{endpoint_receiver, endpoint_at_work}
+use Rattle.h26x_endpoint.specs.declared.endpoint.Endpoint.{Endpoint}
 
 -- the code and its two numbers say an outcome, and the packet may have that one
 abbrev pub IsAnswer : Depacketization → List ℕ → ℕ → ℕ → ℕ → Type 0

@@ -5,10 +5,10 @@ use Rattle.h26x_model.specs.Receive.DepacketizerState.{Depacketization}
 use Rattle.h26x_model.specs.Where.{Where}
 use Rattle.h26x_codec.specs.declared.codec.Codec.{Codec}
 use Rattle.h26x_receiver.specs.Sequenced.{SequencedDepacketization}
-use Rattle.h26x_handles.specs.Codes.{may_have_donl, says_taken, ok, out_of_memory}
-use Rattle.h26x_handles.specs.Copies.{AreHandedOver}
-use Rattle.h26x_handles.specs.States.{endpoint_packetizer_state, endpoint_after_told_packet, endpoint_after_packet, endpoint_written, endpoint_codec, endpoint_showing, endpoint_without_output}
-use Rattle.h26x_handles.specs.declared.endpoint.Endpoint.{Endpoint}
+use Rattle.h26x_codes.specs.Codes.{may_have_donl, says_taken, ok, out_of_memory}
+use Rattle.h26x_codes.specs.Copies.{AreHandedOver}
+use Rattle.h26x_endpoint.specs.EndpointStates.{endpoint_packetizer_state, endpoint_after_told_packet, endpoint_after_packet, endpoint_written, endpoint_codec, endpoint_showing, endpoint_without_output}
+use Rattle.h26x_endpoint.specs.declared.endpoint.Endpoint.{Endpoint}
 
 -- a call that makes something of a codec, where there is one, put this where the handle is written
 abbrev pub Makes : {T : Type 0} → Result Codec ℕ → ℕ → Option T → (Codec → T) → Type 0

@@ -2,9 +2,9 @@
 use base.Fml.{Fml}
 use Rattle.std.specs.Borrow.{MutBor, Lends}
 use Rattle.h26x_c.specs.declared.handle.Handle.{Handle}
-use Rattle.h26x_handles.specs.declared.endpoint.Endpoint.{Endpoint}
+use Rattle.h26x_endpoint.specs.declared.endpoint.Endpoint.{Endpoint}
 use Rattle.h26x_c.specs.contracts.handle.Handle as Handle
-use Rattle.h26x_handles.specs.contracts.endpoint.Endpoint as Endpoint
+use Rattle.h26x_endpoint.specs.contracts.endpoint.Endpoint as Endpoint
 
 -- the handle once this is what it holds
 abbrev pub handle_with : Handle → Endpoint → Handle

@@ -8,7 +8,7 @@ use Rattle.std.specs.Box.Ownership.{box_owns}
 use Rattle.std.specs.Global.{Global}
 use Rattle.std.specs.Coded.{coded_option}
 use Rattle.std_heap.specs.contracts.GlobalAllocator.TheImpl.{ghosts}
-use Rattle.h26x_handles.specs.contracts.endpoint.Endpoint as Endpoint
+use Rattle.h26x_endpoint.specs.contracts.endpoint.Endpoint as Endpoint
 
 abbrev pub endpoint_owned : Global → Ptr → Endpoint.the_row.Denot → Fml
 endpoint_owned alloc = box_owns (ghosts.dealloc_token alloc) Endpoint.the_row

@@ -7,19 +7,19 @@ use Rattle.h26x_fmtp.specs.Pairs.{Pair}
 use Rattle.h26x_fmtp.specs.RtpMaps.{rtp_map_text}
 use Rattle.h26x_fmtp.specs.declared.rtp_map.RtpMap.{RtpMap}
 use Rattle.h26x_fmtp.specs.declared.rtp_map.RtpMapError.{RtpMapError}
-use Rattle.h26x_handles.specs.Codes.{codec_with_number, ok, out_of_memory, unknown_codec, wrong_end, no_room}
-use Rattle.h26x_handles.specs.Copies.{with_front, with_first}
-use Rattle.h26x_handles.specs.SdpCodes.{absent, no_payload_type, refused_with, point_refused_with, rtp_map_code, codec_number, encoding_codec, codec_encoding}
-use Rattle.h26x_handles.specs.Sdp.{sdp_codec, sdp_answer, sdp_units, sdp_others}
-use Rattle.h26x_handles.specs.SdpValues.{sdp_points, constraints_bytes, constraint_numbers}
-use Rattle.h26x_handles.specs.declared.sdp_code.PointRefused.{PointRefused}
-use Rattle.h26x_handles.specs.declared.sdp_code.Refused.{Refused}
-use Rattle.h26x_handles.specs.declared.sdp_values.SdpConstraints.{SdpConstraints}
-use Rattle.h26x_handles.specs.declared.sdp_values.ConstraintNumbers.{ConstraintNumbers}
-use Rattle.h26x_handles.specs.declared.sdp_values.PointNumbers.{PointNumbers}
-use Rattle.h26x_handles.specs.declared.sdp.SdpEndpoint.{SdpEndpoint}
-use Rattle.h26x_handles.specs.declared.endpoint.Endpoint.{Endpoint}
-use Rattle.h26x_handles.specs.declared.endpoint.Endpoint.TheVariants as e
+use Rattle.h26x_codes.specs.Codes.{codec_with_number, ok, out_of_memory, unknown_codec, wrong_end, no_room}
+use Rattle.h26x_codes.specs.Copies.{with_front, with_first}
+use Rattle.h26x_sdp_handles.specs.SdpCodes.{absent, no_payload_type, refused_with, point_refused_with, rtp_map_code, codec_number, encoding_codec, codec_encoding}
+use Rattle.h26x_sdp_handles.specs.Sdp.{sdp_codec, sdp_answer, sdp_units, sdp_others}
+use Rattle.h26x_sdp_handles.specs.SdpValues.{sdp_points, constraints_bytes, constraint_numbers}
+use Rattle.h26x_sdp_handles.specs.declared.sdp_code.PointRefused.{PointRefused}
+use Rattle.h26x_sdp_handles.specs.declared.sdp_code.Refused.{Refused}
+use Rattle.h26x_sdp_handles.specs.declared.sdp_values.SdpConstraints.{SdpConstraints}
+use Rattle.h26x_sdp_handles.specs.declared.sdp_values.ConstraintNumbers.{ConstraintNumbers}
+use Rattle.h26x_sdp_handles.specs.declared.sdp_values.PointNumbers.{PointNumbers}
+use Rattle.h26x_sdp_handles.specs.declared.sdp.SdpEndpoint.{SdpEndpoint}
+use Rattle.h26x_endpoint.specs.declared.endpoint.Endpoint.{Endpoint}
+use Rattle.h26x_endpoint.specs.declared.endpoint.Endpoint.TheVariants as e
 
 -- whether format parameters stand behind a handle
 abbrev pub is_sdp : Endpoint → Bool

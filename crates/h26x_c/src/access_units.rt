@@ -4,10 +4,10 @@ ghost use Rattle.std.specs.Prelude.{◌≡◌, ◌≢◌, ◌⊎◌, ◌<◌, �
 ghost use Rattle.h26x_model.specs.Where.{Where};
 ghost use Rattle.h26x_codec.specs.declared.codec.Codec.{Codec};
 ghost use Rattle.h26x_reorder.specs.Rtp.{rtp_body};
-ghost use Rattle.h26x_handles.specs.AccessUnits.{is_access_units, endpoint_units, endpoint_deadline, endpoint_missing, place_units};
+ghost use Rattle.h26x_endpoint.specs.EndpointStates.{is_access_units, endpoint_units, endpoint_deadline, endpoint_missing, place_units};
 ghost use Rattle.h26x_handles.specs.UnitsState.{UnitsState, units_finished, units_restarted, IsOutOfMemory};
-ghost use Rattle.h26x_handles.specs.Codes.{ok, out_of_memory, wrong_end};
-ghost use Rattle.h26x_handles.specs.Copies.{with_first};
+ghost use Rattle.h26x_codes.specs.Codes.{ok, out_of_memory, wrong_end};
+ghost use Rattle.h26x_codes.specs.Copies.{with_first};
 ghost use Rattle.h26x_c.specs.AccessUnits.{config_codec_or_code, fresh_units_with, units_config, counts_told, TellsPush, IsPushedTo, IsNextOf};
 ghost use Rattle.h26x_c.specs.Endpoints.{Makes};
 
@@ -15,11 +15,11 @@ use crate::const_handle::ConstHandle;
 use crate::handle::Handle;
 use crate::place::{Place, put};
 use h26x_access_units::{self, AccessUnitConfig};
+use h26x_codes::code::{OK, OUT_OF_MEMORY, WRONG_END};
+use h26x_endpoint::endpoint::Endpoint;
 use h26x_handles::access_units::{
     AccessUnitEndpoint, GivesUnits, UnitTold, code_of_next, numbers_of_push, units_codec_wanted,
 };
-use h26x_handles::code::{OK, OUT_OF_MEMORY, WRONG_END};
-use h26x_handles::endpoint::Endpoint;
 use h26x_reorder::RtpPacket;
 use std::alloc::Global;
 

@@ -1,10 +1,10 @@
 //! What C holds of an endpoint that a call only looks at.
 
 ghost use Rattle.std.specs.Prelude.{◌≡◌, ℕ};
-ghost use Rattle.h26x_handles.specs.declared.endpoint.Endpoint.{Endpoint};
+ghost use Rattle.h26x_endpoint.specs.declared.endpoint.Endpoint.{Endpoint};
 ghost use Rattle.h26x_c.specs.Owned.{endpoint_lent, endpoint_coded};
 
-use h26x_handles::endpoint::Endpoint;
+use h26x_endpoint::endpoint::Endpoint;
 use std::marker::Model;
 
 /// A handle behind C's `const`. Its endpoint is lent, so that no call changes it meanwhile.

@@ -1,12 +1,12 @@
 //! What C holds of an endpoint: the pointer of a box.
 
 ghost use Rattle.std.specs.Prelude.{◌≡◌};
-ghost use Rattle.h26x_handles.specs.declared.endpoint.Endpoint.{Endpoint};
+ghost use Rattle.h26x_endpoint.specs.declared.endpoint.Endpoint.{Endpoint};
 ghost use Rattle.h26x_c.specs.Owned.{endpoint_owned, endpoint_coded};
 
 mod lends;
 
-use h26x_handles::endpoint::Endpoint;
+use h26x_endpoint::endpoint::Endpoint;
 use std::alloc::Global;
 use std::marker::Model;
 

@@ -2,12 +2,12 @@
 
 ghost use Rattle.std.specs.Prelude.{◌≡◌, ◌≢◌, ◌⊎◌, ◌≤◌, ◌<◌, length};
 ghost use Rattle.h265_packets.specs.Paci.{paci_packet};
-ghost use Rattle.h26x_handles.specs.Codes.{ok, short_packet, extension_too_long, out_of_memory};
-ghost use Rattle.h26x_handles.specs.Copies.{with_front};
+ghost use Rattle.h26x_codes.specs.Codes.{ok, short_packet, extension_too_long, out_of_memory};
+ghost use Rattle.h26x_codes.specs.Copies.{with_front};
 
+use h26x_codes::code::{EXTENSION_TOO_LONG, OK, OUT_OF_MEMORY, SHORT_PACKET};
+use h26x_codes::copy::copy_where_room;
 use h26x_core::PacketError;
-use h26x_handles::code::{EXTENSION_TOO_LONG, OK, OUT_OF_MEMORY, SHORT_PACKET};
-use h26x_handles::copy::copy_where_room;
 use h265_packets::H265PACIPacket;
 use std::alloc::Global;
 

@@ -3,12 +3,12 @@
 ghost use Rattle.std.specs.Prelude.{◌≡◌};
 ghost use Rattle.h26x_core.specs.Hint.{size_hint};
 ghost use Rattle.h264_payload.specs.H264.{detects};
-ghost use Rattle.h26x_handles.specs.Codes.{codec_with_number};
+ghost use Rattle.h26x_codes.specs.Codes.{codec_with_number};
 ghost use Rattle.h26x_c.specs.Packets.{is_head_of, is_tail_of, is_key_of, with_units_header};
 
 use h26x_codec::Codec;
+use h26x_codes::code::codec_of;
 use h26x_core::Depacketizer;
-use h26x_handles::code::codec_of;
 use h264_payload::{H264Depacketizer, detect_h264_keyframe, detect_h264_nalu};
 use h265_payload::{H265Depacketizer, detect_h265_keyframe, set_lowest_header};
 use h266_payload::{H266Depacketizer, detect_h266_keyframe};

@@ -1,12 +1,12 @@
 //! Where a call writes a handle.
 
 ghost use Rattle.std.specs.Prelude.{◌≡◌, ◌≢◌, ◌⊎◌, Option, Some};
-ghost use Rattle.h26x_handles.specs.declared.endpoint.Endpoint.{Endpoint};
-ghost use Rattle.h26x_handles.specs.Codes.{ok, out_of_memory};
+ghost use Rattle.h26x_endpoint.specs.declared.endpoint.Endpoint.{Endpoint};
+ghost use Rattle.h26x_codes.specs.Codes.{ok, out_of_memory};
 ghost use Rattle.h26x_c.specs.Owned.{place_owned, place_coded};
 
-use h26x_handles::code::{OK, OUT_OF_MEMORY};
-use h26x_handles::endpoint::Endpoint;
+use h26x_codes::code::{OK, OUT_OF_MEMORY};
+use h26x_endpoint::endpoint::Endpoint;
 use std::alloc::Global;
 use std::marker::Model;
 

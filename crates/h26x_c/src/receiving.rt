@@ -6,21 +6,21 @@ ghost use Rattle.h26x_codec.specs.Codec.{codec_format, fresh_depacketizer_state}
 ghost use Rattle.h26x_codec.specs.declared.codec.Codec.{Codec};
 ghost use Rattle.h26x_c.specs.Answers.{IsAnswer};
 ghost use Rattle.h26x_c.specs.Endpoints.{Makes, IfDepacketized, HandsOver, IsSameShowing};
-ghost use Rattle.h26x_handles.specs.Codes.{codec_or_code, may_have_donl, extra_number, ok, out_of_memory, wrong_end, not_of_this_codec};
-ghost use Rattle.h26x_handles.specs.Copies.{with_front};
-ghost use Rattle.h26x_handles.specs.States.{is_receiving, endpoint_depacketizer_state, endpoint_depacketization, endpoint_written, endpoint_codec, fresh_receiving_endpoint, endpoint_without_output, are_same_endpoints, endpoint_without_run, endpoint_with_donl};
+ghost use Rattle.h26x_codes.specs.Codes.{codec_or_code, may_have_donl, extra_number, ok, out_of_memory, wrong_end, not_of_this_codec};
+ghost use Rattle.h26x_codes.specs.Copies.{with_front};
+ghost use Rattle.h26x_endpoint.specs.EndpointStates.{is_receiving, endpoint_depacketizer_state, endpoint_depacketization, endpoint_written, endpoint_codec, fresh_receiving_endpoint, endpoint_without_output, are_same_endpoints, endpoint_without_run, endpoint_with_donl};
 
 use crate::const_handle::ConstHandle;
 use crate::handle::Handle;
 use crate::place::{Place, put};
 use h26x_codec::Codec;
-use h26x_depacketizer::RunDepacketizer;
-use h26x_handles::code::{
+use h26x_codes::code::{
     NOT_OF_THIS_CODEC, OK, OUT_OF_MEMORY, Refusal, WRONG_END, code_of, codec_wanted, extra_of,
     may_have_donl, number_of,
 };
-use h26x_handles::copy::copy_where_room;
-use h26x_handles::endpoint::Endpoint;
+use h26x_codes::copy::copy_where_room;
+use h26x_depacketizer::RunDepacketizer;
+use h26x_endpoint::endpoint::Endpoint;
 use h26x_handles::receiving::ReceivingEndpoint;
 use std::alloc::Global;
 

@@ -5,14 +5,14 @@ ghost use Rattle.std.specs.List.{list_all};
 ghost use Rattle.h26x_cut.specs.Cutting.{AreUnits};
 ghost use Rattle.h26x_cut.specs.declared.ZeroRule.TheVariants.{All};
 ghost use Rattle.h26x_fmtp.specs.RtpMaps.{rtp_map_of};
-ghost use Rattle.h26x_handles.specs.Codes.{out_of_memory};
+ghost use Rattle.h26x_codes.specs.Codes.{out_of_memory};
 ghost use Rattle.h26x_c.specs.Endpoints.{GivesOrOutOfMemory};
 ghost use Rattle.h26x_c.specs.Sdp.{rtp_map_answer, rtp_map_or_code, copy_answer, rtp_map_text_or_code};
 
 use crate::copied::copy_out;
+use h26x_codes::code::{OK, OUT_OF_MEMORY, UNKNOWN_CODEC, codec_of};
 use h26x_fmtp::RtpMap;
-use h26x_handles::code::{OK, OUT_OF_MEMORY, UNKNOWN_CODEC, codec_of};
-use h26x_handles::sdp_code::{
+use h26x_sdp_handles::sdp_code::{
     PAYLOAD_TYPE, codec_of_encoding, encoding_of_codec, number_of_codec, of_rtp_map,
 };
 use h26x_stream_parameters::fits_single_units;

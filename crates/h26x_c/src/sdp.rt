@@ -4,12 +4,12 @@ ghost use Rattle.std.specs.Prelude.{◌≡◌, ◌≢◌, ◌⊎◌, ◌&&◌, �
 ghost use Rattle.h26x_model.specs.Where.{Where};
 ghost use Rattle.h26x_codec.specs.declared.codec.Codec.{Codec};
 ghost use Rattle.h26x_fmtp.specs.Pairs.{Pair};
-ghost use Rattle.h26x_handles.specs.declared.sdp_code.PointRefused.{PointRefused};
-ghost use Rattle.h26x_handles.specs.declared.sdp_code.Refused.{Refused};
-ghost use Rattle.h26x_handles.specs.Codes.{codec_with_number, ok, out_of_memory, unknown_codec, wrong_end};
-ghost use Rattle.h26x_handles.specs.Copies.{with_front};
-ghost use Rattle.h26x_handles.specs.Sdp.{sdp_read, sdp_of_units, OfPayloadUnits, sdp_text, sdp_value, sdp_number, sdp_max_don_diff};
-ghost use Rattle.h26x_handles.specs.SdpValues.{sdp_constraints};
+ghost use Rattle.h26x_sdp_handles.specs.declared.sdp_code.PointRefused.{PointRefused};
+ghost use Rattle.h26x_sdp_handles.specs.declared.sdp_code.Refused.{Refused};
+ghost use Rattle.h26x_codes.specs.Codes.{codec_with_number, ok, out_of_memory, unknown_codec, wrong_end};
+ghost use Rattle.h26x_codes.specs.Copies.{with_front};
+ghost use Rattle.h26x_sdp_handles.specs.Sdp.{sdp_read, sdp_of_units, OfPayloadUnits, sdp_text, sdp_value, sdp_number, sdp_max_don_diff};
+ghost use Rattle.h26x_sdp_handles.specs.SdpValues.{sdp_constraints};
 ghost use Rattle.h26x_c.specs.Endpoints.{GivesOrOutOfMemory};
 ghost use Rattle.h26x_c.specs.Sdp.{IsMade, without_place, IsRefused, is_sdp, endpoint_answer, endpoint_sdp_codec, copy_answer, at_sdp, number_answer, units_count, endpoint_sdp_units, nth_unit, pair_code, endpoint_other, constraints_answer, points_answer, endpoint_sdp_points};
 
@@ -17,14 +17,14 @@ use crate::const_handle::ConstHandle;
 use crate::copied::copy_out;
 use crate::handle::Handle;
 use crate::place::{Place, put};
-use h26x_handles::code::{NO_ROOM, OK, OUT_OF_MEMORY, Refusal, UNKNOWN_CODEC, WRONG_END, codec_of};
-use h26x_handles::copy::{copy_first, copy_where_room};
-use h26x_handles::endpoint::Endpoint;
-use h26x_handles::sdp::SdpEndpoint;
-use h26x_handles::sdp_code::{
+use h26x_codes::code::{NO_ROOM, OK, OUT_OF_MEMORY, Refusal, UNKNOWN_CODEC, WRONG_END, codec_of};
+use h26x_codes::copy::{copy_first, copy_where_room};
+use h26x_endpoint::endpoint::Endpoint;
+use h26x_sdp_handles::sdp::SdpEndpoint;
+use h26x_sdp_handles::sdp_code::{
     ABSENT, PointRefused, Refused, number_of_codec, point_refused_with, refused_with,
 };
-use h26x_handles::sdp_values::{ConstraintNumbers, PointNumbers};
+use h26x_sdp_handles::sdp_values::{ConstraintNumbers, PointNumbers};
 use std::alloc::Global;
 
 /// Tells the place of a refusal; its code.

@@ -5,21 +5,22 @@ ghost use Rattle.std.specs.List.{concat};
 ghost use Rattle.h26x_model.specs.Send.PacketizerState.{next_packets, after_payload, payload_has_no_effect, one_unit_items, one_unit_packets, after_one_unit};
 ghost use Rattle.h26x_codec.specs.Codec.{codec_format, fresh_packetizer_state};
 ghost use Rattle.h26x_codec.specs.declared.codec.Codec.{Codec};
-ghost use Rattle.h26x_handles.specs.Codes.{codec_or_code, may_have_donl, ok, out_of_memory, wrong_end, not_of_this_codec, out_of_range};
-ghost use Rattle.h26x_handles.specs.Copies.{with_front, nth_packet, AreCopied};
+ghost use Rattle.h26x_codes.specs.Codes.{codec_or_code, may_have_donl, ok, out_of_memory, wrong_end, not_of_this_codec, out_of_range};
+ghost use Rattle.h26x_codes.specs.Copies.{with_front, nth_packet, AreCopied};
 ghost use Rattle.h26x_c.specs.Endpoints.{Makes, HasPacketizer, WherePacketizer, OnceDone, WhereDonl};
 ghost use Rattle.h26x_handles.specs.PlacementAnswer.{AreCounted, IsPlacementAnswer};
-ghost use Rattle.h26x_handles.specs.States.{endpoint_packetizer_state, endpoint_packets, endpoint_codec, endpoint_headers, endpoint_lowest_header, place_packetizer_state, place_packets, place_lowest_header, endpoint_without_output, headed_packets, state_with_donl};
+ghost use Rattle.h26x_handles.specs.States.{headed_packets, state_with_donl};
+ghost use Rattle.h26x_endpoint.specs.EndpointStates.{endpoint_packetizer_state, endpoint_packets, endpoint_codec, endpoint_headers, endpoint_lowest_header, place_packetizer_state, place_packets, place_lowest_header, endpoint_without_output};
 
 use crate::const_handle::ConstHandle;
 use crate::handle::Handle;
 use crate::place::{Place, put};
-use h26x_handles::code::{
+use h26x_codes::code::{
     NOT_OF_THIS_CODEC, OK, OUT_OF_MEMORY, OUT_OF_RANGE, WRONG_END, code_of_placement, codec_wanted,
     may_have_donl,
 };
-use h26x_handles::copy::copy_where_room;
-use h26x_handles::endpoint::Endpoint;
+use h26x_codes::copy::copy_where_room;
+use h26x_endpoint::endpoint::Endpoint;
 use h26x_handles::sending::SendingEndpoint;
 use std::alloc::Global;
 

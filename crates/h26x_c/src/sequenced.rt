@@ -7,17 +7,18 @@ ghost use Rattle.h26x_codec.specs.declared.codec.Codec.{Codec};
 ghost use Rattle.h26x_c.specs.Answers.{IsReceiverCode};
 ghost use Rattle.h26x_c.specs.Endpoints.{Makes, IfReceived, HandsOver, IsSameShowing};
 ghost use Rattle.h26x_receiver.specs.Sequenced.{skip_answer};
-ghost use Rattle.h26x_handles.specs.Codes.{codec_or_code, may_have_donl, extra_number, ok, out_of_memory, wrong_end, not_of_this_codec, says_taken, received_numbers};
-ghost use Rattle.h26x_handles.specs.States.{is_sequenced, endpoint_receiver, receiver_run_len, endpoint_receiver_state, endpoint_expected, endpoint_run_len, endpoint_codec, fresh_sequenced_endpoint, endpoint_without_output, endpoint_restarted, endpoint_after_skip, endpoint_with_donl, endpoint_with_avc};
+ghost use Rattle.h26x_codes.specs.Codes.{codec_or_code, may_have_donl, extra_number, ok, out_of_memory, wrong_end, not_of_this_codec, says_taken, received_numbers};
+ghost use Rattle.h26x_handles.specs.States.{receiver_run_len};
+ghost use Rattle.h26x_endpoint.specs.EndpointStates.{is_sequenced, endpoint_receiver, endpoint_receiver_state, endpoint_expected, endpoint_run_len, endpoint_codec, fresh_sequenced_endpoint, endpoint_without_output, endpoint_restarted, endpoint_after_skip, endpoint_with_donl, endpoint_with_avc};
 
 use crate::const_handle::ConstHandle;
 use crate::handle::Handle;
 use crate::place::{Place, put};
-use h26x_handles::code::{
+use h26x_codes::code::{
     NOT_OF_THIS_CODEC, OK, OUT_OF_MEMORY, Refusal, WRONG_END, code_of, codec_wanted, extra_of,
     may_have_donl, number_of, numbers_of,
 };
-use h26x_handles::endpoint::Endpoint;
+use h26x_endpoint::endpoint::Endpoint;
 use h26x_handles::sequenced::SequencedEndpoint;
 use std::alloc::Global;
 

@@ -4,15 +4,16 @@ ghost use Rattle.std.specs.Prelude.{◌≡◌, ◌≢◌, true, false, [], ◌++
 ghost use Rattle.h26x_model.specs.Where.{Where};
 ghost use Rattle.h265_packets.specs.declared.payload.H265Payload.{H265Payload};
 ghost use Rattle.h26x_codec.specs.AnyDepacketizer.{any_depacketizer_shown};
-ghost use Rattle.h26x_handles.specs.Codes.{ok, wrong_end, not_of_this_codec};
-ghost use Rattle.h26x_handles.specs.Copies.{with_front};
-ghost use Rattle.h26x_handles.specs.Shown.{shows_packets, part_without_don, first_part, other_part, payload_parts, payload_kind_number, payload_header, payload_word, nth_part, don_number, endpoint_shown, any_depacketizer_parts, endpoint_parts};
+ghost use Rattle.h26x_codes.specs.Codes.{ok, wrong_end, not_of_this_codec};
+ghost use Rattle.h26x_codes.specs.Copies.{with_front};
+ghost use Rattle.h26x_handles.specs.Shown.{part_without_don, first_part, other_part, payload_parts, payload_kind_number, payload_header, payload_word, nth_part, don_number, any_depacketizer_parts};
+ghost use Rattle.h26x_endpoint.specs.EndpointStates.{shows_packets, endpoint_shown, endpoint_parts};
 
 use crate::const_handle::ConstHandle;
 use h26x_codec::AnyDepacketizer;
-use h26x_handles::code::{NOT_OF_THIS_CODEC, OK, WRONG_END};
-use h26x_handles::copy::copy_where_room;
-use h26x_handles::endpoint::Endpoint;
+use h26x_codes::code::{NOT_OF_THIS_CODEC, OK, WRONG_END};
+use h26x_codes::copy::copy_where_room;
+use h26x_endpoint::endpoint::Endpoint;
 use h265_packets::{H265AggregationPacket, H265AggregationUnit, H265Payload};
 
 /// What is told where no number was read before a part.

@@ -5,10 +5,10 @@ ghost use Rattle.h26x_model.specs.Where.{Where};
 ghost use Rattle.h26x_cut.specs.Cutting.{IsNextUnit};
 ghost use Rattle.h26x_codec.specs.Codec.{codec_format};
 ghost use Rattle.h26x_codec.specs.Plain.{IsPlainUnit};
-ghost use Rattle.h26x_handles.specs.Codes.{codec_with_number};
+ghost use Rattle.h26x_codes.specs.Codes.{codec_with_number};
 
+use h26x_codes::code::codec_of;
 use h26x_cut::next_unit;
-use h26x_handles::code::codec_of;
 
 /// Where the next unit of a payload stands, from a place on.
 #[unsafe(no_mangle)]

@@ -14,9 +14,9 @@ use Rattle.h26x_packetizer.proofs.BufferLemmas.{start_le_last, between_long, pac
 use Rattle.h26x_packetizer.proofs.PlacementLemmas.{size_next, size_of_first}
 use Rattle.h265_payload.specs.LowestHeader.{with_lowest_header, with_lowest_headers}
 use Rattle.h265_payload.proofs.LowestLemmas.{is_headed}
-use Rattle.h26x_handles.specs.Copies.{end_offsets}
+use Rattle.h26x_codes.specs.Copies.{end_offsets}
 use Rattle.h26x_handles.specs.Headers.{under_headers}
-use Rattle.h26x_handles.proofs.CopyLemmas.{end_at}
+use Rattle.h26x_codes.proofs.CopyLemmas.{end_at}
 
 -- packets of which the first ones, so many, were written anew
 abbrev pub anew : (List ℕ → List ℕ) → ℕ → List (List ℕ) → List (List ℕ)

@@ -1,11 +1,6 @@
 pub mod AccessUnitLemmas
-pub mod CopyLemmas
-pub mod ErrorLemmas
 pub mod HeaderLemmas
 pub mod MemoryLemmas
 pub mod NumberLemmas
-pub mod ParameterLemmas
-pub mod SdpValueLemmas
 pub mod SkipLemmas
-pub mod KeptUnitsLemmas
 pub mod UnitCaseLemmas

@@ -7,8 +7,8 @@ use Rattle.h26x_depacketizer.specs.UnitSink.{memory_sink, grown_to}
 use Rattle.h26x_receiver.specs.declared.received.Received.{Received}
 use Rattle.h26x_receiver.specs.declared.received.Received.TheVariants.{InOrder, Gap, TooLong, Late}
 use Rattle.h26x_receiver.specs.Sequenced.{SequencedDepacketization, is_taken, after_answer, after_taken_packet}
-use Rattle.h26x_handles.specs.Copies.{with_front}
-use Rattle.h26x_handles.proofs.CopyLemmas.{copied_there}
+use Rattle.h26x_codes.specs.Copies.{with_front}
+use Rattle.h26x_codes.proofs.CopyLemmas.{copied_there}
 
 -- what was written stands at the front, and behind it what stood there
 pub written_to_front : (len : ℕ) (old new : List ℕ) (a b : GName) → len ≤ length new → length new ≡ length old →

@@ -1,13 +1,7 @@
-pub mod Codes
-pub mod Copies
 pub mod Headers
 pub mod Endpoint
 pub mod States
-pub mod SdpCodes
-pub mod Sdp
-pub mod SdpValues
 pub mod Shown
 pub mod PlacementAnswer
 pub mod UnitsState
 pub mod AccessUnits
-pub mod KeptUnits

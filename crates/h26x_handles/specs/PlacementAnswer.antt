@@ -1,7 +1,7 @@
 -- What is answered of packets that were to go into a caller's memory.
 use Rattle.std.specs.Prelude.{◌≡◌, ◌⊎◌, ℕ, List}
 use Rattle.h26x_packetizer.specs.Placement.{ArePlaced, HaveNoRoom, IsSizeOf}
-use Rattle.h26x_handles.specs.Codes.{ok, no_room, out_of_memory}
+use Rattle.h26x_codes.specs.Codes.{ok, no_room, out_of_memory}
 
 -- how many packets there are, and their bytes
 abbrev pub AreCounted : ℕ → List (List ℕ) → ℕ → ℕ → Type 0

@@ -1,11 +1,9 @@
 -- What a depacketizer of H.265 shows, in numbers and parts.
-use Rattle.std.specs.Prelude.{ℕ, Bool, true, false, List, [], ◌∷◌, ◌++◌, map, Option, Some, None}
+use Rattle.std.specs.Prelude.{ℕ, List, [], ◌∷◌, ◌++◌, map, Option, Some, None}
 use Rattle.std.specs.List.{slice_get}
 use Rattle.h265_packets.specs.Payload.{FirstUnit, OtherUnit}
 use Rattle.h265_packets.specs.declared.payload.H265Payload.{H265Payload}
 use Rattle.h265_packets.specs.declared.payload.H265Payload.TheVariants as p
-use Rattle.h26x_handles.specs.declared.endpoint.Endpoint.{Endpoint}
-use Rattle.h26x_handles.specs.declared.endpoint.Endpoint.TheVariants as e
 use Rattle.h26x_codec.specs.AnyDepacketizer.{any_depacketizer_shown}
 use Rattle.h26x_codec.specs.declared.any_depacketizer.AnyDepacketizer.{AnyDepacketizer}
 
@@ -72,21 +70,3 @@ don_number (Some number) = number
 abbrev pub any_depacketizer_parts : AnyDepacketizer → List Part
 any_depacketizer_parts depacketizer = elim (any_depacketizer_shown depacketizer)
     [ None ↦ [] | Some it ↦ payload_parts it ]
-
--- whether it is a depacketizer or a receiver of packets, whose packets can be shown
-abbrev pub shows_packets : Endpoint → Bool
-shows_packets (e.Receiving it) = true
-shows_packets (e.Sequenced it) = true
-shows_packets it = false
-
--- what an endpoint shows
-abbrev pub endpoint_shown : Endpoint → Option H265Payload
-endpoint_shown (e.Receiving it) = any_depacketizer_shown it.depacketizer
-endpoint_shown (e.Sequenced it) = any_depacketizer_shown it.depacketizer
-endpoint_shown it = None
-
--- the parts of what an endpoint shows
-abbrev pub endpoint_parts : Endpoint → List Part
-endpoint_parts (e.Receiving it) = any_depacketizer_parts it.depacketizer
-endpoint_parts (e.Sequenced it) = any_depacketizer_parts it.depacketizer
-endpoint_parts it = []

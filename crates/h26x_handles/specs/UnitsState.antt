@@ -11,8 +11,8 @@ use Rattle.h26x_access_units.specs.Reception.{Reception, fresh_reception, recept
 use Rattle.h26x_codec.specs.Codec.{codec_format}
 use Rattle.h26x_codec.specs.declared.codec.Codec.{Codec}
 use Rattle.h26x_reorder.specs.Rtp.{RtpBody}
-use Rattle.h26x_handles.specs.Codes.{codec_or_code, extra_number, ok, no_room, nothing_yet, out_of_range}
-use Rattle.h26x_handles.specs.Copies.{with_front}
+use Rattle.h26x_codes.specs.Codes.{codec_or_code, extra_number, ok, no_room, nothing_yet, out_of_range}
+use Rattle.h26x_codes.specs.Copies.{with_front}
 use Rattle.h26x_handles.specs.declared.access_units.NextAnswer.{NextAnswer}
 use Rattle.h26x_handles.specs.declared.access_units.NextAnswer.TheVariants as answers
 use Rattle.h26x_handles.specs.declared.access_units.UnitTold.{UnitTold}

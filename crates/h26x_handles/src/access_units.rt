@@ -5,14 +5,14 @@ ghost use Rattle.std.specs.Prelude.{◌≡◌, ◌<◌, ◌≤◌, ◌^◌, [], 
 ghost use Rattle.h26x_access_units.specs.ReceivedAccessUnit.{received_unit_value};
 ghost use Rattle.h26x_reorder.specs.Rtp.{rtp_body};
 ghost use Rattle.h26x_handles.specs.UnitsState.{units_codec_or_code, fresh_access_units, pushed_numbers, unit_told, next_answer, buffer_with_unit, unit_without_room, units_push_answer, IsUnitsPushed, IsUnitGiven, IsOutOfMemory, next_numbers, units_deadline, units_missing, units_finished, units_restarted};
-ghost use Rattle.h26x_handles.specs.Copies.{with_first};
+ghost use Rattle.h26x_codes.specs.Copies.{with_first};
 
-use crate::code::{NO_ROOM, NOTHING_YET, OK, OUT_OF_RANGE, codec_wanted, number_of};
-use crate::copy::{copy_first, copy_where_room};
 use h26x_access_units::{
     AccessUnitConfig, AccessUnitReceiver, Counts, Pushed, ReceivedAccessUnit, Receives,
 };
 use h26x_codec::{AnyPayloadDepacketizer, Codec};
+use h26x_codes::code::{NO_ROOM, NOTHING_YET, OK, OUT_OF_RANGE, codec_wanted, number_of};
+use h26x_codes::copy::{copy_first, copy_where_room};
 use h26x_core::PacketError;
 use h26x_reorder::RtpPacket;
 use std::alloc::Global;

@@ -11,8 +11,7 @@ ghost use Rattle.h26x_access_units.specs.ReceivedAccessUnit.{ReceivedAccessUnitV
 ghost use Rattle.h26x_access_units.specs.Reception.{Reception, IsNext, after_reception, ended_if_anew};
 ghost use Rattle.h26x_access_units.specs.declared.pushed.Pushed.TheVariants as pushes;
 ghost use Rattle.h26x_reorder.specs.Rtp.{RtpBody};
-ghost use Rattle.h26x_handles.specs.Codes.{ok, no_room, out_of_memory, out_of_range, unknown_codec, not_of_this_codec};
-ghost use Rattle.h26x_handles.specs.Copies.{with_first};
+ghost use Rattle.h26x_codes.specs.Codes.{ok, no_room, out_of_memory, out_of_range, unknown_codec, not_of_this_codec};
 ghost use Rattle.h26x_handles.specs.PlacementAnswer.{AreCounted, IsPlacementAnswer};
 ghost use Rattle.h26x_handles.specs.UnitsState.{UnitsState, units_state, units_codec_or_code, fresh_access_units, units_with_reception, units_push_answer, unit_told, IsUnitsPushed, IsNextGiven, IsUnitGiven, IsOutOfMemory};
 ghost use Rattle.h26x_handles.specs.declared.access_units.NextAnswer.TheVariants as answers;
@@ -134,10 +133,3 @@ pub fn next_behind_a_packet()
 {
     units_laws::packets_taken_at_once_are_as_those_that_wait();
 }
-
-/// Two numbers, where there is room for three, for two and for one.
-pub fn first_numbers()
-    ensures more { with_first {A = ℕ} (1 ∷ 2 ∷ []) (7 ∷ 8 ∷ 9 ∷ []) ≡ 1 ∷ 2 ∷ 9 ∷ [] }
-    ensures as_many { with_first {A = ℕ} (1 ∷ 2 ∷ []) (7 ∷ 8 ∷ []) ≡ 1 ∷ 2 ∷ [] }
-    ensures fewer { with_first {A = ℕ} (1 ∷ 2 ∷ []) (7 ∷ []) ≡ 1 ∷ [] }
-{}

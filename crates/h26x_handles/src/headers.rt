@@ -7,8 +7,8 @@ ghost use Rattle.h26x_packetizer.specs.Placement.{packets_over, IsPlacement};
 ghost use Rattle.h265_payload.specs.LowestHeader.{with_lowest_header, with_lowest_headers};
 ghost use Rattle.h26x_handles.specs.Headers.{headers_wanted, under_headers, IsPlaced};
 
-use crate::copy::{packet_ends, start_of};
 use h26x_codec::Codec;
+use h26x_codes::copy::{packet_ends, start_of};
 use h26x_packetizer::{PacketBuffer, Placement};
 use h265_payload::set_lowest_header;
 

@@ -4,11 +4,11 @@ ghost use Rattle.std.specs.Prelude.{◌≡◌, [], ◌∷◌, Err, IfOk, OnOk, O
 ghost use Rattle.h26x_model.specs.Receive.DepacketizerState.{DepacketizerState, after_packets, IsPacketOutcome};
 ghost use Rattle.h26x_depacketizer.specs.UnitSink.{grown_to};
 ghost use Rattle.h26x_codec.specs.AnyDepacketizer.{fresh_any_depacketizer};
-ghost use Rattle.h26x_handles.specs.Copies.{AreHandedOver};
+ghost use Rattle.h26x_codes.specs.Copies.{AreHandedOver};
 ghost use Rattle.h26x_handles.specs.States.{told_depacketizer_state, told_depacketization, after_told_packet, IsShowing};
 
-use crate::copy::put_or_keep;
 use h26x_codec::{AnyDepacketizer, Codec};
+use h26x_codes::copy::put_or_keep;
 use h26x_core::{CodecExtra, PacketError};
 use h26x_depacketizer::{MemorySink, UnitSink};
 use std::alloc::Global;

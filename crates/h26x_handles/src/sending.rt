@@ -7,12 +7,12 @@ ghost use Rattle.h26x_packetizer.specs.Placement.{IsPlacement, is_placed};
 ghost use Rattle.h26x_codec.specs.Codec.{codec_format, fresh_packetizer_state};
 ghost use Rattle.h26x_codec.specs.AnyPacketizer.{any_packetizer_codec, any_packetizer_with_donl, any_packetizer_with_max_packet_size, IsBehindPlaced};
 ghost use Rattle.h26x_handles.specs.States.{sending_state, sending_packets, headers_asked};
-ghost use Rattle.h26x_handles.specs.Copies.{nth_packet, AreCopied};
+ghost use Rattle.h26x_codes.specs.Copies.{nth_packet, AreCopied};
 
-use crate::code::may_have_donl;
-use crate::copy::{bytes_from, copy_packets};
 use crate::headers::{headers_wanted, set_headers, set_placed_headers};
 use h26x_codec::{AnyPacketizer, Codec};
+use h26x_codes::code::may_have_donl;
+use h26x_codes::copy::{bytes_from, copy_packets};
 use h26x_core::PacketError;
 use h26x_packetizer::{PacketBuffer, Placement};
 use std::alloc::Global;

@@ -4,11 +4,11 @@
 ghost use Rattle.std.specs.Prelude.{◌≡◌, ◌≤◌, [], true, false, None, Err, IfOk, OnErr};
 ghost use Rattle.h26x_codec.specs.AnyDepacketizer.{any_depacketizer_state, any_depacketizer_with_avc, any_depacketizer_with_donl, any_depacketizer_with_run};
 ghost use Rattle.h26x_receiver.specs.Sequenced.{IsSequencedAnswer, is_taken, skip_answer};
-ghost use Rattle.h26x_handles.specs.Copies.{AreHandedOver};
+ghost use Rattle.h26x_codes.specs.Copies.{AreHandedOver};
 ghost use Rattle.h26x_handles.specs.States.{receiver_at_work, after_receiver_packet, receiver_run_len, receiver_after_skip, fresh_receiver, IsShowing};
 
-use crate::copy::put_or_keep;
 use h26x_codec::{AnyDepacketizer, Codec};
+use h26x_codes::copy::put_or_keep;
 use h26x_core::{CodecExtra, PacketError};
 use h26x_depacketizer::{MemorySink, RunDepacketizer};
 use h26x_receiver::{Received, SequencedDepacketizer};

@@ -1,7 +1,7 @@
 //! The C library `h26x`: the calls of `bindings/include/h26x.h`, as Rust made from proved sources.
 //!
 //! The modules below `proved` are translated by `tools/to-rust`: those of the Rust crate, from where they stand there,
-//! and `h26x_handles` and `h26x_c`, with `h26x_c::exports`, whose functions C calls. `pointers` and `host` are written
+//! and `h26x_c`, with `exports`, whose functions C calls, and what stands below it alone. `pointers` and `host` are written
 //! by hand, as is `words`.
 
 #![cfg_attr(not(test), no_std)]

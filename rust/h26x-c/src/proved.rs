@@ -29,4 +29,10 @@ pub use shared::*;
 
 pub mod h26x_c;
 #[forbid(unsafe_code)]
+pub mod h26x_codes;
+#[forbid(unsafe_code)]
+pub mod h26x_endpoint;
+#[forbid(unsafe_code)]
 pub mod h26x_handles;
+#[forbid(unsafe_code)]
+pub mod h26x_sdp_handles;

@@ -5,7 +5,7 @@ ghost use types.Logic.{sem};
 ghost use Rattle.h26x_c.specs.Lent.{LendsEndpoint};
 
 use super::Handle;
-use h26x_handles::endpoint::Endpoint;
+use h26x_endpoint::endpoint::Endpoint;
 
 impl Handle {
     /// What it holds.

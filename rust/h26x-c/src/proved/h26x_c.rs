@@ -2,7 +2,7 @@
 
 //! The C library. `bindings/include/h26x.h` declares its calls, and says what a caller owes.
 //!
-//! A handle is a struct of one pointer to an `Endpoint` of `h26x_handles`, a packetizer, a
+//! A handle is a struct of one pointer to an `Endpoint` of `h26x_endpoint`, a packetizer, a
 //! depacketizer, a receiver of packets with their sequence numbers or one of access units, of one
 //! codec. Each call states what it answers in the words of the payload formats.
 mod access_units;

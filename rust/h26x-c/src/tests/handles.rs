@@ -1,14 +1,14 @@
 //! The numbers by which calls answer, and copies into a caller's memory.
 
 use crate::proved::h26x_codec::{Codec, PacketBuffer};
-use crate::proved::h26x_core::{
-    CodecExtra, H264CodecExtra, H265CodecExtra, H266CodecExtra, PacketError,
-};
-use crate::proved::h26x_handles::code::{
+use crate::proved::h26x_codes::code::{
     NOT_OF_THIS_CODEC, Refusal, UNKNOWN_CODEC, code_of, codec_of, codec_wanted, extra_of,
     number_of, numbers_of,
 };
-use crate::proved::h26x_handles::copy::{copy_packets, copy_where_room};
+use crate::proved::h26x_codes::copy::{copy_packets, copy_where_room};
+use crate::proved::h26x_core::{
+    CodecExtra, H264CodecExtra, H265CodecExtra, H266CodecExtra, PacketError,
+};
 use crate::proved::h26x_receiver::Received;
 use core::mem::MaybeUninit;
 

@@ -1,5 +1,5 @@
 use Rattle.std.proofs.Common.{Err, refl}
-use Rattle.h26x_handles.specs.Codes.{codec_with_number}
+use Rattle.h26x_codes.specs.Codes.{codec_with_number}
 use Rattle.h26x_c.proofs.SdpLemmas.{is_of_stream}
 use Rattle.h26x_c.proofs.sdp.h26x_sdp_of_payload.Goals as goal
 

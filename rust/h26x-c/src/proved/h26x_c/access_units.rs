@@ -6,11 +6,11 @@ use crate::proved::h26x_access_units::{self, AccessUnitConfig};
 use crate::proved::h26x_c::const_handle::ConstHandle;
 use crate::proved::h26x_c::handle::Handle;
 use crate::proved::h26x_c::place::{Place, put};
+use crate::proved::h26x_codes::code::{OK, OUT_OF_MEMORY, WRONG_END};
+use crate::proved::h26x_endpoint::endpoint::Endpoint;
 use crate::proved::h26x_handles::access_units::{
     AccessUnitEndpoint, GivesUnits, UnitTold, code_of_next, numbers_of_push, units_codec_wanted,
 };
-use crate::proved::h26x_handles::code::{OK, OUT_OF_MEMORY, WRONG_END};
-use crate::proved::h26x_handles::endpoint::Endpoint;
 use crate::proved::h26x_reorder::RtpPacket;
 use core::mem::MaybeUninit;
 

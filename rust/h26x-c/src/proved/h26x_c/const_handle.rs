@@ -2,7 +2,7 @@
 
 //! What C holds of an endpoint that a call only looks at.
 
-use crate::proved::h26x_handles::endpoint::Endpoint;
+use crate::proved::h26x_endpoint::endpoint::Endpoint;
 
 /// A handle behind C's `const`. Its endpoint is lent, so that no call changes it meanwhile.
 #[repr(C)]

@@ -2,8 +2,8 @@
 
 //! Copies that tell whether there was room.
 
-use crate::proved::h26x_handles::code::{NO_ROOM, OK};
-use crate::proved::h26x_handles::copy::copy_where_room;
+use crate::proved::h26x_codes::code::{NO_ROOM, OK};
+use crate::proved::h26x_codes::copy::copy_where_room;
 use core::mem::MaybeUninit;
 
 /// Copies bytes to the front of a buffer, where there is room for them, and tells how many they are.

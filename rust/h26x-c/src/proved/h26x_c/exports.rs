@@ -12,10 +12,10 @@ pub use super::handle::Handle;
 pub use super::place::Place;
 pub use super::shown::Shown;
 use crate::pointers;
+pub use crate::proved::h26x_codes::code::Refusal;
 pub use crate::proved::h26x_handles::access_units::UnitTold;
-pub use crate::proved::h26x_handles::code::Refusal;
-pub use crate::proved::h26x_handles::sdp_values::ConstraintNumbers;
-pub use crate::proved::h26x_handles::sdp_values::PointNumbers;
+pub use crate::proved::h26x_sdp_handles::sdp_values::ConstraintNumbers;
+pub use crate::proved::h26x_sdp_handles::sdp_values::PointNumbers;
 use core::mem::MaybeUninit;
 
 #[unsafe(no_mangle)]

@@ -4,7 +4,7 @@
 
 mod lends;
 
-use crate::proved::h26x_handles::endpoint::Endpoint;
+use crate::proved::h26x_endpoint::endpoint::Endpoint;
 use alloc::boxed::Box;
 
 /// A handle, which owns the endpoint behind it.

@@ -2,9 +2,9 @@
 
 //! The call that packs a PACI packet.
 
+use crate::proved::h26x_codes::code::{EXTENSION_TOO_LONG, OK, OUT_OF_MEMORY, SHORT_PACKET};
+use crate::proved::h26x_codes::copy::copy_where_room;
 use crate::proved::h26x_core::PacketError;
-use crate::proved::h26x_handles::code::{EXTENSION_TOO_LONG, OK, OUT_OF_MEMORY, SHORT_PACKET};
-use crate::proved::h26x_handles::copy::copy_where_room;
 use crate::proved::h265_packets::H265PACIPacket;
 use alloc::vec::Vec;
 use core::mem::MaybeUninit;

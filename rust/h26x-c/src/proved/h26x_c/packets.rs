@@ -3,8 +3,8 @@
 //! The calls on packets alone.
 
 use crate::proved::h26x_codec::Codec;
+use crate::proved::h26x_codes::code::codec_of;
 use crate::proved::h26x_core::Depacketizer;
-use crate::proved::h26x_handles::code::codec_of;
 use crate::proved::h264_payload::{H264Depacketizer, detect_h264_keyframe, detect_h264_nalu};
 use crate::proved::h265_payload::{H265Depacketizer, detect_h265_keyframe, set_lowest_header};
 use crate::proved::h266_payload::{H266Depacketizer, detect_h266_keyframe};

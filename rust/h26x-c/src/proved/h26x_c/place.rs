@@ -2,8 +2,8 @@
 
 //! Where a call writes a handle.
 
-use crate::proved::h26x_handles::code::{OK, OUT_OF_MEMORY};
-use crate::proved::h26x_handles::endpoint::Endpoint;
+use crate::proved::h26x_codes::code::{OK, OUT_OF_MEMORY};
+use crate::proved::h26x_endpoint::endpoint::Endpoint;
 use alloc::boxed::Box;
 use core::mem::MaybeUninit;
 

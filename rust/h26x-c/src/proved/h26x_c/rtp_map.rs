@@ -3,9 +3,9 @@
 //! The calls on payload types of SDP, and on what `packetization-mode` 0 lets through.
 
 use crate::proved::h26x_c::copied::copy_out;
+use crate::proved::h26x_codes::code::{OK, OUT_OF_MEMORY, UNKNOWN_CODEC, codec_of};
 use crate::proved::h26x_fmtp::RtpMap;
-use crate::proved::h26x_handles::code::{OK, OUT_OF_MEMORY, UNKNOWN_CODEC, codec_of};
-use crate::proved::h26x_handles::sdp_code::{
+use crate::proved::h26x_sdp_handles::sdp_code::{
     PAYLOAD_TYPE, codec_of_encoding, encoding_of_codec, number_of_codec, of_rtp_map,
 };
 use crate::proved::h26x_stream_parameters::fits_single_units;

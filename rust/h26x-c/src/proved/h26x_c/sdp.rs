@@ -6,16 +6,16 @@ use crate::proved::h26x_c::const_handle::ConstHandle;
 use crate::proved::h26x_c::copied::copy_out;
 use crate::proved::h26x_c::handle::Handle;
 use crate::proved::h26x_c::place::{Place, put};
-use crate::proved::h26x_handles::code::{
+use crate::proved::h26x_codes::code::{
     NO_ROOM, OK, OUT_OF_MEMORY, Refusal, UNKNOWN_CODEC, WRONG_END, codec_of,
 };
-use crate::proved::h26x_handles::copy::{copy_first, copy_where_room};
-use crate::proved::h26x_handles::endpoint::Endpoint;
-use crate::proved::h26x_handles::sdp::SdpEndpoint;
-use crate::proved::h26x_handles::sdp_code::{
+use crate::proved::h26x_codes::copy::{copy_first, copy_where_room};
+use crate::proved::h26x_endpoint::endpoint::Endpoint;
+use crate::proved::h26x_sdp_handles::sdp::SdpEndpoint;
+use crate::proved::h26x_sdp_handles::sdp_code::{
     ABSENT, PointRefused, Refused, number_of_codec, point_refused_with, refused_with,
 };
-use crate::proved::h26x_handles::sdp_values::{ConstraintNumbers, PointNumbers};
+use crate::proved::h26x_sdp_handles::sdp_values::{ConstraintNumbers, PointNumbers};
 use core::mem::MaybeUninit;
 
 /// Tells the place of a refusal; its code.

@@ -5,12 +5,12 @@
 use crate::proved::h26x_c::const_handle::ConstHandle;
 use crate::proved::h26x_c::handle::Handle;
 use crate::proved::h26x_c::place::{Place, put};
-use crate::proved::h26x_handles::code::{
+use crate::proved::h26x_codes::code::{
     NOT_OF_THIS_CODEC, OK, OUT_OF_MEMORY, OUT_OF_RANGE, WRONG_END, code_of_placement, codec_wanted,
     may_have_donl,
 };
-use crate::proved::h26x_handles::copy::copy_where_room;
-use crate::proved::h26x_handles::endpoint::Endpoint;
+use crate::proved::h26x_codes::copy::copy_where_room;
+use crate::proved::h26x_endpoint::endpoint::Endpoint;
 use crate::proved::h26x_handles::sending::SendingEndpoint;
 use core::mem::MaybeUninit;
 

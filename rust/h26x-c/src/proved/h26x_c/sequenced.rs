@@ -5,11 +5,11 @@
 use crate::proved::h26x_c::const_handle::ConstHandle;
 use crate::proved::h26x_c::handle::Handle;
 use crate::proved::h26x_c::place::{Place, put};
-use crate::proved::h26x_handles::code::{
+use crate::proved::h26x_codes::code::{
     NOT_OF_THIS_CODEC, OK, OUT_OF_MEMORY, Refusal, WRONG_END, code_of, codec_wanted, extra_of,
     may_have_donl, number_of, numbers_of,
 };
-use crate::proved::h26x_handles::endpoint::Endpoint;
+use crate::proved::h26x_endpoint::endpoint::Endpoint;
 use crate::proved::h26x_handles::sequenced::SequencedEndpoint;
 use core::mem::MaybeUninit;
 

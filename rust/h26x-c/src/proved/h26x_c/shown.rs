@@ -4,9 +4,9 @@
 
 use crate::proved::h26x_c::const_handle::ConstHandle;
 use crate::proved::h26x_codec::AnyDepacketizer;
-use crate::proved::h26x_handles::code::{NOT_OF_THIS_CODEC, OK, WRONG_END};
-use crate::proved::h26x_handles::copy::copy_where_room;
-use crate::proved::h26x_handles::endpoint::Endpoint;
+use crate::proved::h26x_codes::code::{NOT_OF_THIS_CODEC, OK, WRONG_END};
+use crate::proved::h26x_codes::copy::copy_where_room;
+use crate::proved::h26x_endpoint::endpoint::Endpoint;
 use crate::proved::h265_packets::{H265AggregationPacket, H265AggregationUnit, H265Payload};
 use core::mem::MaybeUninit;
 

@@ -2,8 +2,8 @@
 
 //! The units of payloads, by their places, and what a unit is.
 
+use crate::proved::h26x_codes::code::codec_of;
 use crate::proved::h26x_cut::next_unit;
-use crate::proved::h26x_handles::code::codec_of;
 use core::mem::MaybeUninit;
 
 /// Where the next unit of a payload stands, from a place on.

@@ -7,11 +7,11 @@ use crate::proved::h26x_access_units::{
     AccessUnitConfig, AccessUnitReceiver, Counts, Pushed, ReceivedAccessUnit, Receives,
 };
 use crate::proved::h26x_codec::{AnyPayloadDepacketizer, Codec};
-use crate::proved::h26x_core::PacketError;
-use crate::proved::h26x_handles::code::{
+use crate::proved::h26x_codes::code::{
     NO_ROOM, NOTHING_YET, OK, OUT_OF_RANGE, codec_wanted, number_of,
 };
-use crate::proved::h26x_handles::copy::{copy_first, copy_where_room};
+use crate::proved::h26x_codes::copy::{copy_first, copy_where_room};
+use crate::proved::h26x_core::PacketError;
 use crate::proved::h26x_reorder::RtpPacket;
 use core::mem::MaybeUninit;
 

@@ -3,7 +3,7 @@
 //! Aggregation packets of H.265 with the header of their units (RFC 7798, 4.4.2), where they stand.
 
 use crate::proved::h26x_codec::Codec;
-use crate::proved::h26x_handles::copy::{packet_ends, start_of};
+use crate::proved::h26x_codes::copy::{packet_ends, start_of};
 use crate::proved::h26x_packetizer::{PacketBuffer, Placement};
 use crate::proved::h265_payload::set_lowest_header;
 

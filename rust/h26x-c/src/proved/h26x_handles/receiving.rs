@@ -3,9 +3,9 @@
 //! A depacketizer, and what its last accepted packet completed and had no room for.
 
 use crate::proved::h26x_codec::{AnyDepacketizer, Codec};
+use crate::proved::h26x_codes::copy::put_or_keep;
 use crate::proved::h26x_core::{CodecExtra, PacketError};
 use crate::proved::h26x_depacketizer::{MemorySink, UnitSink};
-use crate::proved::h26x_handles::copy::put_or_keep;
 use alloc::vec::Vec;
 use core::mem::MaybeUninit;
 

@@ -3,9 +3,9 @@
 //! A packetizer, and the packets of its last call.
 
 use crate::proved::h26x_codec::{AnyPacketizer, Codec};
+use crate::proved::h26x_codes::code::may_have_donl;
+use crate::proved::h26x_codes::copy::{bytes_from, copy_packets};
 use crate::proved::h26x_core::PacketError;
-use crate::proved::h26x_handles::code::may_have_donl;
-use crate::proved::h26x_handles::copy::{bytes_from, copy_packets};
 use crate::proved::h26x_handles::headers::{headers_wanted, set_headers, set_placed_headers};
 use crate::proved::h26x_packetizer::{PacketBuffer, Placement};
 use core::mem;

@@ -4,9 +4,9 @@
 //! and had no room for.
 
 use crate::proved::h26x_codec::{AnyDepacketizer, Codec};
+use crate::proved::h26x_codes::copy::put_or_keep;
 use crate::proved::h26x_core::{CodecExtra, PacketError};
 use crate::proved::h26x_depacketizer::{MemorySink, RunDepacketizer};
-use crate::proved::h26x_handles::copy::put_or_keep;
 use crate::proved::h26x_receiver::{Received, SequencedDepacketizer};
 use alloc::vec::Vec;
 use core::mem::MaybeUninit;

@@ -4,8 +4,8 @@ use denote.Struct.Owning.{fields, shape, to}
 use denote.Struct.Struct.{exits_of}
 use Rattle.std.specs.Prelude.{[], ◌∷◌}
 use Rattle.std_alloc.proofs.SendSync.{quiet, seen}
-use Rattle.h26x_handles.specs.contracts.endpoint.Endpoint as held
-use Rattle.h26x_handles.proofs.endpoint.Endpoint.TheSendSync.{the_sync}
+use Rattle.h26x_endpoint.specs.contracts.endpoint.Endpoint as held
+use Rattle.h26x_endpoint.proofs.endpoint.Endpoint.TheSendSync.{the_sync}
 use Rattle.h26x_c.specs.contracts.const_handle.ConstHandle.{the_row, the_type}
 
 pub send : IsSend the_row

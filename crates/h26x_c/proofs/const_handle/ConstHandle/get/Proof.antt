@@ -31,8 +31,8 @@ use types.Tokens.{bor_fracture, bor_new}
 use Rattle.std.proofs.raw_atomic.Walks.{proved}
 use Rattle.h26x_c.proofs.LoanLemmas.{B, Words, handle_cuts, lends_again}
 use Rattle.h26x_c.specs.Owned.{endpoint_lent}
-use Rattle.h26x_handles.specs.contracts.endpoint.Endpoint as held
-use Rattle.h26x_handles.proofs.endpoint.Endpoint.TheLaws as held_laws
+use Rattle.h26x_endpoint.specs.contracts.endpoint.Endpoint as held
+use Rattle.h26x_endpoint.proofs.endpoint.Endpoint.TheLaws as held_laws
 use Rattle.h26x_c.specs.contracts.const_handle.ConstHandle as handle
 use Rattle.h26x_c.specs.contracts.const_handle.ConstHandle.get as f
 use Rattle.h26x_c.proofs.const_handle.ConstHandle.get.Statement.{statement}

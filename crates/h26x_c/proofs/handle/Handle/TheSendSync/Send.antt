@@ -7,8 +7,8 @@ use mir.Raw.{raw}
 use Rattle.std.proofs.Crossing as heap
 use Rattle.std_alloc.proofs.SendSync.{lies, quiet}
 use Rattle.std_heap.proofs.Global.TheSendSync as allocator
-use Rattle.h26x_handles.specs.contracts.endpoint.Endpoint as held
-use Rattle.h26x_handles.proofs.endpoint.Endpoint.TheSendSync.{the_send}
+use Rattle.h26x_endpoint.specs.contracts.endpoint.Endpoint as held
+use Rattle.h26x_endpoint.proofs.endpoint.Endpoint.TheSendSync.{the_send}
 use Rattle.h26x_c.specs.contracts.handle.Handle.{the_row, the_type}
 
 pub send : IsSend the_row

@@ -32,7 +32,7 @@ use Rattle.std.proofs.raw_atomic.Walks.{proved}
 use Rattle.std_heap.specs.contracts.GlobalAllocator.TheImpl.{ghosts}
 use Rattle.h26x_c.specs.Lent.{handle_with}
 use Rattle.h26x_c.specs.Owned.{endpoint_owned}
-use Rattle.h26x_handles.specs.contracts.endpoint.Endpoint as held
+use Rattle.h26x_endpoint.specs.contracts.endpoint.Endpoint as held
 use Rattle.h26x_c.specs.contracts.handle.Handle as handle
 use Rattle.h26x_c.specs.contracts.handle.Handle.get_mut as f
 use Rattle.h26x_c.proofs.handle.Handle.TheLaws.{lowers}

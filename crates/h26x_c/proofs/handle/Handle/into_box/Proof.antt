@@ -34,7 +34,7 @@ use Rattle.std_heap.proofs.Global.TheLaws as heap_laws
 use Rattle.std_heap.specs.contracts.GlobalAllocator.TheImpl.{dict, ghosts}
 use Rattle.std_heap.proofs.GlobalAllocator.TheImpl.Met.{passed}
 use Rattle.h26x_c.proofs.Passed.{E, X, X_laws, Z, Z_laws, drops}
-use Rattle.h26x_handles.proofs.endpoint.Endpoint.TheLaws as held_laws
+use Rattle.h26x_endpoint.proofs.endpoint.Endpoint.TheLaws as held_laws
 use Rattle.h26x_c.specs.contracts.handle.Handle as handle
 use Rattle.h26x_c.proofs.handle.Handle.TheLaws.{lowers}
 use Rattle.h26x_c.proofs.Destruct++none.drop.Symbol.{symbol as #none}

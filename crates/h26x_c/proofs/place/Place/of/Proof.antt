@@ -47,14 +47,14 @@ use Rattle.std_heap.proofs.Global.TheLaws as heap_laws
 use Rattle.std_heap.specs.contracts.GlobalAllocator.TheImpl.{dict, ghosts}
 use Rattle.std_heap.proofs.GlobalAllocator.TheImpl.Met.{passed}
 use Rattle.h26x_c.proofs.Passed.{E, X, X_laws, Z, Z_laws, drops}
-use Rattle.h26x_handles.specs.contracts.endpoint.Endpoint as held
-use Rattle.h26x_handles.proofs.endpoint.Endpoint.TheLaws as held_laws
+use Rattle.h26x_endpoint.specs.contracts.endpoint.Endpoint as held
+use Rattle.h26x_endpoint.proofs.endpoint.Endpoint.TheLaws as held_laws
 use Rattle.h26x_c.specs.contracts.place.Place as place
 use Rattle.h26x_c.proofs.Destruct++none.drop.Symbol.{symbol as #none}
-use Rattle.h26x_c.proofs.h26x_handles++endpoint++Endpoint+Destruct.drop.Symbol.{symbol as #end, as_method}
-use Rattle.h26x_c.proofs.h26x_handles++endpoint++Endpoint+Destruct.drop.Symbol as dropping
-use Rattle.h26x_c.proofs.h26x_handles++endpoint++Endpoint+Destruct.drop.Met.{met as drop_met}
-use Rattle.h26x_c.specs.contracts.h26x_handles++endpoint++Endpoint+Destruct.drop as drop_of
+use Rattle.h26x_c.proofs.h26x_endpoint++endpoint++Endpoint+Destruct.drop.Symbol.{symbol as #end, as_method}
+use Rattle.h26x_c.proofs.h26x_endpoint++endpoint++Endpoint+Destruct.drop.Symbol as dropping
+use Rattle.h26x_c.proofs.h26x_endpoint++endpoint++Endpoint+Destruct.drop.Met.{met as drop_met}
+use Rattle.h26x_c.specs.contracts.h26x_endpoint++endpoint++Endpoint+Destruct.drop as drop_of
 use Rattle.h26x_c.specs.contracts.place.Place.of as f
 use Rattle.h26x_c.proofs.place.Place.of.Statement.{statement}
 use Rattle.h26x_c.proofs.place.Place.of.Code as code
@@ -89,7 +89,7 @@ of_spec {M} 𝓤 𝓛 𝓜 𝓡 wired =
     let opens = met 𝓤 𝓛 𝓜 𝓡 (code.calls-std_alloc::boxed::Box::into_raw_with_allocator 𝓡.env wired) X Z X_laws Z_laws ghosts dict drops drops_endpoint
     (passed 𝓡.env (code.calls-std_heap::GlobalAllocator::allocate 𝓡.env wired) (code.calls-std_heap::GlobalAllocator::deallocate 𝓡.env wired) (code.calls-std_heap::GlobalAllocator::grow 𝓡.env wired) (code.calls-std_heap::GlobalAllocator::shrink 𝓡.env wired) M 𝓤 𝓛 𝓜 𝓡)
     (glues #none 𝓡.env (code.calls-h26x_c::Destruct++none::drop 𝓡.env wired) Z Z_laws M 𝓤 𝓛 𝓜 𝓡)
-    (drops_it 𝓤 𝓛 𝓜 𝓡 (code.calls-h26x_c::h26x_handles++endpoint++Endpoint+Destruct::drop 𝓡.env wired)) in
+    (drops_it 𝓤 𝓛 𝓜 𝓡 (code.calls-h26x_c::h26x_endpoint++endpoint++Endpoint+Destruct::drop 𝓡.env wired)) in
     proved_at 𝓛 f.ended stayed c 𝓜 𝓡 (Goes-dropped 𝓛 0 (plain (λ _. B)) yes (λ κs x w. refl), tt)
     f.Key.name code.function (code.unfolded 𝓤 𝓛.H 𝓜 𝓡 wired) (λ y are.
     let boxed = y.0.3.0 in let us = y.0.4.0 in

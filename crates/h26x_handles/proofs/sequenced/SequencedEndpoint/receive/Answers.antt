@@ -1,6 +1,6 @@
 use Rattle.std.proofs.Common.{rules, Ok, ◌≡◌, List, ℕ, length, take, subst}
 use Rattle.h26x_depacketizer.specs.UnitSink.{memory_sink, grown_to}
-use Rattle.h26x_handles.specs.Copies.{with_front}
+use Rattle.h26x_codes.specs.Copies.{with_front}
 use Rattle.h26x_handles.specs.States.{after_receiver_packet, receiver_at_work}
 use Rattle.h26x_codec.specs.AnyDepacketizer.{any_depacketizer_state}
 use Rattle.h26x_receiver.specs.Sequenced.{sequenced_depacketization}

@@ -3,7 +3,7 @@
 //! The loan of what a handle holds.
 
 use super::Handle;
-use crate::proved::h26x_handles::endpoint::Endpoint;
+use crate::proved::h26x_endpoint::endpoint::Endpoint;
 
 impl Handle {
     /// What it holds.

@@ -1,0 +1,22 @@
+//! What stands behind a handle.
+
+use h26x_handles::access_units::AccessUnitEndpoint;
+use h26x_handles::receiving::ReceivingEndpoint;
+use h26x_handles::sending::SendingEndpoint;
+use h26x_handles::sequenced::SequencedEndpoint;
+use h26x_sdp_handles::sdp::SdpEndpoint;
+
+/// One endpoint of a stream.
+#[derive(Drop)]
+pub enum Endpoint {
+    /// It sends.
+    Sending(SendingEndpoint),
+    /// It receives.
+    Receiving(ReceivingEndpoint),
+    /// It receives packets with their sequence numbers.
+    Sequenced(SequencedEndpoint),
+    /// It receives access units, of packets as a network brings them.
+    AccessUnits(AccessUnitEndpoint),
+    /// Format parameters of SDP.
+    Sdp(SdpEndpoint),
+}

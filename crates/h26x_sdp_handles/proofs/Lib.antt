@@ -1,0 +1,4 @@
+pub mod ErrorLemmas
+pub mod ParameterLemmas
+pub mod SdpValueLemmas
+pub mod KeptUnitsLemmas

@@ -1,0 +1,4 @@
+pub mod SdpCodes
+pub mod Sdp
+pub mod SdpValues
+pub mod KeptUnits

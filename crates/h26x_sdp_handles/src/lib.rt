@@ -1,0 +1,9 @@
+//! What stands behind a handle of the C library that has format parameters of SDP: with their codec,
+//! and with the units in them, read once; and the numbers by which calls on them answer.
+#![tactic(auto)]
+
+pub mod kept_parameters;
+pub mod sdp;
+pub mod sdp_code;
+pub mod sdp_parameter;
+pub mod sdp_values;

@@ -1,0 +1,200 @@
+// Made from crates/h26x_sdp_handles/src/sdp.rt by tools/to-rust.
+
+//! Format parameters of SDP, with their codec.
+
+use crate::proved::h26x_answers::answer_format;
+use crate::proved::h26x_codec::Codec;
+use crate::proved::h26x_codes::code::{NOT_OF_THIS_CODEC, OUT_OF_MEMORY};
+use crate::proved::h26x_fmtp::{Kind, OtherParameter};
+use crate::proved::h26x_sdp::{CodecParameters, H264Parameter, H265Parameter, H266Parameter};
+use crate::proved::h26x_sdp_handles::kept_parameters::KeptParameters;
+use crate::proved::h26x_sdp_handles::sdp_code::{
+    ABSENT, NO_ANSWER, OTHER_KIND, Refused, UNKNOWN_NAME, of_parameters, of_stream,
+};
+use crate::proved::h26x_sdp_handles::sdp_parameter::{ListedParameter, parameter_of};
+use crate::proved::h26x_stream_parameters::{h264_of_payload, h265_of_payload, h266_of_payload};
+use crate::support::AllocError;
+use alloc::vec::Vec;
+use core::slice;
+
+/// The format parameters of a codec.
+pub enum SdpEndpoint {
+    H264(KeptParameters<H264Parameter>),
+    H265(KeptParameters<H265Parameter>),
+    H266(KeptParameters<H266Parameter>),
+}
+
+/// Whether a parameter is a number.
+fn is_number(kind: Kind) -> bool {
+    match kind {
+        Kind::Number { .. } | Kind::HexadecimalNumber { .. } => true,
+        Kind::Hexadecimal { .. } | Kind::TxMode | Kind::Units(_) | Kind::Text => false,
+    }
+}
+
+/// The value of the parameter with a name, or where it's absent what the RFC takes for it.
+fn value_of<'a, P: ListedParameter>(
+    it: &'a CodecParameters<P>,
+    name: &[u8],
+    or_default: bool,
+) -> Result<&'a [u8], u32> {
+    let Some((parameter, _)) = parameter_of(name) else {
+        return Err(UNKNOWN_NAME);
+    };
+    let value = if or_default {
+        it.value_or_default(parameter)
+    } else {
+        it.value(parameter)
+    };
+    value.ok_or(ABSENT)
+}
+
+/// The number of the parameter with a name, or where it's absent that of what the RFC takes for it.
+fn number_of<P: ListedParameter>(
+    it: &CodecParameters<P>,
+    name: &[u8],
+    or_default: bool,
+) -> Result<u64, u32> {
+    let Some((parameter, kind)) = parameter_of(name) else {
+        return Err(UNKNOWN_NAME);
+    };
+    if !is_number(kind) {
+        return Err(OTHER_KIND);
+    }
+    let number = if or_default {
+        it.number_or_default(parameter)
+    } else {
+        it.number(parameter)
+    };
+    number.ok_or(ABSENT)
+}
+
+/// The answer to an offered format by one of ours, or that there is none.
+fn answer_of<P: ListedParameter>(
+    offered: &KeptParameters<P>,
+    ours: &KeptParameters<P>,
+) -> Result<KeptParameters<P>, u32> {
+    match answer_format(offered.parameters(), slice::from_ref(ours.parameters())) {
+        Ok(Some(answer)) => KeptParameters::of(answer),
+        Ok(None) => Err(NO_ANSWER),
+        Err(_) => Err(OUT_OF_MEMORY),
+    }
+}
+
+impl SdpEndpoint {
+    /// Reads what stands behind the payload type in an `a=fmtp` line.
+    pub fn read(codec: Codec, text: &[u8]) -> Result<Self, Refused> {
+        match codec {
+            Codec::H264 => match KeptParameters::<H264Parameter>::read(text) {
+                Ok(it) => Ok(SdpEndpoint::H264(it)),
+                Err(error) => Err(of_parameters(error)),
+            },
+            Codec::H265 => match KeptParameters::<H265Parameter>::read(text) {
+                Ok(it) => Ok(SdpEndpoint::H265(it)),
+                Err(error) => Err(of_parameters(error)),
+            },
+            Codec::H266 => match KeptParameters::<H266Parameter>::read(text) {
+                Ok(it) => Ok(SdpEndpoint::H266(it)),
+                Err(error) => Err(of_parameters(error)),
+            },
+        }
+    }
+
+    /// What a sender says of its stream, out of the bytes that it begins with.
+    pub fn of_payload(codec: Codec, payload: &[u8]) -> Result<Self, u32> {
+        match codec {
+            Codec::H264 => match h264_of_payload(payload) {
+                Ok(it) => Ok(SdpEndpoint::H264(KeptParameters::of(it)?)),
+                Err(error) => Err(of_stream(error)),
+            },
+            Codec::H265 => match h265_of_payload(payload) {
+                Ok(it) => Ok(SdpEndpoint::H265(KeptParameters::of(it)?)),
+                Err(error) => Err(of_stream(error)),
+            },
+            Codec::H266 => match h266_of_payload(payload) {
+                Ok(it) => Ok(SdpEndpoint::H266(KeptParameters::of(it)?)),
+                Err(error) => Err(of_stream(error)),
+            },
+        }
+    }
+
+    /// The answer to an offered format by one of ours; there is none of another codec.
+    pub fn answer(&self, ours: &SdpEndpoint) -> Result<Self, u32> {
+        match (self, ours) {
+            (SdpEndpoint::H264(offered), SdpEndpoint::H264(ours)) => {
+                Ok(SdpEndpoint::H264(answer_of(offered, ours)?))
+            }
+            (SdpEndpoint::H265(offered), SdpEndpoint::H265(ours)) => {
+                Ok(SdpEndpoint::H265(answer_of(offered, ours)?))
+            }
+            (SdpEndpoint::H266(offered), SdpEndpoint::H266(ours)) => {
+                Ok(SdpEndpoint::H266(answer_of(offered, ours)?))
+            }
+            _ => Err(NO_ANSWER),
+        }
+    }
+
+    /// Their codec.
+    pub fn codec(&self) -> Codec {
+        match self {
+            SdpEndpoint::H264(_) => Codec::H264,
+            SdpEndpoint::H265(_) => Codec::H265,
+            SdpEndpoint::H266(_) => Codec::H266,
+        }
+    }
+
+    /// Writes them.
+    pub(crate) fn write(&self) -> Result<Vec<u8>, AllocError> {
+        match self {
+            SdpEndpoint::H264(it) => it.parameters().write(),
+            SdpEndpoint::H265(it) => it.parameters().write(),
+            SdpEndpoint::H266(it) => it.parameters().write(),
+        }
+    }
+
+    /// The value of the parameter with a name, without regard to case.
+    pub fn value(&self, name: &[u8], or_default: bool) -> Result<&[u8], u32> {
+        match self {
+            SdpEndpoint::H264(it) => value_of(it.parameters(), name, or_default),
+            SdpEndpoint::H265(it) => value_of(it.parameters(), name, or_default),
+            SdpEndpoint::H266(it) => value_of(it.parameters(), name, or_default),
+        }
+    }
+
+    /// The number of the parameter with a name, without regard to case.
+    pub fn number(&self, name: &[u8], or_default: bool) -> Result<u64, u32> {
+        match self {
+            SdpEndpoint::H264(it) => number_of(it.parameters(), name, or_default),
+            SdpEndpoint::H265(it) => number_of(it.parameters(), name, or_default),
+            SdpEndpoint::H266(it) => number_of(it.parameters(), name, or_default),
+        }
+    }
+
+    /// The units of the parameter with a name, without regard to case.
+    pub fn units(&self, name: &[u8]) -> Result<&[Vec<u8>], Refused> {
+        match self {
+            SdpEndpoint::H264(it) => it.units(name),
+            SdpEndpoint::H265(it) => it.units(name),
+            SdpEndpoint::H266(it) => it.units(name),
+        }
+    }
+
+    /// The parameters that the RFC doesn't have, in their order.
+    pub fn others(&self) -> &[OtherParameter] {
+        match self {
+            SdpEndpoint::H264(it) => it.parameters().others(),
+            SdpEndpoint::H265(it) => it.parameters().others(),
+            SdpEndpoint::H266(it) => it.parameters().others(),
+        }
+    }
+
+    /// What packetizers and receivers of H.265 and H.266 are configured for: `sprop-max-don-diff`, or 0
+    /// where it's absent.
+    pub fn max_don_diff(&self) -> Result<u32, u32> {
+        match self {
+            SdpEndpoint::H264(_) => Err(NOT_OF_THIS_CODEC),
+            SdpEndpoint::H265(it) => it.parameters().max_don_diff().ok_or(ABSENT),
+            SdpEndpoint::H266(it) => it.parameters().max_don_diff().ok_or(ABSENT),
+        }
+    }
+}
