@@ -5,6 +5,7 @@ import re
 
 HEAD = re.compile(r'(\s*)(?:pub(?:\([^)]*\))? )?(?:const )?(?:unsafe )?(?:extern "C" )?fn (\w+)')
 OUTER = re.compile(r"\s*(?:pub(?:\(.*\))? )?(?:(?:unsafe )?(impl)\b|(?:trait|mod) (\w+))")
+IMPL = re.compile(r"(?:unsafe )?impl\b")
 
 
 @functools.cache
@@ -64,28 +65,36 @@ def path_of(file, text, line):
     return "::".join([*modules, *inside])
 
 
-def may_stand_twice(text, number):
-    """Whether a function can stand beside itself under another name: it is no trait's, in no cycle of
-    calls, and has no function in it, nor is it in one."""
+def stands_alone(text, number):
+    """Whether a function is in no cycle of calls, and has no function in it, nor is it in one."""
     lines, found = text.split("\n"), functions(text)
     first, last = found[number]
     others = found[:number] + found[number + 1 :]
     if any(its_first <= last and first <= its_last for its_first, its_last in others):
         return False
-    if "#[cycle" in "\n".join(lines[first_of_item(text, first) - 1 : first]):
-        return False
-    heads = [head_of(lines, at) for at in outer_of(lines, first)]
-    return not any(re.search(r"\btrait\b", it) or parted_at_for(it)[1] for it in heads)
+    return "#[cycle" not in "\n".join(lines[first_of_item(text, first) - 1 : first])
+
+
+def heads_around(text, number):
+    """The heads of the items around a function, the innermost first."""
+    lines, (first, _) = text.split("\n"), functions(text)[number]
+    return [head_of(lines, at) for at in outer_of(lines, first)]
+
+
+def may_stand_twice(text, number):
+    """Whether a function can stand beside itself under another name: it stands alone, and is no trait's."""
+    heads = heads_around(text, number)
+    are_plain = not any(re.search(r"\btrait\b", it) or parted_at_for(it)[1] for it in heads)
+    return are_plain and stands_alone(text, number)
 
 
 def is_plain(text, number):
-    """Whether a function has its path from where it stands: it is no trait's, in no cycle of calls, and
-    if it is a type's, that is of the same text."""
-    if not may_stand_twice(text, number):
+    """Whether a function has its path from where it stands: it stands alone, with a body, and if it is a
+    type's own, that is of the same text."""
+    heads = heads_around(text, number)
+    if not stands_alone(text, number) or any(re.search(r"\btrait\b", it) for it in heads):
         return False
-    lines, (first, _) = text.split("\n"), functions(text)[number]
-    heads = (head_of(lines, at) for at in outer_of(lines, first))
-    types = (name_of_impl(it) for it in heads if OUTER.match(it)[1])
+    types = (name_of_impl(it) for it in heads if IMPL.match(it) and not parted_at_for(it)[1])
     return all(re.search(rf"\b(?:struct|enum) {it}\b", text) for it in types)
 
 
