@@ -139,6 +139,7 @@ struct work {
 static void *run(void *at)
 {
     struct work *work = at;
+    check_cutting(&work->tally);
     for (int round = 0; round < 20; round++) {
         check_sending(&work->tally);
         check_receiving(&work->tally);

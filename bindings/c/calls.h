@@ -25,14 +25,15 @@ bool is_same(const uint8_t *at, size_t len, const char *hex);
 const char *behind_bar(const char *hex);
 
 /* The checks of every call: of packetizers, of depacketizers and what they show, of receivers of
- * packets with their sequence numbers and of access units, of those without a handle, on packets and on
- * profiles, of format parameters of SDP, and what may be left out of all. */
+ * packets with their sequence numbers and of access units, of those without a handle, on packets, on
+ * payloads and on profiles, of format parameters of SDP, and what may be left out of all. */
 void check_sending(struct tally *t);
 void check_receiving(struct tally *t);
 void check_sequenced(struct tally *t);
 void check_access_units(struct tally *t);
 void check_showing(struct tally *t);
 void check_looking(struct tally *t);
+void check_cutting(struct tally *t);
 void check_profiles(struct tally *t);
 void check_sdp(struct tally *t);
 void check_optional(struct tally *t);

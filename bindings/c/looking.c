@@ -76,70 +76,6 @@ static void check_lowest_headers(struct tally *t)
     expect(t, has_lowest_header(7, false, sets, sets));
 }
 
-/* Goes through the units of a payload by their places, and compares them with those that `units`
- * names with '|' between two. */
-static void cuts_at(struct tally *t, uint32_t codec, const char *payload, const char *units,
-                    const char *file, int line)
-{
-    struct bytes in = bytes_of(payload);
-    size_t begin, end = 0, from;
-    for (; *units != '\0'; units = behind_bar(units)) {
-        from = end;
-        expect_at(t, h26x_next_unit(codec, in.at, in.len, from, &begin, &end), payload, file, line);
-        expect_at(t, from <= begin && begin < end && end <= in.len, payload, file, line);
-        expect_at(t, is_same(in.at + begin, end - begin, units), payload, file, line);
-    }
-    from = end;
-    begin = 99;
-    expect_at(t, !h26x_next_unit(codec, in.at, in.len, from, &begin, &end), payload, file, line);
-    expect_at(t, begin == 99 && end == from, payload, file, line);
-}
-#define cuts(t, codec, payload, units) cuts_at(t, codec, payload, units, __FILE__, __LINE__)
-
-static void check_units(struct tally *t)
-{
-    const char *payload = "bb 000001 aa 00000000 01 000001 bb00";
-    size_t begin = 5, end = 6;
-    cuts(t, H26X_H264, payload, "aa|bb00");
-    cuts(t, H26X_H265, payload, "aa|bb00");
-    /* H.266: zeros before the nearest three stay with the unit. */
-    cuts(t, H26X_H266, payload, "aa00|bb00");
-    cuts(t, H26X_H264, "bb00", "bb00");
-    cuts(t, H26X_H265, "", "");
-    cuts(t, H26X_H266, "000001", "");
-    cuts(t, H26X_H264, "000001 aa 000001 aa 000001 aa", "aa|aa|aa");
-    expect(t, !h26x_next_unit(0, (const uint8_t *)"a", 1, 0, &begin, &end));
-    expect(t, !h26x_next_unit(H26X_H264, (const uint8_t *)"a", 1, SIZE_MAX, &begin, &end));
-    expect(t, begin == 5 && end == 6);
-}
-
-/* Whether the next unit from a place on stands there. */
-static bool is_next(uint32_t codec, const char *payload, size_t from, size_t begin, size_t end)
-{
-    struct bytes in = bytes_of(payload);
-    size_t first = 99, last = 99;
-    return h26x_next_unit(codec, in.at, in.len, from, &first, &last) && first == begin
-           && last == end;
-}
-
-/* Whether there is none, and what stood there stays. */
-static bool is_last(uint32_t codec, const char *payload, size_t from)
-{
-    struct bytes in = bytes_of(payload);
-    size_t first = 99, last = 99;
-    return !h26x_next_unit(codec, in.at, in.len, from, &first, &last) && first == 99 && last == 99;
-}
-
-static void check_places(struct tally *t)
-{
-    const char *payload = "000001 aa 00000000 01 bb";
-    expect(t, is_next(264, payload, 0, 3, 4) && is_next(264, payload, 4, 9, 10));
-    expect(t, is_next(265, payload, 0, 3, 4));
-    expect(t, is_next(266, payload, 0, 3, 5) && is_next(266, payload, 5, 9, 10));
-    expect(t, is_last(264, "000001 aa", 4) && is_last(265, "000001", 0));
-    expect(t, is_last(266, "aa", 2) && is_last(263, "aa", 0));
-}
-
 /* Expects that of these units, with '|' between two, each is plain, or none. */
 static void plain_at(struct tally *t, uint32_t codec, const char *units, bool wanted, int line)
 {
@@ -219,8 +155,6 @@ void check_looking(struct tally *t)
     check_heads_and_tails(t);
     check_detection(t);
     check_lowest_headers(t);
-    check_units(t);
-    check_places(t);
     check_plain_units(t);
     check_hidden_units(t);
     check_hints(t);

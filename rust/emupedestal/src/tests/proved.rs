@@ -5,6 +5,7 @@ mod access_units;
 mod boxes;
 mod buffers;
 mod codec;
+mod cut;
 mod network;
 mod packets;
 mod profiles;
