@@ -9,6 +9,7 @@ mod cut;
 mod network;
 mod packets;
 mod profiles;
+mod rows;
 #[cfg(feature = "sdp")]
 mod sdp;
 mod shown;

@@ -22,10 +22,9 @@ fn headed(buffer: &PacketBuffer) -> Vec<Vec<u8>> {
 /// A buffer to which nothing but packets was written has these, and they lie in it one behind the other, each behind
 /// zeros.
 #[track_caller]
-fn has(buffer: &PacketBuffer, packets: &str) {
-    let packets = list(packets);
+pub(super) fn has(buffer: &PacketBuffer, packets: &[Vec<u8>]) {
     let (mut laid, mut ends) = (Vec::new(), Vec::new());
-    for packet in &packets {
+    for packet in packets {
         laid.resize(laid.len() + buffer.headroom(), 0);
         laid.extend_from_slice(packet);
         ends.push(laid.len());
@@ -38,7 +37,7 @@ fn has(buffer: &PacketBuffer, packets: &str) {
         (buffer.len(), buffer.is_empty()),
         (packets.len(), packets.is_empty())
     );
-    assert!(buffer.iter().eq(&packets));
+    assert!(buffer.iter().eq(packets));
     assert!((0..packets.len()).all(|place| buffer.packet(place) == packets[place]));
 }
 
@@ -55,15 +54,15 @@ fn packets_pushed_and_kept() {
         (12, "65aa - 41", 0, ""),
     ] {
         let mut buffer = PacketBuffer::new(headroom);
-        has(&buffer, "");
+        has(&buffer, &[]);
         push_each(&mut buffer, pushed);
-        has(&buffer, pushed);
+        has(&buffer, &list(pushed));
         buffer.truncate(count);
-        has(&buffer, kept);
+        has(&buffer, &list(kept));
         buffer.clear();
-        has(&buffer, "");
+        has(&buffer, &[]);
         push_each(&mut buffer, pushed);
-        has(&buffer, pushed);
+        has(&buffer, &list(pushed));
     }
 }
 
