@@ -1,12 +1,8 @@
-//! Tests of the crates below, from outside: rows of the payload formats and lines of the program as
-//! text, and the search for start codes beside a plain scan. `plain`, a caller's own codec, is for
-//! them alone.
+//! Tests of the program's lines from outside: where reading, writing or memory fails, and digits.
+//! Sessions are the files `stdin` and `stdout` of `h26x_tool`. `plain`, a caller's own codec, is for its
+//! tests alone.
 #![tactic(auto)]
 
-#[cfg(test)]
-mod cut;
 pub mod plain;
-#[cfg(test)]
-mod rows;
 #[cfg(test)]
 mod sessions;

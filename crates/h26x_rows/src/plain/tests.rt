@@ -1,63 +1,63 @@
 use super::*;
-use crate::rows::lines::sending::{Sender, Way};
-use crate::rows::lines::walk;
 use h26x_core::H265CodecExtra;
+use h26x_packetizer::PacketBuffer;
 use h26x_transmission::{CodecDepacketizer, CodecPacketizer};
-use std::process::Abort;
 use std::test::Fail;
 
-/// Payloads and units, each of which is one packet or none.
-#[rattlefmt::skip]
-const PAYLOADS: &str = "\
-# A call a line, with what comes of it behind `=`. Bytes are in hexadecimal, `-` for none.
-pack 0 0000010201aa00000141 = 0000010201aa00000141
-unit 0 0201aa = 0201aa
-pack 9 - =
-unit 9 - =
-pack 1 67 = 67
-";
+/// A payload that is one packet, though it has start codes.
+const PAYLOAD: &[u8] = &[0, 0, 1, 2, 1, 0xaa, 0, 0, 1, 0x41];
 
-/// Sends these out of a box.
-fn send_out_of_a_box(rt: &impl Abort, alloc: Global, way: Way) -> Result<(), Fail> {
-    let plain = PlainPacketizer::new(alloc);
-    let packetizer = CodecPacketizer::Boxed(Box::new(alloc, plain)?);
-    let mut sender = Sender::of_packetizer(alloc, packetizer, way);
-    walk(rt, alloc, &mut sender, PAYLOADS);
+/// Appends the packets of payloads and units, each of which is one packet or none. A packetizer in a box
+/// lists them first.
+fn append_all(
+    packetizer: &mut CodecPacketizer,
+    buffer: &mut PacketBuffer,
+) -> Result<(), PacketError> {
+    packetizer.packetize_into(0, PAYLOAD, buffer)?;
+    packetizer.packetize_unit_into(0, &[2, 1, 0xaa], buffer)?;
+    packetizer.packetize_into(9, &[], buffer)?;
+    packetizer.packetize_unit_into(9, &[], buffer)?;
+    packetizer.packetize_into(1, &[0x67], buffer)
+}
+
+#[test]
+fn packets_out_of_a_box(rt: HostRuntime) -> Result<(), Fail> {
+    let plain = PlainPacketizer::new(rt.alloc());
+    let mut packetizer = CodecPacketizer::Boxed(Box::new(rt.alloc(), plain)?);
+    let mut buffer = PacketBuffer::new(rt.alloc(), 2);
+    append_all(&mut packetizer, &mut buffer)?;
+    let want = [
+        0, 0, 0, 0, 1, 2, 1, 0xaa, 0, 0, 1, 0x41, // the payload
+        0, 0, 2, 1, 0xaa, // the unit
+        0, 0, 0x67,
+    ];
+    assert!(rt;
+        (buffer.bytes(), buffer.packet_ends()) == (want.as_slice(), [12, 17, 20].as_slice())
+    );
     Ok(())
-}
-
-#[test]
-fn units_out_of_a_box(rt: HostRuntime) -> Result<(), Fail> {
-    send_out_of_a_box(&rt, rt.alloc(), Way::List)
-}
-
-#[test]
-fn packets_out_of_a_box_in_a_buffer(rt: HostRuntime) -> Result<(), Fail> {
-    send_out_of_a_box(&rt, rt.alloc(), Way::Buffer(12))
 }
 
 const TOLD: CodecExtra = CodecExtra::H265(H265CodecExtra { is_keyframe: true });
 
-/// What one in a box answers to a packet and to an empty one.
+/// What one in a box answers to a packet.
 fn take_in_a_box(
-    alloc: Global,
+    depacketizer: &mut CodecDepacketizer,
+    packet: &[u8],
     out: &mut Vec<u8>,
     extra: &mut CodecExtra,
-) -> Result<[Result<(), PacketError>; 2], Fail> {
-    let plain = PlainDepacketizer::new(alloc);
-    let mut depacketizer = CodecDepacketizer::Boxed(Box::new(alloc, plain)?);
-    Ok([
-        depacketizer.depacketize(&[1, 2], out, extra),
-        depacketizer.depacketize(&[], out, extra),
-    ])
+) -> Result<(), PacketError> {
+    depacketizer.depacketize(packet, out, extra)
 }
 
 #[test]
 fn a_depacketizer_in_a_box(rt: HostRuntime) -> Result<(), Fail> {
+    let plain = PlainDepacketizer::new(rt.alloc());
+    let mut depacketizer = CodecDepacketizer::Boxed(Box::new(rt.alloc(), plain)?);
     let mut out = vec![in rt.alloc(); 9]?;
     let mut extra = TOLD;
-    let answers = take_in_a_box(rt.alloc(), &mut out, &mut extra)?;
-    let want = [Ok(()), Err(PacketError::ErrShortPacket)];
-    assert!(rt; (answers, out.as_slice(), extra) == (want, [9, 1, 2].as_slice(), TOLD));
+    take_in_a_box(&mut depacketizer, &[1, 2], &mut out, &mut extra)?;
+    let short = take_in_a_box(&mut depacketizer, &[], &mut out, &mut extra);
+    let want = (Err(PacketError::ErrShortPacket), [9, 1, 2].as_slice(), TOLD);
+    assert!(rt; (short, out.as_slice(), extra) == want);
     Ok(())
 }

@@ -1,4 +1,4 @@
-use crate::rows::same;
+use super::same;
 use h26x_core::PacketError;
 use h26x_lines::SessionError;
 use h26x_lines::answers::Answers;
@@ -6,7 +6,7 @@ use std::alloc::{AllocError, Global};
 use std::test::Fail;
 
 /// What is answered to a packet that is taken or refused.
-fn answer(
+pub(super) fn answer(
     alloc: Global,
     taken: Result<(), PacketError>,
     out: &[u8],
@@ -64,15 +64,9 @@ fn all_bytes(alloc: Global) -> Result<Vec<u8>, AllocError> {
     Ok(bytes)
 }
 
-/// The line that says bytes.
-fn line_of(alloc: Global, bytes: &[u8]) -> Result<String, Fail> {
-    let mut line = String::new(alloc);
-    line.push_str("out ")?;
-    for byte in bytes {
-        line.push_str(format!(in alloc; "{byte:02x}")?.as_str())?;
-    }
-    line.push_str("\n")?;
-    Ok(line)
+/// The line that says bytes, as the crate `hex` writes them.
+pub(super) fn line_of(alloc: Global, bytes: &[u8]) -> Result<String, Fail> {
+    Ok(format!(in alloc; "out {}\n", hex::encode(alloc, bytes)?)?)
 }
 
 #[test]

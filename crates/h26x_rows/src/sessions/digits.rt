@@ -1,4 +1,4 @@
-use crate::rows::same;
+use super::same;
 use h26x_lines::digits::Digits;
 use std::alloc::{AllocError, Global};
 use std::process::Abort;

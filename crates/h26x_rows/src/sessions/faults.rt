@@ -1,4 +1,4 @@
-use crate::rows::same;
+use super::same;
 use h26x_core::PacketError;
 use h26x_lines::{SessionError, answer_all};
 use std::alloc::Global;

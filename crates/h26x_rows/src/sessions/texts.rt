@@ -3,8 +3,8 @@
 
 mod by_table;
 
+use super::answers::{answer, line_of};
 use by_table::TableDigits;
-use h26x_lines::answers::Answers;
 use h26x_lines::digits::Digits;
 use std::alloc::{AllocError, Global};
 use std::process::Abort;
@@ -102,13 +102,8 @@ fn bytes_are_written_as_the_crate_hex_writes_them(rt: HostRuntime) -> Result<(),
     let mut bytes = Vec::new(rt.alloc());
     for length in 1..600usize {
         bytes.push((length.wrapping_mul(length).wrapping_mul(29) % 256) as u8)?;
-        let mut written = Vec::new(rt.alloc());
-        let mut answers = Answers::new(rt.alloc(), &mut written)?;
-        answers.say_unpacked(Ok(()), &bytes)?;
-        answers.flush()?;
-        drop(answers);
-        let want = format!(in rt.alloc(); "out {}\n", hex::encode(rt.alloc(), bytes.as_slice())?)?;
-        assert!(rt; written.as_slice() == want.as_bytes(), "{length} bytes");
+        let said = answer(rt.alloc(), Ok(()), &bytes)?;
+        assert!(rt; said.as_slice() == line_of(rt.alloc(), &bytes)?.as_bytes());
     }
     Ok(())
 }
