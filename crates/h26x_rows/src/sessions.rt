@@ -1,5 +1,5 @@
-//! The program's lines: inputs and answers, and where reading, writing or memory fails. Sessions, lines
-//! and the answers to them, are the files `stdin` and `stdout` of `h26x_tool`.
+//! The program's lines: inputs and answers, and where reading, writing or memory fails. Sessions are
+//! the files `stdin` and `stdout` of `h26x_tool`.
 
 use h26x_lines::{SessionError, answer_all};
 use std::alloc::Global;

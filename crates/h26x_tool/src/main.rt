@@ -1,6 +1,6 @@
 //! The program: reads lines and prints the answers, as `h26x_lines` does them. The files `stdin` and
-//! `stdout` beside it are sessions, each begun by `codec`, and the answers; a line of theirs that begins
-//! with `#` is for the reader, and bad.
+//! `stdout` beside it are sessions, each begun by `codec`, and the answers; a line that begins with
+//! `#` is for the reader, and bad.
 #![tactic(auto)]
 
 pub use h26x_lines::answer_all;

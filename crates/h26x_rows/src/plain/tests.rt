@@ -7,8 +7,8 @@ use std::test::Fail;
 /// A payload that is one packet, though it has start codes.
 const PAYLOAD: &[u8] = &[0, 0, 1, 2, 1, 0xaa, 0, 0, 1, 0x41];
 
-/// Appends the packets of payloads and units, each of which is one packet or none. A packetizer in a box
-/// lists them first.
+/// Appends the packets of payloads and units, each of which is one packet or none. A packetizer in a
+/// box lists them first.
 fn append_all(
     packetizer: &mut CodecPacketizer,
     buffer: &mut PacketBuffer,
