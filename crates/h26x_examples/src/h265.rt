@@ -8,22 +8,31 @@ use h265_payload::{
 };
 use std::alloc::Global;
 
-/// Cuts a frame into packets, puts its units together again, and looks at the last packet where it
-/// is a PACI packet.
-pub fn send_and_receive(alloc: Global, frame: &[u8]) -> Result<Vec<u8>, PacketError> {
-    let mut packetizer = H265Packetizer::new(alloc);
-    let packets = packetizer.packetize(1200, frame)?;
-
-    let mut out = Vec::new(alloc);
-    let mut depacketizer = H265Depacketizer::new(alloc);
+/// Puts the units of packets together, and looks at the last packet where it is a PACI packet.
+pub fn receive(
+    depacketizer: &mut H265Depacketizer,
+    packets: &[Vec<u8>],
+    out: &mut Vec<u8>,
+) -> Result<(), PacketError> {
     let mut extra = CodecExtra::None;
-    for packet in &packets {
-        depacketizer.depacketize(packet, &mut out, &mut extra)?;
+    for packet in packets {
+        depacketizer.depacketize(packet, out, &mut extra)?;
     }
     if let H265Payload::H265PACIPacket(paci) = depacketizer.payload() {
         look_at(paci.tsci());
     }
-    Ok(out)
+    Ok(())
+}
+
+/// Cuts a frame into packets, and puts its units together again.
+pub fn send_and_receive(
+    packetizer: &mut H265Packetizer,
+    depacketizer: &mut H265Depacketizer,
+    frame: &[u8],
+    out: &mut Vec<u8>,
+) -> Result<(), PacketError> {
+    let packets = packetizer.packetize(1200, frame)?;
+    receive(depacketizer, &packets, out)
 }
 
 /// Sends a frame in packets of up to 1400 bytes.

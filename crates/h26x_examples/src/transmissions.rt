@@ -1,24 +1,24 @@
 //! The examples of `h26x_codec`'s documents: packetizers and depacketizers of any codec, and whole
 //! transmissions through both.
 
+use crate::any_endpoint::depacketize_all;
 use crate::stand_ins::send;
 use h26x_codec::Codec;
-use h26x_core::{CodecExtra, Depacketizer, PacketError, Packetizer};
+use h26x_core::{CodecExtra, PacketError, Packetizer};
 use h26x_transmission::{CodecDepacketizer, CodecPacketizer, Repeated, again, carry, take_all};
 use std::alloc::Global;
 
 /// Cuts a frame into packets, and puts its units together again.
 pub fn send_and_receive(alloc: Global, frame: &[u8]) -> Result<Vec<u8>, PacketError> {
-    let mut packetizer = CodecPacketizer::new(alloc, Codec::H266);
-    let packets = packetizer.packetize(1200, frame)?;
-
-    let mut out = Vec::new(alloc);
+    let packets = packets_of(alloc, frame)?;
     let mut depacketizer = CodecDepacketizer::new(alloc, Codec::H266);
-    let mut extra = CodecExtra::None;
-    for packet in &packets {
-        depacketizer.depacketize(packet, &mut out, &mut extra)?;
-    }
-    Ok(out)
+    depacketize_all(alloc, &mut depacketizer, &packets)
+}
+
+/// The packets of a frame.
+fn packets_of(alloc: Global, frame: &[u8]) -> Result<Vec<Vec<u8>>, PacketError> {
+    let mut packetizer = CodecPacketizer::new(alloc, Codec::H266);
+    packetizer.packetize(1200, frame)
 }
 
 /// Sends a frame with decoding order numbers where the session's description asks for them.

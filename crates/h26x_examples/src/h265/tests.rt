@@ -14,8 +14,13 @@ fn keyframes_are_detected(rt: HostRuntime) {
 
 #[test]
 fn a_frame_comes_back(rt: HostRuntime) {
+    let mut packetizer = H265Packetizer::new(rt.alloc());
+    let mut depacketizer = H265Depacketizer::new(rt.alloc());
+    let mut out = Vec::new(rt.alloc());
+    let frame = [0x26, 0x01, 0xaf];
+    let sent = send_and_receive(&mut packetizer, &mut depacketizer, &frame, &mut out);
     let want = [0, 0, 0, 1, 0x26, 0x01, 0xaf];
-    assert!(rt; wrote(send_and_receive(rt.alloc(), &[0x26, 0x01, 0xaf]), &want));
+    assert!(rt; (sent, out.as_slice()) == (Ok(()), want.as_slice()));
 }
 
 #[test]

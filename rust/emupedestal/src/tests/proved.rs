@@ -2,6 +2,7 @@
 //! outside, as the RFCs and the crate that this is a port of have them.
 
 mod access_units;
+mod assembler;
 mod boxes;
 mod buffers;
 mod codec;
