@@ -91,7 +91,34 @@ pub fn numbered<'a>(
     Ok(numbered)
 }
 
-/// Receives packets as they come, one by one, through a buffer with a window.
+/// Receives packets as they come, one by one, through a buffer.
+#[inline]
+fn receive_through(
+    buffer: &mut ReorderBuffer,
+    receiver: &mut AccessUnitAssembler<AnyDepacketizer>,
+    packets: &[RtpPacket<'_>],
+    order: &[usize],
+    units: &mut Vec<AccessUnit>,
+    digest: &mut Digest,
+) -> Result<(), PacketError> {
+    for place in order {
+        if let Some(packet) = packets.get(*place) {
+            buffer.push(packet)?;
+            while let Some(held) = buffer.pop() {
+                add_received(digest, receiver.receive(&held.packet(), units));
+            }
+            add_units(digest, units);
+        }
+    }
+    while let Some(held) = buffer.pop_first() {
+        add_received(digest, receiver.receive(&held.packet(), units));
+    }
+    receiver.finish(units)?;
+    add_units(digest, units);
+    Ok(())
+}
+
+/// So does a receiver of its own, through a buffer with a window.
 fn receive_each(
     alloc: Global,
     setting: Setting,
@@ -107,19 +134,51 @@ fn receive_each(
     let mut receiver = AccessUnitAssembler::new(alloc, sequenced, UNIT_LIMIT);
     let mut buffer = ReorderBuffer::new(alloc, window);
     let mut units = Vec::new(alloc);
+    receive_through(
+        &mut buffer,
+        &mut receiver,
+        packets,
+        order,
+        &mut units,
+        digest,
+    )
+}
+
+/// The packets that came.
+fn packets_in_order<'a>(
+    alloc: Global,
+    packets: &[RtpPacket<'a>],
+    order: &[usize],
+) -> Result<Vec<RtpPacket<'a>>, PacketError> {
+    let mut came = Vec::new(alloc);
     for place in order {
         if let Some(packet) = packets.get(*place) {
-            buffer.push(packet)?;
-            while let Some(held) = buffer.pop() {
-                add_received(digest, receiver.receive(&held.packet(), &mut units));
-            }
-            add_units(digest, &mut units);
+            came.push(RtpPacket {
+                sequence: packet.sequence,
+                timestamp: packet.timestamp,
+                marker: packet.marker,
+                payload: packet.payload,
+            })?;
         }
     }
-    while let Some(held) = buffer.pop_first() {
-        add_received(digest, receiver.receive(&held.packet(), &mut units));
+    Ok(came)
+}
+
+/// Receives a list.
+fn receive_all_of(
+    alloc: Global,
+    receiver: &mut AccessUnitAssembler<AnyDepacketizer>,
+    window: u16,
+    came: &[RtpPacket<'_>],
+    digest: &mut Digest,
+) -> Result<(), PacketError>
+    requires some { 0 < window }
+    requires half { window ≤ 2 ^ 14 }
+{
+    let mut units = Vec::new(alloc);
+    for received in assemble_all(alloc, receiver, window, came, &mut units)? {
+        add_received(digest, received);
     }
-    receiver.finish(&mut units)?;
     add_units(digest, &mut units);
     Ok(())
 }
@@ -136,25 +195,10 @@ fn receive_list(
     requires some { 0 < window }
     requires half { window ≤ 2 ^ 14 }
 {
+    let came = packets_in_order(alloc, packets, order)?;
     let sequenced = SequencedDepacketizer::new(alloc, depacketizer_of(alloc, setting), RUN_LIMIT);
     let mut receiver = AccessUnitAssembler::new(alloc, sequenced, UNIT_LIMIT);
-    let mut came = Vec::new(alloc);
-    for place in order {
-        if let Some(packet) = packets.get(*place) {
-            came.push(RtpPacket {
-                sequence: packet.sequence,
-                timestamp: packet.timestamp,
-                marker: packet.marker,
-                payload: packet.payload,
-            })?;
-        }
-    }
-    let mut units = Vec::new(alloc);
-    for received in assemble_all(alloc, &mut receiver, window, &came, &mut units)? {
-        add_received(digest, received);
-    }
-    add_units(digest, &mut units);
-    Ok(())
+    receive_all_of(alloc, &mut receiver, window, &came, digest)
 }
 
 /// Receives packets as they come, without a buffer and without access units.

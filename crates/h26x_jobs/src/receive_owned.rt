@@ -64,7 +64,42 @@ fn give_back<D: RunDepacketizer>(
     }
 }
 
-/// Receives packets as they come, one by one, through a buffer with a window.
+/// Receives packets as they come, one by one, through a buffer.
+#[inline]
+fn receive_through<D: RunDepacketizer>(
+    alloc: Global,
+    buffer: &mut ReorderBuffer,
+    receiver: &mut AccessUnitAssembler<D>,
+    packets: &[RtpPacket<'_>],
+    order: &[usize],
+    memories: &mut Vec<Vec<u8>>,
+    digest: &mut Digest,
+) -> Result<(), PacketError> {
+    let mut units = Vec::new(alloc);
+    for place in order {
+        if let Some(packet) = packets.get(*place) {
+            let packet = arrived(alloc, memories, packet)?;
+            if let Err(not_held) = buffer.push_held(packet) {
+                add_not_held(digest, &not_held);
+                memories.push(not_held.packet.into_payload())?;
+            }
+            while let Some(held) = buffer.pop() {
+                add_received(digest, receiver.receive(&held.packet(), &mut units));
+                memories.push(held.into_payload())?;
+            }
+            give_back(digest, receiver, &mut units);
+        }
+    }
+    while let Some(held) = buffer.pop_first() {
+        add_received(digest, receiver.receive(&held.packet(), &mut units));
+        memories.push(held.into_payload())?;
+    }
+    receiver.finish(&mut units)?;
+    give_back(digest, receiver, &mut units);
+    Ok(())
+}
+
+/// So does a receiver of its own, through a buffer with a window.
 fn receive_each<D: RunDepacketizer>(
     alloc: Global,
     depacketizer: D,
@@ -80,28 +115,15 @@ fn receive_each<D: RunDepacketizer>(
     let sequenced = SequencedDepacketizer::new(alloc, depacketizer, RUN_LIMIT);
     let mut receiver = AccessUnitAssembler::new(alloc, sequenced, UNIT_LIMIT);
     let mut buffer = ReorderBuffer::new(alloc, window);
-    let mut units = Vec::new(alloc);
-    for place in order {
-        if let Some(packet) = packets.get(*place) {
-            let packet = arrived(alloc, memories, packet)?;
-            if let Err(not_held) = buffer.push_held(packet) {
-                add_not_held(digest, &not_held);
-                memories.push(not_held.packet.into_payload())?;
-            }
-            while let Some(held) = buffer.pop() {
-                add_received(digest, receiver.receive(&held.packet(), &mut units));
-                memories.push(held.into_payload())?;
-            }
-            give_back(digest, &mut receiver, &mut units);
-        }
-    }
-    while let Some(held) = buffer.pop_first() {
-        add_received(digest, receiver.receive(&held.packet(), &mut units));
-        memories.push(held.into_payload())?;
-    }
-    receiver.finish(&mut units)?;
-    give_back(digest, &mut receiver, &mut units);
-    Ok(())
+    receive_through(
+        alloc,
+        &mut buffer,
+        &mut receiver,
+        packets,
+        order,
+        memories,
+        digest,
+    )
 }
 
 /// Receives the packets of a setting, by its codec.

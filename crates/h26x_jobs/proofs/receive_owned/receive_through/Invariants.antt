@@ -1,5 +1,5 @@
 use Rattle.std.proofs.Common.{length}
-use Rattle.h26x_jobs.proofs.receive_owned.receive_each.Given as goal
+use Rattle.h26x_jobs.proofs.receive_owned.receive_through.Given as goal
 
 -- each packet that is given out leaves one fewer
 abbrev pub decreases-loop-held : goal.decreases-loop-held
