@@ -6,6 +6,7 @@ import re
 HEAD = re.compile(r'(\s*)(?:pub(?:\([^)]*\))? )?(?:const )?(?:unsafe )?(?:extern "C" )?fn (\w+)')
 OUTER = re.compile(r"\s*(?:pub(?:\(.*\))? )?(?:(?:unsafe )?(impl)\b|(?:trait|mod) (\w+))")
 IMPL = re.compile(r"(?:unsafe )?impl\b")
+TYPE = re.compile(r"[&\s]*(?:mut )?(?:\w+::)*(\w+)")
 
 
 @functools.cache
@@ -90,9 +91,11 @@ def may_stand_twice(text, number):
 
 def is_plain(text, number):
     """Whether a function has its path from where it stands: it stands alone, with a body, and if it is a
-    type's own, that is of the same text."""
+    type's own, that is of the same text; if it is a trait's, the type has a name."""
     heads = heads_around(text, number)
     if not stands_alone(text, number) or any(re.search(r"\btrait\b", it) for it in heads):
+        return False
+    if any(has_trait and not TYPE.match(it) for _, has_trait, it in map(parted_at_for, heads)):
         return False
     types = (name_of_impl(it) for it in heads if IMPL.match(it) and not parted_at_for(it)[1])
     return all(re.search(rf"\b(?:struct|enum) {it}\b", text) for it in types)
@@ -112,6 +115,24 @@ def renamed(lines, name):
     return [*lines[:at], lines[at][:first] + name + lines[at][end:], *lines[at + 1 :]]
 
 
+def with_clauses(lines, names):
+    """The lines of a function's item with these of its `ensures` clauses alone."""
+    head = next(at for at, line in enumerate(lines) if HEAD.match(line))
+    indent = HEAD.match(lines[head])[1]
+    body = next(at for at in range(head + 1, len(lines)) if lines[at].startswith(f"{indent}{{"))
+    begins = re.compile(rf"{indent}    (?:(?:requires|ghost)\b|ensures (\w+)?)")
+    kept, found, keeps = [], set(), True
+    for line in lines[head:body]:
+        clause = begins.match(line)
+        if clause:
+            keeps = "ensures" not in clause[0] or clause[1] in names
+            found.add(clause[1])
+        kept += [line] if keeps else []
+    if not found.issuperset(names):
+        raise SystemExit(f"try-edits: {lines[head].strip()} has no clause {', '.join(set(names) - found)}")
+    return [*lines[:head], *kept, *lines[body:]]
+
+
 def head_of(lines, at):
     """The lines of an impl as far as its brace, as one."""
     end = at
@@ -129,11 +150,10 @@ def name_of_impl(head):
         head = head[closing(head) + 1 :].strip()
     head = re.split(r"\bwhere\b|\{", head)[0].strip()
     trait, has_trait, type_of = parted_at_for(head)
-    first = re.compile(r"[&\s]*(?:mut )?(?:\w+::)*(\w+)")
     if not has_trait:
         argument = re.fullmatch(r"[^<]*<(\w+)>", head) if is_whole else None
-        return first.match(head)[1] + (f"+{argument[1]}" if argument else "")
-    its = first.match(type_of)[1]
+        return TYPE.match(head)[1] + (f"+{argument[1]}" if argument else "")
+    its = TYPE.match(type_of)[1]
     return its[0].upper() + its[1:] + words_of(trait)
 
 
