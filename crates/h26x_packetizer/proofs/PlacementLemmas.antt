@@ -54,10 +54,14 @@ over_long h (p ∷ ps) memory room =
     let both = length-append p (packets_over h ps rest) in
     length-append (take h memory) (p ++ packets_over h ps rest) ∙ omega (arith, first, long, others, both, room)
 
+-- a packet is laid at a place, within memory and within what all take
+abbrev pub IsLaidNext : ℕ → List (List ℕ) → ℕ → List ℕ → List ℕ → ℕ → Type 0
+IsLaidNext h packets n memory now place = (place + h + length (get_or packets n []) ≤ length now) × ((place + h + length (get_or packets n []) ≤ laid_size h packets)
+    × (put_mid (place + h) (length (get_or packets n [])) now (get_or packets n []) ≡ packets_over h (take (n + 1) packets) memory))
+
 -- where the next packet is laid, and its end
 pub laid_next : (h : ℕ) (packets : List (List ℕ)) (n : ℕ) (memory now : List ℕ) (place : ℕ) → n < length packets → laid_size h packets ≤ length memory → place ≡ laid_size h (take n packets) →
-    now ≡ packets_over h (take n packets) memory → (place + h + length (get_or packets n []) ≤ length now) × ((place + h + length (get_or packets n []) ≤ laid_size h packets)
-    × (put_mid (place + h) (length (get_or packets n [])) now (get_or packets n []) ≡ packets_over h (take (n + 1) packets) memory))
+    now ≡ packets_over h (take n packets) memory → IsLaidNext h packets n memory now place
 laid_next h packets n memory now place within room is laid =
     let p = get_or packets n [] in
     let next = size_next h packets n within in

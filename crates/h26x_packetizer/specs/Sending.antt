@@ -9,7 +9,6 @@ use Rattle.h26x_model.specs.Send.WaitingSets.{WaitingSets}
 use Rattle.h26x_packetizer.specs.declared.body.Body.{Body}
 use Rattle.h26x_packetizer.specs.declared.body.Body.TheVariants as b
 use Rattle.h26x_packetizer.specs.declared.packetizer.Brought.{Brought}
-use Rattle.h26x_payload.specs.declared.sets.Sets.{Sets}
 use Rattle.h26x_packetizer.specs.declared.units.Outgoing.{Outgoing}
 use Rattle.h26x_packetizer.specs.declared.units.Outgoing.TheVariants as d
 use Rattle.h26x_packetizer.specs.declared.update.Update.{Update}
