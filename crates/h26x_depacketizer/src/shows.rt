@@ -72,8 +72,8 @@ pub trait Shows<C: PacketReader>: Sized + fmt::Debug + Drop + Eq {
         requires read { IsReadAs (C.format codec) (C.units codec) packet.now parts }
         requires shows { is_shown_by codec packet.now parts }
         ensures ready { OnOk result (is_ready codec packet.now parts.entry spare.new) }
-        ensures units { AreUnitsOf ((C.format codec).read packet.now)
-            (units (shown codec packet.now)) }
+        ensures units { OnOk result (AreUnitsOf ((C.format codec).read packet.now)
+            (units (shown codec packet.now))) }
         ensures refused { ForEachRun run_len (λ run. OnErr result (IsReadingOutcome is_avc run
             ((C.format codec).read packet.now) result)) }
         ensures free { is_free ≡ true → IsOk result };
