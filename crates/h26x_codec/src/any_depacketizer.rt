@@ -70,7 +70,8 @@ impl AnyDepacketizer {
     /// How many bytes of memory it keeps for runs: twice the open run at most, or 2^20 bytes. Of H.265
     /// what `shown` shows, and will show, is not counted.
     pub fn run_memory(&self) -> usize
-        ensures { result ≤ run_memory (run_len (any_depacketizer_state self.now).run) }
+        ensures holds { run_len (any_depacketizer_state self.now).run ≤ result }
+        ensures most { result ≤ run_memory (run_len (any_depacketizer_state self.now).run) }
     {
         match self {
             AnyDepacketizer::H264(it) => it.run_memory(),

@@ -85,7 +85,8 @@ impl AnyPayloadDepacketizer {
     /// How many bytes of memory it keeps for runs: twice the open run at most, or 2^20 bytes. It keeps
     /// no other memory.
     pub fn run_memory(&self) -> usize
-        ensures { result ≤ run_memory (run_len self.now.run) }
+        ensures holds { run_len self.now.run ≤ result }
+        ensures most { result ≤ run_memory (run_len self.now.run) }
     {
         self.run.memory()
     }

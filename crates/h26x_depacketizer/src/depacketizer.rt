@@ -86,7 +86,8 @@ impl<C: PacketReader, S: Shows<C>> PayloadDepacketizer<C, S> {
     /// How many bytes of memory it keeps for runs: twice the open run at most, or 2^20 bytes. What
     /// `payload` shows, and will show, is not counted.
     pub fn run_memory(&self) -> usize
-        ensures { result ≤ run_memory (run_len self.now.run) }
+        ensures holds { run_len self.now.run ≤ result }
+        ensures most { result ≤ run_memory (run_len self.now.run) }
     {
         self.run.memory()
     }

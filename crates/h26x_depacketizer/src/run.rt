@@ -155,7 +155,8 @@ impl OpenRun {
 
     /// How many bytes of memory its buffer has, data or not: twice its data at most, or 2^20.
     pub fn memory(&self) -> usize
-        ensures { result ≤ run_memory (run_len self.now) }
+        ensures holds { run_len self.now ≤ result }
+        ensures most { result ≤ run_memory (run_len self.now) }
     {
         self.bytes.capacity()
     }
