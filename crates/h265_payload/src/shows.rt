@@ -61,6 +61,7 @@ impl Shows<H265> for H265Payload {
         Ok(())
     }
 
+    #[inline(always)]
     fn show(&mut self, codec: H265, packet: &[u8], parts: Parts<'_>, spare: &mut Self::Spare) {
         show(codec.has_donl, packet, parts, self, spare);
     }

@@ -21,7 +21,7 @@ pub(crate) fn prefix_of(is_avc: bool, len: usize) -> [u8; 4] {
 }
 
 /// Writes what stands before a unit of this length, where there is room for it.
-#[inline(always)]
+#[inline]
 fn put_prefix<W: UnitSink>(is_avc: bool, len: usize, out: &mut W) {
     out.put(&prefix_of(is_avc, len));
 }
@@ -51,7 +51,7 @@ fn write_behind_length<W: UnitSink>(unit: &[u8], out: &mut W) -> Result<(), Pack
 }
 
 /// Writes a whole unit behind a start code (Annex B of H.264, H.265 and H.266).
-#[inline(always)]
+#[inline]
 fn write_behind_start_code<W: UnitSink>(unit: &[u8], out: &mut W) -> Result<(), PacketError> {
     out.try_reserve(unit.len().saturating_add(PREFIX_SIZE))?;
     put_unit(false, unit, out);

@@ -109,7 +109,7 @@ fn take_whole_in_text<C: PacketReader>(
 
 /// Takes the parts of a packet. Its clauses speak of these; those of `take_in_text` of the packet
 /// that was read as them.
-#[inline]
+#[inline(always)]
 fn take_parts_in_text<C: PacketReader>(
     codec: C,
     is_avc: bool,
@@ -135,7 +135,7 @@ fn take_parts_in_text<C: PacketReader>(
 ///
 /// Behind lengths a unit over `u32::MAX` bytes is refused; else memory may lack. A refusal leaves
 /// everything.
-#[inline]
+#[inline(always)]
 pub(crate) fn take_in_text<C: PacketReader>(
     codec: C,
     is_avc: bool,

@@ -116,7 +116,7 @@ pub(crate) fn take_parts<C: PacketReader, W: UnitSink>(
 ///
 /// Behind lengths a unit over `u32::MAX` bytes is refused; else memory may lack. A fragment that
 /// doesn't start while no run is open takes none. A refusal leaves everything.
-#[inline]
+#[inline(always)]
 pub(crate) fn take_packet<C: PacketReader, W: UnitSink>(
     codec: C,
     is_avc: bool,
