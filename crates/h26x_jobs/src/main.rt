@@ -6,20 +6,14 @@
 //! bytes, and prints a digest of all that was answered. `all` does each of them.
 #![tactic(auto)]
 
-mod aggregates;
 mod awkward;
 mod digest;
-mod draws;
 mod lines;
-mod network;
-mod packets;
 mod receive;
 mod receive_owned;
 mod record;
 mod send;
-mod setting;
 mod small;
-mod stream;
 
 use anyhow::{Context, Result};
 use digest::Digest;

@@ -5,14 +5,12 @@ ghost use Rattle.std.specs.Prelude.{◌^◌, ◌<◌, ◌≤◌};
 
 use crate::Work;
 use crate::digest::Digest;
-use crate::draws::Draws;
-use crate::network::arrivals;
-use crate::packets::{Packet, packets_of};
-use crate::setting::{SETTINGS, Setting};
-use crate::stream::{pictures, small_pictures};
 use h26x_assembler::{AccessUnit, AccessUnitAssembler, assemble_all};
 use h26x_codec::AnyDepacketizer;
 use h26x_core::{CodecExtra, PacketError};
+use h26x_inputs::{
+    Draws, Packet, SETTINGS, Setting, arrivals, packets_of, pictures, small_pictures,
+};
 use h26x_receiver::{Received, SequencedDepacketizer};
 use h26x_reorder::{ReorderBuffer, RtpPacket};
 use std::alloc::Global;

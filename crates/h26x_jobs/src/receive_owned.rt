@@ -5,16 +5,14 @@ ghost use Rattle.std.specs.Prelude.{◌^◌, ◌<◌, ◌≤◌};
 
 use crate::Work;
 use crate::digest::Digest;
-use crate::draws::Draws;
-use crate::network::arrivals;
-use crate::packets::{Packet, packets_of};
 use crate::receive::{First, RUN_LIMIT, UNIT_LIMIT, add_received, numbered};
-use crate::setting::{SETTINGS, Setting};
-use crate::stream::{pictures, small_pictures};
 use h26x_assembler::{AccessUnit, AccessUnitAssembler};
 use h26x_codec::Codec;
 use h26x_core::PacketError;
 use h26x_depacketizer::{PayloadDepacketizer, RunDepacketizer};
+use h26x_inputs::{
+    Draws, Packet, SETTINGS, Setting, arrivals, packets_of, pictures, small_pictures,
+};
 use h26x_receiver::SequencedDepacketizer;
 use h26x_reorder::{HeldPacket, NotHeld, NotHeldReason, ReorderBuffer, RtpPacket};
 use h264_payload::H264;

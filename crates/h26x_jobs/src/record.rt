@@ -3,12 +3,12 @@
 
 use crate::Work;
 use crate::digest::Digest;
-use crate::draws::Draws;
-use crate::packets::{FIRST_UNIT, LIMIT, Packet, packets_of, stamp_all, stamp_end};
-use crate::setting::{SETTINGS, Setting};
-use crate::stream::{pictures, stamp_at};
 use h26x_codec::Codec;
 use h26x_core::{CodecExtra, Depacketizer, PacketError};
+use h26x_inputs::{
+    Draws, FIRST_UNIT, LIMIT, Packet, SETTINGS, Setting, packets_of, pictures, stamp_all, stamp_at,
+    stamp_end,
+};
 use h26x_transmission::{CodecDepacketizer, CodecPacketizer, carry, take_all};
 use h264_payload::H264Depacketizer;
 use h265_payload::H265Depacketizer;

@@ -2,10 +2,8 @@
 
 use crate::Work;
 use crate::digest::Digest;
-use crate::draws::Draws;
-use crate::setting::{SETTINGS, Setting};
-use crate::stream::{Picture, pictures};
 use h26x_core::{PacketError, Packetizer};
+use h26x_inputs::{Draws, Picture, SETTINGS, Setting, pictures};
 use h26x_packetizer::PacketBuffer;
 use h26x_transmission::CodecPacketizer;
 use std::alloc::Global;

@@ -1,38 +1,15 @@
 //! Screens, games and calls of low delay: payloads of fifty small units, and aggregates of eleven.
 
 use crate::Work;
-use crate::aggregates::aggregates;
 use crate::digest::Digest;
-use crate::draws::Draws;
-use crate::packets::{Packet, packets_of, stamp_all, stamp_end};
 use crate::record::{take_each, take_list};
 use crate::send::{send_buffers, send_lists};
-use crate::setting::{SETTINGS, Setting};
-use crate::stream::Picture;
 use h26x_core::PacketError;
+use h26x_inputs::{
+    Draws, Packet, Picture, SETTINGS, Setting, aggregates, packets_of, small_payloads, stamp_all,
+    stamp_end,
+};
 use std::alloc::Global;
-
-/// How many units a payload has.
-const UNITS: u32 = 50;
-
-/// Payloads of fifty units of 20 to 150 bytes.
-fn payloads(
-    alloc: Global,
-    draws: &mut Draws,
-    setting: Setting,
-    count: u32,
-) -> Result<Vec<Picture>, PacketError> {
-    let mut payloads = Vec::new(alloc);
-    for _ in 0..count {
-        let mut payload = Picture::new(alloc);
-        for _ in 0..UNITS {
-            let len = 20 + draws.below(131) as usize;
-            payload.push_unit(draws, setting.slice_header(), len)?;
-        }
-        payloads.push(payload)?;
-    }
-    Ok(payloads)
-}
 
 /// What a setting's rounds send and take.
 #[derive(Drop)]
@@ -72,7 +49,7 @@ pub fn run(alloc: Global, work: Work) -> Result<Digest, PacketError> {
     let mut draws = Draws::new(work.seed);
     let mut digest = Digest::new();
     for setting in &SETTINGS {
-        let payloads = payloads(alloc, &mut draws, *setting, work.pictures)?;
+        let payloads = small_payloads(alloc, &mut draws, *setting, work.pictures)?;
         let packets = packets_of(alloc, *setting, &payloads)?;
         let count = work.pictures.saturating_mul(5);
         let mut small = Small {
