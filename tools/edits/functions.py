@@ -90,15 +90,25 @@ def may_stand_twice(text, number):
 
 
 def is_plain(text, number):
-    """Whether a function has its path from where it stands: it stands alone, with a body, and if it is a
-    type's own, that is of the same text; if it is a trait's, the type has a name."""
+    """Whether a function has its path from where it or its type stands: it stands alone, with a body, and
+    if it is a trait's, the type has a name."""
     heads = heads_around(text, number)
     if not stands_alone(text, number) or any(re.search(r"\btrait\b", it) for it in heads):
         return False
-    if any(has_trait and not TYPE.match(it) for _, has_trait, it in map(parted_at_for, heads)):
-        return False
+    return not any(has_trait and not TYPE.match(it) for _, has_trait, it in map(parted_at_for, heads))
+
+
+def type_of(text, line):
+    """The type whose own the function is that begins in this line, or None."""
+    lines = text.split("\n")
+    heads = (head_of(lines, at) for at in outer_of(lines, line))
     types = (name_of_impl(it) for it in heads if IMPL.match(it) and not parted_at_for(it)[1])
-    return all(re.search(rf"\b(?:struct|enum) {it}\b", text) for it in types)
+    return next(types, None)
+
+
+def has_type(text, name):
+    """Whether a type is declared in a text."""
+    return bool(re.search(rf"\b(?:struct|enum) {name}\b", text))
 
 
 def tests_in(file, text):
