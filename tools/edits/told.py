@@ -31,12 +31,9 @@ class Target:
         return self.path.removesuffix(f"_wrong_{self.body}")
 
     def is_named(self, name):
-        """Whether a name is the function's or that of a closure in it, whichever module names it."""
+        """Whether a name is the function's or that of a closure in it."""
         *outer, own = self.path.split("::")
-        inside = "::".join([*outer, "fn", own]) + "::"
-        plain = name if "+" in self.path else name.partition("+")[0]
-        same = plain == self.path or plain.endswith(f"::{self.path}")
-        return same or name.startswith(inside) or f"::{inside}" in name
+        return name == self.path or name.startswith("::".join([*outer, "fn", own, ""]))
 
     def has_line(self, file, line):
         return file == self.file and self.first <= line <= self.last
