@@ -1,7 +1,7 @@
 -- What an assembler gives out of packets of any sender.
-use Rattle.std.proofs.Common.{◌≡◌, ℕ, ◌+◌, ◌<◌, ◌≤◌, Bool, true, false, cond, List, [], ◌∷◌, ◌++◌, length, length-append, map, take, drop, slice_index_or, Option, Some, None, Result, refl, sym, ap, ◌∙◌, subst, append_assoc, arith}
+use Rattle.std.proofs.Common.{◌≡◌, ℕ, ◌+◌, ◌<◌, ◌≤◌, Bool, true, false, cond, List, [], ◌∷◌, ◌++◌, length, length-append, take, drop, slice_index_or, Option, Some, None, Result, refl, sym, ap, ◌∙◌, subst, append_assoc, arith}
 use Rattle.std.specs.Prelude.{◌&&◌}
-use Rattle.std.specs.List.{list_any, list_all, AllByRecursion, range_with_len}
+use Rattle.std.specs.List.{list_any, list_all}
 use Rattle.std.proofs.lemmas.List.{append-nil, append_cancel_left}
 use Rattle.std.proofs.lemmas.List.FromFn.{length-map-range_with_len}
 use Rattle.h26x_core.specs.declared.error.PacketError.{PacketError}
@@ -14,14 +14,14 @@ use Rattle.h26x_model.specs.Payload.Format.{Format}
 use Rattle.h26x_model.specs.Carry.Gaps.{after_kept_packets}
 use Rattle.h26x_model.specs.Carry.AnySender.{WritesWhatCame}
 use Rattle.h26x_receiver.specs.declared.received.Received.{Received}
-use Rattle.h26x_receiver.specs.Delivery.{AreNextPlaces, taken_places, mask_of_places, NoneIsRefused}
+use Rattle.h26x_receiver.specs.Delivery.{taken_places}
 use Rattle.h26x_receiver.proofs.PlaceLemmas.{expected_at, is_place, IsOn}
 use Rattle.h26x_receiver.proofs.DeliveryLemmas.{WritesIt, is_among, up_from_first}
 use Rattle.h26x_reorder.specs.Rtp.{RtpBody}
 use Rattle.h26x_reorder.specs.Reordering.{in_order}
 use Rattle.h26x_reorder.specs.ReorderBuffer.{reordered}
-use Rattle.h26x_assembler.specs.AccessUnit.{AccessUnitValue, Assembly, IsNoneOpen, is_closed_at, given_out, after_finishing, after_all_rtp, HaveAssemblyAnswers, AreAssembled}
-use Rattle.h26x_assembler.specs.StampedCalls.{unit_bodies, body_of_place, last_came, closed_after, open_after, IsOtherStamp, AreGivenOut, AreUnitsGiven, first_place, are_runs_within}
+use Rattle.h26x_assembler.specs.AccessUnit.{AccessUnitValue, Assembly, IsNoneOpen, is_closed_at, given_out, after_all_rtp, HaveAssemblyAnswers, AreAssembled}
+use Rattle.h26x_assembler.specs.StampedCalls.{unit_bodies, last_came, closed_after, open_after, IsOtherStamp, AreGivenOut, first_place, are_runs_within}
 use Rattle.h26x_assembler.specs.AnyUnits.{SentPackets, any_bodies, units_that_came, any_unit_left, any_units_left, AreSentApart, any_mask, are_used, AreAnyUnitsBrought}
 use Rattle.h26x_assembler.proofs.TakeLemmas.{at_gap}
 use Rattle.h26x_assembler.proofs.UnitLemmas.{after_all_taken, taken_append, kept_from, expected_after, AreGapsShort, IsLeftOpen, left_more, grown, begun, IsLeft, begins}

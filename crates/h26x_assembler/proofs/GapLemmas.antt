@@ -1,8 +1,8 @@
 -- Places that come reordered within a window, without far jumps, have gaps shorter than half of the numbers' circle.
-use Rattle.std.proofs.Common.{◌≡◌, ℕ, ◌+◌, ◌<◌, ◌≤◌, Bool, true, false, cond, List, [], ◌∷◌, Option, None, Some, refl, ap, ◌∙◌, subst, arith}
+use Rattle.std.proofs.Common.{◌≡◌, ℕ, ◌+◌, ◌<◌, ◌≤◌, true, false, cond, List, [], ◌∷◌, Option, None, Some, refl, ap, ◌∙◌, arith}
 use Rattle.std.specs.Prelude.{◌==◌, nat_lt, max}
 use Rattle.std.proofs.lemmas.Bool.Decides.{nat_tests}
-use Rattle.h26x_receiver.specs.Delivery.{IsNextPlace, AreNextPlaces}
+use Rattle.h26x_receiver.specs.Delivery.{AreNextPlaces}
 use Rattle.h26x_reorder.specs.Reordering.{put, puts, in_order, due_after, AreWithinWindow, AreJumpsShort, IsReordered}
 
 -- the last of places in order is behind the one expected

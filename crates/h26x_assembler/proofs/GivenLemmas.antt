@@ -1,15 +1,9 @@
 -- What is given out of packets that are all taken.
-use Rattle.std.proofs.Common.{◌≡◌, ℕ, ◌≤◌, Bool, true, false, cond, List, [], ◌∷◌, ◌++◌, length, length-append, Option, Some, None, sym, ap, ◌∙◌, subst, arith, refl, append_assoc}
-use Rattle.std.specs.Prelude.{◌==◌, ◌&&◌, nat_lt}
-use Rattle.std.proofs.lemmas.Bool.Decides.{nat_tests}
-use Rattle.h26x_model.specs.Receive.DepacketizerState.{DepacketizerState}
+use Rattle.std.proofs.Common.{◌≡◌, ℕ, false, cond, List, [], ◌∷◌, ◌++◌, sym, ap, ◌∙◌, refl, append_assoc}
 use Rattle.h26x_reorder.specs.Rtp.{RtpBody}
 use Rattle.h26x_receiver.specs.Sequenced.{after_taken_packet}
-use Rattle.h26x_assembler.specs.AccessUnit.{AccessUnitValue, whole_if, Assembly, follows, is_run_closed, taken_by, unit_len, unit_within, unit_with, given_out, ended_by, after_taken_rtp}
-use Rattle.h26x_assembler.specs.StampedCalls.{AreUnitsWithin}
-use Rattle.h26x_assembler.proofs.TakeLemmas.{at_gap}
+use Rattle.h26x_assembler.specs.AccessUnit.{AccessUnitValue, whole_if, Assembly, is_run_closed, taken_by, unit_with, given_out, ended_by, after_taken_rtp}
 use Rattle.h26x_assembler.proofs.UnitLemmas.{after_all_taken}
-use Rattle.h26x_assembler.proofs.StreamLemmas.{all_front, all_rest}
 
 -- a packet's own access unit, where it ends it
 abbrev pub own_ended : ℕ → Assembly → ℕ × RtpBody → AccessUnitValue

@@ -1,16 +1,14 @@
 -- What a network brings through a buffer.
-use Rattle.std.proofs.Common.{◌≡◌, ℕ, zero, suc, ◌+◌, ◌<◌, ◌≤◌, Bool, List, [], ◌∷◌, length, map, slice_index_or, None, Result, refl, ap, ◌∙◌, subst}
+use Rattle.std.proofs.Common.{◌≡◌, ℕ, zero, suc, ◌+◌, ◌<◌, ◌≤◌, Bool, List, [], ◌∷◌, length, map, slice_index_or, None, refl, ap, ◌∙◌, subst}
 use Rattle.std.specs.Prelude.{◌==◌}
 use Rattle.std.specs.List.{list_any, range_with_len}
 use Rattle.std.proofs.Math.Bool.{or-false}
-use Rattle.h26x_core.specs.declared.error.PacketError.{PacketError}
 use Rattle.h26x_model.specs.Send.Calls.{all_entries}
 use Rattle.h26x_model.specs.Payload.Facts.{IsPayloadFormat}
 use Rattle.h26x_model.specs.Carry.Gaps.{whole_units}
 use Rattle.h26x_model.specs.Receive.DepacketizerState.{Depacketization, AreWritten}
 use Rattle.h26x_model.specs.Send.PacketizerState.{state_packets}
-use Rattle.h26x_receiver.specs.declared.received.Received.{Received}
-use Rattle.h26x_receiver.specs.Sequenced.{with_expected, after_answers, HaveSequencedAnswers}
+use Rattle.h26x_receiver.specs.Sequenced.{with_expected, after_answers}
 use Rattle.h26x_receiver.specs.Delivery.{packet_of_place, WritesThoseOfCalls}
 use Rattle.h26x_reorder.specs.Reordering.{in_order}
 use Rattle.h26x_assembler.specs.Network.{released_packets, UnitsComeThrough}

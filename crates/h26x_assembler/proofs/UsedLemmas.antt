@@ -1,10 +1,9 @@
 -- Of the packets of calls bytes stand of each, and behind them no run is open.
-use Rattle.std.proofs.Common.{◌≡◌, ℕ, zero, suc, ◌+◌, ◌-◌, ◌*◌, ◌<◌, ◌≤◌, true, false, cond, eqb, eq-eqb, List, [], ◌∷◌, ◌++◌, length, length-append, map, take, drop, Option, None, Some, refl, sym, ap, ◌∙◌, subst, append_assoc, arith}
+use Rattle.std.proofs.Common.{◌≡◌, ℕ, zero, suc, ◌+◌, ◌-◌, ◌<◌, true, false, cond, eqb, eq-eqb, List, [], ◌∷◌, ◌++◌, length, length-append, map, take, drop, None, Some, refl, sym, ap, ◌∙◌, arith}
 use Rattle.std.specs.Prelude.{◌==◌, IsTrue}
 use Rattle.std.specs.List.{AllByRecursion, range_with_len}
-use Rattle.std.proofs.lemmas.List.{append-nil, length-drop, length-take}
+use Rattle.std.proofs.lemmas.List.{length-drop, length-take}
 use Rattle.std.proofs.lemmas.Bool.Decides.{nat_tests}
-use Rattle.h26x_model.specs.Payload.Don.{don_sent}
 use Rattle.h26x_model.specs.Payload.Facts.{IsPayloadFormat, ReadsWhatItWrites, IsPlanned, AreCarried}
 use Rattle.h26x_model.specs.Payload.Format.{Format, donl_len}
 use Rattle.h26x_model.specs.Send.Calls.{Call, AreCalls, all_entries}

@@ -1,6 +1,6 @@
 -- Parameter sets that go before a unit, and kinds of units, as the code has them (RFC 6184, 5.7.1; RFC
 -- 7798, 4.4.2; RFC 9328, 4.3.2).
-use Rattle.std.specs.Prelude.{ℕ, ◌+◌, Bool, if◌then◌else◌, List, [], ◌∷◌, ◌++◌, length, Option, Some, None}
+use Rattle.std.specs.Prelude.{ℕ, Bool, if◌then◌else◌, List, [], ◌∷◌, ◌++◌, Option, Some, None}
 use Rattle.std.specs.List.{flat_map}
 use Rattle.std.specs.Option.{option_map}
 use Rattle.std.specs.Borrow.{Bor}

@@ -1,13 +1,13 @@
 -- What a buffer gives out are the packets that it held.
-use Rattle.std.proofs.Common.{◌≡◌, ℕ, ◌+◌, ◌<◌, ◌≤◌, Bool, true, false, cond, List, [], ◌∷◌, ◌++◌, Option, Some, None, refl, sym, ap, ◌∙◌, subst, append_assoc, arith}
+use Rattle.std.proofs.Common.{◌≡◌, ℕ, ◌<◌, Bool, true, false, cond, List, [], ◌∷◌, ◌++◌, Option, Some, None, refl, sym, ap, ◌∙◌, subst, append_assoc, arith}
 use Rattle.std.specs.Prelude.{◌==◌, ◌||◌, nat_lt, IsPermutation}
 use Rattle.std.proofs.lemmas.List.{append-nil}
-use Rattle.std.proofs.lemmas.List.Sorted.{IsPermutation-refl, IsPermutation-cons, IsPermutation-trans, IsPermutation-to_front, IsPermutation-append_left, IsPermutation-append_right, IsPermutation-append_comm}
+use Rattle.std.proofs.lemmas.List.Sorted.{IsPermutation-refl, IsPermutation-cons, IsPermutation-trans, IsPermutation-to_front, IsPermutation-append_left}
 use Rattle.std.proofs.lemmas.Bool.Decides.{nat_tests}
 use Rattle.h26x_core.specs.Sequence.{next_sequence_number, distance_ahead, is_late}
 use Rattle.h26x_reorder.specs.Rtp.{RtpBody}
-use Rattle.h26x_reorder.specs.ReorderBuffer.{BufferState, IsBufferState, buffer_state, fresh_buffer, due_at, put_packet, is_number_held, push_answer, after_push, without_first, IsHeldInOrder, AreHeldInOrder}
-use Rattle.h26x_reorder.specs.BufferSteps.{BufferStep, Comes, GoesOut, after_step, after_steps, first_held, steps_out, steps_held, AreAheadOf, AreInTurn, AreNumbered, GivesOutThoseHeld}
+use Rattle.h26x_reorder.specs.ReorderBuffer.{BufferState, buffer_state, fresh_buffer, due_at, put_packet, is_number_held, after_push, without_first, IsHeldInOrder, AreHeldInOrder}
+use Rattle.h26x_reorder.specs.BufferSteps.{BufferStep, Comes, GoesOut, after_steps, steps_out, steps_held, AreAheadOf, AreInTurn, AreNumbered, GivesOutThoseHeld}
 use Rattle.h26x_reorder.proofs.BufferLemmas.{order_at, put_in_order, put_held, rest_in_order}
 
 -- a packet behind others, or before them

@@ -1,5 +1,5 @@
 -- What a buffer of packets gives out, whatever comes and whoever takes out (ours).
-use Rattle.std.specs.Prelude.{◌≡◌, ℕ, ◌^◌, ◌<◌, Bool, true, false, if◌then◌else◌, List, [], ◌∷◌, ◌++◌, IsPermutation}
+use Rattle.std.specs.Prelude.{ℕ, ◌^◌, ◌<◌, Bool, true, false, if◌then◌else◌, List, [], ◌∷◌, ◌++◌, IsPermutation}
 use Rattle.h26x_core.specs.Sequence.{next_sequence_number, distance_ahead}
 use Rattle.h26x_reorder.specs.declared.pushed.Pushed.{Pushed}
 use Rattle.h26x_reorder.specs.declared.pushed.Pushed.TheVariants as pushes

@@ -1,5 +1,5 @@
 -- Payloads sent by calls like one, one after the other. The laws that this stands on come as arguments.
-use Rattle.std.proofs.Common.{◌≡◌, ℕ, ◌+◌, ◌<◌, ◌≤◌, false, Bool, List, [], ◌∷◌, ◌++◌, length, take, get_or, Option, Some, sym, ap, ◌∙◌, inl, inr, refl, subst, Result, Ok, Err, ⊎_elim}
+use Rattle.std.proofs.Common.{◌≡◌, ℕ, ◌+◌, ◌<◌, ◌≤◌, false, List, [], ◌∷◌, ◌++◌, length, take, get_or, Option, Some, sym, ap, ◌∙◌, inl, inr, refl, subst, Result, Ok, Err, ⊎_elim}
 use Rattle.std.specs.Prelude.{◌⊎◌}
 use Rattle.std.specs.Option.{option_map}
 use Rattle.std.proofs.lemmas.List.{append-nil, map-append, take_all}
@@ -17,12 +17,8 @@ use Rattle.h26x_core.specs.ByteStream.{byte_stream}
 use Rattle.h26x_model.specs.Send.PacketizerState.{PacketizerState, state_packets, after_entries}
 use Rattle.h26x_model.specs.Receive.DepacketizerState.{DepacketizerState, Depacketization, units_brought, after_packets, depacketization}
 use Rattle.h26x_model.specs.Carry.Laws.{PacketizerGoesOn, calls_like}
-use Rattle.h26x_payload.specs.Units.{CutsBy}
-use Rattle.h26x_codec.specs.Codec.{codec_format, zero_rule}
 use Rattle.h26x_transmission.specs.Transmissions.{IsLeftOver}
 use Rattle.h26x_transmission.specs.Repeating.{IsFirstRefused}
-use Rattle.h26x_codec.specs.declared.codec.Codec.{Codec}
-use Rattle.h26x_codec.specs.declared.codec.Codec.TheVariants as c
 use Rattle.h26x_transmission.proofs.TransmissionLemmas.{written_of}
 
 -- a call with this payload

@@ -5,7 +5,7 @@ use Rattle.h26x_core.specs.declared.extra.CodecExtra.TheVariants as extras
 use Rattle.h26x_model.specs.Receive.RunLimit.{state_with_run}
 use Rattle.h26x_receiver.specs.Sequenced.{SequencedDepacketization, sequenced_depacketization, sequenced_in_text, after_taken_packet, IsSequencedAnswer}
 use Rattle.h26x_reorder.specs.Rtp.{RtpBody, rtp_body}
-use Rattle.h26x_assembler.specs.AccessUnit.{AccessUnitValue, access_unit_value, open_unit_value, empty_unit, whole_if, given_out, assembly, open_assembly, is_run_too_long, is_following, is_run_closed, is_unit_at, after_taken_rtp}
+use Rattle.h26x_assembler.specs.AccessUnit.{AccessUnitValue, access_unit_value, open_unit_value, empty_unit, whole_if, given_out, open_assembly, is_run_too_long, is_following, is_run_closed, is_unit_at, after_taken_rtp}
 use Rattle.h26x_assembler.proofs.TakeLemmas.{begins_taken, taken_work, filled, with_unit, same_open, same_unit}
 use Rattle.h26x_assembler.proofs.assembler.begin.Goals as goal
 

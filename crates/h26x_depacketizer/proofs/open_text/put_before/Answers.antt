@@ -1,6 +1,5 @@
-use Rattle.std.proofs.Common.{rules, arith, ◌≡◌, ◌+◌, ◌-◌, ◌∙◌, ℕ, length, sym, ap, refl}
+use Rattle.std.proofs.Common.{arith, ◌≡◌, ◌+◌, ◌-◌, length, refl}
 use Rattle.h26x_depacketizer.proofs.OpenTextLemmas.{put_twice}
-use borrow.Rule.Slice.PartMut.{put_mid}
 use Rattle.h26x_depacketizer.proofs.open_text.put_before.Goals as goal
 
 pub returns : goal.returns

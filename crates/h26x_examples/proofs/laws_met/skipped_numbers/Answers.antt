@@ -1,4 +1,4 @@
-use Rattle.std.proofs.Common.{◌≡◌, ◌∙◌, ap, eq-eqb, refl, true, sym}
+use Rattle.std.proofs.Common.{◌∙◌, ap, eq-eqb, refl}
 use Rattle.h26x_core.specs.Sequence.{is_expected, next_sequence_number}
 use Rattle.h26x_receiver.specs.Sequenced.{SequencedDepacketization}
 use Rattle.h26x_assembler.specs.AccessUnit.{Assembly, follows}

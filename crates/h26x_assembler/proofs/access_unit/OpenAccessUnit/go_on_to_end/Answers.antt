@@ -1,8 +1,7 @@
-use Rattle.std.proofs.Common.{rules, ◌≡◌, ◌∙◌, ap, sym, subst, map, Bool, true, false, ℕ, List, [], ◌∷◌, ◌++◌, Option, None, Some, refl}
+use Rattle.std.proofs.Common.{rules, ◌≡◌, ◌∙◌, ap, sym, subst, map, true, false, [], ◌∷◌, ◌++◌, None, Some, refl}
 use Rattle.std.specs.Option.{option_map}
 use Rattle.std.proofs.lemmas.List.{map-append}
 use Rattle.h26x_model.specs.Receive.RunLimit.{state_with_run}
-use Rattle.h26x_reorder.specs.Rtp.{RtpBody}
 use Rattle.h26x_assembler.specs.AccessUnit.{AccessUnitValue, Assembly, whole_if, is_run_closed, OpenAccessUnitView, access_unit_value, open_unit_value, open_unit_view, open_assembly, is_unit_at, after_taken_rtp}
 use Rattle.h26x_assembler.proofs.TakeLemmas.{ends_taken, same_open, unit_stamp}
 use Rattle.h26x_assembler.proofs.access_unit.OpenAccessUnit.go_on_to_end.Goals as goal

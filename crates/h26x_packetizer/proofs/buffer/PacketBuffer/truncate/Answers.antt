@@ -1,6 +1,6 @@
 use Rattle.std.proofs.Common.{rules, ◌≡◌, ap, sym, ◌∙◌, ◌≤◌, take, length, arith, ℕ, List}
 use Rattle.std.proofs.lemmas.List.{take_all}
-use Rattle.h26x_packetizer.specs.Buffer.{PacketBufferView, last_end, packets_from, headrooms_from, buffer_of, first_packets}
+use Rattle.h26x_packetizer.specs.Buffer.{last_end, packets_from, headrooms_from, buffer_of, first_packets}
 use Rattle.h26x_packetizer.proofs.BufferLemmas.{buffer_take, packets_count, headrooms_count}
 use Rattle.h26x_packetizer.proofs.buffer.PacketBuffer.truncate.Goals as goal
 
