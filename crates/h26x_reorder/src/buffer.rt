@@ -236,12 +236,15 @@ impl ReorderBuffer {
     }
 
     /// Takes a packet, and copies it. Without memory the buffer stays as it was, and the packet can be
-    /// given again.
+    /// given again. One that is late or comes twice takes no memory.
     pub fn push(&mut self, packet: &RtpPacket<'_>) -> Result<Pushed, AllocError>
         ensures answer { IfOk result (λ answer. answer ≡ push_answer self.old packet.now.0) }
         ensures after { OnOk result (self.new ≡ after_push self.old packet.now) }
         ensures late { (n : ℕ) → result ≡ Ok (Pushed.Late n) → self.new ≡ self.old }
         ensures twice { result ≡ Ok Pushed.Twice → self.new ≡ self.old }
+
+        // Only a packet that would be held is refused for want of memory.
+        ensures wanted { OnErr result (push_answer self.old packet.now.0 ≡ Pushed.Held) }
         ensures kept { OnErr result (self.new ≡ self.old) }
         ensures one_more { length self.new.held ≤ length self.old.held + 1 }
     {

@@ -181,7 +181,7 @@ impl ReorderBuffer {
     }
 
     /// Takes a packet, and copies it. Without memory the buffer stays as it was, and the packet can be
-    /// given again.
+    /// given again. One that is late or comes twice takes no memory.
     pub(crate) fn try_push(&mut self, packet: &RtpPacket<'_>) -> Result<Pushed, AllocError> {
         let sequence = packet.sequence;
         match self.held.place_of(sequence) {
