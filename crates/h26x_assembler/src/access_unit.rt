@@ -1,10 +1,11 @@
 //! Access units, and the one that is open.
 
-ghost use Rattle.std.specs.Prelude.{◌≡◌, ◌+◌, ◌≤◌, ◌==◌, nat_lt, ◌&&◌, ◌||◌, ◌++◌, ◌∷◌, [], if◌then◌else◌, true, false, None, Some, length, vec_len, vec_capacity, is_some};
+ghost use Rattle.std.specs.Prelude.{◌≡◌, ◌+◌, ◌≤◌, ◌==◌, ℕ, Ok, nat_lt, ◌&&◌, ◌||◌, ◌++◌, ◌∷◌, [], if◌then◌else◌, true, false, None, Some, length, vec_len, vec_capacity, is_some};
 ghost use Rattle.h26x_model.specs.Payload.Reading.{is_start};
 ghost use Rattle.h26x_model.specs.Receive.RunLimit.{run_len};
 ghost use Rattle.h26x_receiver.specs.Sequenced.{IfTaken, UnlessTaken};
 ghost use Rattle.h26x_assembler.specs.AccessUnit.{access_unit_value, open_unit_value, open_unit_view, empty_unit, whole_if, one_open, none_open, without_marker, behind_gap, is_following, is_run_closed, unit_len, unit_within, is_unit_at, given_out, after_taken_rtp, parts_at, IsTakenAnswerAt, unit_views};
+ghost use Rattle.h26x_depacketizer.specs.OpenText.{IsGivenBack};
 ghost use Rattle.h26x_depacketizer.specs.RunDepacketizer.{RunStaysWithin};
 
 use crate::answers::{is_following, is_sound, was_taken};
@@ -80,6 +81,7 @@ impl AccessUnitSoFar {
         ensures limit { packets.new.run_limit ≡ packets.old.run_limit }
         ensures bounded { RunStaysWithin packets.old.run_limit self.old.text.run self.new.text.run }
         ensures aside { may_be_inside ≡ false → IfTaken result (self.new.text.inside ≡ None) }
+        ensures memory { (n : ℕ) → result ≡ Ok (Received.TooLong n) → IsGivenBack self.new.text }
         ensures kept { UnlessTaken result ((packets.new ≡ packets.old)
             × (one_open self.new is_gap closed ≡ one_open self.old is_gap closed)) }
     {
@@ -136,6 +138,7 @@ impl AccessUnitSoFar {
     fn break_off(&mut self)
         ensures unit { open_unit_value self.new ≡ whole_if false (open_unit_value self.old) }
         ensures run { self.new.text.run ≡ None }
+        ensures memory { IsGivenBack self.new.text }
     {
         self.text.give_up_run();
         self.is_whole = false;

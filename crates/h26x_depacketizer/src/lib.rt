@@ -7,6 +7,7 @@ mod aggregate;
 mod byte_stream;
 mod depacketizer;
 mod extra;
+mod give_back;
 mod in_text;
 mod memory;
 mod open_text;

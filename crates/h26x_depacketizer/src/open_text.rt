@@ -1,16 +1,17 @@
 //! The text of an access unit that is open, with the data of the open run in its memory.
 
-ghost use Rattle.std.specs.Prelude.{◌≡◌, ◌⊎◌, ◌&&◌, ◌+◌, ◌≤◌, ◌++◌, ◌∷◌, [], length, take, drop, Some, None, Ok, Err, OnOk, OnErr, IsTrue, ◌↔◌, is_some, true};
+ghost use Rattle.std.specs.Prelude.{◌≡◌, ◌⊎◌, ◌&&◌, ◌+◌, ◌≤◌, ◌++◌, ◌∷◌, [], length, take, drop, vec_capacity, Some, None, Ok, Err, OnOk, OnErr, IsTrue, ◌↔◌, is_some, true, false};
 ghost use Rattle.std.specs.Option.{option_map};
 ghost use Rattle.h26x_core.specs.ByteStream.{byte_stream};
 ghost use Rattle.h26x_model.specs.Receive.Outcome.{is_too_long};
 ghost use Rattle.h26x_model.specs.Receive.Received.{run_after};
 ghost use Rattle.h26x_model.specs.Receive.RunLimit.{run_len};
 ghost use Rattle.h26x_depacketizer.specs.DepacketizerView.{reading_of, AreChecked};
-ghost use Rattle.h26x_depacketizer.specs.OpenText.{IsSameText, run_if, text_with};
+ghost use Rattle.h26x_depacketizer.specs.OpenText.{IsSameText, IsGivenBack, IsMostlyRun, run_if, text_with};
 ghost use Rattle.h26x_depacketizer.specs.Run.{run_bytes, extra_with, IsWriteOutcome, IsTakeOutcome};
 
 use crate::byte_stream::{PREFIX_SIZE, is_too_long, prefix_of};
+use crate::give_back::give_back;
 use crate::parts::Parts;
 use crate::reader::PacketReader;
 use crate::run::OpenRun;
@@ -34,15 +35,18 @@ pub struct OpenText {
     from: usize,
     is_inside: bool,
     aside: OpenRun,
+    /// Whether the memory was to be given back, and there was no smaller place to move to.
+    lacks_place: bool,
 }
 
 impl Model for OpenText {
-    ghost use Rattle.std.specs.Prelude.{◌≡◌, ◌≤◌, ◌+◌, true, None, length};
+    ghost use Rattle.std.specs.Prelude.{◌≡◌, ◌≤◌, ◌+◌, true, None, length, vec_capacity};
     ghost use Rattle.h26x_depacketizer.specs.OpenText.{OpenTextView, open_text_view};
 
     ghost Value = { OpenTextView };
 
-    ghost view = { λ a. open_text_view a.is_inside a.at a.from a.bytes.items a.aside };
+    ghost view = { λ a. open_text_view a.is_inside a.at a.from a.bytes.items a.aside
+        (vec_capacity a.bytes) a.lacks_place };
 
     ghost invariant = { λ a. a.is_inside ≡ true →
         (a.at + 4 ≤ a.from) × (a.from ≤ length a.bytes.items) × (a.aside ≡ None) };
@@ -55,6 +59,7 @@ impl OpenText {
         ensures text { result.text ≡ [] }
         ensures run { result.run ≡ None }
         ensures inside { result.inside ≡ None }
+        ensures memory { result.memory ≡ vec_capacity memory }
     {
         let alloc = *memory.allocator();
         memory.clear();
@@ -64,6 +69,7 @@ impl OpenText {
             from: 0,
             is_inside: false,
             aside: OpenRun::none(alloc),
+            lacks_place: false,
         }
     }
 
@@ -184,7 +190,8 @@ impl OpenText {
         ensures kept { OnErr result (self.new ≡ self.old) }
         ensures was_open { self.old.run ≡ Some (run_bytes self.old.run) }
     {
-        self.bytes.extend_from_slice(body)?;
+        self.bytes.reserve(body.len())?;
+        self.bytes.extend_from_slice(body).unwrap();
         Ok(())
     }
 
@@ -210,7 +217,8 @@ impl OpenText {
         if is_avc && is_too_long(behind.saturating_add(body.len())) {
             return Err(PacketError::AvcUnitTooLong);
         }
-        self.bytes.extend_from_slice(body)?;
+        self.bytes.reserve(body.len())?;
+        self.bytes.extend_from_slice(body).unwrap();
         let prefix = prefix_of(is_avc, behind + body.len());
         put_before(&mut self.bytes, self.at, &prefix, head);
         self.is_inside = false;
@@ -254,7 +262,7 @@ impl OpenText {
         ensures run { OnOk result (self.new.run
             ≡ run_after self.old.run (reading_of C.format C.units codec packet.now parts.entry)) }
         ensures inside { self.new.inside ≡ None }
-        ensures kept { OnErr result (self.new ≡ self.old) }
+        ensures kept { OnErr result (IsSameText self.new self.old) }
         ensures kept_extra { OnErr result (codec_extra.new ≡ codec_extra.old) }
     {
         let (run, bytes) = (&mut self.aside, &mut self.bytes);
@@ -275,37 +283,42 @@ impl OpenText {
     }
 
     /// Gives up the open run, and gives its memory back. The text moves only behind a run that was as
-    /// long, and so never more than was taken.
+    /// long, or out of memory that is twice as large, and so never more than was taken. Where there is
+    /// no smaller place it stays.
     pub fn give_up_run(&mut self)
         ensures text { self.new.text ≡ self.old.text }
         ensures run { self.new.run ≡ None }
         ensures inside { self.new.inside ≡ None }
+        ensures memory { IsGivenBack self.new }
+        ensures all { IsMostlyRun self.old → self.new.lacks_place ≡ false →
+            self.new.memory ≤ length self.new.text }
     {
-        if self.is_inside {
-            let is_long = self.bytes.len() - self.at >= self.at;
-            self.bytes.truncate(self.at);
-            if is_long {
-                self.bytes.shrink_to_fit();
-            }
-            self.is_inside = false;
-        }
+        let text_len = self.len();
+        let is_long = self.is_inside && self.bytes.len() - text_len >= text_len;
+        self.bytes.truncate(text_len);
+        self.is_inside = false;
         self.aside.give_up();
+        self.lacks_place = !give_back(&mut self.bytes, is_long);
     }
 
-    /// Gives up the text, and gives its memory back where the open run doesn't stand in it. The run
-    /// stays open.
+    /// Gives up the text, and gives its memory back; where the open run stands in it as much as that
+    /// doesn't need, if there is a smaller place. The run stays open.
     pub fn give_up_text(&mut self)
         ensures text { self.new.text ≡ [] }
         ensures run { self.new.run ≡ self.old.run }
+        ensures memory { IsGivenBack self.new }
+        ensures all { self.old.inside ≡ None → self.new.memory ≡ 0 }
     {
         if self.is_inside {
             self.bytes.rotate_left(self.at);
             self.bytes.truncate(self.bytes.len() - self.at);
             self.from -= self.at;
             self.at = 0;
+            self.lacks_place = !give_back(&mut self.bytes, false);
         } else {
             let alloc = *self.bytes.allocator();
             self.bytes = Vec::new(alloc);
+            self.lacks_place = false;
         }
     }
 
@@ -327,7 +340,8 @@ impl OpenText {
     /// The text alone: an open run goes.
     #[inline]
     pub fn into_text(mut self) -> Vec<u8>
-        ensures { result.items ≡ self.text }
+        ensures text { result.items ≡ self.text }
+        ensures memory { vec_capacity result ≡ self.memory }
     {
         let len = self.len();
         self.bytes.truncate(len);

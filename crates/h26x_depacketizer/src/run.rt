@@ -16,14 +16,19 @@ const KEPT_MEMORY: usize = 1_048_576;
 
 /// How many bytes of memory a run of so many bytes may have.
 #[inline]
-fn most_memory(len: usize) -> usize
+pub(crate) fn most_memory(len: usize) -> usize
     ensures { result ≤ run_memory len }
 {
     KEPT_MEMORY.max(len.saturating_mul(2))
 }
 
 /// Memory of so many bytes, with two lists of data one behind the other at its front. It asks once.
-fn memory_of(alloc: Global, size: usize, front: &[u8], body: &[u8]) -> Result<Vec<u8>, PacketError>
+pub(crate) fn memory_of(
+    alloc: Global,
+    size: usize,
+    front: &[u8],
+    body: &[u8],
+) -> Result<Vec<u8>, PacketError>
     requires { length front.now + length body.now ≤ size }
     ensures outcome { OnErr result (result ≡ Err PacketError.OutOfMemory) }
     ensures bytes { IfOk result (λ memory.

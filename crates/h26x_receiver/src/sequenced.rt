@@ -4,7 +4,7 @@ ghost use Rattle.std.specs.Prelude.{◌≡◌, ◌+◌, ◌-◌, ◌^◌, ◌<�
 ghost use Rattle.h26x_core.specs.Front.{IsFrontOf};
 ghost use Rattle.h26x_model.specs.Receive.DepacketizerState.{depacketization, after_packets, IsPacketOutcome};
 ghost use Rattle.h26x_model.specs.Receive.RunLimit.{run_len, run_within, state_with_run};
-ghost use Rattle.h26x_depacketizer.specs.OpenText.{IsSameText};
+ghost use Rattle.h26x_depacketizer.specs.OpenText.{IsSameText, IsGivenBack};
 ghost use Rattle.h26x_depacketizer.specs.UnitSink.{bytes_brought, grown_to, TellsRoom};
 ghost use Rattle.h26x_core.specs.Sequence.{missing_count, is_expected};
 ghost use Rattle.h26x_receiver.specs.Sequenced.{after_answer, is_taken, skip_answer, expected_after_skip, is_run_kept, receiver_at, receiver_in_text, met_at_sink, RunGrowsByPacket, IsAnswerOf, IsAnswerInText, IsSkipped, IfTaken};
@@ -132,6 +132,7 @@ fn limit_run_in_text(text: &mut OpenText, most: usize) -> bool
     ensures limited { text.new.run ≡ run_within most text.old.run }
     ensures text { text.new.text ≡ text.old.text }
     ensures aside { text.old.inside ≡ None → text.new.inside ≡ None }
+    ensures memory { result ≡ true → IsGivenBack text.new }
 {
     if text.run_len() > most {
         text.give_up_run();
@@ -317,6 +318,9 @@ impl<D: RunDepacketizer> SequencedDepacketizer<D> {
             codec_extra.old) sequence packet.now }
         ensures bounded { RunStaysWithin self.old.run_limit text.old.run text.new.run }
         ensures aside { may_be_inside ≡ false → IfTaken result (text.new.inside ≡ None) }
+
+        // Behind a run that was too long no more memory is held than the text needs.
+        ensures memory { (n : ℕ) → result ≡ Ok (Received.TooLong n) → IsGivenBack text.new }
 
         // A late packet and a refusal leave everything.
         ensures late { (n : ℕ) → result ≡ Ok (Received.Late n) → self.new ≡ self.old }

@@ -4,6 +4,7 @@
 
 use crate::proved::h26x_core::{ANNEXB_NALUSTART_CODE, CodecExtra, PacketError};
 use crate::proved::h26x_depacketizer::byte_stream::{PREFIX_SIZE, is_too_long, prefix_of};
+use crate::proved::h26x_depacketizer::give_back::give_back;
 use crate::proved::h26x_depacketizer::parts::Parts;
 use crate::proved::h26x_depacketizer::reader::PacketReader;
 use crate::proved::h26x_depacketizer::run::OpenRun;
@@ -26,6 +27,8 @@ pub struct OpenText {
     from: usize,
     is_inside: bool,
     aside: OpenRun,
+    /// Whether the memory was to be given back, and there was no smaller place to move to.
+    lacks_place: bool,
 }
 
 /// Of bytes it tells how many there are.
@@ -38,6 +41,7 @@ impl core::fmt::Debug for OpenText {
             .field("from", &self.from)
             .field("is_inside", &self.is_inside)
             .field("aside", &self.aside)
+            .field("lacks_place", &self.lacks_place)
             .finish()
     }
 }
@@ -53,6 +57,7 @@ impl OpenText {
             from: 0,
             is_inside: false,
             aside: OpenRun::none(),
+            lacks_place: false,
         }
     }
 
@@ -143,7 +148,8 @@ impl OpenText {
     /// Adds these data to the run that is inside.
     #[inline]
     pub(crate) fn extend_run(&mut self, body: &[u8]) -> Result<(), PacketError> {
-        self.bytes.try_extend_from_slice(body)?;
+        self.bytes.try_reserve(body.len())?;
+        self.bytes.append_bytes(body);
         Ok(())
     }
 
@@ -159,7 +165,8 @@ impl OpenText {
         if is_avc && is_too_long(behind.saturating_add(body.len())) {
             return Err(PacketError::AvcUnitTooLong);
         }
-        self.bytes.try_extend_from_slice(body)?;
+        self.bytes.try_reserve(body.len())?;
+        self.bytes.append_bytes(body);
         let prefix = prefix_of(is_avc, behind + body.len());
         put_before(&mut self.bytes, self.at, &prefix, head);
         self.is_inside = false;
@@ -201,29 +208,29 @@ impl OpenText {
     }
 
     /// Gives up the open run, and gives its memory back. The text moves only behind a run that was as
-    /// long, and so never more than was taken.
+    /// long, or out of memory that is twice as large, and so never more than was taken. Where there is
+    /// no smaller place it stays.
     pub fn give_up_run(&mut self) {
-        if self.is_inside {
-            let is_long = self.bytes.len() - self.at >= self.at;
-            self.bytes.truncate(self.at);
-            if is_long {
-                self.bytes.shrink_to_fit();
-            }
-            self.is_inside = false;
-        }
+        let text_len = self.len();
+        let is_long = self.is_inside && self.bytes.len() - text_len >= text_len;
+        self.bytes.truncate(text_len);
+        self.is_inside = false;
         self.aside.give_up();
+        self.lacks_place = !give_back(&mut self.bytes, is_long);
     }
 
-    /// Gives up the text, and gives its memory back where the open run doesn't stand in it. The run
-    /// stays open.
+    /// Gives up the text, and gives its memory back; where the open run stands in it as much as that
+    /// doesn't need, if there is a smaller place. The run stays open.
     pub fn give_up_text(&mut self) {
         if self.is_inside {
             self.bytes.rotate_left(self.at);
             self.bytes.truncate(self.bytes.len() - self.at);
             self.from -= self.at;
             self.at = 0;
+            self.lacks_place = !give_back(&mut self.bytes, false);
         } else {
             self.bytes = Vec::new();
+            self.lacks_place = false;
         }
     }
 

@@ -13,12 +13,12 @@ const KEPT_MEMORY: usize = 1_048_576;
 
 /// How many bytes of memory a run of so many bytes may have.
 #[inline]
-fn most_memory(len: usize) -> usize {
+pub(crate) fn most_memory(len: usize) -> usize {
     KEPT_MEMORY.max(len.saturating_mul(2))
 }
 
 /// Memory of so many bytes, with two lists of data one behind the other at its front. It asks once.
-fn memory_of(size: usize, front: &[u8], body: &[u8]) -> Result<Vec<u8>, PacketError> {
+pub(crate) fn memory_of(size: usize, front: &[u8], body: &[u8]) -> Result<Vec<u8>, PacketError> {
     let mut memory = Vec::try_with_room(size)?;
     memory.append_bytes(front);
     memory.append_bytes(body);
