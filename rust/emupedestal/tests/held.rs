@@ -1,8 +1,11 @@
 //! How much memory a peer can make receivers hold, by packets that no packetizer sends: aggregates in which
-//! each unit is long once, of many units and of empty ones, and units that never end.
+//! each unit is long once, of many units and of empty ones, and units that never end. And how much calls ask
+//! for: nothing for a packet that isn't kept, and for longer units and payloads no more than in proportion.
 
+use emupedestal::access_unit_receiver::{AccessUnitConfig, AccessUnitReceiver, Pushed};
 use emupedestal::{
-    AccessUnit, AccessUnitAssembler, Codec, CodecExtra, RtpPacket, SequencedDepacketizer,
+    AccessUnit, AccessUnitAssembler, Codec, CodecExtra, CodecPacketizer, Packetizer, Packets,
+    ReorderBuffer, RtpPacket, SequencedDepacketizer,
 };
 use std::alloc::{GlobalAlloc, Layout, System};
 use std::cell::Cell;
@@ -20,6 +23,9 @@ thread_local! {
     static HELD: Cell<isize> = const { Cell::new(0) };
     /// The bytes of blocks that were made larger or smaller, and so may have been copied.
     static RESIZED: Cell<usize> = const { Cell::new(0) };
+    /// How often memory was asked for, and how many bytes of it.
+    static REQUESTS: Cell<usize> = const { Cell::new(0) };
+    static ASKED: Cell<usize> = const { Cell::new(0) };
 }
 
 struct Counting;
@@ -28,10 +34,16 @@ fn count(bytes: usize, sign: isize) {
     HELD.set(HELD.get() + sign * bytes as isize);
 }
 
+fn count_request(bytes: usize) {
+    count(bytes, 1);
+    REQUESTS.set(REQUESTS.get() + 1);
+    ASKED.set(ASKED.get() + bytes);
+}
+
 // SAFETY: memory is the system's.
 unsafe impl GlobalAlloc for Counting {
     unsafe fn alloc(&self, layout: Layout) -> *mut u8 {
-        count(layout.size(), 1);
+        count_request(layout.size());
         // SAFETY: the caller's.
         unsafe { System.alloc(layout) }
     }
@@ -44,7 +56,7 @@ unsafe impl GlobalAlloc for Counting {
 
     unsafe fn realloc(&self, at: *mut u8, layout: Layout, size: usize) -> *mut u8 {
         count(layout.size(), -1);
-        count(size, 1);
+        count_request(size);
         RESIZED.set(RESIZED.get() + layout.size());
         // SAFETY: the caller's.
         unsafe { System.realloc(at, layout, size) }
@@ -288,6 +300,235 @@ fn a_run_that_is_too_long_leaves_the_text_in_place() {
         resized_by(long);
         for _ in 0..100 {
             assert_eq!(resized_by(long), 0, "{codec:?}");
+        }
+    }
+}
+
+/// The limits on an open unit and on an open access unit, and the packets that reach the first.
+const LONG_RUN: usize = 1 << 22;
+const LONG_UNIT: usize = 1 << 23;
+const PACKETS_OF_A_LONG_RUN: usize = LONG_RUN / PACKET;
+
+/// A receiver of access units in whose open access unit a short unit stands, and behind it a run of so many
+/// packets; what it held before that; and the number that is due.
+fn receiver_with_run(codec: Codec, packets: usize) -> (AccessUnitReceiver, isize, u16) {
+    let config = AccessUnitConfig {
+        window: 1,
+        far: 0,
+        max_wait: u32::MAX,
+        held_limit: LONG_UNIT,
+        run_limit: LONG_RUN,
+        unit_limit: LONG_UNIT,
+    };
+    let mut receiver = AccessUnitReceiver::new(codec, config);
+    let before = HELD.get();
+    let mut sequence = 0;
+    push(&mut receiver, &mut sequence, &single(codec, 7000));
+    let begun = fragment(codec, true);
+    let more = fragment(codec, false);
+    for i in 0..packets {
+        push(
+            &mut receiver,
+            &mut sequence,
+            if i == 0 { &begun } else { &more },
+        );
+    }
+    drop((begun, more));
+    (receiver, before, sequence)
+}
+
+/// Gives a receiver a packet with the next number, which ends no access unit.
+fn push(receiver: &mut AccessUnitReceiver, sequence: &mut u16, payload: &[u8]) {
+    let packet = RtpPacket {
+        sequence: *sequence,
+        timestamp: 1,
+        marker: false,
+        payload,
+    };
+    receiver.push(0, &packet).unwrap();
+    assert!(receiver.next(0).unwrap().is_none());
+    *sequence = sequence.wrapping_add(1);
+}
+
+/// A unit that goes, since it is too long, since a packet of it is missing, or since one is refused, takes the
+/// memory with it that it had in an access unit.
+#[test]
+fn a_long_unit_that_goes_leaves_a_short_access_unit() {
+    for codec in [Codec::H264, Codec::H265, Codec::H266] {
+        let goes: [(&str, usize, fn(&mut AccessUnitReceiver, u16, Codec)); 3] = [
+            ("too long", 1, |receiver, mut sequence, codec| {
+                push(receiver, &mut sequence, &fragment(codec, false));
+            }),
+            ("a gap", 0, |receiver, sequence, _| {
+                receiver.skip(0, sequence.wrapping_add(1)).unwrap();
+                assert!(receiver.next(0).unwrap().is_none());
+            }),
+            ("a refusal", 0, |receiver, mut sequence, codec| {
+                let refused: &[u8] = match codec {
+                    Codec::H264 => &[0x1e, 0],
+                    Codec::H265 => &[0x62, 1],
+                    Codec::H266 => &[0, 0xe9],
+                };
+                push(receiver, &mut sequence, refused);
+                assert_eq!(receiver.counts().refused, 1, "{codec:?}");
+            }),
+        ];
+        for (why, more, go) in goes {
+            let (mut receiver, before, sequence) =
+                receiver_with_run(codec, PACKETS_OF_A_LONG_RUN + more - 1);
+            let held = (HELD.get() - before) as usize;
+            assert!(held > LONG_RUN - 2 * PACKET, "{codec:?}, {why}: {held}");
+            go(&mut receiver, sequence, codec);
+            let held = (HELD.get() - before) as usize;
+            assert!(held <= 7000 + SMALL, "{codec:?}, {why}: {held}");
+        }
+    }
+}
+
+/// A text past its limit goes with its memory.
+#[test]
+fn a_long_access_unit_leaves_nothing() {
+    for codec in [Codec::H264, Codec::H265, Codec::H266] {
+        let (mut receiver, before, mut sequence) = receiver_with_run(codec, 0);
+        let unit = single(codec, PACKET);
+        let before = before + unit.capacity() as isize;
+        for _ in 1..LONG_UNIT / PACKET {
+            push(&mut receiver, &mut sequence, &unit);
+        }
+        let held = HELD.get() - before;
+        assert!(
+            held > (LONG_UNIT - 2 * PACKET) as isize,
+            "{codec:?}: {held}"
+        );
+        push(&mut receiver, &mut sequence, &unit);
+        let held = HELD.get() - before;
+        assert!(held <= SMALL as isize, "{codec:?}: {held}");
+    }
+}
+
+/// Packets that are late, come twice or find no room aren't copied.
+#[test]
+fn a_packet_that_is_not_kept_takes_no_memory() {
+    let payload = vec![1; 1000];
+    let packet = |sequence| RtpPacket {
+        sequence,
+        timestamp: 0,
+        marker: false,
+        payload: &payload,
+    };
+    let mut buffer = ReorderBuffer::new(64);
+    for sequence in [100, 110, 120] {
+        buffer.push(&packet(sequence)).unwrap();
+    }
+    let before = (REQUESTS.get(), HELD.get());
+    for _ in 0..1000 {
+        for sequence in [0, 30, 100, 110, 120] {
+            buffer.push(&packet(sequence)).unwrap();
+        }
+    }
+    assert_eq!((REQUESTS.get(), HELD.get()), before);
+
+    let config = AccessUnitConfig {
+        window: 64,
+        held_limit: 3000,
+        ..AccessUnitConfig::default()
+    };
+    let mut receiver = AccessUnitReceiver::new(Codec::H264, config);
+    for sequence in [100, 110, 120, 130] {
+        receiver.push(0, &packet(sequence)).unwrap();
+    }
+    let before = (REQUESTS.get(), HELD.get());
+    for _ in 0..1000 {
+        for sequence in [30, 100, 110, 120, 130, 140] {
+            let pushed = receiver.push(0, &packet(sequence)).unwrap();
+            assert_ne!(pushed, Pushed::Held, "{sequence}");
+        }
+    }
+    assert_eq!((REQUESTS.get(), HELD.get()), before);
+}
+
+/// What a run of so many packets asks for, in a depacketizer and in an access unit.
+#[test]
+fn a_long_unit_asks_in_proportion() {
+    const DATA: usize = 1000;
+    for codec in [Codec::H264, Codec::H265, Codec::H266] {
+        let begun = &fragment(codec, true)[..DATA];
+        let more = &fragment(codec, false)[..DATA];
+        for fragments in [1000, 4000] {
+            let packet = |i| if i == 0 { begun } else { more };
+            let mut receiver = SequencedDepacketizer::new(codec, usize::MAX);
+            let mut out = Vec::new();
+            let before = (REQUESTS.get(), ASKED.get());
+            for i in 0..fragments {
+                let answer = receiver.receive(i as u16, packet(i), &mut out, &mut CodecExtra::None);
+                answer.unwrap();
+            }
+            let shown = if codec == Codec::H265 { DATA } else { 0 };
+            let (requests, asked) = (REQUESTS.get() - before.0, ASKED.get() - before.1);
+            let most = 4 * fragments * DATA + 4 * shown + SMALL;
+            assert!(
+                requests <= 40 && asked <= most,
+                "{codec:?}: {requests} requests of {asked} bytes for {fragments}"
+            );
+
+            let mut receiver = AccessUnitAssembler::new(codec, usize::MAX, usize::MAX);
+            let mut units = Vec::new();
+            let before = (REQUESTS.get(), ASKED.get());
+            for i in 0..fragments {
+                let packet = RtpPacket {
+                    sequence: i as u16,
+                    timestamp: 0,
+                    marker: false,
+                    payload: packet(i),
+                };
+                receiver.receive(&packet, &mut units).unwrap();
+            }
+            let (requests, asked) = (REQUESTS.get() - before.0, ASKED.get() - before.1);
+            assert!(
+                requests <= 40 && asked <= 4 * fragments * DATA + SMALL,
+                "{codec:?}: {requests} requests of {asked} bytes for {fragments}"
+            );
+        }
+    }
+}
+
+/// A payload's packets take as much memory as their bytes and places, at most twice that where a list grows, and
+/// what is asked for is in proportion too.
+#[test]
+fn packets_take_memory_in_proportion() {
+    /// A list's place of a packet.
+    const PLACE: usize = 24;
+    for codec in [Codec::H264, Codec::H265, Codec::H266] {
+        // One unit, and many of 96 bytes.
+        for of_one in [true, false] {
+            let mut asked_before = [usize::MAX / 8; 2];
+            for len in [300_000, 1_200_000] {
+                let unit = single(codec, if of_one { len } else { 96 });
+                let payload = [&[0, 0, 0, 1][..], &unit].concat();
+                let payload = payload.repeat(len / unit.len());
+                let mut packetizer = CodecPacketizer::new(codec);
+                let before = (HELD.get(), ASKED.get());
+                let packets = packetizer.packetize(1200, &payload).unwrap();
+                let held = (HELD.get() - before.0) as usize;
+                let asked = ASKED.get() - before.1;
+                let bytes: usize = packets.iter().map(Vec::len).sum();
+                let most = bytes + 2 * PLACE * packets.len() + SMALL;
+                assert!(held <= most, "{codec:?}: {held} for {bytes}");
+
+                let mut packets = Packets::with_headroom(12);
+                let before = (HELD.get(), ASKED.get());
+                packetizer
+                    .packetize_into(1200, &payload, &mut packets)
+                    .unwrap();
+                let held = (HELD.get() - before.0) as usize;
+                let asked = [asked, ASKED.get() - before.1];
+                let most = 2 * (packets.bytes().len() + 8 * packets.len()) + SMALL;
+                assert!(held <= most, "{codec:?}: {held} of {most}");
+                for (asked, before) in asked.iter().zip(asked_before) {
+                    assert!(*asked <= 5 * before, "{codec:?}: {asked}, and {before}");
+                }
+                asked_before = asked;
+            }
         }
     }
 }
