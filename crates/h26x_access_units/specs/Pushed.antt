@@ -1,5 +1,5 @@
 -- What becomes of packets that are given to a receiver (ours).
-use Rattle.std.specs.Prelude.{◌≡◌, ◌⊎◌}
+use Rattle.std.specs.Prelude.{◌≡◌, ◌⊎◌, Bool, true, false}
 use Rattle.h26x_reorder.specs.declared.pushed.Pushed.{Pushed}
 use Rattle.h26x_reorder.specs.declared.pushed.Pushed.TheVariants as buffered
 use Rattle.h26x_reorder.specs.declared.buffer.NotHeldReason.{NotHeldReason}
@@ -14,6 +14,13 @@ abbrev pub as_pushed : Pushed → own.Pushed
 as_pushed buffered.Held = pushes.Held
 as_pushed (buffered.Late n) = pushes.Late n
 as_pushed buffered.Twice = pushes.Twice
+
+-- whether a packet for which this is answered is kept, which may want memory
+abbrev pub is_kept : own.Pushed → Bool
+is_kept (pushes.Late n) = false
+is_kept pushes.Twice = false
+is_kept pushes.Full = false
+is_kept answer = true
 
 -- why a packet doesn't wait for which this is answered: where it would wait, memory lacks
 abbrev pub not_pushed_reason : own.Pushed → NotPushedReason

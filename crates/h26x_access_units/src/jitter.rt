@@ -150,19 +150,28 @@ impl JitterBuffer {
     }
 
     /// Takes a packet that came at this tick, and copies it if it is to wait. Without memory all stays
-    /// as it was, and the packet can be given again.
+    /// as it was, and the packet can be given again; one that isn't to wait wants none.
     #[inline]
     pub fn push(&mut self, now: u32, packet: &RtpPacket<'_>) -> Result<Pushed, AllocError>
         ensures answer { IfOk result (λ answer. answer ≡ jitter_answer self.old packet.now) }
         ensures after { IfOk result (λ answer.
             self.new ≡ after_jitter now self.old packet.now answer) }
+
+        // Only a packet that would wait is refused for want of memory.
+        ensures wanted { OnErr result (jitter_answer self.old packet.now ≡ Pushed.Held) }
         ensures kept { OnErr result (self.new ≡ self.old) }
     {
         let bytes = match self.bytes_with(packet.payload.len()) {
             Some(bytes) => bytes,
             None => return Ok(Pushed::Full),
         };
-        self.arrivals.reserve(1)?;
+        if self.arrivals.reserve(1).is_err() {
+            return match self.buffer.answer_to(packet.sequence) {
+                h26x_reorder::Pushed::Held => Err(AllocError),
+                h26x_reorder::Pushed::Late(count) => Ok(Pushed::Late(count)),
+                h26x_reorder::Pushed::Twice => Ok(Pushed::Twice),
+            };
+        }
         match self.buffer.push(packet)? {
             h26x_reorder::Pushed::Held => {
                 self.bytes = bytes;

@@ -5,7 +5,7 @@ ghost use Rattle.std.specs.Option.{option_map};
 ghost use Rattle.h26x_receiver.specs.Sequenced.{IfTaken};
 ghost use Rattle.h26x_reorder.specs.Rtp.{rtp_body};
 ghost use Rattle.h26x_reorder.specs.ReorderBuffer.{numbered_packet};
-ghost use Rattle.h26x_access_units.specs.Pushed.{IsNotPushedReason};
+ghost use Rattle.h26x_access_units.specs.Pushed.{IsNotPushedReason, is_kept};
 ghost use Rattle.h26x_access_units.specs.Counts.{counted_due};
 ghost use Rattle.h26x_assembler.specs.Assembler.{assembly_at, gives_text_up};
 ghost use Rattle.h26x_access_units.specs.Numbers.{bears_nothing, numbers_after};
@@ -169,13 +169,15 @@ impl<D: RunDepacketizer> AccessUnitReceiver<D> {
     /// Takes a packet that came at this tick, and copies it if it is to wait: the one that is due is
     /// taken at once, where none waits and no access unit has ended that `next` hasn't given out. One
     /// without a payload came and bears nothing. Without memory all stays as it was, and it can be
-    /// given again.
+    /// given again; one that isn't kept wants none.
     pub fn push(&mut self, now: u32, packet: &RtpPacket<'_>) -> Result<Pushed, PacketError>
         ensures answer { let r = ⟦<Self as Receives>⟧.reception in
             IsPushAnswer (r self.old) packet.now result }
         ensures after { let r = ⟦<Self as Receives>⟧.reception in
             IsPushedIfOk now (r self.old) packet.now result (r self.new) }
         ensures memory { OnErr result (result ≡ Err PacketError.OutOfMemory) }
+        ensures wanted { let r = ⟦<Self as Receives>⟧.reception in
+            OnErr result (is_kept (reception_answer (r self.old) packet.now) ≡ true) }
         ensures kept { let r = ⟦<Self as Receives>⟧.reception in
             OnErr result (r self.new ≡ r self.old) }
 
@@ -198,6 +200,8 @@ impl<D: RunDepacketizer> AccessUnitReceiver<D> {
         ensures after { let r = ⟦<Self as Receives>⟧.reception in
             IsPutAside now (r self.old) packet.now result (r self.new) }
         ensures memory { OnErr result (result ≡ Err PacketError.OutOfMemory) }
+        ensures wanted { let r = ⟦<Self as Receives>⟧.reception in
+            OnErr result (is_kept (reception_answer (r self.old) packet.now) ≡ true) }
         ensures kept { let r = ⟦<Self as Receives>⟧.reception in
             OnErr result (r self.new ≡ r self.old) }
     {
@@ -274,6 +278,8 @@ impl<D: RunDepacketizer> AccessUnitReceiver<D> {
         ensures after { let r = ⟦<Self as Receives>⟧.reception in
             IsPutAside now (r self.old) packet.now result (r self.new) }
         ensures memory { OnErr result (result ≡ Err PacketError.OutOfMemory) }
+        ensures wanted { let r = ⟦<Self as Receives>⟧.reception in
+            OnErr result (is_kept (reception_answer (r self.old) packet.now) ≡ true) }
         ensures kept { let r = ⟦<Self as Receives>⟧.reception in
             OnErr result (r self.new ≡ r self.old) }
     {

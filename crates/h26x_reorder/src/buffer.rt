@@ -235,6 +235,16 @@ impl ReorderBuffer {
         self.held.pass(number);
     }
 
+    /// What is answered for a packet with this number: whether it would be held.
+    pub fn answer_to(&self, number: u16) -> Pushed
+        ensures { result ≡ push_answer self.now number }
+    {
+        match self.held.place_of(number) {
+            Ok(_) => Pushed::Held,
+            Err(answer) => answer,
+        }
+    }
+
     /// Takes a packet, and copies it. Without memory the buffer stays as it was, and the packet can be
     /// given again. One that is late or comes twice takes no memory.
     pub fn push(&mut self, packet: &RtpPacket<'_>) -> Result<Pushed, AllocError>

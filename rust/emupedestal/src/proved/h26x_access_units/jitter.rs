@@ -106,7 +106,7 @@ impl JitterBuffer {
     }
 
     /// Takes a packet that came at this tick, and copies it if it is to wait. Without memory all stays
-    /// as it was, and the packet can be given again.
+    /// as it was, and the packet can be given again; one that isn't to wait wants none.
     #[inline]
     pub(crate) fn try_push(
         &mut self,
@@ -117,7 +117,13 @@ impl JitterBuffer {
             Some(bytes) => bytes,
             None => return Ok(Pushed::Full),
         };
-        self.arrivals.try_reserve(1)?;
+        if self.arrivals.try_reserve(1).is_err() {
+            return match self.buffer.answer_to(packet.sequence) {
+                crate::proved::h26x_reorder::Pushed::Held => Err(AllocError),
+                crate::proved::h26x_reorder::Pushed::Late(count) => Ok(Pushed::Late(count)),
+                crate::proved::h26x_reorder::Pushed::Twice => Ok(Pushed::Twice),
+            };
+        }
         match self.buffer.try_push(packet)? {
             crate::proved::h26x_reorder::Pushed::Held => {
                 self.bytes = bytes;

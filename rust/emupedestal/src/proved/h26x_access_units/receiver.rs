@@ -106,7 +106,7 @@ impl<D: RunDepacketizer> AccessUnitReceiver<D> {
     /// Takes a packet that came at this tick, and copies it if it is to wait: the one that is due is
     /// taken at once, where none waits and no access unit has ended that `next` hasn't given out. One
     /// without a payload came and bears nothing. Without memory all stays as it was, and it can be
-    /// given again.
+    /// given again; one that isn't kept wants none.
     pub fn try_push(&mut self, now: u32, packet: &RtpPacket<'_>) -> Result<Pushed, PacketError> {
         if self.takes_at_once(packet.sequence) {
             self.take_at_once(packet)?;

@@ -7,11 +7,11 @@ use Rattle.h26x_access_units.proofs.JitterLemmas.{push_bytes, push_window}
 use Rattle.h26x_access_units.proofs.WaitingLemmas.{came}
 use Rattle.h26x_access_units.proofs.jitter.JitterBuffer.push.Goals as goal
 
-pub invariant_of-self-in-Held : goal.invariant_of-self-in-Held
-invariant_of-self-in-Held c =
+pub invariant_of-self-in-Held-2 : goal.invariant_of-self-in-Held-2
+invariant_of-self-in-Held-2 c =
     let b = c.self.inside.buffer in
     let p = c.args.packet.now in
-    let is : push_answer b p.0 ≡ pushes.Held = sym c.in_ok-push.ensures.answer ∙ c.in-Held.is in
+    let is : push_answer b p.0 ≡ pushes.Held = sym c.in_ok-push.ensures.answer ∙ c.in-Held-2.is in
     let after : c.push.new.self ≡ after_push b p = search rules in
     let bytes : c.in-Some.bytes ≡ held_bytes b.held + length p.1.payload = c.in-Some.ensures.1
     ∙ ap (λ (j : JitterState). held_bytes j.buffer.held + length c.packet.inside.payload.now) (sym c.self.view_is)
