@@ -4,7 +4,7 @@ use crate::PacketError;
 use crate::proved::h26x_codec::{Codec, PacketBuffer};
 use crate::proved::h26x_transmission::CodecPacketizer;
 use crate::proved::h264_payload::H264Packetizer;
-use crate::refusing::{insist, some_refused, without_memory};
+use crate::refusing::{insist, some_refused, within_bytes, without_memory};
 use crate::{h264, h265, h266};
 
 /// How bytes are sent.
@@ -235,6 +235,34 @@ const OUT_OF_A_BOX: Run = Run {
 fn packets_out_of_a_box_appended() {
     let it = CodecPacketizer::Boxed(Box::new(H264Packetizer::new()));
     append_run(it, &OUT_OF_A_BOX);
+}
+
+/// A long unit and many short ones are appended, and no list is asked for that is more than twice as long as what comes
+/// into it.
+#[test]
+fn packets_in_memory_of_their_length() {
+    const LEN: usize = 1_200_000;
+    for run in [&H264, &H265, &H265_NUMBERED, &H266, &H266_NUMBERED] {
+        let header: &[u8] = match run.codec {
+            Codec::H264 => &[0x61],
+            Codec::H265 => &[2, 1],
+            Codec::H266 => &[0, 9],
+        };
+        let unit = |len: usize| [header, &vec![7; len - header.len()]].concat();
+        let short = [&[0, 0, 1][..], &unit(97)].concat();
+        let (long, many) = (unit(LEN), short.repeat(LEN / short.len()));
+        let mut it = packetizer(run);
+        let mut buffer = PacketBuffer::new(12);
+        // (fragments take a few bytes more than the unit, and so do headrooms)
+        let appended = within_bytes(2 * (LEN + LEN / 50), || {
+            it.packetize_unit_into(1200, &long, &mut buffer)
+        });
+        assert_eq!(appended, Ok(()));
+        buffer.clear();
+        let appended = within_bytes(3 * LEN, || it.packetize_into(1200, &many, &mut buffer));
+        assert_eq!(appended, Ok(()));
+        assert_eq!(buffer.len(), LEN / short.len());
+    }
 }
 
 /// Appends nothing of these payloads, nor of these units.

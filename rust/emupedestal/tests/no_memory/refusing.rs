@@ -12,16 +12,18 @@ thread_local! {
     static LEFT: Cell<i64> = const { Cell::new(-1) };
     /// Whether one alone is refused.
     static ONE_ALONE: Cell<bool> = const { Cell::new(true) };
-    /// How many were.
+    /// The longest request that is granted.
+    static LONGEST: Cell<usize> = const { Cell::new(usize::MAX) };
+    /// How many were refused.
     static REFUSED: Cell<u32> = const { Cell::new(0) };
 }
 
 struct Refusing;
 
-/// Whether this request is refused. What tells of a test that fails has memory.
-fn refuses() -> bool {
+/// Whether this request for so many bytes is refused. What tells of a test that fails has memory.
+fn refuses(size: usize) -> bool {
     let left = LEFT.get();
-    if left != 0 || std::thread::panicking() {
+    if std::thread::panicking() || left != 0 && size <= LONGEST.get() {
         LEFT.set((left - 1).max(-1));
         return false;
     }
@@ -35,7 +37,7 @@ fn refuses() -> bool {
 // SAFETY: memory is the system's.
 unsafe impl GlobalAlloc for Refusing {
     unsafe fn alloc(&self, layout: Layout) -> *mut u8 {
-        if refuses() {
+        if refuses(layout.size()) {
             return std::ptr::null_mut();
         }
         // SAFETY: the caller's.
@@ -48,7 +50,7 @@ unsafe impl GlobalAlloc for Refusing {
     }
 
     unsafe fn realloc(&self, at: *mut u8, layout: Layout, size: usize) -> *mut u8 {
-        if refuses() {
+        if refuses(size) {
             return std::ptr::null_mut();
         }
         // SAFETY: the caller's.
@@ -68,6 +70,17 @@ pub fn refused_at<T>(request: i64, one_alone: bool, call: impl FnOnce() -> T) ->
     let answer = call();
     LEFT.set(-1);
     (answer, REFUSED.get() > before)
+}
+
+/// Makes a call that asks for no more than so many bytes at once.
+#[track_caller]
+pub fn within_bytes<T>(longest: usize, call: impl FnOnce() -> T) -> T {
+    let before = REFUSED.get();
+    LONGEST.set(longest);
+    let answer = call();
+    LONGEST.set(usize::MAX);
+    assert_eq!(REFUSED.get(), before, "it asks for more");
+    answer
 }
 
 /// An error that may be for want of memory.
