@@ -1,12 +1,13 @@
 //! Calls of the Rust crate on drawn payloads, for a program that counts instructions: `bench/cost` builds and runs it.
 //!
 //! ```text
-//! calls JOB FORMAT ROUNDS
+//! calls JOB FORMAT ROUNDS [TIMES]
 //! ```
 //!
 //! A job is `packetize`, `into`, `take`, `aggregates`, `sequenced` or `assembled`, and a format `h264`, `h265` or
 //! `h266`. Each round does the same: a frame of 8 kB, fifty units of 100 bytes and fifty of 20 are packetized, or their
-//! packets are taken; or ten aggregates of eleven units are.
+//! packets are taken; or ten aggregates of eleven units are. With TIMES the frame is so many times as long, and there
+//! are so many times as many units and aggregates.
 
 use emupedestal::{
     AccessUnitAssembler, Codec, CodecDepacketizer, CodecExtra, CodecPacketizer, Depacketizer,
@@ -71,12 +72,17 @@ struct Inputs {
     /// Of each payload.
     packets: Vec<Vec<Vec<u8>>>,
     aggregate: Vec<u8>,
+    aggregates: usize,
 }
 
 impl Inputs {
-    fn new(codec: Codec) -> Self {
+    fn new(codec: Codec, times: usize) -> Self {
         let mut random = Random(88_172_645_463_325_252);
         let payloads = PAYLOADS.map(|(count, len)| {
+            let (count, len) = match count {
+                1 => (1, len * times),
+                _ => (count * times, len),
+            };
             let units =
                 (0..count).flat_map(|_| [vec![0, 0, 0, 1], random.unit(codec, len)].concat());
             units.collect::<Vec<u8>>()
@@ -96,6 +102,7 @@ impl Inputs {
             payloads: payloads.to_vec(),
             packets,
             aggregate,
+            aggregates: 10 * times,
         }
     }
 
@@ -125,7 +132,7 @@ impl Inputs {
     }
 
     fn take_aggregates(&self, depacketizer: &mut dyn Depacketizer, out: &mut Vec<u8>) {
-        for _ in 0..10 {
+        for _ in 0..self.aggregates {
             take(depacketizer, std::slice::from_ref(&self.aggregate), out);
         }
     }
@@ -217,8 +224,10 @@ fn run(job: &str, inputs: &Inputs, rounds: u32) -> bool {
 
 fn main() {
     let words: Vec<String> = env::args().skip(1).collect();
-    let [job, format, rounds] = &words[..] else {
-        panic!("calls JOB FORMAT ROUNDS");
+    let (job, format, rounds, times) = match &words[..] {
+        [job, format, rounds] => (job, format, rounds, "1"),
+        [job, format, rounds, times] => (job, format, rounds, times.as_str()),
+        _ => panic!("calls JOB FORMAT ROUNDS [TIMES]"),
     };
     let codec = match format.as_str() {
         "h264" => Codec::H264,
@@ -227,5 +236,7 @@ fn main() {
         other => panic!("{other} is no format"),
     };
     let rounds = rounds.parse().expect("a number of rounds");
-    assert!(run(job, &Inputs::new(codec), rounds), "{job} is no job");
+    let times = times.parse().expect("a number of times");
+    let is_job = run(job, &Inputs::new(codec, times), rounds);
+    assert!(is_job, "{job} is no job");
 }
