@@ -293,9 +293,9 @@ impl OpenText {
         ensures all { IsMostlyRun self.old → self.new.lacks_place ≡ false →
             self.new.memory ≤ length self.new.text }
     {
-        let text_len = self.len();
-        let is_long = self.is_inside && self.bytes.len() - text_len >= text_len;
-        self.bytes.truncate(text_len);
+        let kept = self.len();
+        let is_long = self.is_inside && self.bytes.len() - kept >= kept;
+        self.bytes.truncate(kept);
         self.is_inside = false;
         self.aside.give_up();
         self.lacks_place = !give_back(&mut self.bytes, is_long);

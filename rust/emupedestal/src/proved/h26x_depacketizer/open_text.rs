@@ -211,9 +211,9 @@ impl OpenText {
     /// long, or out of memory that is twice as large, and so never more than was taken. Where there is
     /// no smaller place it stays.
     pub fn give_up_run(&mut self) {
-        let text_len = self.len();
-        let is_long = self.is_inside && self.bytes.len() - text_len >= text_len;
-        self.bytes.truncate(text_len);
+        let kept = self.len();
+        let is_long = self.is_inside && self.bytes.len() - kept >= kept;
+        self.bytes.truncate(kept);
         self.is_inside = false;
         self.aside.give_up();
         self.lacks_place = !give_back(&mut self.bytes, is_long);
