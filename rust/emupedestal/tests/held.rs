@@ -447,6 +447,46 @@ fn a_packet_that_is_not_kept_takes_no_memory() {
     assert_eq!((REQUESTS.get(), HELD.get()), before);
 }
 
+/// Memory that is given back takes the next packets, and the next access unit.
+#[test]
+fn memory_given_back_is_used_again() {
+    let payload = single(Codec::H264, 1000);
+    let packet = |sequence: u16| RtpPacket {
+        sequence,
+        timestamp: u32::from(sequence / 2),
+        marker: sequence % 2 == 1,
+        payload: &payload,
+    };
+    let mut buffer = ReorderBuffer::new(64);
+    let mut before = 0;
+    for sequence in 0..64 * 3 {
+        if sequence == 64 {
+            before = REQUESTS.get();
+        }
+        buffer.push(&packet(sequence)).unwrap();
+        if sequence % 64 == 63 {
+            while let Some(held) = buffer.pop_first() {
+                buffer.give_back(held);
+            }
+        }
+    }
+    assert_eq!(REQUESTS.get(), before);
+
+    // Each second packet comes first, and waits.
+    let mut receiver = AccessUnitReceiver::new(Codec::H264, AccessUnitConfig::default());
+    for sequence in 0..1000u16 {
+        if sequence == 600 {
+            before = REQUESTS.get();
+        }
+        receiver.push(0, &packet(sequence ^ 1)).unwrap();
+        while let Some(unit) = receiver.next(0).unwrap() {
+            receiver.give_back(unit);
+        }
+    }
+    assert_eq!(receiver.counts().units, 500);
+    assert_eq!(REQUESTS.get(), before);
+}
+
 /// What a run of so many packets asks for, in a depacketizer and in an access unit.
 #[test]
 fn a_long_unit_asks_in_proportion() {
