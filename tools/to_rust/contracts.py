@@ -12,6 +12,7 @@
 
 import re
 
+from . import effects
 from .tree import (Function, Refused, Token, after, at, bare, before, commas, deep, drop_heading, functions,
                    generics_end, heading_start, is_attribute, is_function, is_group, is_sign, is_word, joined, parse)
 
@@ -197,8 +198,10 @@ def erase_contracts(items):
             continue
         if is_word(it, "ghost"):
             drop_heading(out)
-            while not is_sign(items[i], ";", ","):
+            start = i
+            while i < len(items) and not is_sign(items[i], ";", ","):
                 i += 1
+            effects.check_ghost(items[start:i])
         else:
             out.append(it)
         i += 1
@@ -265,6 +268,7 @@ def erase_impls(items):
                 j += 1
             head = bare(items[i:j])
             if is_group(at(items, j), "{") and re.search(r"\bModel for\b|\bAllocFailed <", head):
+                effects.check_impl(head, items[j])
                 drop_heading(out)
                 i = j + 1
                 continue

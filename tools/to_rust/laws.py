@@ -1,20 +1,26 @@
 """Rules for laws: functions that stand there for their contracts alone.
 
-A function without an answer and without a `&mut` does nothing that a caller can see, since nothing in Rattle is
-changed, written or ended but through a parameter. It is dropped, and so are the calls of it, what then is left
-empty, and imports of what is gone. That it does nothing is looked at too: a law's body may call laws and look at
-values; one that does more stops the translation.
+A function without an answer, whose parameters are borrowed without `mut` or are numbers, does nothing that a caller
+can see, since nothing in Rattle is changed, written or ended but through a parameter. It is dropped, and so are the
+calls of it, what then is left empty, and imports of what is gone. That it does nothing is looked at too: a law's body
+may call laws and look at values; one that does more stops the translation, and so does a call of one that isn't a
+statement, or is given what has an effect (`effects`).
 """
 
 import re
 
+from . import effects
 from .tree import (Function, Group, Refused, after, at, bare, bare_words, before, commas, drop_heading, functions,
                    is_among, is_group, is_sign, is_trivia, is_word, joined)
 
 
+# What a law is given: what is borrowed to be looked at, or a number. Anything else ends by the call.
+GIVEN = re.compile(r"(?:\w+ : )?& (?:'\w+ )?(?!.*\bmut\b|.*\bimpl\b|.*\brt\b).*|\w+ : (?:[ui](?:8|16|32|64|128|size)|bool|char)")
+
+
 def is_law(function):
-    parameters = bare(function.parameters.items)
-    return not function.answers and not re.search(r"& (?:'\w+ )?mut\b|\bimpl\b|\brt\b", parameters)
+    parts = [part for part in commas(function.parameters.items, is_typed=True) if bare(part)]
+    return not function.answers and all(GIVEN.fullmatch(bare(part)) for part in parts)
 
 
 def laws_among(files, exports=()):
@@ -75,8 +81,12 @@ def erase_laws(items, laws):
             k = after(items, j)
             if not is_sign(at(items, k), ";"):
                 raise Refused(f"a law that isn't called by a statement: {it.text}")
-            while out and not is_sign(out[-1], ";") and not is_group(out[-1], "{"):
-                out.pop()
+            start = len(out)
+            while start and not is_sign(out[start - 1], ";") and not is_group(out[start - 1], "{"):
+                start -= 1
+            effects.check_arguments(it.text, items[j].items)
+            effects.check_front(it.text, out[start:])
+            del out[start:]
             i = k + 1
             continue
         out.append(it)

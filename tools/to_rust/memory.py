@@ -4,7 +4,7 @@
 |---|---|---|
 | the allocator: parameters, arguments, fields, `let alloc = ..`, the method `allocator` | nothing | it is always `Global`, Rust's own |
 | `x.push(y)?`, `Vec::with_capacity(n)?`, .. and functions of such names | `x.try_push(y)?`, .. | they answer a `Result`; std's `try_reserve` has that prefix, and `support.rs` the others |
-| `x.push(y).unwrap()`, `x.push_back_reserved(y)` | `x.push(y)`, `x.push_back(y)`; of bytes `append_bytes` | it is proved that there is room |
+| `x.push(y).unwrap()` and others of `ROOM`, `x.push_back_reserved(y)` | `x.push(y)`, `x.push_back(y)`; of bytes `append_bytes` | it is proved that there is room |
 | an end `x.reserve(n)` of a function that answers `AllocError` | `Ok(x.try_reserve(n)?)` | std's error is another type |
 | `mem::replace(x, Vec::new())` | `mem::take(x)` | idiom |
 | `format!(in alloc; ..)` | `crate::support::try_format(format_args!(..))` | std's asks for memory by calls that abort |
@@ -14,12 +14,15 @@ No type is looked at: where a name is wrong, rustc says so.
 
 import re
 
+from . import effects
 from .tree import (Function, Group, Refused, Token, after, at, bare, bare_words, before, commas, drop_heading,
                    functions, is_among, is_group, is_sign, is_word, joined, parse)
 
 # Calls that fail for want of memory, and so answer a Result in Rattle.
 FALLIBLE = {"push", "push_back", "reserve", "extend_from_slice", "append", "resize", "insert", "clone",
             "to_vec", "with_capacity", "from_slice", "push_str"}
+# Those of them whose answer may be unwrapped: that there is room is proved then.
+ROOM = {"push", "push_back", "extend_from_slice", "append", "resize", "insert", "push_str"}
 # Calls for which room was reserved, and which std has by other names.
 RESERVED = {"push_front_reserved": "push_front", "push_back_reserved": "push_back"}
 # std has a name of its own for what isn't stable yet.
@@ -31,6 +34,7 @@ SLICES = {"try_to_vec"}
 TEXTS = {"try_push_str"}
 
 ALLOCATOR = re.compile(r"alloc|self \. alloc|(?:\* )?(?:\w+ \. )+allocator \(\)")
+LET_ALLOCATOR = re.compile(f"let alloc (?:: Global )?= (?:{ALLOCATOR.pattern})")
 OF_ALLOCATOR = re.compile(r"(?:pub (?:\(\w+\) )?)?alloc : (?:Global|" + ALLOCATOR.pattern + ")")
 
 
@@ -48,13 +52,18 @@ def erase_allocators(items):
                     kept[0] = kept[0][1:]
                 it.items = joined(kept)
         if is_word(it, "let") and is_word(at(items, after(items, i)), "alloc"):
+            start = i
             while not is_sign(items[i], ";"):
                 i += 1
+            effects.check_allocator(items[start:i], LET_ALLOCATOR, "a `let`")
             i += 1
             continue
         if is_word(it, "fn") and is_word(at(items, after(items, i)), "allocator"):
+            function = Function(items, i)
+            if function.body is not None:
+                effects.check_allocator(function.body.items, ALLOCATOR, "a method `allocator`")
             drop_heading(out)
-            i = Function(items, i).end + 1
+            i = function.end + 1
             continue
         out.append(it)
         i += 1
@@ -85,6 +94,8 @@ class Fallible:
                 j = after(items, i)
                 if is_sign(before_it, ".") and is_group(at(items, j), "("):
                     behind = unwrapped(items, j)
+                    if behind and it.text not in ROOM:
+                        raise Refused(f"nothing shows that there is memory: {it.text}(..).unwrap()")
                     if behind:
                         out += [self.with_room(it), *items[i + 1:j + 1]]
                         i = behind
@@ -108,7 +119,7 @@ class Fallible:
     def with_room(self, call):
         """The call for which there is room."""
         if call.text != "extend_from_slice":
-            return call
+            return Token("word", call.text)
         self.traits.add("AppendBytes")
         return Token("word", "append_bytes")
 

@@ -29,7 +29,7 @@ CLOSING = {"(": ")", "[": "]", "{": "}"}
 LEXEMES = re.compile(
     r"""(?P<space>\s+)
       | (?P<doc>///(?!/)[^\n]*|//![^\n]*)
-      | (?P<comment>//[^\n]*|/\*.*?\*/)
+      | (?P<comment>//[^\n]*|/\*)
       | (?P<string>b?r(?P<hash>\#*)".*?"(?P=hash)|b?"(?:\\.|[^"\\])*")
       | (?P<char>b?'(?:\\(?:u\{[^}]*\}|x[0-9a-fA-F]{2}|.)|[^'\\\n])')
       | (?P<lifetime>'[A-Za-z_]\w*)
@@ -39,13 +39,30 @@ LEXEMES = re.compile(
     re.VERBOSE | re.DOTALL)
 
 
+def lexemes(text):
+    """Each lexeme of a text, as its kind and itself."""
+    place = 0
+    while place < len(text):
+        lexeme = LEXEMES.match(text, place)
+        end = comment_end(text, place) if lexeme.group() == "/*" else lexeme.end()
+        yield "string" if lexeme.lastgroup == "hash" else lexeme.lastgroup, text[place:end]
+        place = end
+
+
+def comment_end(text, place):
+    """The place behind the comment `/* .. */` that begins at a place; comments may stand in it."""
+    depth = 0
+    for mark in re.compile(r"/\*|\*/").finditer(text, place):
+        depth += 1 if mark.group() == "/*" else -1
+        if depth == 0:
+            return mark.end()
+    raise Refused("a comment that nothing closes")
+
+
 def parse(text):
     """The items of a text."""
     stack = [Group("", [])]
-    for lexeme in LEXEMES.finditer(text):
-        kind, it = lexeme.lastgroup, lexeme.group()
-        if kind == "hash":
-            kind = "string"
+    for kind, it in lexemes(text):
         if it in CLOSING and kind == "sign":
             stack.append(Group(it, []))
         elif kind == "sign" and it in ")]}":
