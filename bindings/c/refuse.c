@@ -575,6 +575,52 @@ static void refuse_receiving_units(const struct codec *c)
     h26x_access_units_free(u);
 }
 
+/* Calls at which a text's open run goes: a skip and a packet behind a gap, one that is refused, and a restart. */
+static uint32_t give_up_run(h26x_access_units *u, const struct codec *c, unsigned way)
+{
+    const uint8_t *begin = (const uint8_t *)c->begins[1];
+    h26x_access_unit told;
+    switch (way) {
+    case 0:
+        expect(h26x_access_units_skip(u, 0, 14, NULL, NULL) == H26X_OK);
+        return h26x_access_units_next(u, 0, to, ROOM, &told) == H26X_NOTHING_YET ? H26X_OK : H26X_NO_ROOM;
+    case 1:
+        return h26x_access_units_push(u, 0, 14, 5, false, unit, 9, NULL, NULL);
+    case 2:
+        return h26x_access_units_push(u, 0, 12, 5, false, begin, c->fragment_header - 1, NULL, NULL);
+    default:
+        return h26x_access_units_restart(u);
+    }
+}
+
+/* A run that is longer than the text before it: its memory is given back for less, where there is memory for that.
+ * Where there is none, not even for a smaller block, the call does the same. */
+static void refuse_giving_back(const struct codec *c)
+{
+    const h26x_access_units_config config = {
+        .codec = c->number, .max_wait = 50, .window = 1, .held_limit = ROOM, .run_limit = ROOM, .unit_limit = ROOM};
+    memset(packet, 0xaa, sizeof packet);
+    memcpy(packet, c->begins[1], c->fragment_header);
+    for (unsigned way = 0; way < 4; way++) {
+        h26x_access_units u = {NULL};
+        h26x_access_unit told;
+        expect(h26x_access_units_new(&config, &u) == H26X_OK);
+        expect(h26x_access_units_push(&u, 0, 10, 5, false, unit, 9, NULL, NULL) == H26X_OK);
+        expect(h26x_access_units_next(&u, 0, to, ROOM, &told) == H26X_NOTHING_YET);
+        expect(h26x_access_units_push(&u, 0, 11, 5, false, packet, DATA, NULL, NULL) == H26X_OK);
+        left = 0;
+        one_alone = false;
+        const uint32_t code = give_up_run(&u, c, way);
+        left = -1;
+        expect(code == H26X_OK);
+        expect(h26x_access_units_finish(&u) == H26X_OK);
+        const uint32_t wanted = way == 3 ? H26X_NOTHING_YET : H26X_OK;
+        expect(h26x_access_units_next(&u, 0, to, ROOM, &told) == wanted);
+        expect(way == 3 || told.len == (way == 1 ? 26 : 13));
+        h26x_access_units_free(u);
+    }
+}
+
 static void refuse_packing(void)
 {
     size_t len = 0;
@@ -689,6 +735,7 @@ int main(void)
         refuse_receiving_sequenced(c);
         refuse_keeping(c);
         refuse_receiving_units(c);
+        refuse_giving_back(c);
         look_without_memory(c);
     }
     for (size_t i = 0; i < sizeof placings / sizeof placings[0]; i++) {

@@ -5,6 +5,7 @@
 | the allocator: parameters, arguments, fields, `let alloc = ..`, the method `allocator` | nothing | it is always `Global`, Rust's own |
 | `x.push(y)?`, `Vec::with_capacity(n)?`, .. and functions of such names | `x.try_push(y)?`, .. | they answer a `Result`; std's `try_reserve` has that prefix, and `support.rs` the others |
 | `x.push(y).unwrap()` and others of `ROOM`, `x.push_back_reserved(y)` | `x.push(y)`, `x.push_back(y)`; of bytes `append_bytes` | it is proved that there is room |
+| `x.shrink_to_fit()`, `x.shrink_to(n)` in the functions of `SHRINKING` | `x.shrink_quietly(0)`, `(n)` | Rattle's changes nothing where memory lacks, and std's ends the process |
 | an end `x.reserve(n)` of a function that answers `AllocError` | `Ok(x.try_reserve(n)?)` | std's error is another type |
 | `mem::replace(x, Vec::new())` | `mem::take(x)` | idiom |
 | `format!(in alloc; ..)` | `crate::support::try_format(format_args!(..))` | std's asks for memory by calls that abort |
@@ -15,14 +16,18 @@ No type is looked at: where a name is wrong, rustc says so.
 import re
 
 from . import effects
-from .tree import (Function, Group, Refused, Token, after, at, bare, bare_words, before, commas, drop_heading,
-                   functions, is_among, is_group, is_sign, is_word, joined, parse)
+from .tree import (Function, Group, Refused, Token, after, at, bare, bare_words, before, commas, deep,
+                   drop_heading, functions, is_among, is_group, is_sign, is_word, joined, parse)
 
 # Calls that fail for want of memory, and so answer a Result in Rattle.
 FALLIBLE = {"push", "push_back", "reserve", "extend_from_slice", "append", "resize", "insert", "clone",
             "to_vec", "with_capacity", "from_slice", "push_str"}
 # Those of them whose answer may be unwrapped: that there is room is proved then.
 ROOM = {"push", "push_back", "extend_from_slice", "append", "resize", "insert", "push_str"}
+# Calls that make memory smaller, which may fail; the functions in which they may stand: one by this name in any file,
+# or one of a file. Elsewhere they are refused (`calls`).
+SHRINKS = {"shrink_to_fit", "shrink_to"}
+SHRINKING = {"": {"shrink_quietly"}, "h26x_depacketizer/open_text.rt": {"give_up_run"}}
 # Calls for which room was reserved, and which std has by other names.
 RESERVED = {"push_front_reserved": "push_front", "push_back_reserved": "push_back"}
 # std has a name of its own for what isn't stable yet.
@@ -111,7 +116,7 @@ class Fallible:
                 elif is_word(before_it, "fn") or is_group(at(items, j), "(") and not is_sign(before_it, "::"):
                     it = Token("word", "try_" + it.text)
             elif is_among(it, RESERVED):
-                it = Token("word", RESERVED[it.text])
+                it = Token("word", RESERVED[it.text], is_decided=True)
             out.append(it)
             i += 1
         return out
@@ -119,9 +124,26 @@ class Fallible:
     def with_room(self, call):
         """The call for which there is room."""
         if call.text != "extend_from_slice":
-            return Token("word", call.text)
+            return Token("word", call.text, is_decided=True)
         self.traits.add("AppendBytes")
-        return Token("word", "append_bytes")
+        return Token("word", "append_bytes", is_decided=True)
+
+    def shrink_quietly(self, items, place):
+        """Writes what makes memory smaller, in the functions where it may stand, as a call that may fail."""
+        names = SHRINKING[""] | SHRINKING.get(place, set())
+        for function in functions(items):
+            if function.name in names and function.body is not None:
+                function.body.items = deep(function.body.items, self.shrink)
+        return items
+
+    def shrink(self, items):
+        for i, it in enumerate(items):
+            arguments = at(items, after(items, i))
+            if is_among(it, SHRINKS) and is_sign(at(items, before(items, i)), ".") and is_group(arguments, "("):
+                it.text = "shrink_quietly"
+                arguments.items = arguments.items or [Token("number", "0")]
+                self.traits.add("Shrink")
+        return items
 
     def note(self, call, receiver):
         """Which trait a call needs: that of a list or a queue, where its receiver is one."""

@@ -2,7 +2,7 @@
 
 from pathlib import Path
 
-from . import contracts, exports, idiom, laws, memory, types
+from . import calls, contracts, exports, idiom, laws, memory, types
 from .tree import after, at, deep, functions, is_group, is_sign, is_word, parse, words_of, written
 
 
@@ -50,6 +50,12 @@ def modules(items):
             yield items[after(items, i)].text
 
 
+def named(name):
+    """The name that a function of the sources has in Rust, by the rules of `memory` and `idiom`."""
+    others = {of_rattle: name for (_, of_rattle), name in idiom.RENAMED.items()}
+    return "try_" + name if name in memory.FALLIBLE else others.get(name, name)
+
+
 def methods_of_traits(items):
     """Each trait with the names of its methods."""
     for i, it in enumerate(items):
@@ -78,6 +84,7 @@ class Translation:
         self.of_std = {name for crate in self.crates for items in crate.files.values()
                        for name in idiom.std_alone(items)}
         self.without = {crate.name for crate in self.crates if not crate.files}
+        self.calls = calls.Calls([items for crate in self.crates for items in crate.files.values()], named)
 
     def texts(self, names, shared=(), folder=""):
         """The text of each file of these crates, by its path. `shared` are crates whose modules stand in a folder
@@ -120,6 +127,7 @@ class Translation:
         items = laws.erase_uses(items, gone, crate.gone | self.without)
         items = idiom.mark_unread(self.owed.lower_uses(items))
         fallible = memory.Fallible(items)
+        items = fallible.shrink_quietly(items, f"{crate.name}/{place}")
         items = memory.convert_ends(deep(items, fallible.change), fallible.lists | fallible.queues)
         items = deep(deep(items, idiom.write_formatters), memory.write_takes)
         items = deep(items, idiom.rename)
@@ -134,6 +142,7 @@ class Translation:
         items = deep(items, self.types.change)
         items = idiom.unlink(exports.add_import(idiom.add_imports(items, fallible.traits)))
         idiom.check_words(items, f"{crate.name}/{place}")
+        self.calls.check(items, f"{crate.name}/{place}")
         text = idiom.OF_MEMORY.sub("", written(items))
         return f"// Made from crates/{crate.name}/src/{place} by tools/to-rust.\n\n{text}"
 

@@ -12,8 +12,10 @@ class Refused(Exception):
 
 
 class Token:
-    def __init__(self, kind, text):
-        self.kind, self.text = kind, text
+    """`is_decided` is set where a rule wrote a call for which there is room (`calls`)."""
+
+    def __init__(self, kind, text, is_decided=False):
+        self.kind, self.text, self.is_decided = kind, text, is_decided
 
 
 class Group:
