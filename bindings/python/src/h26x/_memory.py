@@ -14,16 +14,18 @@ SIZE_MAX = ctypes.c_size_t(-1).value
 
 
 def number(name: str, value: int, largest: int = SIZE_MAX) -> int:
-    """The number, where a call can be given it. ctypes itself would cut off its higher bits."""
-    value = index(value)
+    """The number, where a call can be given it. ctypes itself would cut off its higher bits. A class of its own
+    doesn't say how it compares."""
+    value = int.__index__(index(value))
     if not 0 <= value <= largest:
         raise ValueError(f"{name} is {value}, and not from 0 to {largest}")
     return value
 
 
 def as_bytes(data: Buffer) -> bytes:
-    """The bytes of `data`. All but `bytes` is copied, so that no other thread changes it in a call."""
-    if isinstance(data, bytes):
+    """The bytes of `data`, by the buffer protocol alone: whatever its class says of itself, the length is that of
+    the memory. All but `bytes` is copied, so that no other thread changes it in a call."""
+    if type(data) is bytes:
         return data
     with memoryview(data) as view:
         return view.tobytes()
