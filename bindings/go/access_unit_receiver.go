@@ -271,7 +271,11 @@ func (r *AccessUnitReceiver) NextInto(now uint32, unit *AccessUnit) (bool, error
 	room := unit.Bytes[:cap(unit.Bytes)]
 	code := call.next(now, room)
 	if code == C.H26X_NO_ROOM {
-		room = make([]byte, larger(int(call.unit.len), 2*len(room)))
+		size, err := length(call.unit.len)
+		if err != nil {
+			return false, err
+		}
+		room = make([]byte, larger(size, 2*len(room)))
 		code = call.next(now, room)
 	}
 	switch code {

@@ -180,16 +180,25 @@ func (d *Depacketizer) depacketizeInto(dst, packet []byte) ([]byte, CodecExtra, 
 	if code != C.H26X_OK {
 		return dst, NoUnits, refused(code, call.why)
 	}
-	return withWritten(out, &call.handle, int(call.written)), CodecExtra(call.extra), nil
+	out, err := withWritten(out, &call.handle, call.written)
+	if err != nil {
+		return dst, NoUnits, err
+	}
+	return out, CodecExtra(call.extra), nil
 }
 
-// withWritten is out with the bytes that a call wrote behind it, or had no room for.
-func withWritten(out []byte, handle *C.h26x_depacketizer, written int) []byte {
+// withWritten is out with the bytes that a call wrote behind it, or had no room for. Its error is ErrOutOfMemory, where
+// no slice has room for them; the packet is taken then.
+func withWritten(out []byte, handle *C.h26x_depacketizer, size C.size_t) ([]byte, error) {
+	written, err := length(size)
+	if err != nil {
+		return nil, err
+	}
 	if room := cap(out) - len(out); written > room {
 		out = withRoom(out, written)
 		C.h26x_written_copy(handle, at(out[len(out):cap(out)]), C.size_t(cap(out)-len(out)))
 	}
-	return out[:len(out)+written]
+	return out[:len(out)+written], nil
 }
 
 // GiveUpRun gives up the open unit and frees its buffer: for where a packet is missing, or where the unit

@@ -3,7 +3,33 @@ package h26x
 // #include <h26x.h>
 import "C"
 
-import "unsafe"
+import (
+	"math"
+	"unsafe"
+)
+
+// length is a size that the library tells, as Go has it: ErrOutOfMemory where it is over any slice's. Those of what
+// stands in a slice of the caller's, as the parts of a packet, need no such look.
+func length(size C.size_t) (int, error) { return lengthUpTo(uint64(size), math.MaxInt) }
+
+// lengthUpTo is the same where slices have at most so many bytes: 2^31-1 on 32 bits, where a C size has 2^32-1.
+func lengthUpTo(size, largest uint64) (int, error) {
+	if size > largest {
+		return 0, ErrOutOfMemory
+	}
+	return int(size), nil
+}
+
+// lengths is two of them.
+func lengths(first, second C.size_t) (one, other int, err error) {
+	if one, err = length(first); err != nil {
+		return 0, 0, err
+	}
+	if other, err = length(second); err != nil {
+		return 0, 0, err
+	}
+	return one, other, nil
+}
 
 // at is where a slice stands; nil where it has no bytes, as the library takes it.
 func at(b []byte) *C.uint8_t {
@@ -33,7 +59,8 @@ func withRoom(dst []byte, more int) []byte {
 	if cap(dst)-len(dst) >= more {
 		return dst
 	}
-	grown := make([]byte, len(dst), 2*len(dst)+more)
+	// (on 32 bits the larger of them may be over what an int is)
+	grown := make([]byte, len(dst), larger(2*len(dst)+more, len(dst)+more))
 	copy(grown, dst)
 	return grown
 }

@@ -192,7 +192,10 @@ func (p *Packetizer) PacketsSize(mtu uint16, payload []byte, headroom int) (coun
 	told := new([2]C.size_t)
 	code := C.h26x_packets_size(&p.call.handle, C.size_t(mtu), at(payload), C.size_t(len(payload)),
 		C.size_t(headroom), &told[0], &told[1])
-	return int(told[0]), int(told[1]), refusedBy(code)
+	if err := refusedBy(code); err != nil {
+		return 0, 0, err
+	}
+	return lengths(told[0], told[1])
 }
 
 // copies makes packets in memory of their own.
@@ -224,6 +227,10 @@ func (p *Packetizer) makes(isUnit bool, mtu uint16, bytes []byte, into *Packets)
 			into.count = int(call.count)
 			return nil
 		}
-		into.grow(int(call.count), int(call.size))
+		count, size, err := lengths(call.count, call.size)
+		if err != nil {
+			return err
+		}
+		into.grow(count, size)
 	}
 }

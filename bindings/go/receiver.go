@@ -198,7 +198,10 @@ func (r *Receiver) receiveInto(dst []byte, sequence uint16, packet []byte) ([]by
 	if code != C.H26X_OK {
 		return dst, Received{}, refused(code, call.why)
 	}
-	out = withWritten(out, &call.handle.at, int(call.written))
+	out, err := withWritten(out, &call.handle.at, call.written)
+	if err != nil {
+		return dst, Received{}, err
+	}
 	units := out[len(dst):len(out):len(out)]
 	return out, Received{Outcome(call.outcome), uint16(call.distance), CodecExtra(call.extra), units}, nil
 }

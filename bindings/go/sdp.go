@@ -114,7 +114,11 @@ func written(write func(to *C.uint8_t, room C.size_t, size *C.size_t) C.uint32_t
 	size := new(C.size_t)
 	code := write(nil, 0, size)
 	if code == C.H26X_NO_ROOM {
-		room = make([]byte, int(*size))
+		needed, err := length(*size)
+		if err != nil {
+			return "", err
+		}
+		room = make([]byte, needed)
 		code = write(at(room), C.size_t(len(room)), size)
 	}
 	return string(room), refusedBy(code)
@@ -277,7 +281,11 @@ func (call *format) other(i int) (FormatParameter, C.uint32_t) {
 	}
 	code := other()
 	if code == C.H26X_NO_ROOM {
-		name, value = make([]byte, int(sizes[0])), make([]byte, int(sizes[1]))
+		ofName, ofValue, err := lengths(sizes[0], sizes[1])
+		if err != nil {
+			return FormatParameter{}, C.H26X_OUT_OF_MEMORY
+		}
+		name, value = make([]byte, ofName), make([]byte, ofValue)
 		code = other()
 	}
 	return FormatParameter{string(name), string(value)}, code
