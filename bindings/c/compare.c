@@ -6,13 +6,18 @@
  * All calls are made, of handles of the right kind and of others, with what may be NULL as NULL, buffers
  * of any length, and rooms that are too small. At the first difference the status is 1. The last line
  * has a sum of all answers, which CALLS and SEED give on every machine of 64 bits. h26x_origin, by which
- * the two differ, is asked once, for the first line. */
+ * the two differ, is asked once, for the first line.
+ *
+ * A library that has refusing.c in it is refused memory: one of the first requests of every other call, alone
+ * or with all behind it, also those to make a block smaller. A call that then answers H26X_OUT_OF_MEMORY has
+ * written nothing, and made again it answers what the other library does, which had its memory. */
 #include "drawn.h"
 #ifdef _WIN32
 #include <windows.h>
 #else
 #include <dlfcn.h>
 #endif
+#include <signal.h>
 #include <stdio.h>
 #include <stdlib.h>
 #include <string.h>
@@ -42,6 +47,8 @@ struct library {
 #define POINTER(name) __typeof__(h26x_##name) *name;
     NAMES(POINTER)
     POINTER(origin)
+    /* That of refusing.c; NULL where the library is never refused memory. */
+    unsigned long (*refuse_requests)(long granted, bool one_alone);
 };
 
 /* From packetizer_clone on, calls of a handle that is there. */
@@ -75,6 +82,7 @@ static struct library opened(const char *path)
 #define FIND(name) *(void **)&it.name = (void *)LOOK_UP(at, "h26x_" #name);
     NAMES(FIND)
     FIND(origin)
+    *(void **)&it.refuse_requests = (void *)LOOK_UP(at, "refuse_requests");
 #define LOOK(name)                                                                                 \
     if (it.name == NULL) {                                                                         \
         fprintf(stderr, "%s has no h26x_" #name "\n", path);                                       \
@@ -118,6 +126,9 @@ struct drawn {
 };
 
 static struct bytes input, extension;
+
+/* Whether a library is refused memory: then runs of fragments that are given up come more often. */
+static bool refuses;
 
 static enum call draw_call(const struct held *h)
 {
@@ -166,7 +177,10 @@ static void draw_input(enum call call, uint32_t codec)
         draw_unit(&input, codec);
         break;
     default:
-        draw_packet(&input, codec);
+        if (refuses && one_in(3))
+            draw_fragment(&input, codec);
+        else
+            draw_packet(&input, codec);
     }
 }
 
@@ -174,6 +188,8 @@ static void draw_input(enum call call, uint32_t codec)
 static struct drawn draw_all(void)
 {
     struct held *h = &held[below(HELD)];
+    if (refuses && h->kind != ACCESS_UNITS && one_in(2))
+        h = &held[below(HELD)];
     struct drawn d = {.call = draw_call(h), .h = h, .other_h = &held[below(HELD)]};
     d.codec = any_codec();
     draw_input(d.call, d.call == CALL_sdp_read ? d.codec : h->kind != NONE ? h->codec : 264 + below(3));
@@ -651,6 +667,37 @@ static void keep_packets(const struct drawn *d)
         keep(d->h->codec, a->to + begins, a->ends[i] - begins);
 }
 
+/* How many requests of calls were refused, and how many calls answered so. */
+static unsigned long requests_refused, calls_refused;
+
+/* Whether a call wrote nothing into the memory that it was lent. */
+static bool wrote_nothing(const struct answer *a)
+{
+    const uint8_t *ends = (const uint8_t *)a->ends;
+    return a->to[0] == 0xee && memcmp(a->to, a->to + 1, sizeof a->to - 1) == 0 && ends[0] == 0xff
+        && memcmp(ends, ends + 1, sizeof a->ends - 1) == 0;
+}
+
+/* Gives one library a call, of which requests for memory may be refused: then it is made again. */
+static void *give_or_refuse(int s, const struct drawn *d)
+{
+    const struct library *l = &libraries[s];
+    if (l->refuse_requests == NULL || one_in(2))
+        return give(s, d);
+    l->refuse_requests(below(one_in(4) ? 12 : 3), one_in(2));
+    void *made = give(s, d);
+    const unsigned long refused = l->refuse_requests(-1, false);
+    requests_refused += refused;
+    if (refused == 0 || answers[s].result != H26X_OUT_OF_MEMORY)
+        return made;
+    calls_refused++;
+    if (made != NULL || (d->call != CALL_set_lowest_header && !wrote_nothing(&answers[s]))) {
+        printf("h26x_%s was refused memory and wrote something\n", names[d->call]);
+        exit(1);
+    }
+    return give(s, d);
+}
+
 /* Gives both libraries a call; whether both answer the same. */
 static bool same(const struct drawn *d)
 {
@@ -663,7 +710,7 @@ static bool same(const struct drawn *d)
         return true;
     }
     for (int s = 0; s < 2; s++)
-        made[s] = give(s, d);
+        made[s] = give_or_refuse(s, d);
     if (memcmp(&answers[0], &answers[1], sizeof answers[0]) != 0
         || (made[0] == NULL) != (made[1] == NULL)) {
         show_difference(d->call);
@@ -678,6 +725,18 @@ static bool same(const struct drawn *d)
     return true;
 }
 
+/* Which call is made, and of which seed. */
+static unsigned long long at_call;
+static const char *seed;
+
+/* A call that ends the process is a difference too. */
+static void ended(int of)
+{
+    printf("signal %d at call %llu of seed %s\n", of, at_call, seed);
+    fflush(stdout);
+    _Exit(1);
+}
+
 int main(int argc, char **argv)
 {
     if (argc != 5) {
@@ -686,21 +745,26 @@ int main(int argc, char **argv)
     }
     libraries[0] = opened(argv[1]), libraries[1] = opened(argv[2]);
     printf("%s; %s\n", libraries[0].origin(), libraries[1].origin());
-    begin(strtoull(argv[4], NULL, 10));
+    refuses = libraries[0].refuse_requests != NULL || libraries[1].refuse_requests != NULL;
+    seed = argv[4];
+    begin(strtoull(seed, NULL, 10));
+    signal(SIGABRT, ended);
+    signal(SIGSEGV, ended);
     const bool is_counted = argv[3][0] == '=';
     const unsigned long long most = strtoull(argv[3] + is_counted, NULL, 10);
     const time_t end = time(NULL) + (time_t)most;
-    unsigned long long n;
-    for (n = 0; is_counted ? n < most : n % 1024 != 0 || time(NULL) < end; n++) {
+    for (; is_counted ? at_call < most : at_call % 1024 != 0 || time(NULL) < end; at_call++) {
         struct drawn d = draw_all();
         if (!is_none(&d) && !same(&d)) {
-            printf("call %llu of seed %s\n", n, argv[4]);
+            printf("call %llu of seed %s\n", at_call, seed);
             return 1;
         }
     }
     for (size_t i = 0; i < HELD; i++)
         put_down(&held[i], held[i].kind);
-    printf("%llu drawn calls of seed %s, no difference, sum %016llx\n", n, argv[4],
+    if (requests_refused > 0)
+        printf("%lu requests refused, %lu calls made again; ", requests_refused, calls_refused);
+    printf("%llu drawn calls of seed %s, no difference, sum %016llx\n", at_call, seed,
            (unsigned long long)sum);
     return 0;
 }

@@ -158,6 +158,16 @@ void keep(uint32_t codec, const uint8_t *packet, size_t len)
     kept[i].codec = codec;
 }
 
+void draw_fragment(struct bytes *it, uint32_t codec)
+{
+    static const uint8_t heads[][3] = {{0x7c, 0x05}, {0x62, 1, 0x13}, {0, 0xe9, 0x07}};
+    const size_t len = codec == H26X_H264 ? 2 : 3;
+    memcpy(it->at, heads[codec == H26X_H264 ? 0 : codec == H26X_H265 ? 1 : 2], len);
+    it->at[len - 1] |= one_in(2) ? 0x80 : 0;
+    it->len = len + length();
+    fill(it->at + len, it->len - len);
+}
+
 void draw_packet(struct bytes *it, uint32_t codec)
 {
     for (int tries = 0; tries < 8 && kept_count > 0; tries++) {

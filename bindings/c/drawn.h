@@ -29,6 +29,9 @@ void draw_payload(struct bytes *it, uint32_t codec);
 /* A packet: one of those that were kept, as it is, cut or with a byte changed; or drawn bytes. */
 void draw_packet(struct bytes *it, uint32_t codec);
 
+/* The first fragment of a unit, or a later one. */
+void draw_fragment(struct bytes *it, uint32_t codec);
+
 /* What stands in an a=fmtp line, many of whose parameters are the codec's; the name of one; and what stands in an a=rtpmap
  * line. */
 void draw_format(struct bytes *it, uint32_t codec);
