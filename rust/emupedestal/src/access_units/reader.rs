@@ -3,6 +3,7 @@
 use super::{Scanner, is_zero, without_zeros};
 use crate::Codec;
 use std::io::{self, ErrorKind, Read};
+use std::mem;
 
 /// How many bytes are asked for at a time.
 const PIECE: usize = 1 << 20;
@@ -23,8 +24,11 @@ pub struct AccessUnitReader<R> {
     /// What was read stands in front, `filled` bytes; the rest is room.
     buffer: Vec<u8>,
     filled: usize,
-    /// Where the access unit begins that is answered next, once its start code was found.
-    begin: Option<usize>,
+    /// Where the access unit begins that is answered next; before its start code is found up to where
+    /// zeros were seen.
+    begin: usize,
+    /// Whether the first start code was found.
+    is_begun: bool,
     /// Whether the end of the stream was read.
     is_whole: bool,
     /// How many bytes of the stream no longer stand in the buffer.
@@ -37,8 +41,8 @@ impl<R: Read> AccessUnitReader<R> {
         AccessUnitReader::with_limit(codec, from, LIMIT)
     }
 
-    /// A reader that takes no access unit longer than so many bytes, its start codes with it, but for
-    /// what it reads at a time (1 MiB).
+    /// A reader that takes no access unit longer than so many bytes, its start codes and the zeros
+    /// behind it with it, but for what it reads at a time (1 MiB); and no more zeros before the first.
     pub fn with_limit(codec: Codec, from: R, limit: usize) -> Self {
         AccessUnitReader {
             from,
@@ -46,7 +50,8 @@ impl<R: Read> AccessUnitReader<R> {
             limit,
             buffer: Vec::new(),
             filled: 0,
-            begin: None,
+            begin: 0,
+            is_begun: false,
             is_whole: false,
             passed: 0,
         }
@@ -58,34 +63,31 @@ impl<R: Read> AccessUnitReader<R> {
     /// # Errors
     ///
     /// Those of reading, after which the call can be made again; and `InvalidData` where the stream
-    /// begins with something else than a start code (zeros may stand before it), or an access unit is
-    /// longer than the limit.
+    /// begins with something else than a start code (zeros may stand before it, as many as an access
+    /// unit may have bytes), or an access unit is longer than the limit.
     pub fn next_access_unit(&mut self) -> io::Result<Option<&[u8]>> {
         loop {
             let found = self
                 .scanner
                 .next_begin(&self.buffer[..self.filled], self.is_whole);
-            let end = match (found, self.begin) {
-                (Some(at), None) => {
-                    self.begin_at(at)?;
+            let end = match found {
+                Some(at) if !self.is_begun => {
+                    self.pass_zeros(at)?;
+                    self.is_begun = true;
                     continue;
                 }
-                (Some(at), Some(_)) => at,
-                (None, Some(begin)) if self.is_whole => {
-                    if begin == self.filled {
-                        return Ok(None);
-                    }
-                    self.filled
-                }
-                (None, None) if self.is_whole => {
-                    return self.begin_at(self.filled).map(|()| None);
-                }
-                (None, _) => {
+                Some(at) => at,
+                None if !self.is_whole => {
                     self.fill()?;
                     continue;
                 }
+                None if !self.is_begun => {
+                    return self.pass_zeros(self.filled).map(|()| None);
+                }
+                None if self.begin == self.filled => return Ok(None),
+                None => self.filled,
             };
-            let begin = self.begin.replace(end).unwrap_or(end);
+            let begin = mem::replace(&mut self.begin, end);
             let len = without_zeros(&self.buffer[begin..end]);
             return Ok(Some(&self.buffer[begin..begin + len]));
         }
@@ -93,32 +95,26 @@ impl<R: Read> AccessUnitReader<R> {
 
     /// How many bytes of the stream stand before what is answered next.
     pub fn position(&self) -> u64 {
-        self.passed + self.begin.unwrap_or(0) as u64
+        self.passed + self.begin as u64
     }
 
-    /// Begins the first access unit, before which only zeros may stand.
-    fn begin_at(&mut self, at: usize) -> io::Result<()> {
-        if !is_zero(&self.buffer[..at]) {
+    /// Passes over what stands before the first start code, up to a place: only zeros may.
+    fn pass_zeros(&mut self, to: usize) -> io::Result<()> {
+        if !is_zero(&self.buffer[self.begin..to]) {
             return Err(invalid(NO_START_CODE));
         }
-        self.begin = Some(at);
+        self.begin = to;
         Ok(())
     }
 
     /// Reads once more, behind what is still wanted.
     fn fill(&mut self) -> io::Result<()> {
-        if self.begin.is_none() && !is_zero(&self.buffer[..self.scanner.at]) {
-            return Err(invalid(NO_START_CODE));
+        if !self.is_begun {
+            self.pass_zeros(self.scanner.at)?;
         }
-        let begin = self.begin.unwrap_or(self.scanner.at);
-        if self.filled - begin > self.limit {
-            let at = self.passed + begin as u64;
-            return Err(invalid(&format!(
-                "the access unit at byte {at} is longer than the limit"
-            )));
-        }
+        self.check_limit()?;
         if self.buffer.len() - self.filled < PIECE {
-            self.make_room(begin);
+            self.make_room();
         }
         let read = loop {
             match self.from.read(&mut self.buffer[self.filled..]) {
@@ -131,13 +127,27 @@ impl<R: Read> AccessUnitReader<R> {
         Ok(())
     }
 
+    fn check_limit(&self) -> io::Result<()> {
+        let at = self.position();
+        if self.filled - self.begin > self.limit {
+            return Err(invalid(&format!(
+                "the access unit at byte {at} is longer than the limit"
+            )));
+        }
+        if !self.is_begun && at > self.limit as u64 {
+            let what = format!("{at} zeros stand before the first start code, more than the limit");
+            return Err(invalid(&what));
+        }
+        Ok(())
+    }
+
     /// Moves what is still wanted to the front, and makes the buffer longer where that is not enough.
-    fn make_room(&mut self, begin: usize) {
+    fn make_room(&mut self) {
+        let begin = mem::take(&mut self.begin);
         self.buffer.copy_within(begin..self.filled, 0);
         self.filled -= begin;
         self.scanner.at -= begin;
         self.passed += begin as u64;
-        self.begin = self.begin.map(|_| 0);
         if self.buffer.len() - self.filled < PIECE {
             let len = (self.buffer.len() * 2).max(4 * PIECE);
             self.buffer.resize(len, 0);

@@ -196,6 +196,15 @@ fn streams_that_are_refused() {
     refused(&bytes("65"), 1 << 20);
     refused(&[9; 3_000_000], 1 << 30);
     refused(&[&bytes("0000016588")[..], &[7; 6 << 20]].concat(), 1 << 20);
+    // Zeros without an end, before the first start code and behind a unit.
+    let zeros = vec![0; 6 << 20];
+    refused(&zeros, 1 << 20);
+    refused(&[&bytes("0000016588")[..], &zeros].concat(), 1 << 20);
+    let behind_zeros = [&zeros[..], &bytes("016588")].concat();
+    refused(&behind_zeros, 1 << 20);
+    let mut reader = AccessUnitReader::with_limit(Codec::H264, &behind_zeros[..], 6 << 20);
+    let found = reader.next_access_unit().expect("few enough zeros");
+    assert_eq!(found, Some(&bytes("0000016588")[..]));
 }
 
 /// What comes of units behind lengths that are read in pieces of so many bytes, and what ends it.
