@@ -7,6 +7,7 @@ use crate::input;
 use crate::streams::Choice;
 use emupedestal::Codec;
 use emupedestal::sdp::RtpMap;
+use std::collections::HashMap;
 use std::io::Read;
 use std::path::Path;
 
@@ -76,12 +77,16 @@ fn offered(text: &str) -> Vec<Offered<'_>> {
     for media in lines.chunk_by(|_, line| !line.starts_with("m=")) {
         let port = media[0].strip_prefix("m=").and_then(port_of);
         let values = |name| media.iter().filter_map(move |line| line.strip_prefix(name));
+        let mut formats = HashMap::new();
+        for (payload_type, format) in values("a=fmtp:").filter_map(format_of) {
+            formats.entry(payload_type).or_insert(format);
+        }
         for map in values("a=rtpmap:").filter_map(|it| it.parse::<RtpMap>().ok()) {
-            let format = values("a=fmtp:").find_map(|it| format_of(it, map.payload_type()));
+            let format = formats.get(&map.payload_type());
             offered.push(Offered {
                 map,
                 port,
-                format: format.unwrap_or_default(),
+                format: format.copied().unwrap_or_default(),
             });
         }
     }
@@ -95,10 +100,10 @@ fn port_of(media: &str) -> Option<u16> {
     (!NO_PORTS.contains(&port)).then_some(port)
 }
 
-/// What stands behind the payload type, where the line is of this one.
-fn format_of(line: &str, payload_type: u8) -> Option<&str> {
+/// The payload type of a line, and what stands behind it.
+fn format_of(line: &str) -> Option<(u8, &str)> {
     let (number, format) = line.split_once(' ').unwrap_or((line, ""));
-    (number.parse() == Ok(payload_type)).then_some(format)
+    Some((number.parse().ok()?, format))
 }
 
 /// Says that a description has no such stream, and what it has.
