@@ -1,12 +1,16 @@
 //! The packets that stand between the messages of RTSP in a connection of TCP, each behind `$`, a channel
 //! and its length in two bytes (RFC 2326, 10.12; RFC 7826, 14).
 
+use crate::headers::Headers;
 use crate::layers::Flow;
+use crate::pending::Pending;
+use std::collections::BTreeMap;
 use std::ops::ControlFlow;
 
 const MARK: u8 = b'$';
 /// The mark, the channel, the length.
 const FRONT: usize = 4;
+const LONGEST_PACKET: usize = FRONT + u16::MAX as usize;
 /// The longest header and the longest body of a message; where one is longer, it is none of RTSP.
 const LONGEST_TEXT: usize = 1 << 16;
 /// How far into a connection's first bytes the first line of a message is looked for.
@@ -16,9 +20,12 @@ const FIRST_LINE: usize = 2048;
 #[derive(Default)]
 pub struct Interleaved {
     /// What came and is no whole message or packet yet.
-    pending: Vec<u8>,
-    /// Bytes are missing, and it isn't known where the next packet begins.
-    is_lost: bool,
+    pending: Pending,
+    /// How many bytes there have to be before it can be one.
+    wanted: usize,
+    headers: Headers,
+    /// Where it isn't known where the next packet begins: bytes are missing, or are none of RTSP's.
+    search: Option<Search>,
 }
 
 /// What a connection's next bytes are.
@@ -27,8 +34,8 @@ enum Next {
     Packet(usize),
     /// So many bytes that hold none.
     Other(usize),
-    /// The rest has to come.
-    Wait,
+    /// More have to come, so many in all.
+    Wait(usize),
     /// None of RTSP's.
     Lost,
 }
@@ -59,107 +66,165 @@ fn packet_len(bytes: &[u8]) -> Option<usize> {
 impl Interleaved {
     /// Bytes are missing before those that come next.
     pub fn lose(&mut self) {
-        self.pending.clear();
-        self.is_lost = true;
+        self.pending.pass_to(self.pending.end());
+        self.begin_search();
+    }
+
+    fn begin_search(&mut self) {
+        self.search = Some(Search::from(self.pending.front()));
+        self.wanted = 0;
     }
 
     /// Takes the next bytes, and gives out the packets that are whole with them.
     pub fn add(&mut self, bytes: &[u8], out: &mut dyn FnMut(&[u8]) -> Flow) -> Flow {
-        self.pending.extend_from_slice(bytes);
-        let pending = std::mem::take(&mut self.pending);
-        let mut rest = &pending[..];
+        self.pending.push(bytes);
+        if self.pending.rest().len() < self.wanted {
+            return Ok(ControlFlow::Continue(()));
+        }
         loop {
-            let next = match self.is_lost {
-                true => found(rest),
-                false => next(rest),
-            };
-            match next {
+            match self.next() {
                 Next::Packet(len) => {
-                    self.is_lost = false;
-                    let packet = &rest[FRONT..FRONT + len];
-                    rest = &rest[FRONT + len..];
+                    let front = self.pending.front();
+                    self.pending.pass(FRONT + len);
+                    let packet = &self.pending.from(front)[FRONT..FRONT + len];
                     if out(packet)?.is_break() {
                         return Ok(ControlFlow::Break(()));
                     }
                 }
-                Next::Other(len) => rest = &rest[len..],
-                Next::Lost => self.is_lost = true,
-                Next::Wait => break,
+                Next::Other(len) => self.pending.pass(len),
+                Next::Lost => self.begin_search(),
+                Next::Wait(wanted) => {
+                    self.wanted = wanted;
+                    return Ok(ControlFlow::Continue(()));
+                }
             }
         }
-        self.pending.extend_from_slice(rest);
-        Ok(ControlFlow::Continue(()))
     }
-}
 
-/// What stands at the front, where a packet or a message begins.
-fn next(bytes: &[u8]) -> Next {
-    match bytes {
-        [] => Next::Wait,
-        [MARK, ..] => packet(bytes),
-        [b'A'..=b'Z', ..] => message(bytes),
-        [b'\r' | b'\n', ..] => Next::Other(1),
-        _ => Next::Lost,
+    /// What stands at the front.
+    fn next(&mut self) -> Next {
+        if let Some(search) = &mut self.search {
+            let Some(at) = search.next(&self.pending) else {
+                // What may be a packet yet begins no earlier.
+                let end = self.pending.end();
+                self.pending
+                    .pass_to(end.saturating_sub(LONGEST_PACKET as u64));
+                return Next::Wait(0);
+            };
+            self.pending.pass_to(at);
+            self.search = None;
+        }
+        match self.pending.rest() {
+            [] => Next::Wait(1),
+            [MARK, ..] => packet(self.pending.rest()),
+            [b'A'..=b'Z', ..] => self.message(),
+            [b'\r' | b'\n', ..] => Next::Other(1),
+            _ => Next::Lost,
+        }
+    }
+
+    /// A message: its header up to an empty line, and its body.
+    fn message(&mut self) -> Next {
+        let there = self.pending.rest().len();
+        let end = self.headers.end(&self.pending);
+        let len_to = |end: u64| (end - self.pending.front()) as usize;
+        let Some(end) = end.filter(|end| len_to(*end) <= LONGEST_TEXT) else {
+            return match there > LONGEST_TEXT {
+                true => Next::Lost,
+                false => Next::Wait(there + 1),
+            };
+        };
+        let header = len_to(end) + 4;
+        match self
+            .headers
+            .body_len(&self.pending, end)
+            .saturating_add(header)
+        {
+            len if len > 2 * LONGEST_TEXT => Next::Lost,
+            len if len > there => Next::Wait(len),
+            len => Next::Other(len),
+        }
     }
 }
 
 fn packet(bytes: &[u8]) -> Next {
     let [_, _, high, low, rest @ ..] = bytes else {
-        return Next::Wait;
+        return Next::Wait(FRONT);
     };
     let len = usize::from(u16::from_be_bytes([*high, *low]));
     match rest.len() >= len {
         true => Next::Packet(len),
-        false => Next::Wait,
+        false => Next::Wait(FRONT + len),
     }
 }
 
-/// A message: its header up to an empty line, and its body.
-fn message(bytes: &[u8]) -> Next {
-    let end = bytes.windows(4).position(|it| it == b"\r\n\r\n");
-    let Some(end) = end.filter(|end| *end <= LONGEST_TEXT) else {
-        return match bytes.len() > LONGEST_TEXT {
-            true => Next::Lost,
-            false => Next::Wait,
-        };
-    };
-    match body_len(&bytes[..end]).saturating_add(end + 4) {
-        len if len > 2 * LONGEST_TEXT => Next::Lost,
-        len if len > bytes.len() => Next::Wait,
-        len => Next::Other(len),
-    }
+/// Looks for the next packet: one behind which another or a message stands.
+struct Search {
+    /// Up to where the fronts of packets were looked for.
+    looked: u64,
+    /// The places behind what may be packets, of which the byte isn't there yet, each with the first packet that ends
+    /// there.
+    unsure: BTreeMap<u64, u64>,
 }
 
-/// The `Content-Length` of a header (RFC 2326, 12.14).
-fn body_len(header: &[u8]) -> usize {
-    let header = String::from_utf8_lossy(header);
-    let of_line = |line: &str| {
-        let (name, value) = line.split_once(':')?;
-        let is_it = name.trim().eq_ignore_ascii_case("content-length");
-        is_it.then(|| value.trim().parse().unwrap_or(usize::MAX))
-    };
-    header.lines().find_map(of_line).unwrap_or(0)
-}
-
-/// The next packet, where it isn't known where it begins: one behind which another or a message stands.
-fn found(bytes: &[u8]) -> Next {
-    let mut unsure = bytes.len();
-    for (at, _) in bytes.iter().enumerate().filter(|it| *it.1 == MARK) {
-        let rest = &bytes[at..];
-        let behind = match packet_len(rest) {
-            Some(len) => rest.get(FRONT + len),
-            None if rest.len() > FRONT => continue,
-            None => None,
-        };
-        match behind {
-            Some(&MARK | b'R') if at == 0 => return packet(rest),
-            Some(&MARK | b'R') => return Next::Other(at),
-            Some(_) => {}
-            None => unsure = unsure.min(at),
+impl Search {
+    /// One that finds no packet before a place.
+    fn from(place: u64) -> Self {
+        Search {
+            looked: place,
+            unsure: BTreeMap::new(),
         }
     }
-    match unsure {
-        0 => Next::Wait,
-        at => Next::Other(at),
+
+    /// Where the first packet begins behind which the byte is there.
+    fn next(&mut self, pending: &Pending) -> Option<u64> {
+        self.first_sure(pending).or_else(|| self.look(pending))
     }
+
+    /// The first of those that were looked at before.
+    fn first_sure(&mut self, pending: &Pending) -> Option<u64> {
+        let mut first: Option<u64> = None;
+        while let Some(entry) = self.unsure.first_entry() {
+            if *entry.key() >= pending.end() {
+                break;
+            }
+            let (behind, at) = entry.remove_entry();
+            if follows(pending.from(behind)[0]) && first.is_none_or(|it| at < it) {
+                first = Some(at);
+            }
+        }
+        first
+    }
+
+    fn look(&mut self, pending: &Pending) -> Option<u64> {
+        loop {
+            let rest = pending.from(self.looked);
+            let Some(mark) = rest.iter().position(|byte| *byte == MARK) else {
+                self.looked = pending.end();
+                return None;
+            };
+            let (at, rest) = (self.looked + mark as u64, &rest[mark..]);
+            if rest.len() <= FRONT {
+                self.looked = at;
+                return None;
+            }
+            self.looked = at + 1;
+            let Some(len) = packet_len(rest) else {
+                continue;
+            };
+            match rest.get(FRONT + len) {
+                Some(behind) if follows(*behind) => return Some(at),
+                Some(_) => {}
+                None => {
+                    let behind = at + (FRONT + len) as u64;
+                    self.unsure.entry(behind).or_insert(at);
+                }
+            }
+        }
+    }
+}
+
+/// Whether a packet or a message may begin with this byte.
+fn follows(byte: u8) -> bool {
+    matches!(byte, MARK | b'R')
 }
