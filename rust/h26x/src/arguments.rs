@@ -7,6 +7,7 @@ use crate::containers::check_container;
 use crate::errors::Failure;
 use crate::frames::LONGEST_PAYLOAD;
 use crate::options::COMMANDS;
+use crate::printing::shown;
 use crate::report::Form;
 use crate::rtp::RTCP;
 use crate::seed::Drawn;
@@ -136,7 +137,7 @@ impl Words {
             check_container(&input, has_lengths)?;
             return Err(Failure::usage(format!(
                 "{}: its ending tells no codec; say it by --codec h264, h265 or h266",
-                input.display()
+                shown(&input)
             )));
         };
         let has_donl = self.donl(Some(codec))?;
@@ -173,7 +174,7 @@ impl Words {
         match path {
             Some(path) if path == output => Err(Failure::usage(format!(
                 "--sdp {}: this is the capture too; name another file",
-                path.display()
+                shown(&path)
             ))),
             other => Ok(other),
         }

@@ -5,6 +5,7 @@ use crate::input::Input;
 use crate::link::Link;
 use crate::pcap::Pcap;
 use crate::pcapng::Pcapng;
+use crate::printing::shown;
 use std::path::Path;
 
 /// A record with more bytes than this holds no UDP datagram (65535 bytes at most), and is passed over.
@@ -130,7 +131,7 @@ impl Capture {
 
     /// Says at which record nothing more could be read, and what to do.
     pub fn fault(&self) -> Option<String> {
-        let (path, record) = (self.input.path().display(), self.input.record());
+        let (path, record) = (shown(self.input.path()), self.input.record());
         self.fault.map(|fault| match fault {
             Fault::Cut => format!(
                 "{path}: the capture is cut off: its last record begins at byte {record} and is \

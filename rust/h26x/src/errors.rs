@@ -1,5 +1,6 @@
 //! What went wrong, in a sentence that says what to do, and the status that the program ends with.
 
+use crate::printing::shown;
 use std::fmt::Display;
 use std::io::{self, ErrorKind};
 use std::path::Path;
@@ -33,7 +34,7 @@ impl Failure {
     pub fn of(path: &Path, message: impl Display) -> Self {
         Failure {
             status: FAILED,
-            message: format!("{}: {message}", path.display()),
+            message: format!("{}: {message}", shown(path)),
         }
     }
 

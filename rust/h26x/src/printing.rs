@@ -2,6 +2,8 @@
 
 use crate::errors::Failure;
 use std::io::{self, Write};
+use std::os::unix::ffi::OsStrExt;
+use std::path::Path;
 
 pub fn print(text: &str) -> Result<(), Failure> {
     io::stdout()
@@ -11,5 +13,31 @@ pub fn print(text: &str) -> Result<(), Failure> {
 
 /// Says a sentence behind the program's name. Where nobody can hear it, the work goes on.
 pub fn say(sentence: &str) {
-    let _ = writeln!(io::stderr(), "h26x: {sentence}");
+    let lines: Vec<String> = sentence.split('\n').map(escaped).collect();
+    let _ = writeln!(io::stderr(), "h26x: {}", lines.join("\n"));
+}
+
+/// A file's name as it can be shown: bytes that are no text stand as `\xff`.
+pub fn shown(path: &Path) -> String {
+    let mut shown = String::new();
+    for chunk in path.as_os_str().as_bytes().utf8_chunks() {
+        shown += &escaped(chunk.valid());
+        shown.extend(chunk.invalid().iter().map(|byte| format!("\\x{byte:02x}")));
+    }
+    shown
+}
+
+/// A text in which what a terminal acts on stands as `\u{1b}`: controls, and what turns the direction of writing.
+fn escaped(text: &str) -> String {
+    let is_acted_on = |it: char| {
+        it.is_control() || matches!(it, '\u{202a}'..='\u{202e}' | '\u{2066}'..='\u{2069}')
+    };
+    let mut escaped = String::new();
+    for it in text.chars() {
+        match is_acted_on(it) {
+            true => escaped.extend(it.escape_unicode()),
+            false => escaped.push(it),
+        }
+    }
+    escaped
 }

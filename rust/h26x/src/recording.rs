@@ -5,7 +5,7 @@ use crate::codecs::{name, word};
 use crate::errors::{Failure, INCOMPLETE};
 use crate::output::Output;
 use crate::packets::{Captured, Stream};
-use crate::printing::say;
+use crate::printing::{say, shown};
 use crate::reception::Reception;
 use crate::sets::Sets;
 use crate::streams::{Known, counted};
@@ -52,7 +52,7 @@ impl Recording {
                 "{} as {} into {}",
                 self.stream,
                 name(self.codec),
-                self.path.display()
+                shown(&self.path)
             ),
             false => format!("{} as {}", self.stream, name(self.codec)),
         }
@@ -105,7 +105,7 @@ impl Recording {
         };
         say(&format!(
             "{}: {}; {} written",
-            of.display(),
+            shown(of),
             tally.totals(),
             counted(written, "byte")
         ));

@@ -7,7 +7,7 @@ use crate::description::Description;
 use crate::errors::Failure;
 use crate::frames::{HEADROOM, MARKER, file_header, write_headers};
 use crate::output::Output;
-use crate::printing::say;
+use crate::printing::{say, shown};
 use crate::progress::Progress;
 use crate::rtp::Rtp;
 use crate::streams::counted;
@@ -181,7 +181,7 @@ impl<'a> Sender<'a> {
         description.map(|(_, to)| to.finish()).transpose()?;
         say(&format!(
             "{}: {} in {}, {}; left out: {}",
-            input.display(),
+            shown(input),
             counted(self.access_units, "access unit"),
             counted(self.sent, "packet"),
             counted(written, "byte"),

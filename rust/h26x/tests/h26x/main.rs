@@ -13,6 +13,7 @@ mod lengths;
 mod losses;
 mod numbers;
 mod odd;
+mod outputs;
 mod padding;
 mod peers;
 mod pipes;

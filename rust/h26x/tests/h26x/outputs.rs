@@ -1,0 +1,32 @@
+//! What is written: whose it is, where links lead, and what stays where it can't be written whole.
+
+use crate::build::{pcap_with, three_packets};
+use crate::program::Folder;
+
+/// A folder with a capture of three packets.
+fn folder() -> Folder {
+    let folder = Folder::new();
+    folder.write("in.pcap", &pcap_with(&three_packets()));
+    folder
+}
+
+/// A name can't have a terminal do anything.
+#[test]
+fn names_that_are_no_text() {
+    let folder = folder();
+    for (name, shown) in [
+        ("\\033]0;title\\007", "\\u{1b}]0;title\\u{7}: "),
+        ("a\\nb", "a\\u{a}b: "),
+        ("\\377\\303\\244", "\\xff\u{e4}: "),
+        ("\\342\\200\\256x", "\\u{202e}x: "),
+    ] {
+        let name = format!("\"$(printf '{name}')\"");
+        let ran = folder.shell(&format!("\"$0\" inspect {name}"));
+        ran.says(1, &[&format!("h26x: {shown}there is no such file")]);
+        let ran = folder.shell(&format!("\"$0\" receive --all in.pcap {name}"));
+        ran.says(1, &[shown]);
+        assert!(!ran.err.contains('\x1b'));
+    }
+    let ran = folder.shell("\"$0\" \"$(printf '\\033[2J')\"");
+    ran.says(2, &["there is no command \\u{1b}[2J"]);
+}
