@@ -85,6 +85,14 @@ impl Failure {
         }
     }
 
+    /// Of standard output that isn't there.
+    pub fn closed() -> Self {
+        Failure {
+            status: FAILED,
+            message: "standard output is closed, so nothing can be printed; open it".into(),
+        }
+    }
+
     /// Of what is printed. Where the reader went away, as `head` does, nobody wants a word more.
     pub fn printing(error: &io::Error) -> Self {
         let message = match error.kind() {

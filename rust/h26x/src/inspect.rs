@@ -7,12 +7,14 @@ use crate::packets::{Met, each_packet};
 use crate::receive::{check_codec, codec_of};
 use crate::reception::Reception;
 use crate::report::{Form, Report};
+use crate::standard;
 use crate::streams::{Known, Streams, choose};
 use std::io::{self, IsTerminal};
 use std::ops::ControlFlow;
 
 /// Inspects, and answers the status to end with.
 pub fn inspect(asked: &Inspect) -> Result<u8, Failure> {
+    standard::check()?;
     let looking = &asked.looking;
     let mut capture = Capture::open(&looking.input)?;
     if looking.choice.is_all && capture.is_pipe() {

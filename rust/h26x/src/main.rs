@@ -51,6 +51,7 @@ mod segments;
 mod send;
 mod session;
 mod sets;
+mod standard;
 mod streams;
 mod tally;
 mod told;

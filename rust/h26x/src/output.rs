@@ -2,6 +2,7 @@
 
 use crate::errors::Failure;
 use crate::parts;
+use crate::standard;
 use crate::words::STANDARD;
 use std::fs::{self, File, OpenOptions};
 use std::io::{self, ErrorKind, Write};
@@ -30,6 +31,7 @@ impl Output {
     /// the same file.
     pub fn create(path: &Path, input: &Path) -> Result<Self, Failure> {
         if STANDARD_OUTPUT.iter().any(|it| path == Path::new(it)) {
+            standard::check()?;
             return Ok(Output::standard(path));
         }
         let failed = |error| Failure::writing(path, &error);

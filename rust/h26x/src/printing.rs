@@ -1,11 +1,13 @@
 //! What is printed on standard output, and what is said on standard error.
 
 use crate::errors::Failure;
+use crate::standard;
 use std::io::{self, Write};
 use std::os::unix::ffi::OsStrExt;
 use std::path::Path;
 
 pub fn print(text: &str) -> Result<(), Failure> {
+    standard::check()?;
     io::stdout()
         .write_all(text.as_bytes())
         .map_err(|error| Failure::printing(&error))

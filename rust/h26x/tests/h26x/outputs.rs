@@ -30,3 +30,27 @@ fn names_that_are_no_text() {
     let ran = folder.shell("\"$0\" \"$(printf '\\033[2J')\"");
     ran.says(2, &["there is no command \\u{1b}[2J"]);
 }
+
+/// What goes nowhere is no success.
+#[test]
+fn standard_output_that_is_closed() {
+    let folder = folder();
+    folder.write("in.h264", &[0, 0, 1, 0x65, 0x88, 1]);
+    for words in [
+        "inspect in.pcap",
+        "inspect --json in.pcap",
+        "receive in.pcap -",
+        "send in.h264 -",
+        "--help",
+        "--version",
+        "man",
+        "completion bash",
+    ] {
+        let closed = folder.shell(&format!("\"$0\" {words} >&-"));
+        closed.says(1, &["standard output is closed"]);
+        let thrown = folder.shell(&format!("\"$0\" {words} >/dev/null"));
+        thrown.says(0, &[]);
+        let both = folder.shell(&format!("\"$0\" {words} <>/dev/null 1<&0"));
+        both.says(0, &[]);
+    }
+}
