@@ -3,6 +3,7 @@
 
 mod access_units;
 mod arguments;
+mod attributes;
 mod capture;
 mod codecs;
 mod colors;

@@ -1,11 +1,13 @@
 //! A file that stands under its name once it is whole, and not before.
 
+use crate::attributes;
 use crate::errors::Failure;
 use crate::parts;
 use crate::standard;
 use crate::words::STANDARD;
-use std::fs::{self, File, OpenOptions};
+use std::fs::{self, File, Metadata, OpenOptions};
 use std::io::{self, ErrorKind, Write};
+use std::os::unix::fs::OpenOptionsExt;
 use std::path::{Path, PathBuf};
 use std::process;
 
@@ -13,6 +15,11 @@ use std::process;
 const GATHERED: usize = 1 << 20;
 /// The names of standard output, which a shell may have opened as a file.
 const STANDARD_OUTPUT: [&str; 4] = [STANDARD, "/dev/stdout", "/dev/fd/1", "/proc/self/fd/1"];
+
+/// So many links name one another at most, as Linux has it.
+const MOST_LINKS: usize = 40;
+/// The mode of a file that its owner alone reads and writes.
+const OWN: u32 = 0o600;
 
 pub struct Output {
     /// As the user names it.
@@ -49,20 +56,35 @@ impl Output {
                 "this is the input too; name another file",
             ));
         }
-        // Where it is a link, what it names is replaced, and not the link.
-        let target = real.clone().unwrap_or_else(|| linked(path));
-        let (beside, to): (_, Box<dyn Write>) = match there {
-            // Also a file that is open and has no name any more.
-            Some(there) if !there.is_file() || real.is_none() => {
-                let file = OpenOptions::new().write(true).open(path);
-                (None, Box::new(file.map_err(failed)?))
+        match (there, real) {
+            (Some(there), Some(real)) if there.is_file() => Output::replace(path, real, &there),
+            // A device or a pipe, or a file that is open and has no name any more.
+            (Some(_), _) => {
+                let file = OpenOptions::new().write(true).open(path).map_err(failed)?;
+                Ok(Output::of(path, path.into(), None, Box::new(file)))
             }
-            _ => {
-                let (beside, file) = create_beside(&target, path)?;
-                (Some(beside), Box::new(file))
+            (None, _) => {
+                let target = linked(path).map_err(failed)?;
+                let (beside, file) = create_beside(&target, path, None)?;
+                Ok(Output::of(path, target, Some(beside), Box::new(file)))
             }
-        };
-        Ok(Output::of(path, target, beside, to))
+        }
+    }
+
+    /// A file in the place of one that is there, with its owner, its mode and its access list. Where `path` is a
+    /// link, what it names is replaced, and not the link.
+    fn replace(path: &Path, target: PathBuf, there: &Metadata) -> Result<Self, Failure> {
+        // Nobody else reads it before it has those.
+        let (beside, file) = create_beside(&target, path, Some(OWN))?;
+        let kept = attributes::keep(&target, there, &file);
+        let output = Output::of(path, target, Some(beside), Box::new(file));
+        kept.map(|()| output).map_err(|error| {
+            let what = format!(
+                "its owner, mode and access list can't be kept where it is replaced ({error}); \
+                 remove it first, or name another file"
+            );
+            Failure::of(path, what)
+        })
     }
 
     /// Standard output, which goes on behind what is there already, as the shell opened it.
@@ -116,21 +138,37 @@ impl Output {
     }
 }
 
-/// What a link names that isn't there yet; of what is no link the path itself.
-fn linked(path: &Path) -> PathBuf {
-    fs::read_link(path).map_or_else(|_| path.into(), |link| path.with_file_name(link))
+/// What a link names in the end, through other links, that isn't there yet; of what is no link the path itself.
+fn linked(path: &Path) -> io::Result<PathBuf> {
+    let mut target = path.to_owned();
+    for _ in 0..MOST_LINKS {
+        match fs::read_link(&target) {
+            Ok(link) => target = target.with_file_name(link),
+            Err(_) => return Ok(target),
+        }
+    }
+    Err(io::Error::from_raw_os_error(libc::ELOOP))
 }
 
-/// A new file beside this one, whose name the user gives as `path`. Its own name is short, whatever
-/// the other is.
-fn create_beside(target: &Path, path: &Path) -> Result<(PathBuf, File), Failure> {
+/// A new file beside this one, whose name the user gives as `path`, with this mode, or the one of new files. Its own
+/// name is short, whatever the other is.
+fn create_beside(
+    target: &Path,
+    path: &Path,
+    mode: Option<u32>,
+) -> Result<(PathBuf, File), Failure> {
     if target.file_name().is_none() {
         return Err(Failure::of(path, "this is no name of a file; name one"));
+    }
+    let mut options = OpenOptions::new();
+    options.write(true).create_new(true);
+    if let Some(mode) = mode {
+        options.mode(mode);
     }
     let mut number = process::id();
     loop {
         let beside = target.with_file_name(format!(".h26x.{number}.part"));
-        match parts::remember(&beside, || File::create_new(&beside)) {
+        match parts::remember(&beside, || options.open(&beside)) {
             Ok(file) => return Ok((beside, file)),
             // One that was killed had this number, or one has it on another machine.
             Err(error) if error.kind() == ErrorKind::AlreadyExists => {

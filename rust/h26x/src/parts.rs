@@ -1,11 +1,13 @@
 //! Files that are written and not whole yet, which a signal that ends the program removes.
 
-use signal_hook::consts::{SIGHUP, SIGINT, SIGTERM};
+use signal_hook::consts::{SIGHUP, SIGINT, SIGTERM, SIGXFSZ};
+use signal_hook::flag;
 use signal_hook::iterator::Signals;
 use signal_hook::low_level::emulate_default_handler;
 use std::fs;
 use std::path::{Path, PathBuf};
-use std::sync::{Mutex, MutexGuard, OnceLock};
+use std::sync::atomic::AtomicBool;
+use std::sync::{Arc, Mutex, MutexGuard, OnceLock};
 use std::thread;
 
 static PARTS: Mutex<Vec<PathBuf>> = Mutex::new(Vec::new());
@@ -18,7 +20,10 @@ fn parts() -> MutexGuard<'static, Vec<PathBuf>> {
 
 /// Makes a file by `create`, which is removed where a signal ends the program before `forget`.
 pub fn remember<T, E>(path: &Path, create: impl FnOnce() -> Result<T, E>) -> Result<T, E> {
-    WATCH.get_or_init(watch);
+    WATCH.get_or_init(|| {
+        refuse_long_files();
+        watch();
+    });
     // A signal that comes meanwhile waits for the lock.
     let mut parts = parts();
     let made = create()?;
@@ -29,6 +34,11 @@ pub fn remember<T, E>(path: &Path, create: impl FnOnce() -> Result<T, E>) -> Res
 /// A file got its name, or is removed.
 pub fn forget(path: &Path) {
     parts().retain(|it| it != path);
+}
+
+/// Where a file may be no longer (ulimit -f), writing it fails, and the program isn't ended by a signal.
+fn refuse_long_files() {
+    let _ = flag::register(SIGXFSZ, Arc::new(AtomicBool::new(false)));
 }
 
 /// Waits for signals in a thread of its own. Where there can be none, files stay after a signal.
