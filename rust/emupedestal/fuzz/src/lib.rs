@@ -13,6 +13,7 @@ pub mod packets;
 pub mod payloads;
 pub mod plan;
 pub mod profiles;
+pub mod program;
 pub mod receivers;
 pub mod sdp;
 pub mod shown;
