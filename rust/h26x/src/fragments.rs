@@ -5,7 +5,7 @@
 //! packets are held as `MOST`, each for as long as its RFC says.
 
 use crate::ip::{Fragment, Payload};
-use std::collections::VecDeque;
+use std::collections::{BTreeMap, VecDeque};
 use std::net::IpAddr;
 
 /// How many packets are put together at a time; the oldest is given up for one more.
@@ -34,9 +34,9 @@ struct Open {
     key: Key,
     /// When its first fragment came.
     since: u64,
-    /// What came of it, where it belongs, and where its pieces begin and end, in order.
+    /// What came of it, where it belongs, and where its pieces begin, each with its end.
     bytes: Vec<u8>,
-    pieces: Vec<(usize, usize)>,
+    pieces: BTreeMap<usize, usize>,
     /// How many bytes came, and how many there are, once that is known.
     count: usize,
     len: Option<usize>,
@@ -141,7 +141,7 @@ impl Open {
             key,
             since,
             bytes: Vec::new(),
-            pieces: Vec::new(),
+            pieces: BTreeMap::new(),
             count: 0,
             len: None,
             protocol: None,
@@ -150,18 +150,17 @@ impl Open {
     }
 
     fn give_up(&mut self) {
-        (self.bytes, self.pieces) = (Vec::new(), Vec::new());
+        (self.bytes, self.pieces) = (Vec::new(), BTreeMap::new());
         self.is_given_up = true;
     }
 
     fn add(&mut self, payload: &Payload<'_>, fragment: &Fragment) -> Added {
         let (begin, bytes) = (fragment.begin, payload.bytes);
         let end = begin + bytes.len();
-        let at = self.pieces.partition_point(|piece| piece.0 < begin);
-        if self.pieces.get(at) == Some(&(begin, end)) && self.bytes[begin..end] == *bytes {
+        if self.pieces.get(&begin) == Some(&end) && self.bytes[begin..end] == *bytes {
             return Added::Kept;
         }
-        if self.overlaps(at, begin, end) || !self.may_end(end, fragment.has_more) {
+        if self.overlaps(begin, end) || !self.may_end(end, fragment.has_more) {
             return Added::Overlap;
         }
         if begin == 0 {
@@ -174,7 +173,7 @@ impl Open {
             self.bytes.resize(end, 0);
         }
         self.bytes[begin..end].copy_from_slice(bytes);
-        self.pieces.insert(at, (begin, end));
+        self.pieces.insert(begin, end);
         self.count += bytes.len();
         match self.len == Some(self.count) {
             true => Added::Whole,
@@ -182,16 +181,16 @@ impl Open {
         }
     }
 
-    /// Whether a piece that would stand at this place in the list has bytes of its neighbours.
-    fn overlaps(&self, at: usize, begin: usize, end: usize) -> bool {
-        let before = at.checked_sub(1).and_then(|at| self.pieces.get(at));
-        before.is_some_and(|piece| piece.1 > begin)
-            || self.pieces.get(at).is_some_and(|piece| piece.0 < end)
+    /// Whether a piece has bytes of those that begin before it and behind.
+    fn overlaps(&self, begin: usize, end: usize) -> bool {
+        let before = self.pieces.range(..begin).next_back();
+        let behind = self.pieces.range(begin..).next();
+        before.is_some_and(|piece| *piece.1 > begin) || behind.is_some_and(|piece| *piece.0 < end)
     }
 
     /// Whether a piece may end here: no packet has two ends, nor bytes behind its end.
     fn may_end(&self, end: usize, has_more: bool) -> bool {
-        let last = self.pieces.last().map_or(0, |piece| piece.1);
+        let last = self.pieces.last_key_value().map_or(0, |piece| *piece.1);
         let is_behind = match self.len {
             Some(len) => end > len || (!has_more && end != len),
             None => !has_more && last > end,
