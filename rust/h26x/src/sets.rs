@@ -3,6 +3,7 @@
 use crate::streams::counted;
 use emupedestal::access_units::{is_slice_type, unit_type};
 use emupedestal::{ANNEXB_NALUSTART_CODE, Codec, units};
+use std::collections::HashSet;
 
 /// So many bytes are looked through for a picture.
 const FRONT: usize = 1 << 16;
@@ -12,6 +13,12 @@ pub struct Sets {
     /// Those that aren't put anywhere yet.
     sets: Vec<Vec<u8>>,
     has_lengths: bool,
+    /// How many bytes of what is written were looked through, and what is there: a unit, which types before the first
+    /// picture, and that.
+    looked: usize,
+    has_unit: bool,
+    before: HashSet<u8>,
+    has_picture: bool,
     /// How many were put before the first picture.
     put: u64,
 }
@@ -22,19 +29,22 @@ impl Sets {
             codec,
             sets: sets.to_vec(),
             has_lengths,
+            looked: 0,
+            has_unit: false,
+            before: HashSet::new(),
+            has_picture: false,
             put: 0,
         }
     }
 
     /// Puts them before the first units that are written, once a picture is among these. Whether that is done, so
-    /// that the units may go.
+    /// that the units may go. Until then only more units come behind what is written.
     pub fn are_put_into(&mut self, written: &mut Vec<u8>) -> bool {
         if self.sets.is_empty() {
             return true;
         }
-        let is_slice = |it: u8| is_slice_type(self.codec, it);
-        let has_picture = self.types(written).into_iter().any(is_slice);
-        if has_picture || written.len() > FRONT {
+        self.look(written);
+        if self.has_picture || written.len() > FRONT {
             self.put_into(written);
         }
         self.sets.is_empty()
@@ -42,14 +52,14 @@ impl Sets {
 
     /// Puts those of each kind that isn't there before the first picture, before all that is written.
     pub fn put_into(&mut self, written: &mut Vec<u8>) {
-        let types = self.types(written);
-        let before = types
-            .iter()
-            .take_while(|it| !is_slice_type(self.codec, **it));
-        let before: Vec<Option<u8>> = before.map(|it| Some(*it)).collect();
+        if self.sets.is_empty() {
+            return;
+        }
+        self.look(written);
         let mut front = Vec::new();
         for set in self.sets.drain(..) {
-            if !types.is_empty() && !before.contains(&unit_type(self.codec, &set)) {
+            let is_there = |it: u8| self.before.contains(&it);
+            if self.has_unit && !unit_type(self.codec, &set).is_some_and(is_there) {
                 match self.has_lengths {
                     true => front.extend_from_slice(&(set.len() as u32).to_be_bytes()),
                     false => front.extend_from_slice(&ANNEXB_NALUSTART_CODE),
@@ -59,6 +69,18 @@ impl Sets {
             }
         }
         written.splice(..0, front);
+    }
+
+    /// Looks through what was written since the last look.
+    fn look(&mut self, written: &[u8]) {
+        for it in self.types(&written[self.looked..]) {
+            self.has_unit = true;
+            self.has_picture |= is_slice_type(self.codec, it);
+            if !self.has_picture {
+                self.before.insert(it);
+            }
+        }
+        self.looked = written.len();
     }
 
     /// The types of units that are written.
