@@ -8,7 +8,7 @@ error where it lacks. Rust's other calls end the process then, where Rattle's an
 | `try_reserve` and the calls of `support.rs` (`HANDED_ON`) | yes: they answer an error, and rustc warns where nobody takes it |
 | `push`, `append`, .. | where a rule wrote it, for `.unwrap()` of a call that may fail or for a `.._reserved`: there is room |
 | a name of `TAKING`, whatever it is called of | no, but in the files of `OWN`, whose types have one of their own |
-| `shrink_to_fit`, `shrink_to` | no: in the functions of `memory.SHRINKING` they are another call |
+| `shrink_to_fit`, `shrink_to` | no: a smaller place is asked for by a call that may fail, as `give_back` of h26x_depacketizer does |
 | `write!`, `write_str` | into the caller's `Formatter`, in a function that has one |
 | `+` and `+=` with a text or what is borrowed | no: of a `String` it wants memory |
 | anything else | no |
@@ -42,7 +42,7 @@ MACROS = {"assert", "debug_assert", "format_args", "matches", "unreachable"}
 HANDED_ON = {"try_append", "try_extend_from_slice", "try_insert", "try_push", "try_push_back", "try_push_str",
              "try_reserve", "try_reserve_exact", "try_to_vec"}
 # What `support` and `pointers` have instead of a crate's: the texts that they make are handed on.
-METHODS_OF_SUPPORT = {"decode", "encode", "encode_string", "shrink_quietly"}
+METHODS_OF_SUPPORT = {"decode", "encode", "encode_string"}
 PATHS_OF_SUPPORT = {
     "Vec": {"try_from_slice", "try_reserve", "try_with_room"}, "TryVec": {"try_push"}, "support": {"try_format"},
     "pointers": {"try_box"}, "hex": {"encode", "encode_upper"}, "<": {"from_hex"},

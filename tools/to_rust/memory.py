@@ -5,7 +5,6 @@
 | the allocator: parameters, arguments, fields, `let alloc = ..`, the method `allocator` | nothing | it is always `Global`, Rust's own |
 | `x.push(y)?`, `Vec::with_capacity(n)?`, .. and functions of such names | `x.try_push(y)?`, .. | they answer a `Result`; std's `try_reserve` has that prefix, and `support.rs` the others |
 | `x.push(y).unwrap()` and others of `ROOM`, `x.push_back_reserved(y)` | `x.push(y)`, `x.push_back(y)`; of bytes `append_bytes` | it is proved that there is room |
-| `x.shrink_to_fit()`, `x.shrink_to(n)` in the functions of `SHRINKING` | `x.shrink_quietly(0)`, `(n)` | Rattle's changes nothing where memory lacks, and std's ends the process |
 | an end `x.reserve(n)` of a function that answers `AllocError` | `Ok(x.try_reserve(n)?)` | std's error is another type |
 | `mem::replace(x, Vec::new())` | `mem::take(x)` | idiom |
 | `format!(in alloc; ..)` | `crate::support::try_format(format_args!(..))` | std's asks for memory by calls that abort |
@@ -24,10 +23,6 @@ FALLIBLE = {"push", "push_back", "reserve", "extend_from_slice", "append", "resi
             "to_vec", "with_capacity", "from_slice", "push_str"}
 # Those of them whose answer may be unwrapped: that there is room is proved then.
 ROOM = {"push", "push_back", "extend_from_slice", "append", "resize", "insert", "push_str"}
-# Calls that make memory smaller, which may fail; the functions in which they may stand: one by this name in any file,
-# or one of a file. Elsewhere they are refused (`calls`).
-SHRINKS = {"shrink_to_fit", "shrink_to"}
-SHRINKING = {"": {"shrink_quietly"}, "h26x_depacketizer/open_text.rt": {"give_up_run"}}
 # Calls for which room was reserved, and which std has by other names.
 RESERVED = {"push_front_reserved": "push_front", "push_back_reserved": "push_back"}
 # std has a name of its own for what isn't stable yet.
@@ -127,23 +122,6 @@ class Fallible:
             return Token("word", call.text, is_decided=True)
         self.traits.add("AppendBytes")
         return Token("word", "append_bytes", is_decided=True)
-
-    def shrink_quietly(self, items, place):
-        """Writes what makes memory smaller, in the functions where it may stand, as a call that may fail."""
-        names = SHRINKING[""] | SHRINKING.get(place, set())
-        for function in functions(items):
-            if function.name in names and function.body is not None:
-                function.body.items = deep(function.body.items, self.shrink)
-        return items
-
-    def shrink(self, items):
-        for i, it in enumerate(items):
-            arguments = at(items, after(items, i))
-            if is_among(it, SHRINKS) and is_sign(at(items, before(items, i)), ".") and is_group(arguments, "("):
-                it.text = "shrink_quietly"
-                arguments.items = arguments.items or [Token("number", "0")]
-                self.traits.add("Shrink")
-        return items
 
     def note(self, call, receiver):
         """Which trait a call needs: that of a list or a queue, where its receiver is one."""

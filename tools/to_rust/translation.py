@@ -127,7 +127,6 @@ class Translation:
         items = laws.erase_uses(items, gone, crate.gone | self.without)
         items = idiom.mark_unread(self.owed.lower_uses(items))
         fallible = memory.Fallible(items)
-        items = fallible.shrink_quietly(items, f"{crate.name}/{place}")
         items = memory.convert_ends(deep(items, fallible.change), fallible.lists | fallible.queues)
         items = deep(deep(items, idiom.write_formatters), memory.write_takes)
         items = deep(items, idiom.rename)

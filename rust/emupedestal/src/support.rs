@@ -147,24 +147,6 @@ impl AppendBytes for Vec<u8> {
     }
 }
 
-/// Memory given back, where there is memory for what stays.
-pub trait Shrink {
-    /// Gives back the memory behind the items, but room for so many in all. Where the smaller list finds no memory,
-    /// nothing changes; std's own call ends the process then.
-    fn shrink_quietly(&mut self, room: usize);
-}
-
-impl<T> Shrink for Vec<T> {
-    fn shrink_quietly(&mut self, room: usize) {
-        let room = room.max(self.len());
-        let mut smaller = Vec::new();
-        if room < self.capacity() && smaller.try_reserve_exact(room).is_ok() {
-            smaller.append(self);
-            *self = smaller;
-        }
-    }
-}
-
 /// The call of a slice that wants memory.
 pub trait TrySlice<T> {
     /// A list of copies of the items.

@@ -6,8 +6,7 @@ use crate::proved::h26x_receiver::SequencedDepacketizer;
 use crate::proved::h264_payload::H264Depacketizer;
 use crate::proved::h265_payload::H265Depacketizer;
 use crate::proved::h266_payload::H266Depacketizer;
-use crate::refusing::{refused_at, some_refused, without_memory};
-use crate::support::Shrink;
+use crate::refusing::{some_refused, without_memory};
 
 /// Takes these packets, one after the other, into room that was there.
 fn take<D: Depacketizer>(it: &mut Receiver<D>, packets: &[&[u8]]) {
@@ -142,24 +141,4 @@ fn a_run_behind_one_given_up() {
     take(&mut it, &[&start]);
     it.depacketizer.give_up_run();
     some_refused(|| it.take(&start));
-}
-
-/// A list gives back what it doesn't need, where there is memory for the rest; else it stays where it is.
-#[test]
-fn a_list_that_gives_memory_back() {
-    let mut list = Vec::with_capacity(100);
-    list.extend([1, 2, 3]);
-    let place = list.as_ptr();
-    let ((), was_refused) = refused_at(0, true, || list.shrink_quietly(0));
-    assert!(was_refused && list.capacity() == 100 && list.as_ptr() == place);
-    for (room, wanted) in [(200, 100), (9, 9), (0, 3)] {
-        list.shrink_quietly(room);
-        assert_eq!((list.capacity(), &list[..]), (wanted, &[1, 2, 3][..]));
-    }
-    without_memory(|| {
-        list.shrink_quietly(0);
-        list.clear();
-        list.shrink_quietly(0);
-    });
-    assert_eq!(list.capacity(), 0);
 }
