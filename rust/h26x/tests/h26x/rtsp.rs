@@ -158,6 +158,50 @@ fn bytes_that_make_no_sense() {
     receives(&segments(7, &bytes, 1400), 0..40, 0);
 }
 
+/// Bodies of messages are passed over by the first line of their header that says how long they are, however it is
+/// written; and a message in what was taken for a header has a length of its own.
+#[test]
+fn lengths_of_bodies() {
+    let body: Vec<u8> = (500..503)
+        .flat_map(|it| interleaved(0, &slice(it).bytes()))
+        .collect();
+    let len = body.len();
+    for header in [
+        format!("RTSP/1.0 200 OK\r\nContent-Length: {len}\r\n\r\n"),
+        format!("RTSP/1.0 200 OK\nCSeq: 1\ncontent-length :+{len}\t\r\nContent-Length: 7\r\n\r\n"),
+        format!(
+            "RTSP/1.0 200 OK\r\n \u{85}CONTENT-LENGTH\u{a0}:{len}\r\nA: Content-Length: 1\r\n\r\n"
+        ),
+        format!("Content-Length:{len}\r\nContent-Length: 1\r\n\r\n"),
+    ] {
+        let served = [
+            served(0..20),
+            header.into_bytes(),
+            body.clone(),
+            served(20..40),
+        ]
+        .concat();
+        for segment in [20, 61, 500, 60_000] {
+            receives(&segments(7, &served, segment), 0..40, 0);
+        }
+    }
+    // The first is too long for a message, in whose header packets stand, and another that has a body.
+    let packets: Vec<u8> = (20..40)
+        .flat_map(|it| interleaved(0, &slice(it).bytes()))
+        .collect();
+    let inner = format!("RTSP/1.0 200 OK\r\nContent-Length: {len}\r\n\r\n");
+    let bytes = [
+        served(0..20),
+        b"RTSP/1.0 200 OK\r\nContent-Length: 999999\r\nA: ".to_vec(),
+        packets,
+        inner.into_bytes(),
+        body,
+        served(40..60),
+    ]
+    .concat();
+    receives(&segments(7, &bytes, 60_000), 0..60, 0);
+}
+
 /// Segments of which the capture has only a front.
 #[test]
 fn segments_that_are_cut() {
