@@ -5,13 +5,13 @@ ghost use Rattle.std.specs.Option.{option_map};
 ghost use Rattle.h26x_reorder.specs.Rtp.{RtpBody};
 ghost use Rattle.h26x_reorder.specs.ReorderBuffer.{numbered_packet, goes_straight};
 ghost use Rattle.h26x_access_units.specs.Arrival.{deadline_of, has_waited};
-ghost use Rattle.h26x_access_units.specs.Pushed.{IsNotPushedReason};
+ghost use Rattle.h26x_access_units.specs.Pushed.{IsNotPushedReason, not_pushed_reason};
 ghost use Rattle.h26x_access_units.specs.Missing.{numbers_from, missing_numbers, AreExactlyMissing};
 ghost use Rattle.h26x_access_units.specs.JitterBuffer.{with_packet, newest_of, is_far, with_held_limit, fresh_jitter, held_bytes, is_past_limit, is_full, is_pressed, jitter_answer, after_jitter, due_packet, without_due, waits_for_none};
 
 use crate::arrival::{Arrival, from_at, let_go};
 use crate::config::AccessUnitConfig;
-use crate::pushed::{NotPushed, NotPushedReason, Pushed, as_not_pushed};
+use crate::pushed::{NotPushed, NotPushedReason, Pushed, as_not_pushed, reason_of};
 use h26x_reorder::{self, HeldPacket, ReorderBuffer, RtpPacket};
 use std::alloc::{AllocError, Global};
 use std::collections::VecDeque;
@@ -196,6 +196,10 @@ impl JitterBuffer {
         ensures back { IfErr result (λ it. it.packet ≡ packet) }
         ensures reason { IfErr result (λ it. IsNotPushedReason
             (jitter_answer self.old (numbered_packet packet)) it.reason) }
+
+        // Memory lacks only for one that would wait.
+        ensures exact { IfErr result (λ it. it.reason
+            ≡ not_pushed_reason (jitter_answer self.old (numbered_packet packet))) }
         ensures kept { OnErr result (self.new ≡ self.old) }
     {
         let bytes = match self.bytes_with(packet.payload.len()) {
@@ -208,10 +212,8 @@ impl JitterBuffer {
             }
         };
         if self.arrivals.reserve(1).is_err() {
-            return Err(NotPushed {
-                packet,
-                reason: NotPushedReason::OutOfMemory,
-            });
+            let reason = reason_of(self.buffer.answer_to(packet.sequence));
+            return Err(NotPushed { packet, reason });
         }
         let arrival = Arrival {
             number: packet.sequence,

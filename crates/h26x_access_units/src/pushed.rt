@@ -3,7 +3,7 @@
 ghost use Rattle.std.specs.Prelude.{◌≡◌};
 ghost use Rattle.h26x_access_units.specs.Pushed as spec;
 
-use h26x_reorder::{HeldPacket, NotHeldReason};
+use h26x_reorder::{self, HeldPacket, NotHeldReason};
 
 /// What became of a packet that was given to a receiver.
 #[derive(Debug, Clone, Copy, PartialEq, Eq)]
@@ -51,6 +51,17 @@ pub struct NotPushed {
     pub packet: HeldPacket,
     /// Why it doesn't wait.
     pub reason: NotPushedReason,
+}
+
+/// Why a packet doesn't wait for which a reorder buffer answers this: where it would, memory lacks.
+pub(crate) fn reason_of(answer: h26x_reorder::Pushed) -> NotPushedReason
+    ensures { result ≡ spec.not_pushed_reason (spec.as_pushed answer) }
+{
+    match answer {
+        h26x_reorder::Pushed::Held => NotPushedReason::OutOfMemory,
+        h26x_reorder::Pushed::Late(count) => NotPushedReason::Late(count),
+        h26x_reorder::Pushed::Twice => NotPushedReason::Twice,
+    }
 }
 
 /// Why a packet doesn't wait, by what a reorder buffer says.

@@ -5,7 +5,7 @@ ghost use Rattle.std.specs.Option.{option_map};
 ghost use Rattle.h26x_receiver.specs.Sequenced.{IfTaken};
 ghost use Rattle.h26x_reorder.specs.Rtp.{rtp_body};
 ghost use Rattle.h26x_reorder.specs.ReorderBuffer.{numbered_packet};
-ghost use Rattle.h26x_access_units.specs.Pushed.{IsNotPushedReason, is_kept};
+ghost use Rattle.h26x_access_units.specs.Pushed.{IsNotPushedReason, is_kept, not_pushed_reason};
 ghost use Rattle.h26x_access_units.specs.Counts.{counted_due};
 ghost use Rattle.h26x_assembler.specs.Assembler.{assembly_at, gives_text_up};
 ghost use Rattle.h26x_access_units.specs.Numbers.{bears_nothing, numbers_after};
@@ -328,6 +328,9 @@ impl<D: RunDepacketizer> AccessUnitReceiver<D> {
         ensures reason { let r = ⟦<Self as Receives>⟧.reception in
             IfErr result (λ it. IsNotPushedReason
             (reception_answer (r self.old) (numbered_packet packet)) it.reason) }
+        ensures exact { let r = ⟦<Self as Receives>⟧.reception in
+            IfErr result (λ it. it.reason ≡ not_pushed_reason
+            (reception_answer (r self.old) (numbered_packet packet))) }
         ensures kept { let r = ⟦<Self as Receives>⟧.reception in
             IfErr result (λ it. r self.new ≡ refused_reception (r self.old) it.reason) }
 

@@ -4,7 +4,9 @@
 
 use crate::proved::h26x_access_units::arrival::{Arrival, from_at, let_go};
 use crate::proved::h26x_access_units::config::AccessUnitConfig;
-use crate::proved::h26x_access_units::pushed::{NotPushed, NotPushedReason, Pushed, as_not_pushed};
+use crate::proved::h26x_access_units::pushed::{
+    NotPushed, NotPushedReason, Pushed, as_not_pushed, reason_of,
+};
 use crate::proved::h26x_reorder::{self, HeldPacket, ReorderBuffer, RtpPacket};
 use crate::support::AllocError;
 use crate::support::TryVec;
@@ -152,10 +154,8 @@ impl JitterBuffer {
             }
         };
         if self.arrivals.try_reserve(1).is_err() {
-            return Err(NotPushed {
-                packet,
-                reason: NotPushedReason::OutOfMemory,
-            });
+            let reason = reason_of(self.buffer.answer_to(packet.sequence));
+            return Err(NotPushed { packet, reason });
         }
         let arrival = Arrival {
             number: packet.sequence,

@@ -2,7 +2,7 @@
 
 //! What became of a packet that was given to a receiver.
 
-use crate::proved::h26x_reorder::{HeldPacket, NotHeldReason};
+use crate::proved::h26x_reorder::{self, HeldPacket, NotHeldReason};
 
 /// What became of a packet that was given to a receiver.
 #[derive(Debug, Clone, Copy, PartialEq, Eq, Hash)]
@@ -50,6 +50,15 @@ pub struct NotPushed {
     pub packet: HeldPacket,
     /// Why it doesn't wait.
     pub reason: NotPushedReason,
+}
+
+/// Why a packet doesn't wait for which a reorder buffer answers this: where it would, memory lacks.
+pub(crate) fn reason_of(answer: crate::proved::h26x_reorder::Pushed) -> NotPushedReason {
+    match answer {
+        crate::proved::h26x_reorder::Pushed::Held => NotPushedReason::OutOfMemory,
+        crate::proved::h26x_reorder::Pushed::Late(count) => NotPushedReason::Late(count),
+        crate::proved::h26x_reorder::Pushed::Twice => NotPushedReason::Twice,
+    }
 }
 
 /// Why a packet doesn't wait, by what a reorder buffer says.
