@@ -1,0 +1,4 @@
+pub mod MemoryLemmas
+pub mod WordLemmas
+pub mod ReadingLemmas
+pub mod WritingLemmas
