@@ -4,3 +4,4 @@ pub mod Reading
 pub mod Views
 pub mod Memory
 pub mod Writing
+pub mod Rtcp

@@ -1,0 +1,6 @@
+-- RTCP on the port of RTP (RFC 5761).
+use Rattle.std.specs.Prelude.{ℕ, ◌≤◌, List, length, slice_index}
+
+-- the second byte is a packet type of RTCP, 192 to 223 (RFC 5761, 4)
+abbrev pub IsRtcp : List ℕ → Type 0
+IsRtcp bytes = (2 ≤ length bytes) × (192 ≤ slice_index bytes 1) × (slice_index bytes 1 ≤ 223)
