@@ -2,3 +2,4 @@ pub mod MemoryLemmas
 pub mod WordLemmas
 pub mod ReadingLemmas
 pub mod WritingLemmas
+pub mod ElementLemmas

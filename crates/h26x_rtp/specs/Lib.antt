@@ -5,3 +5,5 @@ pub mod Views
 pub mod Memory
 pub mod Writing
 pub mod Rtcp
+pub mod Elements
+pub mod ElementViews

@@ -1,8 +1,10 @@
 //! RTP packets as a network brings them: the header read of any bytes and written (RFC 3550), the
+//! elements of header extensions (RFC 8285), RTCP told from RTP (RFC 5761), and what bears other
 //! packets, RTX (RFC 4588) and RED (RFC 2198). Nothing takes memory of its own.
 #![tactic(auto)]
 
 mod datagram;
+mod elements;
 mod error;
 mod header;
 pub mod laws;
@@ -12,6 +14,7 @@ mod words;
 mod writing;
 
 pub use datagram::RtpDatagram;
+pub use elements::{ElementForm, RtpElement, RtpElements};
 pub use error::{RtpError, RtpWriteError};
 pub use header::{RtpExtension, RtpHeader};
 pub use rtcp::is_rtcp;

@@ -1,0 +1,12 @@
+use Rattle.std.proofs.Common.{◌≤◌, length, drop, ap, arith, rules}
+use Rattle.h26x_rtp.proofs.ElementLemmas.{short_found}
+use Rattle.h26x_rtp.proofs.elements.first_short.Goals as goal
+
+pub returns : goal.returns
+returns c =
+    let bytes = c.args.bytes.now in
+    let rest = ap length c.split_at.ensures.back in
+    let some : 1 ≤ length bytes = search rules in
+    let within : c.short_size-size.result ≤ length (drop 1 bytes) = omega (arith, rest, c.if-rest-size.false) in
+    rw (c.split_at-2.ensures.front, c.split_at-2.ensures.back, c.split_at.ensures.back)
+    (short_found bytes c.short_size-size.result some c.if-id-eq0.false c.if-id-eq15.false c.short_size-size.ensures within)

@@ -1,0 +1,162 @@
+//! The elements of header extensions (RFC 8285).
+
+ghost use Rattle.std.specs.Prelude.{◌≡◌, ◌<◌, ◌+◌, ◌%◌, ◌∷◌, [], MatchOption, length, slice_index};
+ghost use Rattle.h26x_rtp.specs.Elements as spec;
+ghost use Rattle.h26x_rtp.specs.ElementViews.{element_view};
+ghost use Rattle.h26x_rtp.specs.Views.{extension_view};
+
+use crate::header::RtpExtension;
+use std::marker::Model;
+
+/// The form of the elements of a header extension (RFC 8285, 4.2 and 4.3).
+#[derive(Debug, Clone, Copy, PartialEq, Eq)]
+pub enum ElementForm {
+    /// Behind a byte of id and length: ids 1 to 14, 1 to 16 bytes.
+    OneByte,
+    /// Behind a byte of id and one of length: ids 1 to 255, at most 255 bytes.
+    TwoBytes,
+}
+
+/// An element of a header extension (RFC 8285, 4.1).
+#[derive(Debug, Clone, Copy, PartialEq, Eq)]
+pub struct RtpElement<'a> {
+    /// Its local identifier, which an `a=extmap` line of SDP says the meaning of.
+    pub id: u8,
+    /// Its bytes.
+    pub bytes: &'a [u8],
+}
+
+/// The elements of a header extension that are left, in their order (RFC 8285, 4.1).
+#[derive(Debug, Drop)]
+pub struct RtpElements<'a> {
+    form: ElementForm,
+    rest: &'a [u8],
+}
+
+impl<'a> Model for RtpElements<'a> {
+    ghost use Rattle.std.specs.Prelude.{List};
+    ghost use Rattle.h26x_rtp.specs.Elements.{ElementParts, elements_in};
+
+    ghost Value = { List ElementParts };
+
+    ghost view = { λ it. elements_in it.form it.rest.now };
+}
+
+/// The form that a profile says, if it says one.
+fn form_of(profile: u16) -> Option<ElementForm>
+    ensures { result ≡ spec.form_of profile }
+{
+    if profile == 0xbede {
+        Some(ElementForm::OneByte)
+    } else if profile >> 4 == 0x100 {
+        Some(ElementForm::TwoBytes)
+    } else {
+        None
+    }
+}
+
+/// Bytes without the padding before them (RFC 8285, 4.1.2).
+fn without_padding(form: ElementForm, bytes: &[u8]) -> &[u8]
+    ensures same { spec.elements_in form bytes.now ≡ spec.elements_in form result.now }
+    ensures first { 0 < length result.now → 0 < slice_index result.now 0 }
+{
+    for (place, byte) in bytes.iter().enumerate() {
+        if *byte != 0 {
+            return &bytes[place..];
+        }
+    }
+    &[]
+}
+
+/// How many bytes an element has in the form of one byte (RFC 8285, 4.2).
+fn short_size(byte: u8) -> usize
+    ensures { result ≡ byte % 16 + 1 }
+{
+    usize::from(byte & 0x0f) + 1
+}
+
+/// The first element in the form of one byte, and what stands behind it.
+fn first_short(bytes: &[u8]) -> Option<(RtpElement<'_>, &[u8])>
+    requires { 0 < length bytes.now → 0 < slice_index bytes.now 0 }
+    ensures { MatchOption result (spec.elements_in ElementForm.OneByte bytes.now ≡ [])
+        (λ it. spec.elements_in ElementForm.OneByte bytes.now
+        ≡ element_view it.0 ∷ spec.elements_in ElementForm.OneByte it.1.now) }
+{
+    if bytes.is_empty() {
+        return None;
+    }
+    let (_, rest) = bytes.split_at(1);
+    let id = bytes[0] >> 4;
+    let size = short_size(bytes[0]);
+    if id == 0 || id == 15 || rest.len() < size {
+        return None;
+    }
+    let (bytes, rest) = rest.split_at(size);
+    Some((RtpElement { id, bytes }, rest))
+}
+
+/// The first element in the form of two bytes, and what stands behind it.
+fn first_long(bytes: &[u8]) -> Option<(RtpElement<'_>, &[u8])>
+    requires { 0 < length bytes.now → 0 < slice_index bytes.now 0 }
+    ensures { MatchOption result (spec.elements_in ElementForm.TwoBytes bytes.now ≡ [])
+        (λ it. spec.elements_in ElementForm.TwoBytes bytes.now
+        ≡ element_view it.0 ∷ spec.elements_in ElementForm.TwoBytes it.1.now) }
+{
+    if bytes.len() < 2 {
+        return None;
+    }
+    let (_, rest) = bytes.split_at(2);
+    let id = bytes[0];
+    let size = usize::from(bytes[1]);
+    if rest.len() < size {
+        return None;
+    }
+    let (bytes, rest) = rest.split_at(size);
+    Some((RtpElement { id, bytes }, rest))
+}
+
+impl<'a> RtpExtension<'a> {
+    /// Its elements, in their order: none where its profile says no form of elements. In the form of
+    /// one byte they end before an id of 15, and in both before one that passes the end (RFC 8285,
+    /// 4.2 and 4.3).
+    ///
+    /// ```rust
+    /// for element in extension.elements() {
+    ///     look_at(element.id, element.bytes);
+    /// }
+    /// ```
+    pub fn elements(self) -> RtpElements<'a>
+        ensures { result ≡ spec.extension_elements (extension_view self.entry) }
+    {
+        match form_of(self.profile) {
+            Some(form) => RtpElements {
+                form,
+                rest: self.bytes,
+            },
+            None => RtpElements {
+                form: ElementForm::OneByte,
+                rest: &[],
+            },
+        }
+    }
+}
+
+impl<'a> Iterator for RtpElements<'a> {
+    type Item = RtpElement<'a>;
+
+    ghost use Rattle.std.specs.Iterator.{YieldsFirstBy, item_count};
+
+    ghost next_gives = { YieldsFirstBy element_view (λ it. it) };
+
+    ghost remaining = { item_count (λ it. it) };
+
+    fn next(&mut self) -> Option<RtpElement<'a>> {
+        let bytes = without_padding(self.form, self.rest);
+        let (element, rest) = match self.form {
+            ElementForm::OneByte => first_short(bytes)?,
+            ElementForm::TwoBytes => first_long(bytes)?,
+        };
+        self.rest = rest;
+        Some(element)
+    }
+}
