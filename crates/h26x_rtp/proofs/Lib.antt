@@ -3,3 +3,4 @@ pub mod WordLemmas
 pub mod ReadingLemmas
 pub mod WritingLemmas
 pub mod ElementLemmas
+pub mod RtxLemmas

@@ -7,3 +7,4 @@ pub mod Writing
 pub mod Rtcp
 pub mod Elements
 pub mod ElementViews
+pub mod Rtx

@@ -57,3 +57,10 @@ IsDatagramWritten it old new (Ok size) = HeaderFits it.header × IsPadding it.pa
     × (size ≡ length (datagram_bytes it)) × (size ≤ length old)
     × (new ≡ datagram_bytes it ++ drop size old)
 IsDatagramWritten it old new (Err e) = (new ≡ old) × IsDatagramRefusal it (length old) e
+
+-- bytes written to the front of memory where there is room; all else stays
+abbrev pub IsBytesWritten : List ℕ → List ℕ → List ℕ → Result ℕ RtpWriteError → Type 0
+IsBytesWritten bytes old new (Ok size) = (size ≡ length bytes) × (size ≤ length old)
+    × (new ≡ bytes ++ drop size old)
+IsBytesWritten bytes old new (Err e) = (new ≡ old) × (length old < length bytes)
+    × (e ≡ NoRoom (told_size bytes))

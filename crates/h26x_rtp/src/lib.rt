@@ -10,6 +10,7 @@ mod header;
 pub mod laws;
 mod memory;
 mod rtcp;
+mod rtx;
 mod words;
 mod writing;
 
@@ -18,3 +19,4 @@ pub use elements::{ElementForm, RtpElement, RtpElements};
 pub use error::{RtpError, RtpWriteError};
 pub use header::{RtpExtension, RtpHeader};
 pub use rtcp::is_rtcp;
+pub use rtx::RtxPayload;

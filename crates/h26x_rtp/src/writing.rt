@@ -82,7 +82,7 @@ fn put_extension(extension: Option<RtpExtension<'_>>, place: usize, to: &mut [u8
 
 impl<'a> RtpHeader<'a> {
     /// Whether every part has a place in a header, or the first that has none.
-    fn test(self) -> Result<(), RtpWriteError>
+    pub(crate) fn test(self) -> Result<(), RtpWriteError>
         ensures { IsHeaderTest (header_view self.entry) result }
     {
         if self.payload_type > 127 {
@@ -98,7 +98,7 @@ impl<'a> RtpHeader<'a> {
     }
 
     /// How many bytes it has.
-    fn size(self) -> usize
+    pub(crate) fn size(self) -> usize
         requires { HeaderFits (header_view self) }
         ensures { result ≡ length (datagram_header (header_view self.entry) true) }
     {
@@ -138,7 +138,7 @@ impl<'a> RtpHeader<'a> {
     }
 
     /// Writes it at a place; the place behind it.
-    fn put(self, padded: bool, place: usize, to: &mut [u8]) -> usize
+    pub(crate) fn put(self, padded: bool, place: usize, to: &mut [u8]) -> usize
         requires fits { HeaderFits (header_view self) }
         requires room { place + length (datagram_header (header_view self) padded)
             ≤ length to.old }
