@@ -3,4 +3,5 @@ pub mod WordLemmas
 pub mod ReadingLemmas
 pub mod WritingLemmas
 pub mod ElementLemmas
+pub mod RedLemmas
 pub mod RtxLemmas

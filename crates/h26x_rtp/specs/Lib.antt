@@ -8,3 +8,5 @@ pub mod Rtcp
 pub mod Elements
 pub mod ElementViews
 pub mod Rtx
+pub mod Red
+pub mod RedViews
