@@ -5,3 +5,4 @@ pub mod WritingLemmas
 pub mod ElementLemmas
 pub mod RedLemmas
 pub mod RtxLemmas
+pub mod RedLawLemmas

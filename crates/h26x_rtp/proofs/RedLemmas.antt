@@ -7,7 +7,7 @@ use Rattle.std.proofs.lemmas.Bool.Decides.{nat_tests}
 use Rattle.h26x_rtp.specs.Red.{headers_end, blocks_size, blocks_in}
 
 -- a first header with F clear is that of the primary block
-ends_here : (bytes : List ℕ) → 0 < length bytes → slice_index bytes 0 < 128 → headers_end bytes ≡ Some 0
+pub ends_here : (bytes : List ℕ) → 0 < length bytes → slice_index bytes 0 < 128 → headers_end bytes ≡ Some 0
 ends_here [] some h = absurd (omega arith)
 ends_here (a ∷ []) some h = let t : nat_lt a 128 ≡ true = grind (arith, nat_tests, h) in rw t refl
 ends_here (a ∷ b ∷ []) some h = let t : nat_lt a 128 ≡ true = grind (arith, nat_tests, h) in rw t refl

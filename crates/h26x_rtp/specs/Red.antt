@@ -1,5 +1,5 @@
 -- Redundant payloads (RFC 2198, 3), which also bear FEC (RFC 5109, 14.1).
-use Rattle.std.specs.Prelude.{ℕ, ◌+◌, ◌*◌, ◌/◌, ◌%◌, ◌<◌, nat_lt, if◌then◌else◌, List, [], ◌∷◌, ◌++◌, length, take, drop, slice_index, Option, Some, None, Result, Ok, Err}
+use Rattle.std.specs.Prelude.{◌≡◌, ℕ, ◌+◌, ◌*◌, ◌/◌, ◌%◌, ◌<◌, nat_lt, if◌then◌else◌, List, [], ◌∷◌, ◌++◌, length, take, drop, slice_index, Option, Some, None, Result, Ok, Err}
 use Rattle.std.specs.Option.{option_map}
 use Rattle.std.specs.List.{flat_map, AllByRecursion}
 use Rattle.h26x_rtp.specs.declared.red.RedError.{RedError}
@@ -41,6 +41,11 @@ pub record BlockFits (it : BlockParts) : Type 0 where
 pub record RedFits (it : RedParts) : Type 0 where
   pub blocks : AllByRecursion BlockFits it.blocks
   pub payload_type : it.payload_type < 128
+
+-- the bytes are this redundant payload
+pub record IsRed (bytes : List ℕ) (it : RedParts) : Type 0 where
+  pub spelled : bytes ≡ red_bytes it
+  pub fits : RedFits it
 
 -- how many bytes the headers before that of the primary block have: four each, up to the first with F
 -- clear (RFC 2198, 3)

@@ -1,10 +1,12 @@
 //! Laws of the definitions, each the contract of a function without a result.
 
-ghost use Rattle.std.specs.Prelude.{◌≡◌, ℕ, List, [], Ok, Err, take};
-ghost use Rattle.h26x_rtp.specs.Datagram.{DatagramParts, AreBytes, HeaderFits, IsDatagram};
+ghost use Rattle.std.specs.Prelude.{◌≡◌, ◌≤◌, ℕ, Bool, true, false, List, [], ◌++◌, Ok, Err, take, drop};
+ghost use Rattle.h26x_rtp.specs.Datagram.{HeaderParts, DatagramParts, AreBytes, HeaderFits, IsDatagram, datagram_header};
 ghost use Rattle.h26x_rtp.specs.Reading.{datagram_of};
+ghost use Rattle.h26x_rtp.specs.Red.{RedParts, IsRed, red_of};
+ghost use Rattle.h26x_rtp.specs.Rtcp.{IsRtcp};
 ghost use Rattle.h26x_rtp.specs.Rtx.{IsOriginal, retransmission_of};
-ghost use Rattle.h26x_rtp.specs.Writing.{IsDatagramWritten, told_size};
+ghost use Rattle.h26x_rtp.specs.Writing.{IsDatagramWritten, IsHeaderWritten, told_size};
 
 use crate::error::RtpWriteError;
 
@@ -47,4 +49,30 @@ pub fn retransmissions_bear_originals()
     ensures again { (rtx it : DatagramParts) (payload_type ssrc : ℕ) →
         IsOriginal rtx payload_type ssrc it → rtx.padding ≡ [] →
         retransmission_of it rtx.header.payload_type rtx.header.sequence rtx.header.ssrc ≡ rtx }
+{}
+
+/// Bytes are at most one redundant payload, and that is what they are read as; bytes that are none
+/// are refused (RFC 2198, 3).
+pub fn one_reading_of_a_redundant_payload()
+    ensures read { (bytes : List ℕ) (it : RedParts) → IsRed bytes it → red_of bytes ≡ Ok it }
+    ensures spelled { (bytes : List ℕ) (it : RedParts) → AreBytes bytes → red_of bytes ≡ Ok it →
+        IsRed bytes it }
+    ensures one { (bytes : List ℕ) (a b : RedParts) → IsRed bytes a → IsRed bytes b → a ≡ b }
+{}
+
+/// A header written right before a payload makes a packet of both (RFC 3550, 5.1).
+pub fn headers_before_payloads_make_packets()
+    ensures bytes { (it : HeaderParts) (padded : Bool) (place start : ℕ) (old new : List ℕ) →
+        IsHeaderWritten it padded place old new (Ok start) →
+        drop start new ≡ datagram_header it padded ++ drop place old }
+    ensures packet { (it : HeaderParts) (place start : ℕ) (old new : List ℕ) →
+        IsHeaderWritten it false place old new (Ok start) → datagram_of (drop start new)
+        ≡ Ok (record { header = it; payload = drop place old; padding = [] }) }
+{}
+
+/// RTCP is told from every RTP packet whose payload type isn't one of 64 to 95 (RFC 5761, 4).
+pub fn rtcp_is_no_packet_of_other_payload_types()
+    ensures { (bytes : List ℕ) (it : DatagramParts) → IsDatagram bytes it → IsRtcp bytes →
+        (it.header.marker ≡ true) × (64 ≤ it.header.payload_type)
+        × (it.header.payload_type ≤ 95) }
 {}

@@ -3,6 +3,7 @@
 //! packets, RTX (RFC 4588) and RED (RFC 2198). Nothing takes memory of its own.
 #![tactic(auto)]
 
+mod cases;
 mod datagram;
 mod elements;
 mod error;

@@ -1,6 +1,6 @@
 //! Redundant payloads (RFC 2198), which also bear FEC (RFC 5109, 14.1).
 
-ghost use Rattle.std.specs.Prelude.{◌≡◌, ◌<◌, ◌≤◌, ◌+◌, ◌*◌, ◌/◌, ◌%◌, ◌∷◌, ◌↔◌, IsTrue, IfSome, MatchOption, [], Contains, length, drop};
+ghost use Rattle.std.specs.Prelude.{◌≡◌, ◌<◌, ◌≤◌, ◌+◌, ◌*◌, ◌/◌, ◌%◌, ◌∷◌, ◌↔◌, IsTrue, IfOk, IfSome, MatchOption, [], Contains, length, drop};
 ghost use Rattle.h26x_rtp.specs.Red as spec;
 ghost use Rattle.h26x_rtp.specs.RedViews.{block_view, red_view, IsReadAsRed};
 ghost use Rattle.h26x_rtp.specs.Writing.{IsBytesWritten};
@@ -141,19 +141,27 @@ fn read_parts<'a>(
     })
 }
 
+/// A redundant payload, or why the bytes are none.
+fn read_red(bytes: &[u8]) -> Result<RedPayload<'_>, RedError>
+    ensures { IsReadAsRed result (spec.red_of bytes.now) }
+{
+    match headers_end(bytes) {
+        Some(end) => {
+            let (headers, rest) = bytes.split_at(end);
+            let (_, behind) = rest.split_at(1);
+            read_parts(headers, bytes[end], behind)
+        }
+        None => Err(RedError::HeadersPastTheEnd),
+    }
+}
+
 impl<'a> RedPayload<'a> {
     /// Reads a redundant payload, or says why the bytes are none (RFC 2198, 3).
     pub fn read(bytes: &'a [u8]) -> Result<RedPayload<'a>, RedError>
         ensures read { IsReadAsRed result (spec.red_of bytes.now) }
+        ensures spelled { IfOk result (λ it. spec.IsRed bytes.now (red_view it)) }
     {
-        match headers_end(bytes) {
-            Some(end) => {
-                let (headers, rest) = bytes.split_at(end);
-                let (_, behind) = rest.split_at(1);
-                read_parts(headers, bytes[end], behind)
-            }
-            None => Err(RedError::HeadersPastTheEnd),
-        }
+        read_red(bytes)
     }
 }
 
