@@ -1,6 +1,6 @@
 //! The elements of header extensions (RFC 8285).
 
-ghost use Rattle.std.specs.Prelude.{◌≡◌, ◌<◌, ◌+◌, ◌%◌, ◌∷◌, [], MatchOption, length, slice_index};
+ghost use Rattle.std.specs.Prelude.{◌≡◌, ◌==◌, ◌||◌, ◌<◌, ◌+◌, ◌/◌, ◌%◌, ◌∷◌, [], MatchOption, length, slice_index};
 ghost use Rattle.h26x_rtp.specs.Elements as spec;
 ghost use Rattle.h26x_rtp.specs.ElementViews.{element_view};
 ghost use Rattle.h26x_rtp.specs.Views.{extension_view};
@@ -75,6 +75,14 @@ fn short_size(byte: u8) -> usize
     usize::from(byte & 0x0f) + 1
 }
 
+/// Whether a first byte ends the elements in the form of one byte: by an id of 15, or of 0 where it
+/// is no padding (RFC 8285, 4.2).
+fn ends_short(byte: u8) -> bool
+    ensures { result ≡ ((byte / 16 == 0) || (byte / 16 == 15)) }
+{
+    byte >> 4 == 0 || byte >> 4 == 15
+}
+
 /// The first element in the form of one byte, and what stands behind it.
 fn first_short(bytes: &[u8]) -> Option<(RtpElement<'_>, &[u8])>
     requires { 0 < length bytes.now → 0 < slice_index bytes.now 0 }
@@ -88,7 +96,7 @@ fn first_short(bytes: &[u8]) -> Option<(RtpElement<'_>, &[u8])>
     let (_, rest) = bytes.split_at(1);
     let id = bytes[0] >> 4;
     let size = short_size(bytes[0]);
-    if id == 0 || id == 15 || rest.len() < size {
+    if ends_short(bytes[0]) || rest.len() < size {
         return None;
     }
     let (bytes, rest) = rest.split_at(size);

@@ -1,13 +1,15 @@
 //! Laws of the definitions, each the contract of a function without a result.
 
-ghost use Rattle.std.specs.Prelude.{◌≡◌, ◌≤◌, ℕ, Bool, true, false, List, [], ◌++◌, Ok, Err, take, drop};
+ghost use Rattle.std.specs.Prelude.{◌≡◌, ◌≤◌, ℕ, Bool, true, false, List, [], ◌∷◌, ◌++◌, Ok, Err, take, drop};
 ghost use Rattle.h26x_rtp.specs.Datagram.{HeaderParts, DatagramParts, AreBytes, HeaderFits, IsDatagram, datagram_header};
 ghost use Rattle.h26x_rtp.specs.Reading.{datagram_of};
+ghost use Rattle.h26x_rtp.specs.Elements.{ElementParts, ElementFits, element_bytes, elements_in};
 ghost use Rattle.h26x_rtp.specs.Red.{RedParts, IsRed, red_of};
 ghost use Rattle.h26x_rtp.specs.Rtcp.{IsRtcp};
 ghost use Rattle.h26x_rtp.specs.Rtx.{IsOriginal, retransmission_of};
 ghost use Rattle.h26x_rtp.specs.Writing.{IsDatagramWritten, IsHeaderWritten, told_size};
 
+use crate::elements::ElementForm;
 use crate::error::RtpWriteError;
 
 /// Bytes are at most one packet, and that is what they are read as; bytes that are none are refused
@@ -75,4 +77,15 @@ pub fn rtcp_is_no_packet_of_other_payload_types()
     ensures { (bytes : List ℕ) (it : DatagramParts) → IsDatagram bytes it → IsRtcp bytes →
         (it.header.marker ≡ true) × (64 ≤ it.header.payload_type)
         × (it.header.payload_type ≤ 95) }
+{}
+
+/// Elements that are written one behind the other, and padding between them, are read as the same
+/// (RFC 8285, 4.2 and 4.3).
+pub fn written_elements_are_read()
+    ensures element { (form : ElementForm) (it : ElementParts) (behind : List ℕ) →
+        ElementFits form it → elements_in form (element_bytes form it ++ behind)
+        ≡ it ∷ elements_in form behind }
+    ensures padding { (form : ElementForm) (behind : List ℕ) →
+        elements_in form (0 ∷ behind) ≡ elements_in form behind }
+    ensures none { (form : ElementForm) → elements_in form [] ≡ [] }
 {}
