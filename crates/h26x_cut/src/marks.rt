@@ -1,5 +1,5 @@
 //! The marks of start codes: each is found by a call of memchr, and the two bytes before it are looked
-//! at.
+//! at; where many bytes 01 are none, `behind.rt` and `portable.rt` go on by memchr's `memmem`.
 
 ghost use Rattle.std.specs.Prelude.{IsTrue, ◌↔◌, ◌-◌, ◌<◌, ◌≤◌, length};
 ghost use Rattle.h26x_cut.specs.Search.{AreZeros, IsNextMark};

@@ -4,7 +4,6 @@ use crate::Work;
 use crate::digest::Digest;
 use anyhow::Result;
 use h26x_inputs::{Draws, SETTINGS, pictures, session_of};
-use h26x_lines::answer_all;
 use std::alloc::Global;
 use std::io::{self, Write};
 
@@ -37,7 +36,7 @@ pub fn run(alloc: Global, work: Work) -> Result<Digest> {
             let answers = Answers {
                 digest: &mut digest,
             };
-            answer_all(alloc, session.text.as_slice(), answers)?;
+            h26x_lines::run(alloc, session.text.as_slice(), answers)?;
         }
     }
     Ok(digest)

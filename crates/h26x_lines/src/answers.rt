@@ -4,7 +4,7 @@ ghost use Rattle.std.specs.Prelude.{◌≤◌, length, OnOk};
 ghost use Rattle.std.specs.Io.KnownBytes.{Appends};
 ghost use Rattle.hex.specs.Hex.{encode_lower};
 
-use crate::error::SessionError;
+use crate::error::RunError;
 use crate::to_digits::write_lower;
 use h26x_core::{CodecExtra, PacketError};
 use h26x_transmission::Carried;
@@ -34,26 +34,26 @@ impl<W: Write + Drop> Model for Answers<W> {
 
 impl<W: Write + Drop> Answers<W> {
     /// No answers yet. The buffer's memory comes from `alloc`.
-    pub fn new(alloc: Global, writer: W) -> Result<Self, SessionError> {
+    pub fn new(alloc: Global, writer: W) -> Result<Self, RunError> {
         match BufWriter::new(alloc, writer) {
             Ok(writer) => Ok(Answers { writer }),
-            Err(_) => Err(SessionError::OutOfMemory),
+            Err(_) => Err(RunError::OutOfMemory),
         }
     }
 
     /// A line as it is.
-    pub fn say(&mut self, answer: &str) -> Result<(), SessionError> {
+    pub fn say(&mut self, answer: &str) -> Result<(), RunError> {
         self.write(answer.as_bytes())?;
         self.write(b"\n")
     }
 
     /// Whether a line's setting is one of the codec.
-    pub fn say_set(&mut self, is_one: bool) -> Result<(), SessionError> {
+    pub fn say_set(&mut self, is_one: bool) -> Result<(), RunError> {
         self.say(if is_one { "ok" } else { "bad line" })
     }
 
     /// What is known of keyframes.
-    pub fn say_key(&mut self, extra: CodecExtra) -> Result<(), SessionError> {
+    pub fn say_key(&mut self, extra: CodecExtra) -> Result<(), RunError> {
         self.say(match extra {
             CodecExtra::None => "key none",
             CodecExtra::H264(told) if told.is_keyframe => "key true",
@@ -67,7 +67,7 @@ impl<W: Write + Drop> Answers<W> {
     pub fn say_packed(
         &mut self,
         packets: Result<Vec<Vec<u8>>, PacketError>,
-    ) -> Result<(), SessionError> {
+    ) -> Result<(), RunError> {
         match packets {
             Ok(packets) => {
                 self.say_packets(&packets)?;
@@ -82,7 +82,7 @@ impl<W: Write + Drop> Answers<W> {
         &mut self,
         taken: Result<(), PacketError>,
         out: &[u8],
-    ) -> Result<(), SessionError> {
+    ) -> Result<(), RunError> {
         match taken {
             Ok(()) => self.say_bytes("out", out),
             Err(error) => self.say_refused(error),
@@ -94,7 +94,7 @@ impl<W: Write + Drop> Answers<W> {
         &mut self,
         carried: Result<Carried, PacketError>,
         out: &[u8],
-    ) -> Result<(), SessionError> {
+    ) -> Result<(), RunError> {
         match carried {
             Ok(carried) if carried.made.as_slice() == [true].as_slice() => {
                 self.say_packets(carried.packets.as_slice())?;
@@ -106,12 +106,12 @@ impl<W: Write + Drop> Answers<W> {
     }
 
     /// Writes what is still in the buffer.
-    pub fn flush(&mut self) -> Result<(), SessionError> {
-        self.writer.flush().map_err(|_| SessionError::Write)
+    pub fn flush(&mut self) -> Result<(), RunError> {
+        self.writer.flush().map_err(|_| RunError::Write)
     }
 
     /// A word and bytes by two digits each in lower case, `-` for none.
-    fn say_bytes(&mut self, word: &str, bytes: &[u8]) -> Result<(), SessionError> {
+    fn say_bytes(&mut self, word: &str, bytes: &[u8]) -> Result<(), RunError> {
         self.write(word.as_bytes())?;
         if bytes.is_empty() {
             return self.say(" -");
@@ -124,7 +124,7 @@ impl<W: Write + Drop> Answers<W> {
     }
 
     /// The error's name, and its numbers.
-    fn say_refused(&mut self, error: PacketError) -> Result<(), SessionError> {
+    fn say_refused(&mut self, error: PacketError) -> Result<(), RunError> {
         match error {
             PacketError::NaluTypeIsNotHandled(nalu_type) => {
                 writeln!(self.writer, "refused NaluTypeIsNotHandled {nalu_type}")
@@ -137,10 +137,10 @@ impl<W: Write + Drop> Answers<W> {
             }
             _ => writeln!(self.writer, "refused {error:?}"),
         }
-        .map_err(|_| SessionError::Write)
+        .map_err(|_| RunError::Write)
     }
 
-    fn say_packets(&mut self, packets: &[Vec<u8>]) -> Result<(), SessionError> {
+    fn say_packets(&mut self, packets: &[Vec<u8>]) -> Result<(), RunError> {
         for packet in packets {
             self.say_bytes("packet", packet)?;
         }
@@ -148,7 +148,7 @@ impl<W: Write + Drop> Answers<W> {
     }
 
     /// Writes at most `CHUNK` bytes by two digits each.
-    fn write_digits(&mut self, bytes: &[u8]) -> Result<(), SessionError>
+    fn write_digits(&mut self, bytes: &[u8]) -> Result<(), RunError>
         requires { length bytes.now ≤ 256 }
         ensures { OnOk result (Appends self.old self.new (encode_lower bytes.now)) }
     {
@@ -159,9 +159,9 @@ impl<W: Write + Drop> Answers<W> {
     }
 
     /// Writes a text as it is.
-    fn write(&mut self, text: &[u8]) -> Result<(), SessionError>
+    fn write(&mut self, text: &[u8]) -> Result<(), RunError>
         ensures { OnOk result (Appends self.old self.new text.now) }
     {
-        self.writer.write_all(text).map_err(|_| SessionError::Write)
+        self.writer.write_all(text).map_err(|_| RunError::Write)
     }
 }

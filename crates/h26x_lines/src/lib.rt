@@ -9,9 +9,10 @@ mod error;
 mod from_digits;
 pub mod laws;
 mod line;
+pub mod plain;
 mod session;
 mod settings;
 mod to_digits;
 
-pub use error::SessionError;
-pub use session::answer_all;
+pub use error::RunError;
+pub use session::run;

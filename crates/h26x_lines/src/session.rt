@@ -2,7 +2,7 @@
 
 use crate::answers::Answers;
 use crate::digits::Digits;
-use crate::error::SessionError;
+use crate::error::RunError;
 use crate::line::{Line, read_line};
 use crate::settings::{set_avc, set_numbers, set_size};
 use h26x_codec::Codec;
@@ -14,10 +14,10 @@ use std::io;
 use std::io::{Read, Write};
 
 /// A failed read, which may be for want of memory.
-fn read_error(error: io::Error) -> SessionError {
+fn read_error(error: io::Error) -> RunError {
     match error.kind() {
-        io::ErrorKind::OutOfMemory => SessionError::OutOfMemory,
-        _ => SessionError::Read,
+        io::ErrorKind::OutOfMemory => RunError::OutOfMemory,
+        _ => RunError::Read,
     }
 }
 
@@ -28,14 +28,14 @@ fn read_error(error: io::Error) -> SessionError {
 ///
 /// ```rust
 /// let mut answers = Vec::new(alloc);
-/// answer_all(alloc, b"pack 1200 6501\n".as_slice(), &mut answers)?;
+/// run(alloc, b"pack 1200 6501\n".as_slice(), &mut answers)?;
 /// assert_eq!(rt; answers.as_slice(), b"packet 6501\ndone\n".as_slice());
 /// ```
-pub fn answer_all<R: Read + Drop, W: Write + Drop>(
+pub fn run<R: Read + Drop, W: Write + Drop>(
     alloc: Global,
     mut reader: R,
     writer: W,
-) -> Result<(), SessionError> {
+) -> Result<(), RunError> {
     let mut input = Vec::new(alloc);
     reader.read_to_end(&mut input).map_err(read_error)?;
     let mut answers = Answers::new(alloc, writer)?;
@@ -51,7 +51,7 @@ fn answer_lines<W: Write + Drop>(
     alloc: Global,
     mut rest: &[u8],
     answers: &mut Answers<W>,
-) -> Result<(), SessionError> {
+) -> Result<(), RunError> {
     let digits = Digits::new();
     let mut packetizer = CodecPacketizer::new(alloc, Codec::H264);
     let mut depacketizer = CodecDepacketizer::new(alloc, Codec::H264);

@@ -350,12 +350,19 @@ fn push(receiver: &mut AccessUnitReceiver, sequence: &mut u16, payload: &[u8]) {
     *sequence = sequence.wrapping_add(1);
 }
 
+/// Why a unit goes, of how many packets more, and what makes it go.
+type Goes = (
+    &'static str,
+    usize,
+    fn(&mut AccessUnitReceiver, u16, Codec),
+);
+
 /// A unit that goes, since it is too long, since a packet of it is missing, or since one is refused, takes the
 /// memory with it that it had in an access unit.
 #[test]
 fn a_long_unit_that_goes_leaves_a_short_access_unit() {
     for codec in [Codec::H264, Codec::H265, Codec::H266] {
-        let goes: [(&str, usize, fn(&mut AccessUnitReceiver, u16, Codec)); 3] = [
+        let goes: [Goes; 3] = [
             ("too long", 1, |receiver, mut sequence, codec| {
                 push(receiver, &mut sequence, &fragment(codec, false));
             }),

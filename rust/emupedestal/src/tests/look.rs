@@ -15,81 +15,35 @@ fn all(answer: impl Fn(&[u8]) -> bool, wanted: bool, packets: &[&str]) {
 }
 
 #[test]
-fn h264_keyframes_are_detected() {
-    let key = [
-        "650000",
-        "18 0002 67aa 0002 65bb",
-        "7c850000",
-        "78 0000 0002 65aa",
-    ];
-    all(detect_h264_keyframe, true, &key);
-    let other = [
-        "",
-        "410000",
-        "670000",
-        "7c810000",
-        "7c050000",
-        "7c",
-        "18 0002 67aa 0002 68bb",
-    ];
-    all(detect_h264_keyframe, false, &other);
-    assert!(detect_h264_nalu(&bytes("18 0002 67aa 0002 68bb"), 7));
-    assert!(!detect_h264_nalu(&bytes("18 0002 67aa 0002 68bb"), 9));
-}
-
-#[test]
-fn h265_keyframes_are_detected() {
-    // Types 16 to 21 alone, in an aggregate, and in a first fragment.
-    let key = [
-        "2001aa",
-        "2a01aa",
-        "6001 0003 0201aa 0003 2601af",
-        "620193aa",
-    ];
-    all(detect_h265_keyframe, true, &key);
-    let other = [
-        "",
-        "26",
-        "0201aa",
-        "2c01aa",
-        "620113aa",
-        "6201",
-        "6401 2638 112233 aa",
-    ];
-    all(detect_h265_keyframe, false, &other);
-}
-
-#[test]
-fn h266_keyframes_are_detected() {
-    let key = [
-        "0039aa",
-        "0049aa",
-        "00e1 0003 0001aa 0003 0039bb",
-        "00e987aa",
-    ];
-    all(detect_h266_keyframe, true, &key);
-    let other = [
-        "",
-        "00",
-        "0001aa",
-        "0051aa",
-        "00e907aa",
-        "00e1 0001 00 0003 0039bb",
-    ];
-    all(detect_h266_keyframe, false, &other);
-}
-
-#[test]
 fn keyframes_of_each_codec() {
-    for (codec, key, other) in [
-        (Codec::H264, ["650000", "7c850000"], ["410000", "7c050000"]),
-        (Codec::H265, ["2a01aa", "620193aa"], ["2c01aa", "620113aa"]),
-        (Codec::H266, ["0049aa", "00e987aa"], ["0051aa", "00e907aa"]),
+    for (codec, of_codec, key, other) in [
+        (
+            Codec::H264,
+            detect_h264_keyframe as fn(&[u8]) -> bool,
+            ["650000", "7c850000"],
+            ["410000", "7c050000"],
+        ),
+        (
+            Codec::H265,
+            detect_h265_keyframe,
+            ["2a01aa", "620193aa"],
+            ["2c01aa", "620113aa"],
+        ),
+        (
+            Codec::H266,
+            detect_h266_keyframe,
+            ["0049aa", "00e987aa"],
+            ["0051aa", "00e907aa"],
+        ),
     ] {
-        all(|p| detect_keyframe(codec, p), true, &key);
-        all(|p| detect_keyframe(codec, p), false, &other);
-        all(|p| detect_keyframe(codec, p), false, &[""]);
+        let of_any = |p: &[u8]| detect_keyframe(codec, p);
+        for detect in [&of_codec as &dyn Fn(&[u8]) -> bool, &of_any] {
+            all(detect, true, &key);
+            all(detect, false, &other);
+            all(detect, false, &[""]);
+        }
     }
+    assert!(detect_h264_nalu(&bytes("650000"), 5));
 }
 
 /// RFC 7798, 4.4.2: the layer and the temporal id are the lowest of the units, and F is set where one has it.

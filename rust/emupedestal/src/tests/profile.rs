@@ -1,5 +1,5 @@
-//! Profiles and levels out of SDP. What is wanted was taken from the tables of the RFCs and of the
-//! standards' Annex A.
+//! Profiles and levels out of SDP, beside what `proved/rows` asks of them. What is wanted was taken from the tables of
+//! the RFCs and of the standards' Annex A.
 
 use crate::{
     H264LevelIdc, H264Profile, H264ProfileIdc, H264ProfileLevel, H265Level, H265Profile,
@@ -11,64 +11,6 @@ use std::collections::HashMap;
 fn told(id: u32) -> Option<(H264Profile, H264LevelIdc)> {
     let it = H264ProfileLevel::try_from(id).ok()?;
     Some((it.profile(), it.level()))
-}
-
-#[test]
-fn h264_profiles() {
-    for (id, profile) in [
-        (0x42001f, H264Profile::Baseline),
-        (0x58801f, H264Profile::Baseline),
-        (0x42e01f, H264Profile::ConstrainedBaseline),
-        (0x4d801f, H264Profile::ConstrainedBaseline),
-        (0x58c01f, H264Profile::ConstrainedBaseline),
-        (0x4d001f, H264Profile::Main),
-        (0x58001f, H264Profile::Extended),
-        (0x64001f, H264Profile::High),
-        (0xff64001f, H264Profile::High),
-        (0x640c1f, H264Profile::ConstrainedHigh),
-        (0x6e001f, H264Profile::High10),
-        (0x7a001f, H264Profile::High422),
-        (0xf4001f, H264Profile::High444Predictive),
-        (0x6e101f, H264Profile::High10Intra),
-        (0x7a101f, H264Profile::High422Intra),
-        (0xf4101f, H264Profile::High444Intra),
-        (0x2c101f, H264Profile::CAVLC444Intra),
-    ] {
-        assert_eq!(told(id), Some((profile, H264LevelIdc::Level3_1)), "{id:x}");
-    }
-    for id in [0x64101f, 0x640063, 0x63001f, 0x2c001f, 0x42011f, 0] {
-        assert_eq!(H264ProfileLevel::try_from(id), Err(()), "{id:x}");
-    }
-}
-
-#[test]
-fn h264_levels() {
-    let levels = [
-        (0x42000a, H264LevelIdc::Level1),
-        (0x42100b, H264LevelIdc::Level1B),
-        (0x42000b, H264LevelIdc::Level1_1),
-        (0x42000c, H264LevelIdc::Level1_2),
-        (0x42000d, H264LevelIdc::Level1_3),
-        (0x420014, H264LevelIdc::Level2),
-        (0x420015, H264LevelIdc::Level2_1),
-        (0x420016, H264LevelIdc::Level2_2),
-        (0x42001e, H264LevelIdc::Level3),
-        (0x42001f, H264LevelIdc::Level3_1),
-        (0x420020, H264LevelIdc::Level3_2),
-        (0x420028, H264LevelIdc::Level4),
-        (0x420029, H264LevelIdc::Level4_1),
-        (0x42002a, H264LevelIdc::Level4_2),
-        (0x420032, H264LevelIdc::Level5),
-        (0x420033, H264LevelIdc::Level5_1),
-        (0x420034, H264LevelIdc::Level5_2),
-    ];
-    for (place, (id, level)) in levels.into_iter().enumerate() {
-        assert_eq!(told(id), Some((H264Profile::Baseline, level)), "{id:x}");
-        assert_eq!(level.ordinal(), place);
-    }
-    assert!(levels.is_sorted_by(|(_, a), (_, b)| a < b));
-    let level_1 = (H264Profile::Baseline, H264LevelIdc::Level1);
-    assert_eq!(told(0x42100a), Some(level_1));
 }
 
 /// A profile_idc, a profile_iop, and the profile (RFC 6184, 8.1, table 5).
@@ -173,65 +115,13 @@ fn values_as_numbers() {
 
 #[test]
 fn what_stands_where_a_format_says_nothing() {
-    let h264 = H264ProfileLevel::FALLBACK;
-    assert_eq!(H264ProfileLevel::try_from(0x42001f), Ok(h264));
+    assert_eq!(H264ProfileLevel::default(), H264ProfileLevel::FALLBACK);
     assert_eq!(
-        (h264.profile(), h264.level()),
-        (H264Profile::Baseline, H264LevelIdc::Level3_1)
-    );
-    let h265 = H265ProfileTierLevel::FALLBACK;
-    assert_eq!(H265ProfileTierLevel::new(1, 0, 93), Some(h265));
-    let h266 = H266ProfileTierLevel::FALLBACK;
-    assert_eq!(H266ProfileTierLevel::new(1, 0, 51), Some(h266));
-    assert_eq!((h264, h265, h266), Default::default());
-}
-
-#[test]
-fn h265_by_its_numbers() {
-    let high = H265ProfileTierLevel::new(2, 1, 186).expect("known numbers");
-    assert_eq!(high.profile(), H265Profile::Main10);
-    assert_eq!(high.tier(), H265Tier::High);
-    assert_eq!(high.level(), H265Level::Level6_2);
-    let lower = high.with_level(H265Level::Level4_1);
-    assert_eq!(
-        (lower.profile_id(), lower.tier_flag(), lower.level_id()),
-        (2, 1, 123)
-    );
-    assert!(lower.level() < high.level());
-    for (profile, tier, level) in [(1, 0, 255), (99, 0, 93), (1, 5, 93), (1, 0, 51), (0, 0, 93)] {
-        assert_eq!(H265ProfileTierLevel::new(profile, tier, level), None);
-    }
-}
-
-#[test]
-fn h266_by_its_numbers() {
-    let high = H266ProfileTierLevel::new(33, 1, 255).expect("known numbers");
-    assert_eq!(high.profile(), H266Profile::Main10_444);
-    assert_eq!(high.tier(), H266Tier::High);
-    assert_eq!(high.level(), H266Level::Level15_5);
-    let lower = high.with_level(H266Level::Level6_3);
-    assert_eq!(
-        (lower.profile_id(), lower.tier_flag(), lower.level_id()),
-        (33, 1, 105)
-    );
-    assert!(lower.level() < high.level());
-    for (profile, tier, level) in [(1, 0, 93), (2, 0, 51), (1, 2, 51), (0, 0, 51), (1, 0, 0)] {
-        assert_eq!(H266ProfileTierLevel::new(profile, tier, level), None);
-    }
-}
-
-#[test]
-fn unknown_numbers_are_the_fallback() {
-    let main = H265ProfileTierLevel::from((1, 0, 120));
-    assert_eq!(main.level(), H265Level::Level4);
-    assert_eq!(
-        H265ProfileTierLevel::from((99, 1, 120)),
+        H265ProfileTierLevel::default(),
         H265ProfileTierLevel::FALLBACK
     );
-    let main = H266ProfileTierLevel::from((17, 1, 64));
-    assert_eq!(main.profile(), H266Profile::MultilayerMain10);
     assert_eq!(
-        H266ProfileTierLevel::from((17, 1, 93)),
+        H266ProfileTierLevel::default(),
         H266ProfileTierLevel::FALLBACK
     );
 }
@@ -244,32 +134,15 @@ fn params(of: &[&str]) -> HashMap<String, String> {
         .collect()
 }
 
+/// A space is no part of a number.
 #[test]
 fn parameters_of_a_format() {
-    let h265 = H265ProfileTierLevel::from_fmtp;
-    let h266 = H266ProfileTierLevel::from_fmtp;
-    let main = params(&[
-        "profile-id=1",
-        "tier-flag=1",
-        "level-id=120",
-        "tx-mode=SRST",
-    ]);
-    assert_eq!(h265(&main), H265ProfileTierLevel::new(1, 1, 120));
-    assert_eq!(h266(&main), None);
-    let plus = params(&["profile-id=+65", "tier-flag=0", "level-id=016"]);
-    assert_eq!(h266(&plus), H266ProfileTierLevel::new(65, 0, 16));
-    assert_eq!(h265(&plus), None);
-    for other in [
-        &["tier-flag=0", "level-id=93"][..],
-        &["profile-id=1", "level-id=93"],
-        &["profile-id=1", "tier-flag=0"],
-        &["profile-id=257", "tier-flag=0", "level-id=93"],
-        &["profile-id= 1", "tier-flag=0", "level-id=93"],
-        &["profile-id=1", "tier-flag=", "level-id=93"],
-        &["profile-id=1", "tier-flag=-0", "level-id=93"],
-    ] {
-        assert_eq!(h265(&params(other)), None, "{other:?}");
-    }
+    let h265 = |id| H265ProfileTierLevel::from_fmtp(&params(&[id, "tier-flag=0", "level-id=93"]));
+    assert_eq!(h265("profile-id=1"), H265ProfileTierLevel::new(1, 0, 93));
+    assert_eq!(h265("profile-id= 1"), None);
+    let h266 = params(&["profile-id=1", "tier-flag=0", "level-id=51"]);
+    let wanted = H266ProfileTierLevel::new(1, 0, 51);
+    assert_eq!(H266ProfileTierLevel::from_fmtp(&h266), wanted);
 }
 
 /// Six digits in either case (RFC 6184, 8.1).

@@ -1,7 +1,7 @@
 // Made from crates/h26x_cut/src/marks.rt by tools/to-rust.
 
 //! The marks of start codes: each is found by a call of memchr, and the two bytes before it are looked
-//! at.
+//! at; where many bytes 01 are none, `behind.rt` and `portable.rt` go on by memchr's `memmem`.
 
 use memchr::memchr;
 

@@ -1,151 +1,183 @@
-//! Worked rows of the payload formats as text: bytes in hexadecimal, as the RFCs and the crate that this is a port of
-//! have them. A line is a call and what comes of it.
-//!
-//! Words stand between spaces: the call's name, what it is given, `=`, and its answer. A line that begins with `#` is
-//! for the reader, and one that ends in a backslash goes on in the next. Bytes have two hexadecimal digits each and `-`
-//! stands for none; `+` joins parts, `aa*3` is `aa` three times, and `3:aabb` stands for three packets `aabb`.
+//! Worked rows as text: a call a line, with what comes of it. The texts, and how they are written, are those of the
+//! program `crates/h26x_rows`, which walks them on the proved sources that the modules here are made from; its files
+//! and ways have the same names. What is right only where memory lacked is left out, since none lacks here.
 
+mod cutting;
+mod dispatch;
+mod header_words;
+pub(super) mod plain;
+mod profiles;
 mod receiving;
+mod row;
+mod said;
 mod sending;
+mod settings;
+mod shown;
+mod transmissions;
 
-use crate::proved::h26x_codec::Codec;
-use crate::tests::bytes;
+use cutting::Cutting;
+use header_words::HeaderWords;
+use profiles::Profiles;
 use receiving::Receiver;
-use sending::{Sender, Way};
+use row::{Row, Words, in_full};
+use said::Said;
+use sending::Sender;
+use transmissions::Transmissions;
 
-/// What does the calls of lines.
+/// A file of the program.
+macro_rules! text {
+    ($($path:literal),*) => {
+        include_str!(concat!(
+            env!("CARGO_MANIFEST_DIR"),
+            "/../../crates/h26x_rows/",
+            $($path),*
+        ))
+    };
+}
+
+/// Texts, each by the walk that the program takes it by, and by its name.
+macro_rules! texts {
+    ($($walk:literal: $($name:literal)*;)*) => {
+        &[$($(($walk, $name, text!("data/", $name)),)*)*]
+    };
+}
+
+const TEXTS: &[(&str, &str, &str)] = texts!(
+    "sending":
+        "h264_sending.txt" "h265_sending.txt" "h266_sending.txt"
+        "h264_long.txt" "h265_long.txt" "h266_long.txt" "memory_sending.txt";
+    "dispatch": "dispatch_sending.txt" "memory_dispatch_sending.txt";
+    "receiving":
+        "h264_receiving.txt" "h265_receiving.txt" "h266_receiving.txt" "memory_receiving.txt";
+    "dispatch-receiving": "dispatch_receiving.txt" "memory_dispatch_receiving.txt";
+    "transmissions": "transmissions.txt" "memory_transmissions.txt";
+    "cutting": "cutting.txt" "memory_cutting.txt";
+    "header-words": "header_words.txt";
+    "profiles": "profiles.txt";
+);
+
+/// What answers calls one after the other.
 trait Answers {
-    /// The words of what comes of a call.
-    fn answer(&mut self, call: &[&str]) -> Vec<String>;
+    /// Makes a call, and says what comes of it.
+    fn answer(&mut self, name: &str, words: &mut Words<'_>, said: &mut Said);
 }
 
-/// How an endpoint is made.
-#[derive(Clone, Copy)]
-struct Settings {
-    codec: Codec,
-    numbers: bool,
-    avc: bool,
-}
+/// Names the line at which a walk panics.
+struct At<'a>(&'a str);
 
-impl Settings {
-    /// Those that words name.
-    fn of_words(words: &[&str]) -> Self {
-        let codec = match words[0] {
-            "h264" => Codec::H264,
-            "h265" => Codec::H265,
-            "h266" => Codec::H266,
-            name => panic!("no codec {name}"),
-        };
-        Settings {
-            codec,
-            numbers: words.contains(&"numbers"),
-            avc: words.contains(&"avc"),
+impl Drop for At<'_> {
+    fn drop(&mut self) {
+        if std::thread::panicking() {
+            eprintln!("at {}", self.0);
         }
     }
 }
 
-/// A number that a word is.
-fn number<T: std::str::FromStr>(word: &str) -> T {
-    word.parse()
-        .unwrap_or_else(|_| panic!("{word} is no number"))
-}
-
-/// A word with all its digits.
-fn spelt_out(word: &str) -> String {
-    word.split('+')
-        .map(|part| {
-            let (digits, times) = part.split_once('*').unwrap_or((part, "1"));
-            digits.repeat(number(times))
-        })
-        .collect()
-}
-
-/// The words of an answer in full.
-fn in_full(want: &str) -> Vec<String> {
-    want.split_whitespace()
-        .flat_map(|word| {
-            let (times, word) = word.split_once(':').unwrap_or(("1", word));
-            vec![spelt_out(word); number(times)]
-        })
-        .collect()
-}
-
-/// The bytes that a word has.
-fn bytes_of(word: &str) -> Vec<u8> {
-    match word {
-        "-" => Vec::new(),
-        word => bytes(&spelt_out(word)),
+/// Makes the calls of a text, and compares each answer.
+fn walk<A: Answers>(mut end: A, text: &str) {
+    let text = text.replace("\\\n", "");
+    for line in text.lines() {
+        let _at = At(line);
+        let Some(row) = Row::of(line) else {
+            continue;
+        };
+        let (name, mut words) = row.words();
+        let mut said = Said::default();
+        end.answer(name, &mut words, &mut said);
+        assert_eq!(words.next(), None, "a word too many");
+        assert_eq!(said.words(), in_full(row.answer));
     }
 }
 
-/// The word of bytes.
-fn word_of(bytes: &[u8]) -> String {
-    match bytes {
-        [] => "-".to_owned(),
-        bytes => bytes.iter().map(|byte| format!("{byte:02x}")).collect(),
+/// Walks the text of a packetizer in each way: to a list, to memory of the caller, and by the one that is chosen while
+/// the program runs, to a list and to a buffer.
+fn walk_sending(text: &str) {
+    for way in [
+        sending::Way::List,
+        sending::Way::Memory(0),
+        sending::Way::Memory(12),
+    ] {
+        walk(Sender::new(way), text);
+    }
+    walk_dispatch(text);
+}
+
+/// Walks the text of a packetizer that is chosen while the program runs.
+fn walk_dispatch(text: &str) {
+    for way in [
+        dispatch::Way::List,
+        dispatch::Way::Buffer(0),
+        dispatch::Way::Buffer(12),
+    ] {
+        walk(dispatch::Sender::new(way), text);
     }
 }
 
-/// Yes or no.
-fn word_of_fact(is_so: bool) -> Vec<String> {
-    vec![if is_so { "yes" } else { "no" }.to_owned()]
-}
-
-/// Does the calls of a text one after the other, and compares each answer.
-#[track_caller]
-fn walk<A: Answers>(mut end: A, rows: &str) {
-    let text = rows.replace("\\\n", "");
-    let lines = text.lines().filter(|line| !line.starts_with('#'));
-    for line in lines {
-        let (call, want) = line.split_once(" =").unwrap_or((line, ""));
-        let call: Vec<&str> = call.split_whitespace().collect();
-        assert_eq!(end.answer(&call), in_full(want), "{line}");
+/// Walks the text of a depacketizer in each way.
+fn walk_receiving(text: &str) {
+    for way in [receiving::Way::List, receiving::Way::Memory] {
+        walk(Receiver::new(way), text);
     }
 }
 
-/// Packets of payloads and units, in a list and in a buffer.
-#[track_caller]
-fn walk_each_way(rows: &str) {
-    for way in [Way::List, Way::Buffer(0), Way::Buffer(12)] {
-        walk(Sender::new(way), rows);
+/// Walks each text of a walk.
+fn walk_texts(name: &str, walk_text: fn(&str)) {
+    for (_, _, text) in TEXTS.iter().filter(|(walk, ..)| *walk == name) {
+        walk_text(text);
     }
 }
 
+/// Those of the program, but for sessions of lines, which aren't translated.
 #[test]
-fn packets_of_h264() {
-    walk_each_way(include_str!("rows/h264_sending.txt"));
-    walk(Sender::new(Way::List), include_str!("rows/h264_long.txt"));
+fn texts() {
+    let args = text!("args").lines();
+    let walked = TEXTS.iter().map(|(walk, name, _)| format!("{walk}:{name}"));
+    assert!(args.filter(|arg| !arg.starts_with("lines:")).eq(walked));
 }
 
 #[test]
-fn packets_of_h265() {
-    walk_each_way(include_str!("rows/h265_sending.txt"));
-    walk(Sender::new(Way::List), include_str!("rows/h265_long.txt"));
+fn sending() {
+    walk_texts("sending", walk_sending);
 }
 
 #[test]
-fn packets_of_h266() {
-    walk_each_way(include_str!("rows/h266_sending.txt"));
-    walk(Sender::new(Way::List), include_str!("rows/h266_long.txt"));
-}
-
-/// By packetizers that a session description configures.
-#[test]
-fn packets_of_any_codec() {
-    walk_each_way(include_str!("rows/configured.txt"));
+fn dispatch() {
+    walk_texts("dispatch", walk_dispatch);
 }
 
 #[test]
-fn units_of_h264() {
-    walk(Receiver::new(), include_str!("rows/h264_receiving.txt"));
+fn receiving() {
+    walk_texts("receiving", walk_receiving);
 }
 
 #[test]
-fn units_of_h265() {
-    walk(Receiver::new(), include_str!("rows/h265_receiving.txt"));
+fn dispatch_receiving() {
+    walk_texts("dispatch-receiving", |text| {
+        walk(dispatch::Receiver::new(), text)
+    });
 }
 
 #[test]
-fn units_of_h266() {
-    walk(Receiver::new(), include_str!("rows/h266_receiving.txt"));
+fn transmissions() {
+    walk_texts("transmissions", |text| walk(Transmissions, text));
+}
+
+#[test]
+fn cutting() {
+    walk_texts("cutting", |text| walk(Cutting, text));
+}
+
+#[test]
+fn header_words() {
+    walk_texts("header-words", |text| walk(HeaderWords, text));
+}
+
+/// Values as JSON too, where the crate has that.
+#[test]
+fn profiles() {
+    walk_texts("profiles", |text| {
+        let lines = text.lines();
+        let lines = lines.filter(|line| cfg!(feature = "serde") || !profiles::is_of_json(line));
+        walk(Profiles, &lines.collect::<Vec<_>>().join("\n"));
+    });
 }

@@ -1,201 +1,189 @@
-//! A packetizer, and what lines ask of it.
+//! A packetizer, whose packets go to a list or to memory of the caller.
 
-use super::{Answers, Settings, bytes_of, number, word_of, word_of_fact};
-use crate::proved::h26x_codec::{Codec, PacketBuffer};
+use super::Answers;
+use super::row::{Words, bytes, number, word};
+use super::said::Said;
+use super::settings::Settings;
+use crate::proved::h26x_codec::{AnyPacketizer, Codec};
 use crate::proved::h26x_core::Packetizer;
-use crate::proved::h26x_transmission::CodecPacketizer;
-use crate::tests::proved::buffers::has;
+use crate::proved::h26x_packetizer::{PacketsSize, Placement};
 use std::mem;
+
+/// How bytes are sent: as a payload, in which units are searched, or as one unit as it is.
+#[derive(Clone, Copy, PartialEq)]
+pub(super) enum How {
+    Payload,
+    Unit,
+}
+
+/// What is sent, within which limit, and how often.
+pub(super) struct Sending {
+    pub(super) how: How,
+    pub(super) limit: usize,
+    pub(super) bytes: Vec<u8>,
+    pub(super) times: usize,
+    /// Whether the packets are counted, and not said.
+    is_counted: bool,
+}
+
+impl Sending {
+    /// What a call of this name sends, if it is one that sends.
+    pub(super) fn read(name: &str, words: &mut Words<'_>) -> Option<Sending> {
+        let (how, is_counted) = match name {
+            "pack" | "repeat" => (How::Payload, false),
+            "count" => (How::Payload, true),
+            "unit" => (How::Unit, false),
+            _ => return None,
+        };
+        let times = if name == "repeat" { number(words) } else { 1 };
+        Some(Sending {
+            how,
+            limit: number(words),
+            bytes: bytes(words),
+            times,
+            is_counted,
+        })
+    }
+
+    /// Says packets, or how many there are, where none is longer than the limit.
+    pub(super) fn say(&self, said: &mut Said, packets: &[Vec<u8>]) {
+        if !self.is_counted {
+            return said.packets(packets);
+        }
+        assert!(packets.iter().all(|packet| packet.len() <= self.limit));
+        said.value(packets.len());
+    }
+}
 
 /// Where packets go.
 #[derive(Clone, Copy)]
 pub(super) enum Way {
     /// To a list each time.
     List,
-    /// To one buffer with this headroom.
-    Buffer(usize),
+    /// To memory of the caller, each behind so many bytes.
+    Memory(usize),
 }
 
-/// How bytes are sent.
-#[derive(Clone, Copy)]
-enum How {
-    /// As a payload, in which units are searched.
-    Payload,
-    /// As one unit as it is.
-    Unit,
-}
-
-/// A packetizer, the one that it was copied from, and where its packets go.
+/// A packetizer, and the one that it was copied from.
 pub(super) struct Sender {
-    packetizer: CodecPacketizer,
-    other: CodecPacketizer,
+    packetizer: AnyPacketizer,
+    other: AnyPacketizer,
     way: Way,
-    buffer: PacketBuffer,
-    /// The packets that the buffer had when they came.
-    kept: Vec<Vec<u8>>,
 }
 
 impl Sender {
     pub(super) fn new(way: Way) -> Self {
         Sender {
-            packetizer: CodecPacketizer::new(Codec::H264),
-            other: CodecPacketizer::new(Codec::H264),
+            packetizer: AnyPacketizer::new(Codec::H264, false),
+            other: AnyPacketizer::new(Codec::H264, false),
             way,
-            buffer: empty(way),
-            kept: Vec::new(),
         }
     }
 
-    /// Begins with an empty buffer.
-    fn clear(&mut self, way: Way) {
-        self.buffer = empty(way);
-        self.kept.clear();
-    }
-
-    fn exchange(&mut self) {
-        mem::swap(&mut self.packetizer, &mut self.other);
-    }
-
-    /// The packets of bytes in a list.
-    fn list(&mut self, how: How, limit: usize, bytes: &[u8]) -> Vec<Vec<u8>> {
-        match how {
-            How::Payload => self.packetizer.packetize(limit, bytes),
-            How::Unit => self.packetizer.packetize_unit(limit, bytes),
-        }
-        .expect("memory")
-    }
-
-    /// The packets of bytes in the buffer, in which all then lie as they should, and those of before stay.
-    fn append(&mut self, how: How, limit: usize, bytes: &[u8]) -> Vec<Vec<u8>> {
-        let (it, buffer) = (&mut self.packetizer, &mut self.buffer);
-        match how {
-            How::Payload => it.packetize_into(limit, bytes, buffer),
-            How::Unit => it.packetize_unit_into(limit, bytes, buffer),
-        }
-        .expect("memory");
-        let places = self.kept.len()..self.buffer.len();
-        let sent: Vec<Vec<u8>> = places
-            .map(|place| self.buffer.packet(place).to_vec())
-            .collect();
-        self.kept.extend(sent.clone());
-        has(&self.buffer, &self.kept);
-        sent
-    }
-
-    /// The packets of bytes by its way.
-    fn send(&mut self, how: How, limit: &str, bytes: &str) -> Vec<Vec<u8>> {
+    /// The packets of what is sent once.
+    fn send(&mut self, it: &Sending) -> Vec<Vec<u8>> {
         match self.way {
-            Way::List => self.list(how, number(limit), &bytes_of(bytes)),
-            Way::Buffer(_) => self.append(how, number(limit), &bytes_of(bytes)),
+            Way::Memory(headroom) => place(&mut self.packetizer, it, headroom),
+            Way::List => list(&mut self.packetizer, it),
         }
     }
 
-    /// How many packets go of bytes, where none is longer than the limit.
-    fn count(&mut self, limit: &str, bytes: &str) -> Vec<String> {
-        let sent = self.send(How::Payload, limit, bytes);
-        assert!(sent.iter().all(|packet| packet.len() <= number(limit)));
-        vec![sent.len().to_string()]
-    }
-
-    /// The last packets of a payload that is sent so many times.
-    fn repeat(&mut self, times: &str, limit: &str, bytes: &str) -> Vec<Vec<u8>> {
-        let mut sent = Vec::new();
-        for _ in 0..number(times) {
-            sent = self.send(How::Payload, limit, bytes);
-        }
-        sent
-    }
-
-    /// Whether it appends the packets of a payload, and then those of it as a unit, that the other sends of the unit, and
-    /// then of the payload.
-    fn is_alike(&mut self, limit: &str, bytes: &str) -> bool {
-        let (limit, bytes) = (number(limit), bytes_of(bytes));
-        self.clear(Way::Buffer(12));
-        self.append(How::Payload, limit, &bytes);
-        self.append(How::Unit, limit, &bytes);
-        self.exchange();
-        let mut sent = self.list(How::Unit, limit, &bytes);
-        sent.extend(self.list(How::Payload, limit, &bytes));
-        self.exchange();
-        sent == self.kept
-    }
-
-    /// Whether a packet bears the marker, behind another or none.
-    fn is_marker(&mut self, packet: &str, previous: &str, is_last: &str) -> bool {
-        let (packet, before) = (bytes_of(packet), bytes_of(previous));
-        let previous = (previous != "-").then_some(&before[..]);
-        self.packetizer
-            .is_marker(&packet, previous, is_last == "last")
-    }
-
-    /// Does a call that sets it up, and answers nothing.
-    fn set(&mut self, call: &[&str]) {
-        match call {
-            ["packetizer", words @ ..] => {
-                self.packetizer = fresh(Settings::of_words(words));
-                self.clear(self.way);
-            }
-            ["copy"] => {
-                self.other = copy_of(&self.packetizer);
-                self.exchange();
-            }
-            ["other"] => self.exchange(),
-            ["size", bytes] => self.packetizer.with_max_packet_size(number(bytes)),
-            ["configure", "none"] => self.packetizer.configure_for(None),
-            ["configure", word] => self.packetizer.configure_for(Some(number(word))),
-            _ => panic!("no call {call:?}"),
-        }
+    /// Goes on with a copy.
+    fn copy(&mut self) {
+        let copy = self.packetizer.try_clone().expect("memory");
+        self.other = mem::replace(&mut self.packetizer, copy);
     }
 }
 
 impl Answers for Sender {
-    fn answer(&mut self, call: &[&str]) -> Vec<String> {
-        match call {
-            ["pack", limit, bytes] => words_of(&self.send(How::Payload, limit, bytes)),
-            ["unit", limit, bytes] => words_of(&self.send(How::Unit, limit, bytes)),
-            ["repeat", times, limit, bytes] => words_of(&self.repeat(times, limit, bytes)),
-            ["count", limit, bytes] => self.count(limit, bytes),
-            ["alike", limit, bytes] => word_of_fact(self.is_alike(limit, bytes)),
-            ["marker", packet, previous, is_last] => {
-                word_of_fact(self.is_marker(packet, previous, is_last))
+    fn answer(&mut self, name: &str, words: &mut Words<'_>, said: &mut Said) {
+        if let Some(it) = Sending::read(name, words) {
+            let mut packets = Vec::new();
+            for _ in 0..it.times {
+                packets = self.send(&it);
             }
-            ["nackable"] => word_of_fact(self.packetizer.nackable()),
-            ["talkspurt"] => word_of_fact(self.packetizer.marks_talkspurt()),
-            _ => {
-                self.set(call);
-                Vec::new()
-            }
+            return it.say(said, &packets);
+        }
+        match name {
+            "packetizer" => self.packetizer = Settings::read(words).any_packetizer(),
+            "copy" => self.copy(),
+            "other" => mem::swap(&mut self.packetizer, &mut self.other),
+            "size" => self.packetizer.with_max_packet_size(size(words)),
+            _ => panic!("no call {name}"),
         }
     }
 }
 
-fn words_of(packets: &[Vec<u8>]) -> Vec<String> {
-    packets.iter().map(|packet| word_of(packet)).collect()
+/// The largest packet size that the next word says, 4 or more.
+pub(super) fn size(words: &mut Words<'_>) -> u16 {
+    let size = word(words).parse().ok().filter(|size| *size >= 4);
+    size.expect("a size of a packet")
 }
 
-fn empty(way: Way) -> PacketBuffer {
-    PacketBuffer::new(match way {
-        Way::List => 0,
-        Way::Buffer(headroom) => headroom,
-    })
-}
-
-/// A packetizer for which nothing waits.
-fn fresh(settings: Settings) -> CodecPacketizer {
-    let mut packetizer = CodecPacketizer::new(settings.codec);
-    match &mut packetizer {
-        CodecPacketizer::H265(it) => it.with_donl(settings.numbers),
-        CodecPacketizer::H266(it) => it.with_donl(settings.numbers),
-        CodecPacketizer::H264(_) | CodecPacketizer::Boxed(_) => {}
+/// The packets of what is sent, in a list.
+fn list(packetizer: &mut AnyPacketizer, it: &Sending) -> Vec<Vec<u8>> {
+    let (limit, bytes) = (it.limit, &it.bytes);
+    match (it.how, packetizer) {
+        (How::Payload, AnyPacketizer::H264(to)) => to.packetize(limit, bytes),
+        (How::Payload, AnyPacketizer::H265(to)) => to.packetize(limit, bytes),
+        (How::Payload, AnyPacketizer::H266(to)) => to.packetize(limit, bytes),
+        (How::Unit, AnyPacketizer::H264(to)) => to.packetize_unit(limit, bytes),
+        (How::Unit, AnyPacketizer::H265(to)) => to.packetize_unit(limit, bytes),
+        (How::Unit, AnyPacketizer::H266(to)) => to.packetize_unit(limit, bytes),
     }
-    packetizer
+    .expect("memory")
 }
 
-fn copy_of(packetizer: &CodecPacketizer) -> CodecPacketizer {
-    match packetizer {
-        CodecPacketizer::H264(it) => CodecPacketizer::H264(it.try_clone().expect("memory")),
-        CodecPacketizer::H265(it) => CodecPacketizer::H265(it.try_clone().expect("memory")),
-        CodecPacketizer::H266(it) => CodecPacketizer::H266(it.try_clone().expect("memory")),
-        CodecPacketizer::Boxed(_) => panic!("one in a box is not copied"),
+/// Copies the packets of what is sent to memory of the caller, if they fit.
+fn place_in(
+    packetizer: &mut AnyPacketizer,
+    it: &Sending,
+    headroom: usize,
+    to: &mut [u8],
+    ends: &mut [usize],
+) -> Placement {
+    let (limit, bytes) = (it.limit, &it.bytes);
+    match it.how {
+        How::Payload => packetizer.packetize_to_memory(limit, bytes, headroom, to, ends),
+        How::Unit => packetizer.packetize_unit_to_memory(limit, bytes, headroom, to, ends),
     }
+    .expect("memory")
+}
+
+/// What stands in memory before packets go there, and in what they leave.
+const FILL: u8 = 0xee;
+
+/// The packets of what is sent, in memory that just holds them; in what is one byte short, or has room for one end
+/// fewer, nothing is put.
+fn place(packetizer: &mut AnyPacketizer, it: &Sending, headroom: usize) -> Vec<Vec<u8>> {
+    let told = packetizer.packets_size(it.limit, &it.bytes, headroom);
+    let (Placement::Placed(size) | Placement::NoRoom(size)) =
+        place_in(packetizer, it, headroom, &mut [], &mut []);
+    // (of a unit no size is told)
+    assert!(it.how == How::Unit || told == Ok(size), "{told:?} {size:?}");
+    if size.packets == 0 {
+        return Vec::new();
+    }
+    let (mut to, mut ends) = (vec![FILL; size.bytes], vec![0; size.packets]);
+    let (short, few) = (size.bytes - 1, size.packets - 1);
+    let without_byte = place_in(packetizer, it, headroom, &mut to[..short], &mut ends);
+    let without_end = place_in(packetizer, it, headroom, &mut to, &mut ends[..few]);
+    assert_eq!([without_byte, without_end], [Placement::NoRoom(size); 2]);
+    assert!(to.iter().all(|byte| *byte == FILL), "packets without room");
+    let placed = place_in(packetizer, it, headroom, &mut to, &mut ends);
+    assert_eq!(placed, Placement::Placed(size));
+    packets_in(&to, &ends, headroom, size)
+}
+
+/// The packets that lie in memory, each behind what it left free.
+fn packets_in(to: &[u8], ends: &[usize], headroom: usize, size: PacketsSize) -> Vec<Vec<u8>> {
+    let (mut packets, mut start) = (Vec::new(), 0);
+    for end in ends {
+        let (free, packet) = to[start..*end].split_at(headroom);
+        assert!(free.iter().all(|byte| *byte == FILL), "headroom written");
+        packets.push(packet.to_vec());
+        start = *end;
+    }
+    assert_eq!((start, packets.len()), (size.bytes, size.packets));
+    packets
 }
