@@ -1,45 +1,22 @@
 /* Has each request for memory of each call refused: the request alone, and it and all later ones.
  * The call then answers H26X_OUT_OF_MEMORY and leaves its handle, and the same call made again
  * answers as if it had never been refused. Calls that take no memory are made with all refused.
- * Link with -Wl,--wrap=malloc,--wrap=realloc. */
+ * Link with refusing.c and -Wl,--wrap=malloc,--wrap=realloc. */
 #include "h26x.h"
+#include "refusing.h"
 #include <stdio.h>
 #include <stdlib.h>
 #include <string.h>
 
-void *__real_malloc(size_t size);
-void *__real_realloc(void *block, size_t size);
-void *__wrap_malloc(size_t size);
-void *__wrap_realloc(void *block, size_t size);
+/* How many requests were refused. */
+static unsigned long refused;
 
-/* How many requests are left to grant, below 0 where all are; whether one alone is refused; and how
- * many were. */
-static long left = -1;
-static bool one_alone;
-static size_t refused;
-
-static bool is_refused(void)
+/* Grants all again. How many were refused since some were to be. */
+static unsigned long grant_all(void)
 {
-    if (left < 0)
-        return false;
-    if (left > 0) {
-        left--;
-        return false;
-    }
-    if (one_alone)
-        left = -1;
-    refused++;
-    return true;
-}
-
-void *__wrap_malloc(size_t size)
-{
-    return is_refused() ? NULL : __real_malloc(size);
-}
-
-void *__wrap_realloc(void *block, size_t size)
-{
-    return is_refused() ? NULL : __real_realloc(block, size);
+    const unsigned long since = refuse_requests(-1, false);
+    refused += since;
+    return since;
 }
 
 static void expect_at(bool holds, const char *what, int line)
@@ -56,12 +33,9 @@ static void expect_at(bool holds, const char *what, int line)
     do {                                                                      \
         bool was_refused = true;                                              \
         for (long n = 0; was_refused; n++) {                                  \
-            const size_t refused_before = refused;                            \
-            left = n / 2;                                                     \
-            one_alone = n % 2 == 0;                                           \
+            refuse_requests(n / 2, n % 2 == 0);                               \
             const uint32_t code = (call);                                     \
-            left = -1;                                                        \
-            was_refused = refused > refused_before;                           \
+            was_refused = grant_all() > 0;                                    \
             expect(code == (was_refused ? H26X_OUT_OF_MEMORY : H26X_OK));     \
             expect(!was_refused || (kept));                                   \
         }                                                                     \
@@ -70,12 +44,9 @@ static void expect_at(bool holds, const char *what, int line)
 /* Evaluates `what` with every request refused; there must be none. */
 #define without_memory(what)                    \
     do {                                        \
-        const size_t refused_before = refused;  \
-        left = 0;                               \
-        one_alone = false;                      \
+        refuse_requests(0, false);              \
         expect(what);                           \
-        left = -1;                              \
-        expect(refused == refused_before);      \
+        expect(grant_all() == 0);               \
     } while (0)
 
 /* A codec, two sets that wait, a unit of a keyframe, and how the packets of it begin: that of the
@@ -270,7 +241,7 @@ static bool is_as_before(const size_t ends[4])
 static void refuse_each_placing(const struct placing *it)
 {
     const struct text *packet_at = it->packets;
-    const size_t before = refused;
+    const unsigned long before = refused;
     h26x_packetizer p = {NULL};
     expect(h26x_packetizer_new(it->codec, it->numbers, &p) == H26X_OK);
     for (const struct sent *sent = it->sent; sent->limit != 0; sent++) {
@@ -291,7 +262,7 @@ static void refuse_each_placing(const struct placing *it)
 /* The size of two fragments, each behind one byte. */
 static void refuse_size(void)
 {
-    const size_t before = refused;
+    const unsigned long before = refused;
     h26x_packetizer p = {NULL};
     size_t count = 99, size = 98;
     expect(h26x_packetizer_new(H26X_H264, false, &p) == H26X_OK);
@@ -432,7 +403,8 @@ static size_t fragment(const struct codec *c, size_t which, size_t data, uint8_t
 /* Gives the fragment in `packet` to a receiver without room: a refusal leaves what the one before completed. */
 static void give(h26x_receiver *r, uint16_t sequence, size_t len)
 {
-    const size_t kept = h26x_written_copy(&r->at, NULL, 0), run_len = h26x_receiver_run_len(r), before = refused;
+    const size_t kept = h26x_written_copy(&r->at, NULL, 0), run_len = h26x_receiver_run_len(r);
+    const unsigned long before = refused;
     size_t written = 9;
     uint8_t told = 0;
     uint32_t received = 9;
@@ -460,7 +432,7 @@ static void give_end(const struct codec *c, h26x_receiver *r)
 /* What is completed without room is kept, of a copy too. */
 static void refuse_keeping(const struct codec *c)
 {
-    const size_t before = refused;
+    const unsigned long before = refused;
     h26x_receiver r = {{NULL}}, copy = {{NULL}};
     expect(h26x_receiver_new(c->number, false, false, 1000, &r) == H26X_OK);
     give(&r, 65535, fragment(c, 1, 40, 0xaa));
@@ -492,7 +464,7 @@ static void receive_with_room(void)
     h26x_depacketizer_free(d);
 
     const size_t len = fragment(&codecs[0], 1, 41, 9);
-    size_t before = refused;
+    unsigned long before = refused;
     expect(h26x_depacketizer_new(H26X_H264, false, &d) == H26X_OK);
     refuse_each(h26x_depacketize(&d, false, packet, len, to, 64, &written, &told, NULL), written == 0);
     expect(refused > before);
@@ -608,10 +580,9 @@ static void refuse_giving_back(const struct codec *c)
         expect(h26x_access_units_push(&u, 0, 10, 5, false, unit, 9, NULL, NULL) == H26X_OK);
         expect(h26x_access_units_next(&u, 0, to, ROOM, &told) == H26X_NOTHING_YET);
         expect(h26x_access_units_push(&u, 0, 11, 5, false, packet, DATA, NULL, NULL) == H26X_OK);
-        left = 0;
-        one_alone = false;
+        refuse_requests(0, false);
         const uint32_t code = give_up_run(&u, c, way);
-        left = -1;
+        grant_all();
         expect(code == H26X_OK);
         expect(h26x_access_units_finish(&u) == H26X_OK);
         const uint32_t wanted = way == 3 ? H26X_NOTHING_YET : H26X_OK;
@@ -750,6 +721,6 @@ int main(void)
         refuse_formats(&formats[i]);
     refuse_values();
     refuse_offers();
-    printf("%zu requests refused, nothing lost\n", refused);
+    printf("%lu requests refused, nothing lost\n", refused);
     return 0;
 }

@@ -1,21 +1,18 @@
-/* Stands before C's memory in a shared library of h26x.h, and refuses requests: those of new blocks, larger and
+/* Stands before C's memory in a program or a shared library, and refuses requests: those of new blocks, larger and
  * smaller ones. Linked in with -Wl,--wrap=malloc,--wrap=realloc. */
-#include <stdbool.h>
+#include "refusing.h"
 #include <stddef.h>
 
 void *__real_malloc(size_t size);
 void *__real_realloc(void *block, size_t size);
 void *__wrap_malloc(size_t size);
 void *__wrap_realloc(void *block, size_t size);
-unsigned long refuse_requests(long granted, bool one_alone);
 
 /* How many requests are left to grant, below 0 where all are; whether one alone is refused; how many were. */
 static long left = -1;
 static bool is_one;
 static unsigned long refused;
 
-/* Grants so many requests and then refuses one, or all; with -1 it grants all. How many it refused since it was
- * called last. */
 unsigned long refuse_requests(long granted, bool one_alone)
 {
     const unsigned long before = refused;
