@@ -93,6 +93,18 @@ static void descending(uint32_t wait, size_t size)
     h26x_access_units_free(units);
 }
 
+/* Packets in a window of so many, from its two ends by turns; the first of all is missing. */
+static void both_ends(uint32_t codec, size_t size)
+{
+    h26x_access_units units = receiver(codec, (uint16_t)size, UINT32_MAX);
+    push(&units, 0, 0, small, sizeof small);
+    for (size_t low = 2, high = size - 1; low < high; low++, high--) {
+        push(&units, 0, (uint16_t)low, small, sizeof small);
+        push(&units, 0, (uint16_t)high, small, sizeof small);
+    }
+    h26x_access_units_free(units);
+}
+
 /* Every second packet of a window, and which are missing. */
 static void missing(uint32_t codec, size_t size)
 {
@@ -262,6 +274,7 @@ static const struct job {
     {"short-packets", true, 1 << 13, short_packets},
     {"descending", false, 1 << 11, in_order},
     {"deadlines", false, 1 << 11, with_deadlines},
+    {"both-ends", false, 1 << 12, both_ends},
     {"missing", false, 1 << 11, missing},
     {"fmtp-names", true, 1 << 12, fmtp_names},
     {"fmtp-semicolons", false, 1 << 13, fmtp_semicolons},
