@@ -1,6 +1,7 @@
 /* How much memory a peer can make a receiver hold, by packets that no packetizer sends: aggregates in which each unit
  * is long once, of many units and of empty ones, units that never end, and whatever has no room in the caller's
- * memory. Says the most that was held; past the limits it ends with status 1.
+ * memory; and how much a packetizer takes for a long unit and for many short ones. Says the most that was held; past
+ * the limits it ends with status 1.
  * Link with -Wl,--wrap=malloc,--wrap=realloc,--wrap=free. */
 #include "h26x.h"
 #include <malloc.h>
@@ -18,10 +19,17 @@ enum {
      * grew to twice its length. An empty unit of an aggregate is written in twice its bytes. */
     RUN_MOST = 2 * (RUN_LIMIT + PACKET),
     WRITTEN_MOST = 2 * 2 * (2 * PACKET),
-    SMALL = 16 * 1024
+    SMALL = 16 * 1024,
+    /* A payload of one unit, or of units of so many bytes, and its packets with their ends in buffers that grew to
+     * twice their length: those of the call, and those of the one before. */
+    PAYLOAD = 1200000,
+    UNIT = 100,
+    SENT_MOST = 2 * 2 * (PAYLOAD + PAYLOAD / 10),
 };
 
 static uint8_t packet[PACKET];
+static uint8_t payload[PAYLOAD], placed[2 * PAYLOAD];
+static size_t ends[2 * PAYLOAD / UNIT];
 
 void *__real_malloc(size_t size);
 void *__real_realloc(void *block, size_t size);
@@ -30,13 +38,19 @@ void *__wrap_malloc(size_t size);
 void *__wrap_realloc(void *block, size_t size);
 void __wrap_free(void *block);
 
-/* How many bytes the blocks have that weren't given back. */
-static size_t held;
+/* How many bytes the blocks have that weren't given back, and had at most since that was last set to 0. */
+static size_t held, held_most;
+
+static void take(size_t more)
+{
+    held += more;
+    held_most = held > held_most ? held : held_most;
+}
 
 void *__wrap_malloc(size_t size)
 {
     void *block = __real_malloc(size);
-    held += malloc_usable_size(block);
+    take(malloc_usable_size(block));
     return block;
 }
 
@@ -45,7 +59,7 @@ void *__wrap_realloc(void *block, size_t size)
     const size_t before = malloc_usable_size(block);
     void *moved = __real_realloc(block, size);
     if (moved != NULL)
-        held += malloc_usable_size(moved) - before;
+        take(malloc_usable_size(moved) - before);
     return moved;
 }
 
@@ -169,6 +183,33 @@ static size_t check(uint32_t codec, size_t left_most)
     return left;
 }
 
+/* Packetizes a payload of units of so many bytes three times, into the packetizer's memory and into the caller's. */
+static void check_sending(uint32_t codec, size_t unit)
+{
+    const uint8_t begins[3][5] = {{0, 0, 1, 0x61, 7}, {0, 0, 1, 0x02, 1}, {0, 0, 1, 0, 9}};
+    h26x_packetizer p;
+    size_t count, placed_count, size;
+    memset(payload, 7, sizeof payload);
+    for (size_t i = 0; i < PAYLOAD; i += unit)
+        memcpy(payload + i, begins[codec - H26X_H264], 5);
+    if (h26x_packetizer_new(codec, false, &p) != H26X_OK)
+        exit(1);
+    held_most = 0;
+    for (int i = 0; i < 3; i++)
+        if (h26x_packetize(&p, 1200, payload, PAYLOAD, &count) != H26X_OK
+            || h26x_packetize_into(&p, 1200, payload, PAYLOAD, 0, placed, sizeof placed, ends, sizeof ends / sizeof *ends,
+                                   &placed_count, &size) != H26X_OK
+            || placed_count != count || count < PAYLOAD / 1200)
+            exit(1);
+    const size_t most = SENT_MOST + SMALL;
+    printf("%s: %zu bytes at most for %zu packets, %zu may be\n", h26x_codec_name(codec), held_most, count, most);
+    h26x_packetizer_free(p);
+    if (held_most > most || held != 0) {
+        fprintf(stderr, "held.c: that is too much, or not given back: %zu bytes\n", held);
+        exit(1);
+    }
+}
+
 int main(void)
 {
     /* Its own memory is the system's, and none of it is counted. */
@@ -177,5 +218,9 @@ int main(void)
     check(H26X_H266, WRITTEN_MOST + SMALL);
     /* The same for what had no room, and a buffer for what is shown. */
     check(H26X_H265, written + 2 * PACKET + SMALL);
+    for (uint32_t codec = H26X_H264; codec <= H26X_H266; codec++) {
+        check_sending(codec, PAYLOAD);
+        check_sending(codec, UNIT);
+    }
     return 0;
 }
