@@ -322,6 +322,17 @@ impl OpenText {
         }
     }
 
+    /// Gives back memory that is too large for what stands there, as behind a run that was closed, if
+    /// there is a smaller place.
+    pub fn give_back(&mut self)
+        ensures same { IsSameText self.new self.old }
+        ensures inside { self.new.inside ≡ self.old.inside }
+        ensures memory { IsGivenBack self.new }
+    {
+        let bytes = &mut self.bytes;
+        self.lacks_place = !give_back(bytes, false);
+    }
+
     /// Moves a run that is not inside, or none, to where none is.
     #[inline]
     pub fn move_run(&mut self, to: &mut OpenRun)

@@ -319,8 +319,10 @@ impl<D: RunDepacketizer> SequencedDepacketizer<D> {
         ensures bounded { RunStaysWithin self.old.run_limit text.old.run text.new.run }
         ensures aside { may_be_inside ≡ false → IfTaken result (text.new.inside ≡ None) }
 
-        // Behind a run that was too long no more memory is held than the text needs.
+        // Behind a run that was too long, and behind a gap, no more memory is held than what stands
+        // there needs.
         ensures memory { (n : ℕ) → result ≡ Ok (Received.TooLong n) → IsGivenBack text.new }
+        ensures gap { (n : ℕ) → result ≡ Ok (Received.Gap n) → IsGivenBack text.new }
 
         // A late packet and a refusal leave everything.
         ensures late { (n : ℕ) → result ≡ Ok (Received.Late n) → self.new ≡ self.old }
@@ -342,6 +344,9 @@ impl<D: RunDepacketizer> SequencedDepacketizer<D> {
             .take_in_text(rule, packet, text, codec_extra)?;
         self.expected = Some(sequence.wrapping_add(1));
         let is_long = limit_run_in_text(text, self.run_limit);
+        if missing > 0 && !is_long {
+            text.give_back();
+        }
         Ok(Received::taken(missing, is_long))
     }
 }

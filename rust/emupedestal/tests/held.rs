@@ -362,13 +362,24 @@ type Goes = (
 #[test]
 fn a_long_unit_that_goes_leaves_a_short_access_unit() {
     for codec in [Codec::H264, Codec::H265, Codec::H266] {
-        let goes: [Goes; 3] = [
+        let goes: [Goes; 6] = [
             ("too long", 1, |receiver, mut sequence, codec| {
                 push(receiver, &mut sequence, &fragment(codec, false));
             }),
             ("a gap", 0, |receiver, sequence, _| {
                 receiver.skip(0, sequence.wrapping_add(1)).unwrap();
                 assert!(receiver.next(0).unwrap().is_none());
+            }),
+            ("a gap before a unit", 0, |receiver, sequence, codec| {
+                push(receiver, &mut sequence.wrapping_add(2), &single(codec, 9));
+            }),
+            ("a gap before a start", 0, |receiver, sequence, codec| {
+                let start = &fragment(codec, true)[..9];
+                push(receiver, &mut sequence.wrapping_add(2), start);
+            }),
+            ("a gap before a fragment", 0, |receiver, sequence, codec| {
+                let more = &fragment(codec, false)[..9];
+                push(receiver, &mut sequence.wrapping_add(2), more);
             }),
             ("a refusal", 0, |receiver, mut sequence, codec| {
                 let refused: &[u8] = match codec {

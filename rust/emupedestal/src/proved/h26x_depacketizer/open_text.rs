@@ -234,6 +234,13 @@ impl OpenText {
         }
     }
 
+    /// Gives back memory that is too large for what stands there, as behind a run that was closed, if
+    /// there is a smaller place.
+    pub fn give_back(&mut self) {
+        let bytes = &mut self.bytes;
+        self.lacks_place = !give_back(bytes, false);
+    }
+
     /// Moves a run that is not inside, or none, to where none is.
     #[inline]
     pub(crate) fn move_run(&mut self, to: &mut OpenRun) {

@@ -184,6 +184,9 @@ impl<D: RunDepacketizer> SequencedDepacketizer<D> {
             .take_in_text(rule, packet, text, codec_extra)?;
         self.expected = Some(sequence.wrapping_add(1));
         let is_long = limit_run_in_text(text, self.run_limit);
+        if missing > 0 && !is_long {
+            text.give_back();
+        }
         Ok(Received::taken(missing, is_long))
     }
 }
