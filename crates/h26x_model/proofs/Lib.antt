@@ -30,3 +30,7 @@ pub mod CodecLawLemmas
 pub mod OneUnitLemmas
 pub mod GapLemmas
 pub mod AnySenderLemmas
+pub mod FewestPacketsLemmas
+pub mod EveryReceivedLemmas
+pub mod EveryWithinLemmas
+pub mod PieceRoomLemmas

@@ -10,3 +10,4 @@ pub mod Rival
 pub mod Again
 pub mod PacketizerState
 pub mod Laws
+pub mod Every

@@ -29,6 +29,7 @@ ghost use Rattle.h26x_model.specs.Carry.AnySender.{WritesWhatCame};
 ghost use Rattle.h26x_model.specs.Carry.Laws.{PacketizerGoesOn, DepacketizerGoesOn, CarriesWhole, LosesLittle, SendsAgain, AreCallsCarried, IfCarried};
 ghost use Rattle.h26x_model.specs.Where.{Where};
 ghost use Rattle.h26x_model.specs.Send.Laws.{HasOneGrouping, sets_left, PlansUnitByUnit, WaitsUnitByUnit, OneUnitIsWithin, FragmentsAreByPlace, FragmentsAreRead, FragmentsAreMarked, KeepsAll, CameOrWaited, MayLeaveOutCalls};
+ghost use Rattle.h26x_model.specs.Send.Every.{PacksUnits, TakesFewestPackets, BringsEveryUnit, SendsEveryUnit, EveryIsWithin};
 ghost use Rattle.h26x_model.specs.Carry.Sent.{ArePlanned, CanSendAll, ReceivesWhatIsSent, ReadsWhatIsSent, OneUnitIsReceived, IfSendable, IfSomeCame, RunsGrowByPackets};
 
 /// A list of units is groups and a rest in one way, and `split` finds it.
@@ -272,4 +273,22 @@ pub fn the_next_by_its_place()
 pub fn what_is_sent_came()
     ensures { (s : PacketizerState) (entries : List Entry) →
         AllByRecursion (CameOrWaited s entries) (state_units s entries) }
+{}
+
+/// Every unit goes, in the fewest packets that there could be: no packets within the limit from which
+/// a receiver gets these units are fewer.
+pub fn every_unit_takes_the_fewest_packets()
+    ensures { (f : Format) → PacksUnits f → TakesFewestPackets f }
+{}
+
+/// Every unit that packets can carry is received, whatever came before, and the laws on lost packets
+/// hold of what is planned.
+pub fn every_unit_is_received()
+    ensures brings { (f : Format) → PacksUnits f → BringsEveryUnit f }
+    ensures sends { (f : Format) → PacksUnits f → SendsEveryUnit f }
+{}
+
+/// No packet of every unit is longer than the limit.
+pub fn every_unit_is_within()
+    ensures { (f : Format) → PacksUnits f → EveryIsWithin f }
 {}
