@@ -3,3 +3,4 @@ pub mod SetLemmas
 pub mod ReadBackLemmas
 pub mod FactLemmas
 pub mod ReadingLemmas
+pub mod EveryLemmas
