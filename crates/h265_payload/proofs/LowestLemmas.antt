@@ -91,7 +91,7 @@ temporal_back : (layer temporal : ℕ) → temporal ≤ 7 → temporal_id (layer
 temporal_back layer temporal few = omega arith
 
 -- the header is that of its units
-header_is : (units : List (List ℕ)) → 1 ≤ length units → IsLowestHeader units (lowest_high units) (lowest_low units)
+pub header_is : (units : List (List ℕ)) → 1 ≤ length units → IsLowestHeader units (lowest_high units) (lowest_low units)
 header_is units some =
     let f = list_any has_forbidden_bit units in
     let layer = lowest_layer units in

@@ -7,3 +7,5 @@ pub mod Packet
 pub mod Setting
 pub mod LowestHeader
 pub mod ShownParts
+pub mod EveryUnit
+pub mod EveryFacts

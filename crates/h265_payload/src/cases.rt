@@ -20,6 +20,9 @@ ghost use Rattle.h26x_model.specs.Receive.DepacketizerState.{depacketization, af
 ghost use Rattle.h26x_core.specs.ByteStream.{annex_b, byte_stream};
 ghost use Rattle.h26x_model.specs.Payload.Extra.{extra_after};
 ghost use Rattle.h265_payload.specs.H265.{h265};
+ghost use Rattle.h26x_model.specs.Send.Packets.{plan_packets};
+ghost use Rattle.h26x_model.specs.Send.Every.{every_unit};
+ghost use Rattle.h265_payload.specs.EveryUnit.{h265_every};
 
 /// A unit of five bytes goes in three fragments at a limit of 4: the first starts it, the last ends
 /// it.
@@ -628,4 +631,19 @@ pub fn a_unit_behind_its_length()
         (0xff ∷ []) extras.None) ((0x62 ∷ 0x01 ∷ 0x53 ∷ 0xbb ∷ []) ∷ [])
         ≡ depacketization (record { format = h265 false; is_avc = true; run = None })
         (0xff ∷ 0x00 ∷ 0x00 ∷ 0x00 ∷ 0x04 ∷ 0x26 ∷ 0x01 ∷ 0xaa ∷ 0xbb ∷ []) ((h265 false).extra true) }
+{}
+
+/// A PPS of temporal id 3 and a slice of temporal id 1 where every unit goes, with numbers from 7 on:
+/// one aggregate of the lowest temporal id at limit 15, with DONL once and a DOND of 0; two packets
+/// at 14. An end of sequence of two bytes goes in an aggregate too.
+pub fn every_unit_in_the_fewest_packets()
+    ensures one { plan_packets (h265_every true) 7 (every_unit (h265_every true) (λ unit. true) 15
+        ((0x44 ∷ 0x03 ∷ 1 ∷ []) ∷ (0x02 ∷ 0x01 ∷ 2 ∷ []) ∷ []))
+        ≡ (0x60 ∷ 0x01 ∷ 0 ∷ 7 ∷ 0 ∷ 3 ∷ 0x44 ∷ 0x03 ∷ 1 ∷ 0 ∷ 0 ∷ 3 ∷ 0x02 ∷ 0x01 ∷ 2 ∷ []) ∷ [] }
+    ensures two { plan_packets (h265_every true) 7 (every_unit (h265_every true) (λ unit. true) 14
+        ((0x44 ∷ 0x03 ∷ 1 ∷ []) ∷ (0x02 ∷ 0x01 ∷ 2 ∷ []) ∷ []))
+        ≡ (0x44 ∷ 0x03 ∷ 0 ∷ 7 ∷ 1 ∷ []) ∷ (0x02 ∷ 0x01 ∷ 0 ∷ 8 ∷ 2 ∷ []) ∷ [] }
+    ensures end { plan_packets (h265_every false) 0 (every_unit (h265_every false) (λ unit. true) 11
+        ((0x02 ∷ 0x01 ∷ 2 ∷ []) ∷ (0x48 ∷ 0x01 ∷ []) ∷ []))
+        ≡ (0x60 ∷ 0x01 ∷ 0 ∷ 3 ∷ 0x02 ∷ 0x01 ∷ 2 ∷ 0 ∷ 2 ∷ 0x48 ∷ 0x01 ∷ []) ∷ [] }
 {}

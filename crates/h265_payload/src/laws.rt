@@ -10,10 +10,12 @@ ghost use Rattle.h26x_model.specs.Send.Calls.{Call};
 ghost use Rattle.h26x_model.specs.Send.PacketizerState.{PacketizerState, IsPacketizerState};
 ghost use Rattle.h26x_model.specs.Receive.DepacketizerState.{Depacketization};
 ghost use Rattle.h26x_model.specs.Send.Fragments.{HasRoomFrom};
+ghost use Rattle.h26x_model.specs.Send.Every.{PacksUnits, CarriesByHeader};
 ghost use Rattle.h26x_cut.specs.declared.ZeroRule.TheVariants.{All};
 ghost use Rattle.h26x_payload.specs.Units.{CutsBy};
 ghost use Rattle.h265_payload.specs.H265.{h265, read};
 ghost use Rattle.h265_payload.specs.Reading.{IsReading};
+ghost use Rattle.h265_payload.specs.EveryUnit.{h265_every, AreHeadedByUnits};
 ghost use Rattle.h265_payload.specs.Shown.{shown, shown_paci_of};
 ghost use Rattle.h265_payload.specs.ShownParts.{IsShownAsRead};
 ghost use Rattle.h265_payload.specs.LowestHeader.{IsHeadedByUnits, IsReadAlike, IsDetectedAlike, CallsAreTakenAlike};
@@ -92,4 +94,13 @@ pub fn lowest_headers_change_no_reading()
     ensures taken { (has_donl : Bool) (s : PacketizerState) (w : Depacketization)
         (calls : List Call) → s.format ≡ h265 has_donl → w.state.format ≡ h265 has_donl →
         IsPacketizerState s → CallsAreTakenAlike has_donl s w calls }
+{}
+
+/// Where every unit goes, the format meets the facts on which the laws of every unit stand; a unit
+/// of three bytes or more with a header of its own is carried, and an aggregate has the header that
+/// RFC 7798, 4.4.2 asks for: F where a unit has it, type 48, and the lowest layer and temporal id.
+pub fn every_unit_goes()
+    ensures packs { (has_donl : Bool) → PacksUnits (h265_every has_donl) }
+    ensures carries { (has_donl : Bool) → CarriesByHeader (h265_every has_donl) 3 }
+    ensures headed { AreHeadedByUnits }
 {}

@@ -1,0 +1,11 @@
+use Rattle.h265_payload.proofs.EveryLemmas.{packs_units, carries_by_header, headed_by_units}
+use Rattle.h265_payload.proofs.laws.every_unit_goes.Goals as goal
+
+pub returns-clause-packs : goal.returns-clause-packs
+returns-clause-packs c = packs_units
+
+pub returns-clause-carries : goal.returns-clause-carries
+returns-clause-carries c = carries_by_header
+
+pub returns-clause-headed : goal.returns-clause-headed
+returns-clause-headed c = headed_by_units
