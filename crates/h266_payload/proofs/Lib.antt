@@ -5,3 +5,4 @@ pub mod FactLemmas
 pub mod ReadingLemmas
 pub mod JudgedLemmas
 pub mod LowestLemmas
+pub mod EveryLemmas

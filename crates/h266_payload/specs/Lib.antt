@@ -4,3 +4,5 @@ pub mod CodecFacts
 pub mod Packet
 pub mod Setting
 pub mod AggregateHeader
+pub mod EveryUnit
+pub mod EveryFacts

@@ -16,6 +16,9 @@ ghost use Rattle.h26x_core.specs.ByteStream.{annex_b};
 ghost use Rattle.h26x_model.specs.Payload.Extra.{extra_after};
 ghost use Rattle.h26x_model.specs.Send.Calls.{fresh_call, all_packets, payload_packets};
 ghost use Rattle.h266_payload.specs.H266.{h266};
+ghost use Rattle.h26x_model.specs.Send.Packets.{plan_packets};
+ghost use Rattle.h26x_model.specs.Send.Every.{every_unit};
+ghost use Rattle.h266_payload.specs.EveryUnit.{h266_every};
 
 use h26x_core::{CodecExtra, PacketError};
 
@@ -474,4 +477,15 @@ pub fn a_unit_behind_its_length()
         (0xff ∷ []) CodecExtra.None) ((0x00 ∷ 0xe9 ∷ 0x47 ∷ 0xbb ∷ []) ∷ [])
         ≡ depacketization (record { format = h266 false; is_avc = true; run = None })
         (0xff ∷ 0x00 ∷ 0x00 ∷ 0x00 ∷ 0x04 ∷ 0x00 ∷ 0x39 ∷ 0xaa ∷ 0xbb ∷ []) ((h266 false).extra true) }
+{}
+
+/// A PPS of temporal id 3 and a slice of temporal id 1 where every unit goes, with numbers from 7 on:
+/// one aggregate of the lowest temporal id at limit 14, with DONL once; two packets at 13.
+pub fn every_unit_in_the_fewest_packets()
+    ensures one { plan_packets (h266_every true) 7 (every_unit (h266_every true) (λ unit. true) 14
+        ((0x00 ∷ 0x83 ∷ 1 ∷ []) ∷ (0x00 ∷ 0x09 ∷ 2 ∷ []) ∷ []))
+        ≡ (0x00 ∷ 0xe1 ∷ 0 ∷ 7 ∷ 0 ∷ 3 ∷ 0x00 ∷ 0x83 ∷ 1 ∷ 0 ∷ 3 ∷ 0x00 ∷ 0x09 ∷ 2 ∷ []) ∷ [] }
+    ensures two { plan_packets (h266_every true) 7 (every_unit (h266_every true) (λ unit. true) 13
+        ((0x00 ∷ 0x83 ∷ 1 ∷ []) ∷ (0x00 ∷ 0x09 ∷ 2 ∷ []) ∷ []))
+        ≡ (0x00 ∷ 0x83 ∷ 0 ∷ 7 ∷ 1 ∷ []) ∷ (0x00 ∷ 0x09 ∷ 0 ∷ 8 ∷ 2 ∷ []) ∷ [] }
 {}

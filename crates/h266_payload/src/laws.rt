@@ -5,10 +5,12 @@ ghost use Rattle.std.specs.Prelude.{true, false, ℕ, Bool, List};
 ghost use Rattle.h26x_model.specs.Payload.Reading.{HasOneReading};
 ghost use Rattle.h26x_model.specs.Payload.Facts.{IsPayloadFormat};
 ghost use Rattle.h26x_model.specs.Send.Fragments.{HasRoomFrom};
+ghost use Rattle.h26x_model.specs.Send.Every.{PacksUnits, CarriesByHeader};
 ghost use Rattle.h26x_cut.specs.declared.ZeroRule.TheVariants.{AtMostThree};
 ghost use Rattle.h26x_payload.specs.Units.{CutsBy};
 ghost use Rattle.h266_payload.specs.H266.{h266, read};
 ghost use Rattle.h266_payload.specs.Reading.{IsReading};
+ghost use Rattle.h266_payload.specs.EveryUnit.{h266_every};
 ghost use Rattle.h266_payload.specs.AggregateHeader.{IsHeadedBySets};
 
 /// A packet has one reading, and `read` finds it.
@@ -38,4 +40,11 @@ pub fn room_for_fragments()
 pub fn aggregates_have_the_header_of_their_sets()
     ensures { (has_donl : Bool) (n : ℕ) (sets : List (List ℕ)) (unit : List ℕ) →
         IsHeadedBySets has_donl n sets unit }
+{}
+
+/// Where every unit goes, the format meets the facts on which the laws of every unit stand, and a
+/// unit of three bytes or more with a header of its own is carried.
+pub fn every_unit_goes()
+    ensures packs { (has_donl : Bool) → PacksUnits (h266_every has_donl) }
+    ensures carries { (has_donl : Bool) → CarriesByHeader (h266_every has_donl) 3 }
 {}
