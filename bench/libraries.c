@@ -77,8 +77,8 @@ static void take(h26x_depacketizer *d, h26x_receiver *r, size_t room)
         const size_t len = ends[i] - begin - HEADROOM;
         const uint32_t code = d != NULL
             ? h26x_depacketize(d, false, packet, len, out + total, room - total, &written, &extra, &why)
-            : h26x_receive(r, sequence++, packet, len, out + total, room - total, &written, &extra,
-                           &received, &gap, &why);
+            : h26x_receive(r, sequence++, packet, len, out + total, room - total, &written, &extra, &received, &gap,
+                           &why);
         expect(code == H26X_OK);
         total += room == ROOM ? written : 0;
     }
@@ -115,8 +115,9 @@ int main(int argc, char **argv)
     for (long i = atol(argv[3]); i > 0; i--)
         switch (c->what) {
         case INTO:
-            expect(h26x_packetize_into(&p, LIMIT, payload, payload_len, HEADROOM, packets, ROOM, ends, MOST, &count,
-                                       &size) == H26X_OK);
+            expect(
+                h26x_packetize_into(&p, LIMIT, payload, payload_len, HEADROOM, packets, ROOM, ends, MOST, &count, &size)
+                == H26X_OK);
             break;
         case PACKETIZE:
             expect(h26x_packetize(&p, LIMIT, payload, payload_len, &count) == H26X_OK);

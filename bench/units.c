@@ -84,7 +84,8 @@ static void take_each(const struct packets *p)
         const uint8_t *at = p->at + i;
         const size_t len = number(at + 8, 4);
         if (h26x_access_units_push(&u, 0, (uint16_t)number(at, 2), number(at + 2, 4), at[6], at + HEADER, len, NULL,
-                                   NULL) != H26X_OK)
+                                   NULL)
+            != H26X_OK)
             stop("h26x_access_units_push");
         while (h26x_access_units_next(&u, 0, text, ROOM, &unit) == H26X_OK)
             __asm__ volatile("" : : "r"(text) : "memory");

@@ -53,8 +53,7 @@ const char *behind_bar(const char *hex)
     return *hex == '|' ? hex + 1 : hex;
 }
 
-void holds_at(struct tally *t, h26x_packetizer *p, size_t count, const char *packets,
-              const char *file, int line)
+void holds_at(struct tally *t, h26x_packetizer *p, size_t count, const char *packets, const char *file, int line)
 {
     uint8_t packet[ROOM];
     size_t i = 0, len;
@@ -67,8 +66,8 @@ void holds_at(struct tally *t, h26x_packetizer *p, size_t count, const char *pac
     expect_at(t, count == i, "as many packets as are wanted", file, line);
 }
 
-void sends_at(struct tally *t, h26x_packetizer *p, size_t mtu, const char *payload,
-              const char *packets, const char *file, int line)
+void sends_at(struct tally *t, h26x_packetizer *p, size_t mtu, const char *payload, const char *packets,
+              const char *file, int line)
 {
     struct bytes in = bytes_of(payload);
     size_t count = 99;
@@ -77,15 +76,14 @@ void sends_at(struct tally *t, h26x_packetizer *p, size_t mtu, const char *paylo
     holds_at(t, p, count, packets, file, line);
 }
 
-void takes_at(struct tally *t, h26x_depacketizer *d, const char *packet, const char *written,
-              uint8_t told, const char *file, int line)
+void takes_at(struct tally *t, h26x_depacketizer *d, const char *packet, const char *written, uint8_t told,
+              const char *file, int line)
 {
     struct bytes in = bytes_of(packet);
     uint8_t to[ROOM], extra = 0;
     size_t len = 99;
     h26x_refusal why;
-    uint32_t code =
-        h26x_depacketize(d, false, in.at, in.len, to, sizeof to, &len, &extra, &why);
+    uint32_t code = h26x_depacketize(d, false, in.at, in.len, to, sizeof to, &len, &extra, &why);
     expect_at(t, code == H26X_OK, packet, file, line);
     expect_at(t, is_same(to, len, written), packet, file, line);
     expect_at(t, extra == told, packet, file, line);

@@ -40,19 +40,16 @@ void check_optional(struct tally *t);
 
 /* Compares the packets that a packetizer holds, so many, which `packets` names with '|' between
  * two. */
-void holds_at(struct tally *t, h26x_packetizer *p, size_t count, const char *packets,
-              const char *file, int line);
+void holds_at(struct tally *t, h26x_packetizer *p, size_t count, const char *packets, const char *file, int line);
 
 /* Sends a payload and compares its packets, which `packets` names with '|' between two. */
-void sends_at(struct tally *t, h26x_packetizer *p, size_t mtu, const char *payload,
-              const char *packets, const char *file, int line);
-#define sends(t, p, mtu, payload, packets) \
-    sends_at(t, p, mtu, payload, packets, __FILE__, __LINE__)
+void sends_at(struct tally *t, h26x_packetizer *p, size_t mtu, const char *payload, const char *packets,
+              const char *file, int line);
+#define sends(t, p, mtu, payload, packets) sends_at(t, p, mtu, payload, packets, __FILE__, __LINE__)
 
 /* Gives a packet that is accepted, and compares what is written and told. */
-void takes_at(struct tally *t, h26x_depacketizer *d, const char *packet, const char *written,
-              uint8_t told, const char *file, int line);
-#define takes(t, d, packet, written, told) \
-    takes_at(t, d, packet, written, told, __FILE__, __LINE__)
+void takes_at(struct tally *t, h26x_depacketizer *d, const char *packet, const char *written, uint8_t told,
+              const char *file, int line);
+#define takes(t, d, packet, written, told) takes_at(t, d, packet, written, told, __FILE__, __LINE__)
 
 #endif

@@ -6,8 +6,7 @@
 
 /* Goes through the units of a payload by their places, and compares them with those that `units`
  * names with '|' between two. */
-static void cuts_at(struct tally *t, uint32_t codec, const char *payload, const char *units,
-                    const char *file, int line)
+static void cuts_at(struct tally *t, uint32_t codec, const char *payload, const char *units, const char *file, int line)
 {
     struct bytes in = bytes_of(payload);
     size_t begin, end = 0, from;
@@ -57,8 +56,7 @@ static bool is_next(uint32_t codec, const char *payload, size_t from, size_t beg
 {
     struct bytes in = bytes_of(payload);
     size_t first = 99, last = 99;
-    return h26x_next_unit(codec, in.at, in.len, from, &first, &last) && first == begin
-           && last == end;
+    return h26x_next_unit(codec, in.at, in.len, from, &first, &last) && first == begin && last == end;
 }
 
 /* Whether there is none, and what stood there stays. */
@@ -106,8 +104,7 @@ static size_t end_of(uint32_t codec, const uint8_t *payload, size_t begin, size_
 }
 
 /* Whether the next unit from a place on, which goes on to its end, stands there. */
-static bool is_next_at(uint32_t codec, const uint8_t *payload, size_t len, size_t *from,
-                       size_t begin, size_t end)
+static bool is_next_at(uint32_t codec, const uint8_t *payload, size_t len, size_t *from, size_t begin, size_t end)
 {
     size_t first, last;
     if (!h26x_next_unit(codec, payload, len, *from, &first, &last))
@@ -136,7 +133,7 @@ static bool is_as_scanned(uint32_t codec, const uint8_t *payload, size_t len)
 static bool are_as_scanned(const uint8_t *payload, size_t len)
 {
     return is_as_scanned(H26X_H264, payload, len) && is_as_scanned(H26X_H265, payload, len)
-           && is_as_scanned(H26X_H266, payload, len);
+        && is_as_scanned(H26X_H266, payload, len);
 }
 
 /* Every payload of at most seven bytes of 0, 1 and 2, as it is and behind a start code. */
@@ -191,8 +188,7 @@ static bool has_last_unit(const char *front, size_t times, const char *end)
     for (size_t i = 0; i < times; i++)
         memcpy(payload + i * part.len, part.at, part.len);
     memcpy(payload + part.len * times, last.at, last.len);
-    bool is_so = is_next_at(H26X_H264, payload, len, &stop, len - 2, len)
-                 && are_as_scanned(payload, len);
+    bool is_so = is_next_at(H26X_H264, payload, len, &stop, len - 2, len) && are_as_scanned(payload, len);
     free(payload);
     return is_so;
 }

@@ -42,8 +42,8 @@ static struct answer fresh_answer(enum place place, size_t room, uint8_t told)
     return a;
 }
 
-static struct answer taken(h26x_depacketizer *d, bool avc, struct input packet, enum place place,
-                           size_t room, uint8_t told)
+static struct answer taken(h26x_depacketizer *d, bool avc, struct input packet, enum place place, size_t room,
+                           uint8_t told)
 {
     struct answer a = fresh_answer(place, room, told);
     const uint8_t *read = copied(PACKET, packet);
@@ -183,8 +183,8 @@ static struct answer received(struct run *it, uint16_t sequence, struct input pa
 {
     struct answer a = fresh_answer(OUTPUT, room, it->receiver_told);
     const uint8_t *read = copied(PACKET, packet);
-    a.code = h26x_receive(&it->receiver, sequence, read, packet.len, a.to, room, &a.written, &a.told,
-                          &a.received, &a.count, &a.why);
+    a.code = h26x_receive(&it->receiver, sequence, read, packet.len, a.to, room, &a.written, &a.told, &a.received,
+                          &a.count, &a.why);
     return a;
 }
 

@@ -69,8 +69,8 @@ static uint32_t placed(h26x_packetizer *p, const struct call *c, size_t headroom
                        size_t *ends, size_t ends_room, size_t *count, size_t *size)
 {
     const uint8_t *read = copied(PACKET, c->bytes);
-    return (c->is_unit ? h26x_packetize_unit_into : h26x_packetize_into)(
-        p, c->mtu, read, c->bytes.len, headroom, to, room, ends, ends_room, count, size);
+    return (c->is_unit ? h26x_packetize_unit_into : h26x_packetize_into)(p, c->mtu, read, c->bytes.len, headroom, to,
+                                                                         room, ends, ends_room, count, size);
 }
 
 /* The same packets straight in memory: without enough room nothing is written, and with it nothing else. */
@@ -125,8 +125,9 @@ static void receive(const struct run *it, const struct call *c, const struct pac
         const uint8_t *read = copied(PACKET, packet);
         expect(written == 0);
         if (i != lost)
-            expect(h26x_receive(&r, (uint16_t)(i - 2), read, packet.len, to, c->bytes.len + 4, &written, &told,
-                                NULL, NULL, NULL) == H26X_OK);
+            expect(h26x_receive(&r, (uint16_t)(i - 2), read, packet.len, to, c->bytes.len + 4, &written, &told, NULL,
+                                NULL, NULL)
+                   == H26X_OK);
     }
     if (lost < all->count) {
         expect(written == 0 && told == 0 && is_untouched(to, c->bytes.len + 4));
@@ -150,8 +151,7 @@ static void send_call(struct run *it, const struct call *c)
         expect(h26x_packets_size(&it->p, c->mtu, copied(PACKET, c->bytes), c->bytes.len, it->headroom, &told, &size)
                == H26X_OK);
     const uint8_t *read = copied(PACKET, c->bytes);
-    expect((c->is_unit ? h26x_packetize_unit : h26x_packetize)(&it->p, c->mtu, read, c->bytes.len, &count)
-           == H26X_OK);
+    expect((c->is_unit ? h26x_packetize_unit : h26x_packetize)(&it->p, c->mtu, read, c->bytes.len, &count) == H26X_OK);
     copy_out(&it->p, count, &all);
     expect(c->is_unit || (told == count && size == h26x_packets_len(&it->p) + count * it->headroom));
     for (size_t i = 0; i < count; i++)

@@ -57,8 +57,7 @@ static void check_inputs_of_null(struct tally *t, uint32_t codec, size_t len)
     expect(t, h26x_packets_size(&p, 1200, NULL, len, 12, &count, &size) == H26X_OK);
     expect(t, count == 0 && size == 0);
     expect(t, h26x_depacketize(&d, true, NULL, len, to, 16, &size, &extra, NULL) == H26X_SHORT_PACKET);
-    expect(t, h26x_receive(&r, 7, NULL, len, to, 16, &size, &extra, NULL, NULL, NULL)
-                  == H26X_SHORT_PACKET);
+    expect(t, h26x_receive(&r, 7, NULL, len, to, 16, &size, &extra, NULL, NULL, NULL) == H26X_SHORT_PACKET);
     expect(t, !h26x_is_partition_head(codec, NULL, len) && !h26x_detect_keyframe(codec, NULL, len));
     expect(t, h26x_is_partition_tail(codec, true, NULL, len) == (codec == H26X_H264));
     expect(t, !h26x_detect_h264_nalu(NULL, len, 0));
@@ -83,10 +82,8 @@ static void check_memory_of_null(struct tally *t, size_t room)
     expect(t, h26x_packetize_into(&p, 9, unit, 4, 0, NULL, room, ends, 2, NULL, &size) == H26X_NO_ROOM);
     expect(t, size == 4 && ends[0] == 9);
     expect(t, h26x_packetize_into(&p, 9, unit, 4, 0, to, 16, NULL, room, NULL, NULL) == H26X_NO_ROOM);
-    expect(t, h26x_packetize_unit_into(&p, 9, unit, 4, 0, NULL, room, ends, 2, NULL, NULL)
-                  == H26X_NO_ROOM);
-    expect(t, h26x_packetize_unit_into(&p, 9, unit, 4, 0, to, 16, NULL, room, NULL, NULL)
-                  == H26X_NO_ROOM);
+    expect(t, h26x_packetize_unit_into(&p, 9, unit, 4, 0, NULL, room, ends, 2, NULL, NULL) == H26X_NO_ROOM);
+    expect(t, h26x_packetize_unit_into(&p, 9, unit, 4, 0, to, 16, NULL, room, NULL, NULL) == H26X_NO_ROOM);
     expect(t, h26x_packetize(&p, 3, unit, 4, NULL) == H26X_OK);
     expect(t, h26x_packet_copy(&p, 2, NULL, room) == 3);
     expect(t, h26x_packets_copy(&p, 0, NULL, room, ends, 2) == 0);
@@ -208,8 +205,7 @@ static void check_frees(struct tally *t)
     expect(t, h26x_packetizer_new(H26X_H264, false, &p) == H26X_OK);
     expect(t, h26x_depacketizer_new(H26X_H265, false, &d) == H26X_OK);
     expect(t, h26x_receiver_new(H26X_H266, false, false, 9, &r) == H26X_OK);
-    expect(t, h26x_access_units_new(&(h26x_access_units_config){.codec = H26X_H266, .window = 1}, &u)
-                  == H26X_OK);
+    expect(t, h26x_access_units_new(&(h26x_access_units_config){.codec = H26X_H266, .window = 1}, &u) == H26X_OK);
     for (int i = 0; i < 2; i++) {
         h26x_packetizer_free((h26x_packetizer){NULL});
         h26x_depacketizer_free((h26x_depacketizer){NULL});
@@ -234,7 +230,7 @@ static void check_frees(struct tally *t)
 static bool is_code(uint32_t n)
 {
     return n <= H26X_NOTHING_YET || (H26X_SDP_OPEN_BRACE <= n && n <= H26X_SDP_NO_PROFILE)
-           || (H26X_SDP_NO_ANSWER <= n && n <= H26X_SDP_LONG_CONSTRAINTS);
+        || (H26X_SDP_NO_ANSWER <= n && n <= H26X_SDP_LONG_CONSTRAINTS);
 }
 
 /* Each code has words of its own, and so do numbers that are none. */
@@ -255,8 +251,9 @@ static void check_words(struct tally *t)
     snprintf(version, sizeof version, "%u.%u.%u", h26x_version() >> 16, h26x_version() >> 8 & 255,
              h26x_version() & 255);
     expect(t, strcmp(version, H26X_VERSION) == 0);
-    expect(t, strncmp(h26x_origin(), "proved " H26X_VERSION " ", sizeof "proved " H26X_VERSION) == 0
-                  || strncmp(h26x_origin(), "source " H26X_VERSION " ", sizeof "source " H26X_VERSION) == 0);
+    expect(t,
+           strncmp(h26x_origin(), "proved " H26X_VERSION " ", sizeof "proved " H26X_VERSION) == 0
+               || strncmp(h26x_origin(), "source " H26X_VERSION " ", sizeof "source " H26X_VERSION) == 0);
 }
 
 void check_optional(struct tally *t)

@@ -47,8 +47,7 @@ static void check_h264_levels(struct tally *t)
 }
 
 /* How many numbers a call knows in the place of the profile, the tier and the level. */
-static void knows(struct tally *t, bool (*is_known)(uint8_t, uint8_t, uint8_t), uint8_t level,
-                  int profiles, int levels)
+static void knows(struct tally *t, bool (*is_known)(uint8_t, uint8_t, uint8_t), uint8_t level, int profiles, int levels)
 {
     int found[3] = {0};
     for (int n = 0; n < 256; n++) {

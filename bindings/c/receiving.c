@@ -10,8 +10,8 @@ static h26x_depacketizer made(struct tally *t, uint32_t codec, bool numbers)
 }
 
 /* Gives a packet that is refused, and compares the code and its numbers. */
-static void refuses(struct tally *t, h26x_depacketizer *d, const char *packet, uint32_t code,
-                    size_t first, size_t second)
+static void refuses(struct tally *t, h26x_depacketizer *d, const char *packet, uint32_t code, size_t first,
+                    size_t second)
 {
     struct bytes in = bytes_of(packet);
     uint8_t to[8] = {7}, extra = 1, before[ROOM], after[ROOM];
@@ -96,8 +96,7 @@ static void check_avc_and_room(struct tally *t)
 }
 
 /* Gives a packet without room for what it completes, and compares what is kept then. */
-static void keeps(struct tally *t, h26x_depacketizer *d, bool avc, const char *packet, uint32_t code,
-                  const char *kept)
+static void keeps(struct tally *t, h26x_depacketizer *d, bool avc, const char *packet, uint32_t code, const char *kept)
 {
     struct bytes in = bytes_of(packet);
     uint8_t to[ROOM], extra = 0;
@@ -152,8 +151,7 @@ static void check_kept(struct tally *t)
 }
 
 /* Lengths for one packet, start codes for the next; the handle is the same after each. */
-static void check_lengths(struct tally *t, uint32_t codec, const char *packet, const char *lengths,
-                          const char *codes)
+static void check_lengths(struct tally *t, uint32_t codec, const char *packet, const char *lengths, const char *codes)
 {
     h26x_depacketizer d = made(t, codec, false), e = made(t, codec, false);
     struct bytes one = bytes_of(packet);
@@ -179,19 +177,16 @@ static void check_extra(struct tally *t)
     h26x_refusal why;
     for (uint8_t told = 0; told <= 2; told++) {
         extra = told;
-        expect(t, h26x_depacketize(&d, false, start.at, start.len, to, 16, &len, &extra, &why)
-                      == H26X_OK);
+        expect(t, h26x_depacketize(&d, false, start.at, start.len, to, 16, &len, &extra, &why) == H26X_OK);
         expect(t, extra == told);
-        expect(t, h26x_depacketize(&d, false, slice.at, slice.len, to, 16, &len, &extra, &why)
-                      == H26X_OK);
+        expect(t, h26x_depacketize(&d, false, slice.at, slice.len, to, 16, &len, &extra, &why) == H26X_OK);
         expect(t, extra == (told == 2 ? 2 : 1));
     }
     h26x_depacketizer_free(d);
 }
 
 /* Copies, equality, and units that are given up; the packets are three fragments of one unit. */
-static void check_copies(struct tally *t, uint32_t codec, const char *packets[3],
-                         const char *unit)
+static void check_copies(struct tally *t, uint32_t codec, const char *packets[3], const char *unit)
 {
     h26x_depacketizer d = made(t, codec, false), e = made(t, codec, false), copy;
     expect(t, h26x_depacketizer_same(&d, &e));
@@ -255,8 +250,7 @@ static void check_refusals(struct tally *t)
     h26x_packetizer_free(q);
     h26x_depacketizer_free(d);
     d.at = NULL;
-    expect(t, h26x_depacketize(&packetizer, false, packet, 1, to, 8, &len, &extra, &why)
-                  == H26X_WRONG_END);
+    expect(t, h26x_depacketize(&packetizer, false, packet, 1, to, 8, &len, &extra, &why) == H26X_WRONG_END);
     expect(t, len == 0 && extra == 1 && to[0] == 7 && why.first == 7 && why.second == 8);
     expect(t, h26x_depacketizer_clone(&packetizer, &d) == H26X_WRONG_END && d.at == NULL);
     expect(t, h26x_depacketizer_set_numbers(&packetizer, true) == H26X_WRONG_END);
@@ -275,8 +269,7 @@ void check_receiving(struct tally *t)
     check_h266(t);
     check_avc_and_room(t);
     check_kept(t);
-    check_lengths(t, H26X_H264, "78 0002 6742 0001 68", "00000002 6742 00000001 68",
-                  "00000001 6742 00000001 68");
+    check_lengths(t, H26X_H264, "78 0002 6742 0001 68", "00000002 6742 00000001 68", "00000001 6742 00000001 68");
     check_lengths(t, H26X_H265, "6001 0003 0201aa 0002 0201", "00000003 0201aa 00000002 0201",
                   "00000001 0201aa 00000001 0201");
     check_lengths(t, H26X_H266, "00e1 0003 0001aa 0003 0001bb", "00000003 0001aa 00000003 0001bb",

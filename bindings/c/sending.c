@@ -20,8 +20,7 @@ static void check_h264(struct tally *t)
     sends(t, &p, 0, "65", "");
     sends(t, &p, 5, "", "");
     sends(t, &p, 5, "090000", "");
-    sends(t, &p, 11, "000001 070001 000001 080203 000001 050405",
-          "78 0003 070001 0003 080203|050405");
+    sends(t, &p, 11, "000001 070001 000001 080203 000001 050405", "78 0003 070001 0003 080203|050405");
     sends(t, &p, 10, "000001 070001 000001 080203 000001 050405", "070001|080203|050405");
 
     /* What waits is copied; what packets are held is not. */
@@ -65,8 +64,7 @@ static void check_h265(struct tally *t)
 static void check_h266(struct tally *t)
 {
     h26x_packetizer p = made(t, H26X_H266, true);
-    sends(t, &p, 1200, "000001 0079bb 000001 0081cc 000001 0039dd",
-          "00e1 0000 0003 0079bb 0003 0081cc|00390002dd");
+    sends(t, &p, 1200, "000001 0079bb 000001 0081cc 000001 0039dd", "00e1 0000 0003 0079bb 0003 0081cc|00390002dd");
     h26x_packetizer_free(p);
     p = made(t, H26X_H266, false);
     sends(t, &p, 4, "0039aabb", "0039aabb");
@@ -76,8 +74,7 @@ static void check_h266(struct tally *t)
 }
 
 /* Makes the packets of a unit as it is, and compares them. */
-static void sends_unit(struct tally *t, h26x_packetizer *p, size_t mtu, const char *unit,
-                       const char *packets)
+static void sends_unit(struct tally *t, h26x_packetizer *p, size_t mtu, const char *unit, const char *packets)
 {
     struct bytes b = bytes_of(unit);
     size_t count = 99;
@@ -402,8 +399,7 @@ static void check_refusals(struct tally *t)
     depacketizer.at = d.at;
     expect(t, h26x_packetize(&depacketizer, 9, unit, 1, &count) == H26X_WRONG_END && count == 0);
     count = 9;
-    expect(t, h26x_packetize_unit(&depacketizer, 9, unit, 1, &count) == H26X_WRONG_END
-              && count == 0);
+    expect(t, h26x_packetize_unit(&depacketizer, 9, unit, 1, &count) == H26X_WRONG_END && count == 0);
     takes_memory(t, &depacketizer, 9, "65", 1, H26X_WRONG_END, 0, 0);
     makes_into(t, h26x_packetize_into, &depacketizer, 9, "65", 1, 64, 3, H26X_WRONG_END, 0, 0, "");
     makes_into(t, h26x_packetize_unit_into, &depacketizer, 9, "65", 1, 64, 3, H26X_WRONG_END, 0, 0, "");

@@ -3,9 +3,8 @@
 
 /* Compares what is shown of the packet that was accepted last. `parts` names its parts with '|'
  * between two, and `numbers` the number of each. */
-static void shows_at(struct tally *t, h26x_depacketizer *d, uint32_t kind, uint16_t header,
-                     uint16_t word, const char *parts, const uint32_t *numbers, size_t count,
-                     const char *file, int line)
+static void shows_at(struct tally *t, h26x_depacketizer *d, uint32_t kind, uint16_t header, uint16_t word,
+                     const char *parts, const uint32_t *numbers, size_t count, const char *file, int line)
 {
     h26x_h265_packet shown;
     uint8_t part[ROOM];
@@ -21,8 +20,8 @@ static void shows_at(struct tally *t, h26x_depacketizer *d, uint32_t kind, uint1
     expect_at(t, h26x_h265_part_copy(d, count, part, sizeof part, &number) == 0, parts, file, line);
     expect_at(t, number == H26X_NO_NUMBER, "no number past the last part", file, line);
 }
-#define shows(t, d, kind, header, word, parts, ...)                                            \
-    shows_at(t, d, kind, header, word, parts, (const uint32_t[]){__VA_ARGS__},                 \
+#define shows(t, d, kind, header, word, parts, ...)                            \
+    shows_at(t, d, kind, header, word, parts, (const uint32_t[]){__VA_ARGS__}, \
              sizeof(const uint32_t[]){__VA_ARGS__} / sizeof(uint32_t), __FILE__, __LINE__)
 
 static const char *const aggregate = "6001 0003 0201aa 0004 2601afaf 0003 0201bb";
@@ -60,9 +59,8 @@ static void check_kinds_with_numbers(struct tally *t, h26x_depacketizer *d)
 
 /* Gives a packet of H.265, and compares a part of it that takes one byte, for which there is just
  * room, and its number. */
-static void has_byte_at(struct tally *t, bool numbers, const char *packet, const char *written,
-                        uint8_t told, size_t i, uint8_t byte, uint32_t number, const char *file,
-                        int line)
+static void has_byte_at(struct tally *t, bool numbers, const char *packet, const char *written, uint8_t told, size_t i,
+                        uint8_t byte, uint32_t number, const char *file, int line)
 {
     h26x_depacketizer d;
     uint8_t to = 0;
@@ -91,8 +89,7 @@ static void check_what_stays(struct tally *t, h26x_depacketizer *d)
     size_t written;
     uint32_t number = 0;
     h26x_refusal why;
-    uint32_t code =
-        h26x_depacketize(d, false, (const uint8_t *)"a", 1, to, sizeof to, &written, &extra, &why);
+    uint32_t code = h26x_depacketize(d, false, (const uint8_t *)"a", 1, to, sizeof to, &written, &extra, &why);
     expect(t, code == H26X_SHORT_PACKET);
     shows(t, d, H26X_H265_AGGREGATE, 0, 0, "0201aa|2601afaf|0201bb", 5, 0, 255);
     expect(t, h26x_h265_part_copy(d, 1, to, sizeof to, &number) == 4 && number == 0);
@@ -129,14 +126,13 @@ static void check_what_shows_nothing(struct tally *t)
 }
 
 /* Packs a unit with an extension, and compares the packet. */
-static void packs_at(struct tally *t, const char *unit, const char *extension, const char *packet,
-                     const char *file, int line)
+static void packs_at(struct tally *t, const char *unit, const char *extension, const char *packet, const char *file,
+                     int line)
 {
     struct bytes in = bytes_of(unit), more = bytes_of(extension);
     uint8_t to[ROOM];
     size_t len = 99;
-    uint32_t code =
-        h26x_h265_paci_packet(in.at, in.len, more.at, more.len, to, sizeof to, &len);
+    uint32_t code = h26x_h265_paci_packet(in.at, in.len, more.at, more.len, to, sizeof to, &len);
     expect_at(t, code == H26X_OK, unit, file, line);
     expect_at(t, is_same(to, len, packet), packet, file, line);
 }
@@ -153,8 +149,7 @@ static void check_packing(struct tally *t)
     packs(t, "2601", "", "6401 2600");
 
     expect(t, h26x_h265_paci_packet(unit.at, 1, more.at, 32, to, sizeof to, &len) == H26X_SHORT_PACKET);
-    expect(t, h26x_h265_paci_packet(unit.at, 2, more.at, 32, to, sizeof to, &len)
-                  == H26X_H265_PACI_PHES_TOO_LONG);
+    expect(t, h26x_h265_paci_packet(unit.at, 2, more.at, 32, to, sizeof to, &len) == H26X_H265_PACI_PHES_TOO_LONG);
     expect(t, to[0] == 9 && len == 99);
     expect(t, h26x_h265_paci_packet(unit.at, 4, more.at, 31, to, 36, &len) == H26X_OK);
     expect(t, to[0] == 9 && len == 37);

@@ -70,8 +70,8 @@ static void carry(h26x_packetizer *p, h26x_receiver *r, uint16_t *sequence, cons
     for (size_t i = 0; i < count; i++) {
         const size_t packet_len = h26x_packet_copy(p, i, packet, sizeof packet);
         uint32_t received;
-        expect(h26x_receive(r, (*sequence)++, packet, packet_len, to, sizeof to, &written, &told, &received, NULL,
-                            NULL) == H26X_OK);
+        expect(h26x_receive(r, (*sequence)++, packet, packet_len, to, sizeof to, &written, &told, &received, NULL, NULL)
+               == H26X_OK);
         expect(received == H26X_IN_ORDER);
     }
     expect(written == len + 4 && told == 2 && memcmp(to + 4, unit, len) == 0);
@@ -80,9 +80,12 @@ static void carry(h26x_packetizer *p, h26x_receiver *r, uint16_t *sequence, cons
 
 static h26x_access_units units_of(const struct codec *c)
 {
-    const h26x_access_units_config config = {
-        .codec = c->number, .max_wait = 100, .window = PACKETS, .held_limit = SIZE_MAX, .run_limit = UNIT,
-        .unit_limit = SIZE_MAX};
+    const h26x_access_units_config config = {.codec = c->number,
+                                             .max_wait = 100,
+                                             .window = PACKETS,
+                                             .held_limit = SIZE_MAX,
+                                             .run_limit = UNIT,
+                                             .unit_limit = SIZE_MAX};
     h26x_access_units u;
     expect(h26x_access_units_new(&config, &u) == H26X_OK);
     return u;
@@ -99,8 +102,8 @@ static void carry_reversed(h26x_packetizer *p, h26x_access_units *u, const struc
     for (size_t i = count; i-- > 0;) {
         const size_t packet_len = h26x_packet_copy(p, i, packet, sizeof packet);
         uint32_t pushed;
-        expect(h26x_access_units_push(u, 0, (uint16_t)(65500 + i), 0, i + 1 == count, packet, packet_len, &pushed,
-                                      NULL) == H26X_OK);
+        expect(h26x_access_units_push(u, 0, (uint16_t)(65500 + i), 0, i + 1 == count, packet, packet_len, &pushed, NULL)
+               == H26X_OK);
         expect(pushed == H26X_HELD);
     }
     expect(h26x_access_units_next(u, 100, to, sizeof to, &told) == H26X_OK && told.len == len + 4);

@@ -67,8 +67,8 @@ static bool begins(uint32_t codec, struct unit u)
     }
 }
 
-bool next_access_unit(uint32_t codec, const uint8_t *stream, size_t len, size_t from,
-                      size_t *begin, size_t *end)
+bool next_access_unit(uint32_t codec, const uint8_t *stream, size_t len, size_t from, size_t *begin,
+                      size_t *end)
 {
     size_t first, behind;
     bool has_slice = false;

@@ -80,7 +80,8 @@ bool take_payload(struct client *c, uint16_t sequence, const uint8_t *payload, s
     uint8_t extra = 0;
     h26x_refusal why;
     if (h26x_receive(&c->receiver, sequence, payload, len, c->at + c->len, c->room - c->len,
-                     &a->written, &extra, &a->received, &a->count, &why) != H26X_OK)
+                     &a->written, &extra, &a->received, &a->count, &why)
+        != H26X_OK)
         return fail("a packet is refused");
     if (a->written > c->room - c->len) {
         c->room = 2 * (c->len + a->written);

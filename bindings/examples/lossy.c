@@ -51,10 +51,15 @@ enum {
     EVENTS
 };
 
-static const char *const event_names[EVENTS] = {
-    "first fragments lost", "middle fragments lost", "last fragments lost", "aggregates lost",
-    "ends of the stream lost", "passes of 65535", "gaps", "packets behind later ones",
-    "packets twice"};
+static const char *const event_names[EVENTS] = {"first fragments lost",
+                                                "middle fragments lost",
+                                                "last fragments lost",
+                                                "aggregates lost",
+                                                "ends of the stream lost",
+                                                "passes of 65535",
+                                                "gaps",
+                                                "packets behind later ones",
+                                                "packets twice"};
 
 /* The packets of a stream, each behind its header, and the units that they hold. */
 struct sent {

@@ -303,8 +303,7 @@ static bool ask_again(struct recorder *r, uint32_t now)
     while (from < count && (uint16_t)(numbers[from] - r->first) >= 0x8000)
         from++;
     for (; from < count; from += asked) {
-        const size_t len =
-            rtcp_write_nack(packet, r->source, numbers + from, count - from, &asked);
+        const size_t len = rtcp_write_nack(packet, r->source, numbers + from, count - from, &asked);
         if (!say(r, packet, len))
             return false;
     }

@@ -106,8 +106,7 @@ static bool open_way(const struct way *way, struct sender *sender, struct client
     const int on = 1;
     if (!open_sockets(&sender->socket, &client->socket))
         return fail_by_errno("no sockets on 127.0.0.1");
-    if (way->is_refused
-        && setsockopt(sender->socket, SOL_SOCKET, SO_NO_CHECK, &on, sizeof on) != 0)
+    if (way->is_refused && setsockopt(sender->socket, SOL_SOCKET, SO_NO_CHECK, &on, sizeof on) != 0)
         return fail_by_errno("SO_NO_CHECK");
     sender->by_runs = way->by_runs && knows_runs(sender->socket);
     if (way->by_runs && !sender->by_runs)

@@ -331,8 +331,8 @@ int main(int argc, char **argv)
         return 1;
     }
     const h26x_access_units_counts &c = totals.counts;
-    printf("%" PRIu64 " packets, %" PRIu64 " of them refused, in %" PRIu64 " networks, %" PRIu64 " access units, %"
-           PRIu64 " of them whole: each answer is the model's\n",
+    printf("%" PRIu64 " packets, %" PRIu64 " of them refused, in %" PRIu64 " networks, %" PRIu64
+           " access units, %" PRIu64 " of them whole: each answer is the model's\n",
            totals.packets, c.refused, totals.networks, c.units, c.whole);
     if (const char *missed = never(totals)) {
         printf("but none was: %s\n", missed);

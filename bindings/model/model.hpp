@@ -450,7 +450,7 @@ private:
     std::optional<Packet> stray; // the packet that waits alone
     bool is_anew = false;        // the stream has begun anew, so the access unit that is open ends
     Stream stream;
-    std::optional<Given> left;   // it had no room
+    std::optional<Given> left; // it had no room
     // how many access units were given out, the last that isn't known to be whole, the last keyframe that is
     uint64_t units = 0, broken = 0, key = 0;
 

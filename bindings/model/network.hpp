@@ -130,8 +130,8 @@ struct Sender {
             aggregate(r, packets);
         } else if (codec == H26X_H265 && r.one_in(12)) {
             const size_t extension = r.below(6);
-            packets.push_back(header(unit, 50) + word_of(type(unit) << 9 | extension << 4)
-                              + drawn_bytes(r, extension) + unit.substr(2));
+            packets.push_back(header(unit, 50) + word_of(type(unit) << 9 | extension << 4) + drawn_bytes(r, extension)
+                              + unit.substr(2));
         } else {
             packets.push_back(unit.substr(0, header_len()) + donl() + unit.substr(header_len()));
         }
@@ -251,7 +251,7 @@ inline h26x_access_units_config drawn_config(Random &r, const Pool &pool)
     c.codec = pool.codec;
     c.numbers = pool.numbers;
     c.avc = r.one_in(2);
-    c.window = static_cast<uint16_t>(r.one_in(80) ? r.of({100u, 1000u, 16383u, 16384u})
+    c.window = static_cast<uint16_t>(r.one_in(80)      ? r.of({100u, 1000u, 16383u, 16384u})
                                          : r.one_in(3) ? r.of({8u, 16u, 32u, 64u})
                                                        : r.from(1, 6));
     c.far_away = static_cast<uint16_t>(r.one_in(3)       ? 0
@@ -399,7 +399,7 @@ private:
     void surprise()
     {
         const uint32_t far = it.config.far_away;
-        const uint16_t jump = static_cast<uint16_t>(r.one_in(4) ? r.below(65536)
+        const uint16_t jump = static_cast<uint16_t>(r.one_in(4)       ? r.below(65536)
                                                         : r.one_in(3) ? far + r.below(5) - 2
                                                         : r.one_in(2) ? 0 - far - r.below(5) + 2
                                                                       : r.of({10000u, 45536u, 32768u, 32767u}));

@@ -5,7 +5,10 @@ use std::env::var;
 
 fn main() {
     println!("cargo::rerun-if-changed=build.rs");
-    println!("cargo::rustc-env=H26X_TARGET={}", var("TARGET").unwrap_or_default());
+    println!(
+        "cargo::rustc-env=H26X_TARGET={}",
+        var("TARGET").unwrap_or_default()
+    );
     let os = var("CARGO_CFG_TARGET_OS").unwrap_or_default();
     let major = var("CARGO_PKG_VERSION_MAJOR").unwrap_or_default();
     if [

@@ -1,3 +1,4 @@
+# shellcheck shell=bash
 # What a comparison with str0m needs: a checkout of str0m, cargo and gcc. Read by tools/compare-with-str0m
 # and bench/beside-str0m.
 

@@ -15,7 +15,7 @@ No type is looked at: where a name is wrong, rustc says so.
 import re
 
 from . import effects
-from .tree import (Function, Group, Refused, Token, after, at, bare, bare_words, before, commas, deep,
+from .tree import (Function, Group, Refused, Token, after, at, bare, bare_words, before, commas,
                    drop_heading, functions, is_among, is_group, is_sign, is_word, joined, parse)
 
 # Calls that fail for want of memory, and so answer a Result in Rattle.

@@ -33,7 +33,8 @@ int main(void)
         return fails("not in three packets");
     for (size_t i = 0; i < count; i++) {
         size_t packet_len = h26x_packet_copy(&p, i, packet, sizeof packet);
-        if (h26x_depacketize(&d, false, packet, packet_len, out + len, sizeof out - len, &written, &extra, &why) != H26X_OK)
+        if (h26x_depacketize(&d, false, packet, packet_len, out + len, sizeof out - len, &written, &extra, &why)
+            != H26X_OK)
             return fails("a packet is refused");
         len += written;
     }

@@ -351,11 +351,7 @@ fn push(receiver: &mut AccessUnitReceiver, sequence: &mut u16, payload: &[u8]) {
 }
 
 /// Why a unit goes, of how many packets more, and what makes it go.
-type Goes = (
-    &'static str,
-    usize,
-    fn(&mut AccessUnitReceiver, u16, Codec),
-);
+type Goes = (&'static str, usize, fn(&mut AccessUnitReceiver, u16, Codec));
 
 /// A unit that goes, since it is too long, since a packet of it is missing, or since one is refused, takes the
 /// memory with it that it had in an access unit.

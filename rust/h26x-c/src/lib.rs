@@ -17,12 +17,29 @@ mod host;
 mod pointers;
 // What C doesn't reach stays, as it was proved, and so do forms that Rust has shorter.
 #[allow(dead_code, unused_imports)]
-#[allow(clippy::enum_variant_names, clippy::explicit_auto_deref, clippy::explicit_counter_loop)]
-#[allow(clippy::large_enum_variant, clippy::manual_map, clippy::manual_range_contains)]
+#[allow(
+    clippy::enum_variant_names,
+    clippy::explicit_auto_deref,
+    clippy::explicit_counter_loop
+)]
+#[allow(
+    clippy::large_enum_variant,
+    clippy::manual_map,
+    clippy::manual_range_contains
+)]
 #[allow(clippy::manual_unwrap_or_default)]
 #[allow(clippy::match_like_matches_macro, clippy::mem_replace_option_with_some)]
-#[allow(clippy::missing_safety_doc, clippy::needless_lifetimes, clippy::needless_range_loop)]
-#[allow(clippy::nonminimal_bool, clippy::ptr_arg, clippy::question_mark, clippy::too_many_arguments)]
+#[allow(
+    clippy::missing_safety_doc,
+    clippy::needless_lifetimes,
+    clippy::needless_range_loop
+)]
+#[allow(
+    clippy::nonminimal_bool,
+    clippy::ptr_arg,
+    clippy::question_mark,
+    clippy::too_many_arguments
+)]
 mod proved;
 #[allow(dead_code)]
 #[forbid(unsafe_code)]

@@ -93,14 +93,20 @@ fn origin_in_three_words() {
     let told = text(h26x_origin()).unwrap();
     let words: Vec<_> = told.split(' ').collect();
     assert_eq!(words[..2], ["source", env!("CARGO_PKG_VERSION")]);
-    assert!(words.len() == 3 && words[2].starts_with(std::env::consts::ARCH), "{told}");
+    assert!(
+        words.len() == 3 && words[2].starts_with(std::env::consts::ARCH),
+        "{told}"
+    );
 }
 
 #[test]
 fn structs_of_the_header() {
     let word = size_of::<usize>();
     assert_eq!((size_of::<Handle>(), align_of::<Handle>()), (word, word));
-    assert_eq!((size_of::<ConstHandle>(), align_of::<ConstHandle>()), (word, word));
+    assert_eq!(
+        (size_of::<ConstHandle>(), align_of::<ConstHandle>()),
+        (word, word)
+    );
     assert_eq!((size_of::<Place>(), align_of::<Place>()), (word, word));
     assert_eq!(
         (offset_of!(Refusal, first), offset_of!(Refusal, second)),
@@ -110,28 +116,112 @@ fn structs_of_the_header() {
     assert_eq!((offset_of!(Shown, kind), offset_of!(Shown, header)), (0, 4));
     assert_eq!((offset_of!(Shown, word), offset_of!(Shown, parts)), (6, 8));
     assert_eq!(size_of::<Shown>(), 8 + word);
-    assert_eq!((offset_of!(UnitTold, len), offset_of!(UnitTold, timestamp)), (0, word));
-    assert_eq!((offset_of!(UnitTold, missing), offset_of!(UnitTold, first)), (word + 4, word + 8));
-    assert_eq!((offset_of!(UnitTold, last), offset_of!(UnitTold, extra)), (word + 10, word + 12));
-    assert_eq!((offset_of!(UnitTold, is_whole), offset_of!(UnitTold, is_clean)), (word + 13, word + 14));
-    assert_eq!((offset_of!(UnitTold, continues), size_of::<UnitTold>()), (word + 15, word + 16));
-    assert_eq!((offset_of!(Config, codec), offset_of!(Config, max_wait)), (0, 4));
-    assert_eq!((offset_of!(Config, window), offset_of!(Config, far_away)), (8, 10));
-    assert_eq!((offset_of!(Config, numbers), offset_of!(Config, avc)), (12, 13));
-    assert_eq!((offset_of!(Config, held_limit), offset_of!(Config, run_limit)), (16, 16 + word));
-    assert_eq!((offset_of!(Config, unit_limit), size_of::<Config>()), (16 + 2 * word, 16 + 3 * word));
-    assert_eq!((offset_of!(Counts, lost), offset_of!(Counts, units_given_up)), (8, 80));
-    assert_eq!((offset_of!(Counts, texts_given_up), size_of::<Counts>()), (88, 96));
-    assert_eq!((offset_of!(ConstraintNumbers, flags), offset_of!(ConstraintNumbers, len)), (0, 8));
+    assert_eq!(
+        (offset_of!(UnitTold, len), offset_of!(UnitTold, timestamp)),
+        (0, word)
+    );
+    assert_eq!(
+        (offset_of!(UnitTold, missing), offset_of!(UnitTold, first)),
+        (word + 4, word + 8)
+    );
+    assert_eq!(
+        (offset_of!(UnitTold, last), offset_of!(UnitTold, extra)),
+        (word + 10, word + 12)
+    );
+    assert_eq!(
+        (
+            offset_of!(UnitTold, is_whole),
+            offset_of!(UnitTold, is_clean)
+        ),
+        (word + 13, word + 14)
+    );
+    assert_eq!(
+        (offset_of!(UnitTold, continues), size_of::<UnitTold>()),
+        (word + 15, word + 16)
+    );
+    assert_eq!(
+        (offset_of!(Config, codec), offset_of!(Config, max_wait)),
+        (0, 4)
+    );
+    assert_eq!(
+        (offset_of!(Config, window), offset_of!(Config, far_away)),
+        (8, 10)
+    );
+    assert_eq!(
+        (offset_of!(Config, numbers), offset_of!(Config, avc)),
+        (12, 13)
+    );
+    assert_eq!(
+        (
+            offset_of!(Config, held_limit),
+            offset_of!(Config, run_limit)
+        ),
+        (16, 16 + word)
+    );
+    assert_eq!(
+        (offset_of!(Config, unit_limit), size_of::<Config>()),
+        (16 + 2 * word, 16 + 3 * word)
+    );
+    assert_eq!(
+        (offset_of!(Counts, lost), offset_of!(Counts, units_given_up)),
+        (8, 80)
+    );
+    assert_eq!(
+        (offset_of!(Counts, texts_given_up), size_of::<Counts>()),
+        (88, 96)
+    );
+    assert_eq!(
+        (
+            offset_of!(ConstraintNumbers, flags),
+            offset_of!(ConstraintNumbers, len)
+        ),
+        (0, 8)
+    );
     assert_eq!(offset_of!(ConstraintNumbers, frame_only), 8 + word);
     assert_eq!(offset_of!(ConstraintNumbers, multilayer), 9 + word);
     assert_eq!(offset_of!(ConstraintNumbers, general), 10 + word);
-    assert_eq!((offset_of!(PointNumbers, spatial_segmentation), offset_of!(PointNumbers, tier_flag)), (0, 8));
-    assert_eq!((offset_of!(PointNumbers, level_id), offset_of!(PointNumbers, max_lsr)), (16, 24));
-    assert_eq!((offset_of!(PointNumbers, max_lps), offset_of!(PointNumbers, max_br)), (32, 40));
-    assert_eq!((offset_of!(PointNumbers, tool), offset_of!(PointNumbers, has_tier_flag)), (48, 49));
-    assert_eq!((offset_of!(PointNumbers, has_level_id), offset_of!(PointNumbers, has_max_lsr)), (50, 51));
-    assert_eq!((offset_of!(PointNumbers, has_max_lps), offset_of!(PointNumbers, has_max_br)), (52, 53));
+    assert_eq!(
+        (
+            offset_of!(PointNumbers, spatial_segmentation),
+            offset_of!(PointNumbers, tier_flag)
+        ),
+        (0, 8)
+    );
+    assert_eq!(
+        (
+            offset_of!(PointNumbers, level_id),
+            offset_of!(PointNumbers, max_lsr)
+        ),
+        (16, 24)
+    );
+    assert_eq!(
+        (
+            offset_of!(PointNumbers, max_lps),
+            offset_of!(PointNumbers, max_br)
+        ),
+        (32, 40)
+    );
+    assert_eq!(
+        (
+            offset_of!(PointNumbers, tool),
+            offset_of!(PointNumbers, has_tier_flag)
+        ),
+        (48, 49)
+    );
+    assert_eq!(
+        (
+            offset_of!(PointNumbers, has_level_id),
+            offset_of!(PointNumbers, has_max_lsr)
+        ),
+        (50, 51)
+    );
+    assert_eq!(
+        (
+            offset_of!(PointNumbers, has_max_lps),
+            offset_of!(PointNumbers, has_max_br)
+        ),
+        (52, 53)
+    );
     assert_eq!(size_of::<PointNumbers>(), 56);
 }
 

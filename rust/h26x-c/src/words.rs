@@ -24,7 +24,13 @@ pub extern "C" fn h26x_version() -> u32 {
 /// Which library it is: made from the translated sources, of this version, for this target.
 #[unsafe(no_mangle)]
 pub extern "C" fn h26x_origin() -> *const c_char {
-    const TEXT: &str = concat!("source ", env!("CARGO_PKG_VERSION"), " ", env!("H26X_TARGET"), "\0");
+    const TEXT: &str = concat!(
+        "source ",
+        env!("CARGO_PKG_VERSION"),
+        " ",
+        env!("H26X_TARGET"),
+        "\0"
+    );
     TEXT.as_ptr().cast()
 }
 

@@ -19,5 +19,7 @@ mod runs;
 #[unsafe(no_mangle)]
 pub extern "C" fn sum(seed: u64, cases: u64) -> u64 {
     runs::numbers();
-    (0..cases).fold(0, |sum: u64, case| sum.wrapping_add(runs::all(seed, case).0.sum()))
+    (0..cases).fold(0, |sum: u64, case| {
+        sum.wrapping_add(runs::all(seed, case).0.sum())
+    })
 }

@@ -258,13 +258,22 @@ fn strays_and_a_stream_that_begins_anew() {
     push(&mut it, 0, (7, 10, true, "65aa")).unwrap();
     assert_eq!(units(&mut it, 0).len(), 1);
     // A stray makes nothing late: 8 is due, and 3008 is 3000 ahead of it.
-    assert_eq!(push(&mut it, 0, (3008, 90, true, "61ee")), Ok(Pushed::Stray));
+    assert_eq!(
+        push(&mut it, 0, (3008, 90, true, "61ee")),
+        Ok(Pushed::Stray)
+    );
     assert_eq!(push(&mut it, 0, (8, 20, false, "61bb")), Ok(Pushed::Held));
     assert!(units(&mut it, 0).is_empty());
     // A sender that begins anew far behind: the first waits alone, the second begins the stream, and what was open
     // ends.
-    assert_eq!(push(&mut it, 0, (45000, 30, true, "65cc")), Ok(Pushed::Stray));
-    assert_eq!(push(&mut it, 0, (45001, 40, true, "61dd")), Ok(Pushed::Anew));
+    assert_eq!(
+        push(&mut it, 0, (45000, 30, true, "65cc")),
+        Ok(Pushed::Stray)
+    );
+    assert_eq!(
+        push(&mut it, 0, (45001, 40, true, "61dd")),
+        Ok(Pushed::Anew)
+    );
     let units = units(&mut it, 0);
     let numbers: Vec<_> = units.iter().map(|it| (it.timestamp, it.first)).collect();
     assert_eq!(numbers, [(20, 8), (30, 45000), (40, 45001)]);

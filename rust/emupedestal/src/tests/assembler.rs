@@ -210,7 +210,10 @@ fn a_unit_of_which_a_packet_is_missing_is_left_out() {
 #[test]
 fn numbers_that_bear_nothing_are_passed_over() {
     let mut assembler = AccessUnitAssembler::new(Codec::H264, 100, 1000);
-    received(&mut assembler, &[(7, 10, true, "65aa"), (8, 20, false, "7c8101")]);
+    received(
+        &mut assembler,
+        &[(7, 10, true, "65aa"), (8, 20, false, "7c8101")],
+    );
     // Padding within a fragmented unit: nothing is missing.
     assert_eq!(assembler.skip(9), Received::InOrder);
     assert_eq!(assembler.skip(9), Received::Late(1));
@@ -220,7 +223,10 @@ fn numbers_that_bear_nothing_are_passed_over() {
     // Behind a gap nothing is known to be whole, nor of what the next packet in order brings.
     received(&mut assembler, &[(11, 30, false, "61cc")]);
     assert_eq!(assembler.skip(13), Received::Gap(1));
-    let (units, _) = received(&mut assembler, &[(14, 40, true, "61dd"), (15, 50, true, "61ee")]);
+    let (units, _) = received(
+        &mut assembler,
+        &[(14, 40, true, "61dd"), (15, 50, true, "61ee")],
+    );
     let wanted = [
         unit(30, "0000000161cc", false, false),
         unit(40, "0000000161dd", false, false),

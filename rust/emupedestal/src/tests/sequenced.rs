@@ -152,7 +152,11 @@ fn numbers_that_bear_nothing() {
         let it = &mut SequencedDepacketizer::new(codec, 100);
         receives(it, &[(65534, start, IN_ORDER)], "");
         assert_eq!((it.skip(65535), it.run_len()), (Received::InOrder, 1));
-        let rest = [(0, middle, IN_ORDER), (1, end, IN_ORDER), (2, start, IN_ORDER)];
+        let rest = [
+            (0, middle, IN_ORDER),
+            (1, end, IN_ORDER),
+            (2, start, IN_ORDER),
+        ];
         receives(it, &rest, &behind_codes(unit));
         assert_eq!((it.skip(2), it.run_len()), (Received::Late(1), 1));
         assert_eq!((it.skip(5), it.run_len()), (Received::Gap(2), 0));

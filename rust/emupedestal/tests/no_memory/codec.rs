@@ -2,10 +2,10 @@
 
 use crate::ends::{Answer, Receiver, SHORT, ask_depacketizer, ask_packetizer, send_nothing};
 use crate::proved::h26x_codec::Codec;
+use crate::proved::h26x_core::{CodecExtra, Depacketizer, H264CodecExtra, PacketError};
 use crate::proved::h26x_transmission::{
     Carried, CodecDepacketizer, CodecPacketizer, again, carry, take_all,
 };
-use crate::proved::h26x_core::{CodecExtra, Depacketizer, H264CodecExtra, PacketError};
 use crate::proved::h264_payload::{H264Depacketizer, H264Packetizer};
 use crate::proved::h265_payload::H265Depacketizer;
 use crate::proved::h266_payload::H266Depacketizer;

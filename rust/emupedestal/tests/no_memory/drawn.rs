@@ -2,10 +2,10 @@
 
 use crate::PacketError;
 use crate::proved::h26x_codec::{AnyDepacketizer, Codec};
-use crate::proved::h26x_transmission::{CodecDepacketizer, CodecPacketizer, carry, take_all};
 use crate::proved::h26x_core::{CodecExtra, H264CodecExtra, H265CodecExtra, H266CodecExtra};
-use crate::proved::h26x_reorder::{HeldPacket, Pushed, ReorderBuffer, RtpPacket};
 use crate::proved::h26x_receiver::{Received, SequencedDepacketizer};
+use crate::proved::h26x_reorder::{HeldPacket, Pushed, ReorderBuffer, RtpPacket};
+use crate::proved::h26x_transmission::{CodecDepacketizer, CodecPacketizer, carry, take_all};
 
 /// Drawn numbers, of a linear congruence (Numerical Recipes).
 struct Draws {

@@ -32,25 +32,25 @@ mod proved {
     pub mod h265_packets;
     pub mod h265_payload;
     pub mod h266_payload;
+    #[cfg(feature = "sdp")]
+    pub mod h26x_answers;
     pub mod h26x_assembler;
     pub mod h26x_codec;
     pub mod h26x_core;
     pub mod h26x_cut;
     pub mod h26x_depacketizer;
+    #[cfg(feature = "sdp")]
+    pub mod h26x_fmtp;
     pub mod h26x_packetizer;
     pub mod h26x_payload;
     pub mod h26x_profile;
     pub mod h26x_receiver;
     pub mod h26x_reorder;
-    pub mod h26x_transmission;
-    #[cfg(feature = "sdp")]
-    pub mod h26x_answers;
-    #[cfg(feature = "sdp")]
-    pub mod h26x_fmtp;
     #[cfg(feature = "sdp")]
     pub mod h26x_sdp;
     #[cfg(feature = "sdp")]
     pub mod h26x_stream_parameters;
+    pub mod h26x_transmission;
 }
 
 // What support is for parameters of SDP has no caller here.

@@ -25,7 +25,10 @@ fn codes_of_refusals() {
         (PacketError::AvcUnitTooLong, (7, 0, 0)),
         (PacketError::OutOfMemory, (8, 0, 0)),
     ] {
-        let mut why = MaybeUninit::new(Refusal { first: 77, second: 77 });
+        let mut why = MaybeUninit::new(Refusal {
+            first: 77,
+            second: 77,
+        });
         let code = code_of(error, &mut why);
         // SAFETY: it was made with numbers.
         let why = unsafe { why.assume_init() };
@@ -69,9 +72,25 @@ fn extras_there_and_back() {
     let (key, no_key) = (true, false);
     for (codec, extra, number) in [
         (Codec::H264, CodecExtra::None, 0),
-        (Codec::H264, CodecExtra::H264(H264CodecExtra { is_keyframe: no_key }), 1),
-        (Codec::H265, CodecExtra::H265(H265CodecExtra { is_keyframe: key }), 2),
-        (Codec::H266, CodecExtra::H266(H266CodecExtra { is_keyframe: no_key }), 1),
+        (
+            Codec::H264,
+            CodecExtra::H264(H264CodecExtra {
+                is_keyframe: no_key,
+            }),
+            1,
+        ),
+        (
+            Codec::H265,
+            CodecExtra::H265(H265CodecExtra { is_keyframe: key }),
+            2,
+        ),
+        (
+            Codec::H266,
+            CodecExtra::H266(H266CodecExtra {
+                is_keyframe: no_key,
+            }),
+            1,
+        ),
     ] {
         assert_eq!((extra_of(codec, number), number_of(extra)), (extra, number));
     }
@@ -128,6 +147,10 @@ fn as_many_packets_as_there_is_room_for() {
         buffer.push_all(packets).expect("memory");
         let (mut to, mut ends) = ([9; 4], [9; 3]);
         let count = copy_packets(&buffer, first, &mut to[..room], &mut ends[..ends_room]);
-        assert_eq!((count, to, ends), want, "{packets:?} {first} {room} {ends_room}");
+        assert_eq!(
+            (count, to, ends),
+            want,
+            "{packets:?} {first} {room} {ends_room}"
+        );
     }
 }
