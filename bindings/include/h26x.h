@@ -1,4 +1,5 @@
-/* H.264, H.265 and H.266 as RTP payloads (RFC 6184, RFC 7798, RFC 9328).
+/** @file
+ * H.264, H.265 and H.266 as RTP payloads (RFC 6184, RFC 7798, RFC 9328).
  *
  * A packetizer cuts units of coded video into the payloads of RTP packets, each within a limit. A depacketizer
  * writes the units of such payloads again, and a receiver does where packets are given with their sequence numbers,
@@ -38,14 +39,18 @@
 #include <stddef.h>
 #include <stdint.h>
 
-/* The version of this header, as in "0.1.0" and as one number. */
+/** The first number of this header's version. */
 #define H26X_VERSION_MAJOR 0
+/** The second. */
 #define H26X_VERSION_MINOR 1
+/** The third. */
 #define H26X_VERSION_PATCH 0
+/** All three in words. */
 #define H26X_VERSION "0.1.0"
+/** All three in one number. */
 #define H26X_VERSION_NUMBER (H26X_VERSION_MAJOR << 16 | H26X_VERSION_MINOR << 8 | H26X_VERSION_PATCH)
 
-/* Before each declaration: that the call is exported. */
+/** Before each declaration: that the call is exported. */
 #ifndef H26X_API
 #if defined __GNUC__
 #define H26X_API __attribute__((visibility("default")))
@@ -54,7 +59,7 @@
 #endif
 #endif
 
-/* Behind a declaration: the compiler warns where nobody looks at the answer. */
+/** Behind a declaration: the compiler warns where nobody looks at the answer. */
 #ifndef H26X_MUST_USE
 #if defined __GNUC__
 #define H26X_MUST_USE __attribute__((warn_unused_result))
@@ -67,93 +72,101 @@
 extern "C" {
 #endif
 
-/* The version of the library that is linked, as H26X_VERSION_NUMBER. */
+/** The version of the library that is linked, as H26X_VERSION_NUMBER. */
 H26X_API uint32_t h26x_version(void);
 
-/* Which library that is, in three words: "proved" (the archive built from the proofs) or "source" (what cargo makes of
+/** Which library that is, in three words: "proved" (the archive built from the proofs) or "source" (what cargo makes of
  * the translated sources), the version, and the target it was built for, as "proved 0.1.0 x86_64-unknown-linux-gnu". */
 H26X_API const char *h26x_origin(void);
 
+/** The codecs: H.264, H.265 and H.266. */
 enum h26x_codec { H26X_H264 = 264, H26X_H265 = 265, H26X_H266 = 266 };
 
-/* What SDP calls a codec: "H264", "H265" or "H266" (RFC 6184, 8.1; RFC 7798, 7.1; RFC 9328, 7.2). NULL for an unknown
+/** What SDP calls a codec: "H264", "H265" or "H266" (RFC 6184, 8.1; RFC 7798, 7.1; RFC 9328, 7.2). NULL for an unknown
  * one. */
 H26X_API const char *h26x_codec_name(uint32_t codec);
 
-/* What a call answers. All but H26X_OK are refusals, which change nothing but *written, *why, of packets that are made
+/** What a call answers. All but H26X_OK are refusals, which change nothing but *written, *why, of packets that are made
  * *count and *size, and with H26X_NO_ROOM the lengths that are told. */
 enum h26x_code {
     H26X_OK = 0,
     H26X_SHORT_PACKET = 1,
-    H26X_NALU_TYPE_NOT_HANDLED = 2,   /* H.264. why->first: the type */
-    H26X_STAP_A_TOO_LONG = 3,         /* H.264. why->first: the length of a unit; why->second: the bytes left for it */
+    H26X_NALU_TYPE_NOT_HANDLED = 2,   /**< H.264. why->first: the type */
+    H26X_STAP_A_TOO_LONG = 3,         /**< H.264. why->first: the length of a unit; why->second: the bytes left for it */
     H26X_H265_CORRUPTED = 4,
     H26X_H265_PACI_PHES_TOO_LONG = 5,
     H26X_H266_CORRUPTED = 6,
-    H26X_AVC_UNIT_TOO_LONG = 7,       /* behind lengths: a unit of over 4,294,967,295 bytes */
+    H26X_AVC_UNIT_TOO_LONG = 7,       /**< behind lengths: a unit of over 4,294,967,295 bytes */
     H26X_OUT_OF_MEMORY = 8,
     H26X_UNKNOWN_CODEC = 9,
-    H26X_WRONG_END = 10,              /* a handle of one kind where another is wanted */
-    H26X_NOT_OF_THIS_CODEC = 11,      /* decoding order numbers or a largest size for H.264 */
-    H26X_OUT_OF_RANGE = 12,           /* a largest size under 4, a window of 0 or over 16384 */
-    H26X_NO_ROOM = 13,                /* what is to be written doesn't fit in the caller's memory */
-    H26X_NOTHING_YET = 14,            /* no access unit has ended */
+    H26X_WRONG_END = 10,              /**< a handle of one kind where another is wanted */
+    H26X_NOT_OF_THIS_CODEC = 11,      /**< decoding order numbers or a largest size for H.264 */
+    H26X_OUT_OF_RANGE = 12,           /**< a largest size under 4, a window of 0 or over 16384 */
+    H26X_NO_ROOM = 13,                /**< what is to be written doesn't fit in the caller's memory */
+    H26X_NOTHING_YET = 14,            /**< no access unit has ended */
     /* Of format parameters of SDP. why->first of those from 21 to 25: the place of the parameter, from 0, blank parts
      * not counted; of those from 29 to 32: the place of the unit; of those from 42 to 45: the place of the capability
      * point. why->second of 43 and 44: what is wrong there, one of the codes from 20 to 25. */
-    H26X_SDP_OPEN_BRACE = 20,         /* a `{` isn't closed */
+    H26X_SDP_OPEN_BRACE = 20,         /**< a `{` isn't closed */
     H26X_SDP_NOT_A_NUMBER = 21,
     H26X_SDP_OUT_OF_RANGE = 22,
-    H26X_SDP_NOT_HEXADECIMAL = 23,    /* no hexadecimal digits, or not as many as the parameter has */
-    H26X_SDP_NOT_TX_MODE = 24,        /* none of SRST, MRST and MRMT */
+    H26X_SDP_NOT_HEXADECIMAL = 23,    /**< no hexadecimal digits, or not as many as the parameter has */
+    H26X_SDP_NOT_TX_MODE = 24,        /**< none of SRST, MRST and MRMT */
     H26X_SDP_TWICE = 25,
-    H26X_SDP_UNKNOWN_NAME = 26,       /* the codec's RFC has no such parameter */
-    H26X_SDP_ABSENT = 27,             /* it isn't given, or none is behind the last */
-    H26X_SDP_OTHER_KIND = 28,         /* the parameter is no number, or no units */
+    H26X_SDP_UNKNOWN_NAME = 26,       /**< the codec's RFC has no such parameter */
+    H26X_SDP_ABSENT = 27,             /**< it isn't given, or none is behind the last */
+    H26X_SDP_OTHER_KIND = 28,         /**< the parameter is no number, or no units */
     H26X_SDP_NOT_BASE64 = 29,
     H26X_SDP_EMPTY_UNIT = 30,
-    H26X_SDP_OTHER_TYPE = 31,         /* a unit is of no type that the parameter is for */
-    H26X_SDP_START_CODE = 32,         /* a unit has a start code inside */
-    H26X_SDP_NO_SET = 33,             /* no parameter set that says a profile stands before the first slice */
-    H26X_SDP_SHORT_SET = 34,          /* it ends before it says one */
-    H26X_SDP_NO_PROFILE = 35,         /* H.266: its sps_ptl_dpb_hrd_params_present_flag is 0 */
-    H26X_SDP_NO_ANSWER = 37,          /* two formats have no configuration in common */
-    H26X_SDP_PAYLOAD_TYPE = 38,       /* no number of 7 bits */
-    H26X_SDP_ENCODING_NAME = 39,      /* none of H264, H265 and H266 */
-    H26X_SDP_CLOCK_RATE = 40,         /* it isn't 90000 */
-    H26X_SDP_NO_BRACES = 41,          /* H.265: capability points don't begin with `{` and end with `}` */
-    H26X_SDP_NO_TOOL = 42,            /* a point begins with neither `w:` nor `t:` */
-    H26X_SDP_SEGMENTATION = 43,       /* the number behind that is none from 1 to 4095 */
-    H26X_SDP_LIMITS = 44,             /* a point's limits aren't read as parameters are */
-    H26X_SDP_NO_LIMIT = 45,           /* a point has none of the five limits */
-    H26X_SDP_CONSTRAINTS_NOT_BASE64 = 46, /* H.266 */
-    H26X_SDP_SHORT_CONSTRAINTS = 47,  /* they end before they say all */
-    H26X_SDP_LONG_CONSTRAINTS = 48    /* bytes stand behind them */
+    H26X_SDP_OTHER_TYPE = 31,         /**< a unit is of no type that the parameter is for */
+    H26X_SDP_START_CODE = 32,         /**< a unit has a start code inside */
+    H26X_SDP_NO_SET = 33,             /**< no parameter set that says a profile stands before the first slice */
+    H26X_SDP_SHORT_SET = 34,          /**< it ends before it says one */
+    H26X_SDP_NO_PROFILE = 35,         /**< H.266: its sps_ptl_dpb_hrd_params_present_flag is 0 */
+    H26X_SDP_NO_ANSWER = 37,          /**< two formats have no configuration in common */
+    H26X_SDP_PAYLOAD_TYPE = 38,       /**< no number of 7 bits */
+    H26X_SDP_ENCODING_NAME = 39,      /**< none of H264, H265 and H266 */
+    H26X_SDP_CLOCK_RATE = 40,         /**< it isn't 90000 */
+    H26X_SDP_NO_BRACES = 41,          /**< H.265: capability points don't begin with `{` and end with `}` */
+    H26X_SDP_NO_TOOL = 42,            /**< a point begins with neither `w:` nor `t:` */
+    H26X_SDP_SEGMENTATION = 43,       /**< the number behind that is none from 1 to 4095 */
+    H26X_SDP_LIMITS = 44,             /**< a point's limits aren't read as parameters are */
+    H26X_SDP_NO_LIMIT = 45,           /**< a point has none of the five limits */
+    H26X_SDP_CONSTRAINTS_NOT_BASE64 = 46, /**< H.266 */
+    H26X_SDP_SHORT_CONSTRAINTS = 47,  /**< they end before they say all */
+    H26X_SDP_LONG_CONSTRAINTS = 48    /**< bytes stand behind them */
 };
 
-/* A code in words, without a full stop; never NULL. */
+/** A code in words, without a full stop; never NULL. */
 H26X_API const char *h26x_strerror(uint32_t code);
 
-typedef struct { void *at; } h26x_packetizer;
-typedef struct { void *at; } h26x_depacketizer;
-typedef struct { h26x_depacketizer at; } h26x_receiver; /* where a call takes both, it is given &r.at of a receiver */
-typedef struct { size_t first, second; } h26x_refusal;
+/** The handle of a packetizer; its pointer is the library's. */
+typedef struct { void *at; /**< NULL: no handle */ } h26x_packetizer;
+/** The handle of a depacketizer. */
+typedef struct { void *at; /**< NULL: no handle */ } h26x_depacketizer;
+/** The handle of a receiver; where a call takes both, it is given &r.at of a receiver. */
+typedef struct { h26x_depacketizer at; /**< the receiver as a depacketizer */ } h26x_receiver;
+/** The numbers of a refusal, as its code says. */
+typedef struct {
+    size_t first;  /**< 0 where the code has none */
+    size_t second; /**< the same */
+} h26x_refusal;
 
 /* ---- Sending ---- */
 
-/* A packetizer for which no parameter set waits, with 1200 bytes as the largest packet size. `numbers`: whether
+/** A packetizer for which no parameter set waits, with 1200 bytes as the largest packet size. `numbers`: whether
  * packets bear decoding order numbers, which begin at 0 (DONL; H.265 and H.266). *made is written where the answer is
  * H26X_OK. Else H26X_UNKNOWN_CODEC, H26X_NOT_OF_THIS_CODEC or H26X_OUT_OF_MEMORY. */
 H26X_API uint32_t h26x_packetizer_new(uint32_t codec, bool numbers, h26x_packetizer *made) H26X_MUST_USE;
 
-/* The same packetizer again: the sets that wait for it, its next number, its settings; not the packets it holds.
+/** The same packetizer again: the sets that wait for it, its next number, its settings; not the packets it holds.
  * H26X_OUT_OF_MEMORY, or H26X_WRONG_END. */
 H26X_API uint32_t h26x_packetizer_clone(const h26x_packetizer *p, h26x_packetizer *made) H26X_MUST_USE;
 
-/* Frees it with its packets. A handle of NULL is nothing to be freed. */
+/** Frees it with its packets. A handle of NULL is nothing to be freed. */
 H26X_API void h26x_packetizer_free(h26x_packetizer p);
 
-/* The same, and writes NULL into the handle, so that it may be closed again. A pointer of NULL is nothing to be freed
+/** The same, and writes NULL into the handle, so that it may be closed again. A pointer of NULL is nothing to be freed
  * either. */
 static inline void h26x_packetizer_close(h26x_packetizer *p)
 {
@@ -164,21 +177,21 @@ static inline void h26x_packetizer_close(h26x_packetizer *p)
     }
 }
 
-/* Turns numbers on, from 0 again, or off. Sets that wait stay. H26X_NOT_OF_THIS_CODEC for H.264;
+/** Turns numbers on, from 0 again, or off. Sets that wait stay. H26X_NOT_OF_THIS_CODEC for H.264;
  * H26X_WRONG_END. */
 H26X_API uint32_t h26x_packetizer_set_numbers(h26x_packetizer *p, bool numbers);
 
-/* Sets the largest packet size of H.265 and H.266, in bytes: 4 or more, else H26X_OUT_OF_RANGE. No packet of a later
+/** Sets the largest packet size of H.265 and H.266, in bytes: 4 or more, else H26X_OUT_OF_RANGE. No packet of a later
  * call is longer, whatever its `mtu`; it is 1200 at first. H26X_NOT_OF_THIS_CODEC for H.264; H26X_WRONG_END. */
 H26X_API uint32_t h26x_packetizer_set_max_size(h26x_packetizer *p, uint16_t bytes);
 
-/* Sets whether h26x_packetize and h26x_packetize_into give the sets of H.265 that go in one packet the header that
+/** Sets whether h26x_packetize and h26x_packetize_into give the sets of H.265 that go in one packet the header that
  * RFC 7798, 4.4.2 asks for, as h26x_set_lowest_header does. Off at first: they have LayerId and TID of the unit behind
  * them (str0m's rule), 60 0b before a slice of TID 3. Where a forwarder drops packets by TID turn it on, or the sets
  * are dropped too. Those of H.266 have their header either way. H26X_NOT_OF_THIS_CODEC for H.264; H26X_WRONG_END. */
 H26X_API uint32_t h26x_packetizer_set_lowest_header(h26x_packetizer *p, bool lowest);
 
-/* Makes the packets of a payload, which is one unit, or units behind start codes: of an access unit, or a part of
+/** Makes the packets of a payload, which is one unit, or units behind start codes: of an access unit, or a part of
  * one. They take the place of those of the call before, and *count is how many there are. No packet has more than
  * `mtu` bytes, RTP's header not counted, and of H.265 and H.266 none more than the largest packet size, which is
  * 1200 whatever the `mtu` until h26x_packetizer_set_max_size says otherwise. The marker bit goes on the last packet
@@ -200,7 +213,7 @@ H26X_API uint32_t h26x_packetizer_set_lowest_header(h26x_packetizer *p, bool low
 H26X_API uint32_t h26x_packetize(h26x_packetizer *p, size_t mtu, const uint8_t *payload, size_t payload_len,
                                  size_t *count) H26X_MUST_USE;
 
-/* Makes the packets of one unit as it is: no start code is looked for in it, and whatever its kind it is sent now,
+/** Makes the packets of one unit as it is: no start code is looked for in it, and whatever its kind it is sent now,
  * itself or in fragments. So a caller who has units need not join them, and may send parameter sets himself. Sets
  * that wait stay. There are no packets of a unit without a whole header, nor where `mtu` is under 1 (H.264) or 4, nor
  * of a unit longer than a packet where no fragment has room for data: under 3 (H.264), 4, or 6 with numbers. The
@@ -208,7 +221,7 @@ H26X_API uint32_t h26x_packetize(h26x_packetizer *p, size_t mtu, const uint8_t *
 H26X_API uint32_t h26x_packetize_unit(h26x_packetizer *p, size_t mtu, const uint8_t *unit, size_t unit_len,
                                       size_t *count) H26X_MUST_USE;
 
-/* Makes the packets of a payload as h26x_packetize does, straight in the caller's memory: one behind the other from
+/** Makes the packets of a payload as h26x_packetize does, straight in the caller's memory: one behind the other from
  * the front of `to`, each behind `headroom` bytes, which are left as they are for the headers of the layers below
  * (`mtu` does not count them). ends[n] is where the n-th of them ends in `to`; it begins, with its headroom, where
  * the one before it ends. *count is how many packets there are, *size how many bytes they take with their headroom.
@@ -221,29 +234,29 @@ H26X_API uint32_t h26x_packetize_into(h26x_packetizer *p, size_t mtu, const uint
                                       size_t headroom, uint8_t *to, size_t room, size_t *ends, size_t ends_room,
                                       size_t *count, size_t *size) H26X_MUST_USE;
 
-/* How many packets h26x_packetize_into would make of a payload, and how many bytes they take with their headroom. The
+/** How many packets h26x_packetize_into would make of a payload, and how many bytes they take with their headroom. The
  * packetizer is left. H26X_OUT_OF_MEMORY and H26X_WRONG_END write 0 to *count and *size. */
 H26X_API uint32_t h26x_packets_size(const h26x_packetizer *p, size_t mtu, const uint8_t *payload, size_t payload_len,
                                     size_t headroom, size_t *count, size_t *size) H26X_MUST_USE;
 
-/* The same as h26x_packetize_into of one unit as it is, as h26x_packetize_unit sends it. */
+/** The same as h26x_packetize_into of one unit as it is, as h26x_packetize_unit sends it. */
 H26X_API uint32_t h26x_packetize_unit_into(h26x_packetizer *p, size_t mtu, const uint8_t *unit, size_t unit_len,
                                            size_t headroom, uint8_t *to, size_t room, size_t *ends, size_t ends_room,
                                            size_t *count, size_t *size) H26X_MUST_USE;
 
-/* How many packets there are of the last h26x_packetize or h26x_packetize_unit; 0 for a handle of another kind. */
+/** How many packets there are of the last h26x_packetize or h26x_packetize_unit; 0 for a handle of another kind. */
 H26X_API size_t h26x_packet_count(const h26x_packetizer *p);
 
-/* The length of packet i of these, in bytes; 0 past the last. */
+/** The length of packet i of these, in bytes; 0 past the last. */
 H26X_API size_t h26x_packet_len(const h26x_packetizer *p, size_t i);
 
-/* How many bytes they are together: the room that h26x_packets_copy wants for all. */
+/** How many bytes they are together: the room that h26x_packets_copy wants for all. */
 H26X_API size_t h26x_packets_len(const h26x_packetizer *p);
 
-/* Copies packet i to the front of `to` where it fits in `room` bytes, else leaves `to`. Answers the packet's length. */
+/** Copies packet i to the front of `to` where it fits in `room` bytes, else leaves `to`. Answers the packet's length. */
 H26X_API size_t h26x_packet_copy(const h26x_packetizer *p, size_t i, uint8_t *to, size_t room);
 
-/* Copies packets, from packet `first` on, to the front of `to`, one behind the other, as many as fit in `room` bytes
+/** Copies packets, from packet `first` on, to the front of `to`, one behind the other, as many as fit in `room` bytes
  * and have room for their ends; ends[n] is where the n-th of them ends in `to`. Answers how many they are, and
  * leaves the rest of both buffers. */
 H26X_API size_t h26x_packets_copy(const h26x_packetizer *p, size_t first, uint8_t *to, size_t room, size_t *ends,
@@ -251,18 +264,18 @@ H26X_API size_t h26x_packets_copy(const h26x_packetizer *p, size_t first, uint8_
 
 /* ---- Receiving packets of which none before it is missing ---- */
 
-/* A depacketizer with no fragmented unit open. `numbers`: whether packets bear decoding order numbers (H.265 and
+/** A depacketizer with no fragmented unit open. `numbers`: whether packets bear decoding order numbers (H.265 and
  * H.266). The answers are those of h26x_packetizer_new. */
 H26X_API uint32_t h26x_depacketizer_new(uint32_t codec, bool numbers, h26x_depacketizer *made) H26X_MUST_USE;
 
-/* The same depacketizer again, with its open unit; not what its last packet completed. H26X_OUT_OF_MEMORY, or
+/** The same depacketizer again, with its open unit; not what its last packet completed. H26X_OUT_OF_MEMORY, or
  * H26X_WRONG_END. */
 H26X_API uint32_t h26x_depacketizer_clone(const h26x_depacketizer *d, h26x_depacketizer *made) H26X_MUST_USE;
 
-/* Frees it with its open unit. A handle of NULL is nothing to be freed. */
+/** Frees it with its open unit. A handle of NULL is nothing to be freed. */
 H26X_API void h26x_depacketizer_free(h26x_depacketizer d);
 
-/* The same, and writes NULL into the handle, so that it may be closed again. A pointer of NULL is nothing to be freed
+/** The same, and writes NULL into the handle, so that it may be closed again. A pointer of NULL is nothing to be freed
  * either. */
 static inline void h26x_depacketizer_close(h26x_depacketizer *d)
 {
@@ -273,15 +286,15 @@ static inline void h26x_depacketizer_close(h26x_depacketizer *d)
     }
 }
 
-/* Whether both are depacketizers, are of one codec and have the same settings and the same open unit; of H.265 they
+/** Whether both are depacketizers, are of one codec and have the same settings and the same open unit; of H.265 they
  * must have accepted the same packet last as well. */
 H26X_API bool h26x_depacketizer_same(const h26x_depacketizer *a, const h26x_depacketizer *b);
 
-/* Sets whether packets bear numbers. An open unit stays open. H26X_NOT_OF_THIS_CODEC for H.264;
+/** Sets whether packets bear numbers. An open unit stays open. H26X_NOT_OF_THIS_CODEC for H.264;
  * H26X_WRONG_END. */
 H26X_API uint32_t h26x_depacketizer_set_numbers(h26x_depacketizer *d, bool numbers);
 
-/* Takes a packet. The units that it completes, each behind 00 00 00 01, or with `avc` behind its length in four
+/** Takes a packet. The units that it completes, each behind 00 00 00 01, or with `avc` behind its length in four
  * bytes (as MP4 files have them: avc1, hvc1, vvc1; the highest byte first), are written to the front of `to` where
  * they fit in `room` bytes; else `to` is left, and h26x_written_copy has them up to the next packet that is
  * accepted. *written is how many bytes they are. Without room the packet is read twice. `avc` counts for this call
@@ -308,29 +321,29 @@ H26X_API uint32_t h26x_depacketize(h26x_depacketizer *d, bool avc, const uint8_t
                                    uint8_t *to, size_t room, size_t *written, uint8_t *extra,
                                    h26x_refusal *why) H26X_MUST_USE;
 
-/* Copies what the last packet that was accepted completed, and had no room for, to the front of `to` where it fits,
+/** Copies what the last packet that was accepted completed, and had no room for, to the front of `to` where it fits,
  * else leaves `to`. Answers how many bytes it is: 0 where that packet's units had room, and for a packetizer. Of a
  * receiver, given as &r.at, it is so of the last packet that was taken. */
 H26X_API size_t h26x_written_copy(const h26x_depacketizer *d, uint8_t *to, size_t room);
 
-/* Gives up the open unit and frees its buffer, which grows by each fragment until the last one comes. A caller of
+/** Gives up the open unit and frees its buffer, which grows by each fragment until the last one comes. A caller of
  * h26x_depacketize does so wherever a packet is missing, and where the unit has grown too long: h26x_receive does
  * both. What follows of that unit is accepted and completes nothing. H26X_WRONG_END. */
 H26X_API uint32_t h26x_give_up_run(h26x_depacketizer *d);
 
 /* ---- Receiving packets with their sequence numbers ---- */
 
-/* What became of a packet (RFC 3550, 5.1). Numbers go round at 65536. */
+/** What became of a packet (RFC 3550, 5.1). Numbers go round at 65536. */
 enum h26x_received {
-    H26X_IN_ORDER = 0, /* taken: it is the one that was expected, or the first of all. *count is 0 */
-    H26X_GAP = 1,      /* taken: *count packets before it are missing, and the unit that was open is given up */
-    H26X_TOO_LONG = 2, /* taken, with *count missing before it, and the unit that it left open is given up, since it held
+    H26X_IN_ORDER = 0, /**< taken: it is the one that was expected, or the first of all. *count is 0 */
+    H26X_GAP = 1,      /**< taken: *count packets before it are missing, and the unit that was open is given up */
+    H26X_TOO_LONG = 2, /**< taken, with *count missing before it, and the unit that it left open is given up, since it held
                         * more than the limit */
-    H26X_LATE = 3      /* not taken: it came late, or twice. *count is how far it is behind the one expected; 1 is the
+    H26X_LATE = 3      /**< not taken: it came late, or twice. *count is how far it is behind the one expected; 1 is the
                         * number that was taken last */
 };
 
-/* A receiver that takes any number as the first, and then writes no unit of which a packet is missing, whatever a
+/** A receiver that takes any number as the first, and then writes no unit of which a packet is missing, whatever a
  * network loses, delays or brings twice, as long as gaps and delays are of fewer than 32768 packets. `numbers`:
  * whether packets bear decoding order numbers (H.265 and H.266). `avc`: whether units are written behind lengths of
  * four bytes, of every codec. `run_limit`: how many bytes of data, without the header, the open unit may hold from a
@@ -339,14 +352,14 @@ enum h26x_received {
 H26X_API uint32_t h26x_receiver_new(uint32_t codec, bool numbers, bool avc, size_t run_limit,
                                     h26x_receiver *made) H26X_MUST_USE;
 
-/* The same receiver again, with its open unit and the number that it expects; not what its last packet completed.
+/** The same receiver again, with its open unit and the number that it expects; not what its last packet completed.
  * H26X_OUT_OF_MEMORY, or H26X_WRONG_END. */
 H26X_API uint32_t h26x_receiver_clone(const h26x_receiver *r, h26x_receiver *made) H26X_MUST_USE;
 
-/* Frees it with its open unit. A handle of NULL is nothing to be freed. */
+/** Frees it with its open unit. A handle of NULL is nothing to be freed. */
 H26X_API void h26x_receiver_free(h26x_receiver r);
 
-/* The same, and writes NULL into the handle, so that it may be closed again. A pointer of NULL is nothing to be freed
+/** The same, and writes NULL into the handle, so that it may be closed again. A pointer of NULL is nothing to be freed
  * either. */
 static inline void h26x_receiver_close(h26x_receiver *r)
 {
@@ -357,14 +370,14 @@ static inline void h26x_receiver_close(h26x_receiver *r)
     }
 }
 
-/* Sets whether packets bear decoding order numbers. An open unit stays open. H26X_NOT_OF_THIS_CODEC for H.264;
+/** Sets whether packets bear decoding order numbers. An open unit stays open. H26X_NOT_OF_THIS_CODEC for H.264;
  * H26X_WRONG_END. */
 H26X_API uint32_t h26x_receiver_set_numbers(h26x_receiver *r, bool numbers);
 
-/* Sets whether units are written behind lengths, or behind start codes. H26X_WRONG_END. */
+/** Sets whether units are written behind lengths, or behind start codes. H26X_WRONG_END. */
 H26X_API uint32_t h26x_receiver_set_avc(h26x_receiver *r, bool avc);
 
-/* Takes a packet with its sequence number. *received is an h26x_received, and *count the number that it speaks of.
+/** Takes a packet with its sequence number. *received is an h26x_received, and *count the number that it speaks of.
  * What the packet completes is written to `to` where it fits, else h26x_written_copy(&r->at, ..) has it up to the
  * next packet that is taken; *written is how many bytes that is, and *extra, in and out, what is told, as in
  * h26x_depacketize. A unit is written only where each of its packets was taken, one behind the other; where one is
@@ -378,95 +391,96 @@ H26X_API uint32_t h26x_receive(h26x_receiver *r, uint16_t sequence, const uint8_
                                uint8_t *to, size_t room, size_t *written, uint8_t *extra, uint32_t *received,
                                uint16_t *count, h26x_refusal *why) H26X_MUST_USE;
 
-/* Passes over a number that came and bears nothing of the stream: padding alone, as congestion control sends it,
+/** Passes over a number that came and bears nothing of the stream: padding alone, as congestion control sends it,
  * forward error correction, another payload type. So it isn't missing. *received is H26X_IN_ORDER, and the open unit
  * stays; or H26X_GAP, where others before it are missing, and the open unit is given up; or H26X_LATE, which changes
  * nothing; with *count as in h26x_receive. What the last packet completed and had no room for stays. It takes no
  * memory. H26X_WRONG_END leaves both numbers. */
 H26X_API uint32_t h26x_receiver_skip(h26x_receiver *r, uint16_t sequence, uint32_t *received, uint16_t *count);
 
-/* Gives up the open unit, frees its buffer, and takes any number as the next. What the last packet completed and had
+/** Gives up the open unit, frees its buffer, and takes any number as the next. What the last packet completed and had
  * no room for stays. H26X_WRONG_END. */
 H26X_API uint32_t h26x_receiver_restart(h26x_receiver *r);
 
-/* How many bytes of data the open unit holds, up to the limit; 0 where none is open, and for a handle of another
+/** How many bytes of data the open unit holds, up to the limit; 0 where none is open, and for a handle of another
  * kind. */
 H26X_API size_t h26x_receiver_run_len(const h26x_receiver *r);
 
 /* ---- Receiving access units, of packets as a network brings them ---- */
 
-/* Packets wait for those before them by their numbers, and go into a receiver in order; what it writes between two
+/** Packets wait for those before them by their numbers, and go into a receiver in order; what it writes between two
  * markers, or of one timestamp, is an access unit. So packets may be lost, come twice and in any order. */
-typedef struct { void *at; } h26x_access_units;
+typedef struct { void *at; /**< NULL: no handle */ } h26x_access_units;
 
-/* What a caller sets. Ticks are his own: `now` in the calls below, max_wait and the deadline are in them. They go round
+/** What a caller sets. Ticks are his own: `now` in the calls below, max_wait and the deadline are in them. They go round
  * at 2^32, and never back. */
 typedef struct {
-    uint32_t codec;
-    uint32_t max_wait;    /* a missing packet is waited for so long at most after one behind it came; UINT32_MAX: by the
+    uint32_t codec;       /**< one of h26x_codec */
+    uint32_t max_wait;    /**< a missing packet is waited for so long at most after one behind it came; UINT32_MAX: by the
                            * window alone */
-    uint16_t window;      /* packets missing before one that waits are waited for until one came so many places, less
+    uint16_t window;      /**< packets missing before one that waits are waited for until one came so many places, less
                            * one, ahead of it; 1 to 16384 */
-    uint16_t far_away;    /* a number so far or farther ahead of the newest that waits (where none waits, of the one that
+    uint16_t far_away;    /**< a number so far or farther ahead of the newest that waits (where none waits, of the one that
                            * is due), and so far behind the one that is due, waits alone until the next such number
                            * follows it, and then the stream begins anew with both, whatever held_limit is (RFC 3550,
                            * A.1, has 3000); 0: none is too far, and one behind is late */
-    bool numbers;         /* packets bear decoding order numbers (H.265 and H.266) */
-    bool avc;             /* units are written behind lengths of four bytes, else behind 00 00 00 01 */
-    size_t held_limit;    /* bytes of payloads that may wait; past that none is waited for */
-    size_t run_limit;     /* bytes of data that an open unit may hold from a packet to the next */
-    size_t unit_limit;    /* bytes that an open access unit may hold from a packet to the next */
+    bool numbers;         /**< packets bear decoding order numbers (H.265 and H.266) */
+    bool avc;             /**< units are written behind lengths of four bytes, else behind 00 00 00 01 */
+    size_t held_limit;    /**< bytes of payloads that may wait; past that none is waited for */
+    size_t run_limit;     /**< bytes of data that an open unit may hold from a packet to the next */
+    size_t unit_limit;    /**< bytes that an open access unit may hold from a packet to the next */
 } h26x_access_units_config;
 
-/* What became of a packet that was given. */
+/** What became of a packet that was given. */
 enum h26x_pushed {
-    H26X_HELD = 0,        /* it waits for those before it, or to be taken, or was taken */
-    H26X_PUSHED_LATE = 1, /* dropped: *behind is how far it is behind the one that is due; of all others *behind is 0 */
-    H26X_TWICE = 2,       /* dropped: a packet with its number waits */
-    H26X_FULL = 3,        /* dropped: more than held_limit bytes wait. Take access units, and give it again */
-    H26X_STRAY = 4,       /* it waits alone, in the place of another such packet */
-    H26X_ANEW = 5         /* it follows the one that waited alone: the stream begins anew, and what waited of the old
+    H26X_HELD = 0,        /**< it waits for those before it, or to be taken, or was taken */
+    H26X_PUSHED_LATE = 1, /**< dropped: *behind is how far it is behind the one that is due; of all others *behind is 0 */
+    H26X_TWICE = 2,       /**< dropped: a packet with its number waits */
+    H26X_FULL = 3,        /**< dropped: more than held_limit bytes wait. Take access units, and give it again */
+    H26X_STRAY = 4,       /**< it waits alone, in the place of another such packet */
+    H26X_ANEW = 5         /**< it follows the one that waited alone: the stream begins anew, and what waited of the old
                            * numbers is dropped */
 };
 
-/* What is told of an access unit. */
+/** What is told of an access unit. */
 typedef struct {
-    size_t len;           /* its bytes */
-    uint32_t timestamp;   /* of its packets */
-    uint32_t missing;     /* how many numbers are missing between the access unit before and its end */
-    uint16_t first, last; /* the numbers of the first packet that came of it and of the last */
-    uint8_t extra;        /* 0 nothing told, 1 units but none of a keyframe, 2 a keyframe among them */
-    bool is_whole;        /* it is known that nothing of it is missing */
-    bool is_clean;        /* nor is anything since a keyframe of which nothing is: a decoder that began there goes on.
+    size_t len;           /**< its bytes */
+    uint32_t timestamp;   /**< of its packets */
+    uint32_t missing;     /**< how many numbers are missing between the access unit before and its end */
+    uint16_t first;       /**< the number of the first packet that came of it */
+    uint16_t last;        /**< the number of the last */
+    uint8_t extra;        /**< 0 nothing told, 1 units but none of a keyframe, 2 a keyframe among them */
+    bool is_whole;        /**< it is known that nothing of it is missing */
+    bool is_clean;        /**< nor is anything since a keyframe of which nothing is: a decoder that began there goes on.
                            * False: ask the sender for a keyframe */
-    bool continues;       /* a marker ended one of its timestamp right before it, as where a peer sets the marker on each
+    bool continues;       /**< a marker ended one of its timestamp right before it, as where a peer sets the marker on each
                            * slice */
 } h26x_access_unit;
 
-/* What was counted since it was made. Each count stays at 2^64 - 1. */
+/** What was counted since it was made. Each count stays at 2^64 - 1. */
 typedef struct {
-    uint64_t taken;          /* packets that were taken, and not refused */
-    uint64_t lost;           /* numbers that are missing before packets taken, or numbers skipped or refused, and these */
-    uint64_t late;           /* packets that came after their place was passed */
-    uint64_t twice;          /* packets that came while one with their number waited */
-    uint64_t stray;          /* packets whose number was too far from the one that was due */
-    uint64_t refused;        /* packets that were refused for what they are */
-    uint64_t skipped;        /* numbers that came and bear nothing */
-    uint64_t anew;           /* how often the stream began anew */
-    uint64_t units;          /* access units that ended and were told of */
-    uint64_t whole;          /* those of them that are known to be whole */
-    uint64_t units_given_up; /* NAL units that were longer than run_limit */
-    uint64_t texts_given_up; /* texts of open access units that were longer than unit_limit */
+    uint64_t taken;          /**< packets that were taken, and not refused */
+    uint64_t lost;           /**< numbers that are missing before packets taken, or numbers skipped or refused, and these */
+    uint64_t late;           /**< packets that came after their place was passed */
+    uint64_t twice;          /**< packets that came while one with their number waited */
+    uint64_t stray;          /**< packets whose number was too far from the one that was due */
+    uint64_t refused;        /**< packets that were refused for what they are */
+    uint64_t skipped;        /**< numbers that came and bear nothing */
+    uint64_t anew;           /**< how often the stream began anew */
+    uint64_t units;          /**< access units that ended and were told of */
+    uint64_t whole;          /**< those of them that are known to be whole */
+    uint64_t units_given_up; /**< NAL units that were longer than run_limit */
+    uint64_t texts_given_up; /**< texts of open access units that were longer than unit_limit */
 } h26x_access_units_counts;
 
-/* A receiver of access units that takes any number as the first. H26X_UNKNOWN_CODEC, H26X_NOT_OF_THIS_CODEC (numbers for
+/** A receiver of access units that takes any number as the first. H26X_UNKNOWN_CODEC, H26X_NOT_OF_THIS_CODEC (numbers for
  * H.264), H26X_OUT_OF_RANGE (a window of 0 or over 16384), H26X_OUT_OF_MEMORY. */
 H26X_API uint32_t h26x_access_units_new(const h26x_access_units_config *config, h26x_access_units *made) H26X_MUST_USE;
 
-/* Frees it with all that waits. A handle of NULL is nothing to be freed. */
+/** Frees it with all that waits. A handle of NULL is nothing to be freed. */
 H26X_API void h26x_access_units_free(h26x_access_units u);
 
-/* The same, and writes NULL into the handle, so that it may be closed again. A pointer of NULL is nothing to be freed
+/** The same, and writes NULL into the handle, so that it may be closed again. A pointer of NULL is nothing to be freed
  * either. */
 static inline void h26x_access_units_close(h26x_access_units *u)
 {
@@ -477,7 +491,7 @@ static inline void h26x_access_units_close(h26x_access_units *u)
     }
 }
 
-/* Takes a packet that came at this tick, and copies it where it waits: the one that is due is taken at once where none
+/** Takes a packet that came at this tick, and copies it where it waits: the one that is due is taken at once where none
  * waits and no access unit has ended that wasn't given out. *pushed and *behind tell what became of it. One without a
  * payload came and bears nothing, as h26x_access_units_skip has it. Then call h26x_access_units_next until it has none.
  * H26X_OUT_OF_MEMORY changes nothing, so the packet can be given again; H26X_WRONG_END. Both leave *pushed and
@@ -486,62 +500,62 @@ H26X_API uint32_t h26x_access_units_push(h26x_access_units *u, uint32_t now, uin
                                          bool marker, const uint8_t *payload, size_t payload_len, uint32_t *pushed,
                                          uint16_t *behind) H26X_MUST_USE;
 
-/* Passes over a number that came and bears nothing of the stream: padding alone, as congestion control sends it, forward
+/** Passes over a number that came and bears nothing of the stream: padding alone, as congestion control sends it, forward
  * error correction, another payload type. So it isn't missing. The answers are those of h26x_access_units_push. */
 H26X_API uint32_t h26x_access_units_skip(h26x_access_units *u, uint32_t now, uint16_t sequence, uint32_t *pushed,
                                          uint16_t *behind) H26X_MUST_USE;
 
-/* The next access unit, if one has ended at this tick: its bytes to the front of `to`, and *unit. H26X_NOTHING_YET where
+/** The next access unit, if one has ended at this tick: its bytes to the front of `to`, and *unit. H26X_NOTHING_YET where
  * none has. H26X_NO_ROOM where it doesn't fit in `room` bytes: *unit is told, `to` is left, and the access unit is kept
  * for the next call. H26X_OUT_OF_MEMORY: the packet for which memory lacks is due still, and nothing is lost.
  * H26X_WRONG_END. Packets that are refused are passed over and counted. All but H26X_OK and H26X_NO_ROOM leave *unit. */
 H26X_API uint32_t h26x_access_units_next(h26x_access_units *u, uint32_t now, uint8_t *to, size_t room,
                                          h26x_access_unit *unit) H26X_MUST_USE;
 
-/* Whether packets wait and there is a max_wait; *at is then the tick at which to call h26x_access_units_next at the
+/** Whether packets wait and there is a max_wait; *at is then the tick at which to call h26x_access_units_next at the
  * latest, and else left. False for a handle of another kind. */
 H26X_API bool h26x_access_units_deadline(const h26x_access_units *u, uint32_t *at);
 
-/* The numbers that are missing before packets that wait, in order: those to ask the sender for again (NACK; RFC 4585,
+/** The numbers that are missing before packets that wait, in order: those to ask the sender for again (NACK; RFC 4585,
  * 6.2.1). *count is how many they are, and the first ones go to the front of `numbers`, up to `numbers_room` of them; the
  * rest of it is left. H26X_OUT_OF_MEMORY and H26X_WRONG_END write 0 to *count and leave `numbers`. */
 H26X_API uint32_t h26x_access_units_missing(const h26x_access_units *u, uint16_t *numbers, size_t numbers_room,
                                             size_t *count) H26X_MUST_USE;
 
-/* At the end of a stream: all that waits is due, and once it was taken the open access unit ends, not known to be whole.
+/** At the end of a stream: all that waits is due, and once it was taken the open access unit ends, not known to be whole.
  * h26x_access_units_next gives all of it, and then any number is the next. H26X_WRONG_END. */
 H26X_API uint32_t h26x_access_units_finish(h26x_access_units *u);
 
-/* For another sender (SSRC): drops all that waits or is open, and takes any number as the next. An access unit that had
+/** For another sender (SSRC): drops all that waits or is open, and takes any number as the next. An access unit that had
  * no room, and what was counted, stay. H26X_WRONG_END. */
 H26X_API uint32_t h26x_access_units_restart(h26x_access_units *u);
 
-/* What was counted. H26X_WRONG_END leaves *counts. */
+/** What was counted. H26X_WRONG_END leaves *counts. */
 H26X_API uint32_t h26x_access_units_count(const h26x_access_units *u, h26x_access_units_counts *counts);
 
 /* ---- The packets that a depacketizer or a receiver of H.265 shows ---- */
 
-/* What a packet is (RFC 7798, 4.4.1 to 4.4.4). */
+/** What a packet is (RFC 7798, 4.4.1 to 4.4.4). */
 enum h26x_h265_kind { H26X_H265_SINGLE = 1, H26X_H265_FRAGMENT = 2, H26X_H265_AGGREGATE = 3, H26X_H265_PACI = 4 };
 
-/* A packet in numbers. */
+/** A packet in numbers. */
 typedef struct {
-    uint32_t kind;
-    uint16_t header; /* F, the type, the layer id and TID, from the highest bit down (1.1.4); 0 for an aggregate */
-    uint16_t word;   /* from the highest bit down: of a fragment S, E and the unit's type, in 8 bits (4.4.3); of a PACI
+    uint32_t kind;   /**< one of h26x_h265_kind */
+    uint16_t header; /**< F, the type, the layer id and TID, from the highest bit down (1.1.4); 0 for an aggregate */
+    uint16_t word;   /**< from the highest bit down: of a fragment S, E and the unit's type, in 8 bits (4.4.3); of a PACI
                       * packet A, cType, PHSsize, F0, F1, F2 and Y (4.4.4); else 0 */
-    size_t parts;    /* how many h26x_h265_part_copy copies */
+    size_t parts;    /**< how many h26x_h265_part_copy copies */
 } h26x_h265_packet;
 
-/* The packet that was accepted last; before there is one, H26X_H265_SINGLE with a header of 0 and a part without
+/** The packet that was accepted last; before there is one, H26X_H265_SINGLE with a header of 0 and a part without
  * bytes. Of a receiver, given as &r.at, it is the packet that was taken last. H26X_NOT_OF_THIS_CODEC for H.264 and
  * H.266; H26X_WRONG_END for a packetizer. */
 H26X_API uint32_t h26x_h265_shown(const h26x_depacketizer *d, h26x_h265_packet *shown) H26X_MUST_USE;
 
-/* What *number is where none was read. */
+/** What *number is where none was read. */
 enum { H26X_NO_NUMBER = 65536 };
 
-/* Copies part i of that packet to the front of `to` where it fits in `room` bytes, else leaves `to`. Answers the
+/** Copies part i of that packet to the front of `to` where it fits in `room` bytes, else leaves `to`. Answers the
  * part's length; 0 past the last part, and where nothing is shown. Parts are: of H26X_H265_SINGLE and
  * H26X_H265_FRAGMENT what stands behind the headers and DONL; of H26X_H265_AGGREGATE each unit; of H26X_H265_PACI
  * the extension of the header, in which TSCI is the first three bytes where F0 is set (4.5), and then the unit
@@ -549,7 +563,7 @@ enum { H26X_NO_NUMBER = 65536 };
  * or H26X_NO_NUMBER. */
 H26X_API size_t h26x_h265_part_copy(const h26x_depacketizer *d, size_t i, uint8_t *to, size_t room, uint32_t *number);
 
-/* Packs a unit, its header first, into a PACI packet with an extension of the header (4.4.4), and copies that to the
+/** Packs a unit, its header first, into a PACI packet with an extension of the header (4.4.4), and copies that to the
  * front of `to` where it fits in `room` bytes, else leaves `to`; *len is the packet's length. F0 is set where the
  * extension has three bytes or more. H26X_SHORT_PACKET where the unit has under two bytes; else
  * H26X_H265_PACI_PHES_TOO_LONG where the extension has over 31; else H26X_OUT_OF_MEMORY. */
@@ -558,34 +572,34 @@ H26X_API uint32_t h26x_h265_paci_packet(const uint8_t *unit, size_t unit_len, co
 
 /* ---- Packets and payloads ---- */
 
-/* Whether a packet may be the first of an access unit; false for an unknown codec. */
+/** Whether a packet may be the first of an access unit; false for an unknown codec. */
 H26X_API bool h26x_is_partition_head(uint32_t codec, const uint8_t *packet, size_t packet_len);
 
-/* Whether a packet is the last of an access unit, its marker bit given: of H.264 the marker; of H.265 and H.266 the
+/** Whether a packet is the last of an access unit, its marker bit given: of H.264 the marker; of H.265 and H.266 the
  * E bit of a fragment, whatever the marker, and the marker of every other packet. E is set where a unit ends, so an
  * access unit with a fragmented SEI message has more than one such packet: its end is told by the marker alone.
  * False for an unknown codec. */
 H26X_API bool h26x_is_partition_tail(uint32_t codec, bool marker, const uint8_t *packet, size_t packet_len);
 
-/* Whether a packet without numbers is known to hold a unit of a keyframe, or to be the first fragment of one; false
+/** Whether a packet without numbers is known to hold a unit of a keyframe, or to be the first fragment of one; false
  * for an unknown codec. */
 H26X_API bool h26x_detect_keyframe(uint32_t codec, const uint8_t *packet, size_t packet_len);
 
-/* Whether an H.264 packet is known to hold a unit of this type, or to be the first fragment of one. */
+/** Whether an H.264 packet is known to hold a unit of this type, or to be the first fragment of one. */
 H26X_API bool h26x_detect_h264_nalu(const uint8_t *packet, size_t packet_len, uint8_t type);
 
-/* Gives an aggregation packet of H.265 the header that RFC 7798, 4.4.2 asks for: the lowest LayerId and the lowest TID
+/** Gives an aggregation packet of H.265 the header that RFC 7798, 4.4.2 asks for: the lowest LayerId and the lowest TID
  * of the units in it, and F where one has it. `numbers`: whether packets bear decoding order numbers. Every other
  * packet stays, and those of H.264 and H.266 and of an unknown codec. */
 H26X_API void h26x_set_lowest_header(uint32_t codec, bool numbers, uint8_t *packet, size_t packet_len);
 
-/* Where the next unit of a payload stands, from `from` on: the bytes from *begin up to *end, which are written where
+/** Where the next unit of a payload stands, from `from` on: the bytes from *begin up to *end, which are written where
  * the answer is true. Begin with 0, and go on from *end. A payload without a start code is one unit, and an empty
  * unit is left out. False where no unit is left, or for an unknown codec. */
 H26X_API bool h26x_next_unit(uint32_t codec, const uint8_t *payload, size_t payload_len, size_t from, size_t *begin,
                              size_t *end) H26X_MUST_USE;
 
-/* Whether a unit, its header first, is plain: one of the video itself, in whose Annex B text no reader finds another.
+/** Whether a unit, its header first, is plain: one of the video itself, in whose Annex B text no reader finds another.
  * Its header is whole, with F 0 (of H.266 Z too) and a type that no packets use: H.264 1 to 23, H.265 0 to 47, H.266
  * 0 to 27; it holds neither 00 00 00 nor 00 00 01, and doesn't end in a zero (H.264, 7.4.1 and B.2; H.265 and H.266,
  * 7.4.2 and B.3). False for an unknown codec.
@@ -594,14 +608,14 @@ H26X_API bool h26x_next_unit(uint32_t codec, const uint8_t *payload, size_t payl
  * units in either form. Don't ask it of what h26x_next_unit cuts out of Annex B text, where the codes are gone. */
 H26X_API bool h26x_unit_is_plain(uint32_t codec, const uint8_t *unit, size_t unit_len);
 
-/* About how many bytes the units of packets of this many bytes take when they are written: these bytes, four more,
+/** About how many bytes the units of packets of this many bytes take when they are written: these bytes, four more,
  * and four for each whole 1200 of them. It is no bound, since each unit of a short packet or an aggregate has four
  * bytes before it: 50 units of 100 bytes take 5200, and the hint is 5020. */
 H26X_API size_t h26x_out_size_hint(size_t packets_size);
 
 /* ---- Profiles and levels, as SDP names them ---- */
 
-/* The profiles of H.264 (RFC 6184, 8.1). */
+/** The profiles of H.264 (RFC 6184, 8.1). */
 enum h26x_h264_profile {
     H26X_H264_BASELINE = 0,
     H26X_H264_CONSTRAINED_BASELINE = 1,
@@ -618,7 +632,7 @@ enum h26x_h264_profile {
     H26X_H264_CAVLC_444_INTRA = 12
 };
 
-/* The levels of H.264 by their places, so that `<` compares them. */
+/** The levels of H.264 by their places, so that `<` compares them. */
 enum h26x_h264_level {
     H26X_H264_LEVEL_1 = 0,
     H26X_H264_LEVEL_1B = 1,
@@ -639,11 +653,11 @@ enum h26x_h264_level {
     H26X_H264_LEVEL_5_2 = 16
 };
 
-/* Whether the three bytes of a `profile-level-id`, the lower ones of the number, name a profile and a level of H.264
+/** Whether the three bytes of a `profile-level-id`, the lower ones of the number, name a profile and a level of H.264
  * (RFC 6184, 8.1); *profile and *level are then the numbers above. Else both stay. 0x64001f is High at level 3.1. */
 H26X_API bool h26x_h264_profile_level(uint32_t profile_level_id, uint8_t *profile, uint8_t *level);
 
-/* `profile-id` of H.265 (RFC 7798, 7.1). */
+/** `profile-id` of H.265 (RFC 7798, 7.1). */
 enum h26x_h265_profile {
     H26X_H265_MAIN = 1,
     H26X_H265_MAIN_10 = 2,
@@ -658,7 +672,7 @@ enum h26x_h265_profile {
     H26X_H265_HIGH_THROUGHPUT_SCREEN_CONTENT_CODING = 11
 };
 
-/* `level-id` of H.265, so that `<` compares levels. */
+/** `level-id` of H.265, so that `<` compares levels. */
 enum h26x_h265_level {
     H26X_H265_LEVEL_1 = 30,
     H26X_H265_LEVEL_2 = 60,
@@ -675,11 +689,11 @@ enum h26x_h265_level {
     H26X_H265_LEVEL_6_2 = 186
 };
 
-/* Whether `profile-id`, `tier-flag` (0 Main, 1 High) and `level-id` of H.265 are all known (RFC 7798, 7.1). Where a
+/** Whether `profile-id`, `tier-flag` (0 Main, 1 High) and `level-id` of H.265 are all known (RFC 7798, 7.1). Where a
  * format says nothing they are H26X_H265_MAIN, 0 and H26X_H265_LEVEL_3_1. */
 H26X_API bool h26x_h265_is_known(uint8_t profile_id, uint8_t tier_flag, uint8_t level_id);
 
-/* `profile-id` of H.266 (RFC 9328, 7.2). */
+/** `profile-id` of H.266 (RFC 9328, 7.2). */
 enum h26x_h266_profile {
     H26X_H266_MAIN_10 = 1,
     H26X_H266_MULTILAYER_MAIN_10 = 17,
@@ -691,7 +705,7 @@ enum h26x_h266_profile {
     H26X_H266_MULTILAYER_MAIN_10_444_STILL_PICTURE = 113
 };
 
-/* `level-id` of H.266, so that `<` compares levels. */
+/** `level-id` of H.266, so that `<` compares levels. */
 enum h26x_h266_level {
     H26X_H266_LEVEL_1 = 16,
     H26X_H266_LEVEL_2 = 32,
@@ -710,37 +724,37 @@ enum h26x_h266_level {
     H26X_H266_LEVEL_15_5 = 255
 };
 
-/* Whether `profile-id`, `tier-flag` (0 Main, 1 High) and `level-id` of H.266 are all known (RFC 9328, 7.2). Where a
+/** Whether `profile-id`, `tier-flag` (0 Main, 1 High) and `level-id` of H.266 are all known (RFC 9328, 7.2). Where a
  * format says nothing they are H26X_H266_MAIN_10, 0 and H26X_H266_LEVEL_3_1. */
 H26X_API bool h26x_h266_is_known(uint8_t profile_id, uint8_t tier_flag, uint8_t level_id);
 
 /* ---- Format parameters of SDP ---- */
 
-/* What an a=fmtp line says behind the payload type (RFC 6184, 8.1; RFC 7798, 7.1; RFC 9328, 7.2). Names are those of the
+/** What an a=fmtp line says behind the payload type (RFC 6184, 8.1; RFC 7798, 7.1; RFC 9328, 7.2). Names are those of the
  * codec's RFC, as "profile-level-id", without regard to case. */
-typedef struct { void *at; } h26x_sdp;
+typedef struct { void *at; /**< NULL: no handle */ } h26x_sdp;
 
-/* The parameters of a text. White space round `;` and `=` and blank parts are left out, a `;` in braces ends nothing, and
+/** The parameters of a text. White space round `;` and `=` and blank parts are left out, a `;` in braces ends nothing, and
  * what the RFC doesn't have is kept. A text of one of the codes from 20 to 25 is refused, by its first fault;
  * H26X_UNKNOWN_CODEC, H26X_OUT_OF_MEMORY. *made is written where the answer is H26X_OK. */
 H26X_API uint32_t h26x_sdp_read(uint32_t codec, const uint8_t *text, size_t text_len, h26x_sdp *made,
                                 h26x_refusal *why) H26X_MUST_USE;
 
-/* What a sender says of its stream, of the bytes that it begins with (Annex B): profile, tier and level of the first SPS,
+/** What a sender says of its stream, of the bytes that it begins with (Annex B): profile, tier and level of the first SPS,
  * and the sets before the first slice. One of the codes from 33 to 35; H26X_UNKNOWN_CODEC, H26X_OUT_OF_MEMORY. */
 H26X_API uint32_t h26x_sdp_of_payload(uint32_t codec, const uint8_t *payload, size_t payload_len, h26x_sdp *made)
     H26X_MUST_USE;
 
-/* The answer to an offered format by one of ours, or H26X_SDP_NO_ANSWER, as of two codecs; H26X_OUT_OF_MEMORY,
+/** The answer to an offered format by one of ours, or H26X_SDP_NO_ANSWER, as of two codecs; H26X_OUT_OF_MEMORY,
  * H26X_WRONG_END. To answer an offer, go through its formats in their order and for each through ours in our order of
  * preference: the first that is made is the answer, with the payload type of the offered format (RFC 3264, 6.1). It is
  * for both directions, and for unicast (RFC 6184, 8.2.2; RFC 7798, 7.2.2; RFC 9328, 7.3.2). */
 H26X_API uint32_t h26x_sdp_answer(const h26x_sdp *offered, const h26x_sdp *ours, h26x_sdp *made) H26X_MUST_USE;
 
-/* Frees them. A handle of NULL is nothing to be freed. */
+/** Frees them. A handle of NULL is nothing to be freed. */
 H26X_API void h26x_sdp_free(h26x_sdp h);
 
-/* The same, and writes NULL into the handle, so that it may be closed again. A pointer of NULL is nothing to be freed
+/** The same, and writes NULL into the handle, so that it may be closed again. A pointer of NULL is nothing to be freed
  * either. */
 static inline void h26x_sdp_close(h26x_sdp *h)
 {
@@ -751,81 +765,85 @@ static inline void h26x_sdp_close(h26x_sdp *h)
     }
 }
 
-/* Their codec; 0 for a handle of another kind. */
+/** Their codec; 0 for a handle of another kind. */
 H26X_API uint32_t h26x_sdp_codec(const h26x_sdp *h);
 
-/* Their text, to the front of `to`: those of the RFC in its order, and the others behind. It is read as the same ones.
+/** Their text, to the front of `to`: those of the RFC in its order, and the others behind. It is read as the same ones.
  * *len is its length; where that is over `room` the answer is H26X_NO_ROOM, and `to` is left. H26X_OUT_OF_MEMORY and
  * H26X_WRONG_END leave *len too. */
 H26X_API uint32_t h26x_sdp_write(const h26x_sdp *h, uint8_t *to, size_t room, size_t *len) H26X_MUST_USE;
 
-/* The value of the parameter with a name, as it came, to the front of `to`. Where it is absent: with `or_default` what
+/** The value of the parameter with a name, as it came, to the front of `to`. Where it is absent: with `or_default` what
  * the RFC takes for it, if it says what; else H26X_SDP_ABSENT. H26X_SDP_UNKNOWN_NAME; H26X_NO_ROOM tells *len and leaves
  * `to`; H26X_WRONG_END. */
 H26X_API uint32_t h26x_sdp_value(const h26x_sdp *h, const uint8_t *name, size_t name_len, bool or_default, uint8_t *to,
                                  size_t room, size_t *len) H26X_MUST_USE;
 
-/* The same of its number. H26X_SDP_OTHER_KIND where the RFC has no number there. */
+/** The same of its number. H26X_SDP_OTHER_KIND where the RFC has no number there. */
 H26X_API uint32_t h26x_sdp_number(const h26x_sdp *h, const uint8_t *name, size_t name_len, bool or_default,
                                   uint64_t *value) H26X_MUST_USE;
 
-/* How many units the parameter with a name has, out of base64: sprop-parameter-sets, sprop-vps and so on.
+/** How many units the parameter with a name has, out of base64: sprop-parameter-sets, sprop-vps and so on.
  * H26X_SDP_UNKNOWN_NAME, H26X_SDP_OTHER_KIND, H26X_SDP_ABSENT, or one of the codes from 29 to 32 by the first fault, since
  * h26x_sdp_read refuses none of them; H26X_WRONG_END. All but H26X_OK leave *count. */
 H26X_API uint32_t h26x_sdp_units(const h26x_sdp *h, const uint8_t *name, size_t name_len, size_t *count,
                                  h26x_refusal *why) H26X_MUST_USE;
 
-/* Unit i of them to the front of `to`. The same answers; H26X_SDP_ABSENT past the last; H26X_NO_ROOM tells *len and leaves
+/** Unit i of them to the front of `to`. The same answers; H26X_SDP_ABSENT past the last; H26X_NO_ROOM tells *len and leaves
  * `to`. Give a peer's sets to the decoder before the first picture, each behind 00 00 00 01. All are read once, when the
  * parameters are made. */
 H26X_API uint32_t h26x_sdp_unit(const h26x_sdp *h, const uint8_t *name, size_t name_len, size_t i, uint8_t *to,
                                 size_t room, size_t *len, h26x_refusal *why) H26X_MUST_USE;
 
-/* Parameter i of those that the RFC doesn't have, in their order: its name and its value. H26X_NO_ROOM where either
+/** Parameter i of those that the RFC doesn't have, in their order: its name and its value. H26X_NO_ROOM where either
  * doesn't fit: *name_len and *value_len are told, and both buffers are left. H26X_SDP_ABSENT past the last;
  * H26X_WRONG_END. */
 H26X_API uint32_t h26x_sdp_other(const h26x_sdp *h, size_t i, uint8_t *name_to, size_t name_room, size_t *name_len,
                                  uint8_t *value_to, size_t value_room, size_t *value_len) H26X_MUST_USE;
 
-/* `sprop-max-don-diff` of H.265 and H.266, or 0 where it is absent: packets bear decoding order numbers where it is over
+/** `sprop-max-don-diff` of H.265 and H.266, or 0 where it is absent: packets bear decoding order numbers where it is over
  * 0, which is `numbers` of h26x_packetizer_new and so on. H26X_NOT_OF_THIS_CODEC for H.264; H26X_WRONG_END. */
 H26X_API uint32_t h26x_sdp_max_don_diff(const h26x_sdp *h, uint32_t *value) H26X_MUST_USE;
 
-/* What `interop-constraints` says (RFC 7798, 7.1; RFC 9328, 7.2). */
+/** What `interop-constraints` says (RFC 7798, 7.1; RFC 9328, 7.2). */
 typedef struct {
-    uint64_t flags;  /* H.265: the 48 flags behind the compatibility flags, the first the highest bit; H.266: 0 */
-    size_t len;      /* how many bytes they are: of H.265 6, of H.266 1, or from 11 to 43 */
-    bool frame_only; /* each picture is a frame: general_ or ptl_frame_only_constraint_flag */
-    bool multilayer; /* H.266: ptl_multilayer_enabled_flag: there may be several layers */
-    bool general;    /* H.266: gci_present_flag: general constraints are among them */
+    uint64_t flags;  /**< H.265: the 48 flags behind the compatibility flags, the first the highest bit; H.266: 0 */
+    size_t len;      /**< how many bytes they are: of H.265 6, of H.266 1, or from 11 to 43 */
+    bool frame_only; /**< each picture is a frame: general_ or ptl_frame_only_constraint_flag */
+    bool multilayer; /**< H.266: ptl_multilayer_enabled_flag: there may be several layers */
+    bool general;    /**< H.266: gci_present_flag: general constraints are among them */
 } h26x_constraints;
 
-/* What `interop-constraints` of H.265 or H.266 says, or where it is absent what the RFC takes for it, and its bytes, to
+/** What `interop-constraints` of H.265 or H.266 says, or where it is absent what the RFC takes for it, and its bytes, to
  * the front of `to`, as many as there is room for. One of the codes from 46 to 48, of H.266; H26X_OUT_OF_MEMORY;
  * H26X_NOT_OF_THIS_CODEC for H.264; H26X_WRONG_END. All but H26X_OK leave *said and `to`. */
 H26X_API uint32_t h26x_sdp_constraints(const h26x_sdp *h, uint8_t *to, size_t room, h26x_constraints *said)
     H26X_MUST_USE;
 
-/* How pictures are coded for parallel decoding. */
+/** How pictures are coded for parallel decoding. */
 enum h26x_parallel_tool {
-    H26X_NO_WAVEFRONTS = 0, /* `t`: by tiles or slices */
-    H26X_WAVEFRONTS = 1     /* `w` */
+    H26X_NO_WAVEFRONTS = 0, /**< `t`: by tiles or slices */
+    H26X_WAVEFRONTS = 1     /**< `w` */
 };
 
-/* What a decoder of H.265 can do where a stream is coded for parallel decoding, beyond what it can do with any (RFC
+/** What a decoder of H.265 can do where a stream is coded for parallel decoding, beyond what it can do with any (RFC
  * 7798, 7.1). Behind has_x, 1 or 0, is whether x is there; one that isn't is 0. */
 typedef struct {
-    uint64_t spatial_segmentation; /* the least min_spatial_segmentation_idc of the stream, from 1 to 4095 */
-    uint64_t tier_flag;            /* 0 Main, 1 High */
-    uint64_t level_id;             /* the highest level, as in `level-id` */
-    uint64_t max_lsr;              /* the most luma samples in a second */
-    uint64_t max_lps;              /* the most luma samples of a picture */
-    uint64_t max_br;               /* the most bits a second, in units of CpbBrVclFactor or CpbBrNalFactor */
-    uint8_t tool;                  /* H26X_WAVEFRONTS or H26X_NO_WAVEFRONTS, which the stream uses */
-    uint8_t has_tier_flag, has_level_id, has_max_lsr, has_max_lps, has_max_br;
+    uint64_t spatial_segmentation; /**< the least min_spatial_segmentation_idc of the stream, from 1 to 4095 */
+    uint64_t tier_flag;            /**< 0 Main, 1 High */
+    uint64_t level_id;             /**< the highest level, as in `level-id` */
+    uint64_t max_lsr;              /**< the most luma samples in a second */
+    uint64_t max_lps;              /**< the most luma samples of a picture */
+    uint64_t max_br;               /**< the most bits a second, in units of CpbBrVclFactor or CpbBrNalFactor */
+    uint8_t tool;                  /**< H26X_WAVEFRONTS or H26X_NO_WAVEFRONTS, which the stream uses */
+    uint8_t has_tier_flag;         /**< 1: the point says it, else 0 */
+    uint8_t has_level_id;          /**< so too, as those below */
+    uint8_t has_max_lsr;           /**< so too */
+    uint8_t has_max_lps;           /**< so too */
+    uint8_t has_max_br;            /**< so too */
 } h26x_capability_point;
 
-/* The capability points of `dec-parallel-cap` of H.265, to the front of `points`, as many as there is room for; *count
+/** The capability points of `dec-parallel-cap` of H.265, to the front of `points`, as many as there is room for; *count
  * is how many they all are. With `or_default` a limit that a point leaves out is what is said outside: `tier-flag`,
  * `max-recv-level-id`, or where that is absent `level-id`, `max-lsr`, `max-lps` and `max-br`. H26X_SDP_ABSENT; one of
  * the codes from 41 to 45 by the first fault, since h26x_sdp_read refuses none of them; H26X_OUT_OF_MEMORY;
@@ -833,18 +851,18 @@ typedef struct {
 H26X_API uint32_t h26x_sdp_capability_points(const h26x_sdp *h, bool or_default, h26x_capability_point *points,
                                              size_t points_room, size_t *count, h26x_refusal *why) H26X_MUST_USE;
 
-/* Whether a payload of H.264 can be sent where `packetization-mode` is 0, in packets of `limit` bytes: each of its units
+/** Whether a payload of H.264 can be sent where `packetization-mode` is 0, in packets of `limit` bytes: each of its units
  * fits a packet of its own (RFC 6184, 5.6 and 6.2). There, give an SPS and a PPS to h26x_packetize_unit, since
  * h26x_packetize puts both into one packet. */
 H26X_API bool h26x_fits_single_units(const uint8_t *payload, size_t payload_len, size_t limit);
 
-/* Reads what stands behind "a=rtpmap:", as "96 H264/90000" (RFC 8866, 6.6): H26X_SDP_PAYLOAD_TYPE,
+/** Reads what stands behind "a=rtpmap:", as "96 H264/90000" (RFC 8866, 6.6): H26X_SDP_PAYLOAD_TYPE,
  * H26X_SDP_ENCODING_NAME or H26X_SDP_CLOCK_RATE by the first that is wrong. All but H26X_OK leave *payload_type and
  * *codec. */
 H26X_API uint32_t h26x_rtpmap_read(const uint8_t *text, size_t text_len, uint8_t *payload_type, uint32_t *codec)
     H26X_MUST_USE;
 
-/* Writes it to the front of `to`. H26X_UNKNOWN_CODEC; H26X_SDP_PAYLOAD_TYPE where that is over 127; H26X_NO_ROOM tells
+/** Writes it to the front of `to`. H26X_UNKNOWN_CODEC; H26X_SDP_PAYLOAD_TYPE where that is over 127; H26X_NO_ROOM tells
  * *len and leaves `to`; H26X_OUT_OF_MEMORY. */
 H26X_API uint32_t h26x_rtpmap_write(uint8_t payload_type, uint32_t codec, uint8_t *to, size_t room, size_t *len)
     H26X_MUST_USE;
