@@ -25,7 +25,7 @@ func (c Codec) String() string {
 	return C.GoString(name)
 }
 
-// Version is the version of the library that is linked, as "0.1.0".
+// Version is the version of the library that is linked, as "0.3.0".
 func Version() string {
 	number := uint64(C.h26x_version())
 	part := func(shift uint) string { return strconv.FormatUint(number>>shift&255, 10) }

@@ -354,10 +354,10 @@ func TestOrderOfLevels(t *testing.T) {
 }
 
 func TestNamesAndWords(t *testing.T) {
-	if !regexp.MustCompile(`^(proved|source) 0\.1\.0 [a-z0-9_]+(-[a-z0-9_]+)+$`).MatchString(h26x.Origin()) {
+	if !regexp.MustCompile(`^(proved|source) 0\.3\.0 [a-z0-9_]+(-[a-z0-9_]+)+$`).MatchString(h26x.Origin()) {
 		t.Error(h26x.Origin())
 	}
-	if h26x.Version() != "0.1.0" {
+	if h26x.Version() != "0.3.0" {
 		t.Error(h26x.Version())
 	}
 	for codec, name := range map[h26x.Codec]string{

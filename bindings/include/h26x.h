@@ -42,11 +42,11 @@
 /** The first number of this header's version. */
 #define H26X_VERSION_MAJOR 0
 /** The second. */
-#define H26X_VERSION_MINOR 1
+#define H26X_VERSION_MINOR 3
 /** The third. */
 #define H26X_VERSION_PATCH 0
 /** All three in words. */
-#define H26X_VERSION "0.1.0"
+#define H26X_VERSION "0.3.0"
 /** All three in one number. */
 #define H26X_VERSION_NUMBER (H26X_VERSION_MAJOR << 16 | H26X_VERSION_MINOR << 8 | H26X_VERSION_PATCH)
 
@@ -76,7 +76,7 @@ extern "C" {
 H26X_API uint32_t h26x_version(void);
 
 /** Which library that is, in three words: "proved" (the archive built from the proofs) or "source" (what cargo makes of
- * the translated sources), the version, and the target it was built for, as "proved 0.1.0 x86_64-unknown-linux-gnu". */
+ * the translated sources), the version, and the target it was built for, as "proved 0.3.0 x86_64-unknown-linux-gnu". */
 H26X_API const char *h26x_origin(void);
 
 /** The codecs: H.264, H.265 and H.266. */

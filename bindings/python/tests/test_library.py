@@ -121,11 +121,11 @@ def test_structs_are_declared_as_in_the_header() -> None:
 
 
 def test_versions() -> None:
-    assert h26x.version() == "0.1.0" == h26x.__version__
+    assert h26x.version() == "0.3.0" == h26x.__version__
 
 
 def test_origin_is_told_in_three_words() -> None:
-    assert re.fullmatch(r"(proved|source) 0\.1\.0 [a-z0-9_]+(-[a-z0-9_]+)+", h26x.origin())
+    assert re.fullmatch(r"(proved|source) 0\.3\.0 [a-z0-9_]+(-[a-z0-9_]+)+", h26x.origin())
 
 
 def test_codecs_are_called_as_in_sdp() -> None:
@@ -141,7 +141,7 @@ def imports(library: str) -> "subprocess.CompletedProcess[str]":
 
 
 def test_the_library_is_found() -> None:
-    assert imports(_library.library._name).stdout == "0.1.0\n"
+    assert imports(_library.library._name).stdout == "0.3.0\n"
     for library in ("/nowhere/libh26x.so", "libc.so.6"):
         told = imports(library).stderr.splitlines()[-1]
         assert told.startswith("ImportError: libh26x.so is") and library in told

@@ -131,11 +131,11 @@ from .sdp import (
 from .shown import Kind, Part, ShownPacket, paci_packet
 
 #: The version of this package.
-__version__ = "0.1.0"
+__version__ = "0.3.0"
 
 
 def version() -> str:
-    """The version of the library that is loaded, as "0.1.0"."""
+    """The version of the library that is loaded, as "0.3.0"."""
     number: int = _loaded.h26x_version()
     return f"{number >> 16}.{number >> 8 & 255}.{number & 255}"
 

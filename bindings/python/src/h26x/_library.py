@@ -20,7 +20,7 @@ from ctypes import (
 from typing import Any, Dict, List, Tuple
 
 #: The library's versions that are known: this major number, and this minor number or a later one.
-MAJOR, MINOR = 0, 1
+MAJOR, MINOR = 0, 3
 
 
 class Handle(Structure):
