@@ -2,8 +2,7 @@
 //! for packets that are missing (NACK), and for a keyframe where a decoder couldn't go on (PLI). RTCP goes to
 //! where RTP comes from (RFC 5761), without reports (RFC 5506). It ends with the sender's BYE.
 
-use emupedestal::access_unit_receiver::{AccessUnitConfig, AccessUnitReceiver};
-use emupedestal::{Codec, RtpPacket};
+use emupedestal::{AccessUnitConfig, AccessUnitReceiver, Codec, RtpPacket};
 use std::net::{SocketAddr, UdpSocket};
 use std::time::{Duration, Instant};
 use std::{env, error::Error, fs::File, io::ErrorKind, io::Write};

@@ -2,8 +2,7 @@
 //! them pictures, each with what is known of it.
 //!
 //! ```
-//! use emupedestal::access_unit_receiver::{AccessUnitConfig, AccessUnitReceiver};
-//! use emupedestal::{Codec, RtpPacket};
+//! use emupedestal::{AccessUnitConfig, AccessUnitReceiver, Codec, RtpPacket};
 //!
 //! let config = AccessUnitConfig { window: 4, max_wait: 100, ..AccessUnitConfig::default() };
 //! let mut receiver = AccessUnitReceiver::new(Codec::H264, config);

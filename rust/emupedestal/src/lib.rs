@@ -143,7 +143,7 @@ mod take_all;
 #[cfg(all(test, feature = "std"))]
 mod tests;
 
-pub use access_unit_receiver::AccessUnitReceiver;
+pub use access_unit_receiver::{AccessUnitConfig, AccessUnitReceiver};
 pub use assembler::AccessUnitAssembler;
 pub use codec_depacketizer::CodecDepacketizer;
 pub use codec_packetizer::CodecPacketizer;
