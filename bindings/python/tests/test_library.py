@@ -162,8 +162,11 @@ class Newer:
         return call
 
 
-@pytest.mark.parametrize("number", [0x10000, 0x10100, 0x00FF])
+MINOR = _library.MINOR << 8
+
+
+@pytest.mark.parametrize("number", [0x10000, 0x10000 + MINOR, MINOR - 1])
 def test_other_versions_are_refused(number: int) -> None:
     with pytest.raises(ImportError, match="another version"):
         _library._declared(Newer(number))  # type: ignore[arg-type]
-    _library._declared(Newer(0x200))  # type: ignore[arg-type]
+    _library._declared(Newer(MINOR + 0x100))  # type: ignore[arg-type]
