@@ -28,6 +28,8 @@ pub enum Command {
     Receive(Receive),
     Inspect(Inspect),
     Help,
+    /// How one command is called.
+    HelpOf(&'static str),
     Version,
     Manual,
     Completion(Shell),
@@ -111,7 +113,7 @@ pub fn command(words: Vec<OsString>) -> Result<Command, Failure> {
         return Ok(Command::Version);
     }
     if rest.flag("--help") {
-        return Ok(Command::Help);
+        return Ok(Command::HelpOf(command));
     }
     match *command {
         "send" => rest.send().map(Command::Send),
@@ -297,19 +299,17 @@ impl Words {
         let looking = self.looking(input, codec, None)?;
         Ok(Inspect {
             looking,
-            form: self.form()?,
+            form: self.form(),
             color: self.color()?,
         })
     }
 
-    fn form(&mut self) -> Result<Form, Failure> {
+    fn form(&mut self) -> Form {
         match (self.flag("--summary"), self.flag("--json")) {
-            (false, false) => Ok(Form::Lines),
-            (true, false) => Ok(Form::Summary),
-            (false, true) => Ok(Form::Json),
-            (true, true) => Err(Failure::usage(
-                "--json and --summary are two forms; give one of them",
-            )),
+            (false, false) => Form::Lines,
+            (true, false) => Form::Summary,
+            (false, true) => Form::Json,
+            (true, true) => Form::JsonSummary,
         }
     }
 

@@ -31,16 +31,15 @@ impl Format {
         let path = input.path().to_owned();
         let front = input.peek(4)?.to_vec();
         match front[..] {
+            [..] if front.len() < 4 && input.is_broken() => {
+                let what = "the capture is compressed by gzip, and is damaged; copy it again";
+                Err(Failure::of(&path, what))
+            }
             [] => {
                 let what = "the capture is empty; capture again, and let it end by itself";
                 Err(Failure::of(&path, what))
             }
             [0x0a, 0x0d, 0x0d, 0x0a] => Ok(Format::Pcapng(Pcapng::default())),
-            [0x1f, 0x8b, ..] => {
-                let what = "the capture is compressed; unpack it with gunzip first, as in: \
-                    gunzip -c IN.pcap.gz | h26x inspect -";
-                Err(Failure::of(&path, what))
-            }
             _ => Ok(Format::Pcap(Pcap::open(input)?)),
         }
     }
@@ -132,6 +131,12 @@ impl Capture {
     /// Says at which record nothing more could be read, and what to do.
     pub fn fault(&self) -> Option<String> {
         let (path, record) = (shown(self.input.path()), self.input.record());
+        if self.input.is_broken() {
+            return Some(format!(
+                "{path}: the capture is compressed by gzip, and is cut off or damaged. What could \
+                 be unpacked was read; copy the file again"
+            ));
+        }
         self.fault.map(|fault| match fault {
             Fault::Cut => format!(
                 "{path}: the capture is cut off: its last record begins at byte {record} and is \

@@ -30,6 +30,18 @@ pub fn help() -> String {
     [FRONT, &groups.join("\n"), END].concat()
 }
 
+/// What `COMMAND --help` says: how it is called, and its options.
+pub fn help_of(command: &str) -> String {
+    let call = format!("    h26x {command} ");
+    let call: String = FRONT
+        .lines()
+        .filter(|line| line.starts_with(&call))
+        .collect();
+    let groups = GROUPS.iter().filter(|it| it.commands.contains(&command));
+    let options: String = groups.flat_map(|it| it.options).map(of_option).collect();
+    format!("{call}\n\n{options}{END}")
+}
+
 fn of_group(group: &Group) -> String {
     let title = match group.commands.len() == COMMANDS.len() {
         true => "all".into(),

@@ -1,9 +1,10 @@
 //! A file, or a pipe whose front can be read again, through one buffer.
 
 use crate::errors::Failure;
+use crate::packed::Bytes;
 use crate::words::STANDARD;
 use std::fs::File;
-use std::io::{self, ErrorKind, Read, Seek, SeekFrom};
+use std::io::{self, ErrorKind, Read, Seek};
 use std::os::fd::AsFd;
 use std::path::{Path, PathBuf};
 
@@ -14,7 +15,7 @@ pub const FRONT: usize = 8 << 20;
 
 pub struct Input {
     path: PathBuf,
-    file: File,
+    bytes: Bytes,
     /// Where in a file its first byte is; nothing of a pipe.
     base: Option<u64>,
     /// Whether what is taken of a pipe stays in the buffer.
@@ -28,6 +29,8 @@ pub struct Input {
     /// Where in the file the record begins that was begun last.
     record: u64,
     len: Option<u64>,
+    /// Whether what is packed can't be unpacked further.
+    is_broken: bool,
 }
 
 impl Input {
@@ -43,9 +46,14 @@ impl Input {
             true => Some(file.stream_position().map_err(failed)?),
             false => None,
         };
+        let bytes = Bytes::of(file).map_err(failed)?;
+        let len = base.map(|base| about.len().saturating_sub(base));
         Ok(Input {
             path: path.into(),
-            file,
+            // What is packed has as many bytes as nobody knows.
+            len: len.filter(|_| !bytes.is_packed()),
+            is_broken: false,
+            bytes,
             base,
             is_kept: base.is_none(),
             buffer: vec![0; 2 * PIECE],
@@ -53,7 +61,6 @@ impl Input {
             end: 0,
             position: 0,
             record: 0,
-            len: base.map(|base| about.len().saturating_sub(base)),
         })
     }
 
@@ -61,7 +68,7 @@ impl Input {
         &self.path
     }
 
-    /// How many bytes there are; nothing of a pipe, where nobody knows.
+    /// How many bytes there are; nothing of a pipe and of what is packed, where nobody knows.
     pub fn len(&self) -> Option<u64> {
         self.len
     }
@@ -70,15 +77,21 @@ impl Input {
     pub fn rewind(&mut self) -> Result<(), Failure> {
         match self.base {
             Some(base) => {
-                self.file
-                    .seek(SeekFrom::Start(base))
+                self.bytes
+                    .seek(base)
                     .map_err(|error| Failure::reading(&self.path, &error))?;
                 self.end = 0;
             }
             None => self.is_kept = false,
         }
         (self.begin, self.position, self.record) = (0, 0, 0);
+        self.is_broken &= self.base.is_none();
         Ok(())
+    }
+
+    /// Whether what was asked for last is missing since it can't be unpacked.
+    pub fn is_broken(&self) -> bool {
+        self.is_broken
     }
 
     pub fn is_pipe(&self) -> bool {
@@ -151,8 +164,8 @@ impl Input {
         let Some(to) = to else {
             return Ok(false);
         };
-        self.file
-            .seek(SeekFrom::Start(base + to))
+        self.bytes
+            .seek(base + to)
             .map_err(|error| Failure::reading(&self.path, &error))?;
         (self.begin, self.end, self.position) = (0, 0, to);
         Ok(true)
@@ -190,16 +203,26 @@ impl Input {
             }
         }
         loop {
-            match self.file.read(&mut self.buffer[self.end..]) {
+            match self.bytes.read(&mut self.buffer[self.end..]) {
                 Ok(read) => {
                     self.end += read;
                     return Ok(read > 0);
                 }
                 Err(error) if error.kind() == ErrorKind::Interrupted => {}
+                Err(error) if self.bytes.is_packed() && is_damage(&error) => {
+                    self.is_broken = true;
+                    return Ok(false);
+                }
                 Err(error) => return Err(Failure::reading(&self.path, &error)),
             }
         }
     }
+}
+
+/// Whether bytes can't be unpacked for what they are.
+fn is_damage(error: &io::Error) -> bool {
+    use ErrorKind::{InvalidData, InvalidInput, UnexpectedEof};
+    matches!(error.kind(), InvalidData | InvalidInput | UnexpectedEof)
 }
 
 /// Opens what is read; `-` is standard input, as it was given to the program.

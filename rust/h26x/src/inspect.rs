@@ -6,7 +6,7 @@ use crate::errors::{Failure, INCOMPLETE};
 use crate::packets::{Met, each_packet};
 use crate::receive::{check_codec, codec_of};
 use crate::reception::Reception;
-use crate::report::{Form, Report};
+use crate::report::Report;
 use crate::standard;
 use crate::streams::{Known, Streams, choose};
 use std::io::{self, IsTerminal};
@@ -63,7 +63,8 @@ fn inspect_stream(
         }
         Ok(ControlFlow::Continue(()))
     })?;
-    let tally = reception.finish(&mut |told| report.tell(&told).map_err(printed))?;
+    let mut tally = reception.finish(&mut |told| report.tell(&told).map_err(printed))?;
+    tally.guise = known.guise();
     report.end(&tally, &passed).map_err(printed)?;
     check_codec(looking, codec, known)?;
     let is_whole = tally.is_whole() && passed.is_whole();
@@ -72,6 +73,6 @@ fn inspect_stream(
 
 /// The name of the work, unless a bar would stand between the lines.
 fn what(asked: &Inspect) -> Option<&'static str> {
-    let has_bar = asked.form == Form::Summary || !io::stdout().is_terminal();
+    let has_bar = asked.form.is_summary() || !io::stdout().is_terminal();
     has_bar.then_some("inspecting")
 }

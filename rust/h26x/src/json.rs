@@ -4,6 +4,7 @@ use crate::codecs::word;
 use crate::packets::{Captured, Stream};
 use crate::payload::Description;
 use crate::report::seconds;
+use crate::statistics;
 use crate::tally::{Tally, is_keyframe};
 use crate::told::{Became, Fate};
 use emupedestal::Codec;
@@ -43,7 +44,7 @@ pub fn packet(
     let mut object = json!({
         "is": "packet",
         "sequence": rtp.sequence,
-        "seconds": seconds(begin, packet.time).parse::<f64>().unwrap_or(0.0),
+        "seconds": number_of(&seconds(begin, packet.time)),
         "timestamp": rtp.timestamp,
         "marker": rtp.marker,
         "bytes": rtp.payload.len(),
@@ -63,6 +64,10 @@ pub fn packet(
         _ => {}
     }
     print(to, &object)
+}
+
+fn number_of(seconds: &str) -> f64 {
+    seconds.parse().unwrap_or(0.0)
 }
 
 /// A unit of a packet, or the one that it is a fragment of.
@@ -90,11 +95,17 @@ fn outcome(became: &Became) -> &'static str {
 }
 
 /// An access unit, and what the receiver tells of it.
-pub fn unit(to: &mut impl Write, unit: &ReceivedAccessUnit) -> io::Result<()> {
+pub fn unit(
+    to: &mut impl Write,
+    begin: u64,
+    unit: &ReceivedAccessUnit,
+    time: u64,
+) -> io::Result<()> {
     print(
         to,
         &json!({
             "is": "access unit",
+            "seconds": number_of(&seconds(begin, time)),
             "timestamp": unit.timestamp,
             "bytes": unit.bytes.len(),
             "keyframe": is_keyframe(unit.extra),
@@ -123,9 +134,7 @@ pub fn two_senders(to: &mut impl Write, told: &str) -> io::Result<()> {
 
 /// The totals, and what is lost, refused or otherwise odd, a sentence each.
 pub fn end(to: &mut impl Write, tally: &Tally, told: &[String]) -> io::Result<()> {
-    print(
-        to,
-        &json!({
+    let mut totals = json!({
             "is": "totals",
             "packets": tally.packets,
             "bytes": tally.bytes,
@@ -145,6 +154,10 @@ pub fn end(to: &mut impl Write, tally: &Tally, told: &[String]) -> io::Result<()
             "units_given_up": tally.given_up,
             "units_too_long": tally.too_long,
             "told": told,
-        }),
-    )
+    });
+    if let (Value::Object(totals), Value::Object(rates)) = (&mut totals, statistics::object(tally))
+    {
+        totals.extend(rates);
+    }
+    print(to, &totals)
 }

@@ -13,10 +13,12 @@ mod completion;
 mod connections;
 mod containers;
 mod description;
+mod diagnoses;
 mod errors;
 mod formats;
 mod fragments;
 mod frames;
+mod guises;
 mod headers;
 mod help;
 mod input;
@@ -33,6 +35,7 @@ mod numbers;
 mod options;
 mod order;
 mod output;
+mod packed;
 mod packets;
 mod parts;
 mod payload;
@@ -41,6 +44,7 @@ mod pcapng;
 mod pending;
 mod printing;
 mod progress;
+mod rates;
 mod receive;
 mod reception;
 mod recording;
@@ -54,7 +58,9 @@ mod segments;
 mod send;
 mod session;
 mod sets;
+mod spread;
 mod standard;
+mod statistics;
 mod streams;
 mod tally;
 mod told;
@@ -87,6 +93,7 @@ fn done(words: Vec<OsString>) -> Result<u8, Failure> {
         Command::Receive(asked) => receive::receive(&asked),
         Command::Inspect(asked) => inspect::inspect(&asked),
         Command::Help => printing::print(&help::help()).map(|()| 0),
+        Command::HelpOf(command) => printing::print(&help::help_of(command)).map(|()| 0),
         Command::Version => printing::print(VERSION).map(|()| 0),
         Command::Manual => printing::print(&manual::manual()).map(|()| 0),
         Command::Completion(shell) => printing::print(&completion::completion(shell)).map(|()| 0),

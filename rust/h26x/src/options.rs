@@ -143,7 +143,10 @@ pub static GROUPS: [Group; 5] = [
     Group {
         commands: &["inspect"],
         options: &[
-            flag("--summary", "no line for each packet"),
+            flag(
+                "--summary",
+                "no line for each packet; with --json the stream and the totals alone",
+            ),
             flag("--json", "an object of JSON in each line"),
             one_of(
                 "--color",

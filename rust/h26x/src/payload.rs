@@ -75,6 +75,15 @@ pub fn describe(codec: Codec, has_donl: bool, packet: &[u8]) -> Description {
     }
 }
 
+/// Gives the type of each unit that a packet holds or begins.
+pub fn each_type(codec: Codec, has_donl: bool, packet: &[u8], mut found: impl FnMut(u8)) {
+    match fragment(codec, packet) {
+        Some(it) if it.is_first => found(it.unit_type),
+        Some(_) => {}
+        None => each_unit(codec, has_donl, packet, |unit_type, _| found(unit_type)),
+    }
+}
+
 /// The type and the length of each whole unit in a packet that is no fragment.
 fn each_unit(codec: Codec, has_donl: bool, packet: &[u8], mut found: impl FnMut(u8, usize)) {
     let packet_type = unit_type(codec, packet);

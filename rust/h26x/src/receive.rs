@@ -82,9 +82,13 @@ fn finish(asked: &Receive, recordings: Vec<Recording>, passed: &PassedOver) -> R
 pub fn codec_of(looking: &Looking, known: &Known) -> Result<Codec, Failure> {
     let asked = looking.choice.codec;
     asked.or_else(|| known.likeness.likeliest()).ok_or_else(|| {
+        let guess = match known.guise() {
+            Some(guise) => format!("they look as {guise}"),
+            None => "is it audio, or encrypted?".into(),
+        };
         let what = format!(
-            "most packets of {} look as those of no codec here (is it audio, or encrypted?); \
-             choose another stream (--port, --payload-type, --ssrc), or say which codec by --codec",
+            "most packets of {} look as those of no codec here ({guess}); choose another stream \
+             (--port, --payload-type, --ssrc), or say which codec by --codec",
             known.stream
         );
         Failure::of(&looking.input, what)

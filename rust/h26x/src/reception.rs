@@ -70,6 +70,9 @@ pub struct Reception {
     clock: Option<(u64, u64)>,
     /// How many bytes came of the access unit that is open.
     unit_len: usize,
+    /// When the latest packet of it was captured, or where it has none that of the one before.
+    unit_time: Option<u64>,
+    last_time: u64,
     runs: Runs,
     numbers: Numbers,
     tally: Tally,
@@ -102,14 +105,23 @@ impl Reception {
             late: (0, 0),
             clock: None,
             unit_len: 0,
+            unit_time: None,
+            last_time: 0,
             runs: Runs::new(codec, has_donl, run_limit),
             numbers: Numbers::new(codec, has_donl),
-            tally: Tally::default(),
+            tally: Tally::new(!looking.sets.is_empty()),
         }
     }
 
     /// Takes a packet that is numbered with those of the stream.
     pub fn take(&mut self, packet: &Captured<'_>, tell: &mut Tell<'_>) -> Outcome {
+        if self.kind(packet) != Kind::Other && !self.is_far(packet.rtp.sequence) {
+            self.tally.rates.come(packet);
+        }
+        self.sort_in(packet, tell)
+    }
+
+    fn sort_in(&mut self, packet: &Captured<'_>, tell: &mut Tell<'_>) -> Outcome {
         let sequence = packet.rtp.sequence;
         if self.is_far(sequence) {
             return self.take_far(packet, tell);
@@ -268,6 +280,8 @@ impl Reception {
                 None => self.taken(packet),
             },
         };
+        self.last_time = self.unit_time.unwrap_or(0).max(packet.time);
+        self.unit_time = Some(self.last_time);
         self.tally.packet(packet);
         self.tally.moved += u64::from(is_moved);
         let lost = std::mem::take(&mut self.lost);
@@ -313,6 +327,8 @@ impl Reception {
     fn taken(&mut self, packet: &Captured<'_>) -> Became {
         self.unit_len += packet.rtp.payload.len();
         self.numbers.take(packet.rtp.payload);
+        let diagnoses = &mut self.tally.diagnoses;
+        diagnoses.take(self.codec, self.has_donl, packet);
         match self.runs.take(&packet.rtp) {
             Left::TooLong => Became::TooLong,
             left => Became::Taken {
@@ -325,7 +341,8 @@ impl Reception {
         self.unit_len = 0;
         self.numbers.end_access_unit();
         self.tally.unit(&unit);
-        tell(Told::Unit(&unit))?;
+        self.unit_time = None;
+        tell(Told::Unit(&unit, self.last_time))?;
         self.receiver.give_back(unit);
         Ok(())
     }
@@ -341,7 +358,7 @@ impl Reception {
         self.late = (in_row, sequence.wrapping_add(1));
         if in_row == MOST_LATE {
             self.begin_anew(tell)?;
-            return self.take(packet, tell);
+            return self.sort_in(packet, tell);
         }
         if self.kind(packet) == Kind::Other {
             return Ok(());
@@ -366,8 +383,8 @@ impl Reception {
         let is_next = |it: &mut Kept| it.sequence().wrapping_add(1) == packet.rtp.sequence;
         if let Some(stray) = self.stray.take_if(is_next) {
             self.begin_anew(tell)?;
-            self.take(&stray.packet(), tell)?;
-            return self.take(packet, tell);
+            self.sort_in(&stray.packet(), tell)?;
+            return self.sort_in(packet, tell);
         }
         self.give_stray(tell)?;
         self.stray = Some(Kept::new(packet));
@@ -389,6 +406,7 @@ impl Reception {
         self.due = None;
         self.has_passed = false;
         self.late.0 = 0;
+        self.tally.rates.begin_anew();
         self.tally.anew += 1;
         tell(Told::Anew)
     }

@@ -3,6 +3,7 @@
 use crate::arguments::{Looking, Receive};
 use crate::codecs::{name, word};
 use crate::errors::{Failure, INCOMPLETE};
+use crate::guises::Guise;
 use crate::output::Output;
 use crate::packets::{Captured, Stream};
 use crate::printing::{say, shown};
@@ -22,6 +23,7 @@ pub struct Recording {
     sets: Sets,
     output: Output,
     path: PathBuf,
+    guise: Option<Guise>,
     /// Whether the name of its file isn't the user's.
     is_of_many: bool,
 }
@@ -41,6 +43,7 @@ impl Recording {
             sets: Sets::new(codec, &asked.looking.sets, asked.has_lengths),
             output: Output::create(&path, input)?,
             path,
+            guise: known.guise(),
             is_of_many: choice.is_all,
         })
     }
@@ -85,10 +88,12 @@ impl Recording {
             mut sets,
             mut output,
             path,
+            guise,
             is_of_many,
             ..
         } = self;
-        let tally = reception.finish(&mut |told| write(told, &mut sets, &mut output))?;
+        let mut tally = reception.finish(&mut |told| write(told, &mut sets, &mut output))?;
+        tally.guise = guise;
         sets.put_into(&mut output.gathered);
         check_taken(&asked.looking, codec, &tally)?;
         let written = output.finish()?;
@@ -128,7 +133,7 @@ fn file_name(stream: &Stream, codec: Codec) -> String {
 
 /// Writes the units of an access unit.
 fn write(told: Told<'_>, sets: &mut Sets, output: &mut Output) -> Result<(), Failure> {
-    let Told::Unit(unit) = told else {
+    let Told::Unit(unit, _) = told else {
         return Ok(());
     };
     output.gathered.extend_from_slice(&unit.bytes);

@@ -7,6 +7,7 @@ use crate::json;
 use crate::packets::{Captured, Stream};
 use crate::payload::{Description, describe};
 use crate::seen::PassedOver;
+use crate::statistics;
 use crate::streams::counted;
 use crate::tally::{Tally, is_keyframe};
 use crate::told::{Became, Fate, Told};
@@ -23,6 +24,14 @@ pub enum Form {
     Summary,
     /// An object of JSON in each line.
     Json,
+    /// The objects of JSON of the stream and of its totals alone.
+    JsonSummary,
+}
+
+impl Form {
+    pub fn is_summary(self) -> bool {
+        matches!(self, Form::Summary | Form::JsonSummary)
+    }
 }
 
 pub struct Report {
@@ -49,7 +58,7 @@ impl Report {
 
     /// Says which stream it is, and which others there are, in words.
     pub fn front(&mut self, stream: &Stream, others: &str) -> io::Result<()> {
-        if self.form == Form::Json {
+        if matches!(self.form, Form::Json | Form::JsonSummary) {
             return json::stream(&mut self.to, stream, self.codec);
         }
         writeln!(self.to, "stream: {stream} as {}", name(self.codec))?;
@@ -66,20 +75,20 @@ impl Report {
     pub fn two_senders(&mut self, told: &str) -> io::Result<()> {
         match self.form {
             Form::Summary => Ok(()),
-            Form::Json => json::two_senders(&mut self.to, told),
+            Form::Json | Form::JsonSummary => json::two_senders(&mut self.to, told),
             Form::Lines => self.note(told),
         }
     }
 
     pub fn tell(&mut self, told: &Told<'_>) -> io::Result<()> {
         match self.form {
-            Form::Summary => return Ok(()),
+            Form::Summary | Form::JsonSummary => return Ok(()),
             Form::Json => return self.tell_json(told),
             Form::Lines => {}
         }
         match told {
             Told::Packet(packet, fate) => self.packet(packet, fate),
-            Told::Unit(unit) => writeln!(self.to, "      = {}", about_unit(unit)),
+            Told::Unit(unit, _) => writeln!(self.to, "      = {}", about_unit(unit)),
             Told::Twice(sequence) => self.note(&format!("{sequence} came twice")),
             Told::Stray(sequence) => self.note(&format!("{sequence} is far from all others")),
             Told::Anew => self.note("the sender begins anew with another number"),
@@ -93,7 +102,9 @@ impl Report {
                 let about = describe(self.codec, self.has_donl, packet.rtp.payload);
                 json::packet(&mut self.to, begin, packet, &about, fate)
             }
-            Told::Unit(unit) => json::unit(&mut self.to, unit),
+            Told::Unit(unit, time) => {
+                json::unit(&mut self.to, self.begin.unwrap_or(*time), unit, *time)
+            }
             Told::Twice(sequence) => json::number(&mut self.to, "twice", *sequence),
             Told::Stray(sequence) => json::number(&mut self.to, "stray", *sequence),
             Told::Anew => json::anew(&mut self.to),
@@ -149,9 +160,10 @@ impl Report {
         let mut end = tally.oddities();
         end.extend(passed.told());
         match self.form {
-            Form::Json => json::end(&mut self.to, tally, &end)?,
+            Form::Json | Form::JsonSummary => json::end(&mut self.to, tally, &end)?,
             _ => {
                 end.extend(tally.known());
+                end.extend(statistics::sentences(tally));
                 end.push(tally.totals());
                 writeln!(self.to, "{}", end.join("\n"))?;
             }

@@ -3,6 +3,7 @@
 use crate::capture::Capture;
 use crate::codecs::Likeness;
 use crate::errors::Failure;
+use crate::guises::{Guise, Looks};
 use crate::input::FRONT;
 use crate::packets::{Met, Source, Stream, each_packet};
 use crate::rtp::Rtp;
@@ -50,7 +51,8 @@ impl Choice {
             Some(codec) => known.likeness.is_likely(codec),
             None => known.likeness.likeliest().is_some(),
         };
-        is_codec && self.takes(&known.stream)
+        let is_retransmission = || matches!(known.guise(), Some(Guise::Retransmission(_)));
+        is_codec && self.takes(&known.stream) && !(self.is_any() && is_retransmission())
     }
 
     fn is_any(&self) -> bool {
@@ -86,6 +88,7 @@ pub struct Known {
     source: Option<usize>,
     pub packets: u64,
     pub likeness: Likeness,
+    looks: Looks,
     /// How many packets follow the one before them, by their numbers.
     following: u64,
     sequence: u16,
@@ -102,6 +105,11 @@ pub struct Known {
 }
 
 impl Known {
+    /// What it is, where its payloads aren't those of a codec as they are.
+    pub fn guise(&self) -> Option<Guise> {
+        self.looks.guise(&self.likeness)
+    }
+
     /// What is to be said where two senders have its SSRC (RFC 3550, 8.2).
     pub fn two_senders(&self) -> Option<String> {
         let ((one, one_port), (other, other_port)) = (self.from_before, self.from);
@@ -224,6 +232,7 @@ impl MetStreams {
         it.packets += 1;
         if !packet.is_padding() {
             it.likeness.add(packet.payload);
+            it.looks.add(packet.payload);
         }
         if let Some((_, before)) = last.filter(|last| last.0 != packet.payload_type) {
             it.switches.0 += 1;
@@ -257,6 +266,7 @@ impl MetStreams {
             source,
             packets: 0,
             likeness: Likeness::default(),
+            looks: Looks::default(),
             following: 0,
             sequence: packet.sequence.wrapping_sub(1),
             switches: (0, 0),
@@ -354,9 +364,11 @@ fn none(capture: &Capture, choice: &Choice, known: &[Known], passed: &PassedOver
 
 /// Streams in words; nothing of none.
 fn named<'a>(known: impl IntoIterator<Item = &'a Known>) -> String {
-    let said = known
-        .into_iter()
-        .map(|it| format!("{} ({})", it.stream, counted(it.packets, "packet")));
+    let said = known.into_iter().map(|it| {
+        let guise = it.guise().map(|guise| format!(", which look as {guise}"));
+        let packets = counted(it.packets, "packet");
+        format!("{} ({packets}{})", it.stream, guise.unwrap_or_default())
+    });
     let mut said: Vec<String> = said.collect();
     if said.len() > NAMED {
         let more = said.len() - NAMED;

@@ -1,6 +1,9 @@
 //! What is counted of a stream, and how it is said.
 
+use crate::diagnoses::Diagnoses;
+use crate::guises::Guise;
 use crate::packets::Captured;
+use crate::rates::Rates;
 use crate::streams::counted;
 use emupedestal::CodecExtra;
 use emupedestal::access_unit_receiver::ReceivedAccessUnit;
@@ -32,6 +35,11 @@ pub struct Tally {
     /// Access units that are known to be whole, and those behind a whole keyframe with nothing missing.
     pub whole: u64,
     pub clean: u64,
+    pub rates: Rates,
+    pub diagnoses: Diagnoses,
+    /// What the stream is, where its payloads aren't those of a codec as they are.
+    pub guise: Option<Guise>,
+    has_sets: bool,
     missing: u64,
     gaps: u64,
     /// The first gaps: how many packets before which number.
@@ -42,6 +50,14 @@ pub struct Tally {
 }
 
 impl Tally {
+    /// `has_sets` tells that a session description has the parameter sets.
+    pub fn new(has_sets: bool) -> Self {
+        Tally {
+            has_sets,
+            ..Tally::default()
+        }
+    }
+
     /// Counts a packet that is of the stream.
     pub fn packet(&mut self, packet: &Captured<'_>) {
         self.packets += 1;
@@ -51,6 +67,7 @@ impl Tally {
     /// Counts an access unit.
     pub fn unit(&mut self, unit: &ReceivedAccessUnit) {
         self.access_units += 1;
+        self.rates.unit(unit, is_keyframe(unit.extra));
         self.keyframes += u64::from(is_keyframe(unit.extra));
         self.whole += u64::from(unit.is_whole);
         self.clean += u64::from(unit.is_clean);
@@ -82,6 +99,12 @@ impl Tally {
         self.missing
     }
 
+    /// How many of a hundred packets that were sent never came.
+    pub fn loss_percent(&self) -> f64 {
+        let sent = (self.packets - self.late.min(self.packets)) + self.missing;
+        100.0 * self.missing as f64 / sent.max(1) as f64
+    }
+
     /// Whether all packets came and were taken. Where more than half come twice or too late, some of
     /// them came too late.
     pub fn is_whole(&self) -> bool {
@@ -111,11 +134,16 @@ impl Tally {
             format!("refused: {refused}, the first is {first}: {reason}")
         });
         let advice = self.advice.map(String::from);
+        let guise = self
+            .guise
+            .map(|it| format!("odd: its payloads look as {it}, which are not unpacked"));
         advice
             .into_iter()
             .chain(self.losses())
             .chain(counts)
             .chain(refusals)
+            .chain(guise)
+            .chain(self.diagnoses.told(self.has_sets))
             .collect()
     }
 
@@ -167,7 +195,7 @@ impl Tally {
                 "clean: nothing is missing since a whole keyframe",
             ),
         ];
-        let counts = counts.into_iter().filter(|it| it.0 > 0);
+        let counts = counts.into_iter();
         counts
             .map(|(count, what)| format!("{}: {what}", counted(count, "access unit")))
             .collect()

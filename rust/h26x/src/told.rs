@@ -12,8 +12,8 @@ pub type Tell<'a> = dyn FnMut(Told<'_>) -> Outcome + 'a;
 pub enum Told<'a> {
     /// A packet, once it was its turn.
     Packet(&'a Captured<'a>, Fate),
-    /// An access unit, behind its last packet.
-    Unit(&'a ReceivedAccessUnit),
+    /// An access unit, behind its last packet, and when the latest of its packets was captured.
+    Unit(&'a ReceivedAccessUnit, u64),
     /// A packet that came twice while another was waited for.
     Twice(u16),
     /// A packet whose number is far from all others.

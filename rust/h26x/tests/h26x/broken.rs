@@ -25,8 +25,8 @@ fn no_captures() {
     fails(&[7; 100], &["this is no capture"]);
     fails(&[0, 0, 0, 1, 0x67].repeat(9), &["this is no capture"]);
     fails(
-        &[&[0x1f, 0x8b, 8, 0][..], &[3; 40]].concat(),
-        &["compressed", "gunzip"],
+        &[0x1f, 0x8b, 8, 0, 3, 3, 3],
+        &["compressed by gzip, and is damaged"],
     );
 }
 
@@ -403,10 +403,6 @@ fn words_that_are_unknown() {
         (
             &["--codec=h264", "inspect", "a.pcap"],
             "--codec stands behind the command: send, receive or inspect",
-        ),
-        (
-            &["inspect", "a.pcap", "--json", "--summary"],
-            "give one of them",
         ),
         (
             &["inspect", "a.pcap", "--color", "red"],

@@ -3,13 +3,24 @@
 use crate::build::{Rtp, pcap_with};
 use crate::program::Folder;
 
-/// Inspects packets, and compares the lines.
+/// What the lines of rates begin with; `rates.rs` has what they say.
+const RATES: [&str; 4] = [
+    "duration: ",
+    "loss: ",
+    "access unit size: ",
+    "keyframe interval: ",
+];
+
+/// Inspects packets, and compares the lines but for those of rates.
 #[track_caller]
 fn says(packets: &[Rtp], options: &[&str], status: i32, wanted: &[&str]) {
     let folder = Folder::new();
     folder.write("in.pcap", &pcap_with(packets));
     let ran = folder.run(&[&["inspect", "in.pcap"], options].concat());
-    let said: Vec<&str> = ran.out.lines().skip(2).collect();
+    let is_of_rates = |line: &&str| RATES.iter().any(|it| line.starts_with(it));
+    let lines = || ran.out.lines().skip(2);
+    assert_eq!(lines().filter(is_of_rates).count(), RATES.len());
+    let said: Vec<&str> = lines().filter(|it| !is_of_rates(it)).collect();
     assert_eq!(said, wanted, "{ran:#?}");
     assert_eq!((ran.status, ran.err.as_str()), (status, ""));
 }
@@ -51,6 +62,7 @@ fn packets_of_h264() {
             "      = access unit of 13, 0 bytes: not known to be whole",
             "1 unit: left out, for want of a packet",
             "1 access unit: known to be whole",
+            "0 access units: clean: nothing is missing since a whole keyframe",
             "7 packets of 33 bytes, 3 access units, 1 keyframe",
         ],
     );
@@ -106,6 +118,8 @@ fn packets_of_h265_with_numbers() {
             "    9     0.002000           0 M     6  single      TRAIL_R 4",
             "      = access unit of 7 to 9, 22 bytes: not known to be whole",
             "1 unit: left out, for want of a packet",
+            "0 access units: known to be whole",
+            "0 access units: clean: nothing is missing since a whole keyframe",
             "3 packets of 27 bytes, 1 access unit, 0 keyframes",
         ],
     );
@@ -189,6 +203,7 @@ fn what_is_lost_refused_and_late() {
             "1 packet: put before those that came earlier",
             "refused: 1 packet, the first is 10: type 30 is undefined or reserved; a payload needs type 1 to 23, 24 (STAP-A) or 28 (FU-A) (RFC 6184, 5.2)",
             "2 access units: known to be whole",
+            "0 access units: clean: nothing is missing since a whole keyframe",
             "6 packets of 17 bytes, 4 access units, 0 keyframes",
         ],
     );

@@ -18,6 +18,7 @@ mod padding;
 mod peers;
 mod pipes;
 mod program;
+mod rates;
 mod received;
 mod rtsp;
 mod sdp;

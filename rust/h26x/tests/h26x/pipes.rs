@@ -163,7 +163,7 @@ fn what_a_pipe_cannot() {
         .says(1, &["-: the capture is empty"]);
     folder
         .shell("printf '\\037\\213\\010\\000' | \"$0\" inspect -")
-        .says(1, &["-: the capture is compressed"]);
+        .says(1, &["-: the capture is compressed by gzip, and is damaged"]);
     folder
         .shell("\"$0\" send - out.pcap <in.pcap")
         .says(2, &["-: its ending tells no codec"]);
