@@ -76,6 +76,8 @@ pub struct Receive {
 
 pub struct Inspect {
     pub looking: Looking,
+    /// Where a page of pictures is written.
+    pub html: Option<PathBuf>,
     pub form: Form,
     pub color: Color,
 }
@@ -297,9 +299,20 @@ impl Words {
         let [input] = self.files("inspect IN.pcap")?;
         let codec = self.codec()?;
         let looking = self.looking(input, codec, None)?;
+        let html = self.value("--html").map(PathBuf::from);
+        if html.as_deref().is_some_and(|it| it == Path::new(STANDARD)) {
+            return Err(Failure::usage(
+                "--html -: standard output has the summary; name a file",
+            ));
+        }
+        let form = match self.form() {
+            Form::Lines if html.is_some() => Form::Summary,
+            form => form,
+        };
         Ok(Inspect {
             looking,
-            form: self.form(),
+            html,
+            form,
             color: self.color()?,
         })
     }

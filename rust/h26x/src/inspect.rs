@@ -3,6 +3,7 @@
 use crate::arguments::Inspect;
 use crate::capture::Capture;
 use crate::errors::{Failure, INCOMPLETE};
+use crate::html::Page;
 use crate::packets::{Met, each_packet};
 use crate::receive::{check_codec, codec_of};
 use crate::reception::Reception;
@@ -23,13 +24,25 @@ pub fn inspect(asked: &Inspect) -> Result<u8, Failure> {
         return Err(Failure::of(&looking.input, what));
     }
     let streams = choose(&mut capture, &looking.choice)?;
+    let page = asked.html.as_ref();
+    let mut page = page
+        .map(|it| Page::create(it, &looking.input))
+        .transpose()?;
     let mut status = 0;
     for (at, known) in streams.chosen().enumerate() {
         if at > 0 {
             capture.rewind()?;
         }
-        status = status.max(inspect_stream(asked, &mut capture, &streams, at, known)?);
+        let page = page.as_mut();
+        status = status.max(inspect_stream(
+            asked,
+            &mut capture,
+            &streams,
+            (at, known),
+            page,
+        )?);
     }
+    page.map_or(Ok(()), Page::finish)?;
     Ok(status)
 }
 
@@ -38,8 +51,8 @@ fn inspect_stream(
     asked: &Inspect,
     capture: &mut Capture,
     streams: &Streams,
-    place: usize,
-    known: &Known,
+    (place, known): (usize, &Known),
+    page: Option<&mut Page>,
 ) -> Result<u8, Failure> {
     let looking = &asked.looking;
     let codec = codec_of(looking, known)?;
@@ -56,6 +69,9 @@ fn inspect_stream(
         match met {
             Met::Packet(stream, _, packet) => {
                 if takers.of(stream).contains(&place) {
+                    if *stream == known.stream {
+                        report.come(packet);
+                    }
                     reception.take(packet, &mut |told| report.tell(&told).map_err(printed))?;
                 }
             }
@@ -65,6 +81,9 @@ fn inspect_stream(
     })?;
     let mut tally = reception.finish(&mut |told| report.tell(&told).map_err(printed))?;
     tally.guise = known.guise();
+    if let Some(page) = page {
+        report.draw(page, &known.stream, &tally, &passed);
+    }
     report.end(&tally, &passed).map_err(printed)?;
     check_codec(looking, codec, known)?;
     let is_whole = tally.is_whole() && passed.is_whole();

@@ -134,6 +134,10 @@ pub fn two_senders(to: &mut impl Write, told: &str) -> io::Result<()> {
 
 /// The totals, and what is lost, refused or otherwise odd, a sentence each.
 pub fn end(to: &mut impl Write, tally: &Tally, told: &[String]) -> io::Result<()> {
+    print(to, &totals(tally, told))
+}
+
+pub fn totals(tally: &Tally, told: &[String]) -> Value {
     let mut totals = json!({
             "is": "totals",
             "packets": tally.packets,
@@ -159,5 +163,5 @@ pub fn end(to: &mut impl Write, tally: &Tally, told: &[String]) -> io::Result<()
     {
         totals.extend(rates);
     }
-    print(to, &totals)
+    totals
 }

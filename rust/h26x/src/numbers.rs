@@ -1,7 +1,7 @@
 //! Whether packets bear decoding order numbers, told by what stands where they would (RFC 7798, 4.4; RFC
 //! 9328, 4.3). Nothing in a packet says it.
 
-use crate::payload::fragment;
+use crate::payload::{fragment, is_numbered_aggregate as is_aggregate};
 use emupedestal::Codec;
 use emupedestal::access_units::{is_slice_type, unit_type};
 
@@ -92,13 +92,6 @@ impl Numbers {
         (are_aggregates_refused || is_wrong)
             .then_some("its packets look as if they bore decoding order numbers: try --donl")
     }
-}
-
-fn is_aggregate(codec: Codec, packet: &[u8]) -> bool {
-    matches!(
-        (codec, unit_type(codec, packet)),
-        (Codec::H265, Some(48)) | (Codec::H266, Some(28))
-    )
 }
 
 /// What a packet has where its number would be, and the type of its unit; nothing of later fragments

@@ -147,6 +147,12 @@ pub static GROUPS: [Group; 5] = [
                 "--summary",
                 "no line for each packet; with --json the stream and the totals alone",
             ),
+            with(
+                "--html",
+                FILE,
+                "writes a page of pictures: packets, losses, access units, bit rate, jitter and \
+                 the time between pictures; then there is no line for each packet",
+            ),
             flag("--json", "an object of JSON in each line"),
             one_of(
                 "--color",

@@ -32,6 +32,19 @@ pub fn fragment(codec: Codec, packet: &[u8]) -> Option<Fragment> {
     })
 }
 
+/// Whether a packet aggregates units, with room for numbers (RFC 7798, 4.4.2; RFC 9328, 4.3.2).
+pub fn is_numbered_aggregate(codec: Codec, packet: &[u8]) -> bool {
+    codec != Codec::H264 && is_aggregate(codec, packet)
+}
+
+/// Whether a packet aggregates units.
+pub fn is_aggregate(codec: Codec, packet: &[u8]) -> bool {
+    matches!(
+        (codec, unit_type(codec, packet)),
+        (Codec::H264, Some(24)) | (Codec::H265, Some(48)) | (Codec::H266, Some(28))
+    )
+}
+
 /// A packet in words.
 pub struct Description {
     pub kind: &'static str,

@@ -68,7 +68,8 @@ pub struct Jitter {
 }
 
 impl Jitter {
-    fn come(&mut self, packet: &Captured<'_>) {
+    /// A packet came, in the order of the capture.
+    pub fn come(&mut self, packet: &Captured<'_>) {
         let timestamp = packet.rtp.timestamp;
         let Some((time, before)) = self.transit.replace((packet.time, timestamp)) else {
             return;

@@ -1,8 +1,10 @@
 //! What `inspect` prints of a stream, line by line.
 
 use crate::arguments::Inspect;
+use crate::chart::Chart;
 use crate::codecs::name;
 use crate::colors::{Look, Painter};
+use crate::html::Page;
 use crate::json;
 use crate::packets::{Captured, Stream};
 use crate::payload::{Description, describe};
@@ -41,6 +43,8 @@ pub struct Report {
     painter: Painter,
     /// When the first packet was captured.
     begin: Option<u64>,
+    /// What a page of pictures shows, where one is asked for.
+    chart: Option<Chart>,
     to: BufWriter<StdoutLock<'static>>,
 }
 
@@ -52,6 +56,7 @@ impl Report {
             has_donl: asked.looking.has_donl,
             painter: asked.color.painter(),
             begin: None,
+            chart: asked.html.as_ref().map(|_| Chart::new(codec)),
             to: BufWriter::with_capacity(1 << 16, io::stdout().lock()),
         }
     }
@@ -80,7 +85,13 @@ impl Report {
         }
     }
 
+    /// A packet came, in the order of the capture.
+    pub fn come(&mut self, packet: &Captured<'_>) {
+        self.chart.iter_mut().for_each(|it| it.come(packet));
+    }
+
     pub fn tell(&mut self, told: &Told<'_>) -> io::Result<()> {
+        self.chart.iter_mut().for_each(|it| it.tell(told));
         match self.form {
             Form::Summary | Form::JsonSummary => return Ok(()),
             Form::Json => return self.tell_json(told),
@@ -156,9 +167,15 @@ impl Report {
         self.to.flush()
     }
 
+    /// Puts what there is on a page of pictures.
+    pub fn draw(&self, page: &mut Page, stream: &Stream, tally: &Tally, passed: &PassedOver) {
+        if let Some(chart) = &self.chart {
+            page.add(stream, self.codec, chart, tally, &told(tally, passed));
+        }
+    }
+
     pub fn end(mut self, tally: &Tally, passed: &PassedOver) -> io::Result<()> {
-        let mut end = tally.oddities();
-        end.extend(passed.told());
+        let mut end = told(tally, passed);
         match self.form {
             Form::Json | Form::JsonSummary => json::end(&mut self.to, tally, &end)?,
             _ => {
@@ -170,6 +187,13 @@ impl Report {
         }
         self.to.flush()
     }
+}
+
+/// What is odd, a sentence each.
+fn told(tally: &Tally, passed: &PassedOver) -> Vec<String> {
+    let mut told = tally.oddities();
+    told.extend(passed.told());
+    told
 }
 
 /// What became of a packet, where that is to be said.

@@ -16,6 +16,7 @@ mod odd;
 mod outputs;
 mod padding;
 mod peers;
+mod pictures;
 mod pipes;
 mod program;
 mod rates;
