@@ -1,5 +1,6 @@
 //! What the command line asks for.
 
+use crate::address::{is_address, to_send};
 use crate::codecs::of_path;
 use crate::colors::Color;
 use crate::completion::Shell;
@@ -16,12 +17,15 @@ use crate::streams::Choice;
 use crate::words::{STANDARD, Words, before_command, unknown};
 use emupedestal::Codec;
 use std::ffi::OsString;
+use std::net::SocketAddr;
 use std::path::{Path, PathBuf};
 
 /// The longest window, in packets.
 const LONGEST_WINDOW: u64 = 1024;
 /// The longest wait, in milliseconds: a day.
 const MOST_WAIT: u64 = 86_400_000;
+/// The longest time of a live stream, in seconds: a year.
+const MOST_SECONDS: f64 = 31_536_000.0;
 
 pub enum Command {
     Send(Send),
@@ -50,6 +54,9 @@ pub struct Send {
     pub frames: (u32, u32),
     /// Where the session description is written.
     pub description: Option<PathBuf>,
+    /// Where it is sent, instead of into a capture.
+    pub to: Option<SocketAddr>,
+    pub interface: Option<String>,
 }
 
 /// How streams in a capture are looked at.
@@ -65,6 +72,10 @@ pub struct Looking {
     pub run_limit: usize,
     /// Parameter sets that a session description has.
     pub sets: Vec<Vec<u8>>,
+    /// For how many seconds a live stream is looked at.
+    pub seconds: Option<f64>,
+    /// The interface on which a group is joined.
+    pub interface: Option<String>,
 }
 
 pub struct Receive {
@@ -151,6 +162,7 @@ impl Words {
             _ if has_donl => 6,
             _ => 4,
         };
+        let to = is_address(&output).then(|| to_send(&output)).transpose()?;
         let drawn = Drawn::of(self.number("--seed", 0, u64::MAX)?);
         Ok(Send {
             codec,
@@ -159,17 +171,30 @@ impl Words {
                 .number("--mtu", least, LONGEST_PAYLOAD as u64)?
                 .unwrap_or(1200) as u16,
             payload_type: self.payload_type()?.unwrap_or(96),
-            port: self.port()?.unwrap_or(5004),
+            port: self.port_to(to)?,
             ssrc: self.ssrc()?.unwrap_or(drawn.ssrc),
             sequence: self
                 .number("--sequence", 0, 65535)?
                 .map_or(drawn.sequence, |it| it as u16),
             frames: self.frames()?,
             description: self.description(&output)?,
+            interface: self.interface(&output)?,
+            to,
             has_lengths,
             input,
             output,
         })
+    }
+
+    /// The port that packets go to.
+    fn port_to(&mut self, to: Option<SocketAddr>) -> Result<u16, Failure> {
+        match (self.port()?, to) {
+            (Some(_), Some(_)) => Err(Failure::usage(
+                "--port: the address has the port; leave one of them out",
+            )),
+            (port, None) => Ok(port.unwrap_or(5004)),
+            (None, Some(to)) => Ok(to.port()),
+        }
     }
 
     /// Where a session description goes, which is no other file.
@@ -263,7 +288,6 @@ impl Words {
         }
         let has_donl = self.donl(choice.codec)?;
         Ok(Looking {
-            input,
             choice,
             is_codec_given: codec.is_some() || described.is_some(),
             has_donl: has_donl || described.as_ref().is_some_and(|it| it.has_donl),
@@ -273,7 +297,32 @@ impl Words {
                 .map_or(u32::MAX, |it| it as u32),
             run_limit: self.number("--run-limit", 1, 1 << 30)?.unwrap_or(16 << 20) as usize,
             sets: described.map(|it| it.sets).unwrap_or_default(),
+            seconds: self.seconds(&input)?,
+            interface: self.interface(&input)?,
+            input,
         })
+    }
+
+    /// How long a live stream is looked at.
+    fn seconds(&mut self, input: &Path) -> Result<Option<f64>, Failure> {
+        let Some(value) = self.value("--for") else {
+            return Ok(None);
+        };
+        check_live("--for", input)?;
+        match value.parse() {
+            Ok(seconds) if (0.0..=MOST_SECONDS).contains(&seconds) => Ok(Some(seconds)),
+            _ => Err(Failure::usage(format!(
+                "--for {value}: give seconds, as 60 or 0.5, {MOST_SECONDS} at most"
+            ))),
+        }
+    }
+
+    fn interface(&mut self, live: &Path) -> Result<Option<String>, Failure> {
+        let interface = self.value("--interface");
+        if interface.is_some() {
+            check_live("--interface", live)?;
+        }
+        Ok(interface)
     }
 
     fn receive(&mut self) -> Result<Receive, Failure> {
@@ -335,6 +384,17 @@ impl Words {
                 "--color {other}: give auto, always or never"
             ))),
         }
+    }
+}
+
+/// Refuses an option of live streams where there is none.
+fn check_live(option: &str, path: &Path) -> Result<(), Failure> {
+    match is_address(path) {
+        true => Ok(()),
+        false => Err(Failure::usage(format!(
+            "{option} is of live streams, as udp://:5004, and {} is none",
+            shown(path)
+        ))),
     }
 }
 

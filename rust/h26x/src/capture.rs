@@ -1,8 +1,11 @@
 //! A capture of any of the file formats, frame by frame.
 
+use crate::address::is_address;
+use crate::arguments::Looking;
 use crate::errors::Failure;
 use crate::input::Input;
 use crate::link::Link;
+use crate::live;
 use crate::pcap::Pcap;
 use crate::pcapng::Pcapng;
 use crate::printing::shown;
@@ -53,9 +56,13 @@ pub struct Capture {
 }
 
 impl Capture {
-    /// Opens a file or a pipe.
-    pub fn open(path: &Path) -> Result<Self, Failure> {
-        let mut input = Input::open(path)?;
+    /// Opens a file or a pipe, or listens for a live stream.
+    pub fn open(looking: &Looking) -> Result<Self, Failure> {
+        let path = &looking.input;
+        let mut input = match is_address(path) {
+            true => Input::of(path, live::listen(looking)?, None, None)?,
+            false => Input::open(path)?,
+        };
         Ok(Capture {
             format: Format::open(&mut input)?,
             input,

@@ -3,11 +3,13 @@
 use crate::arguments::Send;
 use crate::errors::Failure;
 use crate::frames::{DESTINATION, SOURCE};
+use crate::live::way_to;
 use emupedestal::Codec;
 use emupedestal::access_units::{is_parameter_set_type, is_slice_type, unit_type};
 use emupedestal::sdp::{CodecParameters, Parameter, RtpMap, SetError};
 use emupedestal::sdp::{H264Parameter, H264Parameters, H265Parameter, H265Parameters};
 use emupedestal::sdp::{H266Parameter, H266Parameters};
+use std::net::IpAddr;
 
 /// So many parameter sets are described at most.
 const MOST: usize = 64;
@@ -47,6 +49,11 @@ impl Description {
         }
     }
 
+    /// Whether its parameter sets are known.
+    pub fn is_whole(&self) -> bool {
+        self.is_whole
+    }
+
     /// The text of it.
     pub fn text(&self, asked: &Send) -> Result<String, Failure> {
         let format = match self.codec {
@@ -58,11 +65,21 @@ impl Description {
         let (payload_type, port) = (asked.payload_type, asked.port);
         let map = RtpMap::new(payload_type, self.codec);
         let map = map.map_or(String::new(), |it| it.to_string());
+        let destination = asked
+            .to
+            .map_or(DESTINATION.into(), |it| it.ip().to_canonical());
+        let source = match asked.to {
+            Some(to) => way_to(to.ip()).unwrap_or(destination),
+            None => SOURCE.into(),
+        };
+        // Of a group of IPv4 it says how far packets go (RFC 8866, 5.7).
+        let is_group = destination.is_ipv4() && destination.is_multicast();
+        let ttl = if is_group { "/1" } else { "" };
         let lines = [
             "v=0".into(),
-            format!("o=- {} 0 IN IP4 {SOURCE}", asked.ssrc),
+            format!("o=- {} 0 IN {}", asked.ssrc, address(source)),
             "s=-".into(),
-            format!("c=IN IP4 {DESTINATION}"),
+            format!("c=IN {}{ttl}", address(destination)),
             "t=0 0".into(),
             format!("m=video {port} RTP/AVP {payload_type}"),
             format!("a=rtpmap:{map}"),
@@ -139,6 +156,14 @@ impl Description {
     /// How many bytes a receiver holds that puts units in order: those of the one that waits and of the next.
     fn buffer(&self) -> String {
         (2 * self.longest).clamp(1, u32::MAX as usize).to_string()
+    }
+}
+
+/// An address with its type.
+fn address(address: IpAddr) -> String {
+    match address {
+        IpAddr::V4(it) => format!("IP4 {it}"),
+        IpAddr::V6(it) => format!("IP6 {it}"),
     }
 }
 

@@ -5,7 +5,9 @@ use std::net::Ipv4Addr;
 
 /// The file's header: little-endian, version 2.4, whole frames, Ethernet.
 const FILE_HEADER: [u32; 6] = [0xa1b2_c3d4, 4 << 16 | 2, 0, 0, 1 << 18, 1];
-const RECORD: usize = 16;
+pub const RECORD: usize = 16;
+/// Where a record has how long it is.
+pub const RECORD_LEN: usize = 8;
 /// Two addresses that nobody else has, and the EtherType of IPv4.
 const ETHERNET: [u8; 14] = [2, 0, 0, 0, 0, 2, 2, 0, 0, 0, 0, 1, 0x08, 0x00];
 /// IPv4 without options, not to be fragmented, with UDP, from 10.0.0.1 to 10.0.0.2 (RFC 791, 3.1).

@@ -8,6 +8,7 @@ h26x: H.264, H.265 and H.266 over RTP, in captures
     h26x send IN.h264 OUT.pcap       puts a stream, in Annex B form or behind lengths, in a capture
     h26x receive IN.pcap OUT.h264    writes the units of a stream in a capture
     h26x inspect IN.pcap             says what each packet is, and what is lost and refused
+    h26x send IN.h264 udp://HOST:PORT    sends it live over UDP; receive and inspect take udp://:PORT
     h26x man                         the manual page, as in: h26x man | man -l -
     h26x completion SHELL            completions for bash, zsh or fish
 
@@ -33,13 +34,11 @@ pub fn help() -> String {
 /// What `COMMAND --help` says: how it is called, and its options.
 pub fn help_of(command: &str) -> String {
     let call = format!("    h26x {command} ");
-    let call: String = FRONT
-        .lines()
-        .filter(|line| line.starts_with(&call))
-        .collect();
+    let calls = FRONT.lines().filter(|line| line.starts_with(&call));
+    let calls: String = calls.flat_map(|line| [line, "\n"]).collect();
     let groups = GROUPS.iter().filter(|it| it.commands.contains(&command));
     let options: String = groups.flat_map(|it| it.options).map(of_option).collect();
-    format!("{call}\n\n{options}{END}")
+    format!("{calls}\n{options}{END}")
 }
 
 fn of_group(group: &Group) -> String {

@@ -46,8 +46,18 @@ impl Input {
             true => Some(file.stream_position().map_err(failed)?),
             false => None,
         };
-        let bytes = Bytes::of(file).map_err(failed)?;
         let len = base.map(|base| about.len().saturating_sub(base));
+        Input::of(path, file, base, len)
+    }
+
+    /// What is read from here, which begins at `base` unless it is a pipe.
+    pub fn of(
+        path: &Path,
+        file: File,
+        base: Option<u64>,
+        len: Option<u64>,
+    ) -> Result<Self, Failure> {
+        let bytes = Bytes::of(file).map_err(|error| Failure::reading(path, &error))?;
         Ok(Input {
             path: path.into(),
             // What is packed has as many bytes as nobody knows.

@@ -17,7 +17,7 @@ use std::ops::ControlFlow;
 pub fn inspect(asked: &Inspect) -> Result<u8, Failure> {
     standard::check()?;
     let looking = &asked.looking;
-    let mut capture = Capture::open(&looking.input)?;
+    let mut capture = Capture::open(looking)?;
     if looking.choice.is_all && capture.is_pipe() {
         let what = "inspect --all reads a capture once for each stream, and a pipe is read once; \
             save it in a file first";

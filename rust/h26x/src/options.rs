@@ -127,6 +127,11 @@ pub static GROUPS: [Group; 5] = [
                  (by the window alone)",
             ),
             with(
+                "--for",
+                "SECONDS",
+                "ends a live stream after this time (the first Ctrl-C ends it)",
+            ),
+            with(
                 "--run-limit",
                 "BYTES",
                 "the longest unit in fragments (16777216); a longer one is left out",
@@ -175,6 +180,11 @@ pub static GROUPS: [Group; 5] = [
             flag(
                 "--donl",
                 "packets bear decoding order numbers (sprop-max-don-diff over 0; H.265, H.266)",
+            ),
+            with(
+                "--interface",
+                "NAME",
+                "the network interface of a live stream's multicast group (what routes say)",
             ),
             flag("--help", "says how the program is called"),
             flag("--version", "says which version it is"),

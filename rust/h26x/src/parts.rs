@@ -6,24 +6,37 @@ use signal_hook::iterator::Signals;
 use signal_hook::low_level::emulate_default_handler;
 use std::fs;
 use std::path::{Path, PathBuf};
-use std::sync::atomic::AtomicBool;
+use std::sync::atomic::{AtomicBool, Ordering};
 use std::sync::{Arc, Mutex, MutexGuard, OnceLock};
 use std::thread;
 
 static PARTS: Mutex<Vec<PathBuf>> = Mutex::new(Vec::new());
 /// Whether somebody waits for signals.
 static WATCH: OnceLock<()> = OnceLock::new();
+/// What the first signal sets, where it ends work that is to be finished.
+static FIRST: OnceLock<Arc<AtomicBool>> = OnceLock::new();
 
 fn parts() -> MutexGuard<'static, Vec<PathBuf>> {
     PARTS.lock().unwrap_or_else(|it| it.into_inner())
 }
 
-/// Makes a file by `create`, which is removed where a signal ends the program before `forget`.
-pub fn remember<T, E>(path: &Path, create: impl FnOnce() -> Result<T, E>) -> Result<T, E> {
+/// From now on the first signal sets what is answered, and only the next one ends the program.
+pub fn first_signal() -> Arc<AtomicBool> {
+    let first = FIRST.get_or_init(Arc::default);
+    start();
+    first.clone()
+}
+
+fn start() {
     WATCH.get_or_init(|| {
         refuse_long_files();
         watch();
     });
+}
+
+/// Makes a file by `create`, which is removed where a signal ends the program before `forget`.
+pub fn remember<T, E>(path: &Path, create: impl FnOnce() -> Result<T, E>) -> Result<T, E> {
+    start();
     // A signal that comes meanwhile waits for the lock.
     let mut parts = parts();
     let made = create()?;
@@ -52,6 +65,12 @@ fn watch() {
     };
     let _ = thread::Builder::new().spawn(move || {
         for signal in signals.forever() {
+            let is_first = FIRST
+                .get()
+                .is_some_and(|it| !it.swap(true, Ordering::Relaxed));
+            if is_first {
+                continue;
+            }
             let parts = parts();
             for part in parts.iter() {
                 let _ = fs::remove_file(part);

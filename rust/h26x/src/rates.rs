@@ -70,12 +70,16 @@ pub struct Jitter {
 impl Jitter {
     /// A packet came, in the order of the capture.
     pub fn come(&mut self, packet: &Captured<'_>) {
-        let timestamp = packet.rtp.timestamp;
-        let Some((time, before)) = self.transit.replace((packet.time, timestamp)) else {
+        self.add(packet.time, packet.rtp.timestamp);
+    }
+
+    /// A packet of this timestamp came at this time, in nanoseconds.
+    pub fn add(&mut self, now: u64, timestamp: u32) {
+        let Some((time, before)) = self.transit.replace((now, timestamp)) else {
             return;
         };
-        let sign = if packet.time < time { -1.0 } else { 1.0 };
-        let nanos = sign * packet.time.abs_diff(time) as f64;
+        let sign = if now < time { -1.0 } else { 1.0 };
+        let nanos = sign * now.abs_diff(time) as f64;
         let sent = f64::from(timestamp.wrapping_sub(before) as i32);
         let difference = (nanos * TICKS_A_SECOND / NANOS_A_SECOND - sent).abs();
         self.last += (difference - self.last) / 16.0;

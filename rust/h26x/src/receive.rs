@@ -14,7 +14,7 @@ use std::ops::ControlFlow;
 
 /// Receives, and answers the status to end with.
 pub fn receive(asked: &Receive) -> Result<u8, Failure> {
-    let mut capture = Capture::open(&asked.looking.input)?;
+    let mut capture = Capture::open(&asked.looking)?;
     let streams = choose(&mut capture, &asked.looking.choice)?;
     let mut recordings = begin(asked, &streams)?;
     let mut takers = streams.takers();

@@ -5,23 +5,26 @@ use crate::arguments::Send;
 use crate::codecs::{Likeness, name, word};
 use crate::description::Description;
 use crate::errors::Failure;
-use crate::frames::{HEADROOM, MARKER, file_header, write_headers};
+use crate::frames::{HEADROOM, MARKER, write_headers};
 use crate::output::Output;
 use crate::printing::{say, shown};
 use crate::progress::Progress;
 use crate::rtp::Rtp;
+use crate::sink::Sink;
 use crate::streams::counted;
 use emupedestal::access_units::{is_parameter_set_type, unit_type};
 use emupedestal::{Codec, CodecPacketizer, PacketError, Packets, units};
 
 const TICKS_A_SECOND: u128 = 90_000;
 const MICROS_A_SECOND: u128 = 1_000_000;
+/// So many access units are read for a description before they are sent.
+const MOST_BEFORE: usize = 64;
 
 struct Sender<'a> {
     asked: &'a Send,
     packetizer: CodecPacketizer,
     packets: Packets,
-    output: Output,
+    sink: Sink,
     sequence: u16,
     likeness: Likeness,
     /// What a session description says of it, and the file of that.
@@ -39,6 +42,9 @@ pub fn send(asked: &Send) -> Result<u8, Failure> {
     let mut access_units = AccessUnits::open(asked)?;
     let mut progress = Progress::new(Some("sending"), access_units.len);
     let mut sender = Sender::new(asked)?;
+    for access_unit in sender.describe_first(&mut access_units)? {
+        sender.send(&access_unit)?;
+    }
     while let Some(access_unit) = access_units.next_access_unit()? {
         sender.send(access_unit)?;
         progress.at(access_units.position());
@@ -52,8 +58,7 @@ impl<'a> Sender<'a> {
         let mut packetizer = CodecPacketizer::new(asked.codec);
         packetizer.configure_for(asked.has_donl.then_some(1));
         packetizer.with_max_packet_size(asked.mtu);
-        let mut output = Output::create(&asked.output, &asked.input)?;
-        output.gathered.extend(file_header());
+        let sink = Sink::new(asked)?;
         let described = asked.description.as_ref();
         let description = described.map(|path| Output::create(path, &asked.input));
         let description = description.transpose()?;
@@ -61,7 +66,7 @@ impl<'a> Sender<'a> {
             asked,
             packetizer,
             packets: Packets::with_headroom(HEADROOM),
-            output,
+            sink,
             sequence: asked.sequence,
             likeness: Likeness::default(),
             description: description.map(|to| (Description::new(asked.codec), to)),
@@ -70,6 +75,30 @@ impl<'a> Sender<'a> {
             sent: 0,
             left_out: 0,
         })
+    }
+
+    /// Writes the description of what goes over the network before it goes, since a receiver needs it;
+    /// answers the first access units, which were read for it.
+    fn describe_first(&mut self, from: &mut AccessUnits<'_>) -> Result<Vec<Vec<u8>>, Failure> {
+        let mut first = Vec::new();
+        if !self.sink.is_network() {
+            return Ok(first);
+        }
+        let Some((mut description, mut to)) = self.description.take() else {
+            return Ok(first);
+        };
+        while let Some(access_unit) = from.next_access_unit()? {
+            let units = units(self.asked.codec, access_unit);
+            units.for_each(|it| description.look(it));
+            first.push(access_unit.to_vec());
+            if description.is_whole() || first.len() >= MOST_BEFORE {
+                break;
+            }
+        }
+        let text = description.text(self.asked)?;
+        to.gathered.extend_from_slice(text.as_bytes());
+        to.finish()?;
+        Ok(first)
     }
 
     fn send(&mut self, access_unit: &[u8]) -> Result<(), Failure> {
@@ -91,10 +120,10 @@ impl<'a> Sender<'a> {
             }
         }
         if let Some(last) = self.last.take() {
-            self.output.gathered[last + MARKER] |= 0x80;
+            self.sink.gathered()[last + MARKER] |= 0x80;
         }
         self.access_units += 1;
-        self.output.pass_on()
+        self.sink.pass_on()
     }
 
     /// Looks at the units of an access unit. Whether all its parameter sets are sent where it is sent
@@ -150,10 +179,10 @@ impl<'a> Sender<'a> {
         }
         let before = self.packets.ends().iter().rev().nth(1).unwrap_or(&0);
         if !self.packets.is_empty() {
-            self.last = Some(self.output.gathered.len() + before);
+            self.last = Some(self.sink.gathered().len() + before);
         }
         self.sent += self.packets.len() as u64;
-        self.output.gathered.extend_from_slice(self.packets.bytes());
+        self.sink.gathered().extend_from_slice(self.packets.bytes());
         Ok(())
     }
 
@@ -177,14 +206,14 @@ impl<'a> Sender<'a> {
             let text = description.text(self.asked)?;
             to.gathered.extend_from_slice(text.as_bytes());
         }
-        let written = self.output.finish()?;
+        let written = self.sink.finish()?;
         description.map(|(_, to)| to.finish()).transpose()?;
         say(&format!(
             "{}: {} in {}, {}; left out: {}",
             shown(input),
             counted(self.access_units, "access unit"),
             counted(self.sent, "packet"),
-            counted(written, "byte"),
+            written,
             counted(self.left_out, "unit")
         ));
         Ok(0)

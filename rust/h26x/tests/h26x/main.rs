@@ -10,6 +10,7 @@ mod fragments;
 mod inspected;
 mod layers;
 mod lengths;
+mod live;
 mod losses;
 mod numbers;
 mod odd;

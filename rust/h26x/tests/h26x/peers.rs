@@ -17,7 +17,7 @@ const PATIENCE: Duration = Duration::from_secs(15);
 const SOCKETS: &str = "/proc/net/udp";
 
 /// Waits until something is so; whether it came to be.
-fn until(mut is_so: impl FnMut() -> bool) -> bool {
+pub fn until(mut is_so: impl FnMut() -> bool) -> bool {
     let begin = Instant::now();
     while !is_so() {
         if begin.elapsed() > PATIENCE {
@@ -53,6 +53,10 @@ impl Peer {
                 None
             }
         }
+    }
+
+    pub fn id(&self) -> u32 {
+        self.child.id()
     }
 
     fn said(&self) -> String {

@@ -277,5 +277,13 @@ fn help_of_a_command() {
         !help.out.contains("--mtu") && !help.out.contains("h26x send"),
         "{help:?}"
     );
+    let send = folder.run(&["send", "--help"]);
+    send.says(
+        0,
+        &[
+            "h26x send IN.h264 OUT.pcap ",
+            "\n    h26x send IN.h264 udp://HOST:PORT ",
+        ],
+    );
     folder.run(&["help"]).says(0, &["--mtu BYTES", "--summary"]);
 }
