@@ -15,6 +15,7 @@ use crate::seed::Drawn;
 use crate::session;
 use crate::streams::Choice;
 use crate::words::{STANDARD, Words, before_command, unknown};
+use crate::written::Written;
 use emupedestal::Codec;
 use std::ffi::OsString;
 use std::net::SocketAddr;
@@ -82,7 +83,9 @@ pub struct Receive {
     pub looking: Looking,
     /// A file, or where all streams are received the folder of their files.
     pub output: PathBuf,
-    pub has_lengths: bool,
+    pub written: Written,
+    /// Whether clean access units alone are written.
+    pub is_clean: bool,
 }
 
 pub struct Inspect {
@@ -334,13 +337,16 @@ impl Words {
             false => of_path(&output),
         };
         let looking = self.looking(input, codec, ending)?;
-        if is_all {
-            check_folder(&output)?;
-        }
+        let has_lengths = self.flag("--lengths");
+        let written = match is_all {
+            true => check_folder(&output).map(|()| Written::units(has_lengths))?,
+            false => Written::of_path(&output, has_lengths)?,
+        };
         Ok(Receive {
             looking,
             output,
-            has_lengths: self.flag("--lengths"),
+            written,
+            is_clean: self.flag("--clean"),
         })
     }
 

@@ -6,9 +6,9 @@ const FRONT: &str = "\
 h26x: H.264, H.265 and H.266 over RTP, in captures
 
     h26x send IN.h264 OUT.pcap       puts a stream, in Annex B form or behind lengths, in a capture
-    h26x receive IN.pcap OUT.h264    writes the units of a stream in a capture
+    h26x receive IN.pcap OUT.h264    writes the units of a stream in a capture; OUT.mp4: MP4
     h26x inspect IN.pcap             says what each packet is, and what is lost and refused
-    h26x send IN.h264 udp://HOST:PORT    sends it live over UDP; receive and inspect take udp://:PORT
+    h26x send IN.h264 udp://HOST:PORT    sends it live; receive and inspect take udp://:PORT
     h26x man                         the manual page, as in: h26x man | man -l -
     h26x completion SHELL            completions for bash, zsh or fish
 

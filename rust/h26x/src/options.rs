@@ -140,10 +140,17 @@ pub static GROUPS: [Group; 5] = [
     },
     Group {
         commands: &["receive"],
-        options: &[flag(
-            "--lengths",
-            "units behind lengths of four bytes, as in MP4 files, and not behind start codes",
-        )],
+        options: &[
+            flag(
+                "--lengths",
+                "units behind lengths of four bytes, as in MP4 files, and not behind start codes",
+            ),
+            flag(
+                "--clean",
+                "clean access units alone: those that a decoder shows without damage, from the \
+                 first whole keyframe on",
+            ),
+        ],
     },
     Group {
         commands: &["inspect"],

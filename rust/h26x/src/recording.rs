@@ -8,10 +8,9 @@ use crate::output::Output;
 use crate::packets::{Captured, Stream};
 use crate::printing::{say, shown};
 use crate::reception::Reception;
-use crate::sets::Sets;
 use crate::streams::{Known, counted};
 use crate::tally::Tally;
-use crate::told::Told;
+use crate::writer::Writer;
 use emupedestal::Codec;
 use std::path::PathBuf;
 
@@ -19,8 +18,7 @@ pub struct Recording {
     codec: Codec,
     stream: Stream,
     reception: Reception,
-    /// Parameter sets that may have to stand before the first picture.
-    sets: Sets,
+    writer: Writer,
     output: Output,
     path: PathBuf,
     guise: Option<Guise>,
@@ -36,11 +34,12 @@ impl Recording {
             false => asked.output.clone(),
         };
         let payload_type = known.stream.payload_type;
+        let has_lengths = asked.written.has_lengths();
         Ok(Recording {
             codec,
             stream: known.stream,
-            reception: Reception::new(codec, payload_type, &asked.looking, asked.has_lengths),
-            sets: Sets::new(codec, &asked.looking.sets, asked.has_lengths),
+            reception: Reception::new(codec, payload_type, &asked.looking, has_lengths),
+            writer: Writer::new(asked, codec, &path)?,
             output: Output::create(&path, input)?,
             path,
             guise: known.guise(),
@@ -65,16 +64,16 @@ impl Recording {
     pub fn take(&mut self, packet: &Captured<'_>) -> Result<(), Failure> {
         let Recording {
             reception,
-            sets,
+            writer,
             output,
             ..
         } = self;
-        reception.take(packet, &mut |told| write(told, sets, output))
+        reception.take(packet, &mut |told| writer.write(told, output))
     }
 
     /// Writes what is there so far.
     pub fn pass_on(&mut self) -> Result<(), Failure> {
-        match self.sets.are_put_into(&mut self.output.gathered) {
+        match self.writer.may_go(&mut self.output.gathered) {
             true => self.output.write_out(),
             false => Ok(()),
         }
@@ -85,22 +84,22 @@ impl Recording {
         let Recording {
             codec,
             reception,
-            mut sets,
+            mut writer,
             mut output,
             path,
             guise,
             is_of_many,
             ..
         } = self;
-        let mut tally = reception.finish(&mut |told| write(told, &mut sets, &mut output))?;
+        let mut tally = reception.finish(&mut |told| writer.write(told, &mut output))?;
         tally.guise = guise;
-        sets.put_into(&mut output.gathered);
         check_taken(&asked.looking, codec, &tally)?;
+        writer.finish(&mut output.gathered)?;
         let written = output.finish()?;
         for oddity in tally.oddities() {
             say(&oddity);
         }
-        if let Some(told) = sets.told() {
+        if let Some(told) = writer.told() {
             say(&told);
         }
         let of = if is_of_many {
@@ -129,18 +128,6 @@ fn file_name(stream: &Stream, codec: Codec) -> String {
         stream.payload_type,
         word(codec)
     )
-}
-
-/// Writes the units of an access unit.
-fn write(told: Told<'_>, sets: &mut Sets, output: &mut Output) -> Result<(), Failure> {
-    let Told::Unit(unit, _) = told else {
-        return Ok(());
-    };
-    output.gathered.extend_from_slice(&unit.bytes);
-    match sets.are_put_into(&mut output.gathered) {
-        true => output.pass_on(),
-        false => Ok(()),
-    }
 }
 
 /// Refuses a stream of which most packets were refused, or that is damaged by what it was taken for.

@@ -249,11 +249,15 @@ fn files_that_are_not_there() {
         .says(1, &["this is a folder"]);
     folder
         .run(&["receive", "in.pcap", "in.pcap", "--codec", "h264"])
+        .says(2, &["in.pcap: .pcap can't be written"]);
+    folder.write("in.h264", &pcap_with(&three_packets()));
+    folder
+        .run(&["receive", "in.h264", "in.h264", "--codec", "h264"])
         .says(1, &["this is the input too"]);
     folder
         .run(&["receive", "/dev/null", "out.h264"])
         .says(1, &["/dev/null: the capture is empty"]);
-    assert_eq!(folder.names(), ["in.pcap"]);
+    assert_eq!(folder.names(), ["in.h264", "in.pcap"]);
 }
 
 /// A disk without room, as /dev/full plays it.

@@ -22,6 +22,7 @@ mod pipes;
 mod program;
 mod rates;
 mod received;
+mod recordings;
 mod rtsp;
 mod sdp;
 mod sdp_peers;
