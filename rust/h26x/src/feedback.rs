@@ -305,6 +305,14 @@ mod tests {
         assert_eq!((block.highest, block.jitter), (0x1_0003, 0));
         assert_eq!((block.last_report, block.since), (5, 65536 * 5 / 2));
         assert!(said(&mut feedback, begin + FIRST + PAUSE / 2).is_empty());
+        // Of the next two one is lost: half of 256 parts.
+        come(&mut feedback, begin + FIRST + PAUSE, &[5]);
+        feedback.senders[0].missing.clear();
+        let due = said(&mut feedback, begin + FIRST + PAUSE);
+        let Some(Read::Block(block)) = due.first() else {
+            panic!("a report");
+        };
+        assert_eq!((block.fraction, block.lost), (128, 3));
     }
 
     /// A missing packet is asked for three times, then a keyframe; one that comes isn't asked for again.

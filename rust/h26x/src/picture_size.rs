@@ -143,3 +143,64 @@ fn picture(width: u64, height: u64, crop: (u64, u64), samples: [u32; 3]) -> Opti
         more_chroma_bits: chroma?,
     })
 }
+
+#[cfg(test)]
+mod tests {
+    use super::*;
+
+    /// Sets of x264 and x265, which were asked for 322 by 182 samples, and for 322 by 180 of two fields, 4:2:2 and
+    /// ten bits.
+    #[test]
+    fn sets_of_encoders() {
+        let plain = [
+            0x67, 0x64, 0, 0xd, 0xac, 0xd9, 0x41, 0x51, 0x9e, 0x22, 0x6c, 4, 0x40, 0, 0, 3, 0,
+            0x40, 0, 0, 0xc, 0x83, 0xc5, 0xa, 0x65, 0x80,
+        ];
+        let fields = [
+            0x67, 0x7a, 0, 0x15, 0xb6, 0xcd, 0x94, 0x15, 0x33, 0xc4, 0x4f, 0x80, 0x88, 0, 0, 3, 0,
+            8, 0, 0, 3, 1, 0x90, 0xf8, 0xa1, 0x4c, 0xb0,
+        ];
+        let hevc = [
+            0x42, 1, 1, 1, 0x60, 0, 0, 3, 0, 0x90, 0, 0, 3, 0, 0, 3, 0, 0x3c, 0xa0, 0xa, 0x48, 0xb,
+            0x9c, 0x95, 0x96, 0x56, 0x59, 0x24, 0xca, 0xf0, 0x16, 0x80, 0x80, 0, 0, 3, 0, 0x80, 0,
+            0, 0xc, 0x84,
+        ];
+        let picture = |width, height, chroma_format, more| {
+            Some(Picture {
+                width,
+                height,
+                chroma_format,
+                more_luma_bits: more,
+                more_chroma_bits: more,
+            })
+        };
+        assert_eq!(of_h264(&plain), picture(322, 182, 1, 0));
+        assert_eq!(of_h264(&fields), picture(322, 180, 2, 2));
+        assert_eq!(of_h265(&hevc), picture(322, 182, 1, 0));
+        for len in 0..8 {
+            assert_eq!(
+                (of_h264(&plain[..len]), of_h265(&hevc[..len])),
+                (None, None)
+            );
+        }
+    }
+
+    /// A baseline set, bit by bit, whose order of pictures is of type 1: 2 by 3 macroblocks, of which 2 samples are
+    /// cut off at the right, and 4 below.
+    #[test]
+    fn a_set_bit_by_bit() {
+        let text = "1 1 010 1 00100 010 011 1 010 010 0 010 011 1 1 1 1 010 1 011 1";
+        let bits: Vec<u8> = text
+            .bytes()
+            .filter(|it| *it != b' ')
+            .map(|it| it - b'0')
+            .collect();
+        let mut set = vec![0x67, 66, 0, 10];
+        for bits in bits.chunks(8) {
+            let byte = bits.iter().fold(0, |byte, bit| byte << 1 | bit);
+            set.push(byte << (8 - bits.len()));
+        }
+        let picture = of_h264(&set).expect("a picture");
+        assert_eq!((picture.width, picture.height), (30, 44));
+    }
+}

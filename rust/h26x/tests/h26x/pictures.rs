@@ -130,6 +130,11 @@ fn a_long_capture_is_summed_up() {
         .len();
     assert!((512..=1024).contains(&parts), "{parts} parts");
     assert_eq!(sum(&stream["columns"]["single"]), 5000);
+    // As many packets in each part as its length has hours, or one less.
+    let width = stream["width"].as_f64().expect("a number");
+    let all = stream["columns"]["single"].as_array().expect("a column");
+    let is_even = |it: &Value| (it.as_f64().expect("a number") - width / 3600.0).abs() < 1.0;
+    assert!(all[..parts - 1].iter().all(is_even), "{width}: {all:?}");
     assert!(stream["seconds"].as_f64().expect("a number") >= 4999.0 * 3600.0);
     assert!(page.len() < 300_000, "{} bytes", page.len());
 }

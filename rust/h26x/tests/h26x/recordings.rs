@@ -159,6 +159,48 @@ fn pictures_in_the_order_of_decoding() {
     assert_eq!(keys, [true, false, false, false, true, false]);
 }
 
+/// A picture behind a keyframe that is shown before one of the fragment before: times of decoding rise still.
+#[test]
+fn fragments_that_overlap() {
+    let sets = &cut(&small_streams()[0].1)[..2];
+    let sent: [(u32, &[u8]); 4] = [
+        (0, &[0x65, 0x88, 1]),
+        (3, &[0x41, 0x9a, 1]),
+        (4, &[0x65, 0x88, 1]),
+        (2, &[0x41, 0x9a, 1]),
+    ];
+    let mut packets: Vec<Rtp> = (0..2)
+        .map(|at| Rtp::new(at, 0, false, &sets[usize::from(at)]))
+        .collect();
+    packets.extend(
+        (2..)
+            .zip(sent)
+            .map(|(at, (shown, payload))| Rtp::new(at, shown * 3600, true, payload)),
+    );
+    let folder = Folder::new();
+    folder.write("in.pcap", &pcap_with(&packets));
+    folder
+        .run(&["receive", "in.pcap", "out.mp4"])
+        .says(0, &["4 access units"]);
+    let file = folder.read("out.mp4");
+    let samples = samples(&file);
+    assert!(
+        samples.windows(2).all(|it| it[0].decoded < it[1].decoded),
+        "{samples:?}"
+    );
+    let shown: Vec<i64> = samples
+        .iter()
+        .map(|it| it.shown - samples[0].shown)
+        .collect();
+    assert_eq!(shown, [0, 3, 4, 2].map(|it| it * 3600));
+    // The size of the pictures, 24 bytes behind the name of the sample's entry (14496-12, 12.1.3).
+    let entry = file
+        .windows(4)
+        .position(|it| it == b"avc3")
+        .expect("an entry");
+    assert_eq!(file[entry + 28..entry + 32], [0, 32, 0, 32]);
+}
+
 /// Timestamps that go round at 2^32, and such that stand still: there what the capture tells counts.
 #[test]
 fn timestamps_that_are_odd() {
