@@ -12,7 +12,7 @@ use crate::printing::shown;
 use crate::report::Form;
 use crate::rtp::RTCP;
 use crate::seed::Drawn;
-use crate::session;
+use crate::session::{self, Described};
 use crate::streams::Choice;
 use crate::words::{STANDARD, Words, before_command, unknown};
 use crate::written::Written;
@@ -255,6 +255,20 @@ impl Words {
         Ok(has_donl)
     }
 
+    /// The stream of a session description that is one of those that are asked for.
+    fn described(&mut self, input: &Path, choice: &Choice) -> Result<Option<Described>, Failure> {
+        match self.value("--sdp") {
+            Some(_) if choice.is_all => Err(Failure::usage(
+                "--all takes all streams, and --sdp describes one; leave one of them out",
+            )),
+            Some(path) if path == STANDARD && input == Path::new(STANDARD) => Err(Failure::usage(
+                "--sdp -: standard input is the capture; name a file of the description",
+            )),
+            Some(path) => session::described(Path::new(&path), choice).map(Some),
+            None => Ok(None),
+        }
+    }
+
     /// How streams of a codec are looked at, which is given, or told by the ending of a file.
     fn looking(
         &mut self,
@@ -270,20 +284,7 @@ impl Words {
             codec: codec.or(ending),
             is_all,
         };
-        let described = match self.value("--sdp") {
-            Some(_) if is_all => {
-                return Err(Failure::usage(
-                    "--all takes all streams, and --sdp describes one; leave one of them out",
-                ));
-            }
-            Some(path) if path == STANDARD && input == Path::new(STANDARD) => {
-                return Err(Failure::usage(
-                    "--sdp -: standard input is the capture; name a file of the description",
-                ));
-            }
-            Some(path) => Some(session::described(Path::new(&path), &choice)?),
-            None => None,
-        };
+        let described = self.described(&input, &choice)?;
         if let Some(it) = &described {
             choice.codec = Some(it.codec);
             choice.payload_type = Some(it.payload_type);
