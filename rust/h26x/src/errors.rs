@@ -1,6 +1,6 @@
 //! What went wrong, in a sentence that says what to do, and the status that the program ends with.
 
-use crate::printing::shown;
+use crate::output::printing::shown;
 use std::fmt::Display;
 use std::io::{self, ErrorKind};
 use std::path::Path;

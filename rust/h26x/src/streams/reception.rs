@@ -1,0 +1,448 @@
+//! A stream that is received, and what is counted of it.
+//!
+//! An `AccessUnitReceiver` puts packets in order and gives out access units. It counts packets that are lost
+//! and refused, and doesn't name them: that is done here, of each packet once the receiver has taken it.
+
+use crate::captures::ip::Part;
+use crate::captures::packets::Captured;
+use crate::commands::arguments::Looking;
+use crate::errors::Failure;
+use crate::streams::numbers::Numbers;
+use crate::streams::payload::fragment;
+use crate::streams::refusals::reason;
+use crate::streams::runs::{Left, Runs};
+use crate::streams::tally::Tally;
+use crate::streams::told::{Became, Fate, Outcome, Tell, Told};
+use crate::streams::waiting::{Kept, Waiting};
+use emupedestal::access_unit_receiver::{
+    AccessUnitConfig, AccessUnitReceiver, Counts, Pushed, ReceivedAccessUnit,
+};
+use emupedestal::{Codec, CodecExtra, PacketError, RtpPacket, SequencedDepacketizer};
+
+/// A number is far where it is so much ahead of the one that is due, or so much behind (RFC 3550, A.1).
+const FAR: u16 = 3000;
+/// So many late packets in a row are a sender's that began anew.
+const MOST_LATE: u16 = 64;
+/// An access unit that is longer is given out in parts.
+const LONGEST_UNIT: usize = 1 << 25;
+/// What no codec takes: given in the place of a packet of which the capture has only a front.
+const CUT: [u8; 1] = [0];
+
+/// What the receiver is given of a packet.
+#[derive(Clone, Copy, PartialEq, Eq)]
+enum Kind {
+    Whole,
+    Cut,
+    Padding,
+    /// It is of another payload type.
+    Other,
+}
+
+/// What the receiver has done at a time.
+struct Step {
+    /// How many packets it has taken, refused or passed over.
+    passed: u64,
+    has_refused: bool,
+    unit: Option<ReceivedAccessUnit>,
+    /// Whether there may be another access unit.
+    has_more: bool,
+}
+
+pub struct Reception {
+    codec: Codec,
+    payload_type: u8,
+    has_donl: bool,
+    window: u16,
+    receiver: AccessUnitReceiver,
+    /// What it had counted at the last step.
+    counts: Counts,
+    waiting: Waiting,
+    /// The number that is due, once a packet came.
+    due: Option<u16>,
+    has_passed: bool,
+    /// How many packets before the next one of this payload type are lost.
+    lost: u32,
+    /// A packet far from all others, which the next may go on from.
+    stray: Option<Kept>,
+    /// How many late packets came in a row, and the number behind the last of them.
+    late: (u16, u16),
+    /// When the first packet was captured, and the latest one, in nanoseconds.
+    clock: Option<(u64, u64)>,
+    /// How many bytes came of the access unit that is open.
+    unit_len: usize,
+    /// When the latest packet of it was captured, or where it has none that of the one before.
+    unit_time: Option<u64>,
+    last_time: u64,
+    runs: Runs,
+    numbers: Numbers,
+    tally: Tally,
+}
+
+impl Reception {
+    pub fn new(codec: Codec, payload_type: u8, looking: &Looking, has_lengths: bool) -> Self {
+        let (has_donl, run_limit) = (looking.has_donl, looking.run_limit);
+        let config = AccessUnitConfig {
+            window: looking.window + 1,
+            far: 0,
+            max_wait: looking.wait,
+            held_limit: usize::MAX,
+            run_limit,
+            unit_limit: usize::MAX,
+        };
+        let receiver = AccessUnitReceiver::with_settings(codec, has_donl, has_lengths, config);
+        Reception {
+            codec,
+            payload_type,
+            has_donl,
+            window: looking.window,
+            counts: receiver.counts(),
+            receiver,
+            waiting: Waiting::default(),
+            due: None,
+            has_passed: false,
+            lost: 0,
+            stray: None,
+            late: (0, 0),
+            clock: None,
+            unit_len: 0,
+            unit_time: None,
+            last_time: 0,
+            runs: Runs::new(codec, has_donl, run_limit),
+            numbers: Numbers::new(codec, has_donl),
+            tally: Tally::new(!looking.sets.is_empty()),
+        }
+    }
+
+    /// Takes a packet that is numbered with those of the stream.
+    pub fn take(&mut self, packet: &Captured<'_>, tell: &mut Tell<'_>) -> Outcome {
+        if self.kind(packet) != Kind::Other && !self.is_far(packet.rtp.sequence) {
+            self.tally.rates.come(packet);
+        }
+        self.sort_in(packet, tell)
+    }
+
+    fn sort_in(&mut self, packet: &Captured<'_>, tell: &mut Tell<'_>) -> Outcome {
+        let sequence = packet.rtp.sequence;
+        if self.is_far(sequence) {
+            return self.take_far(packet, tell);
+        }
+        match self.push(packet)? {
+            Pushed::Late(behind) => self.take_late(packet, behind, tell),
+            Pushed::Twice => {
+                self.tally.twice += 1;
+                tell(Told::Twice(sequence))
+            }
+            _ => {
+                self.late.0 = 0;
+                self.take_held(packet, tell)
+            }
+        }
+    }
+
+    fn kind(&self, packet: &Captured<'_>) -> Kind {
+        if packet.rtp.payload_type != self.payload_type {
+            Kind::Other
+        } else if packet.rtp.is_padding() {
+            Kind::Padding
+        } else if packet.part != Part::Whole {
+            Kind::Cut
+        } else {
+            Kind::Whole
+        }
+    }
+
+    /// Gives a packet to the receiver, at the time at which it was captured.
+    fn push(&mut self, packet: &Captured<'_>) -> Result<Pushed, Failure> {
+        let now = self.tick(packet.time);
+        let rtp = &packet.rtp;
+        let payload = match self.kind(packet) {
+            Kind::Padding | Kind::Other => {
+                return self.receiver.skip(now, rtp.sequence).map_err(no_memory);
+            }
+            Kind::Cut => &CUT[..],
+            Kind::Whole => rtp.payload,
+        };
+        let packet = RtpPacket {
+            sequence: rtp.sequence,
+            timestamp: rtp.timestamp,
+            marker: self.is_end(rtp.marker, payload),
+            payload,
+        };
+        self.receiver.push(now, &packet).map_err(no_memory)
+    }
+
+    /// Whether a packet ends an access unit: none does whose unit goes on.
+    fn is_end(&self, marker: bool, payload: &[u8]) -> bool {
+        (marker || self.unit_len > LONGEST_UNIT)
+            && fragment(self.codec, payload).is_none_or(|it| it.is_last)
+    }
+
+    /// The receiver's time, in milliseconds. A capture's may go back, and that one doesn't.
+    fn tick(&mut self, time: u64) -> u32 {
+        let (begin, latest) = self.clock.unwrap_or((time, time));
+        self.clock = Some((begin, latest.max(time)));
+        self.now()
+    }
+
+    fn now(&self) -> u32 {
+        let (begin, latest) = self.clock.unwrap_or_default();
+        ((latest - begin) / 1_000_000) as u32
+    }
+
+    /// Takes a packet that the receiver holds.
+    fn take_held(&mut self, packet: &Captured<'_>, tell: &mut Tell<'_>) -> Outcome {
+        let before_first = packet.rtp.sequence.wrapping_sub(self.window);
+        let due = *self.due.get_or_insert(before_first);
+        if !self.waiting.is_empty() {
+            self.waiting.put(packet, due);
+            return self.drain(tell);
+        }
+        // Mostly it is due as it comes, and needn't be copied.
+        let mut step = self.step()?;
+        if step.passed == 0 {
+            self.waiting.put(packet, due);
+            return Ok(());
+        }
+        let sequence = packet.rtp.sequence;
+        let is_last = step.unit.as_ref().is_some_and(|it| it.last == sequence);
+        self.pass(packet, false, &mut step, tell)?;
+        match self.end_step(step, tell)? && !is_last {
+            true => self.drain(tell),
+            false => Ok(()),
+        }
+    }
+
+    /// Tells what became of packets that are due, and the access units that they end.
+    fn drain(&mut self, tell: &mut Tell<'_>) -> Outcome {
+        loop {
+            let mut step = self.step()?;
+            for _ in 0..step.passed {
+                if let Some(kept) = self.waiting.pop() {
+                    self.pass(&kept.packet(), kept.is_moved, &mut step, tell)?;
+                }
+            }
+            if !self.end_step(step, tell)? {
+                return Ok(());
+            }
+        }
+    }
+
+    /// Tells the access unit that ended with the last packet; whether there may be another one.
+    fn end_step(&mut self, step: Step, tell: &mut Tell<'_>) -> Result<bool, Failure> {
+        if let Some(unit) = step.unit {
+            self.end_unit(unit, tell)?;
+        }
+        Ok(step.has_more)
+    }
+
+    /// Has the receiver take packets until an access unit has ended, or none is due.
+    fn step(&mut self) -> Result<Step, Failure> {
+        let unit = self.receiver.next(self.now()).map_err(no_memory)?;
+        let counts = self.receiver.counts();
+        let passed = |it: &Counts| it.taken + it.refused + it.skipped;
+        let before = std::mem::replace(&mut self.counts, counts);
+        Ok(Step {
+            passed: passed(&counts) - passed(&before),
+            has_refused: counts.refused > before.refused,
+            has_more: unit.is_some(),
+            unit,
+        })
+    }
+
+    /// Tells what became of a packet that was due. The access unit that it ended by its timestamp stands
+    /// before it.
+    fn pass(
+        &mut self,
+        packet: &Captured<'_>,
+        is_moved: bool,
+        step: &mut Step,
+        tell: &mut Tell<'_>,
+    ) -> Outcome {
+        let sequence = packet.rtp.sequence;
+        let is_behind = |it: &mut ReceivedAccessUnit| sequence.wrapping_sub(it.last) as i16 > 0;
+        if let Some(unit) = step.unit.take_if(is_behind) {
+            self.end_unit(unit, tell)?;
+        }
+        self.follow(sequence);
+        let became = match self.kind(packet) {
+            Kind::Other => return Ok(()),
+            Kind::Padding => {
+                self.tally.padding += 1;
+                Became::Padding
+            }
+            Kind::Cut => {
+                self.tally.parts += 1;
+                self.runs.break_off();
+                Became::Cut
+            }
+            Kind::Whole => match self.refusal(packet.rtp.payload, step.has_refused) {
+                Some(error) => self.refused(packet, error),
+                None => self.taken(packet),
+            },
+        };
+        self.last_time = self.unit_time.unwrap_or(0).max(packet.time);
+        self.unit_time = Some(self.last_time);
+        self.tally.packet(packet);
+        self.tally.moved += u64::from(is_moved);
+        let lost = std::mem::take(&mut self.lost);
+        self.tally.miss(sequence, lost);
+        let fate = Fate {
+            became,
+            lost,
+            is_moved,
+        };
+        tell(Told::Packet(packet, fate))
+    }
+
+    /// Follows the numbers: those between a packet and the one before it are lost.
+    fn follow(&mut self, sequence: u16) {
+        let due = self.due.replace(sequence.wrapping_add(1));
+        let gap = sequence.wrapping_sub(due.unwrap_or(sequence));
+        if std::mem::replace(&mut self.has_passed, true) && gap > 0 {
+            self.lost += u32::from(gap);
+            self.runs.break_off();
+        }
+    }
+
+    /// Why a packet is refused, if it is one of those that were. It is refused for what it is alone.
+    fn refusal(&self, payload: &[u8], has_refused: bool) -> Option<PacketError> {
+        if !has_refused {
+            return None;
+        }
+        let mut depacketizer = SequencedDepacketizer::new(self.codec, usize::MAX);
+        depacketizer.with_donl(self.has_donl);
+        let (mut units, mut extra) = (Vec::new(), CodecExtra::None);
+        let received = depacketizer.receive(0, payload, &mut units, &mut extra);
+        received.err()
+    }
+
+    fn refused(&mut self, packet: &Captured<'_>, error: PacketError) -> Became {
+        let reason = reason(self.codec, packet.rtp.payload, error);
+        self.numbers.refuse(packet.rtp.payload);
+        self.runs.break_off();
+        self.tally.refuse(packet.rtp.sequence, &reason);
+        Became::Refused(reason)
+    }
+
+    fn taken(&mut self, packet: &Captured<'_>) -> Became {
+        self.unit_len += packet.rtp.payload.len();
+        self.numbers.take(packet.rtp.payload);
+        let diagnoses = &mut self.tally.diagnoses;
+        diagnoses.take(self.codec, self.has_donl, packet);
+        match self.runs.take(&packet.rtp) {
+            Left::TooLong => Became::TooLong,
+            left => Became::Taken {
+                gave_up: left == Left::GivenUp,
+            },
+        }
+    }
+
+    fn end_unit(&mut self, unit: ReceivedAccessUnit, tell: &mut Tell<'_>) -> Outcome {
+        self.unit_len = 0;
+        self.numbers.end_access_unit();
+        self.tally.unit(&unit);
+        self.unit_time = None;
+        tell(Told::Unit(&unit, self.last_time))?;
+        self.receiver.give_back(unit);
+        Ok(())
+    }
+
+    /// Tells of a packet that is late; or begins anew with it.
+    fn take_late(&mut self, packet: &Captured<'_>, behind: u16, tell: &mut Tell<'_>) -> Outcome {
+        let sequence = packet.rtp.sequence;
+        let in_row = if self.late.1 == sequence {
+            self.late.0 + 1
+        } else {
+            1
+        };
+        self.late = (in_row, sequence.wrapping_add(1));
+        if in_row == MOST_LATE {
+            self.begin_anew(tell)?;
+            return self.sort_in(packet, tell);
+        }
+        if self.kind(packet) == Kind::Other {
+            return Ok(());
+        }
+        self.tally.packet(packet);
+        self.tally.late += 1;
+        let fate = Fate {
+            became: Became::Late(behind),
+            lost: 0,
+            is_moved: false,
+        };
+        tell(Told::Packet(packet, fate))
+    }
+
+    fn is_far(&self, sequence: u16) -> bool {
+        let is_far = |due| (FAR..=FAR.wrapping_neg()).contains(&sequence.wrapping_sub(due));
+        self.due.is_some_and(is_far)
+    }
+
+    /// Keeps a packet that is far from all others; or begins anew with the one before it.
+    fn take_far(&mut self, packet: &Captured<'_>, tell: &mut Tell<'_>) -> Outcome {
+        let is_next = |it: &mut Kept| it.sequence().wrapping_add(1) == packet.rtp.sequence;
+        if let Some(stray) = self.stray.take_if(is_next) {
+            self.begin_anew(tell)?;
+            self.sort_in(&stray.packet(), tell)?;
+            return self.sort_in(packet, tell);
+        }
+        self.give_stray(tell)?;
+        self.stray = Some(Kept::new(packet));
+        Ok(())
+    }
+
+    fn give_stray(&mut self, tell: &mut Tell<'_>) -> Outcome {
+        let Some(stray) = self.stray.take() else {
+            return Ok(());
+        };
+        self.tally.strays += 1;
+        tell(Told::Stray(stray.sequence()))
+    }
+
+    /// The sender begins anew: all that waits is due, and then any number is the next.
+    fn begin_anew(&mut self, tell: &mut Tell<'_>) -> Outcome {
+        self.end(tell)?;
+        self.receiver.restart();
+        self.due = None;
+        self.has_passed = false;
+        self.late.0 = 0;
+        self.tally.rates.begin_anew();
+        self.tally.anew += 1;
+        tell(Told::Anew)
+    }
+
+    /// Ends the stream up to here.
+    fn end(&mut self, tell: &mut Tell<'_>) -> Outcome {
+        self.receiver.finish();
+        self.drain(tell)?;
+        self.runs.give_up();
+        let lost = std::mem::take(&mut self.lost);
+        self.tally.miss(self.due.unwrap_or_default(), lost);
+        Ok(())
+    }
+
+    /// Tells what is left, and what was counted.
+    pub fn finish(mut self, tell: &mut Tell<'_>) -> Result<Tally, Failure> {
+        self.end(tell)?;
+        self.give_stray(tell)?;
+        let Counts {
+            refused,
+            units,
+            units_given_up,
+            texts_given_up,
+            ..
+        } = self.counts;
+        let mut tally = self.tally;
+        debug_assert_eq!(refused, tally.refused + tally.parts);
+        debug_assert_eq!(units, tally.access_units);
+        debug_assert_eq!(units_given_up, self.runs.too_long);
+        debug_assert_eq!(texts_given_up, 0);
+        (tally.given_up, tally.too_long) = (self.runs.given_up, self.runs.too_long);
+        tally.advice = self.numbers.advice();
+        Ok(tally)
+    }
+}
+
+fn no_memory(_: PacketError) -> Failure {
+    Failure::memory()
+}

@@ -1,0 +1,127 @@
+//! Reads a session description (RFC 8866): the stream of it that is to be looked at.
+
+use crate::captures::input;
+use crate::errors::Failure;
+use crate::streams::chooser::Choice;
+use crate::streams::codecs::name;
+use crate::streams::formats::Format;
+use emupedestal::Codec;
+use emupedestal::sdp::RtpMap;
+use std::collections::HashMap;
+use std::io::Read;
+use std::path::Path;
+
+/// No session description is longer.
+const LONGEST: u64 = 1 << 20;
+/// Ports that say that the packets go elsewhere: 0, as in RTSP, and that of discarded ones, as in an offer of WebRTC.
+const NO_PORTS: [u16; 2] = [0, 9];
+
+/// A stream as it is described.
+pub struct Described {
+    pub codec: Codec,
+    pub payload_type: u8,
+    /// The port that it is sent to, where the description says it.
+    pub port: Option<u16>,
+    pub has_donl: bool,
+    pub sets: Vec<Vec<u8>>,
+}
+
+/// A payload type of a description, and what it says of its format.
+struct Offered<'a> {
+    map: RtpMap,
+    port: Option<u16>,
+    format: &'a str,
+}
+
+/// The first stream of a description that is one of those that are asked for.
+pub fn described(path: &Path, choice: &Choice) -> Result<Described, Failure> {
+    let text = text_of(path)?;
+    let offered = offered(&text);
+    let suits = |it: &&Offered<'_>| {
+        choice.codec.is_none_or(|codec| codec == it.map.codec())
+            && choice
+                .payload_type
+                .is_none_or(|of| of == it.map.payload_type())
+    };
+    let Some(it) = offered.iter().find(suits) else {
+        return Err(none(path, &offered));
+    };
+    let (codec, payload_type) = (it.map.codec(), it.map.payload_type());
+    let format = Format::read(codec, it.format)
+        .map_err(|what| Failure::of(path, format!("a=fmtp:{payload_type}: {what}")))?;
+    Ok(Described {
+        codec,
+        payload_type,
+        port: it.port,
+        has_donl: format.has_donl,
+        sets: format.sets,
+    })
+}
+
+fn text_of(path: &Path) -> Result<String, Failure> {
+    let failed = |error| Failure::reading(path, &error);
+    let file = input::open(path).map_err(failed)?;
+    let mut bytes = Vec::new();
+    let read = file.take(LONGEST + 1).read_to_end(&mut bytes);
+    if read.map_err(failed)? as u64 > LONGEST {
+        let what = "this is longer than session descriptions are (1 MiB); name one";
+        return Err(Failure::of(path, what));
+    }
+    Ok(String::from_utf8_lossy(&bytes).into_owned())
+}
+
+/// The payload types of H.264, H.265 and H.266 in a description, in their order.
+fn offered(text: &str) -> Vec<Offered<'_>> {
+    let mut offered = Vec::new();
+    let lines: Vec<&str> = text.lines().map(str::trim).collect();
+    for media in lines.chunk_by(|_, line| !line.starts_with("m=")) {
+        let port = media[0].strip_prefix("m=").and_then(port_of);
+        let values = |name| media.iter().filter_map(move |line| line.strip_prefix(name));
+        let mut formats = HashMap::new();
+        for (payload_type, format) in values("a=fmtp:").filter_map(format_of) {
+            formats.entry(payload_type).or_insert(format);
+        }
+        for map in values("a=rtpmap:").filter_map(|it| it.parse::<RtpMap>().ok()) {
+            let format = formats.get(&map.payload_type());
+            offered.push(Offered {
+                map,
+                port,
+                format: format.copied().unwrap_or_default(),
+            });
+        }
+    }
+    offered
+}
+
+/// The port of a media, as in `video 5004 RTP/AVP 96` or `video 5004/2 RTP/AVP 96` (RFC 8866, 5.14).
+fn port_of(media: &str) -> Option<u16> {
+    let port = media.split_ascii_whitespace().nth(1)?;
+    let port = port.split('/').next()?.parse().ok()?;
+    (!NO_PORTS.contains(&port)).then_some(port)
+}
+
+/// The payload type of a line, and what stands behind it.
+fn format_of(line: &str) -> Option<(u8, &str)> {
+    let (number, format) = line.split_once(' ').unwrap_or((line, ""));
+    Some((number.parse().ok()?, format))
+}
+
+/// Says that a description has no such stream, and what it has.
+fn none(path: &Path, offered: &[Offered<'_>]) -> Failure {
+    let named = |it: &Offered<'_>| {
+        let of = it.map.payload_type();
+        format!("{} as payload type {of}", name(it.map.codec()))
+    };
+    let named: Vec<String> = offered.iter().map(named).collect();
+    let what = match named[..] {
+        [] => "this describes no stream of H.264, H.265 or H.266 (by a line as \
+            a=rtpmap:96 H264/90000); name a session description that does"
+            .into(),
+        _ => format!(
+            "none of the streams that it describes is the one asked for (by --codec, \
+             --payload-type or the file's ending); it has {}",
+            named.join(", ")
+        ),
+    };
+    Failure::of(path, what)
+}
