@@ -66,7 +66,7 @@ impl Part {
         self.jitter = self.jitter.into_iter().chain(other.jitter).reduce(f64::max);
         let (count, sum, greatest) = other.pauses;
         self.pauses.0 += count;
-        self.pauses.1 += sum;
+        self.pauses.1 = self.pauses.1.saturating_add(sum);
         self.pauses.2 = self.pauses.2.max(greatest);
     }
 }
@@ -176,7 +176,7 @@ impl Chart {
         if let Some((before, _)) = before {
             let pause = time.saturating_sub(before);
             part.pauses.0 += 1;
-            part.pauses.1 += pause;
+            part.pauses.1 = part.pauses.1.saturating_add(pause);
             part.pauses.2 = part.pauses.2.max(pause);
         }
     }
@@ -219,4 +219,26 @@ impl Chart {
 /// A number with as many digits as a picture shows.
 fn rounded(it: f64) -> f64 {
     (it * 1000.0).round() / 1000.0
+}
+
+#[cfg(test)]
+mod tests {
+    use super::*;
+
+    /// Times of captures are what a stranger says: sums of them have an end.
+    #[test]
+    fn times_that_no_clock_tells() {
+        let mut part = Part {
+            pauses: (1, u64::MAX, u64::MAX),
+            ..Part::default()
+        };
+        let other = part.clone();
+        part.join(&other);
+        assert_eq!(part.pauses, (2, u64::MAX, u64::MAX));
+        let mut chart = Chart::new(Codec::H264);
+        chart.part(0);
+        chart.part(u64::MAX).bytes = 1;
+        assert!(chart.parts.len() <= MOST);
+        assert_eq!(chart.parts.last().map(|it| it.bytes), Some(1));
+    }
 }

@@ -79,7 +79,7 @@ impl Mp4 {
         }
         let begins = self.look(&unit.bytes);
         let len = unit.bytes.len() as u32;
-        let goes_on = unit.continues && !begins;
+        let goes_on = unit.continues && !begins && self.data.len() < MOST_BYTES;
         if let Some(last) = self.samples.last_mut().filter(|_| goes_on) {
             last.len += len;
             self.data.extend_from_slice(&unit.bytes);

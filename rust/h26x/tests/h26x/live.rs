@@ -101,7 +101,7 @@ fn a_stream_is_sent_in_its_time() {
         last = next().expect(&after);
     }
     let took = begin.elapsed();
-    let wanted = Duration::from_millis(960)..Duration::from_millis(1800);
+    let wanted = Duration::from_millis(960)..Duration::from_secs(4);
     assert!(wanted.contains(&took), "{took:?}");
     assert!(peer.end());
 }

@@ -230,6 +230,30 @@ fn timestamps_that_are_odd() {
     }
 }
 
+/// Slices that begin no picture, each with a marker and all with one timestamp, are one sample, but not without end.
+#[test]
+fn a_picture_without_end() {
+    let sets = &cut(&small_streams()[0].1)[..2];
+    let mut packets: Vec<Rtp> = (0..2)
+        .map(|at| Rtp::new(at, 0, false, &sets[usize::from(at)]))
+        .collect();
+    let slice = [&[0x41, 0x40][..], &[7; 60_000]].concat();
+    packets.extend((2..602).map(|at| Rtp::new(at, 0, true, &slice)));
+    let folder = Folder::new();
+    folder.write("in.pcap", &pcap_with(&packets));
+    folder
+        .run(&["receive", "in.pcap", "out.mp4"])
+        .says(0, &["600 access units"]);
+    let samples = samples(&folder.read("out.mp4"));
+    let lens: Vec<usize> = samples.iter().map(|it| it.bytes.len()).collect();
+    let all = 600 * (4 + slice.len()) + 8 + sets[0].len() + sets[1].len();
+    assert_eq!(lens.iter().sum::<usize>(), all);
+    assert!(
+        lens.len() == 2 && lens[0] > 32 << 20 && lens[0] < 33 << 20,
+        "{lens:?}"
+    );
+}
+
 /// FFmpeg reads the size, and as many pictures as there are; GStreamer gives out the same units.
 #[test]
 fn what_others_read() {
